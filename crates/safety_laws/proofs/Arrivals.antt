@@ -24,7 +24,7 @@ use Rattle.safety_laws.proofs.OneSender.{members-alone}
 use Rattle.safety_laws.proofs.OwnTurns.{IsSoundOwner, sound-sends, falling-own, fallen-own}
 use Rattle.safety_laws.proofs.PlanSteps.{told-falling}
 use Rattle.safety_laws.proofs.PlanTurns.{SendsNone, SendsOne, slot_of, e-node, has-turn, absent-off, armed-planned}
-use Rattle.safety_laws.proofs.PlanTurns.{unarmed-falling}
+use Rattle.safety_laws.proofs.PlanTurns.{unarmed-falling, good_plan}
 use Rattle.safety_laws.proofs.PlanTurns.{listens-still, silent-left, none-sends, sends-alone}
 
 module _ {list : Medl} {script : Script} {start : ClusterStart} {plan : Plan} {turn : ℕ} {new : SlotNumbers}
@@ -45,7 +45,7 @@ module _ {list : Medl} {script : Script} {start : ClusterStart} {plan : Plan} {t
         let node = e-node t in
         let at = at-fate e Sound node sound in
         record {
-          good = t.planned.follows.good;
+          good = good_plan t;
           nodes = t.planned.follows.nodes;
           within = let slots = t.planned.follows.slots in let inside = t.within in omega (arith, slots, inside);
           own = has-turn t e node at.phase at.place refl;
@@ -101,9 +101,7 @@ module _ {list : Medl} {script : Script} {start : ClusterStart} {plan : Plan} {t
       let x = slot_of list script new numbers e in
       elim (at-fate e (Fallen change since shown) node is) [
         | inl left ↦ inl left
-        | inr at ↦
-            inr (fallen-own plan turn x t.planned.follows.good
-            (has-turn t e node at.phase at.place refl) since shown at)
+        | inr at ↦ inr (fallen-own plan turn x (good_plan t) (has-turn t e node at.phase at.place refl) since shown at)
       ]
 
   pub fallen-leaves : (change : Change) (since shown : ℕ)
@@ -145,8 +143,8 @@ module _ {list : Medl} {script : Script} {start : ClusterStart} {plan : Plan} {t
         | inl left ↦ inl (idle-left x left.0 (unarmed-falling t e node change since is))
         | inr at ↦
             let own = has-turn t e node at.phase at.place refl in
-            let told = told-falling plan turn e since change t.planned.follows.good is in
-            elim (falling-own plan turn x t.planned.follows.good own change since told refl at) [
+            let told = told-falling plan turn e since change (good_plan t) is in
+            elim (falling-own plan turn x (good_plan t) own change since told refl at) [
               | inl left ↦ inl left
               | inr sends ↦ inr (sends-alone t own sends.0, at, sends.1)
             ]

@@ -32,7 +32,7 @@ use Rattle.safety_laws.proofs.NodeSlots.{entry_of-made}
 use Rattle.safety_laws.proofs.OneSender.{comes-alone}
 use Rattle.safety_laws.proofs.Arrivals.{sound-alone, sound-owner}
 use Rattle.safety_laws.proofs.Receivers.{sound-judge, judges-good}
-use Rattle.safety_laws.proofs.PlanTurns.{slot_of, slot_number}
+use Rattle.safety_laws.proofs.PlanTurns.{slot_of, slot_number, good_plan}
 use Rattle.safety_laws.proofs.NotedEntries.{stayed-before, own-sent, notes-other, sender-before}
 use Rattle.std.proofs.Math.ListN.{get_or-map}
 use Rattle.std.proofs.lemmas.List.FromFn.{get_or-map-range_with_len}
@@ -138,7 +138,7 @@ module _ {list : Medl} {script : Script} {start : ClusterStart} {plan : Plan} {t
 
   owner : place.slot ≡ sender plan (suc turn)
   unfolding place
-  owner = place-sender list plan (suc turn) t.planned.follows.nodes t.planned.follows.good.starter.0
+  owner = place-sender list plan (suc turn) t.planned.follows.nodes (good_plan t).starter.0
 
   -- of third nodes' frames each delivers the same
   planned_messages : ℕ → List (List ℕ)

@@ -37,7 +37,7 @@ use Rattle.safety_laws.proofs.PlanSteps.{struck-shown}
 use Rattle.safety_laws.proofs.Receivers.{sound-judge}
 use Rattle.safety_laws.proofs.PlanTurns.{SendsNone, slot_of, slot_number, owner-is, judges, armed-planned}
 use Rattle.safety_laws.proofs.PlanTurns.{unarmed-falling, less-planned}
-use Rattle.safety_laws.proofs.PlanTurns.{within-plan, e-node}
+use Rattle.safety_laws.proofs.PlanTurns.{within-plan, e-node, good_plan}
 use Rattle.fault_plan.proofs.FateSteps.{sound-fate, strikes}
 use Rattle.safety_laws.proofs.Listeners.{IsAwaited, awaited-armed, awaited-listening, fate-awaited}
 use Rattle.fault_plan.proofs.SlotKinds.{sender-stays as sender-unentered}
@@ -48,7 +48,7 @@ module _ {list : Medl} {script : Script} {start : ClusterStart} {plan : Plan} {t
   -- the turn is another's,
   pub turn-other : sender plan (suc turn) ≢ k
   turn-other =
-      let told = told-falling plan (suc turn) k since Jumping t.planned.follows.good jumped in
+      let told = told-falling plan (suc turn) k since Jumping (good_plan t) jumped in
       told.unshown (suc turn) told.from (omega arith)
 
   -- of a node that is not lost by then, and not lost in it
@@ -57,8 +57,8 @@ module _ {list : Medl} {script : Script} {start : ClusterStart} {plan : Plan} {t
   none-shown change s shown =
       let stays : may_stay plan.nodes (suc turn) (fate_of plan (suc turn) (sender plan (suc turn))) ≡ true =
       ap (may_stay plan.nodes (suc turn)) shown
-      ∙ lt-ltb (suc turn) (suc turn + plan.nodes) (omega (arith, t.planned.follows.good.count)) in
-      turn-other (one-stays plan (suc turn) (sender plan (suc turn)) k t.planned.follows.good stays
+      ∙ lt-ltb (suc turn) (suc turn + plan.nodes) (omega (arith, (good_plan t).count)) in
+      turn-other (one-stays plan (suc turn) (sender plan (suc turn)) k (good_plan t) stays
       (ap (may_stay plan.nodes (suc turn)) jumped))
 
   late-silence : SendsNone t → HearsLate (slot_of list script new numbers k)
@@ -75,8 +75,8 @@ module _ {list : Medl} {script : Script} {start : ClusterStart} {plan : Plan} {t
       by false kept =
           Outside (sender plan (suc turn)) (outside-alone k (sound-alone t sends) kept (t.clocks.others k
           (sender plan (suc turn)) since node (e-node t) jumped
-          (ap is_sound (sound-stays plan turn (sender plan (suc turn)) t.planned.follows.good missed sends))
-          (sender-unentered plan (suc turn) t.planned.follows.good)))
+          (ap is_sound (sound-stays plan turn (sender plan (suc turn)) (good_plan t) missed sends))
+          (sender-unentered plan (suc turn) (good_plan t))))
 
   hears-late : (fate : Fate) → fate_of plan turn (sender plan (suc turn)) ≡ fate
       → HearsLate (slot_of list script new numbers k)
@@ -84,8 +84,7 @@ module _ {list : Medl} {script : Script} {start : ClusterStart} {plan : Plan} {t
   hears-late (Listening s) is = late-silence (silent-listening t s is)
   hears-late (Fallen change s shown) is = late-silence (silent-fallen t change s shown is)
   hears-late (Falling change s) is =
-      absurd (none-shown change s
-      (falling-shown plan turn (sender plan (suc turn)) s change t.planned.follows.good refl is))
+      absurd (none-shown change s (falling-shown plan turn (sender plan (suc turn)) s change (good_plan t) refl is))
   hears-late Sound is = by (strikes (incident_at plan (suc turn)) (sender plan (suc turn))) refl
     where
       by : (hit : Bool) → strikes (incident_at plan (suc turn)) (sender plan (suc turn)) ≡ hit
@@ -93,13 +92,13 @@ module _ {list : Medl} {script : Script} {start : ClusterStart} {plan : Plan} {t
       by true hit =
           let struck = struck-known plan (suc turn) (sender plan (suc turn)) hit in
           absurd (none-shown struck.incident.change (suc turn)
-          (struck-shown plan turn (sender plan (suc turn)) t.planned.follows.good struck refl))
+          (struck-shown plan turn (sender plan (suc turn)) (good_plan t) struck refl))
       by false missed = late-sound is missed
 
   -- one that returns does not jump
   none-awaited : (s : ℕ) → IsAwaited plan turn k s → ⊥
   none-awaited s awaited =
-      elim (fate-awaited plan turn k s t.planned.follows.good awaited (within-plan t)) [
+      elim (fate-awaited plan turn k s (good_plan t) awaited (within-plan t)) [
         | inl sound ↦ let both = sym sound ∙ jumped in cc
         | inr listens ↦ let both = sym listens ∙ jumped in cc
       ]
@@ -109,17 +108,17 @@ module _ {list : Medl} {script : Script} {start : ClusterStart} {plan : Plan} {t
       let past = (slot_of list script new numbers k).past in
       (past.phase ≡ phase.Active) × (past.place ≡ planned_place list plan turn)
   stands-jumped Absent is =
-      let both = sym (absent-stays plan turn k t.planned.follows.good is) ∙ jumped in cc
+      let both = sym (absent-stays plan turn k (good_plan t) is) ∙ jumped in cc
   stands-jumped (Listening s) is =
-      absurd (none-awaited s (awaited-listening plan turn k s t.planned.follows.good (within-plan t) is))
+      absurd (none-awaited s (awaited-listening plan turn k s (good_plan t) (within-plan t) is))
   stands-jumped (Fallen change s shown) is =
       let unarmed = false_from_ne_true (is_armed_by plan (suc turn) k) (λ armed.
-      none-awaited (suc turn) (awaited-armed plan turn k t.planned.follows.good armed)) in
-      let both = sym (fallen-stays plan turn k s shown change t.planned.follows.good unarmed is) ∙ jumped in cc
+      none-awaited (suc turn) (awaited-armed plan turn k (good_plan t) armed)) in
+      let both = sym (fallen-stays plan turn k s shown change (good_plan t) unarmed is) ∙ jumped in cc
   stands-jumped Sound is =
       let at = at-fate t k Sound node is in (at.phase, at.place)
   stands-jumped (Falling change s) is =
-      let both = sym (falling-stays plan turn k s change t.planned.follows.good turn-other is) ∙ jumped in
+      let both = sym (falling-stays plan turn k s change (good_plan t) turn-other is) ∙ jumped in
       elim (at-fate t k (Falling change s) node is) [
         | inl left ↦ let deaf = left.1 in cc
         | inr at ↦ (at.phase, at.place)
@@ -138,16 +137,16 @@ module _ {list : Medl} {script : Script} {start : ClusterStart} {plan : Plan} {t
     {numbers : Numbers} (t : IsTurn list script start plan turn new numbers) (k : ℕ) (node : k < length list.slots)
     (other : sender plan (suc turn) ≢ k) where
   few_nodes : 0 < plan.nodes
-  few_nodes = let count = t.planned.follows.good.count in omega (arith, count)
+  few_nodes = let count = (good_plan t).count in omega (arith, count)
 
   -- a sound node that is lost in the turn
   deaf-next : fate_of plan turn k ≡ Sound → (is : IsStruck plan (suc turn) k) → is.incident.change ≡ Receiving
       → IsFallingAt list plan (suc turn) k Receiving (suc turn) (next_past (slot_of list script new numbers k))
   deaf-next sound is deaf =
-      let loss = t.planned.follows.good.losses turn is.incident is.found in
+      let loss = (good_plan t).losses turn is.incident is.found in
       let sends = sound-fate (fate_of plan turn (sender plan (suc turn))) (loss.receiving deaf).1 in
       let hearing = t.planned.follows.hearing (suc turn) t.within in
-      deaf-falls (sound-judge t k node other sound) (t.planned.follows.good.late (suc turn) is.incident is.found)
+      deaf-falls (sound-judge t k node other sound) ((good_plan t).late (suc turn) is.incident is.found)
       (none-alone k (sound-alone t sends) (ap (λ n. loses script (sender plan (suc turn)) n k) (slot_number t)
       ∙ ap (loses script (sender plan (suc turn)) (start.slot + suc turn)) (sym is.node)
       ∙ hearing.deaf is.incident is.found deaf))
@@ -159,15 +158,15 @@ module _ {list : Medl} {script : Script} {start : ClusterStart} {plan : Plan} {t
       by : (change : Change) → is.incident.change ≡ change
           → IsFallingAt list plan (suc turn) k is.incident.change (suc turn)
           (next_past (slot_of list script new numbers k))
-      by Sending how = absurd (other ((t.planned.follows.good.losses turn is.incident is.found).sending how ∙ is.node))
+      by Sending how = absurd (other (((good_plan t).losses turn is.incident is.found).sending how ∙ is.node))
       by Receiving how =
           subst (λ (c : Change). IsFallingAt list plan (suc turn) k c (suc turn)
           (next_past (slot_of list script new numbers k))) (sym how) (deaf-next sound is how)
       by Jumping how =
           subst (λ (c : Change). IsFallingAt list plan (suc turn) k c (suc turn)
           (next_past (slot_of list script new numbers k))) (sym how) (jumped-falls (sound-judge t k node other sound)
-          (t.planned.follows.good.late (suc turn) is.incident is.found) (jumped-wrong t k node (suc turn)
-          (struck-falls plan turn k t.planned.follows.good is other ∙ ap (λ (c : Change). Falling c (suc turn)) how)))
+          ((good_plan t).late (suc turn) is.incident is.found) (jumped-wrong t k node (suc turn)
+          (struck-falls plan turn k (good_plan t) is other ∙ ap (λ (c : Change). Falling c (suc turn)) how)))
 
   -- What comes to a node that was lost and may still stay: what a sound sender's frame is to it, or none.
 
@@ -197,7 +196,7 @@ module _ {list : Medl} {script : Script} {start : ClusterStart} {plan : Plan} {t
     no-answer stays (Listening s) sends = by-silence (silent-listening t s sends)
     no-answer stays (Fallen c s sh) sends = by-silence (silent-fallen t c s sh sends)
     no-answer stays (Falling c s) sends =
-        absurd (other (one-stays plan turn (sender plan (suc turn)) k t.planned.follows.good
+        absurd (other (one-stays plan turn (sender plan (suc turn)) k (good_plan t)
         (ap (may_stay plan.nodes turn) sends) stays))
 
   -- one that was lost, and has had no slot since
@@ -209,7 +208,7 @@ module _ {list : Medl} {script : Script} {start : ClusterStart} {plan : Plan} {t
       elim (at-fate t k (Falling Receiving since) node is) [
         | inl left ↦ inl (idle-left x left.0 (unarmed-falling t k node Receiving since is)).0
         | inr at ↦
-            let told = told-falling plan turn k since Receiving t.planned.follows.good is in
+            let told = told-falling plan turn k since Receiving (good_plan t) is in
             let lost_less : sender plan since < plan.nodes = mod-lt (plan.starter + since) few_nodes in
             let listed = subst (λ n. sender plan since < n) t.planned.follows.nodes lost_less in
             let owner = owner-is t k node at.place in
@@ -217,7 +216,7 @@ module _ {list : Medl} {script : Script} {start : ClusterStart} {plan : Plan} {t
             let round = turns_apart plan since (suc turn) few_nodes (omega (arith, told.from)) same in
             omega (arith, told.soon, round) in
             let not_owner = λ (same : sender plan since ≡ owner_of x). apart (same ∙ owner) in
-            let lost = sender-lost plan turn k since t.planned.follows.good is in
+            let lost = sender-lost plan turn k since (good_plan t) is in
             let few = nodes-most list t.planned.valid in
             deaf-judges plan turn x (judges t k node at.phase at.place other) since at listed not_owner
             (no-answer at.place (λ hears. HasThird (sender plan (suc turn)) (sender plan since) _ hears (record {
@@ -239,16 +238,16 @@ module _ {list : Medl} {script : Script} {start : ClusterStart} {plan : Plan} {t
     | inr at ↦ inr at
   ]
   falling-next Sending since is =
-      let told = told-falling plan turn k since Sending t.planned.follows.good is in
+      let told = told-falling plan turn k since Sending (good_plan t) is in
       absurd (told.unshown since (omega arith) told.from
-      (loss-sending plan k since Sending t.planned.follows.good told.loss refl))
+      (loss-sending plan k since Sending (good_plan t) told.loss refl))
   falling-next Jumping since is =
       let x = slot_of list script new numbers k in
       elim (at-fate t k (Falling Jumping since) node is) [
         | inl left ↦ let deaf = left.1 in cc
         | inr at ↦
             inr (jumped-judges plan turn x (judges t k node at.phase at.place other) since at (jumped-wrong t k node
-            since (falling-stays plan turn k since Jumping t.planned.follows.good other is)))
+            since (falling-stays plan turn k since Jumping (good_plan t) other is)))
       ]
 
   -- one that was lost, and has had its first slot since: no frame answers its own
@@ -261,14 +260,14 @@ module _ {list : Medl} {script : Script} {start : ClusterStart} {plan : Plan} {t
         let few = nodes-most list t.planned.valid in
         Lacks (sender plan (suc turn)) _ hears
         (has_node-with_other _ (sender plan (suc turn)) k (omega (arith, node, few)) (λ same. other (sym same))
-        ∙ fallen-member plan turn k since shown change t.planned.follows.good (less-planned t k node) is)
+        ∙ fallen-member plan turn k since shown change (good_plan t) (less-planned t k node) is)
 
     still-soon : turn < shown + plan.nodes → suc turn < shown + plan.nodes
     still-soon soon = elim (cases_lt (suc turn) (shown + plan.nodes)) [
       | inl before ↦ before
       | inr over ↦
           let now : shown + plan.nodes ≡ suc turn = omega (arith, soon, over) in
-          let told = told-fallen plan turn k since shown change t.planned.follows.good is in
+          let told = told-fallen plan turn k since shown change (good_plan t) is in
           absurd (other (ap (sender plan) (sym now)
           ∙ round-turn plan shown k few_nodes (less-planned t k node) told.own))
     ]

@@ -36,7 +36,7 @@ use Rattle.safety_laws.proofs.OwnTurns.{sound-sends}
 use Rattle.safety_laws.proofs.PlanSteps.{ledger-other}
 use Rattle.safety_laws.proofs.Receivers.{sound-judge, judges-good}
 use Rattle.safety_laws.proofs.WorldSteps.{node-next}
-use Rattle.safety_laws.proofs.PlanTurns.{slot_of}
+use Rattle.safety_laws.proofs.PlanTurns.{slot_of, good_plan}
 
 -- the slot of the start
 pub started-by_plan : (list : Medl) (script : Script) (start : ClusterStart) (plan : Plan) (new : SlotNumbers)
@@ -71,13 +71,13 @@ module _ {list : Medl} {script : Script} {start : ClusterStart} {plan : Plan} {t
 
   -- and so was the sender of a good slot
   pub sender-before : is_good_slot plan (suc turn) ≡ true → fate_of plan turn (sender plan (suc turn)) ≡ Sound
-  sender-before = fate-before (sender plan (suc turn)) (sender-stays plan (suc turn) t.planned.follows.good)
+  sender-before = fate-before (sender plan (suc turn)) (sender-stays plan (suc turn) (good_plan t))
 
   -- none enters in a slot that is not good
   pub wrong-stays : (k : ℕ) → is_good_slot plan (suc turn) ≡ false → enters plan (suc turn) k ≡ false
   wrong-stays k wrong =
       false_from_ne_true (enters plan (suc turn) k) (λ enter.
-      both_ways (is_good_slot plan (suc turn)) wrong (entry-good plan (suc turn) k t.planned.follows.good enter).0)
+      both_ways (is_good_slot plan (suc turn)) wrong (entry-good plan (suc turn) k (good_plan t) enter).0)
 
   -- in its own slot a sound node sends
   pub own-sent : (k : ℕ) → IsSoundIn list plan (suc turn) k → sender plan (suc turn) ≡ k → (message : Option ℕ)

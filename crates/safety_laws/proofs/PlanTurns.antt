@@ -68,15 +68,15 @@ module _ {list : Medl} {script : Script} {start : ClusterStart} {plan : Plan} {t
   pub slot_number : length (world list script numbers) ≡ start.slot + suc turn
   slot_number = length-world list script numbers ∙ t.number
 
-  pub good : IsGoodPlan plan
-  good = t.planned.follows.good
+  pub good_plan : IsGoodPlan plan
+  good_plan = t.planned.follows.good
 
   -- the slot is one of the plan's
   pub within-plan : suc turn < plan.slots
   within-plan = let slots = t.planned.follows.slots in let inside = t.within in omega (arith, slots, inside)
 
   starter : plan.starter < plan.nodes
-  starter = good.starter.0
+  starter = good_plan.starter.0
 
   -- by its place the slot is that of the plan's sender
   owner-planned : (place : Place) → place ≡ planned_place list plan turn
@@ -111,7 +111,7 @@ module _ {list : Medl} {script : Script} {start : ClusterStart} {plan : Plan} {t
     pub absent-off : fate_of plan turn k ≡ Absent → (slot_of list script new numbers k).on ≡ false
     absent-off is =
         ap (is_on script k) slot_number ∙ sym (t.planned.follows.on (suc turn) k node)
-        ∙ not-true (has_node plan.begin k) (sym (absent-always plan turn k good) ∙ ap is_absent is)
+        ∙ not-true (has_node plan.begin k) (sym (absent-always plan turn k good_plan) ∙ ap is_absent is)
 
     pub armed-planned : is_lost (fate_of plan turn k) ≡ true
         → (slot_of list script new numbers k).armed ≡ is_armed_by plan (suc turn) k
@@ -120,18 +120,18 @@ module _ {list : Medl} {script : Script} {start : ClusterStart} {plan : Plan} {t
     pub unarmed-falling : (change : Change) (since : ℕ) → fate_of plan turn k ≡ Falling change since
         → (slot_of list script new numbers k).armed ≡ false
     unarmed-falling change since is =
-        armed-planned (ap is_lost is) ∙ staying-unarmed plan turn k k good (ap (may_stay plan.nodes turn) is)
+        armed-planned (ap is_lost is) ∙ staying-unarmed plan turn k k good_plan (ap (may_stay plan.nodes turn) is)
 
     -- a listening node does not start
     pub listens-still : (since : ℕ) → fate_of plan turn k ≡ Listening since
         → IsListeningAt list plan turn k since (slot_of list script new numbers k).past
         → ListensSince plan turn since (slot_of list script new numbers k)
     listens-still since is at =
-        let awaited = awaited-listening plan turn k since good within-plan is in
+        let awaited = awaited-listening plan turn k since good_plan within-plan is in
         let within = within-plan in
         listens-before plan turn since (slot_of list script new numbers k) t.planned.follows.nodes
-        (let count = good.count in omega (arith, count))
-        (good-lately plan turn k since good awaited (omega (arith, within))) at
+        (let count = good_plan.count in omega (arith, count))
+        (good-lately plan turn k since good_plan awaited (omega (arith, within))) at
 
     -- and one that is armed listens
     pub listens-now : (slot_of list script new numbers k).past.phase ≡ phase.Left
@@ -181,7 +181,7 @@ module _ {list : Medl} {script : Script} {start : ClusterStart} {plan : Plan} {t
   e-node = let n = t.planned.follows.nodes in let less = sender-less in omega (arith, n, less)
     where
       sender-less : sender plan (suc turn) < plan.nodes
-      sender-less = mod-lt (plan.starter + suc turn) (let count = good.count in omega (arith, count))
+      sender-less = mod-lt (plan.starter + suc turn) (let count = good_plan.count in omega (arith, count))
 
   pub none-sends : frames_made (slot_of list script new numbers (sender plan (suc turn))) ≡ [] → SendsNone
   none-sends none k node = elim (cases_eq (sender plan (suc turn)) k) [

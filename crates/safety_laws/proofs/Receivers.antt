@@ -34,7 +34,7 @@ use Rattle.safety_laws.proofs.PlanSteps.{doubted-stays, sound-unentered}
 use Rattle.safety_laws.proofs.LostNodes.{IsSoundJudge, not_about, sound-correct, sound-wrong, sound-tentative}
 use Rattle.safety_laws.proofs.PlanTurns.{NextSound, SendsNone, SendsOne, slot_of, slot_number, owner-is, judges, e-node}
 use Rattle.fault_plan.proofs.SlotKinds.{sender-stays as sender-unentered}
-use Rattle.safety_laws.proofs.PlanTurns.{less-planned}
+use Rattle.safety_laws.proofs.PlanTurns.{less-planned, good_plan}
 
 -- A sound node that judges, where the slot is not good: what leaves it sound.
 
@@ -133,12 +133,12 @@ module _ {list : Medl} {script : Script} {start : ClusterStart} {plan : Plan} {t
   sound-judge =
       let at = at-fate t k Sound node sound in
       record {
-        good = t.planned.follows.good;
+        good = good_plan t;
         nodes = t.planned.follows.nodes;
         judging = judges t k node at.phase at.place other;
         at = at;
         owner = owner-is t k node at.place;
-        entered = sound-unentered plan turn k t.planned.follows.good sound;
+        entered = sound-unentered plan turn k (good_plan t) sound;
       }
 
   hearing : IsHeardByPlan script start plan (suc turn)
@@ -156,7 +156,7 @@ module _ {list : Medl} {script : Script} {start : ClusterStart} {plan : Plan} {t
       let kept = ap (λ n. loses script e n k) number
       ∙ hearing.heard k (less-planned t k node) (λ same. other (sym same)) good_is stays in
       let within = t.clocks.within k e node (e-node t) stays good_is
-      judge.entered (sender-unentered plan (suc turn) t.planned.follows.good) in
+      judge.entered (sender-unentered plan (suc turn) (good_plan t)) in
       let hears = hears-planned t sends k judge.at.place kept within in
       correct-group x (planned_members plan turn) judge.judging judge.at.group e (not_about judge)
       (subst (λ o. HearsMembers x e (with_node (planned_members plan turn) o)) (sym judge.owner) hears)
@@ -215,7 +215,7 @@ module _ {list : Medl} {script : Script} {start : ClusterStart} {plan : Plan} {t
                 let judge = sound-judge in
                 let hears = members-alone k alone kept (ap (next_place list) (at.place ∙ sym judge.at.place)) inside in
                 let p_less : sender plan since < plan.nodes =
-                mod-lt (plan.starter + since) (omega (arith, t.planned.follows.good.count)) in
+                mod-lt (plan.starter + since) (omega (arith, (good_plan t).count)) in
                 shown-sound judge wrong first deaf _ hears
                 (has_node-with_other (slot_of list script new numbers e).past.members e (sender plan since)
-                (omega (arith, p_less, t.planned.follows.good.count.1)) apart ∙ at.lacks refl)
+                (omega (arith, p_less, (good_plan t).count.1)) apart ∙ at.lacks refl)

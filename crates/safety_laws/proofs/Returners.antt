@@ -38,7 +38,7 @@ use Rattle.safety_laws.proofs.Listeners.{awaited-listening, ListensSince, waits-
 use Rattle.safety_laws.proofs.PlanSteps.{members-good, ledger-entered, sound-stays, good-sender}
 use Rattle.safety_laws.proofs.Hearing.{frameless-silent}
 use Rattle.safety_laws.proofs.PlanTurns.{NextByFate, NextSound, SendsNone, SendsOne, slot_of, slot_number, within-plan}
-use Rattle.safety_laws.proofs.PlanTurns.{armed-planned, listens-still, listens-now, less-planned}
+use Rattle.safety_laws.proofs.PlanTurns.{armed-planned, listens-still, listens-now, less-planned, good_plan}
 use Rattle.std.specs.Prelude.{nat_lt}
 use Rattle.ttp_world.specs.declared.node.Phase.TheVariants as phase
 use Rattle.safety_laws.proofs.Groups.{holds-by}
@@ -76,12 +76,12 @@ module _ {list : Medl} {script : Script} {start : ClusterStart} {plan : Plan} {t
       by (Fallen change s shown) is = silent-fallen t change s shown is
       by (Falling change s) is =
           absurd (both_ways (may_stay plan.nodes turn (fate_of plan turn (sender plan (suc turn))))
-          (gone-awaited plan turn k since t.planned.follows.good awaited (sender plan (suc turn)))
+          (gone-awaited plan turn k since (good_plan t) awaited (sender plan (suc turn)))
           (ap (may_stay plan.nodes turn) is))
       by Sound is =
           absurd (both_ways (is_good_slot plan (suc turn)) wrong (ap is_sound (sound-stays plan turn
-          (sender plan (suc turn)) t.planned.follows.good (ap (λ found. strikes found (sender plan (suc turn)))
-          (quiet-awaited plan turn k since t.planned.follows.good awaited)) is)))
+          (sender plan (suc turn)) (good_plan t) (ap (λ found. strikes found (sender plan (suc turn)))
+          (quiet-awaited plan turn k since (good_plan t) awaited)) is)))
 
   waits-silent : is_good_slot plan (suc turn) ≡ false
       → IsListeningAt list plan (suc turn) k since (next_past (slot_of list script new numbers k))
@@ -95,7 +95,7 @@ module _ {list : Medl} {script : Script} {start : ClusterStart} {plan : Plan} {t
 
   module _ (good_is : is_good_slot plan (suc turn) ≡ true) where
     sends : fate_of plan turn (sender plan (suc turn)) ≡ Sound
-    sends = sound-fate _ (good-sender plan turn t.planned.follows.good good_is)
+    sends = sound-fate _ (good-sender plan turn (good_plan t) good_is)
 
     alone : SendsOne t
     alone = sound-alone t sends
@@ -119,7 +119,7 @@ module _ {list : Medl} {script : Script} {start : ClusterStart} {plan : Plan} {t
         → IsListeningAt list plan (suc turn) k since (next_past (slot_of list script new numbers k))
     waits-passing unentered =
         let x = slot_of list script new numbers k in
-        let on = listens-on plan turn k since t.planned.follows.good awaited (within-plan t) unentered in
+        let on = listens-on plan turn k since (good_plan t) awaited (within-plan t) unentered in
         let within = within-plan t in
         let none = (t.planned.follows.returns awaited.return awaited.among).none (suc turn)
         (omega (arith, awaited.armed, awaited.from)) on.0 within good_is in
@@ -148,7 +148,7 @@ module _ {list : Medl} {script : Script} {start : ClusterStart} {plan : Plan} {t
           (subst (λ slot. slot < plan.slots) (sym found.entered) found.within) in
           let hearing = t.planned.follows.hearing (suc turn) t.within in
           let sound = ap is_sound (next-entered plan (suc turn) k (fate_of plan turn k) entered) in
-          let other = (entry-good plan (suc turn) k t.planned.follows.good entered).1 in
+          let other = (entry-good plan (suc turn) k (good_plan t) entered).1 in
           subst (λ (told : Place × List ℕ).
           HearsPlace (slot_of list script new numbers k) (sender plan (suc turn)) told.0 told.1)
           (λ i. (place_is i, members_are i)) (place-alone numbers k t.planned.valid alone
@@ -170,7 +170,7 @@ module _ {list : Medl} {script : Script} {start : ClusterStart} {plan : Plan} {t
       sound-entered =
           let past = next_past (slot_of list script new numbers k) in
           let stands = joins-entry in
-          let other = (entry-good plan (suc turn) k t.planned.follows.good entered).1 in
+          let other = (entry-good plan (suc turn) k (good_plan t) entered).1 in
           record {
             phase = stands.phase;
             place = stands.place;
@@ -200,11 +200,10 @@ module _ {list : Medl} {script : Script} {start : ClusterStart} {plan : Plan} {t
       by true entered =
           subst (λ (f : Fate). IsByFate list plan (suc turn) k past f)
           (sym (next-entered plan (suc turn) k (fate_of plan turn k) entered))
-          (sound-entered (entry-good plan (suc turn) k t.planned.follows.good entered).0 entered)
+          (sound-entered (entry-good plan (suc turn) k (good_plan t) entered).0 entered)
       by false unentered =
-          subst (λ (f : Fate). IsByFate list plan (suc turn) k past f) (sym (listens-on plan turn k since
-          t.planned.follows.good awaited (within-plan t) unentered).1)
-          (waits (is_good_slot plan (suc turn)) refl unentered)
+          subst (λ (f : Fate). IsByFate list plan (suc turn) k past f) (sym (listens-on plan turn k since (good_plan t)
+          awaited (within-plan t) unentered).1) (waits (is_good_slot plan (suc turn)) refl unentered)
 
 -- A node that is armed in a turn, and one that listened before it: both listen in it.
 
@@ -229,19 +228,19 @@ module _ {list : Medl} {script : Script} {start : ClusterStart} {plan : Plan} {t
     still : (since : ℕ) → fate_of plan turn k ≡ Listening since → Listens
     still since is = record {
       since = since;
-      awaited = awaited-listening plan turn k since t.planned.follows.good (within-plan t) is;
+      awaited = awaited-listening plan turn k since (good_plan t) (within-plan t) is;
       listens = listens-still t k node since is (at-fate t k (Listening since) node is);
     }
 
     now : is_armed_by plan (suc turn) k ≡ true → Listens
     now armed =
-        let awaited = awaited-armed plan turn k t.planned.follows.good armed in
-        let lost = armed-lost plan turn k t.planned.follows.good armed in
+        let awaited = awaited-armed plan turn k (good_plan t) armed in
+        let lost = armed-lost plan turn k (good_plan t) armed in
         record {
           since = suc turn;
           awaited = awaited;
           listens = listens-now t k node (left-gone list script plan turn k numbers (fate_of plan turn k) lost
-              (gone-awaited plan turn k (suc turn) t.planned.follows.good awaited k) (t.before.nodes k node))
+              (gone-awaited plan turn k (suc turn) (good_plan t) awaited k) (t.before.nodes k node))
               (armed-planned t k node lost ∙ armed);
         }
 
@@ -263,11 +262,10 @@ module _ {list : Medl} {script : Script} {start : ClusterStart} {plan : Plan} {t
         StandsBy (next_past x) (joined_on place members deviation) (joined_standing list place members deviation)
     entered-joins entered =
         let l = listener in
-        joins-entry t k node l.since l.awaited l.listens
-        (entry-good plan (suc turn) k t.planned.follows.good entered).0 entered
+        joins-entry t k node l.since l.awaited l.listens (entry-good plan (suc turn) k (good_plan t) entered).0 entered
       where
         listener : Listens
-        listener = elim (entry-from plan turn k t.planned.follows.good entered) [
+        listener = elim (entry-from plan turn k (good_plan t) entered) [
           | inl armed ↦ now armed
           | inr listens ↦ still listens.0 listens.1
         ]

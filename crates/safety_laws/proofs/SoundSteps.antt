@@ -20,7 +20,7 @@ use Rattle.safety_laws.proofs.PlanSteps.{IsStruck, struck-known, sound-stays, wr
 use Rattle.safety_laws.proofs.PlanSteps.{falling-shown, struck-shown, first-shown, told-falling}
 use Rattle.safety_laws.proofs.Receivers.{receives-good, receives-silence, receives-none}
 use Rattle.safety_laws.proofs.Receivers.{receives-jumped, receives-deaf}
-use Rattle.safety_laws.proofs.PlanTurns.{NextSound, SendsNone, SendsOne, slot_of, slot_number, none-sends}
+use Rattle.safety_laws.proofs.PlanTurns.{NextSound, SendsNone, SendsOne, slot_of, slot_number, none-sends, good_plan}
 
 module _ {list : Medl} {script : Script} {start : ClusterStart} {plan : Plan} {turn : ℕ} {new : SlotNumbers}
     {numbers : Numbers} (t : IsTurn list script start plan turn new numbers) (k : ℕ) (node : k < length list.slots)
@@ -32,7 +32,7 @@ module _ {list : Medl} {script : Script} {start : ClusterStart} {plan : Plan} {t
   by-struck sends struck = by struck.incident.change refl
     where
       shown : fate_of plan (suc turn) (sender plan (suc turn)) ≡ Fallen struck.incident.change (suc turn) (suc turn)
-      shown = struck-shown plan turn (sender plan (suc turn)) t.planned.follows.good struck refl
+      shown = struck-shown plan turn (sender plan (suc turn)) (good_plan t) struck refl
 
       wrong : is_good_slot plan (suc turn) ≡ false
       wrong = ap is_sound shown
@@ -47,7 +47,7 @@ module _ {list : Medl} {script : Script} {start : ClusterStart} {plan : Plan} {t
           (ap (λ n. loses script (sender plan (suc turn)) n k) (slot_number t)
           ∙ hearing.unheard k struck.incident (subst (λ n. k < n) (sym t.planned.follows.nodes) node) struck.found how stays)
       by Receiving how =
-          absurd (((t.planned.follows.good.losses turn struck.incident struck.found).receiving how).0 (sym struck.node))
+          absurd ((((good_plan t).losses turn struck.incident struck.found).receiving how).0 (sym struck.node))
       by Jumping how =
           receives-jumped t k node other sound wrong first (sound-alone t sends) (suc turn) stays
           (shown ∙ ap (λ (c : Change). Fallen c (suc turn) (suc turn)) how)
@@ -61,10 +61,10 @@ module _ {list : Medl} {script : Script} {start : ClusterStart} {plan : Plan} {t
   ]
     where
       told : IsFalling plan turn (sender plan (suc turn)) change since
-      told = told-falling plan turn (sender plan (suc turn)) since change t.planned.follows.good falls
+      told = told-falling plan turn (sender plan (suc turn)) since change (good_plan t) falls
 
       shown : fate_of plan (suc turn) (sender plan (suc turn)) ≡ Fallen change since (suc turn)
-      shown = falling-shown plan turn (sender plan (suc turn)) since change t.planned.follows.good refl falls
+      shown = falling-shown plan turn (sender plan (suc turn)) since change (good_plan t) refl falls
 
       wrong : is_good_slot plan (suc turn) ≡ false
       wrong = ap is_sound shown
@@ -80,7 +80,7 @@ module _ {list : Medl} {script : Script} {start : ClusterStart} {plan : Plan} {t
           (sender plan (suc turn)) since (suc turn)
           (next_past (slot_of list script new numbers (sender plan (suc turn)))))) → NextSound t k
       by Sending how sends =
-          absurd (apart (loss-sending plan (sender plan (suc turn)) since change t.planned.follows.good told.loss how))
+          absurd (apart (loss-sending plan (sender plan (suc turn)) since change (good_plan t) told.loss how))
       by Jumping how sends =
           receives-jumped t k node other sound wrong first sends.0 since stays
           (shown ∙ ap (λ (c : Change). Fallen c since (suc turn)) how)
@@ -96,8 +96,7 @@ module _ {list : Medl} {script : Script} {start : ClusterStart} {plan : Plan} {t
   by-silence : {fate : Fate} → fate_of plan turn (sender plan (suc turn)) ≡ fate → is_sound fate ≡ false → SendsNone t
       → NextSound t k
   by-silence is unsound none =
-      receives-silence t k node other sound
-      (wrong-slot plan turn t.planned.follows.good (ap is_sound is ∙ unsound)) none
+      receives-silence t k node other sound (wrong-slot plan turn (good_plan t) (ap is_sound is ∙ unsound)) none
 
   by-fate : (fate : Fate) → fate_of plan turn (sender plan (suc turn)) ≡ fate → NextSound t k
   by-fate Absent is = by-silence is refl (silent-absent t is)
@@ -110,7 +109,7 @@ module _ {list : Medl} {script : Script} {start : ClusterStart} {plan : Plan} {t
       by true hit = by-struck is (struck-known plan (suc turn) (sender plan (suc turn)) hit)
       by false missed =
           receives-good t k node other sound
-          (ap is_sound (sound-stays plan turn (sender plan (suc turn)) t.planned.follows.good missed is)) is stays
+          (ap is_sound (sound-stays plan turn (sender plan (suc turn)) (good_plan t) missed is)) is stays
 
   pub sound-next : NextSound t k
   sound-next = by-fate (fate_of plan turn (sender plan (suc turn))) refl

@@ -29,7 +29,7 @@ use Rattle.safety_laws.proofs.OwnTurns.{sound-sent, lost-sent}
 use Rattle.safety_laws.proofs.PlanSteps.{struck-known, absent-stays, fallen-stays, sound-stays, falling-stays}
 use Rattle.safety_laws.proofs.PlanSteps.{falling-shown, struck-falls, struck-shown, ledger-other, ledger-own}
 use Rattle.safety_laws.proofs.SoundSteps.{sound-next}
-use Rattle.safety_laws.proofs.PlanTurns.{NextByFate, slot_of, e-node, absent-off, armed-planned}
+use Rattle.safety_laws.proofs.PlanTurns.{NextByFate, slot_of, e-node, absent-off, armed-planned, good_plan}
 use Rattle.ttp_world.specs.Diary.{Diary, entry_of, diary_of, is_active_phase, is_active, begins_stint}
 use Rattle.ttp_world.specs.Medium.{is_sending}
 use Rattle.ttp_world.specs.Safety.{has_ever_sent}
@@ -147,27 +147,26 @@ module _ {list : Medl} {script : Script} {start : ClusterStart} {plan : Plan} {t
           → NextByFate t k
       by-sound is true hit =
           let struck = struck-known plan (suc turn) k hit in
-          of-fate k _ _ (struck-falls plan turn k t.planned.follows.good struck other)
+          of-fate k _ _ (struck-falls plan turn k (good_plan t) struck other)
           (inr (struck-next t k node other is struck))
       by-sound is false missed =
-          let stays = sound-stays plan turn k t.planned.follows.good missed is in
+          let stays = sound-stays plan turn k (good_plan t) missed is in
           of-fate k _ Sound stays (sound-next t k node other is (ap is_sound stays))
 
       by-fallen : (change : Change) (since shown : ℕ) → fate_of plan turn k ≡ Fallen change since shown → (armed : Bool)
           → is_armed_by plan (suc turn) k ≡ armed → NextByFate t k
       by-fallen change since shown is true armed = armed-next t k node armed
       by-fallen change since shown is false unarmed =
-          of-fate k _ (Fallen change since shown)
-          (fallen-stays plan turn k since shown change t.planned.follows.good unarmed is)
+          of-fate k _ (Fallen change since shown) (fallen-stays plan turn k since shown change (good_plan t) unarmed is)
           (fallen-next t k node other change since shown is unarmed)
 
       by : (fate : Fate) → fate_of plan turn k ≡ fate → NextByFate t k
       by Absent is =
-          of-fate k _ Absent (absent-stays plan turn k t.planned.follows.good is)
+          of-fate k _ Absent (absent-stays plan turn k (good_plan t) is)
           (idle-off (slot_of list script new numbers k) (at-fate t k Absent node is) (absent-off t k node is)).0
       by Sound is = by-sound is (strikes (incident_at plan (suc turn)) k) refl
       by (Falling change since) is =
-          of-fate k _ (Falling change since) (falling-stays plan turn k since change t.planned.follows.good other is)
+          of-fate k _ (Falling change since) (falling-stays plan turn k since change (good_plan t) other is)
           (falling-next t k node other change since is)
       by (Listening since) is = listening-next t k node since is
       by (Fallen change since shown) is = by-fallen change since shown is (is_armed_by plan (suc turn) k) refl
@@ -181,10 +180,10 @@ module _ {list : Medl} {script : Script} {start : ClusterStart} {plan : Plan} {t
           → strikes (incident_at plan (suc turn)) (sender plan (suc turn)) ≡ hit → NextByFate t (sender plan (suc turn))
       by-sound is true hit =
           let struck = struck-known plan (suc turn) (sender plan (suc turn)) hit in
-          of-fate (sender plan (suc turn)) _ _ (struck-shown plan turn (sender plan (suc turn)) t.planned.follows.good struck refl)
+          of-fate (sender plan (suc turn)) _ _ (struck-shown plan turn (sender plan (suc turn)) (good_plan t) struck refl)
           (inr (lost-sent (sound-owner t is)))
       by-sound is false missed =
-          let stays = sound-stays plan turn (sender plan (suc turn)) t.planned.follows.good missed is in
+          let stays = sound-stays plan turn (sender plan (suc turn)) (good_plan t) missed is in
           of-fate (sender plan (suc turn)) _ Sound stays (sound-sent (sound-owner t is) (ap is_sound stays))
 
       by-fallen : (change : Change) (since shown : ℕ)
@@ -193,20 +192,19 @@ module _ {list : Medl} {script : Script} {start : ClusterStart} {plan : Plan} {t
       by-fallen change since shown is true armed = armed-next t (sender plan (suc turn)) (e-node t) armed
       by-fallen change since shown is false unarmed =
           of-fate (sender plan (suc turn)) _ (Fallen change since shown)
-          (fallen-stays plan turn (sender plan (suc turn)) since shown change t.planned.follows.good unarmed is)
+          (fallen-stays plan turn (sender plan (suc turn)) since shown change (good_plan t) unarmed is)
           (inl (fallen-leaves t change since shown is unarmed))
 
       by : (fate : Fate) → fate_of plan turn (sender plan (suc turn)) ≡ fate → NextByFate t (sender plan (suc turn))
       by Absent is =
           let node = e-node t in
-          of-fate (sender plan (suc turn)) _ Absent
-          (absent-stays plan turn (sender plan (suc turn)) t.planned.follows.good is)
+          of-fate (sender plan (suc turn)) _ Absent (absent-stays plan turn (sender plan (suc turn)) (good_plan t) is)
           (idle-off (slot_of list script new numbers (sender plan (suc turn)))
           (at-fate t (sender plan (suc turn)) Absent node is) (absent-off t (sender plan (suc turn)) node is)).0
       by Sound is = by-sound is (strikes (incident_at plan (suc turn)) (sender plan (suc turn))) refl
       by (Falling change since) is =
           of-fate (sender plan (suc turn)) _ (Fallen change since (suc turn))
-          (falling-shown plan turn (sender plan (suc turn)) since change t.planned.follows.good refl is)
+          (falling-shown plan turn (sender plan (suc turn)) since change (good_plan t) refl is)
           (elim (falling-acts t change since is) [
             | inl left ↦ inl left.0
             | inr sends ↦ inr sends.2
@@ -242,18 +240,18 @@ module _ {list : Medl} {script : Script} {start : ClusterStart} {plan : Plan} {t
 
       falling-apart : (change : Change) (since : ℕ) → fate_of plan turn k ≡ Falling change since → ⊥
       falling-apart change since is = elim (cases_eq (sender plan (suc turn)) k) [
-        | inl own ↦ apart (ap is_there (falling-shown plan turn k since change t.planned.follows.good own is))
-        | inr other ↦ apart (ap is_there (falling-stays plan turn k since change t.planned.follows.good other is))
+        | inl own ↦ apart (ap is_there (falling-shown plan turn k since change (good_plan t) own is))
+        | inr other ↦ apart (ap is_there (falling-stays plan turn k since change (good_plan t) other is))
       ]
 
       by : (fate : Fate) → fate_of plan turn k ≡ fate → is_there fate ≡ true
       by Sound is = refl
       by (Listening since) is = refl
-      by Absent is = absurd (apart (ap is_there (absent-stays plan turn k t.planned.follows.good is)))
+      by Absent is = absurd (apart (ap is_there (absent-stays plan turn k (good_plan t) is)))
       by (Falling change since) is = absurd (falling-apart change since is)
       by (Fallen change since shown) is =
           let planned = sym (armed-planned t k node (ap is_lost is)) ∙ unarmed in
-          absurd (apart (ap is_there (fallen-stays plan turn k since shown change t.planned.follows.good planned is)))
+          absurd (apart (ap is_there (fallen-stays plan turn k since shown change (good_plan t) planned is)))
 
   stay-next : (k : ℕ) → k < length list.slots → is_there (fate_of plan (suc turn) k) ≡ true
       → has_left_since_arm script (world list script (new ∷ numbers)) k ≡ false
