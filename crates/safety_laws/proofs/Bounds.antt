@@ -47,16 +47,14 @@ module _ {list : Medl} {script : Script} {start : ClusterStart} {plan : Plan} {s
       × IsCompanyRun list script may_grow (stays_sound plan slot) (start.slot + newest) history)
   company-run may_grow stay =
       let less : length history < script.slots = omega (arith, is.within, number) in
-      let run = ran-company list script start plan may_grow slot history is.follows.planned is.noted
-      (omega (arith, less)) stay in (
+      let run = ran-company is.follows.planned may_grow slot history is.noted (omega (arith, less)) stay in (
         run.0,
         (
           run.1.0,
           record {
             bounds = is.follows.bounds.clocks;
             within = omega (arith, less);
-            calm = λ k p. sound-calm list script start plan (suc slot) history is.follows.planned
-                (omega (arith, number)) less k
+            calm = λ k p. sound-calm is.follows.planned (suc slot) history (omega (arith, number)) less k
                 (p.0, (and_parts (is_sound_after plan slot k) (is_sound_after plan (suc slot) k) p.1).1);
             together = company-in list script may_grow (stays_sound plan slot) (is_sound_after plan slot)
                 (start.slot + run.0) history

@@ -9,4 +9,5 @@ pub returns-clause-began : goal.returns-clause-began
 returns-clause-began c = began
 
 pub returns-clause-company : goal.returns-clause-company
-returns-clause-company c = ran-company
+returns-clause-company c = λ list script start plan may_grow slot history follows.
+    ran-company follows may_grow slot history
