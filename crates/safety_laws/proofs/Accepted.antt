@@ -27,7 +27,7 @@ use Rattle.safety_laws.specs.SameFrames.{begins_at_zero, StandsAlikeSince}
 use Rattle.safety_laws.proofs.Receivers.{sound-judge, judges-good}
 use Rattle.safety_laws.proofs.Delivered.{is_judgement, delivers-unjudged, messages-alike, messages-other, messages-own}
 use Rattle.safety_laws.proofs.Delivered.{given-good}
-use Rattle.safety_laws.proofs.NotedEntries.{in-row, stayed-before, own-sent, notes-other, started-by_plan}
+use Rattle.safety_laws.proofs.WorldSteps.{in-row, stayed-before, own-sent, notes-other, started-by_plan}
 use Rattle.safety_laws.proofs.Together.{KeepsClocks, turn-next, run-by_plan}
 use Rattle.fault_plan.specs.Places.{planned_place}
 use Rattle.fault_plan.proofs.Returns.{none-enters}

@@ -33,7 +33,7 @@ use Rattle.safety_laws.proofs.OneSender.{comes-alone}
 use Rattle.safety_laws.proofs.Arrivals.{sound-alone, sound-owner}
 use Rattle.safety_laws.proofs.Receivers.{sound-judge, judges-good}
 use Rattle.safety_laws.proofs.PlanTurns.{slot_of, slot_number, good_plan}
-use Rattle.safety_laws.proofs.NotedEntries.{stayed-before, own-sent, notes-other, sender-before}
+use Rattle.safety_laws.proofs.WorldSteps.{stayed-before, own-sent, notes-other, sender-before}
 use Rattle.std.proofs.Math.ListN.{get_or-map}
 use Rattle.std.proofs.lemmas.List.FromFn.{get_or-map-range_with_len}
 use Rattle.ttp_world.specs.declared.node.Chosen.{Chosen}

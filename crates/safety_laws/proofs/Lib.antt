@@ -19,7 +19,6 @@ pub mod Views
 pub mod Waiting
 pub mod WorldTurns
 pub mod PlanSteps
-pub mod Ledgers
 pub mod LostNodes
 pub mod OwnTurns
 pub mod Listeners
@@ -45,7 +44,6 @@ pub mod NearNotes
 pub mod RoundKnown
 pub mod JumpedClock
 pub mod OutsideWindow
-pub mod NotedEntries
 pub mod Together
 pub mod Delivered
 pub mod Accepted

@@ -1,6 +1,6 @@
--- A sound node in another's slot: by its verdict it is a sound node of the plan after the slot.
+-- What a verdict makes of a node's counts, by its ledger.
 use Rattle.std.proofs.Common.{◌≡◌, ◌≢◌, ℕ, suc, ◌+◌, ◌*◌, ◌<◌, ◌≤◌, ℤ, pos, false, length, refl, ap, sym, subst, ◌∙◌}
-use Rattle.std.proofs.Common.{◌⊎◌, inl, inr, arith, Bool, true, List}
+use Rattle.std.proofs.Common.{◌⊎◌, inl, inr, arith, Bool, true, List, cond}
 use Rattle.std.proofs.lemmas.Bool.{false_from_ne_true, false≢true}
 use Rattle.ttp_base.specs.NodeSet.{has_node, with_node, without_node}
 use Rattle.ttp_world.specs.declared.node.Phase.TheVariants as phase
@@ -17,7 +17,7 @@ use Rattle.safety_laws.specs.Heard.{HearsNoFrame}
 use Rattle.safety_laws.specs.NodeSlot.{NodeSlot, next_past, owner_of}
 use Rattle.safety_laws.specs.Standing.{IsJudgedAs}
 use Rattle.safety_laws.specs.Turns.{IsJudging, HearsOutside}
-use Rattle.safety_laws.specs.ByFate.{IsSoundAt, IsFallingAt, IsFallenAt, IsCounted}
+use Rattle.safety_laws.specs.ByFate.{IsSoundAt, IsFallingAt, IsFallenAt, IsCounted, doubts}
 use Rattle.safety_laws.proofs.GroupSets.{has_node-taken_out}
 use Rattle.safety_laws.proofs.Unanswered.{stays-judged, stays-unanswered, not_held-judging}
 use Rattle.safety_laws.proofs.Verdicts.{judged-outside, judged-none, judged-whatever}
@@ -28,9 +28,73 @@ use Rattle.ttp_world.specs.Membership.{is_accepted}
 use Rattle.fault_plan.specs.Fates.{Fallen, fate_of, is_good_slot, is_first_slot}
 use Rattle.fault_plan.specs.Ledger.{Ledger, with_slot, planned_members, ledger_of}
 use Rattle.safety_laws.proofs.Groups.{holds-correct, holds-wrong, holds-tentative}
-use Rattle.safety_laws.proofs.Ledgers.{counted-on, by-correct, by-wrong, by-tentative}
 use Rattle.safety_laws.proofs.PlanSteps.{members-good, members-wrong, ledger-other, fallen-stays, doubt-apart}
 use Rattle.safety_laws.proofs.PlanSteps.{staying-unarmed, doubted-stays}
+use Rattle.ttp_world.specs.Past.{NodePast}
+
+-- what a verdict makes of the counts
+pub record IsCountedOn (past next : NodePast) (v : Verdict) : Type 0 where
+  pub accepted : next.accepted ≡ cond (is_correct v) 1 0 + past.accepted
+  pub rejected : next.rejected ≡ cond (is_rejection past.ack v) 1 0 + past.rejected
+  pub cold_start : next.cold_start ≡ past.cold_start
+
+pub counted-on : (x : NodeSlot) (v : Verdict) (deviation : ℤ) → IsJudgedAs x v deviation
+    → IsCountedOn x.past (next_past x) v
+counted-on x v deviation judged = record {
+  accepted = judged.accepted;
+  rejected = judged.rejected;
+  cold_start = judged.cold_start;
+}
+
+wrong-accepted : (v : Verdict) → is_accepted v ≡ false → is_correct v ≡ false
+wrong-accepted verdict.Correct wrong = absurd (false≢true (sym wrong))
+wrong-accepted _ wrong = refl
+
+one-at-most : (counts first : Bool) → (counts ≡ true → first ≡ true) → cond counts 1 0 ≤ cond first 1 0
+one-at-most true first only = let is = only refl in rw is (omega arith)
+one-at-most false first only = omega arith
+
+none-more : (ledger : Ledger) → (ledger.own ≡ true) × (ledger.seen ≡ 0) → (ledger.own ≡ true) × (0 + ledger.seen ≡ 0)
+none-more ledger none = (none.0, omega (arith, none.1))
+
+module _ {ledger : Ledger} {past next : NodePast} (counted : IsCounted ledger past) where
+  pub by-correct : (first : Bool) → IsCountedOn past next verdict.Correct → next.ack ≡ ack.Closed
+      → IsCounted (with_slot true first ledger) next
+  by-correct first on closed =
+      let none : doubts next.ack ≡ 0 = ap doubts closed in
+      record {
+        accepted = omega (arith, on.accepted, counted.accepted);
+        rejected = omega (arith, on.rejected, none, counted.rejected);
+        opened = λ opened. absurd (false≢true (ap is_open (sym closed) ∙ opened));
+        cold_start = λ cold. counted.cold_start (sym on.cold_start ∙ cold);
+      }
+
+  pub by-wrong : {v : Verdict} (first : Bool) → IsCountedOn past next v → is_accepted v ≡ false
+      → (is_rejection past.ack v ≡ true → first ≡ true) → next.ack ≡ past.ack
+      → IsCounted (with_slot false first ledger) next
+  by-wrong {v = v} first on wrong only same =
+      let none : cond {A = ℕ} (is_correct v) 1 0 ≡ 0 = ap (λ b. cond {A = ℕ} b 1 0) (wrong-accepted v wrong) in
+      let more = one-at-most (is_rejection past.ack v) first only in
+      let still : doubts next.ack ≡ doubts past.ack = ap doubts same in
+      record {
+        accepted = omega (arith, on.accepted, none, counted.accepted);
+        rejected = omega (arith, on.rejected, more, still, counted.rejected);
+        opened = λ opened. none-more ledger (counted.opened (ap is_open (sym same) ∙ opened));
+        cold_start = λ cold. counted.cold_start (sym on.cold_start ∙ cold);
+      }
+
+  pub by-tentative : (y : ℕ) → IsCountedOn past next verdict.Tentative → past.ack ≡ ack.First → next.ack ≡ ack.Doubt y
+      → IsCounted (with_slot false true ledger) next
+  by-tentative y on first doubt =
+      let one : doubts next.ack ≡ 1 = ap doubts doubt in
+      record {
+        accepted = omega (arith, on.accepted, counted.accepted);
+        rejected = omega (arith, on.rejected, one, counted.rejected);
+        opened = λ opened. none-more ledger (counted.opened (ap is_open first));
+        cold_start = λ cold. counted.cold_start (sym on.cold_start ∙ cold);
+      }
+
+-- A sound node in another's slot: by its verdict it is a sound node of the plan after the slot.
 
 about-other : (a : Ack) (j : ℕ) → ((y : ℕ) → a ≡ ack.Doubt y → y ≢ j) → IsNotAbout j a
 about-other (ack.Doubt y) j apart = apart y refl

@@ -36,8 +36,7 @@ use Rattle.safety_laws.proofs.PlanSteps.{struck-known, absent-stays, fallen-stay
 use Rattle.safety_laws.proofs.PlanSteps.{struck-shown}
 use Rattle.safety_laws.proofs.Receivers.{sound-judge}
 use Rattle.safety_laws.proofs.PlanTurns.{SendsNone, slot_of, slot_number, owner-is, judges, armed-planned}
-use Rattle.safety_laws.proofs.PlanTurns.{unarmed-falling, less-planned}
-use Rattle.safety_laws.proofs.PlanTurns.{within-plan, e-node, good_plan}
+use Rattle.safety_laws.proofs.PlanTurns.{unarmed-falling, less-planned, within-plan, e-node, good_plan}
 use Rattle.fault_plan.proofs.FateSteps.{sound-fate, strikes}
 use Rattle.safety_laws.proofs.Listeners.{IsAwaited, awaited-armed, awaited-listening, fate-awaited}
 use Rattle.fault_plan.proofs.SlotKinds.{sender-stays as sender-unentered}

@@ -18,8 +18,7 @@ use Rattle.safety_laws.specs.ByPlan.{IsByPlan}
 use Rattle.safety_laws.proofs.Bounds.{sound-inside}
 use Rattle.safety_laws.proofs.OutsideWindow.{jumped-outside}
 use Rattle.safety_laws.proofs.Begins.{holds-begun}
-use Rattle.safety_laws.proofs.WorldSteps.{holds-next}
-use Rattle.safety_laws.proofs.NotedEntries.{started-by_plan, noted-next}
+use Rattle.safety_laws.proofs.WorldSteps.{holds-next, started-by_plan, noted-next}
 
 -- in a world whose nodes noted by a plan up to a turn, the clocks of the next slot hold as membership asks it
 abbrev pub KeepsClocks : Medl → Script → ClusterStart → Plan → Type 0
