@@ -1,6 +1,6 @@
 -- What the sender of a turn does by its fate, and what comes to each other node.
-use Rattle.std.proofs.Common.{◌≡◌, ℕ, suc, ◌<◌, true, false, List, [], length, refl, ap, sym, subst}
-use Rattle.std.proofs.Common.{◌∙◌, ◌⊎◌, inl, inr, arith}
+use Rattle.std.proofs.Common.{◌≡◌, ℕ, suc, ◌<◌, true, false, List, [], length, refl, ap, sym, subst, ◌∙◌, ◌⊎◌, inl, inr}
+use Rattle.std.proofs.Common.{arith}
 use Rattle.ttp_base.specs.NodeSet.{with_node}
 use Rattle.ttp_world.specs.declared.medl.Medl.{Medl}
 use Rattle.ttp_world.specs.declared.node.Phase.TheVariants as phase
@@ -21,11 +21,10 @@ use Rattle.safety_laws.specs.PlanTurn.{IsTurn}
 use Rattle.safety_laws.proofs.Idle.{idle-off, idle-left}
 use Rattle.safety_laws.proofs.Listening.{frames_made-listening}
 use Rattle.safety_laws.proofs.OneSender.{members-alone}
-use Rattle.safety_laws.proofs.OwnTurns.{IsSoundOwner, sound-sends, falling-own, fallen-own}
+use Rattle.safety_laws.proofs.PlanTurns.{IsSoundOwner, sound-sends, falling-own, fallen-own, SendsNone, SendsOne}
+use Rattle.safety_laws.proofs.PlanTurns.{slot_of, e-node, has-turn, absent-off, armed-planned, unarmed-falling}
+use Rattle.safety_laws.proofs.PlanTurns.{good_plan, listens-still, silent-left, none-sends, sends-alone}
 use Rattle.safety_laws.proofs.PlanSteps.{told-falling}
-use Rattle.safety_laws.proofs.PlanTurns.{SendsNone, SendsOne, slot_of, e-node, has-turn, absent-off, armed-planned}
-use Rattle.safety_laws.proofs.PlanTurns.{unarmed-falling, good_plan}
-use Rattle.safety_laws.proofs.PlanTurns.{listens-still, silent-left, none-sends, sends-alone}
 
 module _ {list : Medl} {script : Script} {start : ClusterStart} {plan : Plan} {turn : ℕ} {new : SlotNumbers}
     {numbers : Numbers} (t : IsTurn list script start plan turn new numbers) where

@@ -1,9 +1,10 @@
--- After the slot of the start each node is what its fate says.
-use Rattle.std.proofs.Common.{◌≡◌, ◌≢◌, ℕ, ◌+◌, ◌<◌, ◌≤◌, Bool, true, false, not, ◌&&◌, ◌||◌, [], ◌∷◌, length}
-use Rattle.std.proofs.Common.{refl, ap, sym, subst, ◌∙◌, ◌⊎◌, inl, inr, arith, cond}
-use Rattle.std.specs.Prelude.{◌==◌}
+-- Whether a node has left since it was armed last, after one slot more.
+use Rattle.std.proofs.Common.{◌≡◌, ◌≢◌, ℕ, ◌+◌, ◌<◌, ◌≤◌, Bool, true, false, not, ◌&&◌, ◌||◌, [], ◌∷◌, length, refl, ap}
+use Rattle.std.proofs.Common.{sym, subst, ◌∙◌, ◌⊎◌, inl, inr, arith, cond, zero, suc, ◌-◌, List, ◌++◌, take, Option}
+use Rattle.std.proofs.Common.{Some, None}
+use Rattle.std.specs.Prelude.{◌==◌, reverse, find}
 use Rattle.std.proofs.lemmas.Bool.{cases_eq, eq-eqb, false≢true, both_ways, and_parts}
-use Rattle.ttp_base.specs.NodeSet.{has_node}
+use Rattle.ttp_base.specs.NodeSet.{has_node, below}
 use Rattle.ttp_world.specs.declared.medl.Medl.{Medl}
 use Rattle.ttp_world.specs.declared.node.Ack.{Ack}
 use Rattle.ttp_world.specs.declared.node.Ack.TheVariants as ack
@@ -13,15 +14,17 @@ use Rattle.ttp_world.specs.declared.node.Phase.{Phase}
 use Rattle.ttp_world.specs.declared.node.Phase.TheVariants as phase
 use Rattle.ttp_world.specs.declared.script.Script.{Script}
 use Rattle.ttp_world.specs.Acknowledgement.{is_open}
-use Rattle.ttp_world.specs.BackSafety.{has_sent_since_begin, has_sent_in_stint, has_left_since_arm}
-use Rattle.ttp_world.specs.Diary.{Diary, phase_after, entry_of, diary_of, is_active, begins_stint, start_place}
+use Rattle.ttp_world.specs.BackSafety.{has_sent_since_begin, has_sent_in_stint, has_left_since_arm, newest_arm}
+use Rattle.ttp_world.specs.BackSafety.{since_slot, is_left_after}
+use Rattle.ttp_world.specs.Diary.{Diary, phase_after, entry_of, diary_of, is_active, begins_stint, start_place, History}
 use Rattle.ttp_world.specs.Hypothesis.{ClusterStart}
 use Rattle.ttp_world.specs.Medium.{is_sending}
 use Rattle.ttp_world.specs.Messages.{is_left_phase}
 use Rattle.ttp_world.specs.Past.{NodePast}
 use Rattle.ttp_world.specs.Safety.{has_ever_sent}
-use Rattle.ttp_world.specs.Script.{is_on}
+use Rattle.ttp_world.specs.Script.{is_on, is_armed}
 use Rattle.ttp_world.specs.World.{SlotNumbers, Numbers, node_past, slot_after, messages_chosen, row_in, world}
+use Rattle.ttp_world.specs.World.{deviation_in}
 use Rattle.ttp_world.proofs.Worlds.{length-world}
 use Rattle.fault_plan.specs.Plan.{Plan, sender}
 use Rattle.fault_plan.specs.Fates.{Fate, Absent, Sound, Listening, fate_of, is_sound_after, is_absent}
@@ -31,14 +34,101 @@ use Rattle.fault_plan.proofs.Persists.{absent-always, sound-first}
 use Rattle.safety_laws.specs.Groups.{HoldsGroup}
 use Rattle.safety_laws.specs.Start.{IsStartHeard, starter_standing, joined_on_start}
 use Rattle.safety_laws.specs.Standing.{StandsBy, joined_standing}
-use Rattle.ttp_world.specs.World.{deviation_in}
 use Rattle.safety_laws.specs.ByFate.{doubts, is_there, IsCounted, IsSoundAt, IsByFate}
 use Rattle.safety_laws.specs.PlannedRun.{IsBegun}
 use Rattle.safety_laws.specs.PlanTurn.{HoldsAfter}
 use Rattle.safety_laws.proofs.StartSlot.{first_due, starter-stands, joiner-stands, off-stays, has-begun}
 use Rattle.safety_laws.proofs.Waiting.{WaitAll, WaitAll-world}
-use Rattle.safety_laws.proofs.LeftSince.{left_since-next}
 use Rattle.fault_plan.proofs.FateSteps.{sound-fate}
+use Rattle.std.specs.List.{list_any, range_with_len}
+use Rattle.std.proofs.lemmas.List.{length-map, reverse-append}
+use Rattle.std.proofs.lemmas.Option.{same_Some}
+
+-- The newest arm line.
+
+range-more : (a n : ℕ) → range_with_len a (suc n) ≡ range_with_len a n ++ (a + n) ∷ []
+range-more a zero = ap (λ j. j ∷ []) (omega arith)
+range-more a (suc n) =
+    ap (λ rest. a ∷ rest) (range-more (a + 1) n ∙ ap (λ j. range_with_len (a + 1) n ++ j ∷ []) (omega arith))
+
+newest_arm-next : (script : Script) (k slots : ℕ)
+    → newest_arm script k (suc slots) ≡ cond (is_armed script k slots) (Some slots) (newest_arm script k slots)
+newest_arm-next script k slots =
+    ap (λ js. find (is_armed script k) (reverse js))
+    (range-more 0 slots ∙ ap (λ j. below slots ++ j ∷ []) (omega arith))
+    ∙ ap (find (is_armed script k)) (reverse-append (below slots) (slots ∷ []))
+
+newest_arm-less : (script : Script) (k slots slot : ℕ) → newest_arm script k slots ≡ Some slot → slot < slots
+newest_arm-less script k zero slot is = cc
+newest_arm-less script k (suc slots) slot is = by (is_armed script k slots) refl (newest_arm-less script k slots slot)
+  where
+    by : (armed : Bool) → is_armed script k slots ≡ armed → (newest_arm script k slots ≡ Some slot → slot < slots)
+        → slot < suc slots
+    by true armed before =
+        let same : slots ≡ slot =
+        same_Some _ _ (sym (newest_arm-next script k slots
+        ∙ ap (λ b. cond b (Some slots) (newest_arm script k slots)) armed) ∙ is) in
+        omega (arith, same)
+    by false unarmed before =
+        let less = before (sym (newest_arm-next script k slots
+        ∙ ap (λ b. cond b (Some slots) (newest_arm script k slots)) unarmed) ∙ is) in
+        omega (arith, less)
+
+-- The entries from a slot on.
+
+since-newest : (e : Entry) (diary : Diary) (slot : ℕ) → length diary ≡ slot
+    → since_slot (Some slot) (e ∷ diary) ≡ e ∷ []
+since-newest e diary slot is =
+    let one : suc (length diary) - slot ≡ 1 = omega (arith, is) in
+    ap (λ n. take n (e ∷ diary)) one
+
+since-older : (e : Entry) (diary : Diary) (slot : ℕ) → slot < length diary
+    → since_slot (Some slot) (e ∷ diary) ≡ e ∷ since_slot (Some slot) diary
+since-older e diary slot before =
+    let more : suc (length diary) - slot ≡ suc (length diary - slot) = omega (arith, before) in
+    ap (λ n. take n (e ∷ diary)) more
+
+-- A node that does not leave in a slot has not left since, if it is armed in the slot or had not before it.
+pub left_since-next : (script : Script) (history : History) (row : List Entry) (k : ℕ)
+    → is_left_after (entry_of row k) ≡ false
+    → (is_armed script k (length history) ≡ false → has_left_since_arm script history k ≡ false)
+    → has_left_since_arm script (row ∷ history) k ≡ false
+left_since-next script history row k stays before = by (is_armed script k (length history)) refl
+  where
+    e : Entry
+    e = entry_of row k
+
+    diary : Diary
+    diary = diary_of history k
+
+    long : length diary ≡ length history
+    long = length-map history (λ r. entry_of r k)
+
+    arm-is : (armed : Bool) → is_armed script k (length history) ≡ armed → newest_arm script k (suc (length history))
+        ≡ cond armed (Some (length history)) (newest_arm script k (length history))
+    arm-is armed is =
+        newest_arm-next script k (length history)
+        ∙ ap (λ b. cond b (Some (length history)) (newest_arm script k (length history))) is
+
+    older : (slot : Option ℕ) → newest_arm script k (length history) ≡ slot
+        → list_any is_left_after (since_slot slot diary) ≡ false
+        → list_any is_left_after (since_slot slot (e ∷ diary)) ≡ false
+    older None is none = ap (λ b. b || list_any is_left_after diary) stays ∙ none
+    older (Some slot) is none =
+        let less = newest_arm-less script k (length history) slot is in
+        ap (list_any is_left_after) (since-older e diary slot (omega (arith, less, long)))
+        ∙ ap (λ b. b || list_any is_left_after (since_slot (Some slot) diary)) stays ∙ none
+
+    by : (armed : Bool) → is_armed script k (length history) ≡ armed
+        → has_left_since_arm script (row ∷ history) k ≡ false
+    by true armed =
+        ap (λ slot. list_any is_left_after (since_slot slot (e ∷ diary))) (arm-is true armed)
+        ∙ ap (list_any is_left_after) (since-newest e diary (length history) long) ∙ ap (λ b. b || false) stays
+    by false unarmed =
+        ap (λ slot. list_any is_left_after (since_slot slot (e ∷ diary))) (arm-is false unarmed)
+        ∙ older (newest_arm script k (length history)) refl (before unarmed)
+
+-- After the slot of the start each node is what its fate says.
 
 -- Nobody has sent while all wait.
 

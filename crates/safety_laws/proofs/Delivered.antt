@@ -32,7 +32,7 @@ use Rattle.safety_laws.proofs.NodeSlots.{entry_of-made}
 use Rattle.safety_laws.proofs.OneSender.{comes-alone}
 use Rattle.safety_laws.proofs.Arrivals.{sound-alone, sound-owner}
 use Rattle.safety_laws.proofs.Receivers.{sound-judge, judges-good}
-use Rattle.safety_laws.proofs.PlanTurns.{slot_of, slot_number, good_plan}
+use Rattle.safety_laws.proofs.PlanTurns.{slot_of, slot_number, good_plan, IsSoundOwner, MaySend, sound-sends}
 use Rattle.safety_laws.proofs.WorldSteps.{stayed-before, own-sent, notes-other, sender-before}
 use Rattle.std.proofs.Math.ListN.{get_or-map}
 use Rattle.std.proofs.lemmas.List.FromFn.{get_or-map-range_with_len}
@@ -45,7 +45,6 @@ use Rattle.ttp_frame.proofs.Undisturbed.{payload_in-frame}
 use Rattle.safety_laws.specs.SameFrames.{payload_of_number, message_given}
 use Rattle.safety_laws.proofs.OwnSlots.{act_made-sends, sent-own}
 use Rattle.safety_laws.proofs.Payloads.{HasPayload-world}
-use Rattle.safety_laws.proofs.OwnTurns.{IsSoundOwner, MaySend, sound-sends}
 
 -- One entry.
 

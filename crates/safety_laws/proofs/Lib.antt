@@ -20,13 +20,11 @@ pub mod Waiting
 pub mod WorldTurns
 pub mod PlanSteps
 pub mod LostNodes
-pub mod OwnTurns
 pub mod Listeners
 pub mod PlanTurns
 pub mod Arrivals
 pub mod Receivers
 pub mod SoundSteps
-pub mod LeftSince
 pub mod LostSteps
 pub mod Returners
 pub mod WorldSteps
@@ -39,7 +37,6 @@ pub mod BeganTogether
 pub mod Company
 pub mod Bounds
 pub mod Apart
-pub mod JumpedFates
 pub mod NearNotes
 pub mod RoundKnown
 pub mod JumpedClock

@@ -1,7 +1,6 @@
 -- A node whose clock has jumped is outside the window at each sound node, and each of them outside its own.
-use Rattle.std.proofs.Common.{◌≡◌, ℕ, zero, suc, ◌+◌, ◌-◌, ◌<◌, ◌≤◌, ℤ, pos, neg_ℤ, ◌+ℤ◌, ◌-ℤ◌, ◌*ℤ◌}
-use Rattle.std.proofs.Common.{◌≤ℤ◌, Bool, true, false, cond, ◌&&◌, inl, inr, ◌⊎◌, List, [], ◌∷◌, length, refl, ap}
-use Rattle.std.proofs.Common.{sym, subst, ◌∙◌, arith}
+use Rattle.std.proofs.Common.{◌≡◌, ℕ, zero, suc, ◌+◌, ◌-◌, ◌<◌, ◌≤◌, ℤ, pos, neg_ℤ, ◌+ℤ◌, ◌-ℤ◌, ◌*ℤ◌, ◌≤ℤ◌, Bool, true}
+use Rattle.std.proofs.Common.{false, cond, ◌&&◌, inl, inr, ◌⊎◌, List, [], ◌∷◌, length, refl, ap, sym, subst, ◌∙◌, arith}
 use Rattle.std.specs.Prelude.{◌==◌, int_le, nat_le}
 use Rattle.std.proofs.lemmas.Bool.{or_cases, false≢true}
 use Rattle.std.proofs.lemmas.Int.{ints}
@@ -35,8 +34,8 @@ use Rattle.fault_plan.specs.Fates.{is_sound_after}
 use Rattle.safety_laws.specs.Jumps.{HasJumped}
 use Rattle.safety_laws.specs.NotedByPlan.{IsSoundIn, NotedByPlan, GoesOnByPlan}
 use Rattle.safety_laws.proofs.Apart.{jump_width, apart-upto}
-use Rattle.safety_laws.proofs.JumpedClock.{JumpsAfter, jumped_in, stays-apart}
-use Rattle.safety_laws.proofs.JumpedFates.{IsJumpTold, jump-told, jumped-back, sound-till, jump-tight}
+use Rattle.safety_laws.proofs.JumpedClock.{JumpsAfter, jumped_in, stays-apart, IsJumpTold, jump-told, jumped-back}
+use Rattle.safety_laws.proofs.JumpedClock.{sound-till, jump-tight}
 use Rattle.safety_laws.proofs.NearNotes.{needed-up, still-of}
 use Rattle.safety_laws.proofs.RoundNotes.{sound-goes, tight-stays}
 use Rattle.safety_laws.proofs.BeganTogether.{number-of}

@@ -33,8 +33,8 @@ use Rattle.safety_laws.proofs.Arrivals.{at-fate, hears-planned}
 use Rattle.safety_laws.proofs.PlanSteps.{doubted-stays, sound-unentered}
 use Rattle.safety_laws.proofs.LostNodes.{IsSoundJudge, not_about, sound-correct, sound-wrong, sound-tentative}
 use Rattle.safety_laws.proofs.PlanTurns.{NextSound, SendsNone, SendsOne, slot_of, slot_number, owner-is, judges, e-node}
-use Rattle.fault_plan.proofs.SlotKinds.{sender-stays as sender-unentered}
 use Rattle.safety_laws.proofs.PlanTurns.{less-planned, good_plan}
+use Rattle.fault_plan.proofs.SlotKinds.{sender-stays as sender-unentered}
 
 -- A sound node that judges, where the slot is not good: what leaves it sound.
 

@@ -23,13 +23,13 @@ use Rattle.safety_laws.proofs.Idle.{idle-off}
 use Rattle.safety_laws.proofs.NodeSlots.{entry_of-made, node_past-step}
 use Rattle.safety_laws.proofs.Returners.{listening-next, armed-next, entered-joins}
 use Rattle.safety_laws.proofs.Arrivals.{at-fate, sound-owner, fallen-leaves, falling-acts}
-use Rattle.safety_laws.proofs.LeftSince.{left_since-next}
+use Rattle.safety_laws.proofs.Begins.{left_since-next, starter-begun, joiner-begun, on-begun}
 use Rattle.safety_laws.proofs.LostSteps.{struck-next, falling-next, fallen-next, jumped-wrong}
-use Rattle.safety_laws.proofs.OwnTurns.{sound-sent, lost-sent, sound-sends}
+use Rattle.safety_laws.proofs.PlanTurns.{sound-sent, lost-sent, sound-sends, NextByFate, slot_of, e-node, absent-off}
+use Rattle.safety_laws.proofs.PlanTurns.{armed-planned, good_plan}
 use Rattle.safety_laws.proofs.PlanSteps.{struck-known, absent-stays, fallen-stays, sound-stays, falling-stays}
 use Rattle.safety_laws.proofs.PlanSteps.{falling-shown, struck-falls, struck-shown, ledger-other, ledger-own}
 use Rattle.safety_laws.proofs.SoundSteps.{sound-next}
-use Rattle.safety_laws.proofs.PlanTurns.{NextByFate, slot_of, e-node, absent-off, armed-planned, good_plan}
 use Rattle.ttp_world.specs.Diary.{Diary, entry_of, diary_of, is_active_phase, is_active, begins_stint}
 use Rattle.ttp_world.specs.Medium.{is_sending}
 use Rattle.ttp_world.specs.Safety.{has_ever_sent}
@@ -49,7 +49,6 @@ use Rattle.fault_plan.proofs.SlotKinds.{sender-stays}
 use Rattle.safety_laws.specs.NotedByPlan.{IsSoundIn, StartedByPlan, NotesNothing, NotedInSlot}
 use Rattle.safety_laws.specs.PlannedRun.{IsBegun}
 use Rattle.safety_laws.proofs.OwnSlots.{sent-own}
-use Rattle.safety_laws.proofs.Begins.{starter-begun, joiner-begun, on-begun}
 
 -- a node that judges sends nothing, and its stint goes on
 judged-goes-on : (x : NodeSlot) → IsJudging x
