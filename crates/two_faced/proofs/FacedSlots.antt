@@ -30,7 +30,7 @@ use Rattle.safety_laws.specs.NotedByPlan.{IsSoundIn, NotedInSlot}
 use Rattle.safety_laws.proofs.NearNotes.{clock_moved, drift-moves as drift_moves}
 use Rattle.safety_laws.proofs.RoundNotes.{none-silent, sender-in}
 use Rattle.two_faced.specs.Errors.{bound, is_faced_slot, allowed_error, HasFacedClocks}
-use Rattle.two_faced.proofs.Lossless.{sound-always, none-returns}
+use Rattle.two_faced.proofs.QuietPlan.{sound-always, none-returns}
 use Rattle.two_faced.proofs.PulledNotes.{Locate, AreTurns, AreTurns-later}
 use Rattle.two_faced.proofs.FacedRounds.{width, Round, SlotNotes}
 use Rattle.precision.proofs.ClockBounds.{within_bound as upto_of_test}

@@ -1,6 +1,6 @@
 -- A run of a script in which one sender may be two-faced, after each slot from the start on.
-use Rattle.std.proofs.Common.{◌≡◌, ◌≢◌, ℕ, suc, ◌+◌, ◌-◌, ◌<◌, ◌≤◌, ◌-ℤ◌, ◌≤ℤ◌, Bool, true, false, List, []}
-use Rattle.std.proofs.Common.{◌∷◌, length, refl, ap, sym, ◌∙◌, inl, inr, arith}
+use Rattle.std.proofs.Common.{◌≡◌, ◌≢◌, ℕ, suc, ◌+◌, ◌-◌, ◌<◌, ◌≤◌, ◌-ℤ◌, ◌≤ℤ◌, Bool, true, false, List, [], ◌∷◌}
+use Rattle.std.proofs.Common.{length, refl, ap, sym, ◌∙◌, inl, inr, arith}
 use Rattle.std.proofs.lemmas.Bool.{both_ways, cases_eq}
 use Rattle.ttp_base.specs.NodeSet.{has_node}
 use Rattle.ttp_world.specs.declared.medl.Medl.{Medl}
@@ -33,10 +33,9 @@ use Rattle.safety_laws.specs.ByPlan.{IsByPlan}
 use Rattle.safety_laws.proofs.Together.{KeepsClocks, run-by_plan}
 use Rattle.two_faced.specs.Errors.{bound}
 use Rattle.two_faced.proofs.FacedClocks.{faced-clocks, faced-window}
-use Rattle.two_faced.proofs.Lossless.{fate-always}
+use Rattle.two_faced.proofs.QuietPlan.{fate-always, quiet_plan, follows, on-sound, begun, clocks}
 use Rattle.two_faced.proofs.FacedSlots.{IsFacing}
 use Rattle.two_faced.specs.Halved.{AreJudgedCorrect, JudgedCorrectSince}
-use Rattle.two_faced.proofs.QuietPlan.{quiet_plan, follows, on-sound, begun, clocks}
 use Rattle.two_faced.proofs.Rules.{RulesHold}
 use Rattle.fault_plan.proofs.FateSteps.{sound-fate as sound-only}
 use Rattle.fault_plan.proofs.FaultySets.{lost-begin}
