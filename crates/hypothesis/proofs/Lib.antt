@@ -9,6 +9,5 @@ pub mod FaultSlots
 pub mod Starts
 pub mod Walks
 pub mod Stayers
-pub mod BackSlots
 pub mod LongFaulty
 pub mod ArmLines

@@ -1,7 +1,7 @@
 use Rattle.std.proofs.Common.{◌≡◌, ◌-◌, rules}
 use Rattle.ttp_world.specs.Returning.{four_rounds, faulty_then, slots_before, faulty_since, faulty_at}
 use Rattle.hypothesis.specs.Standing.{told_start}
-use Rattle.hypothesis.proofs.BackSlots.{stayed-at, back-faults}
+use Rattle.hypothesis.proofs.SlotSteps.{stayed-at, back-faults}
 use Rattle.hypothesis.proofs.back_walk.back_faults_in.Goals as goal
 
 pub returns : goal.returns

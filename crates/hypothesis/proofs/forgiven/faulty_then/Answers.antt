@@ -2,7 +2,7 @@ use Rattle.std.proofs.Common.{◌≡◌, suc, ◌+◌, ◌-◌, ap, sym, ◌∙�
 use Rattle.ttp_base.specs.NodeSet.{has_node}
 use Rattle.ttp_world.specs.Hypothesis.{numbers_of}
 use Rattle.ttp_world.specs.Returning.{four_rounds}
-use Rattle.hypothesis.proofs.BackSlots.{slots_before-at}
+use Rattle.hypothesis.proofs.SlotSteps.{slots_before-at}
 use Rattle.ttp_world.proofs.WorldFacts.{get-none as slots_before-past}
 use Rattle.hypothesis.proofs.forgiven.faulty_then.Goals as goal
 
