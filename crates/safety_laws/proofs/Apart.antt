@@ -200,7 +200,8 @@ module _ {list : Medl} {m : ℕ} {c k : ℤ} {notes : List ℤ} {index : ℕ} {t
       → IsUpTo (apart_width list q) (c -ℤ k) → Apart list index (suc q) then_c then_k all
   still-after q now is less few here =
       let inside : suc index < length list.slots = omega (arith, is, less) in
-      After (omega arith) (inl (omega (arith, is, few))) (same-apart (apart_width list (suc q)) s.later_c s.later_k then_c
+      After (omega arith) (inl (omega (arith, is, few)))
+      (same-apart (apart_width list (suc q)) s.later_c s.later_k then_c
       then_k (uncorrected-in list index s.later_c then_c all inside s.first)
       (uncorrected-in list index s.later_k then_k s.others inside s.second) (wider (apart_width list q)
       (apart_width list (suc q)) list.drift c k s.later_c s.later_k here s.moved.first s.moved.second
@@ -237,7 +238,8 @@ apart-next list m q c k notes index then_c then_k all s within (Before less few 
 apart-next list m q c k notes index then_c then_k all s within (After some (inl less) here) =
     let other : (suc m == length list.slots) ≡ false =
     ne_eqb (suc m) (length list.slots) (λ same. omega (arith, same, less, within)) in
-    still-after s q (suc m) (s.next ∙ ap (λ b. cond b 0 (suc m)) other) (omega (arith, less, within)) (omega (arith, less)) here
+    still-after s q (suc m) (s.next ∙ ap (λ b. cond b 0 (suc m)) other) (omega (arith, less, within))
+    (omega (arith, less)) here
 apart-next list m q c k notes index then_c then_k all s within (After some (inr last) here) =
     let fresh = fresh-near s last in
     still-after s q 0 fresh.0 (omega (arith, s.many)) (omega (arith, some)) here

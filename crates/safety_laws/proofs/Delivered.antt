@@ -260,7 +260,8 @@ module _ {list : Medl} {script : Script} {start : ClusterStart} {plan : Plan} {t
   unfolding row e x
   chosen_is =
       get_or-map-range_with_len (λ j. message_chosen list script (length numbers) j (get_or new.sent j None)) 0
-      (length list.slots) (sender plan (suc turn)) (sender plan (suc turn)) nothing_chosen good-owner.own.node (omega arith)
+      (length list.slots) (sender plan (suc turn)) (sender plan (suc turn)) nothing_chosen
+      good-owner.own.node (omega arith)
       ∙ ap (message_chosen list script (length numbers) (sender plan (suc turn)))
       (ap (λ (ns : List (Option ℕ)). get_or ns (sender plan (suc turn)) None)
       (legal-shapes list script (new ∷ numbers) t.legal).0.sent
@@ -269,7 +270,8 @@ module _ {list : Medl} {script : Script} {start : ClusterStart} {plan : Plan} {t
   fits : carries_payload list (coming_place x) ≡ true → length x.chosen.payload ≡ expected_length list (coming_place x)
   unfolding x
   fits =
-      HasPayload-world list script new numbers (sender plan (suc turn)) t.planned.script_valid t.legal good-owner.own.node
+      HasPayload-world list script new numbers (sender plan (suc turn)) t.planned.script_valid t.legal
+      good-owner.own.node
       good-owner.own.own (act_made-sends _ good-owner.own may.closed may.more)
 
   -- what its frame delivers

@@ -182,7 +182,8 @@ module _ {plan : Plan} {turn : ℕ} {x : NodeSlot} (is : IsSoundJudge plan turn 
         place = judged.place ∙ ap (next_place x.list) is.at.place;
         group = subst (λ (group : List ℕ). HoldsGroup x.list x.node group (next_past x))
             (ap (without_node (planned_members plan turn)) is.owner ∙ sym (members-wrong plan turn wrong_is)) holds.0;
-        counted = counted-next false true wrong_is first_is (by-tentative is.at.counted (owner_of x) (counted-on x _ deviation judged) first holds.1);
+        counted = counted-next false true wrong_is first_is
+            (by-tentative is.at.counted (owner_of x) (counted-on x _ deviation judged) first holds.1);
         doubted = λ y doubt. (
           shown,
           let same : y ≡ owner_of x = let both : ack.Doubt y ≡ ack.Doubt (owner_of x) = sym doubt ∙ holds.1 in cc in

@@ -45,7 +45,8 @@ module _ {list : Medl} {script : Script} {start : ClusterStart} {plan : Plan} {t
           let hearing = t.planned.follows.hearing (suc turn) t.within in
           receives-none t k node other sound wrong first (sound-alone t sends)
           (ap (λ n. loses script (sender plan (suc turn)) n k) (slot_number t)
-          ∙ hearing.unheard k struck.incident (subst (λ n. k < n) (sym t.planned.follows.nodes) node) struck.found how stays)
+          ∙ hearing.unheard k struck.incident
+          (subst (λ n. k < n) (sym t.planned.follows.nodes) node) struck.found how stays)
       by Receiving how =
           absurd ((((good_plan t).losses turn struck.incident struck.found).receiving how).0 (sym struck.node))
       by Jumping how =

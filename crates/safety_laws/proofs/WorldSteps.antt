@@ -191,7 +191,8 @@ module _ {list : Medl} {script : Script} {start : ClusterStart} {plan : Plan} {t
           → strikes (incident_at plan (suc turn)) (sender plan (suc turn)) ≡ hit → NextByFate t (sender plan (suc turn))
       by-sound is true hit =
           let struck = struck-known plan (suc turn) (sender plan (suc turn)) hit in
-          of-fate (sender plan (suc turn)) _ _ (struck-shown plan turn (sender plan (suc turn)) (good_plan t) struck refl)
+          of-fate (sender plan (suc turn)) _ _
+          (struck-shown plan turn (sender plan (suc turn)) (good_plan t) struck refl)
           (inr (lost-sent (sound-owner t is)))
       by-sound is false missed =
           let stays = sound-stays plan turn (sender plan (suc turn)) (good_plan t) missed is in
@@ -376,7 +377,8 @@ module _ {list : Medl} {script : Script} {start : ClusterStart} {plan : Plan} {t
         | inr left ↦ let both : phase.Active ≡ phase.Left = sym after.phase ∙ left.phase in cc
       ]
 
-  pub noted-next : NotedInSlot list script plan (suc turn) (row_of_world list script new numbers) (world list script numbers)
+  pub noted-next : NotedInSlot list script plan (suc turn) (row_of_world list script new numbers)
+      (world list script numbers)
   noted-next = record {
     good = tells-good;
     begins = λ k node entered.
