@@ -13,8 +13,7 @@ use Rattle.ttp_world.specs.Script.{jump_of, has_jump}
 use Rattle.ttp_world.proofs.Jumps.{each-none, undisturbed-jump}
 
 pub far_jump-sum : (list : Medl) (script : Script) (k slot : ℕ) → pos 1 ≤ℤ list.window
-    → disturbance_broken list script ≡ None → has_jump script k slot ≡ true
-    → jump_of script k slot ≢ pos 0
+    → disturbance_broken list script ≡ None → has_jump script k slot ≡ true → jump_of script k slot ≢ pos 0
 far_jump-sum list script k slot wide undisturbed has nothing =
     let far : is_allowed_jump list script k slot ≡ true = undisturbed-jump list script k slot undisturbed has in
     grind arith

@@ -1,8 +1,8 @@
 -- Faults that come too early, slot by slot.
 use Rattle.std.proofs.Common.{◌≡◌, ℕ, zero, suc, ◌+◌, ◌<◌, ◌≤◌, min, List, [], ◌∷◌, ◌++◌, length, map, reverse}
-use Rattle.std.proofs.Common.{replicate, cond, Bool, true, false, Option, Some, refl, ap, sym, ◌∙◌, inl, inr, arith}
+use Rattle.std.proofs.Common.{replicate, Option, Some, refl, ap, sym, ◌∙◌, inl, inr, arith}
 use Rattle.std.specs.Prelude.{nat_lt}
-use Rattle.std.proofs.lemmas.Bool.{cases_lt, lt-ltb}
+use Rattle.std.proofs.lemmas.Bool.{cases_lt, cond_both, lt-ltb}
 use Rattle.std.proofs.lemmas.List.{map-append, reverse-append, replicate_more, append-nil}
 use Rattle.std.proofs.lemmas.Grind.{reverse_onto}
 use Rattle.std.specs.Option.{option_or}
@@ -11,14 +11,12 @@ use Rattle.ttp_world.specs.Hypothesis.{FaultyNode, first_too_early}
 use Rattle.hypothesis.specs.Walks.{Course, all_in, earliest_after, fault_slots_before}
 use Rattle.hypothesis.proofs.Firsts.{or-head}
 
-pub first_too_early-append : (gap earliest : ℕ) (xs ys : List ℕ)
-    → first_too_early gap earliest (xs ++ ys)
+pub first_too_early-append : (gap earliest : ℕ) (xs ys : List ℕ) → first_too_early gap earliest (xs ++ ys)
     ≡ option_or (first_too_early gap earliest xs) (first_too_early gap (earliest_after gap earliest xs) ys)
 first_too_early-append gap earliest [] ys = refl
 first_too_early-append gap earliest (x ∷ xs) ys =
     or-head (nat_lt x earliest) x (first_too_early gap (x + gap) (xs ++ ys)) (first_too_early gap (x + gap) xs)
-    (first_too_early gap (earliest_after gap (x + gap) xs) ys)
-    (first_too_early-append gap (x + gap) xs ys)
+    (first_too_early gap (earliest_after gap (x + gap) xs) ys) (first_too_early-append gap (x + gap) xs ys)
 
 pub earliest_after-append : (gap earliest : ℕ) (xs ys : List ℕ)
     → earliest_after gap earliest (xs ++ ys) ≡ earliest_after gap (earliest_after gap earliest xs) ys
@@ -38,19 +36,14 @@ earliest-some gap earliest slot (suc n) some = earliest-again gap slot n
 pub too_early-soon : (gap earliest slot n : ℕ) → 0 < n → slot < earliest
     → first_too_early gap earliest (replicate n slot) ≡ Some slot
 too_early-soon gap earliest slot zero some soon = absurd (omega arith)
-too_early-soon gap earliest slot (suc n) some soon =
-    ap (λ b. cond b (Some slot) (first_too_early gap (slot + gap) (replicate n slot))) (lt-ltb slot earliest soon)
-
-either-way : (b : Bool) (slot : ℕ) (rest : Option ℕ) → rest ≡ Some slot → cond b (Some slot) rest ≡ Some slot
-either-way true slot rest is = refl
-either-way false slot rest is = is
+too_early-soon gap earliest slot (suc n) some soon = rw (lt-ltb slot earliest soon) refl
 
 pub too_early-many : (gap earliest slot n : ℕ) → 0 < gap → 1 < n
     → first_too_early gap earliest (replicate n slot) ≡ Some slot
 too_early-many gap earliest slot zero wide many = absurd (omega arith)
 too_early-many gap earliest slot (suc n) wide many =
-    either-way (nat_lt slot earliest) slot (first_too_early gap (slot + gap) (replicate n slot))
-    (too_early-soon gap (slot + gap) slot n (omega arith) (omega arith))
+    cond_both (nat_lt slot earliest) (Some slot) _ (λ (found : Option ℕ). found ≡ Some slot) (λ early. refl)
+    (λ late. too_early-soon gap (slot + gap) slot n (omega arith) (omega arith))
 
 -- The slots of faults.
 
@@ -66,8 +59,7 @@ reverse-replicate zero slot = refl
 reverse-replicate (suc n) slot =
     let next : n + 1 ≡ suc n = omega arith in
     reverse_onto (replicate n slot) slot [] ∙ ap (λ rest. rest ++ slot ∷ []) (reverse-replicate n slot)
-    ∙ replicate_more n slot
-    ∙ ap (λ m. replicate m slot) next
+    ∙ replicate_more n slot ∙ ap (λ m. replicate m slot) next
 
 slots-later : (slot : ℕ) (ks : List ℕ) (faulty : List FaultyNode)
     → reverse (slots_of (all_in slot ks ++ faulty)) ≡ reverse (slots_of faulty) ++ replicate (length ks) slot

@@ -27,26 +27,18 @@ find-next lacks a (suc n) =
 
 pub lack-before : (enough : Bool) (lacks : ℕ → Bool) (from slot : ℕ) → slot < from
     → first_lack enough lacks from slot ≡ None
-lack-before enough lacks from slot less =
-    ap (λ b. cond b None (cond enough (find lacks (range_with_len from (slot - from))) (Some from)))
-    (lt-ltb slot from less)
+lack-before enough lacks from slot less = rw (lt-ltb slot from less) refl
 
 pub lack-since : (enough : Bool) (lacks : ℕ → Bool) (from slot n : ℕ) → from ≤ slot → slot - from ≡ n
     → first_lack enough lacks from slot ≡ cond enough (find lacks (range_with_len from n)) (Some from)
-lack-since enough lacks from slot n since size =
-    ap (λ b. cond b None (cond enough (find lacks (range_with_len from (slot - from))) (Some from)))
-    (le-ltb slot from since)
-    ∙ ap (λ m. cond enough (find lacks (range_with_len from m)) (Some from)) size
+lack-since enough lacks from slot n since size = rw (le-ltb slot from since, size) refl
 
-lack-more : (enough : Bool) (lacks : ℕ → Bool) (from slot : ℕ) → from ≤ slot
-    → first_lack enough lacks from (slot + 1)
+lack-more : (enough : Bool) (lacks : ℕ → Bool) (from slot : ℕ) → from ≤ slot → first_lack enough lacks from (slot + 1)
     ≡ cond enough (option_or (find lacks (range_with_len from (slot - from))) (if_lacks lacks slot)) (Some from)
 lack-more enough lacks from slot since =
     let here : from + (slot - from) ≡ slot = omega arith in
     lack-since enough lacks from (slot + 1) (suc (slot - from)) (omega arith) (omega arith)
-    ∙ ap (λ found. cond enough found (Some from)) (find-next lacks from (slot - from))
-    ∙ ap (λ k. cond enough (option_or (find lacks (range_with_len from (slot - from))) (if_lacks lacks k))
-    (Some from)) here
+    ∙ ap (λ found. cond enough found (Some from)) (find-next lacks from (slot - from) ∙ rw here refl)
 
 stays : (enough : Bool) (found more : Option ℕ) (from : ℕ) → is_some (cond enough found (Some from)) ≡ true
     → cond enough found (Some from) ≡ cond enough (option_or found more) (Some from)
@@ -64,8 +56,7 @@ lack-found enough lacks from slot some = elim (cases_lt slot from) [
   | inr since ↦
       let now = lack-since enough lacks from slot (slot - from) since refl in
       now ∙ stays enough (find lacks (range_with_len from (slot - from))) (if_lacks lacks slot) from
-      (ap is_some (sym now) ∙ some)
-      ∙ sym (lack-more enough lacks from slot since)
+      (ap is_some (sym now) ∙ some) ∙ sym (lack-more enough lacks from slot since)
 ]
 
 pub lack-early : (enough : Bool) (lacks : ℕ → Bool) (from slot : ℕ) → slot + 1 < from
@@ -89,21 +80,18 @@ told-by false k = refl
 
 -- where nothing was found, the answer of one slot more decides
 pub lack-next : (enough fine : Bool) (lacks : ℕ → Bool) (from slot : ℕ) → from ≤ slot + 1
-    → is_some (first_lack enough lacks from slot) ≡ false
-    → (slot + 1 ≡ from → enough ≡ fine) → lacks slot ≡ not fine
+    → is_some (first_lack enough lacks from slot) ≡ false → (slot + 1 ≡ from → enough ≡ fine) → lacks slot ≡ not fine
     → first_lack enough lacks from (slot + 1) ≡ cond fine None (Some (max slot from))
 lack-next enough fine lacks from slot near none at_start after = elim (cases_lt slot from) [
   | inl less ↦
       let top : from ≡ max slot from = omega arith in
       lack-since enough lacks from (slot + 1) 0 near (omega arith)
-      ∙ ap (λ b. cond b None (Some from)) (at_start (omega arith))
-      ∙ ap (λ k. cond fine None (Some k)) top
+      ∙ ap (λ b. cond b None (Some from)) (at_start (omega arith)) ∙ ap (λ k. cond fine None (Some k)) top
   | inr since ↦
       let top : slot ≡ max slot from = omega arith in
       let found = find lacks (range_with_len from (slot - from)) in
       let missing = nothing (first_lack enough lacks from slot) none in
-      lack-more enough lacks from slot since
-      ∙ nothing-yet enough found (if_lacks lacks slot) from
+      lack-more enough lacks from slot since ∙ nothing-yet enough found (if_lacks lacks slot) from
       (sym (lack-since enough lacks from slot (slot - from) since refl) ∙ missing)
       ∙ ap (λ b. cond b (Some slot) None) after ∙ told-by fine slot ∙ ap (λ k. cond fine None (Some k)) top
 ]

@@ -9,7 +9,6 @@ pub mod FaultSlots
 pub mod Starts
 pub mod Walks
 pub mod Stayers
-pub mod BackSlots
 pub mod LongFaulty
 pub mod ArmLines
 pub mod ErrorFree

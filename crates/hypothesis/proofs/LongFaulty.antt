@@ -1,9 +1,10 @@
 -- Where no node becomes faulty near a slot, the nodes that are faulty in it have been so for two rounds.
-use Rattle.std.proofs.Common.{◌≡◌, ℕ, zero, suc, ◌+◌, ◌<◌, ◌≤◌, Bool, true, false, cond, not, ◌&&◌, ◌||◌, List, []}
+use Rattle.std.proofs.Common.{◌≡◌, ℕ, zero, suc, ◌+◌, ◌<◌, ◌≤◌, Bool, true, false, not, ◌&&◌, ◌||◌, List, []}
 use Rattle.std.proofs.Common.{◌∷◌, length, ◌⊎◌, inl, inr, refl, ap, sym, ◌∙◌, arith}
 use Rattle.std.specs.Prelude.{◌==◌, nat_lt, nat_le}
 use Rattle.std.specs.List.{list_any, filter}
-use Rattle.std.proofs.lemmas.Bool.{cases_eq, cases_lt, lt-ltb}
+use Rattle.std.proofs.lemmas.Bool.{cases_eq, both_ways, cond_both, not-false, not-true}
+use Rattle.std.proofs.lemmas.Bool.Decides.{nat_tests}
 use Rattle.std.proofs.lemmas.List.Folds.{list_any-append}
 use Rattle.ttp_base.specs.NodeSet.{has_node}
 use Rattle.ttp_world.specs.declared.medl.Medl.{Medl}
@@ -12,7 +13,7 @@ use Rattle.ttp_world.specs.Hypothesis.{ClusterStart, FaultyNode, numbers_of}
 use Rattle.ttp_world.specs.Returning.{slots_before, faulty_since, is_forgiven, faulty_at, joinings}
 use Rattle.ttp_world.specs.Returning.{two_rounds, four_rounds, is_near_fault, is_apart, is_long_faulty}
 use Rattle.hypothesis.specs.Walks.{all_in, joined_in}
-use Rattle.hypothesis.proofs.Ranges.{or-true}
+use Rattle.std.proofs.Math.Bool.{or-true}
 use Rattle.ttp_base.proofs.NodeSets.{and-true}
 use Rattle.ttp_world.proofs.SmallTests.{or_parts}
 
@@ -35,8 +36,7 @@ some-many (suc n) some = omega arith
 
 lies-not : (p : ℕ → Bool) (t : ℕ) (ks : List ℕ) → p t ≡ false → lies_in p (all_in t ks) ≡ false
 lies-not p t [] not_here = refl
-lies-not p t (k ∷ ks) not_here =
-    ap (λ b. b || lies_in p (all_in t ks)) not_here ∙ lies-not p t ks not_here
+lies-not p t (k ∷ ks) not_here = rw not_here (lies-not p t ks not_here)
 
 lies-nobody : (p : ℕ → Bool) (t : ℕ) (ks : List ℕ) → length ks ≡ 0 → lies_in p (all_in t ks) ≡ false
 lies-nobody p t [] none = refl
@@ -44,7 +44,7 @@ lies-nobody p t (k ∷ ks) none = absurd (omega arith)
 
 lies-here : (p : ℕ → Bool) (t : ℕ) (ks : List ℕ) → p t ≡ true → 0 < length ks → lies_in p (all_in t ks) ≡ true
 lies-here p t [] here some = absurd (omega arith)
-lies-here p t (k ∷ ks) here some = ap (λ b. b || lies_in p (all_in t ks)) here
+lies-here p t (k ∷ ks) here some = rw here refl
 
 -- Those of the first slots.
 
@@ -53,10 +53,9 @@ pub joined-none : (list : Medl) (script : Script) (start : ClusterStart) (p : �
     → lies_in p (joined_before list script start slots) ≡ false
 joined-none list script start p zero each = refl
 joined-none list script start p (suc t) each =
-    list_any-append (λ (f : FaultyNode). p f.slot) (all_in t (joined_in list script start t))
-    (joined_before list script start t)
-    ∙ ap (λ b. b || lies_in p (joined_before list script start t)) (now (each t (omega arith)))
-    ∙ joined-none list script start p t (λ s less. each s (omega arith))
+    rw (list_any-append (λ (f : FaultyNode). p f.slot) (all_in t (joined_in list script start t))
+    (joined_before list script start t)) (rw (now (each t (omega arith)))
+    (joined-none list script start p t (λ s less. each s (omega arith))))
   where
     now : (p t ≡ false) ⊎ (length (joined_in list script start t) ≡ 0)
         → lies_in p (all_in t (joined_in list script start t)) ≡ false
@@ -64,13 +63,11 @@ joined-none list script start p (suc t) each =
     now (inr none) = lies-nobody p t (joined_in list script start t) none
 
 pub joined-some : (list : Medl) (script : Script) (start : ClusterStart) (p : ℕ → Bool) (slots t : ℕ) → t < slots
-    → p t ≡ true → 0 < length (joined_in list script start t)
-    → lies_in p (joined_before list script start slots) ≡ true
+    → p t ≡ true → 0 < length (joined_in list script start t) → lies_in p (joined_before list script start slots) ≡ true
 joined-some list script start p zero t less here some = absurd (omega arith)
 joined-some list script start p (suc s) t less here some =
     list_any-append (λ (f : FaultyNode). p f.slot) (all_in s (joined_in list script start s))
-    (joined_before list script start s)
-    ∙ elim (cases_eq t s) [
+    (joined_before list script start s) ∙ elim (cases_eq t s) [
       | inl same ↦
           ap (λ b. b || lies_in p (joined_before list script start s))
           (lies-here p s (joined_in list script start s) (ap p (sym same) ∙ here) (some_at same))
@@ -88,18 +85,14 @@ joined-some list script start p (suc s) t less here some =
 
 -- A faulty node became so.
 
-filter-none-step : (q : FaultyNode → Bool) (f : FaultyNode) (kept : List FaultyNode) (b : Bool) → q f ≡ false
-    → list_any q kept ≡ false
-    → list_any q (cond b (f ∷ kept) kept) ≡ false
-filter-none-step q f kept true not_it none = ap (λ a. a || list_any q kept) not_it ∙ none
-filter-none-step q f kept false not_it none = none
-
 filter-none : (q p : FaultyNode → Bool) (faulty : List FaultyNode) → list_any q faulty ≡ false
     → list_any q (filter p faulty) ≡ false
 filter-none q p [] none = refl
 filter-none q p (f ∷ faulty) none =
     let parts = or_parts (q f) (list_any q faulty) none in
-    filter-none-step q f (filter p faulty) (p f) parts.0 (filter-none q p faulty parts.1)
+    let rest = filter-none q p faulty parts.1 in
+    cond_both (p f) (f ∷ filter p faulty) (filter p faulty) (λ (kept : List FaultyNode). list_any q kept ≡ false)
+    (λ stays. rw parts.0 rest) (λ goes. rest)
 
 since-none : (list : Medl) (script : Script) (start : ClusterStart) (p : ℕ → Bool) (slots : ℕ)
     → lies_in p (joined_before list script start slots) ≡ false
@@ -117,18 +110,13 @@ since-none list script start p (suc t) none =
     (faulty_since (slots_before list script start t)) (since-none list script start p t parts.1)
 
 at-none : (list : Medl) (script : Script) (start : ClusterStart) (p : ℕ → Bool) (slot : ℕ)
-    → lies_in p (joined_before list script start slot) ≡ false
-    → lies_in p (faulty_at list script start slot) ≡ false
+    → lies_in p (joined_before list script start slot) ≡ false → lies_in p (faulty_at list script start slot) ≡ false
 at-none list script start p slot none =
     filter-none (λ (f : FaultyNode). p f.slot)
     (λ (f : FaultyNode). not (is_forgiven list script (slots_before list script start slot) slot f.node))
     (faulty_since (slots_before list script start slot)) (since-none list script start p slot none)
 
 -- All of them for long.
-
-not-false : (b : Bool) → not b ≡ false → b ≡ true
-not-false true e = refl
-not-false false e = grind arith
 
 long-all : (k : ℕ) (good : ℕ → Bool) (faulty : List FaultyNode) → lies_in (λ t. not (good t)) faulty ≡ false
     → list_any (λ (f : FaultyNode). (f.node == k) && good f.slot) faulty ≡ has_node (numbers_of faulty) k
@@ -140,45 +128,28 @@ long-all k good (f ∷ faulty) none =
     ∙ ap (λ b. b || list_any (λ (f : FaultyNode). (f.node == k) && good f.slot) faulty) (and-true (f.node == k))
     ∙ ap (λ b. (f.node == k) || b) (long-all k good faulty parts.1)
 
-true-false : {X : Type 0} (b : Bool) → b ≡ true → b ≡ false → X
-true-false true holds fails = grind arith
-true-false false holds fails = grind arith
-
 early-good : (gap many slot t : ℕ) → t < slot → 0 < many → (nat_lt slot (t + gap) && nat_lt t (slot + many)) ≡ false
     → not (nat_le (t + gap) slot) ≡ false
-early-good gap many slot t less some far = elim (cases_lt slot (t + gap)) [
-  | inl near ↦
-      let one : nat_lt slot (t + gap) ≡ true = lt-ltb slot (t + gap) near in
-      let two : nat_lt t (slot + many) ≡ true = lt-ltb t (slot + many) (omega arith) in
-      true-false (nat_lt slot (t + gap) && nat_lt t (slot + many)) (λ i. one i && two i) far
-  | inr late ↦ grind (arith, late)
-]
+early-good gap many slot t less some far = grind (arith, nat_tests)
 
 nothing-or-some : (n : ℕ) → (n ≡ 0) ⊎ (0 < n)
-nothing-or-some zero = inl refl
-nothing-or-some (suc n) = inr (omega arith)
+nothing-or-some n = grind arith
 
 not-both : (b : Bool) → (b ≡ true → ⊥) → b ≡ false
 not-both true never = absurd (never refl)
 not-both false never = refl
 
 pub long-faulty : (list : Medl) (script : Script) (start : ClusterStart) (k slot : ℕ) → slot ≤ script.slots
-    → 0 < four_rounds list
-    → is_apart list script start slot ≡ true
+    → 0 < four_rounds list → is_apart list script start slot ≡ true
     → is_long_faulty list script start k slot ≡ has_node (numbers_of (faulty_at list script start slot)) k
 long-faulty list script start k slot within some apart =
     let good : ℕ → Bool = λ t. nat_le (t + two_rounds list) slot in
-    long-all k good (faulty_at list script start slot)
-    (at-none list script start (λ t. not (good t)) slot
+    long-all k good (faulty_at list script start slot) (at-none list script start (λ t. not (good t)) slot
     (joined-none list script start (λ t. not (good t)) slot (λ t less. each t less
     (nothing-or-some (length (joined_in list script start t))))))
   where
     far : lies_in (is_near_fault list slot) (joined_before list script start script.slots) ≡ false
     far = not-true (lies_in (is_near_fault list slot) (joined_before list script start script.slots)) apart
-      where
-        not-true : (b : Bool) → not b ≡ true → b ≡ false
-        not-true true e = grind arith
-        not-true false e = refl
 
     each : (t : ℕ) → t < slot
         → (length (joined_in list script start t) ≡ 0) ⊎ (0 < length (joined_in list script start t))
@@ -187,5 +158,5 @@ long-faulty list script start k slot within some apart =
     each t less (inr joins) =
         inl (early-good (two_rounds list) (four_rounds list) slot t less some
         (not-both (is_near_fault list slot t) (λ near.
-        true-false (lies_in (is_near_fault list slot) (joined_before list script start script.slots))
-        (joined-some list script start (is_near_fault list slot) script.slots t (omega arith) near joins) far)))
+        both_ways (lies_in (is_near_fault list slot) (joined_before list script start script.slots)) far
+        (joined-some list script start (is_near_fault list slot) script.slots t (omega arith) near joins))))

@@ -18,8 +18,7 @@ later-lesser n None here rest = here
 later-lesser n (Some m) here rest = omega arith
 
 later-step : (f : ℕ → Option ℕ) (k : ℕ) (ks : List ℕ) (found : Option ℕ) → f k ≡ found → IsLater (f k)
-    → IsLater (least_of (filter_map f ks))
-    → IsLater (least_of (filter_map f (k ∷ ks)))
+    → IsLater (least_of (filter_map f ks)) → IsLater (least_of (filter_map f (k ∷ ks)))
 later-step f k ks None is here rest = rw is rest
 later-step f k ks (Some n) is here rest = rw is (later-lesser n (least_of (filter_map f ks)) (rw is at here) rest)
 

@@ -1,6 +1,7 @@
 -- The nodes of two sets.
 use Rattle.std.proofs.Common.{◌≡◌, ℕ, ◌+◌, ◌<◌, Bool, true, false, ◌&&◌, ◌||◌, List, refl, ap, sym, ◌∙◌, ltb, arith}
 use Rattle.std.specs.Prelude.{◌==◌}
+use Rattle.std.proofs.Math.Bool.{and-false}
 use Rattle.std.proofs.lemmas.Bool.{eqb-true}
 use Rattle.ttp_base.specs.NodeSet.{most_nodes, has_node, with_node}
 use Rattle.ttp_base.proofs.NodeSets.{has_node-with}
@@ -15,18 +16,12 @@ ltb-next k n = grind arith
 
 put_in : (here less in_first in_second : Bool) → (here ≡ true → in_first ≡ true)
     → (here || ((less && in_first) || in_second)) ≡ (((here || less) && in_first) || in_second)
-put_in true less in_first in_second is = ap (λ b. b || in_second) (sym (is refl))
+put_in true less in_first in_second is = rw (is refl) refl
 put_in false less in_first in_second is = refl
-
-nothing_of : (less in_second : Bool) → ((less && false) || in_second) ≡ in_second
-nothing_of true in_second = refl
-nothing_of false in_second = refl
 
 left_out : (here less in_first in_second : Bool) → (here ≡ true → in_first ≡ false)
     → ((less && in_first) || in_second) ≡ (((here || less) && in_first) || in_second)
-left_out true less in_first in_second out =
-    ap (λ b. (less && b) || in_second) (out refl) ∙ nothing_of less in_second
-    ∙ ap (λ b. b || in_second) (sym (out refl))
+left_out true less in_first in_second out = rw (out refl, and-false less) refl
 left_out false less in_first in_second out = refl
 
 pub united-with : (all first second : List ℕ) (n : ℕ) → AreUnited all first second n → has_node first n ≡ true
@@ -40,7 +35,6 @@ united-with all first second n united is k small =
 pub united-without : (all first second : List ℕ) (n : ℕ) → AreUnited all first second n → has_node first n ≡ false
     → AreUnited all first second (n + 1)
 united-without all first second n united is k small =
-    united k small
-    ∙ left_out (k == n) (ltb k n) (has_node first k) (has_node second k)
+    united k small ∙ left_out (k == n) (ltb k n) (has_node first k) (has_node second k)
     (λ same. ap (has_node first) (eqb-true k n same) ∙ is)
     ∙ ap (λ b. (b && has_node first k) || has_node second k) (sym (ltb-next k n))

@@ -8,26 +8,34 @@ use Rattle.ttp_world.specs.declared.medl.Medl.{Medl}
 use Rattle.ttp_world.specs.declared.node.Entry.{Entry}
 use Rattle.ttp_world.specs.declared.node.Entry.TheVariants as entry
 use Rattle.ttp_world.specs.declared.script.Script.{Script}
-use Rattle.ttp_world.specs.Diary.{History, entry_of}
+use Rattle.ttp_world.specs.Diary.{History, entry_of, diary_of, continues_stint, place_of}
 use Rattle.ttp_world.specs.Hypothesis.{ClusterStart}
 use Rattle.ttp_world.specs.Legal.{IsLegal}
 use Rattle.ttp_world.specs.Messages.{delivered_of, new_messages}
-use Rattle.ttp_world.specs.World.{SlotNumbers, Numbers, slot_after, messages_chosen, row_in, world}
+use Rattle.ttp_world.specs.World.{SlotNumbers, Numbers, slot_after, messages_chosen, row_in, world, node_past}
 use Rattle.ttp_world.proofs.LegalShapes.{legal-older}
 use Rattle.ttp_world.proofs.Worlds.{row_of_world, length-world}
 use Rattle.precision.specs.Together.{IsIn}
-use Rattle.fault_plan.specs.Plan.{Plan, sender}
-use Rattle.fault_plan.specs.Fates.{is_sound_after, is_good_slot}
+use Rattle.fault_plan.specs.Plan.{Plan, sender, enters}
+use Rattle.fault_plan.specs.Fates.{is_sound_after, is_good_slot, Fate}
 use Rattle.fault_plan.proofs.Persists.{sound-earlier}
-use Rattle.safety_laws.specs.NotedByPlan.{IsSoundIn, StartedByPlan, NotesNothing}
+use Rattle.safety_laws.specs.NotedByPlan.{IsSoundIn, StartedByPlan, NotesNothing, NotedInSlot}
 use Rattle.safety_laws.specs.PlannedRun.{IsBegun}
 use Rattle.safety_laws.specs.PlanTurn.{IsTurn}
 use Rattle.safety_laws.specs.SameFrames.{accepts, sends_frame, message_given, AcceptsAlike, AcceptsAlikeSince}
+use Rattle.safety_laws.specs.SameFrames.{begins_at_zero, StandsAlikeSince}
 use Rattle.safety_laws.proofs.Receivers.{sound-judge, judges-good}
 use Rattle.safety_laws.proofs.Delivered.{is_judgement, delivers-unjudged, messages-alike, messages-other, messages-own}
-use Rattle.safety_laws.proofs.Given.{given-good}
-use Rattle.safety_laws.proofs.NotedEntries.{in-row, stayed-before, own-sent, notes-other, started-by_plan}
+use Rattle.safety_laws.proofs.Delivered.{given-good}
+use Rattle.safety_laws.proofs.WorldSteps.{in-row, stayed-before, own-sent, notes-other, started-by_plan}
 use Rattle.safety_laws.proofs.Together.{KeepsClocks, turn-next, run-by_plan}
+use Rattle.fault_plan.specs.Places.{planned_place}
+use Rattle.fault_plan.proofs.Returns.{none-enters}
+use Rattle.safety_laws.specs.ByFate.{IsSoundAt, IsByFate}
+use Rattle.safety_laws.specs.ByPlan.{IsByPlan}
+use Rattle.fault_plan.proofs.FateSteps.{sound-fate}
+use Rattle.precision.proofs.Frames.{told_goes as tells-on}
+use Rattle.safety_laws.proofs.RoundNotes.{goes-silent as nothing-on}
 
 -- By the plan the frame of node p is accepted in a slot.
 abbrev is_accepted_by : Plan → ℕ → ℕ → Bool
@@ -50,8 +58,8 @@ silent-gives list script slot k _ silent = refl
 
 -- In a turn.
 
-module _ (list : Medl) (script : Script) (start : ClusterStart) (plan : Plan) (turn : ℕ) (new : SlotNumbers)
-    (numbers : Numbers) (t : IsTurn list script start plan turn new numbers) (stay : plan.returns ≡ []) where
+module _ {list : Medl} {script : Script} {start : ClusterStart} {plan : Plan} {turn : ℕ} {new : SlotNumbers}
+    {numbers : Numbers} (t : IsTurn list script start plan turn new numbers) (stay : plan.returns ≡ []) where
   made : List Entry
   made =
       row_in (slot_after list script (world list script numbers))
@@ -68,21 +76,17 @@ module _ (list : Medl) (script : Script) (start : ClusterStart) (plan : Plan) (t
     where
       by : (good : Bool) → is_good_slot plan (suc turn) ≡ good → Judges k
       by true good =
-          let was = stayed-before list script start plan turn new numbers t stay in
-          let judge = sound-judge list script start plan turn new numbers t k sound.0 other (was k sound.1) in
-          let judged = judges-good list script start plan turn new numbers t k sound.0 other (was k sound.1) good
-          (was (sender plan (suc turn)) good) sound.1 in
+          let was = stayed-before t stay in
+          let judge = sound-judge t k sound.0 other (was k sound.1) in
+          let judged = judges-good t k sound.0 other (was k sound.1) good (was (sender plan (suc turn)) good) sound.1 in
           record {
             accepts_by_plan = λ p.
-                in-row list script start plan turn new numbers t
-                (λ e. accepts p e ≡ is_accepted_by plan (suc turn) p) k _ sound.0 judged.entry
-                (and-true _ ∙ ap (λ owner. owner == p) judge.owner
-                ∙ ap (λ b. b && (sender plan (suc turn) == p)) (sym good));
-            silent = in-row list script start plan turn new numbers t (λ e. sends_frame e ≡ false) k _ sound.0
-                judged.entry refl;
+                in-row t (λ e. accepts p e ≡ is_accepted_by plan (suc turn) p) k _ sound.0 judged.entry (and-true _
+                ∙ ap (λ owner. owner == p) judge.owner ∙ ap (λ b. b && (sender plan (suc turn) == p)) (sym good));
+            silent = in-row t (λ e. sends_frame e ≡ false) k _ sound.0 judged.entry refl;
           }
       by false wrong =
-          let none = notes-other list script start plan turn new numbers t k wrong sound in
+          let none = notes-other t k wrong sound in
           record {
             accepts_by_plan = λ p.
                 silent-accepts p (entry_of made k) none ∙ ap (λ b. b && (sender plan (suc turn) == p)) (sym wrong);
@@ -93,17 +97,15 @@ module _ (list : Medl) (script : Script) (start : ClusterStart) (plan : Plan) (t
   own-sends : (k : ℕ) → IsSoundIn list plan (suc turn) k → sender plan (suc turn) ≡ k
       → (p : ℕ) → accepts p (entry_of made k) ≡ false
   unfolding made
-  own-sends k sound own p = ap (accepts p) (own-sent list script start plan turn new numbers t k sound own).1
+  own-sends k sound own p = ap (accepts p) (own-sent t k sound own).1
 
   -- so each accepts another's frame by the plan
   by-plan : (k p : ℕ) → IsSoundIn list plan (suc turn) k → p ≢ k
       → accepts p (entry_of made k) ≡ is_accepted_by plan (suc turn) p
   by-plan k p sound apart = elim (cases_eq (sender plan (suc turn)) k) [
     | inl own ↦
-        own-sends k sound own p
-        ∙ sym (ap (λ b. is_good_slot plan (suc turn) && b)
-        (ne_eqb (sender plan (suc turn)) p (λ same. apart (sym same ∙ own)))
-        ∙ and-false (is_good_slot plan (suc turn)))
+        own-sends k sound own p ∙ sym (ap (λ b. is_good_slot plan (suc turn) && b)
+        (ne_eqb (sender plan (suc turn)) p (λ same. apart (sym same ∙ own))) ∙ and-false (is_good_slot plan (suc turn)))
     | inr other ↦ (judges k sound other).accepts_by_plan p
   ]
 
@@ -126,30 +128,27 @@ module _ (list : Medl) (script : Script) (start : ClusterStart) (plan : Plan) (t
             subst (λ p. new_messages p (delivered_of list script (world list script numbers)
             (row_of_world list script new numbers) j)
             ≡ message_given list script (length numbers) p (entry_of (row_of_world list script new numbers) p)) own
-            (given-good list script start plan turn new numbers t stay
+            (given-good t stay
             (ap (is_sound_after plan (suc turn)) own ∙ sound_k.1) j sound_j (λ same. apart (sym same ∙ own)))
         | inr other ↦
-            messages-other list script start plan turn new numbers t stay j k sound_j (λ same. apart (sym same)) other
-            ∙ sym (silent-gives list script (length numbers) k (entry_of (row_of_world list script new numbers) k)
-            (judges k sound_k other).silent)
+            messages-other t stay j k sound_j (λ same. apart (sym same)) other ∙ sym (silent-gives list script
+            (length numbers) k (entry_of (row_of_world list script new numbers) k) (judges k sound_k other).silent)
       ]
       ∙ ap (λ slot. message_given list script slot k (entry_of (row_of_world list script new numbers) k))
       (sym (length-world list script numbers))
 
   pub alike-next : AcceptsAlike list script (is_sound_after plan (suc turn))
-      (row_in (slot_after list script (world list script numbers))
-      (messages_chosen list script (length numbers) new.sent)) (world list script numbers)
+      (row_of_world list script new numbers) (world list script numbers)
   unfolding made
   alike-next = record {
     third = λ j k p sound_j sound_k apart_j apart_k. by-plan j p sound_j apart_j ∙ sym (by-plan k p sound_k apart_k);
     sent = λ j k sound_j sound_k apart sends.
         let own = sends-own k sound_k sends in
-        by-plan j k sound_j (λ same. apart (sym same))
-        ∙ (λ i. (ap (is_sound_after plan (suc turn)) own ∙ sound_k.1) i
+        by-plan j k sound_j (λ same. apart (sym same)) ∙ (λ i. (ap (is_sound_after plan (suc turn)) own ∙ sound_k.1) i
         && eq-eqb (sender plan (suc turn)) k own i);
-    received = messages-alike list script start plan turn new numbers t stay;
+    received = messages-alike t stay;
     given = given-next;
-    own = messages-own list script start plan turn new numbers t stay;
+    own = messages-own t stay;
   }
 
 -- In the slot of the start nobody judges.
@@ -180,18 +179,14 @@ alike-started list script start plan row history started = record {
       ∙ sym ((begins-quietly list script start plan row history k started sound_k).accepts_none p);
   sent = λ j k sound_j sound_k apart sends.
       absurd (false≢true (sym (begins-quietly list script start plan row history k started sound_k).silent ∙ sends));
-  received = λ j k p sound_j sound_k apart_j apart_k.
-      ap (new_messages p) (delivers-unjudged list script history row j
+  received = λ j k p sound_j sound_k apart_j apart_k. ap (new_messages p) (delivers-unjudged list script history row j
       (begins-quietly list script start plan row history j started sound_j).unjudged)
       ∙ sym (ap (new_messages p) (delivers-unjudged list script history row k
       (begins-quietly list script start plan row history k started sound_k).unjudged));
-  given = λ j k sound_j sound_k apart.
-      ap (new_messages k) (delivers-unjudged list script history row j
-      (begins-quietly list script start plan row history j started sound_j).unjudged)
-      ∙ sym (silent-gives list script (length history) k (entry_of row k)
-      (begins-quietly list script start plan row history k started sound_k).silent);
-  own = λ k sound.
-      ap (new_messages k) (delivers-unjudged list script history row k
+  given = λ j k sound_j sound_k apart. ap (new_messages k) (delivers-unjudged list script history row j
+      (begins-quietly list script start plan row history j started sound_j).unjudged) ∙ sym (silent-gives list script
+      (length history) k (entry_of row k) (begins-quietly list script start plan row history k started sound_k).silent);
+  own = λ k sound. ap (new_messages k) (delivers-unjudged list script history row k
       (begins-quietly list script start plan row history k started sound).unjudged);
 }
 
@@ -201,8 +196,7 @@ abbrev pub IsAmong : Medl → (ℕ → Bool) → (ℕ → Bool) → Type 0
 IsAmong list less group = (k : ℕ) → IsIn list less k → group k ≡ true
 
 alike-among : (list : Medl) (script : Script) (less group : ℕ → Bool) (row : List Entry) (history : History)
-    → IsAmong list less group → AcceptsAlike list script group row history
-    → AcceptsAlike list script less row history
+    → IsAmong list less group → AcceptsAlike list script group row history → AcceptsAlike list script less row history
 alike-among list script less group row history among alike = record {
   third = λ j k p of_j of_k. alike.third j k p (of_j.0, among j of_j) (of_k.0, among k of_k);
   sent = λ j k of_j of_k. alike.sent j k (of_j.0, among j of_j) (of_k.0, among k of_k);
@@ -219,8 +213,8 @@ none-since list script group s (row ∷ history) early =
     ((λ from. absurd (omega (arith, from, early))), none-since list script group s history (omega (arith, early)))
 
 -- The run.
-module _ (list : Medl) (script : Script) (start : ClusterStart) (plan : Plan) (is : IsBegun list script start plan)
-    (clocks : KeepsClocks list script start plan) (stay : plan.returns ≡ []) where
+module _ {list : Medl} {script : Script} {start : ClusterStart} {plan : Plan}
+    (is : IsBegun list script start plan) (clocks : KeepsClocks list script start plan) (stay : plan.returns ≡ []) where
   pub alike-run : (group : ℕ → Bool) (turn : ℕ) (numbers : Numbers) → IsAmong list group (is_sound_after plan turn)
       → length numbers ≡ suc (start.slot + turn) → start.slot + turn < script.slots → IsLegal list script numbers
       → AcceptsAlikeSince list script group start.slot (world list script numbers)
@@ -239,8 +233,79 @@ module _ (list : Medl) (script : Script) (start : ClusterStart) (plan : Plan) (i
       let t =
       turn-next list script start plan is clocks turn new numbers (omega (arith, number)) within legal before in (
         (λ from. alike-among list script group (is_sound_after plan (suc turn)) _ (world list script numbers) among
-            (alike-next list script start plan turn new numbers t stay)),
-        alike-run group turn numbers
-            (λ k of_k. sound-earlier plan turn (suc turn) k stay (omega arith) (among k of_k)) (omega (arith, number))
-            (omega (arith, within)) (legal-older list script new numbers legal),
+            (alike-next t stay)),
+        alike-run group turn numbers (λ k of_k. sound-earlier plan turn (suc turn) k stay (omega arith) (among k of_k))
+            (omega (arith, number)) (omega (arith, within)) (legal-older list script new numbers legal),
+      )
+
+-- Sound nodes have been active since the start, in a stint that began at time 0, and stand at the plan's place.
+
+-- One entry.
+
+begun-zero : (list : Medl) (script : Script) (start : ClusterStart) (plan : Plan) (row : List Entry)
+    (history : History) (k : ℕ) → StartedByPlan list script start plan row history → IsSoundIn list plan 0 k
+    → begins_at_zero (entry_of row k) ≡ true
+begun-zero list script start plan row history k started sound = elim (cases_eq k start.node) [
+  | inl same ↦ ap begins_at_zero (ap (entry_of row) same ∙ started.starter)
+  | inr other ↦ ap begins_at_zero (started.joins k sound other)
+]
+
+noted-on : (list : Medl) (script : Script) (plan : Plan) (slot : ℕ) (row : List Entry) (history : History) (k : ℕ)
+    → NotedInSlot list script plan slot row history → IsSoundIn list plan slot k → enters plan slot k ≡ false
+    → continues_stint (entry_of row k) ≡ true
+noted-on list script plan slot row history k noted sound none = by (is_good_slot plan slot) refl
+  where
+    by : (good : Bool) → is_good_slot plan slot ≡ good → continues_stint (entry_of row k) ≡ true
+    by true good = tells-on list script history (sender plan slot) k (entry_of row k) (noted.good k good sound none)
+    by false wrong = nothing-on (entry_of row k) (noted.other k wrong sound)
+
+-- Places.
+
+by_plan-place : (list : Medl) (script : Script) (start : ClusterStart) (plan : Plan) (turn : ℕ) (history : History)
+    (k : ℕ) → IsByPlan list script start plan turn history → IsSoundIn list plan turn k
+    → place_of list k (diary_of history k) ≡ planned_place list plan turn
+by_plan-place list script start plan turn history k is sound =
+    let at : IsSoundAt list plan turn k (node_past list script history k) =
+    subst (λ (f : Fate). IsByFate list plan turn k (node_past list script history k) f) (sound-fate _ sound.1)
+    (is.holds.nodes k sound.0) in
+    at.place
+
+-- Before the start nothing is asked.
+none-before : (list : Medl) (group : ℕ → Bool) (s : ℕ) (history : History) → length history ≤ s
+    → StandsAlikeSince list group s history
+none-before list group s [] early = tt
+none-before list group s (row ∷ history) early =
+    ((λ from. absurd (omega (arith, from, early))), none-before list group s history (omega (arith, early)))
+
+-- The run.
+module _ {list : Medl} {script : Script} {start : ClusterStart} {plan : Plan}
+    (is : IsBegun list script start plan) (clocks : KeepsClocks list script start plan) (stay : plan.returns ≡ []) where
+  pub stands-run : (group : ℕ → Bool) (turn : ℕ) (numbers : Numbers) → IsAmong list group (is_sound_after plan turn)
+      → length numbers ≡ suc (start.slot + turn) → start.slot + turn < script.slots → IsLegal list script numbers
+      → StandsAlikeSince list group start.slot (world list script numbers)
+  stands-run group turn [] among number within legal = tt
+  stands-run group zero (new ∷ numbers) among number within legal =
+      let by_plan = run-by_plan list script start plan is clocks zero (new ∷ numbers) number within legal in
+      let before = length-world list script numbers in (
+        (λ from. record {
+          begins = λ k of_k now.
+              begun-zero list script start plan _ (world list script numbers) k by_plan.noted (of_k.0, among k of_k);
+          goes_on = λ k of_k later. absurd (omega (arith, later, before, number));
+          places = λ j k of_j of_k. by_plan-place list script start plan zero _ j by_plan (of_j.0, among j of_j)
+              ∙ sym (by_plan-place list script start plan zero _ k by_plan (of_k.0, among k of_k));
+        }),
+        none-before list group start.slot (world list script numbers) (omega (arith, before, number)),
+      )
+  stands-run group (suc turn) (new ∷ numbers) among number within legal =
+      let by_plan = run-by_plan list script start plan is clocks (suc turn) (new ∷ numbers) number within legal in
+      let before = length-world list script numbers in (
+        (λ from. record {
+          begins = λ k of_k now. absurd (omega (arith, now, before, number));
+          goes_on = λ k of_k later. noted-on list script plan (suc turn) _ (world list script numbers) k by_plan.noted.1
+              (of_k.0, among k of_k) (none-enters plan (suc turn) k stay);
+          places = λ j k of_j of_k. by_plan-place list script start plan (suc turn) _ j by_plan (of_j.0, among j of_j)
+              ∙ sym (by_plan-place list script start plan (suc turn) _ k by_plan (of_k.0, among k of_k));
+        }),
+        stands-run group turn numbers (λ k of_k. sound-earlier plan turn (suc turn) k stay (omega arith) (among k of_k))
+            (omega (arith, number)) (omega (arith, within)) (legal-older list script new numbers legal),
       )

@@ -51,29 +51,25 @@ each-of (x ∷ xs) gives all = (gives x all.0, each-of xs gives all.1)
 -- What a sound node holds.
 
 held-settled : (group : List ℕ) (a : Ack) → is_doubt a ≡ false → held_with group a ≡ group
-held-settled group ack.Closed settled = refl
-held-settled group ack.First settled = refl
 held-settled group (ack.Doubt y) settled = absurd (false≢true (sym settled))
+held-settled group _ settled = refl
 
 held-member : (group : List ℕ) (a : Ack) (j : ℕ) → j < most_nodes → has_node group j ≡ true
     → has_node (held_with group a) j ≡ true
-held-member group ack.Closed j small has = has
-held-member group ack.First j small has = has
 held-member group (ack.Doubt y) j small has = has_node-with_member group y j small has
+held-member group _ j small has = has
 
 held-none : (group : List ℕ) (a : Ack) (j : ℕ) → j < most_nodes → has_node group j ≡ false
-    → ((y : ℕ) → a ≡ ack.Doubt y → y ≢ j)
-    → has_node (held_with group a) j ≡ false
-held-none group ack.Closed j small none apart = none
-held-none group ack.First j small none apart = none
+    → ((y : ℕ) → a ≡ ack.Doubt y → y ≢ j) → has_node (held_with group a) j ≡ false
 held-none group (ack.Doubt y) j small none apart =
     has_node-with_other group y j small (λ same. apart y refl (sym same)) ∙ none
+held-none group _ j small none apart = none
 
 pub not-settled : (b : Bool) → not b ≡ true → b ≡ false
 not-settled true is = absurd (false≢true is)
 not-settled false is = refl
 
-module _ (list : Medl) (script : Script) (start : ClusterStart) (plan : Plan) (turn : ℕ) (history : History)
+module _ {list : Medl} {script : Script} {start : ClusterStart} {plan : Plan} {turn : ℕ} {history : History}
     (is : StandsAt list script start plan turn history) where
   good : IsGoodPlan plan
   good = is.planned.follows.good
@@ -121,8 +117,7 @@ module _ (list : Medl) (script : Script) (start : ClusterStart) (plan : Plan) (t
   pub in-sound : (nodes : List ℕ) → AllByRecursion IsSoundNode nodes → (j : ℕ) → IsSoundNode j
       → (ledger_of plan turn j).own ≡ true → is_in_among list history nodes j ≡ true
   in-sound nodes all j of_j own =
-      all-by IsSoundNode (λ k. has_node (members_of_node list history k) j) nodes
-      (λ k of_k.
+      all-by IsSoundNode (λ k. has_node (members_of_node list history k) j) nodes (λ k of_k.
       ap (λ s. has_node s j) (at-sound k of_k).group.members
       ∙ held-member (planned_members plan turn) (node_past list script history k).ack j (small j of_j.0)
       (sound-member plan turn j good (less j of_j.0) of_j.1 own)) all
@@ -132,12 +127,10 @@ module _ (list : Medl) (script : Script) (start : ClusterStart) (plan : Plan) (t
   -- A node has left two rounds after it was lost, less two slots, and no sound node holds it.
 
   fallen-stands : (k since shown : ℕ) (change : Change) → k < length list.slots
-      → fate_of plan turn k ≡ Fallen change since shown
-      → ((node_past list script history k).phase ≡ phase.Left)
+      → fate_of plan turn k ≡ Fallen change since shown → ((node_past list script history k).phase ≡ phase.Left)
       ⊎ IsFallenAt list plan turn k since shown (node_past list script history k)
   fallen-stands k since shown change node fate =
-      subst (λ (f : Fate). IsByFate list plan turn k (node_past list script history k) f) fate
-      (is.holds.nodes k node)
+      subst (λ (f : Fate). IsByFate list plan turn k (node_past list script history k) f) fate (is.holds.nodes k node)
 
   -- it leaves in its first own slot, where that is the last of a round, and else a round later
   left-fallen : (k since shown : ℕ) (change : Change) → k < length list.slots
@@ -165,16 +158,12 @@ module _ (list : Medl) (script : Script) (start : ClusterStart) (plan : Plan) (t
       → k < length list.slots → fate_of plan turn k ≡ Fallen change since shown → since + plan.nodes ≤ turn
       → is_out_among list history nodes k ≡ true
   out-fallen nodes all k since shown change node fate late =
-      all-by IsSoundNode (λ j. not (has_node (members_of_node list history j) k)) nodes
-      (λ j of_j.
+      all-by IsSoundNode (λ j. not (has_node (members_of_node list history j) k)) nodes (λ j of_j.
       let at = at-sound j of_j in
-      not_from_false _
-      (ap (λ s. has_node s k) at.group.members
+      not_from_false _ (ap (λ s. has_node s k) at.group.members
       ∙ held-none (planned_members plan turn) (node_past list script history j).ack k (small k node)
-      (fallen-member plan turn k since shown change good (less k node) fate)
-      (λ y doubt same.
-      let early = doubted-early j k since shown change of_j fate
-      (doubt ∙ ap (λ (z : ℕ). ack.Doubt z) same) in
+      (fallen-member plan turn k since shown change good (less k node) fate) (λ y doubt same.
+      let early = doubted-early j k since shown change of_j fate (doubt ∙ ap (λ (z : ℕ). ack.Doubt z) same) in
       omega (arith, early, late)))) all
 
   -- and so by what its fate tells of its loss
@@ -188,18 +177,13 @@ module _ (list : Medl) (script : Script) (start : ClusterStart) (plan : Plan) (t
   gone-by nodes all k slot (Falling change since) fate lost late =
       let told = told-falling plan turn k since change good fate in
       let same = same_Some _ _ lost in
-      let after = told.loss.late in
-      let soon = told.soon in
-      let width = is.planned.follows.nodes in
-      let count = good.count in
-      absurd (omega (arith, same, late, after, soon, width, count))
+      absurd (omega (arith, same, late, told.loss.late, told.soon, is.planned.follows.nodes, good.count))
   gone-by nodes all k slot (Fallen change since shown) fate lost late =
       let told = told-fallen plan turn k since shown change good fate in
       let same = same_Some _ _ lost in
-      let after = told.loss.late in
-      let width = is.planned.follows.nodes in
       let count = good.count in
-      let over : since + 2 * plan.nodes ≤ suc (suc turn) = omega (arith, same, late, after, width, count) in
+      let over : since + 2 * plan.nodes ≤ suc (suc turn) =
+      omega (arith, same, late, told.loss.late, is.planned.follows.nodes, count) in
       let node : k < length list.slots =
       subst (λ n. k < n) is.planned.follows.nodes (loss-node plan k since change good told.loss) in
       and_from (has_left history k) (is_out_among list history nodes k)
@@ -225,16 +209,14 @@ module _ (list : Medl) (script : Script) (start : ClusterStart) (plan : Plan) (t
 
   -- so a sender has left a round after it was lost,
   pub left-sender : (k since shown : ℕ) → k < length list.slots → fate_of plan turn k ≡ Fallen Sending since shown
-      → since + plan.nodes ≤ turn
-      → (node_past list script history k).phase ≡ phase.Left
+      → since + plan.nodes ≤ turn → (node_past list script history k).phase ≡ phase.Left
   left-sender k since shown node fate past =
       let at_once = (told-fallen plan turn k since shown Sending good fate).sending refl in
       left-after k since shown Sending node fate (omega (arith, at_once, past))
 
   -- and each lost node two rounds after, less two slots
   pub left-lost : (k since : ℕ) → k < length list.slots → lost_since (fate_of plan turn k) ≡ Some since
-      → since + 2 * plan.nodes ≤ suc (suc turn)
-      → (node_past list script history k).phase ≡ phase.Left
+      → since + 2 * plan.nodes ≤ suc (suc turn) → (node_past list script history k).phase ≡ phase.Left
   left-lost k since node lost late = by (fate_of plan turn k) refl lost
     where
       by : (fate : Fate) → fate_of plan turn k ≡ fate → lost_since fate ≡ Some since
@@ -245,9 +227,7 @@ module _ (list : Medl) (script : Script) (start : ClusterStart) (plan : Plan) (t
       by (Falling change s) is of_loss =
           let told = told-falling plan turn k s change good is in
           let same = same_Some _ _ of_loss in
-          let soon = told.soon in
-          let count = good.count in
-          absurd (omega (arith, same, soon, count, late))
+          absurd (omega (arith, same, told.soon, good.count, late))
       by (Fallen change s shown) is of_loss =
           let same = same_Some _ _ of_loss in
           left-fallen k s shown change node is (omega (arith, same, late))

@@ -1,6 +1,6 @@
 -- What the sender of a turn does by its fate, and what comes to each other node.
-use Rattle.std.proofs.Common.{◌≡◌, ℕ, suc, ◌<◌, true, false, List, [], length, refl, ap, sym, subst}
-use Rattle.std.proofs.Common.{◌∙◌, ◌⊎◌, inl, inr, arith}
+use Rattle.std.proofs.Common.{◌≡◌, ℕ, suc, ◌<◌, true, false, List, [], length, refl, ap, sym, subst, ◌∙◌, ◌⊎◌, inl, inr}
+use Rattle.std.proofs.Common.{arith}
 use Rattle.ttp_base.specs.NodeSet.{with_node}
 use Rattle.ttp_world.specs.declared.medl.Medl.{Medl}
 use Rattle.ttp_world.specs.declared.node.Phase.TheVariants as phase
@@ -8,27 +8,26 @@ use Rattle.ttp_world.specs.declared.script.Script.{Script}
 use Rattle.ttp_world.specs.Diary.{next_place}
 use Rattle.ttp_world.specs.Hypothesis.{ClusterStart, loses}
 use Rattle.ttp_world.specs.Reception.{is_within_window}
-use Rattle.ttp_world.specs.World.{SlotNumbers, Numbers, node_past, slot_after, deviation_in, messages_chosen, world}
+use Rattle.ttp_world.specs.World.{SlotNumbers, Numbers, node_past, slot_after, deviation_in, world}
 use Rattle.fault_plan.specs.Plan.{Change, Plan, sender, is_armed_by}
 use Rattle.fault_plan.specs.Fates.{Fate, Absent, Sound, Falling, Fallen, Listening, fate_of, is_lost}
 use Rattle.fault_plan.specs.Ledger.{planned_members}
 use Rattle.fault_plan.specs.Places.{planned_place}
 use Rattle.safety_laws.specs.Groups.{held_with}
 use Rattle.safety_laws.specs.NodeSlot.{frames_made, next_past}
-use Rattle.safety_laws.specs.Senders.{SendsAlone, NoneSends}
 use Rattle.safety_laws.specs.Turns.{HearsMembers}
 use Rattle.safety_laws.specs.ByFate.{IsByFate, IsFallingAt, IsFallenAt}
 use Rattle.safety_laws.specs.PlanTurn.{IsTurn}
 use Rattle.safety_laws.proofs.Idle.{idle-off, idle-left}
 use Rattle.safety_laws.proofs.Listening.{frames_made-listening}
 use Rattle.safety_laws.proofs.OneSender.{members-alone}
-use Rattle.safety_laws.proofs.OwnTurns.{IsSoundOwner, sound-sends, falling-own, fallen-own}
-use Rattle.safety_laws.proofs.PlanSteps.{told-falling}
+use Rattle.safety_laws.proofs.PlanTurns.{IsSoundOwner, sound-sends, falling-own, fallen-own, SendsNone, SendsOne}
 use Rattle.safety_laws.proofs.PlanTurns.{slot_of, e-node, has-turn, absent-off, armed-planned, unarmed-falling}
-use Rattle.safety_laws.proofs.PlanTurns.{listens-still, silent-left, none-sends, sends-alone}
+use Rattle.safety_laws.proofs.PlanTurns.{good_plan, listens-still, silent-left, none-sends, sends-alone}
+use Rattle.safety_laws.proofs.PlanSteps.{told-falling}
 
-module _ (list : Medl) (script : Script) (start : ClusterStart) (plan : Plan) (turn : ℕ) (new : SlotNumbers)
-    (numbers : Numbers) (t : IsTurn list script start plan turn new numbers) where
+module _ {list : Medl} {script : Script} {start : ClusterStart} {plan : Plan} {turn : ℕ} {new : SlotNumbers}
+    {numbers : Numbers} (t : IsTurn list script start plan turn new numbers) where
   -- what a node is before the turn
   pub at-fate : (k : ℕ) (fate : Fate) → k < length list.slots → fate_of plan turn k ≡ fate
       → IsByFate list plan turn k (node_past list script (world list script numbers) k) fate
@@ -42,63 +41,53 @@ module _ (list : Medl) (script : Script) (start : ClusterStart) (plan : Plan) (t
     pub sound-owner : IsSoundOwner plan turn (slot_of list script new numbers (sender plan (suc turn)))
     sound-owner =
         let e = sender plan (suc turn) in
-        let node = e-node list script start plan turn new numbers t in
+        let node = e-node t in
         let at = at-fate e Sound node sound in
         record {
-          good = t.planned.follows.good;
+          good = good_plan t;
           nodes = t.planned.follows.nodes;
           within = let slots = t.planned.follows.slots in let inside = t.within in omega (arith, slots, inside);
-          own = has-turn list script start plan turn new numbers t e node at.phase at.place refl;
+          own = has-turn t e node at.phase at.place refl;
           at = at;
           owner = refl;
         }
 
-    pub sound-alone : SendsAlone list script (world list script numbers)
-        (messages_chosen list script (length numbers) new.sent) (sender plan (suc turn))
+    pub sound-alone : SendsOne t
     sound-alone =
-        let may = sound-sends plan turn _ sound-owner in
-        sends-alone list script start plan turn new numbers t sound-owner.own may
+        let may = sound-sends sound-owner in
+        sends-alone t sound-owner.own may
 
     -- it sends the plan's members and itself
     pub sound-members : (slot_of list script new numbers (sender plan (suc turn))).past.members
         ≡ planned_members plan turn
     sound-members =
-        sound-owner.at.group.members
-        ∙ ap (held_with (planned_members plan turn)) (sound-sends plan turn _ sound-owner).closed
+        sound-owner.at.group.members ∙ ap (held_with (planned_members plan turn)) (sound-sends sound-owner).closed
 
     pub hears-planned : (k : ℕ) → (slot_of list script new numbers k).past.place ≡ planned_place list plan turn
-        → loses script (sender plan (suc turn)) (length (world list script numbers)) k ≡ false
-        → is_within_window list
-        (deviation_in (slot_after list script (world list script numbers)) k (sender plan (suc turn)))
-        ≡ true
+        → loses script (sender plan (suc turn)) (length (world list script numbers)) k ≡ false → is_within_window list
+        (deviation_in (slot_after list script (world list script numbers)) k (sender plan (suc turn))) ≡ true
         → HearsMembers (slot_of list script new numbers k) (sender plan (suc turn))
         (with_node (planned_members plan turn) (sender plan (suc turn)))
     hears-planned k place kept within =
         let e = sender plan (suc turn) in
         subst (λ (members : List ℕ). HearsMembers (slot_of list script new numbers k) e (with_node members e))
-        sound-members
-        (members-alone list script (world list script numbers) _ e k sound-alone kept
-        (ap (next_place list) (sound-owner.at.place ∙ sym place)) within)
+        sound-members (members-alone k sound-alone kept (ap (next_place list) (sound-owner.at.place ∙ sym place))
+        within)
 
   -- A sender that is absent, or has had its first slot since it was lost, is silent.
 
-  pub silent-absent : fate_of plan turn (sender plan (suc turn)) ≡ Absent
-      → NoneSends list script (world list script numbers) (messages_chosen list script (length numbers) new.sent)
+  pub silent-absent : fate_of plan turn (sender plan (suc turn)) ≡ Absent → SendsNone t
   silent-absent is =
       let e = sender plan (suc turn) in
-      let node = e-node list script start plan turn new numbers t in
-      none-sends list script start plan turn new numbers t
-      (idle-off (slot_of list script new numbers e) (at-fate e Absent node is)
-      (absent-off list script start plan turn new numbers t e node is)).1
+      let node = e-node t in
+      none-sends t (idle-off (slot_of list script new numbers e) (at-fate e Absent node is) (absent-off t e node is)).1
 
-  pub silent-listening : (since : ℕ) → fate_of plan turn (sender plan (suc turn)) ≡ Listening since
-      → NoneSends list script (world list script numbers) (messages_chosen list script (length numbers) new.sent)
+  pub silent-listening : (since : ℕ) → fate_of plan turn (sender plan (suc turn)) ≡ Listening since → SendsNone t
   silent-listening since is =
       let e = sender plan (suc turn) in
-      let node = e-node list script start plan turn new numbers t in
-      none-sends list script start plan turn new numbers t
-      (frames_made-listening (slot_of list script new numbers e)
-      (listens-still list script start plan turn new numbers t e node since is (at-fate e (Listening since) node is)).listens)
+      let node = e-node t in
+      none-sends t (frames_made-listening (slot_of list script new numbers e)
+      (listens-still t e node since is (at-fate e (Listening since) node is)).listens)
 
   -- it has left by then, or leaves
   fallen-acts : (change : Change) (since shown : ℕ)
@@ -107,13 +96,11 @@ module _ (list : Medl) (script : Script) (start : ClusterStart) (plan : Plan) (t
       (x.past.phase ≡ phase.Left) ⊎ (((next_past x).phase ≡ phase.Left) × (frames_made x ≡ []))
   fallen-acts change since shown is =
       let e = sender plan (suc turn) in
-      let node = e-node list script start plan turn new numbers t in
+      let node = e-node t in
       let x = slot_of list script new numbers e in
       elim (at-fate e (Fallen change since shown) node is) [
         | inl left ↦ inl left
-        | inr at ↦
-            inr (fallen-own plan turn x t.planned.follows.good
-            (has-turn list script start plan turn new numbers t e node at.phase at.place refl) since shown at)
+        | inr at ↦ inr (fallen-own plan turn x (good_plan t) (has-turn t e node at.phase at.place refl) since shown at)
       ]
 
   pub fallen-leaves : (change : Change) (since shown : ℕ)
@@ -122,49 +109,42 @@ module _ (list : Medl) (script : Script) (start : ClusterStart) (plan : Plan) (t
       → (next_past (slot_of list script new numbers (sender plan (suc turn)))).phase ≡ phase.Left
   fallen-leaves change since shown is unarmed =
       let e = sender plan (suc turn) in
-      let node = e-node list script start plan turn new numbers t in
+      let node = e-node t in
       let x = slot_of list script new numbers e in
       elim (fallen-acts change since shown is) [
-        | inl left ↦
-            (idle-left x left
-            (armed-planned list script start plan turn new numbers t e node (ap is_lost is) ∙ unarmed)).0
+        | inl left ↦ (idle-left x left (armed-planned t e node (ap is_lost is) ∙ unarmed)).0
         | inr leaves ↦ leaves.0
       ]
 
   -- and sends nothing, armed or not
   pub silent-fallen : (change : Change) (since shown : ℕ)
-      → fate_of plan turn (sender plan (suc turn)) ≡ Fallen change since shown
-      → NoneSends list script (world list script numbers) (messages_chosen list script (length numbers) new.sent)
+      → fate_of plan turn (sender plan (suc turn)) ≡ Fallen change since shown → SendsNone t
   silent-fallen change since shown is =
       let e = sender plan (suc turn) in
-      let node = e-node list script start plan turn new numbers t in
+      let node = e-node t in
       let x = slot_of list script new numbers e in
-      none-sends list script start plan turn new numbers t (elim (fallen-acts change since shown is) [
-        | inl left ↦ silent-left list script start plan turn new numbers t e node left
+      none-sends t (elim (fallen-acts change since shown is) [
+        | inl left ↦ silent-left t e node left
         | inr leaves ↦ leaves.1
       ])
 
   -- One that was lost, and has its first slot since then, has left, or leaves, or sends what it holds.
-  pub falling-acts : (change : Change) (since : ℕ)
-      → fate_of plan turn (sender plan (suc turn)) ≡ Falling change since →
+  pub falling-acts : (change : Change) (since : ℕ) → fate_of plan turn (sender plan (suc turn)) ≡ Falling change since →
       let x = slot_of list script new numbers (sender plan (suc turn)) in
-      (((next_past x).phase ≡ phase.Left) × (frames_made x ≡ []))
-      ⊎ ((SendsAlone list script (world list script numbers)
-      (messages_chosen list script (length numbers) new.sent) (sender plan (suc turn)))
+      (((next_past x).phase ≡ phase.Left) × (frames_made x ≡ [])) ⊎ ((SendsOne t)
       × (IsFallingAt list plan turn (sender plan (suc turn)) change since x.past)
       × (IsFallenAt list plan (suc turn) (sender plan (suc turn)) since (suc turn) (next_past x)))
   falling-acts change since is =
       let e = sender plan (suc turn) in
-      let node = e-node list script start plan turn new numbers t in
+      let node = e-node t in
       let x = slot_of list script new numbers e in
       elim (at-fate e (Falling change since) node is) [
-        | inl left ↦ inl (idle-left x left.0
-            (unarmed-falling list script start plan turn new numbers t e node change since is))
+        | inl left ↦ inl (idle-left x left.0 (unarmed-falling t e node change since is))
         | inr at ↦
-            let own = has-turn list script start plan turn new numbers t e node at.phase at.place refl in
-            let told = told-falling plan turn e since change t.planned.follows.good is in
-            elim (falling-own plan turn x t.planned.follows.good own change since told refl at) [
+            let own = has-turn t e node at.phase at.place refl in
+            let told = told-falling plan turn e since change (good_plan t) is in
+            elim (falling-own plan turn x (good_plan t) own change since told refl at) [
               | inl left ↦ inl left
-              | inr sends ↦ inr (sends-alone list script start plan turn new numbers t own sends.0, at, sends.1)
+              | inr sends ↦ inr (sends-alone t own sends.0, at, sends.1)
             ]
       ]

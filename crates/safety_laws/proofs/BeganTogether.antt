@@ -19,8 +19,7 @@ use Rattle.safety_laws.proofs.RoundNotes.{Counted, counted-start, counted-next}
 
 -- The start.
 
-begins-with : (list : Medl) (script : Script) (history : History) (p k : ℕ) (e : Entry)
-    → (k ≡ p → e ≡ entry.Started)
+begins-with : (list : Medl) (script : Script) (history : History) (p k : ℕ) (e : Entry) → (k ≡ p → e ≡ entry.Started)
     → (k ≢ p → e ≡ entry.Joined p (cold_start_cstate p) (measured list script history k p))
     → BeginsOn list script history p (start_place p) k e
 begins-with list script history p k e starts joins = elim (cases_eq k p) [
@@ -40,18 +39,15 @@ began list script start plan row history follows started = record {
       (λ same. ap (entry_of row) same ∙ started.starter) (λ other. started.joins k p other);
 }
 
-begun-place : (list : Medl) (p k : ℕ) (deviation : ℤ) (diary : List Entry) (e : Entry)
-    → (k ≡ p → e ≡ entry.Started)
-    → (k ≢ p → e ≡ entry.Joined p (cold_start_cstate p) deviation)
-    → stint_place list k (e ∷ diary) ≡ start_place p
+begun-place : (list : Medl) (p k : ℕ) (deviation : ℤ) (diary : List Entry) (e : Entry) → (k ≡ p → e ≡ entry.Started)
+    → (k ≢ p → e ≡ entry.Joined p (cold_start_cstate p) deviation) → stint_place list k (e ∷ diary) ≡ start_place p
 begun-place list p k deviation diary e starts joins = elim (cases_eq k p) [
   | inl same ↦ ap (λ f. stint_place list k (f ∷ diary)) (starts same) ∙ ap start_place same
   | inr other ↦ ap (λ f. stint_place list k (f ∷ diary)) (joins other)
 ]
 
 counted-begun : (list : Medl) (script : Script) (start : ClusterStart) (plan : Plan) (row : List Entry)
-    (history : History)
-    → FollowsPlan list script start plan → StartedByPlan list script start plan row history
+    (history : History) → FollowsPlan list script start plan → StartedByPlan list script start plan row history
     → Counted list plan 0 (row ∷ history)
 counted-begun list script start plan row history follows started =
     counted-start list script start plan row history (λ k p.

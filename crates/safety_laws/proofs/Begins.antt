@@ -1,9 +1,10 @@
--- After the slot of the start each node is what its fate says.
-use Rattle.std.proofs.Common.{◌≡◌, ◌≢◌, ℕ, ◌+◌, ◌<◌, ◌≤◌, Bool, true, false, not, ◌&&◌, ◌||◌, [], ◌∷◌, length}
-use Rattle.std.proofs.Common.{refl, ap, sym, subst, ◌∙◌, ◌⊎◌, inl, inr, arith, cond}
-use Rattle.std.specs.Prelude.{◌==◌}
+-- Whether a node has left since it was armed last, after one slot more.
+use Rattle.std.proofs.Common.{◌≡◌, ◌≢◌, ℕ, ◌+◌, ◌<◌, ◌≤◌, Bool, true, false, not, ◌&&◌, ◌||◌, [], ◌∷◌, length, refl, ap}
+use Rattle.std.proofs.Common.{sym, subst, ◌∙◌, ◌⊎◌, inl, inr, arith, cond, zero, suc, ◌-◌, List, ◌++◌, take, Option}
+use Rattle.std.proofs.Common.{Some, None}
+use Rattle.std.specs.Prelude.{◌==◌, reverse, find}
 use Rattle.std.proofs.lemmas.Bool.{cases_eq, eq-eqb, false≢true, both_ways, and_parts}
-use Rattle.ttp_base.specs.NodeSet.{has_node}
+use Rattle.ttp_base.specs.NodeSet.{has_node, below}
 use Rattle.ttp_world.specs.declared.medl.Medl.{Medl}
 use Rattle.ttp_world.specs.declared.node.Ack.{Ack}
 use Rattle.ttp_world.specs.declared.node.Ack.TheVariants as ack
@@ -13,32 +14,121 @@ use Rattle.ttp_world.specs.declared.node.Phase.{Phase}
 use Rattle.ttp_world.specs.declared.node.Phase.TheVariants as phase
 use Rattle.ttp_world.specs.declared.script.Script.{Script}
 use Rattle.ttp_world.specs.Acknowledgement.{is_open}
-use Rattle.ttp_world.specs.BackSafety.{has_sent_since_begin, has_sent_in_stint, has_left_since_arm}
-use Rattle.ttp_world.specs.Diary.{Diary, phase_after, entry_of, diary_of, is_active, begins_stint, start_place}
+use Rattle.ttp_world.specs.BackSafety.{has_sent_since_begin, has_sent_in_stint, has_left_since_arm, newest_arm}
+use Rattle.ttp_world.specs.BackSafety.{since_slot, is_left_after}
+use Rattle.ttp_world.specs.Diary.{Diary, phase_after, entry_of, diary_of, is_active, begins_stint, start_place, History}
 use Rattle.ttp_world.specs.Hypothesis.{ClusterStart}
 use Rattle.ttp_world.specs.Medium.{is_sending}
 use Rattle.ttp_world.specs.Messages.{is_left_phase}
 use Rattle.ttp_world.specs.Past.{NodePast}
 use Rattle.ttp_world.specs.Safety.{has_ever_sent}
-use Rattle.ttp_world.specs.Script.{is_on}
+use Rattle.ttp_world.specs.Script.{is_on, is_armed}
 use Rattle.ttp_world.specs.World.{SlotNumbers, Numbers, node_past, slot_after, messages_chosen, row_in, world}
+use Rattle.ttp_world.specs.World.{deviation_in}
 use Rattle.ttp_world.proofs.Worlds.{length-world}
 use Rattle.fault_plan.specs.Plan.{Plan, sender}
-use Rattle.fault_plan.specs.Fates.{Fate, Absent, Sound, Falling, Fallen, Listening, fate_of, is_sound_after, is_absent}
+use Rattle.fault_plan.specs.Fates.{Fate, Absent, Sound, Listening, fate_of, is_sound_after, is_absent}
 use Rattle.fault_plan.specs.Ledger.{opened, ledger_of}
 use Rattle.fault_plan.proofs.Members.{first-sender}
 use Rattle.fault_plan.proofs.Persists.{absent-always, sound-first}
 use Rattle.safety_laws.specs.Groups.{HoldsGroup}
 use Rattle.safety_laws.specs.Start.{IsStartHeard, starter_standing, joined_on_start}
 use Rattle.safety_laws.specs.Standing.{StandsBy, joined_standing}
-use Rattle.ttp_world.specs.World.{deviation_in}
 use Rattle.safety_laws.specs.ByFate.{doubts, is_there, IsCounted, IsSoundAt, IsByFate}
 use Rattle.safety_laws.specs.PlannedRun.{IsBegun}
 use Rattle.safety_laws.specs.PlanTurn.{HoldsAfter}
 use Rattle.safety_laws.proofs.StartSlot.{first_due, starter-stands, joiner-stands, off-stays, has-begun}
 use Rattle.safety_laws.proofs.Waiting.{WaitAll, WaitAll-world}
-use Rattle.safety_laws.proofs.LeftSince.{left_since-next}
 use Rattle.fault_plan.proofs.FateSteps.{sound-fate}
+use Rattle.std.specs.List.{list_any, range_with_len}
+use Rattle.std.proofs.lemmas.List.{length-map, reverse-append}
+use Rattle.std.proofs.lemmas.Option.{same_Some}
+
+-- The newest arm line.
+
+range-more : (a n : ℕ) → range_with_len a (suc n) ≡ range_with_len a n ++ (a + n) ∷ []
+range-more a zero = ap (λ j. j ∷ []) (omega arith)
+range-more a (suc n) =
+    ap (λ rest. a ∷ rest) (range-more (a + 1) n ∙ ap (λ j. range_with_len (a + 1) n ++ j ∷ []) (omega arith))
+
+newest_arm-next : (script : Script) (k slots : ℕ)
+    → newest_arm script k (suc slots) ≡ cond (is_armed script k slots) (Some slots) (newest_arm script k slots)
+newest_arm-next script k slots =
+    ap (λ js. find (is_armed script k) (reverse js))
+    (range-more 0 slots ∙ ap (λ j. below slots ++ j ∷ []) (omega arith))
+    ∙ ap (find (is_armed script k)) (reverse-append (below slots) (slots ∷ []))
+
+newest_arm-less : (script : Script) (k slots slot : ℕ) → newest_arm script k slots ≡ Some slot → slot < slots
+newest_arm-less script k zero slot is = cc
+newest_arm-less script k (suc slots) slot is = by (is_armed script k slots) refl (newest_arm-less script k slots slot)
+  where
+    by : (armed : Bool) → is_armed script k slots ≡ armed → (newest_arm script k slots ≡ Some slot → slot < slots)
+        → slot < suc slots
+    by true armed before =
+        let same : slots ≡ slot =
+        same_Some _ _ (sym (newest_arm-next script k slots
+        ∙ ap (λ b. cond b (Some slots) (newest_arm script k slots)) armed) ∙ is) in
+        omega (arith, same)
+    by false unarmed before =
+        let less = before (sym (newest_arm-next script k slots
+        ∙ ap (λ b. cond b (Some slots) (newest_arm script k slots)) unarmed) ∙ is) in
+        omega (arith, less)
+
+-- The entries from a slot on.
+
+since-newest : (e : Entry) (diary : Diary) (slot : ℕ) → length diary ≡ slot
+    → since_slot (Some slot) (e ∷ diary) ≡ e ∷ []
+since-newest e diary slot is =
+    let one : suc (length diary) - slot ≡ 1 = omega (arith, is) in
+    ap (λ n. take n (e ∷ diary)) one
+
+since-older : (e : Entry) (diary : Diary) (slot : ℕ) → slot < length diary
+    → since_slot (Some slot) (e ∷ diary) ≡ e ∷ since_slot (Some slot) diary
+since-older e diary slot before =
+    let more : suc (length diary) - slot ≡ suc (length diary - slot) = omega (arith, before) in
+    ap (λ n. take n (e ∷ diary)) more
+
+-- A node that does not leave in a slot has not left since, if it is armed in the slot or had not before it.
+pub left_since-next : (script : Script) (history : History) (row : List Entry) (k : ℕ)
+    → is_left_after (entry_of row k) ≡ false
+    → (is_armed script k (length history) ≡ false → has_left_since_arm script history k ≡ false)
+    → has_left_since_arm script (row ∷ history) k ≡ false
+left_since-next script history row k stays before = by (is_armed script k (length history)) refl
+  where
+    e : Entry
+    e = entry_of row k
+
+    diary : Diary
+    diary = diary_of history k
+
+    long : length diary ≡ length history
+    long = length-map history (λ r. entry_of r k)
+
+    arm-is : (armed : Bool) → is_armed script k (length history) ≡ armed → newest_arm script k (suc (length history))
+        ≡ cond armed (Some (length history)) (newest_arm script k (length history))
+    arm-is armed is =
+        newest_arm-next script k (length history)
+        ∙ ap (λ b. cond b (Some (length history)) (newest_arm script k (length history))) is
+
+    older : (slot : Option ℕ) → newest_arm script k (length history) ≡ slot
+        → list_any is_left_after (since_slot slot diary) ≡ false
+        → list_any is_left_after (since_slot slot (e ∷ diary)) ≡ false
+    older None is none = ap (λ b. b || list_any is_left_after diary) stays ∙ none
+    older (Some slot) is none =
+        let less = newest_arm-less script k (length history) slot is in
+        ap (list_any is_left_after) (since-older e diary slot (omega (arith, less, long)))
+        ∙ ap (λ b. b || list_any is_left_after (since_slot (Some slot) diary)) stays ∙ none
+
+    by : (armed : Bool) → is_armed script k (length history) ≡ armed
+        → has_left_since_arm script (row ∷ history) k ≡ false
+    by true armed =
+        ap (λ slot. list_any is_left_after (since_slot slot (e ∷ diary))) (arm-is true armed)
+        ∙ ap (list_any is_left_after) (since-newest e diary (length history) long) ∙ ap (λ b. b || false) stays
+    by false unarmed =
+        ap (λ slot. list_any is_left_after (since_slot slot (e ∷ diary))) (arm-is false unarmed)
+        ∙ older (newest_arm script k (length history)) refl (before unarmed)
+
+-- After the slot of the start each node is what its fate says.
 
 -- Nobody has sent while all wait.
 
@@ -53,27 +143,18 @@ waiting-unleft false = refl
 inactive-unsent : (e : Entry) → phase_after e ≢ phase.Active → is_sending e ≡ false
 inactive-unsent entry.Started inactive = absurd (inactive refl)
 inactive-unsent (entry.Sent message) inactive = absurd (inactive refl)
-inactive-unsent entry.Off inactive = refl
-inactive-unsent entry.Waited inactive = refl
-inactive-unsent entry.Retried inactive = refl
-inactive-unsent entry.Gone inactive = refl
-inactive-unsent (entry.Left why peer) inactive = refl
-inactive-unsent (entry.Joined sender c deviation) inactive = refl
-inactive-unsent (entry.Judged sender v deviation) inactive = refl
+inactive-unsent _ inactive = refl
 
 -- what was sent in a stint was sent
 since-ever : (diary : Diary) → has_sent_since_begin diary ≡ true → has_ever_sent diary ≡ true
 since-ever [] sent = sent
 since-ever (e ∷ diary) sent = by (is_sending e) refl (since-ever diary)
   where
-    by : (sends : Bool) → is_sending e ≡ sends
-        → (has_sent_since_begin diary ≡ true → has_ever_sent diary ≡ true)
+    by : (sends : Bool) → is_sending e ≡ sends → (has_sent_since_begin diary ≡ true → has_ever_sent diary ≡ true)
         → (is_sending e || has_ever_sent diary) ≡ true
     by true sends before = ap (λ b. b || has_ever_sent diary) sends
     by false sends before =
-        ap (λ b. b || has_ever_sent diary) sends
-        ∙ before
-        (and_parts (not (begins_stint e)) (has_sent_since_begin diary)
+        ap (λ b. b || has_ever_sent diary) sends ∙ before (and_parts (not (begins_stint e)) (has_sent_since_begin diary)
         (sym (ap (λ b. b || (not (begins_stint e) && has_sent_since_begin diary)) sends) ∙ sent)).1
 
 stint-ever : (diary : Diary) → has_sent_in_stint diary ≡ true → has_ever_sent diary ≡ true
@@ -87,8 +168,7 @@ settled-ack a (inr closed) = ap doubts closed
 
 counted-first : (own : Bool) (past : NodePast) → past.accepted ≡ 1 → past.rejected ≡ 0
     → (is_open past.ack ≡ true → own ≡ true) → (past.cold_start ≡ true → own ≡ true)
-    → (past.ack ≡ ack.First) ⊎ (past.ack ≡ ack.Closed)
-    → IsCounted (opened own 0) past
+    → (past.ack ≡ ack.First) ⊎ (past.ack ≡ ack.Closed) → IsCounted (opened own 0) past
 counted-first own past accepted rejected opens cold settles =
     let none = settled-ack past.ack settles in
     record {
@@ -102,7 +182,8 @@ no-doubt : (a : Ack) (y : ℕ) → (a ≡ ack.First) ⊎ (a ≡ ack.Closed) → 
 no-doubt a y (inl first) doubt = cc
 no-doubt a y (inr closed) doubt = cc
 
-module _ (list : Medl) (script : Script) (start : ClusterStart) (plan : Plan) (is : IsBegun list script start plan)
+module _ {list : Medl} {script : Script} {start : ClusterStart} {plan : Plan}
+    (is : IsBegun list script start plan)
   where
     start-heard : IsStartHeard list script start
     start-heard = record {
@@ -138,6 +219,10 @@ module _ (list : Medl) (script : Script) (start : ClusterStart) (plan : Plan) (i
 
     -- The slot of the start.
     module _ (new : SlotNumbers) (numbers : Numbers) (now : length numbers ≡ start.slot) where
+      -- what a node is after it
+      abbrev past : ℕ → NodePast
+      past k = node_past list script (world list script (new ∷ numbers)) k
+
       waited : WaitAll list script (world list script numbers)
       waited = wait numbers (omega (arith, now))
 
@@ -155,15 +240,14 @@ module _ (list : Medl) (script : Script) (start : ClusterStart) (plan : Plan) (i
       sender-first : sender plan 0 ≡ start.node
       sender-first = first-sender plan is.planned.follows.good ∙ starter-same
 
-      pub starter-begun : StandsBy (node_past list script (world list script (new ∷ numbers)) start.node) entry.Started
-          (starter_standing list start.node)
+      pub starter-begun : StandsBy (past start.node) entry.Started (starter_standing list start.node)
       starter-begun =
           starter-stands list script start (world list script numbers)
           (messages_chosen list script (length numbers) new.sent) is.planned.valid is.alone waited number
 
       pub joiner-begun : (k : ℕ) → k < length list.slots → k ≢ start.node → is_on script k start.slot ≡ true →
           let deviation = deviation_in (slot_after list script (world list script numbers)) k start.node in
-          StandsBy (node_past list script (world list script (new ∷ numbers)) k) (joined_on_start start.node deviation)
+          StandsBy (past k) (joined_on_start start.node deviation)
           (joined_standing list (start_place start.node) (start.node ∷ []) deviation)
       joiner-begun k node other on =
           joiner-stands list script start (world list script numbers)
@@ -171,23 +255,18 @@ module _ (list : Medl) (script : Script) (start : ClusterStart) (plan : Plan) (i
           node other on
 
       -- all that are sound are on
-      pub on-begun : (k : ℕ) → k < length list.slots → is_sound_after plan 0 k ≡ true
-          → is_on script k start.slot ≡ true
-      on-begun k node sound =
-          sym (on-first k node) ∙ sym (sound-first plan k is.planned.follows.good) ∙ sound
+      pub on-begun : (k : ℕ) → k < length list.slots → is_sound_after plan 0 k ≡ true → is_on script k start.slot ≡ true
+      on-begun k node sound = sym (on-first k node) ∙ sym (sound-first plan k is.planned.follows.good) ∙ sound
 
       -- a starter counts its own frame, and a node that joins the starter's
       counts : (k : ℕ) → k < length list.slots → is_on script k start.slot ≡ true
-          → IsCounted (ledger_of plan 0 k) (node_past list script (world list script (new ∷ numbers)) k)
-          × (((node_past list script (world list script (new ∷ numbers)) k).ack ≡ ack.First)
-          ⊎ ((node_past list script (world list script (new ∷ numbers)) k).ack ≡ ack.Closed))
+          → IsCounted (ledger_of plan 0 k) (past k) × (((past k).ack ≡ ack.First) ⊎ ((past k).ack ≡ ack.Closed))
       counts k node on = elim (cases_eq k start.node) [
         | inl same ↦
             let stands = starter-begun in
             let own : (sender plan 0 == start.node) ≡ true = eq-eqb (sender plan 0) start.node sender-first in
-            subst (λ j. IsCounted (ledger_of plan 0 j) (node_past list script (world list script (new ∷ numbers)) j)
-            × (((node_past list script (world list script (new ∷ numbers)) j).ack ≡ ack.First)
-            ⊎ ((node_past list script (world list script (new ∷ numbers)) j).ack ≡ ack.Closed))) (sym same) (
+            subst (λ j. IsCounted (ledger_of plan 0 j) (past j) × (((past j).ack ≡ ack.First)
+            ⊎ ((past j).ack ≡ ack.Closed))) (sym same) (
               counted-first (sender plan 0 == start.node) _ stands.accepted stands.rejected (λ opened. own)
                   (λ cold. own) (inl stands.ack),
               inl stands.ack,
@@ -202,7 +281,7 @@ module _ (list : Medl) (script : Script) (start : ClusterStart) (plan : Plan) (i
       ]
 
       sound-begun : (k : ℕ) → k < length list.slots → is_on script k start.slot ≡ true
-          → IsSoundAt list plan 0 k (node_past list script (world list script (new ∷ numbers)) k)
+          → IsSoundAt list plan 0 k (past k)
       sound-begun k node on =
           let begun = has-begun list script start (world list script numbers)
           (messages_chosen list script (length numbers) new.sent) is.planned.valid is.alone waited number start-heard k
@@ -211,53 +290,38 @@ module _ (list : Medl) (script : Script) (start : ClusterStart) (plan : Plan) (i
           record {
             phase = begun.phase;
             place = begun.place ∙ ap start_place (sym starter-same);
-            group = subst (λ p. HoldsGroup list k (p ∷ [])
-                (node_past list script (world list script (new ∷ numbers)) k)) (sym starter-same) begun.group;
+            group = subst (λ p. HoldsGroup list k (p ∷ []) (past k)) (sym starter-same) begun.group;
             counted = counted.0;
             doubted = λ y doubt. absurd (no-doubt _ y counted.1 doubt);
-            fresh = λ own.
-                subst (λ j. (node_past list script (world list script (new ∷ numbers)) j).ack ≡ ack.First)
-                (sym sender-first ∙ own) starter-begun.ack;
+            fresh = λ own. subst (λ j. (past j).ack ≡ ack.First) (sym sender-first ∙ own) starter-begun.ack;
           }
 
-      off-begun : (k : ℕ) → k < length list.slots → is_on script k start.slot ≡ false
-          → (node_past list script (world list script (new ∷ numbers)) k).phase ≡ phase.Off
+      off-begun : (k : ℕ) → k < length list.slots → is_on script k start.slot ≡ false → (past k).phase ≡ phase.Off
       off-begun k node off =
           off-stays list script start (world list script numbers)
           (messages_chosen list script (length numbers) new.sent) is.planned.valid is.alone waited number k node
-          (λ same. both_ways (is_on script k start.slot) off
-          (sym (on-first k node)
+          (λ same. both_ways (is_on script k start.slot) off (sym (on-first k node)
           ∙ ap (has_node plan.begin) (same ∙ sym starter-same) ∙ is.planned.follows.good.starter.1)) off
 
       absent-fate : (fate : Fate) → is_absent fate ≡ true → fate ≡ Absent
       absent-fate Absent absent = refl
-      absent-fate Sound absent = absurd (false≢true absent)
-      absent-fate (Falling change since) absent = absurd (false≢true absent)
-      absent-fate (Fallen change since shown) absent = absurd (false≢true absent)
-      absent-fate (Listening since) absent = absurd (false≢true absent)
+      absent-fate _ absent = absurd (false≢true absent)
 
-      node-begun : (k : ℕ) → k < length list.slots
-          → IsByFate list plan 0 k (node_past list script (world list script (new ∷ numbers)) k) (fate_of plan 0 k)
+      node-begun : (k : ℕ) → k < length list.slots → IsByFate list plan 0 k (past k) (fate_of plan 0 k)
       node-begun k node = by (has_node plan.begin k) refl
         where
-          by : (on : Bool) → has_node plan.begin k ≡ on
-              → IsByFate list plan 0 k (node_past list script (world list script (new ∷ numbers)) k)
-              (fate_of plan 0 k)
+          by : (on : Bool) → has_node plan.begin k ≡ on → IsByFate list plan 0 k (past k) (fate_of plan 0 k)
           by true on =
               let fate = sound-fate (fate_of plan 0 k) (sound-first plan k is.planned.follows.good ∙ on) in
-              subst (λ (f : Fate). IsByFate list plan 0 k
-              (node_past list script (world list script (new ∷ numbers)) k) f) (sym fate)
+              subst (λ (f : Fate). IsByFate list plan 0 k (past k) f) (sym fate)
               (sound-begun k node (sym (on-first k node) ∙ on))
           by false off =
-              let fate = absent-fate (fate_of plan 0 k)
-              (absent-always plan 0 k is.planned.follows.good ∙ ap not off) in
-              subst (λ (f : Fate). IsByFate list plan 0 k
-              (node_past list script (world list script (new ∷ numbers)) k) f) (sym fate)
+              let fate = absent-fate (fate_of plan 0 k) (absent-always plan 0 k is.planned.follows.good ∙ ap not off) in
+              subst (λ (f : Fate). IsByFate list plan 0 k (past k) f) (sym fate)
               (off-begun k node (sym (on-first k node) ∙ off))
 
       sent-begun : (k : ℕ) → k < length list.slots → is_sound_after plan 0 k ≡ true
-          → has_ever_sent (diary_of (world list script (new ∷ numbers)) k) ≡ true
-          → (ledger_of plan 0 k).own ≡ true
+          → has_ever_sent (diary_of (world list script (new ∷ numbers)) k) ≡ true → (ledger_of plan 0 k).own ≡ true
       sent-begun k node sound sent = elim (cases_eq k start.node) [
         | inl same ↦ eq-eqb (sender plan 0) k (sender-first ∙ sym same)
         | inr other ↦
@@ -273,20 +337,14 @@ module _ (list : Medl) (script : Script) (start : ClusterStart) (plan : Plan) (i
       stay-begun : (k : ℕ) → k < length list.slots → is_there (fate_of plan 0 k) ≡ true
           → has_left_since_arm script (world list script (new ∷ numbers)) k ≡ false
       stay-begun k node there =
-          left_since-next script (world list script numbers) _ k
-          (by (fate_of plan 0 k) there (node-begun k node))
+          left_since-next script (world list script numbers) _ k (by (fate_of plan 0 k) there (node-begun k node))
           (λ unarmed. unleft-waiting numbers k (omega (arith, now)) node)
         where
-          past : NodePast
-          past = node_past list script (world list script (new ∷ numbers)) k
-
-          by : (fate : Fate) → is_there fate ≡ true → IsByFate list plan 0 k past fate
-              → is_left_phase past.phase ≡ false
+          by : (fate : Fate) → is_there fate ≡ true → IsByFate list plan 0 k (past k) fate
+              → is_left_phase (past k).phase ≡ false
           by Sound there at = ap (λ (p : Phase). is_left_phase p) at.phase
           by (Listening since) there at = ap (λ (p : Phase). is_left_phase p) at.phase
-          by Absent there at = cc
-          by (Falling change since) there at = cc
-          by (Fallen change since shown) there at = cc
+          by _ there at = cc
 
       pub holds-begun : HoldsAfter list script plan 0 (world list script (new ∷ numbers))
       holds-begun = record {

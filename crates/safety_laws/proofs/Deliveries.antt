@@ -54,8 +54,7 @@ taken-frame list expected h sent hears first = by hears
     by (OnA on_a none) = on-a on_a
     by (OnB none on_b) =
         ap (λ b. cond b (payload_heard list expected.place h.a) (payload_heard list expected.place h.b))
-        (frameless-view list expected h.deviation h.a none)
-        ∙ ap (payload_heard list expected.place) on_b
+        (frameless-view list expected h.deviation h.a none) ∙ ap (payload_heard list expected.place) on_b
 
 pub delivers-correct : (x : NodeSlot) (sent : SentFrame) (deviation : ℤ) → IsJudging x → HearsFrame sent x.hearing
     → entry_made x ≡ entry.Judged (owner_of x) verdict.Correct deviation

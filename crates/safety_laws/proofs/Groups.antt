@@ -1,6 +1,6 @@
 -- A node that holds a group goes on doing so, with the slot's owner put in or taken out.
-use Rattle.std.proofs.Common.{◌≡◌, ◌≢◌, ℕ, ◌<◌, ℤ, Bool, true, false, List, length, Option, Some}
-use Rattle.std.proofs.Common.{refl, ap, sym, ◌∙◌, ◌⊎◌, inl, inr, subst, arith}
+use Rattle.std.proofs.Common.{◌≡◌, ◌≢◌, ℕ, ◌<◌, ℤ, Bool, true, false, List, length, Option, Some, refl, ap, sym, ◌∙◌}
+use Rattle.std.proofs.Common.{◌⊎◌, inl, inr, subst, arith}
 use Rattle.std.specs.Prelude.{IsTrue}
 use Rattle.std.specs.Str.{bytes_eq}
 use Rattle.std.proofs.lemmas.Bool.{false≢true}
@@ -26,8 +26,8 @@ use Rattle.safety_laws.specs.Standing.{StandsBy, IsJudgedAs, sent_standing}
 use Rattle.safety_laws.specs.Turns.{IsAboutListed, IsJudging, HearsMembers, IsAtOwnSlot}
 use Rattle.safety_laws.proofs.GroupSets.{has_node-with_other, has_node-without_other, has_node-with_member}
 use Rattle.safety_laws.proofs.GroupSets.{has_node-without_none, with-member, without-with, with-without}
-use Rattle.safety_laws.proofs.GroupSets.{without-with_other, with-with}
-use Rattle.safety_laws.proofs.ListedSets.{AreNodes-with, AreNodes-without, has_node-put_in, has_node-taken_out}
+use Rattle.safety_laws.proofs.GroupSets.{without-with_other, with-with, AreNodes-with, AreNodes-without}
+use Rattle.safety_laws.proofs.GroupSets.{has_node-put_in, has_node-taken_out}
 use Rattle.safety_laws.proofs.Verdicts.{judged-correct, judged-incorrect, judged-tentative}
 
 -- The candidates of a node that holds a group.
@@ -35,9 +35,8 @@ use Rattle.safety_laws.proofs.Verdicts.{judged-correct, judged-incorrect, judged
 module _ (list : Medl) (valid : IsValid list) (group : List ℕ) (k owner : ℕ) (nodes : AreNodes list group)
     (node : k < length list.slots) (owned : owner < length list.slots) where
   -- the first is the group with the slot's owner
-  first-group : (a : Ack) → IsAboutListed list a → IsAboutOther group a
-      → (IsTrue (is_open a) → has_node group k ≡ true) → IsNotAbout owner a
-      → (candidates a k (held_with group a) owner).first ≡ with_node group owner
+  first-group : (a : Ack) → IsAboutListed list a → IsAboutOther group a → (IsTrue (is_open a) → has_node group k ≡ true)
+      → IsNotAbout owner a → (candidates a k (held_with group a) owner).first ≡ with_node group owner
   first-group ack.Closed listed other own apart = refl
   first-group ack.First listed other own apart =
       with-member list valid (with_node group owner) k (AreNodes-with list group owner valid nodes owned) node
@@ -84,46 +83,31 @@ module _ (list : Medl) (valid : IsValid list) (group : List ℕ) (k owner : ℕ)
       let few : p < most_nodes = omega (arith, listed, nodes-most list valid) in
       let held = with_node (with_node group y) owner in
       ap (λ (s : List ℕ). has_node s p) (sym (same_Some _ second is))
-      ∙ has_node-with_member (without_node held k) y p few
-      (has_node-without_other held k p other
+      ∙ has_node-with_member (without_node held k) y p few (has_node-without_other held k p other
       ∙ has_node-with_member (with_node group y) owner p few (has_node-with_member group y p few has))
 
 -- What a verdict makes of a group.
 
 settled-group : (list : Medl) (group : List ℕ) (a : Ack) → IsValid list → AreNodes list group → IsAboutListed list a
     → IsAboutOther group a → settled_members (held_with group a) a ≡ group
-settled-group list group ack.Closed valid nodes listed other = refl
-settled-group list group ack.First valid nodes listed other = refl
 settled-group list group (ack.Doubt y) valid nodes listed other = without-with list valid group y nodes listed other
+settled-group list group _ valid nodes listed other = refl
 
 answered-correct : (a : Ack) (owner : ℕ) → ack_answered a verdict.Correct owner ≡ ack.Closed
 answered-correct ack.Closed owner = refl
-answered-correct ack.First owner = refl
-answered-correct (ack.Doubt y) owner = refl
+answered-correct _ owner = refl
 
 answered-wrong : (a : Ack) (v : Verdict) (owner : ℕ) → is_accepted v ≡ false → ack_answered a v owner ≡ a
 answered-wrong ack.Closed v owner wrong = refl
-answered-wrong ack.First verdict.Null owner wrong = refl
-answered-wrong ack.First verdict.Invalid owner wrong = refl
-answered-wrong ack.First verdict.Incorrect owner wrong = refl
-answered-wrong ack.First verdict.Denied owner wrong = refl
-answered-wrong ack.First verdict.Correct owner wrong = cc
-answered-wrong ack.First verdict.Tentative owner wrong = cc
-answered-wrong (ack.Doubt y) verdict.Null owner wrong = refl
-answered-wrong (ack.Doubt y) verdict.Invalid owner wrong = refl
-answered-wrong (ack.Doubt y) verdict.Incorrect owner wrong = refl
-answered-wrong (ack.Doubt y) verdict.Denied owner wrong = refl
-answered-wrong (ack.Doubt y) verdict.Correct owner wrong = cc
-answered-wrong (ack.Doubt y) verdict.Tentative owner wrong = cc
+answered-wrong _ verdict.Correct owner wrong = cc
+answered-wrong _ verdict.Tentative owner wrong = cc
+answered-wrong _ _ owner wrong = refl
 
 taken_out-wrong : (members : List ℕ) (a : Ack) (v : Verdict) (owner : ℕ) → is_accepted v ≡ false
     → judged_members members a v owner ≡ without_node members owner
-taken_out-wrong members a verdict.Null owner wrong = refl
-taken_out-wrong members a verdict.Invalid owner wrong = refl
-taken_out-wrong members a verdict.Incorrect owner wrong = refl
-taken_out-wrong members a verdict.Denied owner wrong = refl
 taken_out-wrong members a verdict.Correct owner wrong = cc
 taken_out-wrong members a verdict.Tentative owner wrong = cc
+taken_out-wrong members a _ owner wrong = refl
 
 taken_out-held : (list : Medl) (group : List ℕ) (a : Ack) (owner : ℕ) → IsValid list → AreNodes list group
     → IsAboutListed list a → IsNotAbout owner a
@@ -134,9 +118,8 @@ taken_out-held list group (ack.Doubt y) owner valid nodes listed apart =
     without-with_other list valid group owner y nodes listed apart
 
 still_other : (group : List ℕ) (a : Ack) (owner : ℕ) → IsAboutOther group a → IsAboutOther (without_node group owner) a
-still_other group ack.Closed owner other = tt
-still_other group ack.First owner other = tt
 still_other group (ack.Doubt y) owner other = has_node-without_none group owner y other
+still_other group _ owner other = tt
 
 -- by the acknowledgement after the slot
 pub holds-by : (list : Medl) (k : ℕ) (group : List ℕ) (past : NodePast) (a : Ack) → past.ack ≡ a → AreNodes list group
@@ -157,8 +140,7 @@ module _ (x : NodeSlot) (group : List ℕ) (is : IsJudging x) (holds : HoldsGrou
 
   -- the frame of an owner that holds the same group is correct
   pub correct-group : (sender : ℕ) → IsNotAbout (owner_of x) x.past.ack
-      → HearsMembers x sender (with_node group (owner_of x))
-      → IsJudgedAs x verdict.Correct (x.hearing.deviation sender)
+      → HearsMembers x sender (with_node group (owner_of x)) → IsJudgedAs x verdict.Correct (x.hearing.deviation sender)
   correct-group sender apart hears =
       judged-correct x sender (with_node group (owner_of x)) is hears
       (sym (ap (λ (c : Candidates). c.first) candidates-held
@@ -171,8 +153,7 @@ module _ (x : NodeSlot) (group : List ℕ) (is : IsJudging x) (holds : HoldsGrou
   holds-correct deviation judged =
       let closed = judged.ack ∙ answered-correct x.past.ack (owner_of x) in (
         holds-by x.list x.node (with_node group (owner_of x)) (next_past x) ack.Closed closed
-            (AreNodes-with x.list group (owner_of x) is.valid holds.nodes is.owner)
-            (judged.members
+            (AreNodes-with x.list group (owner_of x) is.valid holds.nodes is.owner) (judged.members
             ∙ ap (λ (s : List ℕ). with_node (settled_members s x.past.ack) (owner_of x)) holds.members
             ∙ ap (λ (s : List ℕ). with_node s (owner_of x))
             (settled-group x.list group x.past.ack is.valid holds.nodes is.doubted holds.doubted))
@@ -203,13 +184,11 @@ module _ (x : NodeSlot) (group : List ℕ) (is : IsJudging x) (holds : HoldsGrou
   holds-tentative deviation judged first =
       let doubts = judged.ack ∙ ap (λ (a : Ack). ack_answered a verdict.Tentative (owner_of x)) first in (
         holds-by x.list x.node (without_node group (owner_of x)) (next_past x) (ack.Doubt (owner_of x)) doubts
-            (AreNodes-without x.list group (owner_of x) holds.nodes)
-            (judged.members
+            (AreNodes-without x.list group (owner_of x) holds.nodes) (judged.members
             ∙ ap (λ (s : List ℕ). with_node s (owner_of x)) (holds.members ∙ ap (held_with group) first)
             ∙ sym (with-without x.list is.valid group (owner_of x) holds.nodes is.owner))
             (λ opened. has_node-without_other group (owner_of x) x.node (λ eq. is.other (sym eq))
-            ∙ holds.own (ap is_open first))
-            (has_node-taken_out group (owner_of x)),
+            ∙ holds.own (ap is_open first)) (has_node-taken_out group (owner_of x)),
         doubts,
       )
 
@@ -219,22 +198,18 @@ module _ (x : NodeSlot) (group : List ℕ) (is : IsJudging x) (holds : HoldsGrou
       → (p ≢ x.node) ⊎ (x.past.ack ≡ ack.Closed) → has_node members p ≡ false → HearsMembers x sender members
       → IsJudgedAs x verdict.Incorrect (x.hearing.deviation sender)
   incorrect-group sender p members listed has other lacks hears =
-      judged-incorrect x sender members is hears
-      (λ same. false≢true (sym lacks ∙ ap (λ (s : List ℕ). has_node s p) same
+      judged-incorrect x sender members is hears (λ same. false≢true (sym lacks ∙ ap (λ (s : List ℕ). has_node s p) same
       ∙ ap (λ (c : Candidates). has_node c.first p) candidates-held
       ∙ in_first x.list is.valid group x.node (owner_of x) holds.nodes is.node is.owner x.past.ack p holds.doubted
-      listed has))
-      (λ same. false≢true (sym lacks
+      listed has)) (λ same. false≢true (sym lacks
       ∙ in_second x.list is.valid group x.node (owner_of x) holds.nodes is.node is.owner x.past.ack p members listed has
       other (ap (λ (c : Candidates). c.second) (sym candidates-held) ∙ same)))
 
   -- One that lacks the node itself, which waits for its first successor, is incorrect or tentative.
   pub lacked-group : (sender : ℕ) (members : List ℕ) → x.past.ack ≡ ack.First → has_node members x.node ≡ false
-      → HearsMembers x sender members
-      → IsJudgedAs x verdict.Incorrect (x.hearing.deviation sender)
+      → HearsMembers x sender members → IsJudgedAs x verdict.Incorrect (x.hearing.deviation sender)
       ⊎ IsJudgedAs x verdict.Tentative (x.hearing.deviation sender)
-  lacked-group sender members first lacks hears =
-      by (bytes_eq members held_out) refl
+  lacked-group sender members first lacks hears = by (bytes_eq members held_out) refl
     where
       held_out : List ℕ
       held_out = without_node (with_node x.past.members (owner_of x)) x.node
@@ -249,12 +224,10 @@ module _ (x : NodeSlot) (group : List ℕ) (is : IsJudging x) (holds : HoldsGrou
       by : (same : Bool) → bytes_eq members held_out ≡ same
           → IsJudgedAs x verdict.Incorrect (x.hearing.deviation sender)
           ⊎ IsJudgedAs x verdict.Tentative (x.hearing.deviation sender)
-      by true same =
-          inr (judged-tentative x sender members is hears first ((bytes_eq-Decides members held_out).0 same))
+      by true same = inr (judged-tentative x sender members is hears first ((bytes_eq-Decides members held_out).0 same))
       by false other =
-          inl (judged-incorrect x sender members is hears not_first
-          (λ some. false≢true (sym other ∙ (bytes_eq-Decides members held_out).1
-          (sym (same_Some held_out members
+          inl (judged-incorrect x sender members is hears not_first (λ some. false≢true (sym other
+          ∙ (bytes_eq-Decides members held_out).1 (sym (same_Some held_out members
           (sym (ap (λ (a : Ack). (candidates a x.node x.past.members (owner_of x)).second) first) ∙ some))))))
 
 -- A node that sends holds the group with itself, and waits for its first successor.

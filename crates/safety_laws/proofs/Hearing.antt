@@ -13,8 +13,7 @@ use Rattle.ttp_world.specs.Reception.{Hearing}
 use Rattle.ttp_world.specs.Script.{has_send_fault, has_receive_fault, flipped_bits}
 use Rattle.ttp_world.specs.World.{BegunSlot, hearing_in}
 use Rattle.safety_laws.specs.Heard.{is_frameless, IsUnflipped, signal_as_sent, HearsFrame, OnBoth, OnA, OnB}
-use Rattle.safety_laws.specs.Heard.{HearsNoFrame}
-use Rattle.safety_laws.specs.Heard.{HearsSilence}
+use Rattle.safety_laws.specs.Heard.{HearsNoFrame, HearsSilence}
 
 -- One channel.
 
@@ -29,8 +28,7 @@ one_combined : (script : Script) (slot : ℕ) (c : Channel) (sent : SentFrame) (
 one_combined script slot c sent true = refl
 one_combined script slot c sent false = refl
 
-heard-comes : (script : Script) (slot r : ℕ) (c : Channel) (sent : SentFrame)
-    → heard script slot r c (sent ∷ [])
+heard-comes : (script : Script) (slot r : ℕ) (c : Channel) (sent : SentFrame) → heard script slot r c (sent ∷ [])
     ≡ comes (has_send_fault script fault.Silence sent.sender c slot)
     (has_send_fault script fault.Noise sent.sender c slot) (has_receive_fault script fault.Silence r c slot)
     (has_receive_fault script fault.Noise r c slot)
@@ -46,30 +44,23 @@ comes-uncovered : (silenced noisy deaf disturbed : Bool) (sender : ℕ) (bytes :
     → comes silenced noisy deaf disturbed (Bits sender bytes) ≡ Bits sender bytes
 unfolding comes
 comes-uncovered false false false false sender bytes clear = refl
-comes-uncovered true noisy deaf disturbed sender bytes clear = absurd (false≢true (sym clear))
-comes-uncovered false true deaf disturbed sender bytes clear = absurd (false≢true (sym clear))
-comes-uncovered false false true disturbed sender bytes clear = absurd (false≢true (sym clear))
-comes-uncovered false false false true sender bytes clear = absurd (false≢true (sym clear))
+comes-uncovered _ _ _ _ sender bytes clear = absurd (false≢true (sym clear))
 
 comes-covered : (silenced noisy deaf disturbed : Bool) (sender : ℕ) (bytes : List ℕ)
     → ((silenced || noisy) || (deaf || disturbed)) ≡ true
     → is_frameless (comes silenced noisy deaf disturbed (Bits sender bytes)) ≡ true
 unfolding comes
 comes-covered silenced noisy true disturbed sender bytes covered = refl
-comes-covered true noisy false true sender bytes covered = refl
-comes-covered true noisy false false sender bytes covered = refl
-comes-covered false true false true sender bytes covered = refl
-comes-covered false true false false sender bytes covered = refl
-comes-covered false false false true sender bytes covered = refl
 comes-covered false false false false sender bytes covered = absurd (false≢true covered)
+comes-covered _ _ _ true sender bytes covered = refl
+comes-covered _ _ _ _ sender bytes covered = refl
 
 -- a receiver that is not covered hears the frame as it was sent
 pub heard-uncovered : (script : Script) (slot r : ℕ) (c : Channel) (sent : SentFrame)
     → flipped_bits script sent.sender c slot ≡ [] → is_covered script sent.sender r slot c ≡ false
     → heard script slot r c (sent ∷ []) ≡ signal_as_sent sent
 heard-uncovered script slot r c sent unflipped clear =
-    heard-comes script slot r c sent
-    ∙ ap (λ bits. comes (has_send_fault script fault.Silence sent.sender c slot)
+    heard-comes script slot r c sent ∙ ap (λ bits. comes (has_send_fault script fault.Silence sent.sender c slot)
     (has_send_fault script fault.Noise sent.sender c slot) (has_receive_fault script fault.Silence r c slot)
     (has_receive_fault script fault.Noise r c slot) (Bits sent.sender (flip_bits sent.bytes bits))) unflipped
     ∙ comes-uncovered _ _ _ _ sent.sender sent.bytes clear
@@ -136,4 +127,12 @@ pub HearsSilence-none : (s : BegunSlot) (frames : List SentFrame) (r : ℕ) → 
 HearsSilence-none s frames r is = record {
   a = ap (heard s.script s.number r channel.A) is ∙ heard-none s.script s.number r channel.A;
   b = ap (heard s.script s.number r channel.B) is ∙ heard-none s.script s.number r channel.B;
+}
+
+-- Where nothing comes no frame comes.
+
+pub frameless-silent : (h : Hearing) → HearsSilence h → HearsNoFrame h
+frameless-silent h silent = record {
+  a = ap (λ (s : Signal). is_frameless s) silent.a;
+  b = ap (λ (s : Signal). is_frameless s) silent.b;
 }

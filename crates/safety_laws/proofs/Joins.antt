@@ -27,7 +27,7 @@ use Rattle.ttp_frame.proofs.FlippedFrames.{joinable-implicit}
 use Rattle.ttp_frame.proofs.Undisturbed.{FitsBytes, HavePlaces-AreNodes, carried-frame, is_formed-frame}
 use Rattle.safety_laws.specs.Heard.{is_frameless, HearsFrame, OnBoth, OnA, OnB, HearsNoFrame}
 use Rattle.safety_laws.specs.SlotFrames.{IsSlotFrame}
-use Rattle.safety_laws.proofs.ListedSets.{AreNodes-with}
+use Rattle.safety_laws.proofs.GroupSets.{AreNodes-with}
 use Rattle.safety_laws.proofs.Views.{is_expected_form-own}
 
 -- the set of one node of the list
@@ -88,8 +88,7 @@ module _ (list : Medl) (place : Place) (members : List ℕ) (valid : IsValid lis
       ap (joinable_cstate list bytes)
       (ap (carried (member_width list)) is.same ∙ carried-place (expected_header list place) is.payload explicit)
       ∙ joined-listed (is_joinable_state list c) (is_cold_start list bytes c) (is_listed_explicit list bytes c) c
-      is_joinable_state-place
-      (and_from (is_explicit (expected_header list place)) _ explicit
+      is_joinable_state-place (and_from (is_explicit (expected_header list place)) _ explicit
       (is_expected_form-own list place (record { first = members; second = None }) members bytes is))
     where
       joined-listed : (state cold listed : Bool) (c : CState) → state ≡ true → listed ≡ true
@@ -120,8 +119,7 @@ joinable-cold_start list k valid node may =
     let at = start-place_with list k valid node in
     ap (joinable_cstate list bytes) (carried-place list (start_place k) (k ∷ []) valid at cold_start_header [] refl)
     ∙ joined-cold_start (is_joinable_state list c) (is_cold_start list bytes c) (is_listed_explicit list bytes c) c
-    (is_joinable_state-place list (start_place k) (k ∷ []) valid at)
-    (and_from _ (may_start list k)
+    (is_joinable_state-place list (start_place k) (k ∷ []) valid at) (and_from _ (may_start list k)
     (is_formed-frame (member_width list) cold_start_header c [] list.schedule) may)
 
 -- No node joins on a frame that carries no C-state.
@@ -152,8 +150,7 @@ frameless-join list deviation (Bits sender bytes) none = cc
 
 -- it joins on a frame on which it can
 pub listening_entry-joins : (list : Medl) (h : Hearing) (sent : SentFrame) (c : CState) → HearsFrame sent h
-    → joinable list sent.bytes ≡ Some c
-    → listening_entry list h ≡ entry.Joined c.slot c (h.deviation sent.sender)
+    → joinable list sent.bytes ≡ Some c → listening_entry list h ≡ entry.Joined c.slot c (h.deviation sent.sender)
 unfolding listening_by
 listening_entry-joins list h sent c (OnBoth a b) can =
     (λ i. listening_by (channel_join list h.deviation (a i)) (channel_join list h.deviation (b i)))

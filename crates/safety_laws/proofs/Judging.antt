@@ -36,34 +36,22 @@ view_of_bits-seen : (list : Medl) (expected : Expected) (bytes : List ℕ) (devi
     → is_seen (view_of_bits list expected bytes deviation) ≡ true
 view_of_bits-seen list expected bytes deviation =
     cond_both (is_within_window list deviation && is_expected_form list expected bytes) _ view.Bad
-    (λ v. is_seen v ≡ true)
-    (λ formed. seen_frame (fits_members list expected bytes expected.candidates.first)
-    (fits_second list expected bytes))
-    (λ other. refl)
+    (λ v. is_seen v ≡ true) (λ formed. seen_frame (fits_members list expected bytes expected.candidates.first)
+    (fits_second list expected bytes)) (λ other. refl)
 
 better-same : (v : ChannelView) → better_view v v ≡ v
 better-same view.First = refl
-better-same view.Second = refl
-better-same view.Other = refl
-better-same view.Bad = refl
-better-same view.Silent = refl
+better-same _ = refl
 
 -- a view of bits is taken where the other channel is silent or noisy
 
 taken_over_silence : (v : ChannelView) → (better_view v view.Silent ≡ v) × (better_view view.Silent v ≡ v)
 taken_over_silence view.First = (refl, refl)
-taken_over_silence view.Second = (refl, refl)
-taken_over_silence view.Other = (refl, refl)
-taken_over_silence view.Bad = (refl, refl)
-taken_over_silence view.Silent = (refl, refl)
+taken_over_silence _ = (refl, refl)
 
-taken_over_noise : (v : ChannelView) → is_seen v ≡ true
-    → (better_view v view.Bad ≡ v) × (better_view view.Bad v ≡ v)
-taken_over_noise view.First seen = (refl, refl)
-taken_over_noise view.Second seen = (refl, refl)
-taken_over_noise view.Other seen = (refl, refl)
-taken_over_noise view.Bad seen = (refl, refl)
+taken_over_noise : (v : ChannelView) → is_seen v ≡ true → (better_view v view.Bad ≡ v) × (better_view view.Bad v ≡ v)
 taken_over_noise view.Silent seen = cc
+taken_over_noise _ seen = (refl, refl)
 
 either_deviation : (from_a : Bool) (d : ℤ) → entry_deviation from_a (Some d) (Some d) ≡ d
 either_deviation true d = refl
@@ -76,15 +64,13 @@ module _ (list : Medl) (expected : Expected) (deviation : ℕ → ℤ) (owner : 
   judged_as on_a on_b =
       let view_a = view_of list expected deviation on_a in
       let view_b = view_of list expected deviation on_b in
-      verdict_entry owner (verdict_of view_a view_b a)
-      (entry_deviation (is_taken_from_a view_a view_b) (heard_deviation deviation on_a)
-      (heard_deviation deviation on_b))
+      verdict_entry owner (verdict_of view_a view_b a) (entry_deviation (is_taken_from_a view_a view_b)
+      (heard_deviation deviation on_a) (heard_deviation deviation on_b))
 
   judged_by_view : ChannelView → ℤ → Entry
   judged_by_view v d = verdict_entry owner (verdict_of_view v a) d
 
-  judged-both : (sender : ℕ) (bytes : List ℕ)
-      → judged_as (Bits sender bytes) (Bits sender bytes)
+  judged-both : (sender : ℕ) (bytes : List ℕ) → judged_as (Bits sender bytes) (Bits sender bytes)
       ≡ judged_by_view (view_of_bits list expected bytes (deviation sender)) (deviation sender)
   unfolding judged_as judged_by_view
   judged-both sender bytes =
@@ -92,40 +78,28 @@ module _ (list : Medl) (expected : Expected) (deviation : ℕ → ℤ) (owner : 
       λ i. verdict_entry owner (verdict_of_view (better-same v i) a)
       (either_deviation (is_taken_from_a v v) (deviation sender) i)
 
-  judged-a : (sender : ℕ) (bytes : List ℕ) (other : Signal) → IsTrue (is_frameless other)
-      → judged_as (Bits sender bytes) other
-      ≡ judged_by_view (view_of_bits list expected bytes (deviation sender)) (deviation sender)
+  judged-one : (sender : ℕ) (bytes : List ℕ) (other : Signal) → IsTrue (is_frameless other) →
+      let made = judged_by_view (view_of_bits list expected bytes (deviation sender)) (deviation sender) in
+      (judged_as (Bits sender bytes) other ≡ made) × (judged_as other (Bits sender bytes) ≡ made)
   unfolding judged_as judged_by_view
-  judged-a sender bytes Silence none =
-      let v = view_of_bits list expected bytes (deviation sender) in
-      ap (λ w. verdict_entry owner (verdict_of_view w a) (deviation sender)) (taken_over_silence v).0
-  judged-a sender bytes Noise none =
-      let v = view_of_bits list expected bytes (deviation sender) in
-      ap (λ w. verdict_entry owner (verdict_of_view w a) (deviation sender))
-      (taken_over_noise v (view_of_bits-seen list expected bytes (deviation sender))).0
-  judged-a sender bytes (Bits p bs) none = cc
+  judged-one sender bytes Silence none =
+      let taken = taken_over_silence (view_of_bits list expected bytes (deviation sender)) in (
+        ap (λ w. verdict_entry owner (verdict_of_view w a) (deviation sender)) taken.0,
+        ap (λ w. verdict_entry owner (verdict_of_view w a) (deviation sender)) taken.1,
+      )
+  judged-one sender bytes Noise none =
+      let taken = taken_over_noise _ (view_of_bits-seen list expected bytes (deviation sender)) in (
+        ap (λ w. verdict_entry owner (verdict_of_view w a) (deviation sender)) taken.0,
+        ap (λ w. verdict_entry owner (verdict_of_view w a) (deviation sender)) taken.1,
+      )
+  judged-one sender bytes (Bits p bs) none = cc
 
-  judged-b : (sender : ℕ) (bytes : List ℕ) (other : Signal) → IsTrue (is_frameless other)
-      → judged_as other (Bits sender bytes)
-      ≡ judged_by_view (view_of_bits list expected bytes (deviation sender)) (deviation sender)
-  unfolding judged_as judged_by_view
-  judged-b sender bytes Silence none =
-      let v = view_of_bits list expected bytes (deviation sender) in
-      ap (λ w. verdict_entry owner (verdict_of_view w a) (deviation sender)) (taken_over_silence v).1
-  judged-b sender bytes Noise none =
-      let v = view_of_bits list expected bytes (deviation sender) in
-      ap (λ w. verdict_entry owner (verdict_of_view w a) (deviation sender))
-      (taken_over_noise v (view_of_bits-seen list expected bytes (deviation sender))).1
-  judged-b sender bytes (Bits p bs) none = cc
-
-  judged-frame : (h : Hearing) (sent : SentFrame) → HearsFrame sent h
-      → judged_as h.a h.b
+  judged-frame : (h : Hearing) (sent : SentFrame) → HearsFrame sent h → judged_as h.a h.b
       ≡ judged_by_view (view_of_bits list expected sent.bytes (deviation sent.sender)) (deviation sent.sender)
   judged-frame h sent (OnBoth on_a on_b) = (λ i. judged_as (on_a i) (on_b i)) ∙ judged-both sent.sender sent.bytes
   judged-frame h sent (OnA on_a none) =
-      ap (λ (s : Signal). judged_as s h.b) on_a ∙ judged-a sent.sender sent.bytes h.b none
-  judged-frame h sent (OnB none on_b) =
-      ap (judged_as h.a) on_b ∙ judged-b sent.sender sent.bytes h.a none
+      ap (λ (s : Signal). judged_as s h.b) on_a ∙ (judged-one sent.sender sent.bytes h.b none).0
+  judged-frame h sent (OnB none on_b) = ap (judged_as h.a) on_b ∙ (judged-one sent.sender sent.bytes h.a none).1
 
   judged-none : (on_a on_b : Signal) → IsTrue (is_frameless on_a) → IsTrue (is_frameless on_b)
       → (judged_as on_a on_b ≡ entry.Judged owner verdict.Null (pos 0))
@@ -135,19 +109,16 @@ module _ (list : Medl) (expected : Expected) (deviation : ℕ → ℤ) (owner : 
   judged-none Silence Noise none none_too = inr refl
   judged-none Noise Silence none none_too = inr refl
   judged-none Noise Noise none none_too = inr refl
-  judged-none Silence (Bits p bs) none none_too = cc
-  judged-none Noise (Bits p bs) none none_too = cc
   judged-none (Bits p bs) other none none_too = cc
+  judged-none _ (Bits p bs) none none_too = cc
 
   judged-silence : judged_as Silence Silence ≡ entry.Judged owner verdict.Null (pos 0)
   unfolding judged_as
   judged-silence = refl
 
 -- A frame that comes is judged by its view, with the deviation that it has.
-pub judging_entry-frame : (list : Medl) (k : ℕ) (past : NodePast) (h : Hearing) (sent : SentFrame)
-    → HearsFrame sent h
-    → judging_entry list k past h
-    ≡ verdict_entry (coming_place list past).slot
+pub judging_entry-frame : (list : Medl) (k : ℕ) (past : NodePast) (h : Hearing) (sent : SentFrame) → HearsFrame sent h
+    → judging_entry list k past h ≡ verdict_entry (coming_place list past).slot
     (verdict_of_view (view_of_bits list (expected_of list k past) sent.bytes (h.deviation sent.sender)) past.ack)
     (h.deviation sent.sender)
 unfolding judged_as judged_by_view

@@ -17,7 +17,7 @@ use Rattle.precision.specs.Spread.{spread}
 use Rattle.precision.specs.Together.{IsIn, clock_at, measured}
 use Rattle.fault_plan.specs.Fates.{is_sound_after}
 use Rattle.fault_plan.specs.Kept.{KeepsByPlan}
-use Rattle.fault_plan.specs.Plan.{plan_of}
+use Rattle.fault_plan.specs.Plan.{Plan, plan_of}
 use Rattle.fault_plan.proofs.KeptPlan.{kept-plan}
 use Rattle.safety_laws.specs.NotedByPlan.{IsSoundIn, GoesOnByPlan, IsTight}
 use Rattle.safety_laws.specs.ByFate.{IsSoundAt}
@@ -27,8 +27,7 @@ use Rattle.safety_laws.specs.ByPlan.{IsByPlan}
 use Rattle.safety_laws.specs.SameFrames.{AcceptsAlikeSince, StandsAlikeSince}
 use Rattle.safety_laws.proofs.Bounds.{tight-clocks, tight-deviations}
 use Rattle.safety_laws.proofs.SafeByFate.{safe-after, faulty-leave, correct-sound as correct-at}
-use Rattle.safety_laws.proofs.Accepted.{alike-run}
-use Rattle.safety_laws.proofs.Stints.{stands-run}
+use Rattle.safety_laws.proofs.Accepted.{alike-run, stands-run}
 use Rattle.safety_laws.proofs.Together.{KeepsClocks, clocks-hold, run-by_plan}
 
 module _ (list : Medl) (script : Script) (slot : ℕ) (valid : IsValid list) (script_valid : IsValidScript list script)
@@ -36,7 +35,10 @@ module _ (list : Medl) (script : Script) (slot : ℕ) (valid : IsValid list) (sc
   pub by_plan : KeepsByPlan list script slot
   by_plan = kept-plan list script slot valid kept
 
-  begun : slot < script.slots → IsBegun list script by_plan.start (plan_of list script by_plan.start)
+  abbrev plan : Plan
+  plan = plan_of list script by_plan.start
+
+  begun : slot < script.slots → IsBegun list script by_plan.start plan
   begun inside = record {
     planned = record {
       valid = valid;
@@ -45,29 +47,28 @@ module _ (list : Medl) (script : Script) (slot : ℕ) (valid : IsValid list) (sc
       arms = λ k turn node lost. by_plan.arms k (by_plan.start.slot + suc turn);
     };
     alone = by_plan.alone;
-    heard = λ k node other on.
-        by_plan.heard k (let from = by_plan.from in omega (arith, inside, from)) node other on;
+    heard = λ k node other on. by_plan.heard k (let from = by_plan.from in omega (arith, inside, from)) node other on;
   }
 
-  clocks : KeepsClocks list script by_plan.start (plan_of list script by_plan.start)
-  clocks = clocks-hold list script by_plan.start (plan_of list script by_plan.start) valid by_plan.follows
+  clocks : KeepsClocks list script by_plan.start plan
+  clocks = clocks-hold list script by_plan.start plan valid by_plan.follows
 
   -- after the slot that came last
   module _ (numbers : Numbers) (legal : IsLegal list script numbers) (after : slot < length numbers)
       (within : length numbers ≤ script.slots) where
-    count : length numbers ≡ suc (by_plan.start.slot + (length numbers - suc slot))
+    abbrev turn : ℕ
+    turn = length numbers - suc slot
+
+    count : length numbers ≡ suc (by_plan.start.slot + turn)
     count = let from = by_plan.from in omega (arith, after, from)
 
-    run : IsByPlan list script by_plan.start (plan_of list script by_plan.start) (length numbers - suc slot)
-        (world list script numbers)
+    run : IsByPlan list script by_plan.start plan turn (world list script numbers)
     run =
         let number = count in
-        run-by_plan list script by_plan.start (plan_of list script by_plan.start)
-        (begun (omega (arith, after, within))) clocks (length numbers - suc slot) numbers number
-        (omega (arith, number, within)) legal
+        run-by_plan list script by_plan.start plan (begun (omega (arith, after, within)))
+        clocks turn numbers number (omega (arith, number, within)) legal
 
-    pub kept-stands : StandsAfter list script by_plan.start (plan_of list script by_plan.start)
-        (length numbers - suc slot) (world list script numbers)
+    pub kept-stands : StandsAfter list script by_plan.start plan turn (world list script numbers)
     kept-stands =
         let number = count in
         record {
@@ -81,23 +82,19 @@ module _ (list : Medl) (script : Script) (slot : ℕ) (valid : IsValid list) (sc
         }
 
     pub kept-safe : IsSafe list script (world list script numbers)
-    kept-safe =
-        safe-after list script by_plan.start (plan_of list script by_plan.start) (length numbers - suc slot)
-        (world list script numbers) kept-stands
+    kept-safe = safe-after kept-stands
 
     pub kept-leave : FaultyLeave list script (world list script numbers)
-    kept-leave =
-        faulty-leave list script by_plan.start (plan_of list script by_plan.start) (length numbers - suc slot)
-        (world list script numbers) kept-stands
+    kept-leave = faulty-leave kept-stands
 
     -- the correct nodes are the sound ones
     correct-sound : (k : ℕ) → IsIn list (is_correct_after list script (newest_slot (world list script numbers))) k
-        → is_sound_after (plan_of list script by_plan.start) (length numbers - suc slot) k ≡ true
+        → is_sound_after plan turn k ≡ true
     correct-sound k of_k =
         let number = count in
-        let newest : newest_slot (world list script numbers) ≡ by_plan.start.slot + (length numbers - suc slot) =
+        let newest : newest_slot (world list script numbers) ≡ by_plan.start.slot + turn =
         let all = length-world list script numbers in omega (arith, number, all) in
-        by_plan.faults.sound (length numbers - suc slot) k of_k.0 (omega (arith, number, within))
+        by_plan.faults.sound turn k of_k.0 (omega (arith, number, within))
         ∙ ap (λ s. is_correct_after list script s k) (sym newest) ∙ of_k.1
 
     pub kept-alike : AcceptsAlikeSince list script
@@ -106,24 +103,20 @@ module _ (list : Medl) (script : Script) (slot : ℕ) (valid : IsValid list) (sc
         let number = count in
         subst (λ s. AcceptsAlikeSince list script
         (is_correct_after list script (newest_slot (world list script numbers))) s (world list script numbers))
-        by_plan.from
-        (alike-run list script by_plan.start (plan_of list script by_plan.start) (begun (omega (arith, after, within)))
-        clocks refl (is_correct_after list script (newest_slot (world list script numbers))) (length numbers - suc slot)
-        numbers correct-sound number (omega (arith, number, within)) legal)
+        by_plan.from (alike-run (begun (omega (arith, after, within))) clocks refl
+        (is_correct_after list script (newest_slot (world list script numbers))) turn numbers
+        correct-sound number (omega (arith, number, within)) legal)
 
     pub kept-stands_alike : StandsAlikeSince list
         (is_correct_after list script (newest_slot (world list script numbers))) slot (world list script numbers)
     kept-stands_alike =
         let number = count in
         subst (λ s. StandsAlikeSince list (is_correct_after list script (newest_slot (world list script numbers))) s
-        (world list script numbers)) by_plan.from
-        (stands-run list script by_plan.start (plan_of list script by_plan.start)
-        (begun (omega (arith, after, within))) clocks refl
-        (is_correct_after list script (newest_slot (world list script numbers))) (length numbers - suc slot) numbers
+        (world list script numbers)) by_plan.from (stands-run (begun (omega (arith, after, within))) clocks refl
+        (is_correct_after list script (newest_slot (world list script numbers))) turn numbers
         correct-sound number (omega (arith, number, within)) legal)
 
-    pub kept-places : (j k : ℕ)
-        → IsIn list (is_correct_after list script (newest_slot (world list script numbers))) j
+    pub kept-places : (j k : ℕ) → IsIn list (is_correct_after list script (newest_slot (world list script numbers))) j
         → IsIn list (is_correct_after list script (newest_slot (world list script numbers))) k
         → place_of list j (diary_of (world list script numbers) j)
         ≡ place_of list k (diary_of (world list script numbers) k)
@@ -133,23 +126,22 @@ module _ (list : Medl) (script : Script) (slot : ℕ) (valid : IsValid list) (sc
       where
         safe-nodes : (k : ℕ) → k < length list.slots
             → is_correct_after list script (newest_slot (world list script numbers)) k ≡ true
-            → IsSoundAt list (plan_of list script by_plan.start) (length numbers - suc slot) k
-            (node_past list script (world list script numbers) k)
-        safe-nodes =
-            correct-at list script by_plan.start (plan_of list script by_plan.start) (length numbers - suc slot)
-            (world list script numbers) kept-stands
+            → IsSoundAt list plan turn k (node_past list script (world list script numbers) k)
+        safe-nodes = correct-at kept-stands
 
   -- at the beginning of the slot that comes
   module _ (numbers : Numbers) (legal : IsLegal list script numbers) (after : slot < length numbers)
       (within : length numbers < script.slots) where
-    next_number : by_plan.start.slot + suc (length numbers - suc slot) ≡ length numbers
+    abbrev past_turn : ℕ
+    past_turn = length numbers - suc slot
+
+    next_number : by_plan.start.slot + suc past_turn ≡ length numbers
     next_number = let from = by_plan.from in omega (arith, after, from)
 
-    inside : by_plan.start.slot + suc (length numbers - suc slot) < script.slots
+    inside : by_plan.start.slot + suc past_turn < script.slots
     inside = let number = next_number in omega (arith, number, within)
 
-    goes : GoesOnByPlan list script by_plan.start (plan_of list script by_plan.start) (length numbers - suc slot)
-        (world list script numbers)
+    goes : GoesOnByPlan list script by_plan.start plan past_turn (world list script numbers)
     goes = record {
       valid = valid;
       follows = by_plan.follows;
@@ -158,14 +150,14 @@ module _ (list : Medl) (script : Script) (slot : ℕ) (valid : IsValid list) (sc
     }
 
     -- no node entered
-    tight : IsTight (plan_of list script by_plan.start) (suc (length numbers - suc slot))
-    tight turn k from entered = absurd (false≢true entered)
+    tight : IsTight plan (suc past_turn)
+    tight later k from entered = absurd (false≢true entered)
 
     sound-in : (k : ℕ) → k < length list.slots → is_correct_after list script (length numbers) k ≡ true
-        → IsSoundIn list (plan_of list script by_plan.start) (suc (length numbers - suc slot)) k
+        → IsSoundIn list plan (suc past_turn) k
     sound-in k node correct = (
       node,
-      by_plan.faults.sound (suc (length numbers - suc slot)) k node inside
+      by_plan.faults.sound (suc past_turn) k node inside
           ∙ subst (λ s. is_correct_after list script s k ≡ true) (sym next_number) correct,
     )
 

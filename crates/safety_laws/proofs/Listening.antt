@@ -38,8 +38,7 @@ pub listens-armed : (x : NodeSlot) → x.past.phase ≡ phase.Left → x.armed �
 listens-armed x left armed =
     ap (λ (p : Phase). phase_act p x.list x.node x.on x.armed x.past) left ∙ ap (λ b. cond b Listen Gone) armed
 
-pub listens-early : (x : NodeSlot) → x.past.phase ≡ phase.Listening → x.past.silent_slots < x.past.limit
-    → IsListening x
+pub listens-early : (x : NodeSlot) → x.past.phase ≡ phase.Listening → x.past.silent_slots < x.past.limit → IsListening x
 listens-early x listens early =
     ap (λ (p : Phase). phase_act p x.list x.node x.on x.armed x.past) listens
     ∙ ap (λ b. cond (may_start x.list x.node && b) Start Listen) (lt-leb x.past.limit x.past.silent_slots early)
@@ -49,23 +48,14 @@ listens-early x listens early =
 
 left-waited : (list : Medl) (k : ℕ) (diary : Diary) (surroundings : Surroundings) → phase_of diary ≡ phase.Left
     → (silent_slots_of diary surroundings ≡ 0) × (limit_of list k diary ≡ 2 * length list.slots + k)
-left-waited list k [] surroundings left = cc
 left-waited list k (entry.Left why peer ∷ diary) surroundings left = (refl, refl)
 left-waited list k (entry.Gone ∷ diary) surroundings left = (refl, refl)
-left-waited list k (entry.Off ∷ diary) surroundings left = cc
-left-waited list k (entry.Waited ∷ diary) surroundings left = cc
-left-waited list k (entry.Retried ∷ diary) surroundings left = cc
-left-waited list k (entry.Started ∷ diary) surroundings left = cc
-left-waited list k (entry.Sent message ∷ diary) surroundings left = cc
-left-waited list k (entry.Joined sender c deviation ∷ diary) surroundings left = cc
-left-waited list k (entry.Judged sender v deviation ∷ diary) surroundings left = cc
+left-waited list k _ surroundings left = cc
 
 pub left-world : (list : Medl) (script : Script) (history : History) (k : ℕ)
-    → (node_past list script history k).phase ≡ phase.Left
-    → ((node_past list script history k).silent_slots ≡ 0)
+    → (node_past list script history k).phase ≡ phase.Left → ((node_past list script history k).silent_slots ≡ 0)
     × ((node_past list script history k).limit ≡ 2 * length list.slots + k)
-left-world list script history k left =
-    left-waited list k (diary_of history k) (surroundings_of script history k) left
+left-world list script history k left = left-waited list k (diary_of history k) (surroundings_of script history k) left
 
 -- What comes is silence on both channels or not.
 
@@ -89,8 +79,7 @@ pub frames_made-listening : (x : NodeSlot) → IsListening x → frames_made x �
 frames_made-listening x listens = ap (node_frames x.list x.node x.past x.chosen) listens
 
 entry_made-listening : (x : NodeSlot) → IsListening x → listening_entry x.list x.hearing ≡ entry_made x
-entry_made-listening x listens =
-    ap (λ (a : Act). new_entry x.list x.node x.past x.chosen x.hearing a) (sym listens)
+entry_made-listening x listens = ap (λ (a : Act). new_entry x.list x.node x.past x.chosen x.hearing a) (sym listens)
 
 pub waited-by_entry : (x : NodeSlot) → IsListening x → listening_entry x.list x.hearing ≡ entry.Waited → HasWaited x
 waited-by_entry x listens waits =
@@ -114,8 +103,7 @@ waited-passing x sender listens hears =
 pub notes-begun : (list : Medl) (place : Place) (e : Entry) (notes : List ℤ)
     → notes_in list place e ++ cond ((place.slot == 0) || true) [] notes ≡ notes_in list place e
 notes-begun list place e notes =
-    ap (λ b. notes_in list place e ++ cond b [] notes) (or-true (place.slot == 0))
-    ∙ append-nil (notes_in list place e)
+    ap (λ b. notes_in list place e ++ cond b [] notes) (or-true (place.slot == 0)) ∙ append-nil (notes_in list place e)
 
 stands-joined : (list : Medl) (k : ℕ) (place : Place) (members : List ℕ) (deviation : ℤ) (past : NodePast)
     (s : SlotSurroundings) → AreNodes list members →
@@ -143,5 +131,4 @@ joined-place x sender place members listens hears =
     subst (λ (made : Entry). StandsBy (past_after x.list x.node x.past made x.around) e
     (joined_standing x.list place members deviation))
     (sym (listening_entry-joins x.list x.hearing _ (cstate_at place members) hears.comes hears.can)
-    ∙ entry_made-listening x listens)
-    (stands-joined x.list x.node place members deviation x.past x.around hears.nodes)
+    ∙ entry_made-listening x listens) (stands-joined x.list x.node place members deviation x.past x.around hears.nodes)

@@ -1,27 +1,199 @@
--- A lost node in another's slot, and a node that is lost in one.
-use Rattle.std.proofs.Common.{◌≡◌, ◌≢◌, ℕ, suc, ◌+◌, ◌*◌, ◌<◌, ◌≤◌, ℤ, pos, false, length, refl, ap, sym}
-use Rattle.std.proofs.Common.{subst, ◌∙◌, ◌⊎◌, inl, inr, arith}
-use Rattle.std.proofs.lemmas.Bool.{false_from_ne_true}
-use Rattle.ttp_base.specs.NodeSet.{has_node}
+-- What a verdict makes of a node's counts, by its ledger.
+use Rattle.std.proofs.Common.{◌≡◌, ◌≢◌, ℕ, suc, ◌+◌, ◌*◌, ◌<◌, ◌≤◌, ℤ, pos, false, length, refl, ap, sym, subst, ◌∙◌}
+use Rattle.std.proofs.Common.{◌⊎◌, inl, inr, arith, Bool, true, List, cond}
+use Rattle.std.proofs.lemmas.Bool.{false_from_ne_true, false≢true}
+use Rattle.ttp_base.specs.NodeSet.{has_node, with_node, without_node}
 use Rattle.ttp_world.specs.declared.node.Phase.TheVariants as phase
 use Rattle.ttp_world.specs.declared.node.Verdict.{Verdict}
 use Rattle.ttp_world.specs.declared.node.Verdict.TheVariants as verdict
-use Rattle.ttp_world.specs.Acknowledgement.{is_correct}
+use Rattle.ttp_world.specs.Acknowledgement.{is_correct, is_open}
 use Rattle.ttp_world.specs.After.{judged_members}
 use Rattle.ttp_world.specs.Diary.{next_place}
-use Rattle.fault_plan.specs.Plan.{Change, Receiving, Jumping, Plan, sender}
+use Rattle.fault_plan.specs.Plan.{Change, Receiving, Jumping, Plan, sender, enters}
 use Rattle.fault_plan.specs.GoodPlan.{IsGoodPlan}
 use Rattle.fault_plan.proofs.Ledgers.{ledger-told}
-use Rattle.safety_laws.specs.Groups.{IsUnanswered, HearsNoAnswer}
+use Rattle.safety_laws.specs.Groups.{IsUnanswered, HearsNoAnswer, IsNotAbout, HoldsGroup}
 use Rattle.safety_laws.specs.Heard.{HearsNoFrame}
 use Rattle.safety_laws.specs.NodeSlot.{NodeSlot, next_past, owner_of}
 use Rattle.safety_laws.specs.Standing.{IsJudgedAs}
 use Rattle.safety_laws.specs.Turns.{IsJudging, HearsOutside}
-use Rattle.safety_laws.specs.ByFate.{IsSoundAt, IsFallingAt, IsFallenAt}
-use Rattle.safety_laws.proofs.ListedSets.{has_node-taken_out}
+use Rattle.safety_laws.specs.ByFate.{IsSoundAt, IsFallingAt, IsFallenAt, IsCounted, doubts}
+use Rattle.safety_laws.proofs.GroupSets.{has_node-taken_out}
 use Rattle.safety_laws.proofs.Unanswered.{stays-judged, stays-unanswered, not_held-judging}
 use Rattle.safety_laws.proofs.Verdicts.{judged-outside, judged-none, judged-whatever}
-use Rattle.safety_laws.proofs.SoundNodes.{IsSoundJudge}
+use Rattle.ttp_world.specs.declared.node.Ack.{Ack}
+use Rattle.ttp_world.specs.declared.node.Ack.TheVariants as ack
+use Rattle.ttp_world.specs.Counts.{is_rejection}
+use Rattle.ttp_world.specs.Membership.{is_accepted}
+use Rattle.fault_plan.specs.Fates.{Fallen, fate_of, is_good_slot, is_first_slot}
+use Rattle.fault_plan.specs.Ledger.{Ledger, with_slot, planned_members, ledger_of}
+use Rattle.safety_laws.proofs.Groups.{holds-correct, holds-wrong, holds-tentative}
+use Rattle.safety_laws.proofs.PlanSteps.{members-good, members-wrong, ledger-other, fallen-stays, doubt-apart}
+use Rattle.safety_laws.proofs.PlanSteps.{staying-unarmed, doubted-stays}
+use Rattle.ttp_world.specs.Past.{NodePast}
+
+-- what a verdict makes of the counts
+pub record IsCountedOn (past next : NodePast) (v : Verdict) : Type 0 where
+  pub accepted : next.accepted ≡ cond (is_correct v) 1 0 + past.accepted
+  pub rejected : next.rejected ≡ cond (is_rejection past.ack v) 1 0 + past.rejected
+  pub cold_start : next.cold_start ≡ past.cold_start
+
+pub counted-on : (x : NodeSlot) (v : Verdict) (deviation : ℤ) → IsJudgedAs x v deviation
+    → IsCountedOn x.past (next_past x) v
+counted-on x v deviation judged = record {
+  accepted = judged.accepted;
+  rejected = judged.rejected;
+  cold_start = judged.cold_start;
+}
+
+wrong-accepted : (v : Verdict) → is_accepted v ≡ false → is_correct v ≡ false
+wrong-accepted verdict.Correct wrong = absurd (false≢true (sym wrong))
+wrong-accepted _ wrong = refl
+
+one-at-most : (counts first : Bool) → (counts ≡ true → first ≡ true) → cond counts 1 0 ≤ cond first 1 0
+one-at-most true first only = let is = only refl in rw is (omega arith)
+one-at-most false first only = omega arith
+
+none-more : (ledger : Ledger) → (ledger.own ≡ true) × (ledger.seen ≡ 0) → (ledger.own ≡ true) × (0 + ledger.seen ≡ 0)
+none-more ledger none = (none.0, omega (arith, none.1))
+
+module _ {ledger : Ledger} {past next : NodePast} (counted : IsCounted ledger past) where
+  pub by-correct : (first : Bool) → IsCountedOn past next verdict.Correct → next.ack ≡ ack.Closed
+      → IsCounted (with_slot true first ledger) next
+  by-correct first on closed =
+      let none : doubts next.ack ≡ 0 = ap doubts closed in
+      record {
+        accepted = omega (arith, on.accepted, counted.accepted);
+        rejected = omega (arith, on.rejected, none, counted.rejected);
+        opened = λ opened. absurd (false≢true (ap is_open (sym closed) ∙ opened));
+        cold_start = λ cold. counted.cold_start (sym on.cold_start ∙ cold);
+      }
+
+  pub by-wrong : {v : Verdict} (first : Bool) → IsCountedOn past next v → is_accepted v ≡ false
+      → (is_rejection past.ack v ≡ true → first ≡ true) → next.ack ≡ past.ack
+      → IsCounted (with_slot false first ledger) next
+  by-wrong {v = v} first on wrong only same =
+      let none : cond {A = ℕ} (is_correct v) 1 0 ≡ 0 = ap (λ b. cond {A = ℕ} b 1 0) (wrong-accepted v wrong) in
+      let more = one-at-most (is_rejection past.ack v) first only in
+      let still : doubts next.ack ≡ doubts past.ack = ap doubts same in
+      record {
+        accepted = omega (arith, on.accepted, none, counted.accepted);
+        rejected = omega (arith, on.rejected, more, still, counted.rejected);
+        opened = λ opened. none-more ledger (counted.opened (ap is_open (sym same) ∙ opened));
+        cold_start = λ cold. counted.cold_start (sym on.cold_start ∙ cold);
+      }
+
+  pub by-tentative : (y : ℕ) → IsCountedOn past next verdict.Tentative → past.ack ≡ ack.First → next.ack ≡ ack.Doubt y
+      → IsCounted (with_slot false true ledger) next
+  by-tentative y on first doubt =
+      let one : doubts next.ack ≡ 1 = ap doubts doubt in
+      record {
+        accepted = omega (arith, on.accepted, counted.accepted);
+        rejected = omega (arith, on.rejected, one, counted.rejected);
+        opened = λ opened. none-more ledger (counted.opened (ap is_open first));
+        cold_start = λ cold. counted.cold_start (sym on.cold_start ∙ cold);
+      }
+
+-- A sound node in another's slot: by its verdict it is a sound node of the plan after the slot.
+
+about-other : (a : Ack) (j : ℕ) → ((y : ℕ) → a ≡ ack.Doubt y → y ≢ j) → IsNotAbout j a
+about-other (ack.Doubt y) j apart = apart y refl
+about-other _ j apart = tt
+
+-- what is so of a good plan and of a node that judges in its next turn
+pub record IsSoundJudge (plan : Plan) (turn : ℕ) (x : NodeSlot) : Type 0 where
+  pub good : IsGoodPlan plan
+  pub nodes : plan.nodes ≡ length x.list.slots
+  pub judging : IsJudging x
+  pub at : IsSoundAt x.list plan turn x.node x.past
+  pub owner : owner_of x ≡ sender plan (suc turn)
+  pub entered : enters plan (suc turn) x.node ≡ false
+
+module _ {plan : Plan} {turn : ℕ} {x : NodeSlot} (is : IsSoundJudge plan turn x) where
+  others-slot : sender plan (suc turn) ≢ x.node
+  others-slot same = is.judging.other (is.owner ∙ same)
+
+  -- it does not doubt the owner
+  pub not_about : IsNotAbout (owner_of x) x.past.ack
+  not_about =
+      about-other x.past.ack (owner_of x) (λ y doubt same.
+      let found = is.at.doubted y doubt in
+      doubt-apart plan turn x.node y found.0 is.good (subst (λ n. x.node < n) (sym is.nodes) is.judging.node)
+      others-slot (is.at.counted.opened (ap is_open doubt)).0 found.1 (same ∙ is.owner))
+
+  counted-next : (good first : Bool) → is_good_slot plan (suc turn) ≡ good → is_first_slot plan (suc turn) ≡ first
+      → IsCounted (with_slot good first (ledger_of plan turn x.node)) (next_past x)
+      → IsCounted (ledger_of plan (suc turn) x.node) (next_past x)
+  counted-next good first good_is first_is counted =
+      subst (λ (l : Ledger). IsCounted l (next_past x)) (sym (ledger-other plan turn x.node others-slot is.entered
+      ∙ (λ i. with_slot (good_is i) (first_is i) (ledger_of plan turn x.node)))) counted
+
+  -- the frame of a good slot, judged correct
+  pub sound-correct : (deviation : ℤ) → is_good_slot plan (suc turn) ≡ true → IsJudgedAs x verdict.Correct deviation
+      → IsSoundAt x.list plan (suc turn) x.node (next_past x)
+  sound-correct deviation good_is judged =
+      let holds = holds-correct x (planned_members plan turn) is.judging is.at.group deviation judged in
+      record {
+        phase = judged.phase;
+        place = judged.place ∙ ap (next_place x.list) is.at.place;
+        group = subst (λ (group : List ℕ). HoldsGroup x.list x.node group (next_past x))
+            (ap (with_node (planned_members plan turn)) is.owner ∙ sym (members-good plan turn good_is)) holds.0;
+        counted = counted-next true _ good_is refl
+            (by-correct is.at.counted _ (counted-on x _ deviation judged) holds.1);
+        doubted = λ y doubt. absurd (false≢true (ap is_open (sym holds.1 ∙ doubt)));
+        fresh = λ own. absurd (others-slot own);
+      }
+
+  -- what is not accepted, where the slot is not good
+  pub sound-wrong : (v : Verdict) (deviation : ℤ) → is_good_slot plan (suc turn) ≡ false → IsJudgedAs x v deviation
+      → is_accepted v ≡ false → (is_rejection x.past.ack v ≡ true → is_first_slot plan (suc turn) ≡ true)
+      → IsSoundAt x.list plan (suc turn) x.node (next_past x)
+  sound-wrong v deviation wrong_is judged wrong only =
+      let holds = holds-wrong x (planned_members plan turn) is.judging is.at.group v deviation judged wrong not_about in
+      record {
+        phase = judged.phase;
+        place = judged.place ∙ ap (next_place x.list) is.at.place;
+        group = subst (λ (group : List ℕ). HoldsGroup x.list x.node group (next_past x))
+            (ap (without_node (planned_members plan turn)) is.owner ∙ sym (members-wrong plan turn wrong_is)) holds.0;
+        counted = counted-next false _ wrong_is refl
+            (by-wrong is.at.counted _ (counted-on x v deviation judged) wrong only holds.1);
+        doubted = λ y doubt.
+            let found = is.at.doubted y (sym holds.1 ∙ doubt) in
+            let less = subst (λ n. x.node < n) (sym is.nodes) is.judging.node in
+            let unarmed = staying-unarmed plan turn y y is.good
+            (doubted-stays plan turn x.node y found.0 is.good less found.1) in (
+              found.0,
+              fallen-stays plan turn y (ledger_of plan turn x.node).base found.0 Receiving is.good unarmed found.1
+                  ∙ ap (λ (l : Ledger). Fallen Receiving l.base found.0)
+                  (sym (ledger-other plan turn x.node others-slot is.entered)),
+            );
+        fresh = λ own. absurd (others-slot own);
+      }
+
+  -- the frame of a receiver that lost this node's newest frame, judged tentative
+  pub sound-tentative : (deviation : ℤ) (shown : ℕ) → is_good_slot plan (suc turn) ≡ false
+      → is_first_slot plan (suc turn) ≡ true → x.past.ack ≡ ack.First → IsJudgedAs x verdict.Tentative deviation
+      → fate_of plan (suc turn) (owner_of x) ≡ Fallen Receiving (ledger_of plan turn x.node).base shown
+      → IsSoundAt x.list plan (suc turn) x.node (next_past x)
+  sound-tentative deviation shown wrong_is first_is first judged fallen =
+      let holds = holds-tentative x (planned_members plan turn) is.judging is.at.group deviation judged first in
+      record {
+        phase = judged.phase;
+        place = judged.place ∙ ap (next_place x.list) is.at.place;
+        group = subst (λ (group : List ℕ). HoldsGroup x.list x.node group (next_past x))
+            (ap (without_node (planned_members plan turn)) is.owner ∙ sym (members-wrong plan turn wrong_is)) holds.0;
+        counted = counted-next false true wrong_is first_is
+            (by-tentative is.at.counted (owner_of x) (counted-on x _ deviation judged) first holds.1);
+        doubted = λ y doubt. (
+          shown,
+          let same : y ≡ owner_of x = let both : ack.Doubt y ≡ ack.Doubt (owner_of x) = sym doubt ∙ holds.1 in cc in
+              ap (fate_of plan (suc turn)) same ∙ fallen
+              ∙ ap (λ (l : Ledger). Fallen Receiving l.base shown) (sym (ledger-other plan turn x.node others-slot is.entered)),
+        );
+        fresh = λ own. absurd (others-slot own);
+      }
+
+-- A lost node in another's slot, and a node that is lost in one.
 
 -- by its judgement, which is not correct, a node notes nothing
 pub record IsJudgedWrong (x : NodeSlot) : Type 0 where
@@ -107,15 +279,14 @@ module _ (plan : Plan) (turn : ℕ) (x : NodeSlot) (judging : IsJudging x) where
 
 -- two rounds after the start no sound node's newest own frame is a cold start
 pub sound-late : (plan : Plan) (turn : ℕ) (x : NodeSlot) → IsGoodPlan plan → x.node < plan.nodes
-    → IsSoundAt x.list plan turn x.node x.past → 2 * plan.nodes ≤ suc turn
-    → x.past.cold_start ≡ false
+    → IsSoundAt x.list plan turn x.node x.past → 2 * plan.nodes ≤ suc turn → x.past.cold_start ≡ false
 sound-late plan turn x good less at late =
     false_from_ne_true x.past.cold_start (λ cold.
     let told = ledger-told plan turn x.node good less in
     let first = (at.counted.cold_start cold).1 in
     omega (arith, first, told.near, late, good.count))
 
-module _ (plan : Plan) (turn : ℕ) (x : NodeSlot) (is : IsSoundJudge plan turn x) (late : 2 * plan.nodes ≤ suc turn)
+module _ {plan : Plan} {turn : ℕ} {x : NodeSlot} (is : IsSoundJudge plan turn x) (late : 2 * plan.nodes ≤ suc turn)
   where
     falls-by : (change : Change) (v : Verdict) (deviation : ℤ) → IsJudgedAs x v deviation → is_correct v ≡ false
         → (change ≡ Receiving → has_node (next_past x).members (sender plan (suc turn)) ≡ false)
@@ -133,30 +304,24 @@ module _ (plan : Plan) (turn : ℕ) (x : NodeSlot) (is : IsSoundJudge plan turn 
     }
 
     without_owner : (v : Verdict) (deviation : ℤ) → IsJudgedAs x v deviation
-        → ((v ≡ verdict.Null) ⊎ (v ≡ verdict.Invalid))
-        → has_node (next_past x).members (sender plan (suc turn)) ≡ false
+        → ((v ≡ verdict.Null) ⊎ (v ≡ verdict.Invalid)) → has_node (next_past x).members (sender plan (suc turn)) ≡ false
     without_owner v deviation judged how =
-        ap (has_node (next_past x).members) (sym is.owner)
-        ∙ ap (λ s. has_node s (owner_of x)) judged.members ∙ by v how
+        ap (has_node (next_past x).members) (sym is.owner) ∙ ap (λ s. has_node s (owner_of x)) judged.members ∙ by v how
       where
         by : (v : Verdict) → ((v ≡ verdict.Null) ⊎ (v ≡ verdict.Invalid))
             → has_node (judged_members x.past.members x.past.ack v (owner_of x)) (owner_of x) ≡ false
-        by verdict.Null how = has_node-taken_out x.past.members (owner_of x)
-        by verdict.Invalid how = has_node-taken_out x.past.members (owner_of x)
-        by verdict.Incorrect how = has_node-taken_out x.past.members (owner_of x)
-        by verdict.Denied how = has_node-taken_out x.past.members (owner_of x)
         by verdict.Correct (inl is) = cc
         by verdict.Correct (inr is) = cc
         by verdict.Tentative (inl is) = cc
         by verdict.Tentative (inr is) = cc
+        by _ how = has_node-taken_out x.past.members (owner_of x)
 
     -- a receiver to which no frame comes
     pub deaf-falls : HearsNoFrame x.hearing
         → IsFallingAt x.list plan (suc turn) x.node Receiving (suc turn) (next_past x)
     deaf-falls none = elim (judged-none x is.judging none) [
       | inl null ↦
-          falls-by Receiving verdict.Null (pos 0) null refl
-          (λ deaf. without_owner verdict.Null (pos 0) null (inl refl))
+          falls-by Receiving verdict.Null (pos 0) null refl (λ deaf. without_owner verdict.Null (pos 0) null (inl refl))
       | inr invalid ↦
           falls-by Receiving verdict.Invalid (pos 0) invalid refl
           (λ deaf. without_owner verdict.Invalid (pos 0) invalid (inr refl))

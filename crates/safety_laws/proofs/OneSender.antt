@@ -24,7 +24,7 @@ use Rattle.safety_laws.specs.SlotFrames.{IsSlotFrame}
 use Rattle.safety_laws.specs.Turns.{HearsMembers, HearsOutside}
 use Rattle.safety_laws.proofs.Hearing.{HearsFrame-kept, HearsNoFrame-lost, HearsSilence-none}
 use Rattle.safety_laws.proofs.Joins.{joinable-explicit, joinable-without}
-use Rattle.safety_laws.proofs.ListedSets.{has_node-put_in}
+use Rattle.safety_laws.proofs.GroupSets.{has_node-put_in}
 use Rattle.safety_laws.proofs.NodeSlots.{frames_of-made}
 use Rattle.safety_laws.proofs.OwnSlots.{frames_made-own, IsSlotFrame-own}
 use Rattle.safety_laws.proofs.Senders.{frames_in-none, frames_in-one}
@@ -45,26 +45,24 @@ silent-none_sends list script history chosen r none =
     HearsSilence-none s (frames_in s chosen) r
     (frames_in-none s chosen (λ k node. frames_of-made list script history chosen k node ∙ none k node))
 
-module _ (list : Medl) (script : Script) (history : History) (chosen : List Chosen) (p r : ℕ)
+module _ {list : Medl} {script : Script} {history : History} {chosen : List Chosen} {p : ℕ} (r : ℕ)
     (sends : SendsAlone list script history chosen p) where
-  frames-alone : frames_in (slot_after list script history) chosen
-      ≡ record {
-        sender = p;
-        bytes = own_frame list p (node_slot list script history chosen p).past
-            (node_slot list script history chosen p).chosen;
-      } ∷ []
+  frames-alone : frames_in (slot_after list script history) chosen ≡ record {
+    sender = p;
+    bytes = own_frame list p (node_slot list script history chosen p).past
+        (node_slot list script history chosen p).chosen;
+  } ∷ []
   frames-alone =
       frames_in-one (slot_after list script history) chosen p sends.own.node
       (λ k node other. frames_of-made list script history chosen k node ∙ sends.others k node other)
       ∙ frames_of-made list script history chosen p sends.own.node
       ∙ frames_made-own (node_slot list script history chosen p) sends.own sends.closed sends.accepted
 
-  pub comes-alone : loses script p (length history) r ≡ false
-      → HearsFrame (record {
-        sender = p;
-        bytes = own_frame list p (node_slot list script history chosen p).past
-            (node_slot list script history chosen p).chosen;
-      }) (node_slot list script history chosen r).hearing
+  pub comes-alone : loses script p (length history) r ≡ false → HearsFrame (record {
+    sender = p;
+    bytes = own_frame list p (node_slot list script history chosen p).past
+        (node_slot list script history chosen p).chosen;
+  }) (node_slot list script history chosen r).hearing
   comes-alone kept =
       let s = slot_after list script history in
       HearsFrame-kept s (frames_in s chosen) _ r frames-alone sends.unflipped kept
@@ -98,8 +96,8 @@ module _ (list : Medl) (script : Script) (history : History) (chosen : List Chos
       HearsNoFrame-lost s (frames_in s chosen) _ r frames-alone lost
 
 -- A frame with its C-state tells a listening node the sender's place and members, and one without tells it none.
-module _ (list : Medl) (script : Script) (numbers : Numbers) (chosen : List Chosen) (p r : ℕ) (valid : IsValid list)
-    (sends : SendsAlone list script (world list script numbers) chosen p)
+module _ {list : Medl} {script : Script} (numbers : Numbers) {chosen : List Chosen} {p : ℕ} (r : ℕ)
+    (valid : IsValid list) (sends : SendsAlone list script (world list script numbers) chosen p)
     (kept : loses script p (length (world list script numbers)) r ≡ false) where
   abbrev x : NodeSlot
   x = node_slot list script (world list script numbers) chosen p
@@ -111,16 +109,14 @@ module _ (list : Medl) (script : Script) (numbers : Numbers) (chosen : List Chos
       let frame = IsSlotFrame-own x sends.own sends.payload in
       record {
         bytes = own_frame list p x.past x.chosen;
-        comes = comes-alone list script (world list script numbers) chosen p r sends kept;
-        can = joinable-explicit list (coming_place x) (with_node x.past.members p) valid
-            (record {
-              time = time-next list x.past.place;
-              cycle = coming_place-world list script numbers p valid sends.own.node;
-              nodes = frame.nodes;
-              owner = ap (has_node (with_node x.past.members p)) sends.own.own
-                  ∙ has_node-put_in x.past.members p
-                  (omega (arith, sends.own.node, nodes-most list valid));
-            }) (own_frame list p x.past x.chosen) explicit frame;
+        comes = comes-alone r sends kept;
+        can = joinable-explicit list (coming_place x) (with_node x.past.members p) valid (record {
+          time = time-next list x.past.place;
+          cycle = coming_place-world list script numbers p valid sends.own.node;
+          nodes = frame.nodes;
+          owner = ap (has_node (with_node x.past.members p)) sends.own.own ∙ has_node-put_in x.past.members p
+              (omega (arith, sends.own.node, nodes-most list valid));
+        }) (own_frame list p x.past x.chosen) explicit frame;
         nodes = frame.nodes;
       }
 
@@ -128,7 +124,7 @@ module _ (list : Medl) (script : Script) (numbers : Numbers) (chosen : List Chos
       → HearsNoPlace (node_slot list script (world list script numbers) chosen r) p
   no_place-alone implicit = record {
     bytes = own_frame list p x.past x.chosen;
-    comes = comes-alone list script (world list script numbers) chosen p r sends kept;
+    comes = comes-alone r sends kept;
     can_not = joinable-without list (coming_place x) (with_node x.past.members p) (own_frame list p x.past x.chosen)
         implicit (IsSlotFrame-own x sends.own sends.payload);
   }

@@ -1,7 +1,6 @@
 -- A node whose clock has jumped is outside the window at each sound node, and each of them outside its own.
-use Rattle.std.proofs.Common.{◌≡◌, ℕ, zero, suc, ◌+◌, ◌-◌, ◌<◌, ◌≤◌, ℤ, pos, neg_ℤ, ◌+ℤ◌, ◌-ℤ◌, ◌*ℤ◌}
-use Rattle.std.proofs.Common.{◌≤ℤ◌, Bool, true, false, cond, ◌&&◌, inl, inr, ◌⊎◌, List, [], ◌∷◌, length, refl, ap}
-use Rattle.std.proofs.Common.{sym, subst, ◌∙◌, arith}
+use Rattle.std.proofs.Common.{◌≡◌, ℕ, zero, suc, ◌+◌, ◌-◌, ◌<◌, ◌≤◌, ℤ, pos, neg_ℤ, ◌+ℤ◌, ◌-ℤ◌, ◌*ℤ◌, ◌≤ℤ◌, Bool, true}
+use Rattle.std.proofs.Common.{false, cond, ◌&&◌, inl, inr, ◌⊎◌, List, [], ◌∷◌, length, refl, ap, sym, subst, ◌∙◌, arith}
 use Rattle.std.specs.Prelude.{◌==◌, int_le, nat_le}
 use Rattle.std.proofs.lemmas.Bool.{or_cases, false≢true}
 use Rattle.std.proofs.lemmas.Int.{ints}
@@ -35,8 +34,8 @@ use Rattle.fault_plan.specs.Fates.{is_sound_after}
 use Rattle.safety_laws.specs.Jumps.{HasJumped}
 use Rattle.safety_laws.specs.NotedByPlan.{IsSoundIn, NotedByPlan, GoesOnByPlan}
 use Rattle.safety_laws.proofs.Apart.{jump_width, apart-upto}
-use Rattle.safety_laws.proofs.JumpedClock.{JumpsAfter, jumped_in, stays-apart}
-use Rattle.safety_laws.proofs.JumpedFates.{IsJumpTold, jump-told, jumped-back, sound-till, jump-tight}
+use Rattle.safety_laws.proofs.JumpedClock.{JumpsAfter, jumped_in, stays-apart, IsJumpTold, jump-told, jumped-back}
+use Rattle.safety_laws.proofs.JumpedClock.{sound-till, jump-tight}
 use Rattle.safety_laws.proofs.NearNotes.{needed-up, still-of}
 use Rattle.safety_laws.proofs.RoundNotes.{sound-goes, tight-stays}
 use Rattle.safety_laws.proofs.BeganTogether.{number-of}
@@ -62,8 +61,7 @@ taken-active list k past j =
     (taken-either (nat_le past.accepted past.rejected) (Leave reason.Clique) Send j refl refl)) refl
 
 clock-jumps : (list : Medl) (script : Script) (row : List Entry) (history : History) (k : ℕ)
-    → continues_stint (entry_of row k) ≡ true
-    → clock_at list script (row ∷ history) k
+    → continues_stint (entry_of row k) ≡ true → clock_at list script (row ∷ history) k
     ≡ clock_after list script (row ∷ history) k +ℤ jump_of script k (suc (length history))
 clock-jumps list script row history k goes =
     let past = node_past list script (row ∷ history) k in
@@ -71,8 +69,7 @@ clock-jumps list script row history k goes =
     let j = jump_of script k number in
     ap (λ z. clock_after list script (row ∷ history) k +ℤ z)
     (ap (λ (p : Phase). jump_taken (phase_act p list k (is_on script k number) (is_armed script k number) past) j)
-    (active-phase (entry_of row k) goes)
-    ∙ taken-active list k past j)
+    (active-phase (entry_of row k) goes) ∙ taken-active list k past j)
 
 -- Numbers.
 
@@ -81,8 +78,7 @@ apart-share : (n d share e : ℤ) → n ≡ share +ℤ (e *ℤ pos 3 +ℤ pos 1)
 apart-share n d share e is four up = omega (arith, ints, is, four, up)
 
 -- the jump is three windows and more beyond what else can come between the clocks
-pub jump-exceeds : (list : Medl) → IsValid list
-    → (jump_width list +ℤ (list.error +ℤ pos 1)) ≤ℤ (needed list *ℤ pos 3)
+pub jump-exceeds : (list : Medl) → IsValid list → (jump_width list +ℤ (list.error +ℤ pos 1)) ≤ℤ (needed list *ℤ pos 3)
 jump-exceeds list valid =
     apart-share (needed list) (drift_in list (length list.slots)) (drift_share list) list.error refl
     (product_four list.drift (length list.slots) valid.drift.0) valid.error.0
@@ -125,8 +121,7 @@ AreFar list x y =
     (((list.window +ℤ pos 1) +ℤ list.error) ≤ℤ (x -ℤ y)) ⊎ (((list.window +ℤ pos 1) +ℤ list.error) ≤ℤ (y -ℤ x))
 
 far-outside : (list : Medl) (script : Script) (history : History) (r p : ℕ) → r < length list.slots
-    → p < length list.slots
-    → IsUpTo list.error (reading_error script r (length history))
+    → p < length list.slots → IsUpTo list.error (reading_error script r (length history))
     → AreFar list (clock_at list script history r) (clock_at list script history p)
     → is_within_window list (measured list script history r p) ≡ false
 far-outside list script history r p inside other error (inl ahead) =
@@ -146,8 +141,7 @@ module _ {list : Medl} {script : Script} {start : ClusterStart} {plan : Plan} {x
     (jumps : JumpsAfter list script start plan x base jump) where
   -- at the beginning of the slot it is as far ahead as after the slot before, and the jump is in it or comes to it now
   begun-jumped : (slot q : ℕ) (history : History) → NotedByPlan list script start plan slot history
-      → slot ≡ base + suc q
-      → clock_at list script history x
+      → slot ≡ base + suc q → clock_at list script history x
       ≡ (clock_after list script history x -ℤ jumped_in jump (suc q)) +ℤ jump
   begun-jumped slot q [] noted is = absurd noted
   begun-jumped zero q (row ∷ history) noted is = absurd (omega (arith, is))
@@ -155,8 +149,7 @@ module _ {list : Medl} {script : Script} {start : ClusterStart} {plan : Plan} {x
       let same : suc base ≡ suc slot = omega (arith, is) in
       let here : start.slot + suc (suc base) ≡ suc (length history) =
       omega (arith, is, number-of list script start plan (suc slot) (row ∷ history) noted) in
-      clock-jumps list script row history x
-      (sound-goes list script plan (suc slot) x row history noted.1
+      clock-jumps list script row history x (sound-goes list script plan (suc slot) x row history noted.1
       (jumps.inside, subst (λ t. is_sound_after plan t x ≡ true) same jumps.sound)
       (tight-stays plan (suc slot) x (jumps.tight (suc slot) (omega (arith, is)) (omega (arith, is)))))
       ∙ ap (λ z. clock_after list script (row ∷ history) x +ℤ z) (sym (ap (jump_of script x) here) ∙ jumps.here)
@@ -191,8 +184,7 @@ module _ {list : Medl} {script : Script} {start : ClusterStart} {plan : Plan} {x
       (clock_after list script history k) _ jumps.valid.drift.0 (needed-up list jumps.valid) few stays.apart in
       let first = begun-jumped slot q history goes.noted is in
       let second : clock_at list script history k ≡ clock_after list script history k =
-      clock_at-still list script history k
-      (still-of goes k p) in
+      clock_at-still list script history k (still-of goes k p) in
       let less = clock_after list script history x -ℤ jumped_in jump (suc q) in
       let there : IsUpTo (jump_width list) (less -ℤ clock_at list script history k) =
       subst (λ z. IsUpTo (jump_width list) (less -ℤ z)) (sym second) near in
@@ -207,67 +199,58 @@ module _ {list : Medl} {script : Script} {start : ClusterStart} {plan : Plan} {x
             jumps.follows.bounds.window behind)
       ]
 
-jumps-after : {list : Medl} {script : Script} {start : ClusterStart} {plan : Plan} {slot : ℕ} {history : History}
-    → GoesOnByPlan list script start plan slot history → (x base : ℕ) → x < length list.slots
-    → IsJumpTold plan (suc slot) x (suc (suc base))
-    → (has_jump script x (start.slot + suc (suc base)) ≡ true)
-    × JumpsAfter list script start plan x base (jump_of script x (start.slot + suc (suc base)))
-jumps-after {list = list} {script = script} {start = start} {plan = plan} {slot = slot} is x base inside told =
-    let jumps : has_jump script x (start.slot + suc (suc base)) ≡ true =
-    subst (λ j. has_jump script j (start.slot + suc (suc base)) ≡ true) told.loss.node
-    ((is.follows.planned.hearing (suc (suc base)) (omega (arith, is.within, told.from))).jumps told.loss.incident
-    told.loss.found
-    told.loss.how) in (
-      jumps,
-      record {
-        valid = is.valid;
-        follows = is.follows;
-        inside = inside;
-        sound = sound-till plan x (suc base) Jumping is.follows.planned.good told.loss;
-        late = omega (arith, told.loss.late, is.follows.planned.nodes, is.valid.count.0);
-        tight = λ turn from to. jump-tight plan x base Jumping is.follows.planned.good told.loss turn from
-            (omega (arith, to, is.follows.planned.nodes));
-        here = refl;
-        once = λ turn later. is.follows.bounds.still x (start.slot + turn)
-            (is.follows.bounds.once x (start.slot + suc (suc base)) (start.slot + turn) (omega (arith, later)) jumps);
-      },
-    )
-
--- the clocks of a node that has jumped and of a sound one
-pub jumped-far : {list : Medl} {script : Script} {start : ClusterStart} {plan : Plan} {slot : ℕ} {history : History}
-    → GoesOnByPlan list script start plan slot history
-    → (x k since : ℕ) → x < length list.slots → HasJumped plan (suc slot) x since → IsSoundIn list plan (suc slot) k
-    → AreFar list (clock_at list script history x) (clock_at list script history k)
-jumped-far {plan = plan} {slot = slot} is x k zero inside has p =
-    let good = is.follows.planned.good in
-    absurd (omega (arith, (jump-told plan (suc slot) x 0 good has).loss.late, good.count.0))
-jumped-far {plan = plan} {slot = slot} is x k (suc zero) inside has p =
-    let good = is.follows.planned.good in
-    absurd (omega (arith, (jump-told plan (suc slot) x 1 good has).loss.late, good.count.0))
-jumped-far {list = list} {script = script} {start = start} {plan = plan} {slot = slot} {history = history} is x k
-    (suc (suc base)) inside has p =
-    let after = jumps-after is x base inside
-    (jump-told plan (suc slot) x (suc (suc base)) is.follows.planned.good has) in
-    far-apart after.1 k is has p
-    (is.follows.bounds.jumps x (start.slot + suc (suc base)) after.0)
-
 swap-far : (list : Medl) (x y : ℤ) → AreFar list x y → AreFar list y x
 swap-far list x y (inl ahead) = inr ahead
 swap-far list x y (inr behind) = inl behind
 
-pub jumped-outside : {list : Medl} {script : Script} {start : ClusterStart} {plan : Plan} {slot : ℕ}
-    {history : History} → GoesOnByPlan list script start plan slot history
-    → (x k since : ℕ) → x < length list.slots → HasJumped plan (suc slot) x since → IsSoundIn list plan (suc slot) k
-    → (is_within_window list (measured list script history k x) ≡ false)
-    × (is_within_window list (measured list script history x k) ≡ false)
-jumped-outside {list = list} {script = script} {start = start} {plan = plan} {slot = slot} {history = history} is x k
-    since inside has p =
-    let far = jumped-far is x k since inside has p in
-    let number = number-of list script start plan slot history is.noted in
-    let early : length history < script.slots = omega (arith, number, is.within) in
-    let error = λ (j : ℕ) (node : j < length list.slots).
-    error_within list script (length history) j is.follows.bounds.clocks early node in (
-      far-outside list script history k x p.0 inside (error k p.0)
-          (swap-far list (clock_at list script history x) (clock_at list script history k) far),
-      far-outside list script history x k inside p.0 (error x inside) far,
-    )
+module _ {list : Medl} {script : Script} {start : ClusterStart} {plan : Plan} {slot : ℕ} {history : History}
+    (is : GoesOnByPlan list script start plan slot history) (x : ℕ) (inside : x < length list.slots) where
+  jumps-after : (base : ℕ) → IsJumpTold plan (suc slot) x (suc (suc base))
+      → (has_jump script x (start.slot + suc (suc base)) ≡ true)
+      × JumpsAfter list script start plan x base (jump_of script x (start.slot + suc (suc base)))
+  jumps-after base told =
+      let jumps : has_jump script x (start.slot + suc (suc base)) ≡ true =
+      subst (λ j. has_jump script j (start.slot + suc (suc base)) ≡ true) told.loss.node
+      ((is.follows.planned.hearing (suc (suc base)) (omega (arith, is.within, told.from))).jumps told.loss.incident
+      told.loss.found told.loss.how) in (
+        jumps,
+        record {
+          valid = is.valid;
+          follows = is.follows;
+          inside = inside;
+          sound = sound-till plan x (suc base) Jumping is.follows.planned.good told.loss;
+          late = omega (arith, told.loss.late, is.follows.planned.nodes, is.valid.count.0);
+          tight = λ turn from to. jump-tight plan x base Jumping is.follows.planned.good told.loss turn from
+              (omega (arith, to, is.follows.planned.nodes));
+          here = refl;
+          once = λ turn later. is.follows.bounds.still x (start.slot + turn)
+              (is.follows.bounds.once x (start.slot + suc (suc base)) (start.slot + turn) (omega (arith, later)) jumps);
+        },
+      )
+
+  -- the clocks of a node that has jumped and of a sound one
+  jumped-far : (k since : ℕ) → HasJumped plan (suc slot) x since → IsSoundIn list plan (suc slot) k
+      → AreFar list (clock_at list script history x) (clock_at list script history k)
+  jumped-far k zero has p =
+      let good = is.follows.planned.good in
+      absurd (omega (arith, (jump-told plan (suc slot) x 0 good has).loss.late, good.count.0))
+  jumped-far k (suc zero) has p =
+      let good = is.follows.planned.good in
+      absurd (omega (arith, (jump-told plan (suc slot) x 1 good has).loss.late, good.count.0))
+  jumped-far k (suc (suc base)) has p =
+      let after = jumps-after base (jump-told plan (suc slot) x (suc (suc base)) is.follows.planned.good has) in
+      far-apart after.1 k is has p (is.follows.bounds.jumps x (start.slot + suc (suc base)) after.0)
+
+  pub jumped-outside : (k since : ℕ) → HasJumped plan (suc slot) x since → IsSoundIn list plan (suc slot) k
+      → (is_within_window list (measured list script history k x) ≡ false)
+      × (is_within_window list (measured list script history x k) ≡ false)
+  jumped-outside k since has p =
+      let far = jumped-far k since has p in
+      let number = number-of list script start plan slot history is.noted in
+      let early : length history < script.slots = omega (arith, number, is.within) in
+      let error = λ (j : ℕ) (node : j < length list.slots).
+      error_within list script (length history) j is.follows.bounds.clocks early node in (
+        far-outside list script history k x p.0 inside (error k p.0)
+            (swap-far list (clock_at list script history x) (clock_at list script history k) far),
+        far-outside list script history x k inside p.0 (error x inside) far,
+      )

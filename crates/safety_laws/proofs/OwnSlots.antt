@@ -27,7 +27,7 @@ use Rattle.safety_laws.specs.NodeSlot.{NodeSlot, act_made, frames_made, entry_ma
 use Rattle.safety_laws.specs.SlotFrames.{IsSlotFrame}
 use Rattle.safety_laws.specs.Standing.{StandsBy, HasJustLeft, sent_standing}
 use Rattle.safety_laws.specs.Turns.{IsAtOwnSlot, HasPayload}
-use Rattle.safety_laws.proofs.ListedSets.{AreNodes-with}
+use Rattle.safety_laws.proofs.GroupSets.{AreNodes-with}
 
 -- What the node does, by its past alone.
 
@@ -90,15 +90,13 @@ pub sent-own : (x : NodeSlot) → IsAtOwnSlot x → x.past.ack ≡ ack.Closed �
 sent-own x is closed more =
     let message = message_sent x.list (coming_place x) x.chosen in
     subst (λ (made : Entry). StandsBy (past_after x.list x.node x.past made x.around) (entry.Sent message)
-    (sent_standing x message))
-    (entry_made-own x Send is (own_act-sends x.past closed more)) (stands-sent x is)
+    (sent_standing x message)) (entry_made-own x Send is (own_act-sends x.past closed more)) (stands-sent x is)
 
 -- one frame, which is that of the slot with the node as a member
 
 pub frames_made-own : (x : NodeSlot) → IsAtOwnSlot x → x.past.ack ≡ ack.Closed → x.past.rejected < x.past.accepted
     → frames_made x ≡ record { sender = x.node; bytes = own_frame x.list x.node x.past x.chosen } ∷ []
-frames_made-own x is closed more =
-    ap (node_frames x.list x.node x.past x.chosen) (act_made-sends x is closed more)
+frames_made-own x is closed more = ap (node_frames x.list x.node x.past x.chosen) (act_made-sends x is closed more)
 
 size_sent : (size : ℕ) (payload : List ℕ) → (not (size == 0) ≡ true → length payload ≡ size)
     → length (cond (not (size == 0)) payload []) ≡ size
@@ -109,8 +107,7 @@ size_sent size payload fits = by (size == 0) refl
     by false is = ap (λ b. length (cond (not b) payload [])) is ∙ fits (ap not is)
 
 pub IsSlotFrame-own : (x : NodeSlot) → IsAtOwnSlot x → HasPayload x
-    → IsSlotFrame x.list (coming_place x) (with_node x.past.members x.node)
-    (own_frame x.list x.node x.past x.chosen)
+    → IsSlotFrame x.list (coming_place x) (with_node x.past.members x.node) (own_frame x.list x.node x.past x.chosen)
 IsSlotFrame-own x is fits = record {
   payload = payload_sent x.list (coming_place x) x.chosen;
   size = size_sent (expected_length x.list (coming_place x)) x.chosen.payload fits;

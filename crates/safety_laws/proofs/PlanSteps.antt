@@ -1,12 +1,13 @@
 -- What one turn more makes of a plan's members, ledgers and fates.
-use Rattle.std.proofs.Common.{◌≡◌, ◌≢◌, ℕ, suc, ◌+◌, ◌<◌, ◌≤◌, Bool, true, false, cond, Option, Some, None}
-use Rattle.std.proofs.Common.{refl, ap, sym, subst, ◌∙◌, inl, inr, arith}
+use Rattle.std.proofs.Common.{◌≡◌, ◌≢◌, ℕ, suc, ◌+◌, ◌<◌, ◌≤◌, Bool, true, false, cond, Option, Some, None, refl, ap}
+use Rattle.std.proofs.Common.{sym, subst, ◌∙◌, inl, inr, arith}
 use Rattle.std.specs.Prelude.{◌==◌}
 use Rattle.std.proofs.lemmas.Bool.{eq-eqb, eqb-true, ne_eqb, both_ways, false_from_ne_true, lt-ltb}
 use Rattle.ttp_base.specs.NodeSet.{with_node, without_node}
 use Rattle.fault_plan.specs.Plan.{Change, Receiving, Incident, Plan, sender, incident_at, is_armed_by, enters}
 use Rattle.fault_plan.specs.Fates.{Fate, Absent, Sound, Falling, Fallen, Listening, struck, shown_in, turned, fate_of}
-use Rattle.fault_plan.specs.Fates.{is_sound, is_sound_after, is_lost, is_good_slot, is_first_slot, is_shown_in, may_stay}
+use Rattle.fault_plan.specs.Fates.{is_sound, is_sound_after, is_lost, is_good_slot, is_first_slot, is_shown_in}
+use Rattle.fault_plan.specs.Fates.{may_stay}
 use Rattle.fault_plan.specs.GoodPlan.{IsGoodPlan}
 use Rattle.fault_plan.specs.Ledger.{opened, with_slot, planned_members, ledger_of}
 use Rattle.fault_plan.specs.Told.{IsFalling, IsFallen, IsTold}
@@ -15,7 +16,7 @@ use Rattle.fault_plan.proofs.FateTells.{fate-told}
 use Rattle.fault_plan.proofs.Ledgers.{ledger-told}
 use Rattle.fault_plan.proofs.Returns.{armed-quiet, entry-quiet, armed-lost, entry-from}
 use Rattle.fault_plan.proofs.Turns.{next_turn, turns_apart}
-use Rattle.safety_laws.proofs.Awaited.{awaited-armed, gone-awaited}
+use Rattle.safety_laws.proofs.Listeners.{awaited-armed, gone-awaited}
 use Rattle.fault_plan.proofs.SlotKinds.{sender-stays as sender-unentered}
 
 -- Members.
@@ -42,16 +43,14 @@ pub ledger-other : (plan : Plan) (turn k : ℕ) → sender plan (suc turn) ≢ k
 ledger-other plan turn k other entered =
     let next = with_slot (is_good_slot plan (suc turn)) (is_first_slot plan (suc turn)) (ledger_of plan turn k) in
     ap (λ b. cond b (opened true (suc turn)) (cond (enters plan (suc turn) k) (opened false (suc turn)) next))
-    (ne_eqb (sender plan (suc turn)) k other)
-    ∙ ap (λ b. cond b (opened false (suc turn)) next) entered
+    (ne_eqb (sender plan (suc turn)) k other) ∙ ap (λ b. cond b (opened false (suc turn)) next) entered
 
 pub ledger-entered : (plan : Plan) (turn k : ℕ) → sender plan (suc turn) ≢ k → enters plan (suc turn) k ≡ true
     → ledger_of plan (suc turn) k ≡ opened false (suc turn)
 ledger-entered plan turn k other entered =
     let next = with_slot (is_good_slot plan (suc turn)) (is_first_slot plan (suc turn)) (ledger_of plan turn k) in
     ap (λ b. cond b (opened true (suc turn)) (cond (enters plan (suc turn) k) (opened false (suc turn)) next))
-    (ne_eqb (sender plan (suc turn)) k other)
-    ∙ ap (λ b. cond b (opened false (suc turn)) next) entered
+    (ne_eqb (sender plan (suc turn)) k other) ∙ ap (λ b. cond b (opened false (suc turn)) next) entered
 
 pub ledger-own : (plan : Plan) (turn k : ℕ) → sender plan (suc turn) ≡ k
     → ledger_of plan (suc turn) k ≡ opened true (suc turn)
@@ -80,11 +79,9 @@ struck-known plan turn k is = by (incident_at plan turn) refl
     }
 
 struck-same : (slot k : ℕ) (fate : Fate) (found : Option Incident) (incident : Incident) → found ≡ Some incident
-    → incident.node ≡ k
-    → struck slot k fate found ≡ Falling incident.change slot
+    → incident.node ≡ k → struck slot k fate found ≡ Falling incident.change slot
 struck-same slot k fate found incident is node =
-    ap (struck slot k fate) is
-    ∙ ap (λ b. cond b (Falling incident.change slot) fate) (eq-eqb incident.node k node)
+    ap (struck slot k fate) is ∙ ap (λ b. cond b (Falling incident.change slot) fate) (eq-eqb incident.node k node)
 
 -- only a sound node is lost
 pub unsound-missed : (plan : Plan) (turn k : ℕ) → IsGoodPlan plan → is_sound_after plan turn k ≡ false
@@ -94,8 +91,7 @@ unsound-missed plan turn k good was = by (incident_at plan (suc turn)) refl
     by : (found : Option Incident) → incident_at plan (suc turn) ≡ found → strikes found k ≡ false
     by None found = refl
     by (Some incident) found =
-        ne_eqb incident.node k
-        (λ same. both_ways (is_sound_after plan turn k) was
+        ne_eqb incident.node k (λ same. both_ways (is_sound_after plan turn k) was
         (ap (is_sound_after plan turn) (sym same) ∙ (good.losses turn incident found).was))
 
 turned-other : (plan : Plan) (slot k : ℕ) (fate : Fate) → sender plan slot ≢ k
@@ -120,8 +116,7 @@ unlost-unarmed plan turn k good here =
 
 -- a node that may still stay
 pub staying-unarmed : (plan : Plan) (turn j k : ℕ) → IsGoodPlan plan
-    → may_stay plan.nodes turn (fate_of plan turn j) ≡ true
-    → is_armed_by plan (suc turn) k ≡ false
+    → may_stay plan.nodes turn (fate_of plan turn j) ≡ true → is_armed_by plan (suc turn) k ≡ false
 staying-unarmed plan turn j k good stays =
     false_from_ne_true (is_armed_by plan (suc turn) k) (λ armed.
     both_ways (may_stay plan.nodes turn (fate_of plan turn j))
@@ -148,8 +143,7 @@ good-sender plan turn good is =
     sound-from plan (suc turn) (sender plan (suc turn)) (fate_of plan turn (sender plan (suc turn)))
     (sender-unentered plan (suc turn) good) is
 
-pub wrong-slot : (plan : Plan) (turn : ℕ) → IsGoodPlan plan
-    → is_sound_after plan turn (sender plan (suc turn)) ≡ false
+pub wrong-slot : (plan : Plan) (turn : ℕ) → IsGoodPlan plan → is_sound_after plan turn (sender plan (suc turn)) ≡ false
     → is_good_slot plan (suc turn) ≡ false
 wrong-slot plan turn good was =
     false_from_ne_true (is_good_slot plan (suc turn)) (λ is.
@@ -170,8 +164,7 @@ fate-missed plan turn k apart missed =
 
 -- a fate that no turn of its node changes stays where the node is not lost
 fate-stays : (plan : Plan) (turn k : ℕ) (fate : Fate) → IsApart plan turn k → ((slot : ℕ) → shown_in slot fate ≡ fate)
-    → strikes (incident_at plan (suc turn)) k ≡ false → fate_of plan turn k ≡ fate
-    → fate_of plan (suc turn) k ≡ fate
+    → strikes (incident_at plan (suc turn)) k ≡ false → fate_of plan turn k ≡ fate → fate_of plan (suc turn) k ≡ fate
 fate-stays plan turn k fate apart still missed is =
     fate-missed plan turn k apart missed ∙ ap (turned (sender plan (suc turn) == k) (suc turn)) is
     ∙ settled (sender plan (suc turn) == k) (suc turn) fate (still (suc turn))
@@ -180,8 +173,7 @@ pub fallen-stays : (plan : Plan) (turn k since shown : ℕ) (change : Change) �
     → is_armed_by plan (suc turn) k ≡ false → fate_of plan turn k ≡ Fallen change since shown
     → fate_of plan (suc turn) k ≡ Fallen change since shown
 fallen-stays plan turn k since shown change good unarmed is =
-    fate-stays plan turn k (Fallen change since shown)
-    (record {
+    fate-stays plan turn k (Fallen change since shown) (record {
       armed = unarmed;
       entered = unentered plan turn k good unarmed (λ s listens. let both = sym is ∙ listens in cc);
     })
@@ -191,19 +183,16 @@ pub absent-stays : (plan : Plan) (turn k : ℕ) → IsGoodPlan plan → fate_of 
     → fate_of plan (suc turn) k ≡ Absent
 absent-stays plan turn k good is =
     let unarmed = unlost-unarmed plan turn k good (ap is_lost is) in
-    fate-stays plan turn k Absent
-    (record {
+    fate-stays plan turn k Absent (record {
       armed = unarmed;
       entered = unentered plan turn k good unarmed (λ s listens. let both = sym is ∙ listens in cc);
     })
     (λ slot. refl) (unsound-missed plan turn k good (ap is_sound is)) is
 
 pub sound-stays : (plan : Plan) (turn k : ℕ) → IsGoodPlan plan → strikes (incident_at plan (suc turn)) k ≡ false
-    → fate_of plan turn k ≡ Sound
-    → fate_of plan (suc turn) k ≡ Sound
+    → fate_of plan turn k ≡ Sound → fate_of plan (suc turn) k ≡ Sound
 sound-stays plan turn k good missed is =
-    fate-stays plan turn k Sound
-    (record {
+    fate-stays plan turn k Sound (record {
       armed = unlost-unarmed plan turn k good (ap is_lost is);
       entered = sound-unentered plan turn k good is;
     })
@@ -219,17 +208,14 @@ falling-apart plan turn k since change good is =
     }
 
 -- a falling node's own slot shows it
-pub falling-stays : (plan : Plan) (turn k since : ℕ) (change : Change) → IsGoodPlan plan
-    → sender plan (suc turn) ≢ k → fate_of plan turn k ≡ Falling change since
-    → fate_of plan (suc turn) k ≡ Falling change since
+pub falling-stays : (plan : Plan) (turn k since : ℕ) (change : Change) → IsGoodPlan plan → sender plan (suc turn) ≢ k
+    → fate_of plan turn k ≡ Falling change since → fate_of plan (suc turn) k ≡ Falling change since
 falling-stays plan turn k since change good other is =
     fate-missed plan turn k (falling-apart plan turn k since change good is)
-    (unsound-missed plan turn k good (ap is_sound is))
-    ∙ turned-other plan (suc turn) k (fate_of plan turn k) other ∙ is
+    (unsound-missed plan turn k good (ap is_sound is)) ∙ turned-other plan (suc turn) k (fate_of plan turn k) other ∙ is
 
-pub falling-shown : (plan : Plan) (turn k since : ℕ) (change : Change) → IsGoodPlan plan
-    → sender plan (suc turn) ≡ k → fate_of plan turn k ≡ Falling change since
-    → fate_of plan (suc turn) k ≡ Fallen change since (suc turn)
+pub falling-shown : (plan : Plan) (turn k since : ℕ) (change : Change) → IsGoodPlan plan → sender plan (suc turn) ≡ k
+    → fate_of plan turn k ≡ Falling change since → fate_of plan (suc turn) k ≡ Fallen change since (suc turn)
 falling-shown plan turn k since change good own is =
     fate-missed plan turn k (falling-apart plan turn k since change good is)
     (unsound-missed plan turn k good (ap is_sound is))
@@ -241,8 +227,7 @@ struck-next : (plan : Plan) (turn k : ℕ) → IsGoodPlan plan → (is : IsStruc
     → fate_of plan (suc turn) k
     ≡ turned (sender plan (suc turn) == k) (suc turn) (Falling is.incident.change (suc turn))
 struck-next plan turn k good is =
-    next-same plan (suc turn) k (fate_of plan turn k)
-    (false_from_ne_true (is_armed_by plan (suc turn) k) (λ armed.
+    next-same plan (suc turn) k (fate_of plan turn k) (false_from_ne_true (is_armed_by plan (suc turn) k) (λ armed.
     let both = sym is.found ∙ armed-quiet plan (suc turn) k good armed in cc))
     (false_from_ne_true (enters plan (suc turn) k) (λ entered.
     let both = sym is.found ∙ entry-quiet plan (suc turn) k good entered in cc))
@@ -250,41 +235,35 @@ struck-next plan turn k good is =
     (struck-same (suc turn) k (fate_of plan turn k) (incident_at plan (suc turn)) is.incident is.found is.node)
 
 pub struck-falls : (plan : Plan) (turn k : ℕ) → IsGoodPlan plan → (is : IsStruck plan (suc turn) k)
-    → sender plan (suc turn) ≢ k
-    → fate_of plan (suc turn) k ≡ Falling is.incident.change (suc turn)
+    → sender plan (suc turn) ≢ k → fate_of plan (suc turn) k ≡ Falling is.incident.change (suc turn)
 struck-falls plan turn k good is other =
     struck-next plan turn k good is ∙ turned-other plan (suc turn) k (Falling is.incident.change (suc turn)) other
 
 pub struck-shown : (plan : Plan) (turn k : ℕ) → IsGoodPlan plan → (is : IsStruck plan (suc turn) k)
-    → sender plan (suc turn) ≡ k
-    → fate_of plan (suc turn) k ≡ Fallen is.incident.change (suc turn) (suc turn)
+    → sender plan (suc turn) ≡ k → fate_of plan (suc turn) k ≡ Fallen is.incident.change (suc turn) (suc turn)
 struck-shown plan turn k good is own =
     struck-next plan turn k good is ∙ turned-own plan (suc turn) k (Falling is.incident.change (suc turn)) own
 
 -- it is the first own slot of a lost node
 pub first-shown : (plan : Plan) (turn since : ℕ) (change : Change)
-    → fate_of plan turn (sender plan turn) ≡ Fallen change since turn
-    → is_first_slot plan turn ≡ true
+    → fate_of plan turn (sender plan turn) ≡ Fallen change since turn → is_first_slot plan turn ≡ true
 first-shown plan turn since change is = ap (is_shown_in turn) is ∙ eq-eqb turn turn refl
 
 -- What a fate tells.
 
 pub told-falling : (plan : Plan) (turn k since : ℕ) (change : Change) → IsGoodPlan plan
-    → fate_of plan turn k ≡ Falling change since
-    → IsFalling plan turn k change since
+    → fate_of plan turn k ≡ Falling change since → IsFalling plan turn k change since
 told-falling plan turn k since change good is = subst (IsTold plan turn k) is (fate-told plan turn k good)
 
 pub told-fallen : (plan : Plan) (turn k since shown : ℕ) (change : Change) → IsGoodPlan plan
-    → fate_of plan turn k ≡ Fallen change since shown
-    → IsFallen plan turn k change since shown
+    → fate_of plan turn k ≡ Fallen change since shown → IsFallen plan turn k change since shown
 told-fallen plan turn k since shown change good is = subst (IsTold plan turn k) is (fate-told plan turn k good)
 
 -- Doubts.
 
 -- A node k that lost since k's newest own slot, and has had a slot, is not the next sender.
-pub doubt-apart : (plan : Plan) (turn k y shown : ℕ) → IsGoodPlan plan → k < plan.nodes
-    → sender plan (suc turn) ≢ k → (ledger_of plan turn k).own ≡ true
-    → fate_of plan turn y ≡ Fallen Receiving (ledger_of plan turn k).base shown
+pub doubt-apart : (plan : Plan) (turn k y shown : ℕ) → IsGoodPlan plan → k < plan.nodes → sender plan (suc turn) ≢ k
+    → (ledger_of plan turn k).own ≡ true → fate_of plan turn y ≡ Fallen Receiving (ledger_of plan turn k).base shown
     → y ≢ sender plan (suc turn)
 doubt-apart plan turn k y shown good less other own is same =
     let ledger = ledger_of plan turn k in
@@ -303,9 +282,7 @@ pub round-turn : (plan : Plan) (turn k : ℕ) → 0 < plan.nodes → k < plan.no
 round-turn plan turn k some less own =
     let next = next_turn plan (suc turn) k some less in
     let apart = turns_apart plan turn next.0 some (let from = next.1.0 in omega (arith, from)) (own ∙ sym next.1.2) in
-    let from = next.1.0 in
-    let to = next.1.1 in
-    let same : next.0 ≡ turn + plan.nodes = omega (arith, from, to, apart) in
+    let same : next.0 ≡ turn + plan.nodes = omega (arith, next.1.0, next.1.1, apart) in
     ap (sender plan) (sym same) ∙ next.1.2
 
 -- a node that lost a frame less than a round ago, and has had a slot since, may still stay
@@ -315,5 +292,4 @@ pub doubted-stays : (plan : Plan) (turn k y shown : ℕ) → IsGoodPlan plan →
 doubted-stays plan turn k y shown good less is =
     let told = told-fallen plan turn y (ledger_of plan turn k).base shown Receiving good is in
     let near = (ledger-told plan turn k good less).near in
-    let from = told.from in
-    ap (may_stay plan.nodes turn) is ∙ lt-ltb turn (shown + plan.nodes) (omega (arith, near, from))
+    ap (may_stay plan.nodes turn) is ∙ lt-ltb turn (shown + plan.nodes) (omega (arith, near, told.from))

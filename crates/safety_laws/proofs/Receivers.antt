@@ -11,17 +11,16 @@ use Rattle.ttp_world.specs.declared.script.Script.{Script}
 use Rattle.ttp_world.specs.Diary.{next_place}
 use Rattle.ttp_world.specs.Hypothesis.{ClusterStart, loses}
 use Rattle.ttp_world.specs.Reception.{is_within_window}
-use Rattle.ttp_world.specs.World.{SlotNumbers, Numbers, slot_after, deviation_in, messages_chosen, world}
+use Rattle.ttp_world.specs.World.{SlotNumbers, Numbers, slot_after, deviation_in, world}
 use Rattle.fault_plan.specs.Plan.{Receiving, Jumping, Plan, sender}
-use Rattle.fault_plan.specs.Fates.{Sound, Falling, Fallen, fate_of, is_sound_after, may_stay}
-use Rattle.fault_plan.specs.Fates.{is_good_slot, is_first_slot}
+use Rattle.fault_plan.specs.Fates.{Sound, Falling, Fallen, fate_of, is_sound_after, may_stay, is_good_slot}
+use Rattle.fault_plan.specs.Fates.{is_first_slot}
 use Rattle.fault_plan.specs.Kept.{IsHeardByPlan}
 use Rattle.fault_plan.specs.Ledger.{planned_members, ledger_of}
 use Rattle.fault_plan.proofs.FateTells.{one-stays}
 use Rattle.fault_plan.proofs.Members.{sender-lost}
 use Rattle.safety_laws.specs.Heard.{HearsNoFrame, HearsSilence}
 use Rattle.safety_laws.specs.NodeSlot.{NodeSlot, next_past}
-use Rattle.safety_laws.specs.Senders.{SendsAlone, NoneSends}
 use Rattle.safety_laws.specs.Standing.{IsJudgedAs}
 use Rattle.safety_laws.specs.Turns.{HearsMembers, HearsOutside}
 use Rattle.safety_laws.specs.ByFate.{IsSoundAt, IsFallingAt}
@@ -32,38 +31,39 @@ use Rattle.safety_laws.proofs.OneSender.{members-alone, outside-alone, none-alon
 use Rattle.safety_laws.proofs.Verdicts.{judged-outside, judged-none, judged-silent}
 use Rattle.safety_laws.proofs.Arrivals.{at-fate, hears-planned}
 use Rattle.safety_laws.proofs.PlanSteps.{doubted-stays, sound-unentered}
-use Rattle.safety_laws.proofs.SoundNodes.{IsSoundJudge, not_about, sound-correct, sound-wrong, sound-tentative}
-use Rattle.safety_laws.proofs.PlanTurns.{slot_of, slot_number, owner-is, judges, e-node}
+use Rattle.safety_laws.proofs.LostNodes.{IsSoundJudge, not_about, sound-correct, sound-wrong, sound-tentative}
+use Rattle.safety_laws.proofs.PlanTurns.{NextSound, SendsNone, SendsOne, slot_of, slot_number, owner-is, judges, e-node}
+use Rattle.safety_laws.proofs.PlanTurns.{less-planned, good_plan}
 use Rattle.fault_plan.proofs.SlotKinds.{sender-stays as sender-unentered}
 
 -- A sound node that judges, where the slot is not good: what leaves it sound.
 
-module _ (plan : Plan) (turn : ℕ) (x : NodeSlot) (is : IsSoundJudge plan turn x)
+module _ {plan : Plan} {turn : ℕ} {x : NodeSlot} (is : IsSoundJudge plan turn x)
     (wrong : is_good_slot plan (suc turn) ≡ false) where
   -- nobody sends
   pub silent-sound : HearsSilence x.hearing → IsSoundAt x.list plan (suc turn) x.node (next_past x)
   silent-sound silent =
-      sound-wrong plan turn x is verdict.Null (pos 0) wrong (judged-silent x is.judging silent) refl
+      sound-wrong is verdict.Null (pos 0) wrong (judged-silent x is.judging silent) refl
       (λ counts. absurd (false≢true counts))
 
   module _ (first : is_first_slot plan (suc turn) ≡ true) where
     -- no frame comes in a lost node's first slot, or one outside the window
     pub deaf-sound : HearsNoFrame x.hearing → IsSoundAt x.list plan (suc turn) x.node (next_past x)
     deaf-sound none = elim (judged-none x is.judging none) [
-      | inl null ↦ sound-wrong plan turn x is verdict.Null (pos 0) wrong null refl (λ counts. first)
-      | inr invalid ↦ sound-wrong plan turn x is verdict.Invalid (pos 0) wrong invalid refl (λ counts. first)
+      | inl null ↦ sound-wrong is verdict.Null (pos 0) wrong null refl (λ counts. first)
+      | inr invalid ↦ sound-wrong is verdict.Invalid (pos 0) wrong invalid refl (λ counts. first)
     ]
 
     pub outside-sound : (p : ℕ) → HearsOutside x p → IsSoundAt x.list plan (suc turn) x.node (next_past x)
     outside-sound p hears =
-        sound-wrong plan turn x is verdict.Invalid (x.hearing.deviation p) wrong (judged-outside x p is.judging hears)
+        sound-wrong is verdict.Invalid (x.hearing.deviation p) wrong (judged-outside x p is.judging hears)
         refl (λ counts. first)
 
     -- a frame comes without a member of the plan, that of the slot in which its sender was lost
     incorrect-sound : (p : ℕ) → IsJudgedAs x verdict.Incorrect (x.hearing.deviation p)
         → IsSoundAt x.list plan (suc turn) x.node (next_past x)
     incorrect-sound p judged =
-        sound-wrong plan turn x is verdict.Incorrect (x.hearing.deviation p) wrong judged refl (λ counts. first)
+        sound-wrong is verdict.Incorrect (x.hearing.deviation p) wrong judged refl (λ counts. first)
 
 -- The frame of a receiver in its first slot since it lost the frame of a sender.
 
@@ -71,7 +71,7 @@ pub record IsDeafSender (plan : Plan) (turn since : ℕ) : Type 0 where
   pub falling : fate_of plan turn (sender plan (suc turn)) ≡ Falling Receiving since
   pub shown : fate_of plan (suc turn) (sender plan (suc turn)) ≡ Fallen Receiving since (suc turn)
 
-module _ (plan : Plan) (turn since : ℕ) (x : NodeSlot) (is : IsSoundJudge plan turn x)
+module _ {plan : Plan} {turn since : ℕ} {x : NodeSlot} (is : IsSoundJudge plan turn x)
     (wrong : is_good_slot plan (suc turn) ≡ false) (first : is_first_slot plan (suc turn) ≡ true)
     (deaf : IsDeafSender plan turn since) where
   -- a node that is not this sender, or is and has been acknowledged, judges it incorrect
@@ -80,9 +80,8 @@ module _ (plan : Plan) (turn since : ℕ) (x : NodeSlot) (is : IsSoundJudge plan
       → IsSoundAt x.list plan (suc turn) x.node (next_past x)
   by_other members hears lacks other =
       let lost = sender-lost plan turn (sender plan (suc turn)) since is.good deaf.falling in
-      let count = is.good.count in
-      let less : sender plan since < plan.nodes = mod-lt (plan.starter + since) (omega (arith, count)) in
-      incorrect-sound plan turn x is wrong first (sender plan (suc turn))
+      let less : sender plan since < plan.nodes = mod-lt (plan.starter + since) (omega (arith, is.good.count)) in
+      incorrect-sound is wrong first (sender plan (suc turn))
       (incorrect-group x (planned_members plan turn) is.judging is.at.group (sender plan (suc turn))
       (sender plan since) members (subst (λ n. sender plan since < n) is.nodes less) lost.member other lacks hears)
 
@@ -94,12 +93,10 @@ module _ (plan : Plan) (turn since : ℕ) (x : NodeSlot) (is : IsSoundJudge plan
       let lost = sender-lost plan turn (sender plan (suc turn)) since is.good deaf.falling in
       elim (lacked-group x (planned_members plan turn) is.judging is.at.group (sender plan (suc turn)) members waits
       (ap (has_node members) (sym same) ∙ lacks) hears) [
-        | inl incorrect ↦ incorrect-sound plan turn x is wrong first (sender plan (suc turn)) incorrect
+        | inl incorrect ↦ incorrect-sound is wrong first (sender plan (suc turn)) incorrect
         | inr tentative ↦
-            sound-tentative plan turn x is (x.hearing.deviation (sender plan (suc turn))) (suc turn) wrong first waits
-            tentative
-            (ap (fate_of plan (suc turn)) is.owner ∙ deaf.shown
-            ∙ ap (λ base. Fallen Receiving base (suc turn))
+            sound-tentative is (x.hearing.deviation (sender plan (suc turn))) (suc turn) wrong first waits tentative
+            (ap (fate_of plan (suc turn)) is.owner ∙ deaf.shown ∙ ap (λ base. Fallen Receiving base (suc turn))
             (sym lost.base ∙ ap (λ k. (ledger_of plan turn k).base) same))
       ]
 
@@ -115,8 +112,7 @@ module _ (plan : Plan) (turn since : ℕ) (x : NodeSlot) (is : IsSoundJudge plan
       cc
 
   pub shown-sound : (members : List ℕ) → HearsMembers x (sender plan (suc turn)) members
-      → has_node members (sender plan since) ≡ false
-      → IsSoundAt x.list plan (suc turn) x.node (next_past x)
+      → has_node members (sender plan since) ≡ false → IsSoundAt x.list plan (suc turn) x.node (next_past x)
   shown-sound members hears lacks = elim (cases_eq (sender plan since) x.node) [
     | inl same ↦ by x.past.ack refl same
     | inr other ↦ by_other members hears lacks (inl other)
@@ -130,119 +126,96 @@ module _ (plan : Plan) (turn since : ℕ) (x : NodeSlot) (is : IsSoundJudge plan
 
 -- In a turn of a world.
 
-module _ (list : Medl) (script : Script) (start : ClusterStart) (plan : Plan) (turn : ℕ) (new : SlotNumbers)
-    (numbers : Numbers) (t : IsTurn list script start plan turn new numbers) (k : ℕ) (node : k < length list.slots)
+module _ {list : Medl} {script : Script} {start : ClusterStart} {plan : Plan} {turn : ℕ} {new : SlotNumbers}
+    {numbers : Numbers} (t : IsTurn list script start plan turn new numbers) (k : ℕ) (node : k < length list.slots)
     (other : sender plan (suc turn) ≢ k) (sound : fate_of plan turn k ≡ Sound) where
   pub sound-judge : IsSoundJudge plan turn (slot_of list script new numbers k)
   sound-judge =
-      let at = at-fate list script start plan turn new numbers t k Sound node sound in
+      let at = at-fate t k Sound node sound in
       record {
-        good = t.planned.follows.good;
+        good = good_plan t;
         nodes = t.planned.follows.nodes;
-        judging = judges list script start plan turn new numbers t k node at.phase at.place other;
+        judging = judges t k node at.phase at.place other;
         at = at;
-        owner = owner-is list script start plan turn new numbers t k node at.place;
-        entered = sound-unentered plan turn k t.planned.follows.good sound;
+        owner = owner-is t k node at.place;
+        entered = sound-unentered plan turn k (good_plan t) sound;
       }
-
-  less : k < plan.nodes
-  less = subst (λ n. k < n) (sym t.planned.follows.nodes) node
 
   hearing : IsHeardByPlan script start plan (suc turn)
   hearing = t.planned.follows.hearing (suc turn) t.within
 
   -- the frame of a sound sender is correct
-  pub judges-good : is_good_slot plan (suc turn) ≡ true
-      → fate_of plan turn (sender plan (suc turn)) ≡ Sound → is_sound_after plan (suc turn) k ≡ true
-      → IsJudgedAs (slot_of list script new numbers k) verdict.Correct
+  pub judges-good : is_good_slot plan (suc turn) ≡ true → fate_of plan turn (sender plan (suc turn)) ≡ Sound
+      → is_sound_after plan (suc turn) k ≡ true → IsJudgedAs (slot_of list script new numbers k) verdict.Correct
       ((slot_of list script new numbers k).hearing.deviation (sender plan (suc turn)))
   judges-good good_is sends stays =
       let e = sender plan (suc turn) in
       let x = slot_of list script new numbers k in
       let judge = sound-judge in
-      let number = slot_number list script start plan turn new numbers t in
-      let kept = ap (λ n. loses script e n k) number ∙ hearing.heard k less (λ same. other (sym same)) good_is stays in
-      let within = t.clocks.within k e node (e-node list script start plan turn new numbers t) stays good_is
-      judge.entered (sender-unentered plan (suc turn) t.planned.follows.good) in
-      let hears = hears-planned list script start plan turn new numbers t sends k judge.at.place kept within in
-      correct-group x (planned_members plan turn) judge.judging judge.at.group e (not_about plan turn x judge)
+      let number = slot_number t in
+      let kept = ap (λ n. loses script e n k) number
+      ∙ hearing.heard k (less-planned t k node) (λ same. other (sym same)) good_is stays in
+      let within = t.clocks.within k e node (e-node t) stays good_is
+      judge.entered (sender-unentered plan (suc turn) (good_plan t)) in
+      let hears = hears-planned t sends k judge.at.place kept within in
+      correct-group x (planned_members plan turn) judge.judging judge.at.group e (not_about judge)
       (subst (λ o. HearsMembers x e (with_node (planned_members plan turn) o)) (sym judge.owner) hears)
 
-  pub receives-good : is_good_slot plan (suc turn) ≡ true
-      → fate_of plan turn (sender plan (suc turn)) ≡ Sound → is_sound_after plan (suc turn) k ≡ true
-      → IsSoundAt list plan (suc turn) k (next_past (slot_of list script new numbers k))
-  receives-good good_is sends stays =
-      sound-correct plan turn (slot_of list script new numbers k) sound-judge _ good_is
-      (judges-good good_is sends stays)
+  pub receives-good : is_good_slot plan (suc turn) ≡ true → fate_of plan turn (sender plan (suc turn)) ≡ Sound
+      → is_sound_after plan (suc turn) k ≡ true → NextSound t k
+  receives-good good_is sends stays = sound-correct sound-judge _ good_is (judges-good good_is sends stays)
 
   module _ (wrong : is_good_slot plan (suc turn) ≡ false) where
     -- where nobody sends it is null
-    pub receives-silence : NoneSends list script (world list script numbers)
-        (messages_chosen list script (length numbers) new.sent)
-        → IsSoundAt list plan (suc turn) k (next_past (slot_of list script new numbers k))
+    pub receives-silence : SendsNone t → NextSound t k
     receives-silence none =
-        silent-sound plan turn (slot_of list script new numbers k) sound-judge wrong
-        (silent-none_sends list script (world list script numbers) _ k none)
+        silent-sound sound-judge wrong (silent-none_sends list script (world list script numbers) _ k none)
 
-    module _ (first : is_first_slot plan (suc turn) ≡ true) (alone : SendsAlone list script
-        (world list script numbers) (messages_chosen list script (length numbers) new.sent) (sender plan (suc turn)))
+    module _ (first : is_first_slot plan (suc turn) ≡ true) (alone : SendsOne t)
       where
         pub receives-none : loses script (sender plan (suc turn)) (length (world list script numbers)) k ≡ true
-            → IsSoundAt list plan (suc turn) k (next_past (slot_of list script new numbers k))
-        receives-none lost =
-            deaf-sound plan turn (slot_of list script new numbers k) sound-judge wrong first
-            (none-alone list script (world list script numbers) _ (sender plan (suc turn)) k alone lost)
+            → NextSound t k
+        receives-none lost = deaf-sound sound-judge wrong first (none-alone k alone lost)
 
         receives-outside : loses script (sender plan (suc turn)) (length (world list script numbers)) k ≡ false
             → is_within_window list
-            (deviation_in (slot_after list script (world list script numbers)) k (sender plan (suc turn)))
-            ≡ false
-            → IsSoundAt list plan (suc turn) k (next_past (slot_of list script new numbers k))
+            (deviation_in (slot_after list script (world list script numbers)) k (sender plan (suc turn))) ≡ false
+            → NextSound t k
         receives-outside kept outside =
-            outside-sound plan turn (slot_of list script new numbers k) sound-judge wrong first
-            (sender plan (suc turn))
-            (outside-alone list script (world list script numbers) _ (sender plan (suc turn)) k alone kept outside)
+            outside-sound sound-judge wrong first (sender plan (suc turn)) (outside-alone k alone kept outside)
 
         -- the frame of a node whose clock jumped comes outside the window, or not at all
         pub receives-jumped : (since : ℕ) → is_sound_after plan (suc turn) k ≡ true
-            → fate_of plan (suc turn) (sender plan (suc turn)) ≡ Fallen Jumping since (suc turn)
-            → IsSoundAt list plan (suc turn) k (next_past (slot_of list script new numbers k))
+            → fate_of plan (suc turn) (sender plan (suc turn)) ≡ Fallen Jumping since (suc turn) → NextSound t k
         receives-jumped since stays jumped = by _ refl
           where
-            by : (lost : Bool)
-                → loses script (sender plan (suc turn)) (length (world list script numbers)) k ≡ lost
-                → IsSoundAt list plan (suc turn) k (next_past (slot_of list script new numbers k))
+            by : (lost : Bool) → loses script (sender plan (suc turn)) (length (world list script numbers)) k ≡ lost
+                → NextSound t k
             by true lost = receives-none lost
             by false kept =
-                receives-outside kept
-                (t.clocks.frame k (sender plan (suc turn)) since node
-                (e-node list script start plan turn new numbers t) stays sound-judge.entered jumped)
+                receives-outside kept (t.clocks.frame k (sender plan (suc turn)) since node (e-node t) stays
+                sound-judge.entered jumped)
 
         -- the frame of a receiver that was lost
         pub receives-deaf : (since : ℕ) → IsDeafSender plan turn since
             → IsFallingAt list plan turn (sender plan (suc turn)) Receiving since
-            (slot_of list script new numbers (sender plan (suc turn))).past
-            → sender plan since ≢ sender plan (suc turn)
-            → IsSoundAt list plan (suc turn) k (next_past (slot_of list script new numbers k))
+            (slot_of list script new numbers (sender plan (suc turn))).past → sender plan since ≢ sender plan (suc turn)
+            → NextSound t k
         receives-deaf since deaf at apart = by _ _ refl refl
           where
             by : (lost within : Bool)
                 → loses script (sender plan (suc turn)) (length (world list script numbers)) k ≡ lost
                 → is_within_window list
-                (deviation_in (slot_after list script (world list script numbers)) k (sender plan (suc turn)))
-                ≡ within
-                → IsSoundAt list plan (suc turn) k (next_past (slot_of list script new numbers k))
+                (deviation_in (slot_after list script (world list script numbers)) k (sender plan (suc turn))) ≡ within
+                → NextSound t k
             by true within lost _ = receives-none lost
             by false false kept outside = receives-outside kept outside
             by false true kept inside =
                 let e = sender plan (suc turn) in
                 let judge = sound-judge in
-                let hears = members-alone list script (world list script numbers) _ e k alone kept
-                (ap (next_place list) (at.place ∙ sym judge.at.place)) inside in
-                let count = t.planned.follows.good.count in
+                let hears = members-alone k alone kept (ap (next_place list) (at.place ∙ sym judge.at.place)) inside in
                 let p_less : sender plan since < plan.nodes =
-                mod-lt (plan.starter + since) (omega (arith, count)) in
-                let few = t.planned.follows.good.count.1 in
-                shown-sound plan turn since (slot_of list script new numbers k) judge wrong first deaf _ hears
+                mod-lt (plan.starter + since) (omega (arith, (good_plan t).count)) in
+                shown-sound judge wrong first deaf _ hears
                 (has_node-with_other (slot_of list script new numbers e).past.members e (sender plan since)
-                (omega (arith, p_less, few)) apart ∙ at.lacks refl)
+                (omega (arith, p_less, (good_plan t).count.1)) apart ∙ at.lacks refl)

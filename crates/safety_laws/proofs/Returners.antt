@@ -1,7 +1,7 @@
 -- A node that listens in a turn: it waits, or it enters by the frame of a sound node and is sound.
-use Rattle.std.proofs.Common.{◌≡◌, ℕ, suc, ◌+◌, ◌<◌, Bool, true, false, List, length, refl, ap, sym, subst}
-use Rattle.std.proofs.Common.{◌∙◌, arith}
-use Rattle.std.proofs.lemmas.Bool.{both_ways, false≢true}
+use Rattle.std.proofs.Common.{◌≡◌, ℕ, suc, ◌+◌, ◌<◌, Bool, true, false, List, length, refl, ap, sym, subst, ◌∙◌, arith}
+use Rattle.std.proofs.Common.{inl, inr}
+use Rattle.std.proofs.lemmas.Bool.{both_ways, false≢true, lt-ltb}
 use Rattle.ttp_base.specs.NodeSet.{with_node}
 use Rattle.ttp_world.specs.declared.medl.Kind.{Kind}
 use Rattle.ttp_world.specs.declared.medl.Kind.TheVariants as kind
@@ -12,35 +12,36 @@ use Rattle.ttp_world.specs.Acknowledgement.{is_open}
 use Rattle.ttp_world.specs.Diary.{Place, next_place}
 use Rattle.ttp_world.specs.Frame.{header_of, is_explicit}
 use Rattle.ttp_world.specs.Hypothesis.{ClusterStart, loses}
-use Rattle.ttp_world.specs.Membership.{AreNodes}
 use Rattle.ttp_world.specs.Past.{NodePast}
 use Rattle.ttp_world.specs.Reception.{expected_header}
 use Rattle.ttp_world.specs.Returning.{carries_place}
-use Rattle.ttp_world.specs.World.{SlotNumbers, Numbers, messages_chosen, world}
-use Rattle.fault_plan.specs.Plan.{Plan, sender, enters}
+use Rattle.ttp_world.specs.World.{SlotNumbers, Numbers, messages_chosen, world, node_past}
+use Rattle.fault_plan.specs.Plan.{Plan, sender, enters, is_armed_by}
 use Rattle.fault_plan.specs.Fates.{Fate, Absent, Sound, Falling, Fallen, Listening, fate_of, is_sound, is_good_slot}
-use Rattle.fault_plan.specs.Fates.{may_stay}
+use Rattle.fault_plan.specs.Fates.{may_stay, is_lost}
 use Rattle.fault_plan.specs.Kept.{kind_in}
 use Rattle.fault_plan.specs.Ledger.{Ledger, opened, planned_members}
 use Rattle.fault_plan.specs.Places.{planned_place}
 use Rattle.fault_plan.proofs.FateSteps.{strikes, next-entered, sound-fate}
-use Rattle.fault_plan.proofs.Returns.{entry-is, entry-good}
-use Rattle.safety_laws.specs.Groups.{held_with, IsAboutOther, HoldsGroup}
+use Rattle.fault_plan.proofs.Returns.{entry-is, entry-good, armed-lost, entry-from}
 use Rattle.safety_laws.specs.Listening.{HearsPlace}
 use Rattle.safety_laws.specs.NodeSlot.{next_past, coming_place}
-use Rattle.safety_laws.specs.Senders.{SendsAlone, NoneSends}
 use Rattle.safety_laws.specs.Standing.{StandsBy, joined_on, joined_standing}
-use Rattle.safety_laws.specs.ByFate.{doubts, IsCounted, IsSoundAt, IsListeningAt, IsByFate}
+use Rattle.safety_laws.specs.ByFate.{doubts, IsCounted, IsListeningAt, IsByFate}
 use Rattle.safety_laws.specs.PlanTurn.{IsTurn}
 use Rattle.safety_laws.proofs.Listening.{around-silent, frame-silent, waited-none, waited-passing, joined-place}
 use Rattle.safety_laws.proofs.OneSender.{silent-none_sends, place-alone, no_place-alone}
 use Rattle.safety_laws.proofs.Arrivals.{sound-owner, sound-alone, sound-members, silent-absent, silent-listening}
-use Rattle.safety_laws.proofs.Arrivals.{silent-fallen}
-use Rattle.safety_laws.proofs.Awaited.{IsAwaited, quiet-awaited, gone-awaited, listens-on}
-use Rattle.safety_laws.proofs.Listeners.{ListensSince, waits-on}
+use Rattle.safety_laws.proofs.Arrivals.{silent-fallen, at-fate}
+use Rattle.safety_laws.proofs.Listeners.{IsAwaited, quiet-awaited, gone-awaited, listens-on, awaited-armed}
+use Rattle.safety_laws.proofs.Listeners.{awaited-listening, ListensSince, waits-on}
 use Rattle.safety_laws.proofs.PlanSteps.{members-good, ledger-entered, sound-stays, good-sender}
-use Rattle.safety_laws.proofs.Silence.{frameless-silent}
-use Rattle.safety_laws.proofs.PlanTurns.{slot_of, slot_number, within-plan}
+use Rattle.safety_laws.proofs.Hearing.{frameless-silent}
+use Rattle.safety_laws.proofs.PlanTurns.{NextByFate, NextSound, SendsNone, SendsOne, slot_of, slot_number, within-plan}
+use Rattle.safety_laws.proofs.PlanTurns.{armed-planned, listens-still, listens-now, less-planned, good_plan}
+use Rattle.std.specs.Prelude.{nat_lt}
+use Rattle.ttp_world.specs.declared.node.Phase.TheVariants as phase
+use Rattle.safety_laws.proofs.Groups.{holds-by}
 
 -- a frame carries its place where its header says so
 explicit-kind : (k : Kind) → is_explicit (header_of k) ≡ carries_place k
@@ -50,8 +51,7 @@ explicit-kind kind.X = refl
 
 -- a node that has just joined counts the frame on which it did
 counted-joined : (slot : ℕ) (past : NodePast) → past.accepted ≡ 1 → past.rejected ≡ 0 → past.ack ≡ ack.Closed
-    → past.cold_start ≡ false
-    → IsCounted (opened false slot) past
+    → past.cold_start ≡ false → IsCounted (opened false slot) past
 counted-joined slot past accepted rejected closed later =
     let none : doubts past.ack ≡ 0 = ap doubts closed in
     record {
@@ -61,47 +61,33 @@ counted-joined slot past accepted rejected closed later =
       cold_start = λ cold. absurd (false≢true (sym later ∙ cold));
     }
 
--- and holds the group that the frame told
-group-joined : (list : Medl) (k : ℕ) (group : List ℕ) (past : NodePast) → AreNodes list group
-    → past.members ≡ group → past.ack ≡ ack.Closed → HoldsGroup list k group past
-group-joined list k group past nodes members closed = record {
-  nodes = nodes;
-  members = members ∙ ap (held_with group) (sym closed);
-  own = λ opened. absurd (false≢true (ap is_open (sym closed) ∙ opened));
-  doubted = subst (IsAboutOther group) (sym closed) tt;
-}
-
-module _ (list : Medl) (script : Script) (start : ClusterStart) (plan : Plan) (turn : ℕ) (new : SlotNumbers)
-    (numbers : Numbers) (t : IsTurn list script start plan turn new numbers) (k : ℕ) (node : k < length list.slots)
+module _ {list : Medl} {script : Script} {start : ClusterStart} {plan : Plan} {turn : ℕ} {new : SlotNumbers}
+    {numbers : Numbers} (t : IsTurn list script start plan turn new numbers) (k : ℕ) (node : k < length list.slots)
     (since : ℕ) (awaited : IsAwaited plan turn k since)
     (listens : ListensSince plan turn since (slot_of list script new numbers k)) where
   -- Where the slot is not good nobody sends.
 
-  silent-wrong : is_good_slot plan (suc turn) ≡ false
-      → NoneSends list script (world list script numbers) (messages_chosen list script (length numbers) new.sent)
+  silent-wrong : is_good_slot plan (suc turn) ≡ false → SendsNone t
   silent-wrong wrong = by (fate_of plan turn (sender plan (suc turn))) refl
     where
-      by : (fate : Fate) → fate_of plan turn (sender plan (suc turn)) ≡ fate
-          → NoneSends list script (world list script numbers) (messages_chosen list script (length numbers) new.sent)
-      by Absent is = silent-absent list script start plan turn new numbers t is
-      by (Listening s) is = silent-listening list script start plan turn new numbers t s is
-      by (Fallen change s shown) is = silent-fallen list script start plan turn new numbers t change s shown is
+      by : (fate : Fate) → fate_of plan turn (sender plan (suc turn)) ≡ fate → SendsNone t
+      by Absent is = silent-absent t is
+      by (Listening s) is = silent-listening t s is
+      by (Fallen change s shown) is = silent-fallen t change s shown is
       by (Falling change s) is =
           absurd (both_ways (may_stay plan.nodes turn (fate_of plan turn (sender plan (suc turn))))
-          (gone-awaited plan turn k since t.planned.follows.good awaited (sender plan (suc turn)))
+          (gone-awaited plan turn k since (good_plan t) awaited (sender plan (suc turn)))
           (ap (may_stay plan.nodes turn) is))
       by Sound is =
-          absurd (both_ways (is_good_slot plan (suc turn)) wrong
-          (ap is_sound (sound-stays plan turn (sender plan (suc turn)) t.planned.follows.good
-          (ap (λ found. strikes found (sender plan (suc turn)))
-          (quiet-awaited plan turn k since t.planned.follows.good awaited)) is)))
+          absurd (both_ways (is_good_slot plan (suc turn)) wrong (ap is_sound (sound-stays plan turn
+          (sender plan (suc turn)) (good_plan t) (ap (λ found. strikes found (sender plan (suc turn)))
+          (quiet-awaited plan turn k since (good_plan t) awaited)) is)))
 
   waits-silent : is_good_slot plan (suc turn) ≡ false
       → IsListeningAt list plan (suc turn) k since (next_past (slot_of list script new numbers k))
   waits-silent wrong =
       let x = slot_of list script new numbers k in
-      waits-on plan turn since x awaited.from listens
-      (waited-none x listens.listens
+      waits-on plan turn since x awaited.from listens (waited-none x listens.listens
       (frameless-silent _ (silent-none_sends list script (world list script numbers) _ k (silent-wrong wrong))))
       (λ good_is. absurd (both_ways (is_good_slot plan (suc turn)) wrong good_is))
 
@@ -109,20 +95,16 @@ module _ (list : Medl) (script : Script) (start : ClusterStart) (plan : Plan) (t
 
   module _ (good_is : is_good_slot plan (suc turn) ≡ true) where
     sends : fate_of plan turn (sender plan (suc turn)) ≡ Sound
-    sends = sound-fate _ (good-sender plan turn t.planned.follows.good good_is)
+    sends = sound-fate _ (good-sender plan turn (good_plan t) good_is)
 
-    alone : SendsAlone list script (world list script numbers)
-        (messages_chosen list script (length numbers) new.sent) (sender plan (suc turn))
-    alone = sound-alone list script start plan turn new numbers t sends
+    alone : SendsOne t
+    alone = sound-alone t sends
 
     place_is : coming_place (slot_of list script new numbers (sender plan (suc turn))) ≡ planned_place list plan (suc turn)
-    place_is = ap (next_place list) (sound-owner list script start plan turn new numbers t sends).at.place
-
-    less : k < plan.nodes
-    less = subst (λ n. k < n) (sym t.planned.follows.nodes) node
+    place_is = ap (next_place list) (sound-owner t sends).at.place
 
     number : length (world list script numbers) ≡ start.slot + suc turn
-    number = slot_number list script start plan turn new numbers t
+    number = slot_number t
 
     -- it carries its place where the list says so
     explicit-is : is_explicit (expected_header list
@@ -137,30 +119,23 @@ module _ (list : Medl) (script : Script) (start : ClusterStart) (plan : Plan) (t
         → IsListeningAt list plan (suc turn) k since (next_past (slot_of list script new numbers k))
     waits-passing unentered =
         let x = slot_of list script new numbers k in
-        let on = listens-on plan turn k since t.planned.follows.good awaited
-        (within-plan list script start plan turn new numbers t) unentered in
-        let at = awaited.armed in
-        let from = awaited.from in
-        let within = within-plan list script start plan turn new numbers t in
+        let on = listens-on plan turn k since (good_plan t) awaited (within-plan t) unentered in
+        let within = within-plan t in
         let none = (t.planned.follows.returns awaited.return awaited.among).none (suc turn)
-        (omega (arith, at, from)) on.0 within good_is in
+        (omega (arith, awaited.armed, awaited.from)) on.0 within good_is in
         let hearing = t.planned.follows.hearing (suc turn) t.within in
-        let kept = ap (λ n. loses script (sender plan (suc turn)) n k) number ∙ hearing.listens k since less good_is on.1
-        in
-        let hears = no_place-alone list script numbers (messages_chosen list script (length numbers) new.sent)
-        (sender plan (suc turn)) k t.planned.valid alone kept (explicit-is ∙ none) in
-        waits-on plan turn since x awaited.from listens (waited-passing x (sender plan (suc turn)) listens.listens hears)
-        (λ again.
-        around-silent list script (world list script numbers)
-        (messages_chosen list script (length numbers) new.sent) k
+        let kept = ap (λ n. loses script (sender plan (suc turn)) n k) number
+        ∙ hearing.listens k since (less-planned t k node) good_is on.1 in
+        let hears = no_place-alone numbers k t.planned.valid alone kept (explicit-is ∙ none) in
+        waits-on plan turn since x awaited.from listens
+        (waited-passing x (sender plan (suc turn)) listens.listens hears) (λ again.
+        around-silent list script (world list script numbers) (messages_chosen list script (length numbers) new.sent) k
         ∙ frame-silent x.hearing _ hears.comes)
 
     members_are : with_node (slot_of list script new numbers (sender plan (suc turn))).past.members
-        (sender plan (suc turn))
-        ≡ planned_members plan (suc turn)
+        (sender plan (suc turn)) ≡ planned_members plan (suc turn)
     members_are =
-        ap (λ (members : List ℕ). with_node members (sender plan (suc turn)))
-        (sound-members list script start plan turn new numbers t sends)
+        ap (λ (members : List ℕ). with_node members (sender plan (suc turn))) (sound-members t sends)
         ∙ sym (members-good plan turn good_is)
 
     -- When it enters it does.
@@ -173,14 +148,12 @@ module _ (list : Medl) (script : Script) (start : ClusterStart) (plan : Plan) (t
           (subst (λ slot. slot < plan.slots) (sym found.entered) found.within) in
           let hearing = t.planned.follows.hearing (suc turn) t.within in
           let sound = ap is_sound (next-entered plan (suc turn) k (fate_of plan turn k) entered) in
-          let other = (entry-good plan (suc turn) k t.planned.follows.good entered).1 in
+          let other = (entry-good plan (suc turn) k (good_plan t) entered).1 in
           subst (λ (told : Place × List ℕ).
           HearsPlace (slot_of list script new numbers k) (sender plan (suc turn)) told.0 told.1)
-          (λ i. (place_is i, members_are i))
-          (place-alone list script numbers (messages_chosen list script (length numbers) new.sent)
-          (sender plan (suc turn)) k t.planned.valid alone
+          (λ i. (place_is i, members_are i)) (place-alone numbers k t.planned.valid alone
           (ap (λ n. loses script (sender plan (suc turn)) n k) number
-          ∙ hearing.heard k less (λ same. other (sym same)) good_is sound)
+          ∙ hearing.heard k (less-planned t k node) (λ same. other (sym same)) good_is sound)
           (explicit-is ∙ ap (λ slot. carries_place (kind_in list plan slot)) (sym found.entered) ∙ offers))
 
       pub joins-entry :
@@ -193,15 +166,16 @@ module _ (list : Medl) (script : Script) (start : ClusterStart) (plan : Plan) (t
           joined-place (slot_of list script new numbers k) (sender plan (suc turn)) (planned_place list plan (suc turn))
           (planned_members plan (suc turn)) listens.listens hears-entry
 
-      sound-entered : IsSoundAt list plan (suc turn) k (next_past (slot_of list script new numbers k))
+      sound-entered : NextSound t k
       sound-entered =
           let past = next_past (slot_of list script new numbers k) in
           let stands = joins-entry in
-          let other = (entry-good plan (suc turn) k t.planned.follows.good entered).1 in
+          let other = (entry-good plan (suc turn) k (good_plan t) entered).1 in
           record {
             phase = stands.phase;
             place = stands.place;
-            group = group-joined list k (planned_members plan (suc turn)) past hears-entry.nodes stands.members stands.ack;
+            group = holds-by list k (planned_members plan (suc turn)) past ack.Closed stands.ack hears-entry.nodes
+                stands.members (λ opened. absurd (false≢true opened)) tt;
             counted = subst (λ (ledger : Ledger). IsCounted ledger past)
                 (sym (ledger-entered plan turn k other entered))
                 (counted-joined (suc turn) past stands.accepted stands.rejected stands.ack stands.cold_start);
@@ -210,8 +184,7 @@ module _ (list : Medl) (script : Script) (start : ClusterStart) (plan : Plan) (t
           }
 
   -- So it is what its fate says.
-  pub returner-next : IsByFate list plan (suc turn) k (next_past (slot_of list script new numbers k))
-      (fate_of plan (suc turn) k)
+  pub returner-next : NextByFate t k
   returner-next = by (enters plan (suc turn) k) refl
     where
       past : NodePast
@@ -227,9 +200,72 @@ module _ (list : Medl) (script : Script) (start : ClusterStart) (plan : Plan) (t
       by true entered =
           subst (λ (f : Fate). IsByFate list plan (suc turn) k past f)
           (sym (next-entered plan (suc turn) k (fate_of plan turn k) entered))
-          (sound-entered (entry-good plan (suc turn) k t.planned.follows.good entered).0 entered)
+          (sound-entered (entry-good plan (suc turn) k (good_plan t) entered).0 entered)
       by false unentered =
-          subst (λ (f : Fate). IsByFate list plan (suc turn) k past f)
-          (sym (listens-on plan turn k since t.planned.follows.good awaited
-          (within-plan list script start plan turn new numbers t) unentered).1)
-          (waits (is_good_slot plan (suc turn)) refl unentered)
+          subst (λ (f : Fate). IsByFate list plan (suc turn) k past f) (sym (listens-on plan turn k since (good_plan t)
+          awaited (within-plan t) unentered).1) (waits (is_good_slot plan (suc turn)) refl unentered)
+
+-- A node that is armed in a turn, and one that listened before it: both listen in it.
+
+-- a lost node that may not stay has left
+left-gone : (list : Medl) (script : Script) (plan : Plan) (turn k : ℕ) (numbers : Numbers) (fate : Fate)
+    → is_lost fate ≡ true → may_stay plan.nodes turn fate ≡ false
+    → IsByFate list plan turn k (node_past list script (world list script numbers) k) fate
+    → (node_past list script (world list script numbers) k).phase ≡ phase.Left
+left-gone list script plan turn k numbers (Fallen change s shown) lost gone (inl left) = left
+left-gone list script plan turn k numbers (Fallen change s shown) lost gone (inr at) =
+    absurd (both_ways (nat_lt turn (shown + plan.nodes)) gone (lt-ltb turn (shown + plan.nodes) at.soon))
+left-gone list script plan turn k numbers _ lost gone at = cc
+
+module _ {list : Medl} {script : Script} {start : ClusterStart} {plan : Plan} {turn : ℕ} {new : SlotNumbers}
+    {numbers : Numbers} (t : IsTurn list script start plan turn new numbers) (k : ℕ) (node : k < length list.slots)
+  where
+    record Listens : Type 0 where
+      since : ℕ
+      awaited : IsAwaited plan turn k since
+      listens : ListensSince plan turn since (slot_of list script new numbers k)
+
+    still : (since : ℕ) → fate_of plan turn k ≡ Listening since → Listens
+    still since is = record {
+      since = since;
+      awaited = awaited-listening plan turn k since (good_plan t) (within-plan t) is;
+      listens = listens-still t k node since is (at-fate t k (Listening since) node is);
+    }
+
+    now : is_armed_by plan (suc turn) k ≡ true → Listens
+    now armed =
+        let awaited = awaited-armed plan turn k (good_plan t) armed in
+        let lost = armed-lost plan turn k (good_plan t) armed in
+        record {
+          since = suc turn;
+          awaited = awaited;
+          listens = listens-now t k node (left-gone list script plan turn k numbers (fate_of plan turn k) lost
+              (gone-awaited plan turn k (suc turn) (good_plan t) awaited k) (t.before.nodes k node))
+              (armed-planned t k node lost ∙ armed);
+        }
+
+    next : Listens → NextByFate t k
+    next l = returner-next t k node l.since l.awaited l.listens
+
+    pub listening-next : (since : ℕ) → fate_of plan turn k ≡ Listening since → NextByFate t k
+    listening-next since is = next (still since is)
+
+    pub armed-next : is_armed_by plan (suc turn) k ≡ true → NextByFate t k
+    armed-next armed = next (now armed)
+
+    -- where it enters it joins at the plan's place, with the plan's members, by what it measures of the sender's frame
+    pub entered-joins : enters plan (suc turn) k ≡ true →
+        let x = slot_of list script new numbers k in
+        let place = planned_place list plan (suc turn) in
+        let members = planned_members plan (suc turn) in
+        let deviation = x.hearing.deviation (sender plan (suc turn)) in
+        StandsBy (next_past x) (joined_on place members deviation) (joined_standing list place members deviation)
+    entered-joins entered =
+        let l = listener in
+        joins-entry t k node l.since l.awaited l.listens (entry-good plan (suc turn) k (good_plan t) entered).0 entered
+      where
+        listener : Listens
+        listener = elim (entry-from plan turn k (good_plan t) entered) [
+          | inl armed ↦ now armed
+          | inr listens ↦ still listens.0 listens.1
+        ]

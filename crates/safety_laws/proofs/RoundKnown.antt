@@ -8,7 +8,7 @@ use Rattle.ttp_world.specs.declared.medl.Medl.{Medl}
 use Rattle.ttp_world.specs.declared.node.Entry.{Entry}
 use Rattle.ttp_world.specs.declared.script.Script.{Script}
 use Rattle.ttp_world.specs.Clock.{notes_in}
-use Rattle.ttp_world.specs.Diary.{History, entry_of}
+use Rattle.ttp_world.specs.Diary.{History, entry_of, continues_stint}
 use Rattle.ttp_world.specs.Hypothesis.{ClusterStart, needed}
 use Rattle.ttp_world.specs.Medl.{IsValid}
 use Rattle.precision.proofs.Averages.{IsUpTo, AreNear}
@@ -21,7 +21,7 @@ use Rattle.safety_laws.specs.NotedByPlan.{IsSoundIn, NotedByPlan, IsTight}
 use Rattle.safety_laws.proofs.Apart.{noted_width, near-later, uncorrected-in, same-near}
 use Rattle.safety_laws.proofs.NearNotes.{clock_moved, clock-next, notes-next, NextSlot, index-of, small-new, near-new}
 use Rattle.safety_laws.proofs.NearNotes.{sound-moved}
-use Rattle.safety_laws.proofs.RoundNotes.{place-slot, sound-goes, sound-back, tight-stays, tight-back}
+use Rattle.safety_laws.proofs.RoundNotes.{Counted, place-slot, sound-goes, sound-back, tight-stays, tight-back}
 use Rattle.safety_laws.proofs.BeganTogether.{number-of, counted-run}
 
 pub record NotesKnown (list : Medl) (script : Script) (plan : Plan) (slot : ℕ) (history : History) : Type 0 where
@@ -33,123 +33,105 @@ pub record NotesKnown (list : Medl) (script : Script) (plan : Plan) (slot : ℕ)
       → AreNear (noted_width list (sender plan slot)) (clock_after list script history x)
       (clock_after list script history k) (round_notes list history x)
 
--- a sound node's notes after one slot more
-pub sound-notes : {list : Medl} {script : Script} {start : ClusterStart} {plan : Plan} {slot : ℕ} {row : List Entry}
-    {history : History} → NextSlot list script start plan slot row history → (k : ℕ) → IsSoundIn list plan (suc slot) k
-    → round_notes list (row ∷ history) k
-    ≡ notes_in list (planned_place list plan (suc slot)) (entry_of row k)
-    ++ cond (suc (sender plan slot) == length list.slots) [] (round_notes list history k)
-sound-notes {list = list} {script = script} {start = start} {plan = plan} {slot = slot} {row = row}
-    {history = history} s k p =
-    let counted = counted-run list script start plan (suc slot) (row ∷ history) s.before.follows.planned
-    (s.before.noted, s.noted) in
-    notes-next list row history k (sender plan slot) (planned_place list plan (suc slot))
-    (suc (sender plan slot) == length list.slots)
-    (sound-goes list script plan (suc slot) k row history s.noted p (tight-stays plan (suc slot) k s.tight)) (counted.places k p)
-    (place-slot list script start plan (suc slot) s.before.follows.planned
-    ∙ index-of list script start plan slot s.before.follows.planned)
-
--- and its clock
-pub sound-clock : {list : Medl} {script : Script} {start : ClusterStart} {plan : Plan} {slot : ℕ} {row : List Entry}
-    {history : History} → NextSlot list script start plan slot row history → (k : ℕ) → IsSoundIn list plan (suc slot) k
-    → clock_after list script (row ∷ history) k
-    ≡ clock_moved list script history k
-    +ℤ correction list (sender plan (suc slot)) (round_notes list (row ∷ history) k)
-sound-clock {list = list} {script = script} {start = start} {plan = plan} {slot = slot} {row = row}
-    {history = history} s k p =
-    let counted = counted-run list script start plan (suc slot) (row ∷ history) s.before.follows.planned
-    (s.before.noted, s.noted) in
-    clock-next list script row history k (planned_place list plan (suc slot))
-    (sound-goes list script plan (suc slot) k row history s.noted p (tight-stays plan (suc slot) k s.tight)) (counted.places k p)
-    ∙ ap (λ m. clock_moved list script history k +ℤ correction list m (round_notes list (row ∷ history) k))
-    (place-slot list script start plan (suc slot) s.before.follows.planned)
-
 -- the index of the slot before, where a round goes on
 goes-from : (index m slot n : ℕ) (last : Bool) → index ≡ cond last 0 (suc m) → last ≡ false → index < suc slot
     → m < slot
 goes-from index m slot n true is other less = cc
 goes-from index m slot n false is other less = omega (arith, is, less)
 
-all-small : (list : Medl) (script : Script) (start : ClusterStart) (plan : Plan) (slot k : ℕ) (row : List Entry)
-    (history : History) (last : Bool)
-    → (suc (sender plan slot) == length list.slots) ≡ last
-    → NextSlot list script start plan slot row history → NotesKnown list script plan slot history
-    → sender plan (suc slot) < suc slot → IsSoundIn list plan (suc slot) k
-    → All (IsUpTo (needed list)) (round_notes list (row ∷ history) k)
-all-small list script start plan slot k row history last is s known later p =
-    subst (All (IsUpTo (needed list))) (sym (sound-notes s k p))
-    (All-append (IsUpTo (needed list)) (notes_in list (planned_place list plan (suc slot)) (entry_of row k))
-    (cond (suc (sender plan slot) == length list.slots) [] (round_notes list history k))
-    (small-new s k p)
-    (subst (λ b. All (IsUpTo (needed list)) (cond b [] (round_notes list history k))) (sym is) (old last is)))
-  where
-    old : (b : Bool) → (suc (sender plan slot) == length list.slots) ≡ b
-        → All (IsUpTo (needed list)) (cond b [] (round_notes list history k))
-    old true ends = All-nil (IsUpTo (needed list))
-    old false inside =
-        known.small (tight-back plan slot
-        (index-of list script start plan slot s.before.follows.planned
-        ∙ ap (λ b. cond b 0 (suc (sender plan slot))) inside) s.tight)
-        (goes-from (sender plan (suc slot)) (sender plan slot) slot (length list.slots)
-        (suc (sender plan slot) == length list.slots)
-        (index-of list script start plan slot s.before.follows.planned) inside later)
-        k (sound-back list plan slot k (tight-stays plan (suc slot) k s.tight) p)
+module _ {list : Medl} {script : Script} {start : ClusterStart} {plan : Plan} {slot : ℕ} {row : List Entry}
+    {history : History} (s : NextSlot list script start plan slot row history) where
+  counted : Counted list plan (suc slot) (row ∷ history)
+  counted =
+      counted-run list script start plan (suc slot) (row ∷ history) s.before.follows.planned (s.before.noted, s.noted)
 
-all-near : (list : Medl) (script : Script) (start : ClusterStart) (plan : Plan) (slot x k : ℕ) (row : List Entry)
-    (history : History)
-    → NextSlot list script start plan slot row history → NotesKnown list script plan slot history
-    → sender plan (suc slot) < suc slot → suc (sender plan (suc slot)) < length list.slots
-    → IsSoundIn list plan (suc slot) x → IsSoundIn list plan (suc slot) k
-    → AreNear (noted_width list (sender plan (suc slot))) (clock_after list script (row ∷ history) x)
-    (clock_after list script (row ∷ history) k) (round_notes list (row ∷ history) x)
-all-near list script start plan slot x k row history s known later less p q =
-    same-near width (clock_moved list script history x) (clock_moved list script history k)
-    (clock_after list script (row ∷ history) x) (clock_after list script (row ∷ history) k)
-    (round_notes list (row ∷ history) x) (moved x p) (moved k q)
-    (subst (AreNear width (clock_moved list script history x) (clock_moved list script history k))
-    (sym (sound-notes s x p))
-    (All-append (λ d. IsUpTo width ((clock_moved list script history x +ℤ d) -ℤ clock_moved list script history k))
-    (notes_in list (planned_place list plan (suc slot)) (entry_of row x))
-    (cond (suc (sender plan slot) == length list.slots) [] (round_notes list history x))
-    (near-new s x k p q)
-    (old (suc (sender plan slot) == length list.slots) refl)))
-  where
-    width : ℤ
-    width = noted_width list (sender plan (suc slot))
+  -- a sound node goes on
+  goes : (k : ℕ) → IsSoundIn list plan (suc slot) k → continues_stint (entry_of row k) ≡ true
+  goes k p = sound-goes list script plan (suc slot) k row history s.noted p (tight-stays plan (suc slot) k s.tight)
 
-    moved : (j : ℕ) → IsSoundIn list plan (suc slot) j
-        → clock_after list script (row ∷ history) j ≡ clock_moved list script history j
-    moved j r =
-        uncorrected-in list (sender plan (suc slot)) (clock_moved list script history j)
-        (clock_after list script (row ∷ history) j) (round_notes list (row ∷ history) j) less
-        (sound-clock s j r)
+  index : sender plan (suc slot) ≡ cond (suc (sender plan slot) == length list.slots) 0 (suc (sender plan slot))
+  index = index-of list script start plan slot s.before.follows.planned
 
-    old : (b : Bool) → (suc (sender plan slot) == length list.slots) ≡ b
-        → AreNear width (clock_moved list script history x) (clock_moved list script history k)
-        (cond b [] (round_notes list history x))
-    old true ends =
-        All-nil (λ d. IsUpTo width ((clock_moved list script history x +ℤ d) -ℤ clock_moved list script history k))
-    old false inside =
-        let index : sender plan (suc slot) ≡ suc (sender plan slot) =
-        index-of list script start plan slot s.before.follows.planned
-        ∙ ap (λ b. cond b 0 (suc (sender plan slot))) inside in
-        subst (λ i. AreNear (noted_width list i) (clock_moved list script history x)
-        (clock_moved list script history k) (round_notes list history x)) (sym index)
-        (near-later list (sender plan slot) (clock_after list script history x) (clock_after list script history k)
-        (clock_moved list script history x) (clock_moved list script history k) (round_notes list history x)
-        (record {
-          up = s.before.valid.drift.0;
-          first = sound-moved s x p;
-          second = sound-moved s k q;
-        })
-        (known.near (tight-back plan slot index s.tight) (omega (arith, index, later)) (omega (arith, index, less)) x k
-        (sound-back list plan slot x (tight-stays plan (suc slot) x s.tight) p)
-        (sound-back list plan slot k (tight-stays plan (suc slot) k s.tight) q)))
+  -- its notes after one slot more
+  pub sound-notes : (k : ℕ) → IsSoundIn list plan (suc slot) k → round_notes list (row ∷ history) k
+      ≡ notes_in list (planned_place list plan (suc slot)) (entry_of row k)
+      ++ cond (suc (sender plan slot) == length list.slots) [] (round_notes list history k)
+  sound-notes k p =
+      notes-next list row history k (sender plan slot) (planned_place list plan (suc slot))
+      (suc (sender plan slot) == length list.slots) (goes k p) (counted.places k p)
+      (place-slot list script start plan (suc slot) s.before.follows.planned ∙ index)
+
+  -- and its clock
+  pub sound-clock : (k : ℕ) → IsSoundIn list plan (suc slot) k → clock_after list script (row ∷ history) k
+      ≡ clock_moved list script history k
+      +ℤ correction list (sender plan (suc slot)) (round_notes list (row ∷ history) k)
+  sound-clock k p =
+      clock-next list script row history k (planned_place list plan (suc slot)) (goes k p) (counted.places k p)
+      ∙ ap (λ m. clock_moved list script history k +ℤ correction list m (round_notes list (row ∷ history) k))
+      (place-slot list script start plan (suc slot) s.before.follows.planned)
+
+  module _ (known : NotesKnown list script plan slot history) (later : sender plan (suc slot) < suc slot) where
+    all-small : (last : Bool) → (suc (sender plan slot) == length list.slots) ≡ last
+        → (k : ℕ) → IsSoundIn list plan (suc slot) k → All (IsUpTo (needed list)) (round_notes list (row ∷ history) k)
+    all-small last is k p =
+        subst (All (IsUpTo (needed list))) (sym (sound-notes k p)) (All-append (IsUpTo (needed list))
+        (notes_in list (planned_place list plan (suc slot)) (entry_of row k))
+        (cond (suc (sender plan slot) == length list.slots) [] (round_notes list history k)) (small-new s k p)
+        (subst (λ b. All (IsUpTo (needed list)) (cond b [] (round_notes list history k))) (sym is) (old last is)))
+      where
+        old : (b : Bool) → (suc (sender plan slot) == length list.slots) ≡ b
+            → All (IsUpTo (needed list)) (cond b [] (round_notes list history k))
+        old true ends = All-nil (IsUpTo (needed list))
+        old false inside =
+            known.small (tight-back plan slot (index ∙ ap (λ b. cond b 0 (suc (sender plan slot))) inside) s.tight)
+            (goes-from (sender plan (suc slot)) (sender plan slot) slot (length list.slots)
+            (suc (sender plan slot) == length list.slots) index inside later)
+            k (sound-back list plan slot k (tight-stays plan (suc slot) k s.tight) p)
+
+    all-near : suc (sender plan (suc slot)) < length list.slots → (x k : ℕ)
+        → IsSoundIn list plan (suc slot) x → IsSoundIn list plan (suc slot) k
+        → AreNear (noted_width list (sender plan (suc slot))) (clock_after list script (row ∷ history) x)
+        (clock_after list script (row ∷ history) k) (round_notes list (row ∷ history) x)
+    all-near less x k p q =
+        same-near width (clock_moved list script history x) (clock_moved list script history k)
+        (clock_after list script (row ∷ history) x) (clock_after list script (row ∷ history) k)
+        (round_notes list (row ∷ history) x) (moved x p) (moved k q)
+        (subst (AreNear width (clock_moved list script history x) (clock_moved list script history k))
+        (sym (sound-notes x p))
+        (All-append (λ d. IsUpTo width ((clock_moved list script history x +ℤ d) -ℤ clock_moved list script history k))
+        (notes_in list (planned_place list plan (suc slot)) (entry_of row x))
+        (cond (suc (sender plan slot) == length list.slots) [] (round_notes list history x))
+        (near-new s x k p q) (old (suc (sender plan slot) == length list.slots) refl)))
+      where
+        width : ℤ
+        width = noted_width list (sender plan (suc slot))
+
+        moved : (j : ℕ) → IsSoundIn list plan (suc slot) j
+            → clock_after list script (row ∷ history) j ≡ clock_moved list script history j
+        moved j r =
+            uncorrected-in list (sender plan (suc slot)) (clock_moved list script history j)
+            (clock_after list script (row ∷ history) j) (round_notes list (row ∷ history) j) less (sound-clock j r)
+
+        old : (b : Bool) → (suc (sender plan slot) == length list.slots) ≡ b
+            → AreNear width (clock_moved list script history x) (clock_moved list script history k)
+            (cond b [] (round_notes list history x))
+        old true ends =
+            All-nil (λ d. IsUpTo width ((clock_moved list script history x +ℤ d) -ℤ clock_moved list script history k))
+        old false inside =
+            let next : sender plan (suc slot) ≡ suc (sender plan slot) =
+            index ∙ ap (λ b. cond b 0 (suc (sender plan slot))) inside in
+            subst (λ i. AreNear (noted_width list i) (clock_moved list script history x)
+            (clock_moved list script history k) (round_notes list history x)) (sym next)
+            (near-later list (sender plan slot) (clock_after list script history x) (clock_after list script history k)
+            (clock_moved list script history x) (clock_moved list script history k) (round_notes list history x)
+            (record { up = s.before.valid.drift.0; first = sound-moved s x p; second = sound-moved s k q })
+            (known.near (tight-back plan slot next s.tight) (omega (arith, next, later)) (omega (arith, next, less)) x k
+            (sound-back list plan slot x (tight-stays plan (suc slot) x s.tight) p)
+            (sound-back list plan slot k (tight-stays plan (suc slot) k s.tight) q)))
 
 pub notes-known : (list : Medl) (script : Script) (start : ClusterStart) (plan : Plan) (slot : ℕ) (history : History)
     → IsValid list → FollowsWithin list script start plan → NotedByPlan list script start plan slot history
-    → length history ≤ script.slots
-    → NotesKnown list script plan slot history
+    → length history ≤ script.slots → NotesKnown list script plan slot history
 notes-known list script start plan slot [] valid follows noted within = absurd noted
 notes-known list script start plan zero (row ∷ history) valid follows noted within = record {
   small = λ tight later. absurd (omega (arith, later));
@@ -169,8 +151,6 @@ notes-known list script start plan (suc slot) (row ∷ history) valid follows no
     } in
     let known = notes-known list script start plan slot history valid follows noted.0 (omega (arith, within)) in
     record {
-      small = λ tight later k p. all-small list script start plan slot k row history
-          (suc (sender plan slot) == length list.slots) refl (s tight) known later p;
-      near = λ tight later less x k p q.
-          all-near list script start plan slot x k row history (s tight) known later less p q;
+      small = λ tight later. all-small (s tight) known later (suc (sender plan slot) == length list.slots) refl;
+      near = λ tight later. all-near (s tight) known later;
     }

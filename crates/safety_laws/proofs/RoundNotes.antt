@@ -40,8 +40,7 @@ no-note true none = refl
 no-note false none = refl
 
 one-telling : (list : Medl) (script : Script) (history : History) (p k : ℕ) (place : Place) (e : Entry)
-    → TellsOf list script history p k e
-    → length (notes_in list place e) ≡ cond (plan_at list place.slot).sync 1 0
+    → TellsOf list script history p k e → length (notes_in list place e) ≡ cond (plan_at list place.slot).sync 1 0
 one-telling list script history p k place (entry.Sent message) tells = one-note (plan_at list place.slot).sync _
 one-telling list script history p k place (entry.Judged sender v deviation) tells =
     let sync = (plan_at list place.slot).sync in
@@ -60,8 +59,7 @@ none-silent list place _ none = absurd none
 pub sender-in : (list : Medl) (script : Script) (start : ClusterStart) (plan : Plan) (slot : ℕ)
     → FollowsPlan list script start plan → sender plan slot < length list.slots
 sender-in list script start plan slot follows =
-    let few = follows.good.count.0 in
-    let less : sender plan slot < plan.nodes = mod-lt (plan.starter + slot) (omega (arith, few)) in
+    let less : sender plan slot < plan.nodes = mod-lt (plan.starter + slot) (omega (arith, follows.good.count.0)) in
     omega (arith, less, follows.nodes)
 
 pub place-slot : (list : Medl) (script : Script) (start : ClusterStart) (plan : Plan) (slot : ℕ)
@@ -77,10 +75,8 @@ sync-planned list script start plan slot follows =
     ∙ sym (follows.measured (sender plan slot) (sender-in list script start plan slot follows))
 
 goes-on : (list : Medl) (script : Script) (plan : Plan) (slot k : ℕ) (row : List Entry) (history : History)
-    (good : Bool)
-    → is_good_slot plan slot ≡ good → NotedInSlot list script plan slot row history → IsSoundIn list plan slot k
-    → enters plan slot k ≡ false
-    → continues_stint (entry_of row k) ≡ true
+    (good : Bool) → is_good_slot plan slot ≡ good → NotedInSlot list script plan slot row history
+    → IsSoundIn list plan slot k → enters plan slot k ≡ false → continues_stint (entry_of row k) ≡ true
 goes-on list script plan slot k row history true is noted p none =
     goes-telling list script history (sender plan slot) k (entry_of row k) (noted.good k is p none)
 goes-on list script plan slot k row history false is noted p none = goes-silent (entry_of row k) (noted.other k is p)
@@ -93,14 +89,12 @@ sound-goes list script plan slot k row history =
     goes-on list script plan slot k row history (is_good_slot plan slot) refl
 
 new-notes : (list : Medl) (script : Script) (start : ClusterStart) (plan : Plan) (slot k : ℕ) (row : List Entry)
-    (history : History) (good : Bool)
-    → is_good_slot plan slot ≡ good → FollowsPlan list script start plan
+    (history : History) (good : Bool) → is_good_slot plan slot ≡ good → FollowsPlan list script start plan
     → NotedInSlot list script plan slot row history → IsSoundIn list plan slot k → enters plan slot k ≡ false
     → length (notes_in list (planned_place list plan slot) (entry_of row k)) ≡ cond (is_measured plan slot) 1 0
 new-notes list script start plan slot k row history true is follows noted p none =
     one-telling list script history (sender plan slot) k (planned_place list plan slot) (entry_of row k)
-    (noted.good k is p none)
-    ∙ ap (λ b. cond b 1 0) (sync-planned list script start plan slot follows)
+    (noted.good k is p none) ∙ ap (λ b. cond b 1 0) (sync-planned list script start plan slot follows)
     ∙ ap (λ b. cond (b && has_node plan.measured (sender plan slot)) 1 0) (sym is)
 new-notes list script start plan slot k row history false is follows noted p none =
     ap length (none-silent list (planned_place list plan slot) (entry_of row k) (noted.other k is p))
@@ -109,12 +103,10 @@ new-notes list script start plan slot k row history false is follows noted p non
 -- The index of a slot in its round.
 
 pub index-next : (list : Medl) (script : Script) (start : ClusterStart) (plan : Plan) (slot : ℕ) (last : Bool)
-    → (suc (planned_place list plan slot).slot == length list.slots) ≡ last
-    → FollowsPlan list script start plan
+    → (suc (planned_place list plan slot).slot == length list.slots) ≡ last → FollowsPlan list script start plan
     → sender plan (suc slot) ≡ cond last 0 (suc (sender plan slot))
 index-next list script start plan slot last is follows =
-    sym (place-slot list script start plan (suc slot) follows)
-    ∙ next last is
+    sym (place-slot list script start plan (suc slot) follows) ∙ next last is
     ∙ ap (λ m. cond last 0 (suc m)) (place-slot list script start plan slot follows)
   where
     next : (b : Bool) → (suc (planned_place list plan slot).slot == length list.slots) ≡ b
@@ -134,35 +126,29 @@ pub record Counted (list : Medl) (plan : Plan) (slot : ℕ) (history : History) 
       → length (stint_notes list k (diary_of history k)) ≡ tally (is_measured plan) from (suc (sender plan slot))
 
 pub counted-start : (list : Medl) (script : Script) (start : ClusterStart) (plan : Plan) (row : List Entry)
-    (history : History)
-    → ((k : ℕ) → IsSoundIn list plan 0 k
-    → stint_place list k (diary_of (row ∷ history) k) ≡ planned_place list plan 0)
-    → Counted list plan 0 (row ∷ history)
+    (history : History) → ((k : ℕ) → IsSoundIn list plan 0 k
+    → stint_place list k (diary_of (row ∷ history) k) ≡ planned_place list plan 0) → Counted list plan 0 (row ∷ history)
 counted-start list script start plan row history places =
     record { places = places; notes = λ k from p later is never. absurd (omega (arith, later, is)) }
 
 place-next : (list : Medl) (script : Script) (plan : Plan) (slot k : ℕ) (row : List Entry) (history : History)
     → NotedInSlot list script plan (suc slot) row history → IsSoundIn list plan (suc slot) k
-    → enters plan (suc slot) k ≡ false
-    → stint_place list k (diary_of history k) ≡ planned_place list plan slot
+    → enters plan (suc slot) k ≡ false → stint_place list k (diary_of history k) ≡ planned_place list plan slot
     → stint_place list k (diary_of (row ∷ history) k) ≡ planned_place list plan (suc slot)
 place-next list script plan slot k row history noted p none is =
     place_continued list k (diary_of history k) (entry_of row k)
-    (sound-goes list script plan (suc slot) k row history noted p none)
-    ∙ ap (next_place list) is
+    (sound-goes list script plan (suc slot) k row history noted p none) ∙ ap (next_place list) is
 
 -- a node that is sound after the next slot, and does not enter in it, is so after this one
 pub sound-back : (list : Medl) (plan : Plan) (slot k : ℕ) → enters plan (suc slot) k ≡ false
-    → IsSoundIn list plan (suc slot) k
-    → IsSoundIn list plan slot k
+    → IsSoundIn list plan (suc slot) k → IsSoundIn list plan slot k
 sound-back list plan slot k none p = (p.0, sound-from plan (suc slot) k (fate_of plan slot k) none p.1)
 
 plus-none : (n : ℕ) → n + 0 ≡ n
 plus-none n = omega arith
 
 pub counted-next : (list : Medl) (script : Script) (start : ClusterStart) (plan : Plan) (slot : ℕ) (row : List Entry)
-    (history : History)
-    → FollowsPlan list script start plan → NotedInSlot list script plan (suc slot) row history
+    (history : History) → FollowsPlan list script start plan → NotedInSlot list script plan (suc slot) row history
     → Counted list plan slot history → Counted list plan (suc slot) (row ∷ history)
 counted-next list script start plan slot row history follows noted before = record {
   places = places;
@@ -198,12 +184,10 @@ counted-next list script start plan slot row history follows noted before = reco
         let index : sender plan (suc slot) ≡ 0 = index-next list script start plan slot true ends follows in
         let here : from + 0 ≡ suc slot = omega (arith, is, index) in
         ap length (notes_anew list k (diary_of history k) (entry_of row k) (planned_place list plan (suc slot))
-        (places k p)
-        (first_slot_first (planned_place list plan (suc slot)) (entry_of row k)
+        (places k p) (first_slot_first (planned_place list plan (suc slot)) (entry_of row k)
         (place-slot list script start plan (suc slot) follows ∙ index)))
         ∙ fresh k p (never (suc slot) (omega (arith, is)) (omega arith))
-        ∙ ap (λ t. cond (is_measured plan t) 1 0) (sym here)
-        ∙ sym (plus-none (cond (is_measured plan (from + 0)) 1 0))
+        ∙ ap (λ t. cond (is_measured plan t) 1 0) (sym here) ∙ sym (plus-none (cond (is_measured plan (from + 0)) 1 0))
         ∙ ap (λ m. tally (is_measured plan) from (suc m)) (sym index)
     notes k from p later is never false inside =
         let index : sender plan (suc slot) ≡ suc (sender plan slot) =
@@ -211,13 +195,11 @@ counted-next list script start plan slot row history follows noted before = reco
         let here : from + suc (sender plan slot) ≡ suc slot = omega (arith, is, index) in
         let none : enters plan (suc slot) k ≡ false = never (suc slot) (omega (arith, is)) (omega arith) in
         ap length (notes_more list k (diary_of history k) (entry_of row k) (planned_place list plan (suc slot))
-        (places k p)
-        (later_slot_later (planned_place list plan (suc slot)) (entry_of row k) (sender plan slot)
+        (places k p) (later_slot_later (planned_place list plan (suc slot)) (entry_of row k) (sender plan slot)
         (place-slot list script start plan (suc slot) follows ∙ index)
         (sound-goes list script plan (suc slot) k row history noted p none)))
         ∙ length-append (notes_in list (planned_place list plan (suc slot)) (entry_of row k))
-        (stint_notes list k (diary_of history k))
-        ∙ (λ i. fresh k p none i
+        (stint_notes list k (diary_of history k)) ∙ (λ i. fresh k p none i
         + before.notes k from (sound-back list plan slot k none p) later (omega (arith, here))
         (λ turn after to. never turn after (omega (arith, to))) i)
         ∙ ap (λ t. cond (is_measured plan t) 1 0 + tally (is_measured plan) from (suc (sender plan slot))) (sym here)

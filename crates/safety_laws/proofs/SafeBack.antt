@@ -38,12 +38,12 @@ use Rattle.fault_plan.proofs.FateSteps.{sound-fate}
 module _ (list : Medl) (script : Script) (start : ClusterStart) (plan : Plan) (turn : ℕ) (history : History)
     (is : StandsBack list script start plan turn history) where
   newest-is : newest_slot history ≡ start.slot + turn
-  newest-is = newest list script start plan turn history is.stands
+  newest-is = newest is.stands
 
   -- Nodes that are correct by the other test are sound.
 
   abbrev Sound : ℕ → Type 0
-  Sound k = IsSoundNode list script start plan turn history is.stands k
+  Sound k = IsSoundNode is.stands k
 
   sound : (k : ℕ) → k < length list.slots → is_back_correct_after list script (newest_slot history) k ≡ true → Sound k
   sound k node correct = (
@@ -60,24 +60,22 @@ module _ (list : Medl) (script : Script) (start : ClusterStart) (plan : Plan) (t
 
   agree : back_members_agree list script history ≡ true
   agree =
-      agree-settled list script start plan turn history is.stands (back_settled_nodes list script history)
+      agree-settled is.stands (back_settled_nodes list script history)
       (each-filter Sound (is_settled history) (back_correct_nodes list script history) corrects)
 
   -- each that has sent in its stint is a member
   senders : back_senders_are_members list script history ≡ true
   senders =
       all-by (λ j. Sound j × (has_sent_in_stint (diary_of history j) ≡ true))
-      (is_in_among list history (back_correct_nodes list script history)) (back_senders list script history)
-      (λ j of_j.
-      in-sound list script start plan turn history is.stands (back_correct_nodes list script history) corrects j of_j.0
+      (is_in_among list history (back_correct_nodes list script history)) (back_senders list script history) (λ j of_j.
+      in-sound is.stands (back_correct_nodes list script history) corrects j of_j.0
       (is.stands.holds.sent j of_j.0.0 of_j.0.1 of_j.1))
       (each-filter Sound (λ j. has_sent_in_stint (diary_of history j)) (back_correct_nodes list script history) corrects)
 
   -- none has left since it was armed last
   stay : none_has_left_since_arm list script history ≡ true
   stay =
-      all-by Sound (λ k. not (has_left_since_arm script history k)) (back_correct_nodes list script history)
-      (λ k of_k.
+      all-by Sound (λ k. not (has_left_since_arm script history k)) (back_correct_nodes list script history) (λ k of_k.
       not_from_false (has_left_since_arm script history k)
       (is.stands.holds.stay k of_k.0 (ap is_there (sound-fate (fate_of plan turn k) of_k.1)))) corrects
 
@@ -111,12 +109,11 @@ module _ (list : Medl) (script : Script) (start : ClusterStart) (plan : Plan) (t
           (or_left (is_armed_among script f.node f.slot (length history - f.slot)) _ armed)
       by true false over unarmed =
           let passed = leb-true (f.slot + two_rounds list) (length history) over in
-          let number = is.stands.number in
           or_right (not (nat_le (f.slot + two_rounds list) (length history))) _
           (or_right (is_armed_among script f.node f.slot (length history - f.slot)) _
-          (gone-lost list script start plan turn history is.stands nodes corrects f.node f.slot
-          (lost (ap (λ slots. is_armed_among script f.node f.slot (slots - f.slot)) (sym number) ∙ unarmed))
-          (omega (arith, passed, number, newest-is))))
+          (gone-lost is.stands nodes corrects f.node f.slot
+          (lost (ap (λ slots. is_armed_among script f.node f.slot (slots - f.slot)) (sym is.stands.number) ∙ unarmed))
+          (omega (arith, passed, is.stands.number, newest-is))))
 
   faulty : back_faulty_are_gone list script history ≡ true
   faulty = all-by IsLost _ (back_faulty_after list script (newest_slot history)) gone all-lost
@@ -130,11 +127,10 @@ module _ (list : Medl) (script : Script) (start : ClusterStart) (plan : Plan) (t
         by ack.Closed held = refl
         by ack.First held = refl
         by (ack.Doubt y) held =
-            let found = (at-sound list script start plan turn history is.stands j of_j).doubted y held in
+            let found = (at-sound is.stands j of_j).doubted y held in
             let good = is.stands.planned.follows.good in
             let loss = (told-fallen plan turn y (ledger_of plan turn j).base found.0 _ good found.1).loss in
-            let near = ledger-told plan turn j good
-            (subst (λ n. j < n) (sym is.stands.planned.follows.nodes) of_j.0) in
+            let near = ledger-told plan turn j good (subst (λ n. j < n) (sym is.stands.planned.follows.nodes) of_j.0) in
             let none = again.quiet (ledger_of plan turn j).base near.within near.near in
             let both = sym loss.found ∙ none in
             cc
@@ -148,10 +144,7 @@ module _ (list : Medl) (script : Script) (start : ClusterStart) (plan : Plan) (t
             let told = ledger-told plan turn k is.stands.planned.follows.good
             (subst (λ n. k < n) (sym is.stands.planned.follows.nodes) node) in
             elim (told.began first) [
-              | inl at_start ↦
-                  let near = told.near in
-                  let late = again.late in
-                  absurd (omega (arith, at_start, near, late))
+              | inl at_start ↦ absurd (omega (arith, at_start, told.near, again.late))
               | inr entered ↦
                   absurd (both_ways (enters plan (ledger_of plan turn k).base k)
                   (again.entered (ledger_of plan turn k).base told.within told.near) entered)
@@ -162,37 +155,29 @@ module _ (list : Medl) (script : Script) (start : ClusterStart) (plan : Plan) (t
         let of_k : Sound k = (node, again.sound) in
         let nodes = back_correct_nodes list script history in
         and_from (is_active (diary_of history k)) _
-        (ap (λ (p : Phase). is_active_phase p) (at-sound list script start plan turn history is.stands k of_k).phase)
-        (and_from (is_in_among list history nodes k) _
-        (in-sound list script start plan turn history is.stands nodes corrects k of_k own)
-        (all-by Sound (are_same_members list history k) nodes
-        (λ j of_j.
-        same-settled list script start plan turn history is.stands k j (of_k, settled k of_k) (of_j, settled j of_j))
-        corrects))
+        (ap (λ (p : Phase). is_active_phase p) (at-sound is.stands k of_k).phase)
+        (and_from (is_in_among list history nodes k) _ (in-sound is.stands nodes corrects k of_k own) (all-by Sound
+        (are_same_members list history k) nodes (λ j of_j.
+        same-settled is.stands k j (of_k, settled k of_k) (of_j, settled j of_j)) corrects))
 
   returned-due : (k : ℕ) → (k < length list.slots) × (is_due list script history k ≡ true)
       → has_returned list script history k ≡ true
   returned-due k due =
       let parts = and_parts (nat_le (four_rounds list) (length history)) _ due.1 in
       let long = leb-true (four_rounds list) (length history) parts.0 in
-      let number = is.stands.number in
-      returned k due.0
-      (is.returns.returned turn k due.0 is.stands.within (omega (arith, long, number))
-      (ap (λ slots. is_armed script k (slots - four_rounds list)) (sym number) ∙ parts.1))
+      returned k due.0 (is.returns.returned turn k due.0 is.stands.within (omega (arith, long, is.stands.number))
+      (ap (λ slots. is_armed script k (slots - four_rounds list)) (sym is.stands.number) ∙ parts.1))
 
   have-returned : armed_have_returned list script history ≡ true
   have-returned =
       all-by (λ k. (k < length list.slots) × (is_due list script history k ≡ true)) (has_returned list script history) _
-      returned-due
-      (each-filter (λ k. k < length list.slots) (is_due list script history) (nodes_of list)
+      returned-due (each-filter (λ k. k < length list.slots) (is_due list script history) (nodes_of list)
       (below-lt (length list.slots)))
 
   pub safe-back : IsBackSafe list script history
   safe-back = record { agree = agree; senders = senders; stay = stay; faulty = faulty; returned = have-returned }
 
   -- Each such node is a sound one of the plan.
-  pub back-sound : (k : ℕ) → k < length list.slots
-      → is_back_correct_after list script (newest_slot history) k ≡ true
+  pub back-sound : (k : ℕ) → k < length list.slots → is_back_correct_after list script (newest_slot history) k ≡ true
       → IsSoundAt list plan turn k (node_past list script history k)
-  back-sound k node correct =
-      at-sound list script start plan turn history is.stands k (sound k node correct)
+  back-sound k node correct = at-sound is.stands k (sound k node correct)

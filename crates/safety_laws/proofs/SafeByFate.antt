@@ -25,15 +25,15 @@ use Rattle.safety_laws.specs.PlannedRun.{StandsAfter}
 use Rattle.safety_laws.proofs.Among.{all-by, each-of, newest, IsSoundNode, at-sound, agree-settled, in-sound}
 use Rattle.safety_laws.proofs.Among.{gone-lost}
 
-module _ (list : Medl) (script : Script) (start : ClusterStart) (plan : Plan) (turn : ℕ) (history : History)
+module _ {list : Medl} {script : Script} {start : ClusterStart} {plan : Plan} {turn : ℕ} {history : History}
     (is : StandsAfter list script start plan turn history) where
   newest-is : newest_slot history ≡ start.slot + turn
-  newest-is = newest list script start plan turn history is.stands
+  newest-is = newest is.stands
 
   -- Correct nodes are the sound ones.
 
   abbrev Sound : ℕ → Type 0
-  Sound k = IsSoundNode list script start plan turn history is.stands k
+  Sound k = IsSoundNode is.stands k
 
   sound : (k : ℕ) → k < length list.slots → is_correct_after list script (newest_slot history) k ≡ true → Sound k
   sound k node correct = (
@@ -50,26 +50,23 @@ module _ (list : Medl) (script : Script) (start : ClusterStart) (plan : Plan) (t
 
   agree : members_agree list script history ≡ true
   agree =
-      agree-settled list script start plan turn history is.stands (settled_nodes list script history)
+      agree-settled is.stands (settled_nodes list script history)
       (each-filter Sound (is_settled history) (correct_nodes list script history) corrects)
 
   -- each that has sent is a member
   senders : senders_are_members list script history ≡ true
   senders =
       all-by (λ j. Sound j × (has_ever_sent (diary_of history j) ≡ true))
-      (is_in_among list history (correct_nodes list script history)) (correct_senders list script history)
-      (λ j of_j.
-      in-sound list script start plan turn history is.stands (correct_nodes list script history) corrects j of_j.0
+      (is_in_among list history (correct_nodes list script history)) (correct_senders list script history) (λ j of_j.
+      in-sound is.stands (correct_nodes list script history) corrects j of_j.0
       (is.stands.holds.ever_sent j of_j.0.0 of_j.0.1 (λ slot to. none-enters plan slot j is.faults.returns) of_j.1))
       (each-filter Sound (λ j. has_ever_sent (diary_of history j)) (correct_nodes list script history) corrects)
 
   -- none has left
   stay : none_has_left list script history ≡ true
   stay =
-      all-by Sound (λ k. not (has_left history k)) (correct_nodes list script history)
-      (λ k of_k.
-      ap (λ (p : Phase). not (is_left_phase p)) (at-sound list script start plan turn history is.stands k of_k).phase)
-      corrects
+      all-by Sound (λ k. not (has_left history k)) (correct_nodes list script history) (λ k of_k.
+      ap (λ (p : Phase). not (is_left_phase p)) (at-sound is.stands k of_k).phase) corrects
 
   -- and each faulty node has left in time
   abbrev IsLost : FaultyNode → Type 0
@@ -82,9 +79,7 @@ module _ (list : Medl) (script : Script) (start : ClusterStart) (plan : Plan) (t
 
   gone-faulty : (f : FaultyNode) → IsLost f → f.slot + 2 * length list.slots ≤ suc (suc (newest_slot history))
       → (has_left history f.node && is_out list script history f.node) ≡ true
-  gone-faulty f lost late =
-      gone-lost list script start plan turn history is.stands (correct_nodes list script history) corrects f.node f.slot
-      lost late
+  gone-faulty f lost late = gone-lost is.stands (correct_nodes list script history) corrects f.node f.slot lost late
 
   pub faulty-leave : FaultyLeave list script history
   faulty-leave = each-of (faulty_nodes_after list script (newest_slot history)) gone-faulty all-lost
@@ -94,8 +89,7 @@ module _ (list : Medl) (script : Script) (start : ClusterStart) (plan : Plan) (t
     where
       by : (over : Bool) → nat_le (f.slot + 2 * length list.slots) (suc (newest_slot history)) ≡ over
           → is_gone list script history f ≡ true
-      by false is =
-          ap (λ b. not b || (has_left history f.node && is_out list script history f.node)) is
+      by false is = ap (λ b. not b || (has_left history f.node && is_out list script history f.node)) is
       by true is =
           let passed = leb-true (f.slot + 2 * length list.slots) (suc (newest_slot history)) is in
           or_right _ _ (gone-faulty f lost (omega (arith, passed)))
@@ -107,8 +101,6 @@ module _ (list : Medl) (script : Script) (start : ClusterStart) (plan : Plan) (t
   safe-after = record { agree = agree; senders = senders; stay = stay; faulty = faulty }
 
   -- Each correct node is a sound one of the plan.
-  pub correct-sound : (k : ℕ) → k < length list.slots
-      → is_correct_after list script (newest_slot history) k ≡ true
+  pub correct-sound : (k : ℕ) → k < length list.slots → is_correct_after list script (newest_slot history) k ≡ true
       → IsSoundAt list plan turn k (node_past list script history k)
-  correct-sound k node correct =
-      at-sound list script start plan turn history is.stands k (sound k node correct)
+  correct-sound k node correct = at-sound is.stands k (sound k node correct)

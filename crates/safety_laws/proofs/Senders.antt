@@ -15,16 +15,14 @@ flat_map-none f a (suc n) none =
     ∙ flat_map-none f (a + 1) n (λ k from to. none k (omega arith) (omega arith))
 
 flat_map-one : {X : Type 0} (f : ℕ → List X) (a n p : ℕ) → a ≤ p → p < a + n
-    → ((k : ℕ) → a ≤ k → k < a + n → k ≢ p → f k ≡ [])
-    → flat_map f (range_with_len a n) ≡ f p
+    → ((k : ℕ) → a ≤ k → k < a + n → k ≢ p → f k ≡ []) → flat_map f (range_with_len a n) ≡ f p
 flat_map-one f a zero p from to others = absurd (omega arith)
 flat_map-one f a (suc n) p from to others = elim (cases_eq a p) [
   | inl same ↦
       let rest = flat_map-none f (a + 1) n (λ k later to. others k (omega arith) (omega arith) (omega arith)) in
       ap (λ back. f a ++ back) rest ∙ append-nil (f a) ∙ ap f same
   | inr other ↦
-      ap (λ front. front ++ flat_map f (range_with_len (a + 1) n))
-      (others a (omega arith) (omega arith) other)
+      ap (λ front. front ++ flat_map f (range_with_len (a + 1) n)) (others a (omega arith) (omega arith) other)
       ∙ flat_map-one f (a + 1) n p (omega arith) (omega arith)
       (λ k later to apart. others k (omega arith) (omega arith) apart)
 ]

@@ -4,7 +4,7 @@ use Rattle.std.proofs.Common.{◌∙◌, inl, inr, arith}
 use Rattle.ttp_world.specs.declared.medl.Medl.{Medl}
 use Rattle.ttp_world.specs.declared.script.Script.{Script}
 use Rattle.ttp_world.specs.Hypothesis.{ClusterStart, loses}
-use Rattle.ttp_world.specs.World.{SlotNumbers, Numbers, messages_chosen, world}
+use Rattle.ttp_world.specs.World.{SlotNumbers, Numbers}
 use Rattle.fault_plan.specs.Plan.{Change, Sending, Receiving, Jumping, Plan, sender, incident_at}
 use Rattle.fault_plan.specs.Fates.{Fate, Absent, Sound, Falling, Fallen, Listening, fate_of, is_sound}
 use Rattle.fault_plan.specs.Fates.{is_sound_after}
@@ -13,27 +13,26 @@ use Rattle.fault_plan.specs.Told.{IsFalling}
 use Rattle.fault_plan.proofs.FateSteps.{strikes}
 use Rattle.fault_plan.proofs.FateTells.{loss-sending}
 use Rattle.safety_laws.specs.NodeSlot.{next_past}
-use Rattle.safety_laws.specs.Senders.{SendsAlone, NoneSends}
-use Rattle.safety_laws.specs.ByFate.{IsSoundAt, IsFallingAt, IsFallenAt}
+use Rattle.safety_laws.specs.ByFate.{IsFallingAt, IsFallenAt}
 use Rattle.safety_laws.specs.PlanTurn.{IsTurn}
 use Rattle.safety_laws.proofs.Arrivals.{sound-alone, silent-absent, silent-listening, silent-fallen, falling-acts}
 use Rattle.safety_laws.proofs.PlanSteps.{IsStruck, struck-known, sound-stays, wrong-slot}
 use Rattle.safety_laws.proofs.PlanSteps.{falling-shown, struck-shown, first-shown, told-falling}
 use Rattle.safety_laws.proofs.Receivers.{receives-good, receives-silence, receives-none}
 use Rattle.safety_laws.proofs.Receivers.{receives-jumped, receives-deaf}
-use Rattle.safety_laws.proofs.PlanTurns.{slot_of, slot_number, none-sends}
+use Rattle.safety_laws.proofs.PlanTurns.{NextSound, SendsNone, SendsOne, slot_of, slot_number, none-sends, good_plan}
 
-module _ (list : Medl) (script : Script) (start : ClusterStart) (plan : Plan) (turn : ℕ) (new : SlotNumbers)
-    (numbers : Numbers) (t : IsTurn list script start plan turn new numbers) (k : ℕ) (node : k < length list.slots)
+module _ {list : Medl} {script : Script} {start : ClusterStart} {plan : Plan} {turn : ℕ} {new : SlotNumbers}
+    {numbers : Numbers} (t : IsTurn list script start plan turn new numbers) (k : ℕ) (node : k < length list.slots)
     (other : sender plan (suc turn) ≢ k) (sound : fate_of plan turn k ≡ Sound)
     (stays : is_sound_after plan (suc turn) k ≡ true) where
   -- the sender is lost in its own slot
   by-struck : fate_of plan turn (sender plan (suc turn)) ≡ Sound → IsStruck plan (suc turn) (sender plan (suc turn))
-      → IsSoundAt list plan (suc turn) k (next_past (slot_of list script new numbers k))
+      → NextSound t k
   by-struck sends struck = by struck.incident.change refl
     where
       shown : fate_of plan (suc turn) (sender plan (suc turn)) ≡ Fallen struck.incident.change (suc turn) (suc turn)
-      shown = struck-shown plan turn (sender plan (suc turn)) t.planned.follows.good struck refl
+      shown = struck-shown plan turn (sender plan (suc turn)) (good_plan t) struck refl
 
       wrong : is_good_slot plan (suc turn) ≡ false
       wrong = ap is_sound shown
@@ -41,40 +40,32 @@ module _ (list : Medl) (script : Script) (start : ClusterStart) (plan : Plan) (t
       first : is_first_slot plan (suc turn) ≡ true
       first = first-shown plan (suc turn) (suc turn) struck.incident.change shown
 
-      by : (change : Change) → struck.incident.change ≡ change
-          → IsSoundAt list plan (suc turn) k (next_past (slot_of list script new numbers k))
+      by : (change : Change) → struck.incident.change ≡ change → NextSound t k
       by Sending how =
           let hearing = t.planned.follows.hearing (suc turn) t.within in
-          let nodes = t.planned.follows.nodes in
-          receives-none list script start plan turn new numbers t k node other sound wrong first
-          (sound-alone list script start plan turn new numbers t sends)
-          (ap (λ n. loses script (sender plan (suc turn)) n k)
-          (slot_number list script start plan turn new numbers t)
-          ∙ hearing.unheard k struck.incident (subst (λ n. k < n) (sym nodes) node) struck.found how stays)
+          receives-none t k node other sound wrong first (sound-alone t sends)
+          (ap (λ n. loses script (sender plan (suc turn)) n k) (slot_number t)
+          ∙ hearing.unheard k struck.incident
+          (subst (λ n. k < n) (sym t.planned.follows.nodes) node) struck.found how stays)
       by Receiving how =
-          absurd (((t.planned.follows.good.losses turn struck.incident struck.found).receiving how).0
-          (sym struck.node))
+          absurd ((((good_plan t).losses turn struck.incident struck.found).receiving how).0 (sym struck.node))
       by Jumping how =
-          receives-jumped list script start plan turn new numbers t k node other sound wrong first
-          (sound-alone list script start plan turn new numbers t sends) (suc turn) stays
+          receives-jumped t k node other sound wrong first (sound-alone t sends) (suc turn) stays
           (shown ∙ ap (λ (c : Change). Fallen c (suc turn) (suc turn)) how)
 
   -- it is the sender's first own slot since it was lost
   by-falling : (change : Change) (since : ℕ) → fate_of plan turn (sender plan (suc turn)) ≡ Falling change since
-      → IsSoundAt list plan (suc turn) k (next_past (slot_of list script new numbers k))
-  by-falling change since falls = elim (falling-acts list script start plan turn new numbers t change since falls) [
-    | inl left ↦
-        receives-silence list script start plan turn new numbers t k node other sound wrong
-        (none-sends list script start plan turn new numbers t left.1)
+      → NextSound t k
+  by-falling change since falls = elim (falling-acts t change since falls) [
+    | inl left ↦ receives-silence t k node other sound wrong (none-sends t left.1)
     | inr sends ↦ by change refl sends
   ]
     where
       told : IsFalling plan turn (sender plan (suc turn)) change since
-      told = told-falling plan turn (sender plan (suc turn)) since change t.planned.follows.good falls
+      told = told-falling plan turn (sender plan (suc turn)) since change (good_plan t) falls
 
       shown : fate_of plan (suc turn) (sender plan (suc turn)) ≡ Fallen change since (suc turn)
-      shown =
-          falling-shown plan turn (sender plan (suc turn)) since change t.planned.follows.good refl falls
+      shown = falling-shown plan turn (sender plan (suc turn)) since change (good_plan t) refl falls
 
       wrong : is_good_slot plan (suc turn) ≡ false
       wrong = ap is_sound shown
@@ -85,22 +76,17 @@ module _ (list : Medl) (script : Script) (start : ClusterStart) (plan : Plan) (t
       apart : sender plan since ≢ sender plan (suc turn)
       apart = let from = told.from in told.unshown since (omega arith) from
 
-      by : (c : Change) → change ≡ c
-          → ((SendsAlone list script (world list script numbers)
-          (messages_chosen list script (length numbers) new.sent) (sender plan (suc turn)))
-          × (IsFallingAt list plan turn (sender plan (suc turn)) change since
-          (slot_of list script new numbers (sender plan (suc turn))).past)
-          × (IsFallenAt list plan (suc turn) (sender plan (suc turn)) since (suc turn)
-          (next_past (slot_of list script new numbers (sender plan (suc turn))))))
-          → IsSoundAt list plan (suc turn) k (next_past (slot_of list script new numbers k))
+      by : (c : Change) → change ≡ c → ((SendsOne t) × (IsFallingAt list plan turn (sender plan (suc turn)) change since
+          (slot_of list script new numbers (sender plan (suc turn))).past) × (IsFallenAt list plan (suc turn)
+          (sender plan (suc turn)) since (suc turn)
+          (next_past (slot_of list script new numbers (sender plan (suc turn)))))) → NextSound t k
       by Sending how sends =
-          absurd (apart (loss-sending plan (sender plan (suc turn)) since change t.planned.follows.good told.loss how))
+          absurd (apart (loss-sending plan (sender plan (suc turn)) since change (good_plan t) told.loss how))
       by Jumping how sends =
-          receives-jumped list script start plan turn new numbers t k node other sound wrong first sends.0 since stays
+          receives-jumped t k node other sound wrong first sends.0 since stays
           (shown ∙ ap (λ (c : Change). Fallen c since (suc turn)) how)
       by Receiving how sends =
-          receives-deaf list script start plan turn new numbers t k node other sound wrong first sends.0 since
-          (record {
+          receives-deaf t k node other sound wrong first sends.0 since (record {
             falling = falls ∙ ap (λ (c : Change). Falling c since) how;
             shown = shown ∙ ap (λ (c : Change). Fallen c since (suc turn)) how;
           })
@@ -108,30 +94,23 @@ module _ (list : Medl) (script : Script) (start : ClusterStart) (plan : Plan) (t
           (slot_of list script new numbers (sender plan (suc turn))).past) how sends.1) apart
 
   -- nobody sends, the sender being none that is sound
-  by-silence : {fate : Fate} → fate_of plan turn (sender plan (suc turn)) ≡ fate → is_sound fate ≡ false
-      → NoneSends list script (world list script numbers) (messages_chosen list script (length numbers) new.sent)
-      → IsSoundAt list plan (suc turn) k (next_past (slot_of list script new numbers k))
+  by-silence : {fate : Fate} → fate_of plan turn (sender plan (suc turn)) ≡ fate → is_sound fate ≡ false → SendsNone t
+      → NextSound t k
   by-silence is unsound none =
-      receives-silence list script start plan turn new numbers t k node other sound
-      (wrong-slot plan turn t.planned.follows.good (ap is_sound is ∙ unsound)) none
+      receives-silence t k node other sound (wrong-slot plan turn (good_plan t) (ap is_sound is ∙ unsound)) none
 
-  by-fate : (fate : Fate) → fate_of plan turn (sender plan (suc turn)) ≡ fate
-      → IsSoundAt list plan (suc turn) k (next_past (slot_of list script new numbers k))
-  by-fate Absent is =
-      by-silence is refl (silent-absent list script start plan turn new numbers t is)
-  by-fate (Listening since) is =
-      by-silence is refl (silent-listening list script start plan turn new numbers t since is)
-  by-fate (Fallen change since shown) is =
-      by-silence is refl (silent-fallen list script start plan turn new numbers t change since shown is)
+  by-fate : (fate : Fate) → fate_of plan turn (sender plan (suc turn)) ≡ fate → NextSound t k
+  by-fate Absent is = by-silence is refl (silent-absent t is)
+  by-fate (Listening since) is = by-silence is refl (silent-listening t since is)
+  by-fate (Fallen change since shown) is = by-silence is refl (silent-fallen t change since shown is)
   by-fate (Falling change since) is = by-falling change since is
   by-fate Sound is = by (strikes (incident_at plan (suc turn)) (sender plan (suc turn))) refl
     where
-      by : (hit : Bool) → strikes (incident_at plan (suc turn)) (sender plan (suc turn)) ≡ hit
-          → IsSoundAt list plan (suc turn) k (next_past (slot_of list script new numbers k))
+      by : (hit : Bool) → strikes (incident_at plan (suc turn)) (sender plan (suc turn)) ≡ hit → NextSound t k
       by true hit = by-struck is (struck-known plan (suc turn) (sender plan (suc turn)) hit)
       by false missed =
-          receives-good list script start plan turn new numbers t k node other sound
-          (ap is_sound (sound-stays plan turn (sender plan (suc turn)) t.planned.follows.good missed is)) is stays
+          receives-good t k node other sound
+          (ap is_sound (sound-stays plan turn (sender plan (suc turn)) (good_plan t) missed is)) is stays
 
-  pub sound-next : IsSoundAt list plan (suc turn) k (next_past (slot_of list script new numbers k))
+  pub sound-next : NextSound t k
   sound-next = by-fate (fate_of plan turn (sender plan (suc turn))) refl

@@ -16,7 +16,6 @@ use Rattle.ttp_world.specs.declared.node.Entry.TheVariants as entry
 use Rattle.ttp_world.specs.declared.node.Phase.{Phase}
 use Rattle.ttp_world.specs.declared.node.Phase.TheVariants as phase
 use Rattle.ttp_world.specs.declared.script.Script.{Script}
-use Rattle.ttp_world.specs.Acknowledgement.{is_open}
 use Rattle.ttp_world.specs.Act.{act, phase_act}
 use Rattle.ttp_world.specs.After.{past_after}
 use Rattle.ttp_world.specs.Conduct.{cold_start_frame, node_frames, new_entry}
@@ -36,7 +35,6 @@ use Rattle.safety_laws.specs.Standing.{Standing, StandsBy, joined_standing}
 use Rattle.safety_laws.specs.Start.{IsStartHeard, slots_since, slots_on, waiting_phase, Waits}
 use Rattle.safety_laws.specs.Start.{starter_standing, joined_on_start}
 use Rattle.safety_laws.specs.Start.{HasBegun}
-use Rattle.safety_laws.specs.Groups.{held_with, IsAboutOther}
 use Rattle.safety_laws.proofs.Hearing.{HearsFrame-kept}
 use Rattle.safety_laws.proofs.Joins.{AreNodes-only, joinable-cold_start}
 use Rattle.safety_laws.proofs.Listening.{notes-begun, joined-place}
@@ -44,6 +42,8 @@ use Rattle.safety_laws.proofs.NodeSlots.{node_past-step, frames_of-made}
 use Rattle.safety_laws.proofs.Senders.{frames_in-one}
 use Rattle.safety_laws.proofs.Waiting.{act-waiting, is_start_due-early, waiting_act, node_frames-waiting, phase_of_some}
 use Rattle.safety_laws.proofs.Waiting.{WaitAll}
+use Rattle.safety_laws.specs.Groups.{HoldsGroup}
+use Rattle.safety_laws.proofs.Groups.{holds-by}
 
 -- The starter.
 
@@ -92,8 +92,7 @@ first_due list script start alone k slot node due = elim (cases_eq k start.node)
 
 -- What a start leaves.
 
-stands-started : (list : Medl) (k : ℕ) (past : NodePast) (s : SlotSurroundings) → IsValid list
-    → k < length list.slots
+stands-started : (list : Medl) (k : ℕ) (past : NodePast) (s : SlotSurroundings) → IsValid list → k < length list.slots
     → StandsBy (past_after list k past entry.Started s) entry.Started (starter_standing list k)
 stands-started list k past s valid node =
     let few = nodes-most list valid in
@@ -114,30 +113,19 @@ stands-started list k past s valid node =
 begun-by : (list : Medl) (p k : ℕ) (past : NodePast) (e : Entry) (now : Standing) → AreNodes list (p ∷ [])
     → now.place ≡ start_place p → now.members ≡ p ∷ [] → ((k ≡ p) × (now.ack ≡ ack.First)) ⊎ (now.ack ≡ ack.Closed)
     → StandsBy past e now → HasBegun list p k past
-begun-by list p k past e now nodes place members (inl own) stands =
-    let first = stands.ack ∙ own.1 in
-    record {
-      phase = stands.phase;
-      place = stands.place ∙ place;
-      group = record {
-        nodes = nodes;
-        members = stands.members ∙ members ∙ ap (held_with (p ∷ [])) (sym first);
-        own = λ opened. ap (λ b. b || false) (eq-eqb p k (sym own.0));
-        doubted = subst (IsAboutOther (p ∷ [])) (sym first) tt;
-      };
-    }
-begun-by list p k past e now nodes place members (inr closed_now) stands =
-    let closed = stands.ack ∙ closed_now in
-    record {
-      phase = stands.phase;
-      place = stands.place ∙ place;
-      group = record {
-        nodes = nodes;
-        members = stands.members ∙ members ∙ ap (held_with (p ∷ [])) (sym closed);
-        own = λ opened. absurd (false≢true (ap is_open (sym closed) ∙ opened));
-        doubted = subst (IsAboutOther (p ∷ [])) (sym closed) tt;
-      };
-    }
+begun-by list p k past e now nodes place members how stands = record {
+  phase = stands.phase;
+  place = stands.place ∙ place;
+  group = by how;
+}
+  where
+    by : ((k ≡ p) × (now.ack ≡ ack.First)) ⊎ (now.ack ≡ ack.Closed) → HoldsGroup list k (p ∷ []) past
+    by (inl own) =
+        holds-by list k (p ∷ []) past ack.First (stands.ack ∙ own.1) nodes (stands.members ∙ members)
+        (λ opened. ap (λ b. b || false) (eq-eqb p k (sym own.0))) tt
+    by (inr closed) =
+        holds-by list k (p ∷ []) past ack.Closed (stands.ack ∙ closed) nodes (stands.members ∙ members)
+        (λ opened. absurd (false≢true opened)) tt
 
 -- The slot after a history in which all wait.
 
@@ -148,16 +136,14 @@ module _ (list : Medl) (script : Script) (start : ClusterStart) (history : Histo
   due_now = alone.due ∙ ap Some (sym now)
 
   act-starter : act list start.node (is_on script start.node (length history))
-      (is_armed script start.node (length history)) (node_past list script history start.node)
-      ≡ Start
+      (is_armed script start.node (length history)) (node_past list script history start.node) ≡ Start
   act-starter =
       act-starts list script (length history) start.node (node_past list script history start.node) _ _ valid
       (all start.node alone.node) due_now
 
   act-other : (k : ℕ) → k < length list.slots → k ≢ start.node
       → act list k (is_on script k (length history)) (is_armed script k (length history))
-      (node_past list script history k)
-      ≡ waiting_act (is_on script k (length history))
+      (node_past list script history k) ≡ waiting_act (is_on script k (length history))
   act-other k node other =
       let past = node_past list script history k in
       act-waiting list script (length history) k past (is_armed script k (length history)) (all k node)
@@ -171,8 +157,7 @@ module _ (list : Medl) (script : Script) (start : ClusterStart) (history : Histo
       (λ k node other. frames_of-made list script history chosen k node
       ∙ ap (node_frames list k (node_past list script history k) (chosen_of chosen k)) (act-other k node other)
       ∙ node_frames-waiting list k (node_past list script history k) (chosen_of chosen k)
-      (is_on script k (length history)))
-      ∙ frames_of-made list script history chosen start.node alone.node
+      (is_on script k (length history))) ∙ frames_of-made list script history chosen start.node alone.node
       ∙ ap (node_frames list start.node (node_past list script history start.node) (chosen_of chosen start.node))
       act-starter
 
@@ -206,10 +191,8 @@ module _ (list : Medl) (script : Script) (start : ClusterStart) (history : Histo
       (ap (λ n. loses script start.node n k) now ∙ heard.kept k node other on) in
       subst (λ (after : NodePast). StandsBy after (joined_on_start start.node deviation)
       (joined_standing list (start_place start.node) (start.node ∷ []) deviation))
-      (sym (node_past-step list script history chosen k node))
-      (joined-place x start.node (start_place start.node) (start.node ∷ [])
-      (act-other k node other ∙ ap waiting_act (ap (is_on script k) now ∙ on))
-      (record {
+      (sym (node_past-step list script history chosen k node)) (joined-place x start.node (start_place start.node)
+      (start.node ∷ []) (act-other k node other ∙ ap waiting_act (ap (is_on script k) now ∙ on)) (record {
         bytes = cold_start_frame list start.node;
         comes = hears;
         can = joinable-cold_start list start.node valid alone.node parts.may_is;
@@ -226,8 +209,7 @@ module _ (list : Medl) (script : Script) (start : ClusterStart) (history : Histo
       (act-other k node other ∙ ap waiting_act (ap (is_on script k) now ∙ off))
 
   -- So all that are on have begun together.
-  pub has-begun : IsStartHeard list script start → (k : ℕ) → k < length list.slots
-      → is_on script k start.slot ≡ true
+  pub has-begun : IsStartHeard list script start → (k : ℕ) → k < length list.slots → is_on script k start.slot ≡ true
       → HasBegun list start.node k (node_past list script (step list script history chosen) k)
   has-begun heard k node on = elim (cases_eq k start.node) [
     | inl same ↦
@@ -235,8 +217,7 @@ module _ (list : Medl) (script : Script) (start : ClusterStart) (history : Histo
         (begun-by list start.node start.node _ entry.Started (starter_standing list start.node)
         (AreNodes-only list start.node valid alone.node) refl refl (inl (refl, refl)) starter-stands)
     | inr other ↦
-        begun-by list start.node k _ _
-        (joined_standing list (start_place start.node) (start.node ∷ [])
-        (deviation_in (slot_after list script history) k start.node))
-        (AreNodes-only list start.node valid alone.node) refl refl (inr refl) (joiner-stands heard k node other on)
+        begun-by list start.node k _ _ (joined_standing list (start_place start.node) (start.node ∷ [])
+        (deviation_in (slot_after list script history) k start.node)) (AreNodes-only list start.node valid alone.node)
+        refl refl (inr refl) (joiner-stands heard k node other on)
   ]

@@ -18,8 +18,7 @@ use Rattle.safety_laws.specs.ByPlan.{IsByPlan}
 use Rattle.safety_laws.proofs.Bounds.{sound-inside}
 use Rattle.safety_laws.proofs.OutsideWindow.{jumped-outside}
 use Rattle.safety_laws.proofs.Begins.{holds-begun}
-use Rattle.safety_laws.proofs.WorldSteps.{holds-next}
-use Rattle.safety_laws.proofs.NotedEntries.{started-by_plan, noted-next}
+use Rattle.safety_laws.proofs.WorldSteps.{holds-next, started-by_plan, noted-next}
 
 -- in a world whose nodes noted by a plan up to a turn, the clocks of the next slot hold as membership asks it
 abbrev pub KeepsClocks : Medl → Script → ClusterStart → Plan → Type 0
@@ -36,8 +35,10 @@ clocks-hold list script start plan valid follows turn numbers noted within =
     record { valid = valid; follows = follows; noted = noted; within = within } in
     record {
       within = λ r p node sends sound steady none stays. sound-inside goes r p (node, sound) (sends, steady) none stays;
-      frame = λ r p since node sends sound none jumped. (jumped-outside goes p r since sends (inr jumped) (node, sound)).0;
-      others = λ r p since node sends jumped sound none. (jumped-outside goes r p since node (inl jumped) (sends, sound)).1;
+      frame = λ r p since node sends sound none jumped.
+          (jumped-outside goes p sends r since (inr jumped) (node, sound)).0;
+      others = λ r p since node sends jumped sound none.
+          (jumped-outside goes r node p since (inl jumped) (sends, sound)).1;
     }
 
 module _ (list : Medl) (script : Script) (start : ClusterStart) (plan : Plan) (is : IsBegun list script start plan)
@@ -62,7 +63,7 @@ module _ (list : Medl) (script : Script) (start : ClusterStart) (plan : Plan) (i
   run-by_plan zero (new ∷ numbers) number within legal =
       let now : length numbers ≡ start.slot = omega (arith, number) in
       record {
-        holds = holds-begun list script start plan is new numbers now;
+        holds = holds-begun is new numbers now;
         noted = started-by_plan list script start plan new numbers is now;
       }
   run-by_plan (suc turn) (new ∷ numbers) number within legal =
@@ -70,6 +71,6 @@ module _ (list : Medl) (script : Script) (start : ClusterStart) (plan : Plan) (i
       (legal-older list script new numbers legal) in
       let t = turn-next turn new numbers (omega (arith, number)) within legal before in
       record {
-        holds = holds-next list script start plan turn new numbers t;
-        noted = (before.noted, noted-next list script start plan turn new numbers t);
+        holds = holds-next t;
+        noted = (before.noted, noted-next t);
       }

@@ -1,7 +1,7 @@
 -- A node whose frame is not acknowledged stays so while no frame has it among its members, or each has one that it
 -- lacks; and another's slot brings no node but its owner into what a node holds.
-use Rattle.std.proofs.Common.{◌≡◌, ◌≢◌, ℕ, ◌<◌, ℤ, pos, Bool, true, false, cond, List, length, refl, ap, sym}
-use Rattle.std.proofs.Common.{◌∙◌, ◌⊎◌, inl, inr, subst, arith}
+use Rattle.std.proofs.Common.{◌≡◌, ◌≢◌, ℕ, ◌<◌, ℤ, pos, Bool, true, false, cond, List, length, refl, ap, sym, ◌∙◌, ◌⊎◌}
+use Rattle.std.proofs.Common.{inl, inr, subst, arith}
 use Rattle.std.proofs.lemmas.Bool.{false≢true}
 use Rattle.ttp_base.specs.NodeSet.{most_nodes, has_node, with_node}
 use Rattle.ttp_world.specs.declared.node.Ack.{Ack}
@@ -14,14 +14,13 @@ use Rattle.ttp_world.specs.Acknowledgement.{is_correct}
 use Rattle.ttp_world.specs.After.{settled_members, judged_members, ack_answered}
 use Rattle.ttp_world.specs.Reception.{candidates, verdict_of_view}
 use Rattle.ttp_world.proofs.Lists.{nodes-most}
-use Rattle.safety_laws.specs.Groups.{IsUnanswered, HearsNoAnswer, Lacks, HasThird, Outside}
-use Rattle.safety_laws.specs.Groups.{NoFrame, StaysUnanswered}
+use Rattle.safety_laws.specs.Groups.{IsUnanswered, HearsNoAnswer, Lacks, HasThird, Outside, NoFrame, StaysUnanswered}
 use Rattle.safety_laws.specs.NodeSlot.{NodeSlot, next_past, owner_of, candidates_of}
 use Rattle.safety_laws.specs.SlotFrames.{is_second}
 use Rattle.safety_laws.specs.Standing.{HasJustLeft, IsJudgedAs}
 use Rattle.safety_laws.specs.Turns.{IsJudging, HearsMembers}
 use Rattle.safety_laws.proofs.GroupSets.{has_node-with_other, has_node-without_other, has_node-without_none}
-use Rattle.safety_laws.proofs.ListedSets.{has_node-put_in}
+use Rattle.safety_laws.proofs.GroupSets.{has_node-put_in}
 use Rattle.safety_laws.proofs.Verdicts.{view-later, entry-by_view, judged-outside, judged-none, judged-by_verdict}
 use Rattle.safety_laws.proofs.Verdicts.{judged-whatever}
 
@@ -31,18 +30,9 @@ use Rattle.safety_laws.proofs.Verdicts.{judged-whatever}
 answered-unanswered : (k owner : ℕ) (a : Ack) (v : Verdict) → IsUnanswered k a → is_correct v ≡ false → owner ≢ k
     → IsUnanswered k (ack_answered a v owner)
 answered-unanswered k owner ack.Closed v unanswered wrong other = absurd unanswered
-answered-unanswered k owner ack.First verdict.Null unanswered wrong other = tt
-answered-unanswered k owner ack.First verdict.Invalid unanswered wrong other = tt
-answered-unanswered k owner ack.First verdict.Incorrect unanswered wrong other = tt
-answered-unanswered k owner ack.First verdict.Denied unanswered wrong other = tt
-answered-unanswered k owner ack.First verdict.Tentative unanswered wrong other = other
-answered-unanswered k owner ack.First verdict.Correct unanswered wrong other = cc
-answered-unanswered k owner (ack.Doubt y) verdict.Null unanswered wrong other = unanswered
-answered-unanswered k owner (ack.Doubt y) verdict.Invalid unanswered wrong other = unanswered
-answered-unanswered k owner (ack.Doubt y) verdict.Incorrect unanswered wrong other = unanswered
-answered-unanswered k owner (ack.Doubt y) verdict.Denied unanswered wrong other = unanswered
-answered-unanswered k owner (ack.Doubt y) verdict.Tentative unanswered wrong other = other
-answered-unanswered k owner (ack.Doubt y) verdict.Correct unanswered wrong other = cc
+answered-unanswered k owner _ verdict.Tentative unanswered wrong other = other
+answered-unanswered k owner _ verdict.Correct unanswered wrong other = cc
+answered-unanswered k owner _ _ unanswered wrong other = unanswered
 
 pub stays-judged : (x : NodeSlot) (v : Verdict) (deviation : ℤ) → IsJudging x → IsUnanswered x.node x.past.ack
     → is_correct v ≡ false → IsJudgedAs x v deviation → StaysUnanswered x
@@ -79,8 +69,7 @@ third-apart k owner p members (ack.Doubt y) small other apart none unanswered =
 -- so a frame without the node, or with the third one, is not correct
 wrong_view : (second : Bool) (a : Ack) → is_correct (verdict_of_view (cond second view.Second view.Other) a) ≡ false
 wrong_view true ack.Closed = refl
-wrong_view true ack.First = refl
-wrong_view true (ack.Doubt y) = refl
+wrong_view true _ = refl
 wrong_view false a = refl
 
 stays-apart : (x : NodeSlot) (sender : ℕ) (members : List ℕ) → IsJudging x → IsUnanswered x.node x.past.ack
@@ -103,10 +92,9 @@ stays-unanswered x is unanswered (Lacks sender members hears lacks) =
     ∙ own_in_first x.node (owner_of x) x.past.members x.past.ack (omega (arith, is.node, nodes-most x.list is.valid))
     unanswered))
 stays-unanswered x is unanswered (HasThird sender p members hears third has) =
-    stays-apart x sender members is unanswered hears
-    (λ same. false≢true (sym (third-apart x.node (owner_of x) p x.past.members x.past.ack
-    (omega (arith, third.listed, nodes-most x.list is.valid)) third.not_self third.not_owner third.held unanswered)
-    ∙ sym (ap (λ (s : List ℕ). has_node s p) same) ∙ has))
+    stays-apart x sender members is unanswered hears (λ same. false≢true (sym (third-apart x.node (owner_of x) p
+    x.past.members x.past.ack (omega (arith, third.listed, nodes-most x.list is.valid)) third.not_self third.not_owner
+    third.held unanswered) ∙ sym (ap (λ (s : List ℕ). has_node s p) same) ∙ has))
 stays-unanswered x is unanswered (Outside sender hears) =
     inl (stays-judged x verdict.Invalid (x.hearing.deviation sender) is unanswered refl
     (judged-outside x sender is hears))
@@ -119,9 +107,8 @@ stays-unanswered x is unanswered (NoFrame none) = elim (judged-none x is none) [
 
 settled-none : (members : List ℕ) (a : Ack) (j : ℕ) → has_node members j ≡ false
     → has_node (settled_members members a) j ≡ false
-settled-none members ack.Closed j none = none
-settled-none members ack.First j none = none
 settled-none members (ack.Doubt y) j none = has_node-without_none members y j none
+settled-none members _ j none = none
 
 judged-none_held : (members : List ℕ) (a : Ack) (v : Verdict) (owner j : ℕ) → j < most_nodes → j ≢ owner
     → has_node members j ≡ false → has_node (judged_members members a v owner) j ≡ false
@@ -129,10 +116,7 @@ judged-none_held members a verdict.Correct owner j small other none =
     has_node-with_other (settled_members members a) owner j small other ∙ settled-none members a j none
 judged-none_held members a verdict.Tentative owner j small other none =
     has_node-with_other members owner j small other ∙ none
-judged-none_held members a verdict.Null owner j small other none = has_node-without_none members owner j none
-judged-none_held members a verdict.Invalid owner j small other none = has_node-without_none members owner j none
-judged-none_held members a verdict.Incorrect owner j small other none = has_node-without_none members owner j none
-judged-none_held members a verdict.Denied owner j small other none = has_node-without_none members owner j none
+judged-none_held members a _ owner j small other none = has_node-without_none members owner j none
 
 pub not_held-judging : (x : NodeSlot) (j : ℕ) → IsJudging x → j < length x.list.slots → j ≢ owner_of x
     → has_node x.past.members j ≡ false → has_node (next_past x).members j ≡ false

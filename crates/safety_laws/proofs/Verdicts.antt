@@ -1,6 +1,6 @@
 -- What an active node holds after another's slot, by what comes to it.
-use Rattle.std.proofs.Common.{◌≡◌, ◌≢◌, ℕ, ◌<◌, ℤ, pos, false, cond, List, Option, Some, None, refl, ap, sym}
-use Rattle.std.proofs.Common.{◌∙◌, ◌⊎◌, inl, inr, subst, length, arith}
+use Rattle.std.proofs.Common.{◌≡◌, ◌≢◌, ℕ, ◌<◌, ℤ, pos, false, cond, List, Option, Some, None, refl, ap, sym, ◌∙◌, ◌⊎◌}
+use Rattle.std.proofs.Common.{inl, inr, subst, length, arith}
 use Rattle.std.specs.Str.{bytes_eq}
 use Rattle.std.proofs.lemmas.Bool.{ne_eqb, false_from_ne_true}
 use Rattle.std.proofs.lemmas.Slice.Eq.{bytes_eq-Decides}
@@ -29,7 +29,7 @@ use Rattle.safety_laws.specs.SlotFrames.{is_second, view_of_members}
 use Rattle.safety_laws.specs.Standing.{StandsBy, HasJustLeft, judged_standing, IsJudgedAs}
 use Rattle.safety_laws.specs.Turns.{IsAboutListed, IsJudging, HearsMembers, HearsOutside}
 use Rattle.safety_laws.proofs.Judging.{judging_entry-frame, judging_entry-none, judging_entry-silence}
-use Rattle.safety_laws.proofs.ListedSets.{AreCandidates-node, put_in≢taken_out}
+use Rattle.safety_laws.proofs.GroupSets.{AreCandidates-node, put_in≢taken_out}
 use Rattle.safety_laws.proofs.Views.{view_of_bits-members, view_of_bits-outside}
 
 -- What the node does: it judges.
@@ -40,8 +40,7 @@ act-judging x is =
     ∙ ap (λ own. cond own (own_act x.past) Judge) (ne_eqb _ x.node is.other)
 
 pub entry_made-judging : (x : NodeSlot) → IsJudging x → entry_made x ≡ judging_entry x.list x.node x.past x.hearing
-entry_made-judging x is =
-    ap (λ (does : Act). new_entry x.list x.node x.past x.chosen x.hearing does) (act-judging x is)
+entry_made-judging x is = ap (λ (does : Act). new_entry x.list x.node x.past x.chosen x.hearing does) (act-judging x is)
 
 -- What it then holds, by its entry.
 
@@ -91,8 +90,7 @@ view-later c members other =
 view-second : (c : Candidates) (members : List ℕ) → members ≢ c.first → c.second ≡ Some members
     → view_of_members c members ≡ view.Second
 view-second c members other same =
-    view-later c members other
-    ∙ ap (λ b. cond b view.Second view.Other)
+    view-later c members other ∙ ap (λ b. cond b view.Second view.Other)
     (ap (λ o. is_second o members) same ∙ (bytes_eq-Decides members members).1 refl)
 
 not_second : (second : Option (List ℕ)) (members : List ℕ) → second ≢ Some members → is_second second members ≡ false
@@ -117,10 +115,8 @@ module _ (x : NodeSlot) (sender : ℕ) (members : List ℕ) (is : IsJudging x) (
       judging_entry-frame x.list x.node x.past x.hearing (record { sender = sender; bytes = hears.bytes }) hears.comes
       ∙ ap (λ (w : ChannelView). verdict_entry (owner_of x) (verdict_of_view w x.past.ack) (x.hearing.deviation sender))
       (view_of_bits-members x.list (coming_place x) (candidates_of x) members hears.bytes (x.hearing.deviation sender)
-      is.valid hears.frame
-      (AreCandidates-node x.list x.past.ack x.node (owner_of x) x.past.members is.valid is.node is.owner is.doubted
-      is.members)
-      hears.within ∙ seen)
+      is.valid hears.frame (AreCandidates-node x.list x.past.ack x.node (owner_of x) x.past.members is.valid is.node
+      is.owner is.doubted is.members) hears.within ∙ seen)
 
   -- the first candidate's frame is correct
   pub judged-correct : members ≡ (candidates_of x).first → IsJudgedAs x verdict.Correct (x.hearing.deviation sender)
@@ -164,8 +160,7 @@ module _ (x : NodeSlot) (sender : ℕ) (members : List ℕ) (is : IsJudging x) (
   leaves-denied y doubt same =
       let held = with_node x.past.members (owner_of x) in
       let listed : y < length x.list.slots = subst (IsAboutListed x.list) doubt is.doubted in
-      left-by_entry x is
-      (entry-second (ack.Doubt y) (with_node (without_node held x.node) y) doubt
+      left-by_entry x is (entry-second (ack.Doubt y) (with_node (without_node held x.node) y) doubt
       (put_in≢taken_out (without_node held x.node) (with_node held x.node) y
       (omega (arith, listed, nodes-most x.list is.valid))) refl same)
 
@@ -197,15 +192,10 @@ pub judged-by_verdict : (x : NodeSlot) (v : Verdict) (deviation : ℤ) → IsJud
     → judging_entry x.list x.node x.past x.hearing ≡ verdict_entry (owner_of x) v deviation
     → IsJudgedAs x v deviation ⊎ HasJustLeft (next_past x) reason.Denied (owner_of x)
 judged-by_verdict x verdict.Denied deviation is made = inr (left-by_entry x is made)
-judged-by_verdict x verdict.Null deviation is made = inl (judged-by_entry x verdict.Null deviation is made)
-judged-by_verdict x verdict.Invalid deviation is made = inl (judged-by_entry x verdict.Invalid deviation is made)
-judged-by_verdict x verdict.Incorrect deviation is made = inl (judged-by_entry x verdict.Incorrect deviation is made)
-judged-by_verdict x verdict.Correct deviation is made = inl (judged-by_entry x verdict.Correct deviation is made)
-judged-by_verdict x verdict.Tentative deviation is made = inl (judged-by_entry x verdict.Tentative deviation is made)
+judged-by_verdict x v deviation is made = inl (judged-by_entry x v deviation is made)
 
 -- So it does whatever comes.
-pub judged-whatever : (x : NodeSlot) → IsJudging x
-    → ((v : Verdict) × ((deviation : ℤ) × IsJudgedAs x v deviation))
+pub judged-whatever : (x : NodeSlot) → IsJudging x → ((v : Verdict) × ((deviation : ℤ) × IsJudgedAs x v deviation))
     ⊎ HasJustLeft (next_past x) reason.Denied (owner_of x)
 judged-whatever x is = by _ _ refl
   where

@@ -76,8 +76,7 @@ view_of_frame-members list place c own bytes valid is are =
 
 -- A frame of the place has the form that the list gives.
 pub is_expected_form-own : (list : Medl) (place : Place) (c : Candidates) (own bytes : List ℕ)
-    → IsSlotFrame list place own bytes
-    → is_expected_form list (record { place = place; candidates = c }) bytes ≡ true
+    → IsSlotFrame list place own bytes → is_expected_form list (record { place = place; candidates = c }) bytes ≡ true
 is_expected_form-own list place c own bytes is =
     ap (is_expected_form list (record { place = place; candidates = c })) is.same
     ∙ ap (λ size. is_formed (member_width list) (slot_frame list place own is.payload) (expected_header list place) size
@@ -86,8 +85,7 @@ is_expected_form-own list place c own bytes is =
 
 -- Inside the window its view is that of its members.
 pub view_of_bits-members : (list : Medl) (place : Place) (c : Candidates) (own bytes : List ℕ) (deviation : ℤ)
-    → IsValid list → IsSlotFrame list place own bytes → AreCandidates list c
-    → is_within_window list deviation ≡ true
+    → IsValid list → IsSlotFrame list place own bytes → AreCandidates list c → is_within_window list deviation ≡ true
     → view_of_bits list (record { place = place; candidates = c }) bytes deviation ≡ view_of_members c own
 view_of_bits-members list place c own bytes deviation valid is are within =
     (λ i. cond (within i && is_expected_form-own list place c own bytes is i)

@@ -96,10 +96,6 @@ slots_since-off : (slots : ℕ) (on : Option ℕ) → has_come slots on ≡ fals
 slots_since-off slots None come = refl
 slots_since-off slots (Some on) come = let after = leb-false on slots come in omega (arith, after)
 
-slots_since-before : (slots : ℕ) (on : Option ℕ) → has_come slots on ≡ false → slots_since slots on ≡ 0
-slots_since-before slots None come = refl
-slots_since-before slots (Some on) come = let after = leb-false on slots come in omega (arith, after)
-
 pub phase_of_some : (slots : ℕ) → waiting_phase (1 + slots) ≡ phase.Listening
 phase_of_some slots =
     let some : (1 + slots == 0) ≡ false = ne_eqb (1 + slots) 0 (λ same. omega (arith, same)) in
@@ -147,15 +143,13 @@ WaitAll list script history =
 
 -- no node's limit is reached in the slot after it
 abbrev pub IsEarly : Medl → Script → ℕ → Type 0
-IsEarly list script slots =
-    (k slot : ℕ) → k < length list.slots → start_slot list script k ≡ Some slot → slots < slot
+IsEarly list script slots = (k slot : ℕ) → k < length list.slots → start_slot list script k ≡ Some slot → slots < slot
 
 module _ (list : Medl) (script : Script) (history : History) (valid : IsValid list)
     (all : WaitAll list script history) (early : IsEarly list script (length history)) where
   act-waits : (k : ℕ) → k < length list.slots
       → act list k (is_on script k (length history)) (is_armed script k (length history))
-      (node_past list script history k)
-      ≡ waiting_act (is_on script k (length history))
+      (node_past list script history k) ≡ waiting_act (is_on script k (length history))
   act-waits k node =
       let past = node_past list script history k in
       act-waiting list script (length history) k past (is_armed script k (length history)) (all k node)
@@ -163,14 +157,12 @@ module _ (list : Medl) (script : Script) (history : History) (valid : IsValid li
 
   frames-waits : (chosen : List Chosen) → frames_in (slot_after list script history) chosen ≡ []
   frames-waits chosen =
-      frames_in-none (slot_after list script history) chosen
-      (λ k node. frames_of-made list script history chosen k node
+      frames_in-none (slot_after list script history) chosen (λ k node. frames_of-made list script history chosen k node
       ∙ ap (node_frames list k (node_past list script history k) (chosen_of chosen k)) (act-waits k node)
       ∙ node_frames-waiting list k (node_past list script history k) (chosen_of chosen k)
       (is_on script k (length history)))
 
-  silent-waits : (chosen : List Chosen) (k : ℕ)
-      → (node_slot list script history chosen k).around.is_silent ≡ true
+  silent-waits : (chosen : List Chosen) (k : ℕ) → (node_slot list script history chosen k).around.is_silent ≡ true
   silent-waits chosen k =
       let s = slot_after list script history in
       around-silent list script history chosen k
@@ -179,11 +171,10 @@ module _ (list : Medl) (script : Script) (history : History) (valid : IsValid li
   pub WaitAll-step : (chosen : List Chosen) → WaitAll list script (step list script history chosen)
   WaitAll-step chosen k node =
       let s = slot_after list script history in
-      subst (Waits list script (suc (length history)) k)
-      (sym (node_past-step list script history chosen k node))
-      (waits_after (node_slot list script history chosen k) script (length history)
-      (is_on script k (length history)) (all k node) refl (act-waits k node)
-      (HearsSilence-none s (frames_in s chosen) k (frames-waits chosen)) (silent-waits chosen k))
+      subst (Waits list script (suc (length history)) k) (sym (node_past-step list script history chosen k node))
+      (waits_after (node_slot list script history chosen k) script (length history) (is_on script k (length history))
+      (all k node) refl (act-waits k node) (HearsSilence-none s (frames_in s chosen) k (frames-waits chosen))
+      (silent-waits chosen k))
 
 -- From the first slot on.
 
@@ -204,7 +195,6 @@ WaitAll-world list script slots (new ∷ numbers) valid first few =
     let history = world list script numbers in
     let long = length-world list script numbers in
     let fewer : length numbers < slots = omega arith in
-    WaitAll-step list script history valid
-    (WaitAll-world list script slots numbers valid first (omega arith))
+    WaitAll-step list script history valid (WaitAll-world list script slots numbers valid first (omega arith))
     (λ k slot node due. let from = first k slot node due in omega (arith, long, fewer, from))
     (messages_chosen list script (length numbers) new.sent)

@@ -40,19 +40,7 @@ doubted-listed : (list : Medl) (entries : List Entry) → AreEntries list entrie
     → IfSome (newest_doubted entries) (λ x. x < length list.slots)
 doubted-listed list [] all = tt
 doubted-listed list (entry.Judged sender verdict.Tentative deviation ∷ entries) all = all.0
-doubted-listed list (entry.Judged sender verdict.Null deviation ∷ entries) all = doubted-listed list entries all.1
-doubted-listed list (entry.Judged sender verdict.Invalid deviation ∷ entries) all = doubted-listed list entries all.1
-doubted-listed list (entry.Judged sender verdict.Incorrect deviation ∷ entries) all = doubted-listed list entries all.1
-doubted-listed list (entry.Judged sender verdict.Correct deviation ∷ entries) all = doubted-listed list entries all.1
-doubted-listed list (entry.Judged sender verdict.Denied deviation ∷ entries) all = doubted-listed list entries all.1
-doubted-listed list (entry.Off ∷ entries) all = doubted-listed list entries all.1
-doubted-listed list (entry.Waited ∷ entries) all = doubted-listed list entries all.1
-doubted-listed list (entry.Retried ∷ entries) all = doubted-listed list entries all.1
-doubted-listed list (entry.Gone ∷ entries) all = doubted-listed list entries all.1
-doubted-listed list (entry.Started ∷ entries) all = doubted-listed list entries all.1
-doubted-listed list (entry.Sent message ∷ entries) all = doubted-listed list entries all.1
-doubted-listed list (entry.Joined sender c deviation ∷ entries) all = doubted-listed list entries all.1
-doubted-listed list (entry.Left why peer ∷ entries) all = doubted-listed list entries all.1
+doubted-listed list (_ ∷ entries) all = doubted-listed list entries all.1
 
 since-listed : (list : Medl) (diary : Diary) → AreEntries list diary → AreEntries list (since_sent_or_joined diary)
 since-listed list [] all = tt
@@ -82,15 +70,7 @@ ack_since-listed list own entries all = by own
 
     by : (own : Option Entry) → IsAboutListed list (ack_since own entries)
     by (Some (entry.Joined sender c deviation)) = tt
-    by None = otherwise
-    by (Some entry.Off) = otherwise
-    by (Some entry.Waited) = otherwise
-    by (Some entry.Retried) = otherwise
-    by (Some entry.Gone) = otherwise
-    by (Some entry.Started) = otherwise
-    by (Some (entry.Sent message)) = otherwise
-    by (Some (entry.Judged sender v deviation)) = otherwise
-    by (Some (entry.Left why peer)) = otherwise
+    by _ = otherwise
 
 ack_of-listed : (list : Medl) (diary : Diary) → AreEntries list diary → IsAboutListed list (ack_of diary)
 ack_of-listed list diary all =
@@ -98,11 +78,9 @@ ack_of-listed list diary all =
     (IsAboutListed list)
     (ack_since-listed list (newest_sent_or_joined diary) (since_sent_or_joined diary) (since-listed list diary all)) tt
 
-diary-listed : (list : Medl) (history : History) (k : ℕ) → AreOfList list history
-    → AreEntries list (diary_of history k)
+diary-listed : (list : Medl) (history : History) (k : ℕ) → AreOfList list history → AreEntries list (diary_of history k)
 diary-listed list [] k all = tt
-diary-listed list (row ∷ history) k all =
-    (entry_of-of_list list row k all.0, diary-listed list history k all.1)
+diary-listed list (row ∷ history) k all = (entry_of-of_list list row k all.0, diary-listed list history k all.1)
 
 -- The node in the slot after a world.
 module _ (list : Medl) (script : Script) (numbers : Numbers) (chosen : List Chosen) (k : ℕ) (valid : IsValid list)

@@ -1,9 +1,9 @@
 -- The clocks of the nodes of a plan that loses none, where one sender may be two-faced: after each slot, and what they
 -- measure in the next.
-use Rattle.std.proofs.Common.{◌≡◌, ℕ, zero, suc, ◌+◌, ◌-◌, ◌<◌, ◌≤◌, ℤ, pos, ◌+ℤ◌, ◌-ℤ◌, ◌*ℤ◌, ◌≤ℤ◌}
-use Rattle.std.proofs.Common.{Bool, true, false, cond, ◌&&◌, List, [], ◌∷◌, length, inl, inr, refl, ap, sym}
+use Rattle.std.proofs.Common.{◌≡◌, ℕ, zero, suc, ◌+◌, ◌-◌, ◌<◌, ◌≤◌, ℤ, pos, ◌+ℤ◌, ◌-ℤ◌, ◌≤ℤ◌}
+use Rattle.std.proofs.Common.{Bool, true, false, cond, List, [], ◌∷◌, length, inl, inr, refl, ap, sym}
 use Rattle.std.proofs.Common.{subst, ◌∙◌, arith}
-use Rattle.std.specs.Prelude.{◌==◌, int_le, neg_ℤ}
+use Rattle.std.specs.Prelude.{◌==◌}
 use Rattle.std.proofs.lemmas.Bool.{cases_eq, eqb-true}
 use Rattle.std.proofs.lemmas.Int.{ints}
 use Rattle.ttp_base.specs.NodeSet.{has_node}
@@ -11,7 +11,7 @@ use Rattle.ttp_world.specs.declared.medl.Medl.{Medl}
 use Rattle.ttp_world.specs.declared.node.Entry.{Entry}
 use Rattle.ttp_world.specs.declared.node.Entry.TheVariants as entry
 use Rattle.ttp_world.specs.declared.script.Script.{Script}
-use Rattle.ttp_world.specs.Clock.{join_deviation, notes_in, fta}
+use Rattle.ttp_world.specs.Clock.{join_deviation, notes_in}
 use Rattle.ttp_world.specs.Conduct.{cold_start_cstate}
 use Rattle.ttp_world.specs.Diary.{History, entry_of, diary_of, start_place, begins_stint, continues_stint}
 use Rattle.ttp_world.specs.Diary.{stint_place}
@@ -25,7 +25,8 @@ use Rattle.precision.specs.Together.{measured}
 use Rattle.precision.proofs.Averages.{IsUpTo}
 use Rattle.precision.proofs.Entries.{begun_active, offset_corrected, notes_anew, begun_round_first, clock_at-still}
 use Rattle.precision.proofs.Frames.{frame_of, frame_of-node}
-use Rattle.precision.proofs.Rounds.{drift_in, product_up, AreWithin, correction, same_apart, product_once as one_drift}
+use Rattle.precision.proofs.Rounds.{product_up, AreWithin, correction, corrected_last, corrected_inside}
+use Rattle.precision.proofs.Rounds.{product_once as one_drift}
 use Rattle.precision.proofs.Runs.{clock_after, round_notes}
 use Rattle.fault_plan.specs.Plan.{Plan, sender}
 use Rattle.fault_plan.specs.Fates.{is_measured, tally}
@@ -39,11 +40,10 @@ use Rattle.safety_laws.proofs.RoundNotes.{Counted, sound-goes, sender-in, place-
 use Rattle.safety_laws.proofs.BeganTogether.{number-of, counted-run}
 use Rattle.two_faced.specs.Errors.{bound}
 use Rattle.two_faced.proofs.PulledNotes.{Locate, AreTurns, test_of}
-use Rattle.two_faced.proofs.FacedRounds.{after_pull, width, in_round, Round, round_begins, round_goes, round_ends}
+use Rattle.two_faced.proofs.FacedRounds.{width, in_round, Round, round_begins, round_goes, round_ends}
 use Rattle.two_faced.proofs.FacedRounds.{round_within, in_round_bound}
-use Rattle.two_faced.proofs.FacedSlots.{IsFacing, Group, to_sound, of_sound, drifts, errors, errors_first, still}
+use Rattle.two_faced.proofs.FacedSlots.{IsFacing, Group, to_sound, of_sound, drifts, errors, errors_first}
 use Rattle.two_faced.proofs.FacedSlots.{stay, frame_is, have_drifted, slot_notes}
-use Rattle.fta_sync.proofs.Sorted.{le_trans as below_too}
 use Rattle.ttp_world.proofs.SmallTests.{plus_none}
 
 -- The correction.
@@ -53,12 +53,6 @@ abbrev After : Medl → (ℕ → Type 0) → ℕ → ℕ → ℕ → ℕ → Boo
 After list group z s t m last clock notes =
     Round list group z s t (cond last 0 (suc m)) clock (λ k. cond last [] (notes k))
 
-corrected_last : (b : Bool) (c z average : ℤ) → b ≡ true → c ≡ z +ℤ cond b average (pos 0) → c ≡ z +ℤ average
-corrected_last b c z average last is = is ∙ ap (λ b. z +ℤ cond b average (pos 0)) last
-
-corrected_inside : (b : Bool) (c z average : ℤ) → b ≡ false → c ≡ z +ℤ cond b average (pos 0) → c ≡ z
-corrected_inside b c z average inside is = is ∙ ap (λ b. z +ℤ cond b average (pos 0)) inside ∙ plus_none z
-
 round_same : (list : Medl) (group : ℕ → Type 0) (z s t q : ℕ) (clock same : ℕ → ℤ) (notes : ℕ → List ℤ)
     → ((k : ℕ) → group k → same k ≡ clock k) → Round list group z s t q clock notes
     → Round list group z s t q same notes
@@ -66,69 +60,27 @@ round_same list group z s t q clock same notes is r = record {
   began = r.began;
   apart = r.apart;
   first = r.first;
-  moved = λ k p. subst (λ c. IsUpTo (drift_in list q) (c -ℤ r.began k)) (sym (is k p)) (r.moved k p);
+  moved = λ k p. rw (is k p) (r.moved k p);
   senders = r.senders;
   turns = r.turns;
-  noted = λ k p. subst (λ c. Locate z (width list q) r.began c (notes k) r.senders) (sym (is k p)) (r.noted k p);
+  noted = λ k p. rw (is k p) (r.noted k p);
 }
 
 after_slot : (list : Medl) (group : ℕ → Type 0) (z s t m : ℕ) (clock after : ℕ → ℤ) (notes : ℕ → List ℤ)
     → pos 0 ≤ℤ list.drift → pos 0 ≤ℤ list.error → s < t → Round list group z s t (suc m) clock notes
     → (suc m ≡ length list.slots → s + length list.slots < t → (k : ℕ) → group k → 4 ≤ length (notes k))
-    → ((k : ℕ) → group k → after k ≡ clock k +ℤ correction list m (notes k))
-    → (last : Bool) → (suc m == length list.slots) ≡ last
-    → After list group z s t m last after notes
+    → ((k : ℕ) → group k → after k ≡ clock k +ℤ correction list m (notes k)) → (last : Bool)
+    → (suc m == length list.slots) ≡ last → After list group z s t m last after notes
 after_slot list group z s t m clock after notes up some later r enough is true last =
     let ends : suc m ≡ length list.slots = eqb-true (suc m) (length list.slots) last in
     let apart = round_ends list group z s t (suc m) clock notes up some ends r (enough ends) in
-    round_begins list group z s t after up later (λ j k p q.
-    same_apart (clock j +ℤ fta (notes j)) (clock k +ℤ fta (notes k)) (after j) (after k) (after_pull list)
-    (corrected_last (suc m == length list.slots) (after j) (clock j) (fta (notes j)) last (is j p))
-    (corrected_last (suc m == length list.slots) (after k) (clock k) (fta (notes k)) last (is k q))
-    (apart j k p q))
+    round_begins list group z s t after up later (λ j k p q. rw (
+      corrected_last list m (notes j) (clock j) (after j) last (is j p),
+      corrected_last list m (notes k) (clock k) (after k) last (is k q),
+    ) (apart j k p q))
 after_slot list group z s t m clock after notes up some later r enough is false inside =
     round_same list group z s t (suc m) clock after notes
-    (λ k p. corrected_inside (suc m == length list.slots) (after k) (clock k) (fta (notes k)) inside (is k p)) r
-
--- The start.
-
-started_near : (e o v x y r : ℤ) → v ≡ (x -ℤ y) +ℤ r → y ≡ o → IsUpTo e r → IsUpTo e ((o +ℤ v) -ℤ x)
-started_near e o v x y r is was error = (
-  omega (arith, ints, is, was, error.0, error.1),
-  omega (arith, ints, is, was, error.0, error.1),
-)
-
-starter_near : (e o v x : ℤ) → v ≡ pos 0 → x ≡ o → pos 0 ≤ℤ e → IsUpTo e ((o +ℤ v) -ℤ x)
-starter_near e o v x is was up = (omega (arith, ints, is, was, up), omega (arith, ints, is, was, up))
-
-both_near : (e x b c : ℤ) → IsUpTo e (b -ℤ x) → IsUpTo e (c -ℤ x) → (b -ℤ c) ≤ℤ (e +ℤ e)
-both_near e x b c h g = omega (arith, ints, h.0, h.1, g.0, g.1)
-
-wide_start : (n e y : ℤ) → pos 0 ≤ℤ n → pos 0 ≤ℤ e → y ≤ℤ (e +ℤ e) → y ≤ℤ (n *ℤ pos 6 +ℤ (e *ℤ pos 6 +ℤ pos 2))
-wide_start n e y up some h = omega (arith, ints, up, some, h)
-
-start_moves : (o j d v q w : ℤ) → j ≡ pos 0 → IsUpTo q d → q ≤ℤ w → IsUpTo w ((o +ℤ (j +ℤ (d +ℤ v))) -ℤ (o +ℤ v))
-start_moves o j d v q w still h wide = (
-  omega (arith, ints, still, h.0, h.1, wide),
-  omega (arith, ints, still, h.0, h.1, wide),
-)
-
-start_note : (e o j d v q w b x : ℤ) → j ≡ pos 0 → IsUpTo q d → q ≤ℤ w → IsUpTo e ((o +ℤ v) -ℤ x) → b ≡ x
-    → IsUpTo (e +ℤ w) (((o +ℤ (j +ℤ (d +ℤ v))) +ℤ pos 0) -ℤ b)
-start_note e o j d v q w b x still h wide near is = (
-  omega (arith, ints, still, h.0, h.1, wide, near.0, near.1, is),
-  omega (arith, ints, still, h.0, h.1, wide, near.0, near.1, is),
-)
-
--- What follows for the bound and the window.
-
-in_window : (b w n x y u v r : ℤ) → x ≡ u → y ≡ v → (u -ℤ v) ≤ℤ n → (v -ℤ u) ≤ℤ n → n ≤ℤ b → IsUpTo (w -ℤ b) r
-    → (int_le (neg_ℤ w) ((x -ℤ y) +ℤ r) && int_le ((x -ℤ y) +ℤ r) w) ≡ true
-in_window b w n x y u v r sends hears near back within error =
-    let low : neg_ℤ w ≤ℤ ((x -ℤ y) +ℤ r) =
-    omega (arith, ints, sends, hears, near, back, within, error.0, error.1) in
-    let high : ((x -ℤ y) +ℤ r) ≤ℤ w = omega (arith, ints, sends, hears, near, back, within, error.0, error.1) in
-    test_of w ((x -ℤ y) +ℤ r) (low, high)
+    (λ k p. corrected_inside list m (notes k) (clock k) (after k) inside (is k p)) r
 
 -- what the entry of a node in the slot of the start says, on a frame of node p
 record BegunEntry (list : Medl) (script : Script) (history : History) (p k : ℕ) (e : Entry) : Type 0 where
@@ -161,8 +113,7 @@ module _ (list : Medl) (script : Script) (start : ClusterStart) (z : ℕ) (plan 
     first_still : (k : ℕ) → Group list plan k → jump_of script k (length history) ≡ pos 0
     first_still k a =
         let here : start.slot + 0 ≡ length history = omega (arith, started.number) in
-        subst (λ t. jump_of script k t ≡ pos 0) here
-        (f.follows.clocks 0 k a.0 (omega (arith, within))
+        subst (λ t. jump_of script k t ≡ pos 0) here (f.follows.clocks 0 k a.0 (omega (arith, within))
         (to_sound list script start z plan f 0 k a).1)
 
     frame_first : (k : ℕ) → Group list plan k → frame_of list script history k ≡ clock_after list script history k
@@ -173,8 +124,7 @@ module _ (list : Medl) (script : Script) (start : ClusterStart) (z : ℕ) (plan 
       begins = refl;
       place = ap start_place same;
       notes = refl;
-      near = starter_near list.error (clock_after list script history k) (pos 0) x refl
-          (ap (frame_of list script history) (sym same) ∙ frame_first k a) some;
+      near = rw (← same) (omega (arith, ints, frame_first k a, some));
     }
 
     abbrev joined : ℕ → Entry
@@ -185,10 +135,10 @@ module _ (list : Medl) (script : Script) (start : ClusterStart) (z : ℕ) (plan 
       begins = refl;
       place = refl;
       notes = refl;
-      near = started_near list.error (clock_after list script history k) (measured list script history k p) x
-          (frame_of list script history k) (reading_error script k (length history)) refl (frame_first k a)
-          (subst (λ t. IsUpTo list.error (reading_error script k t)) (sym started.number)
-          (errors_first list script start z plan f k a.0 within));
+      near =
+          let error : IsUpTo list.error (reading_error script k (length history)) =
+          rw started.number (errors_first list script start z plan f k a.0 within) in
+          omega (arith, ints, frame_first k a, error);
     }
 
     begun : (k : ℕ) → Group list plan k → BegunEntry list script history p k (entry_of row k)
@@ -209,14 +159,13 @@ module _ (list : Medl) (script : Script) (start : ClusterStart) (z : ℕ) (plan 
         +ℤ (jump_of script k (length history) +ℤ (drift_of script k +ℤ join_deviation (entry_of row k)))
 
     begins_near : AreWithin (Group list plan) began (list.error +ℤ list.error)
-    begins_near j k a b = both_near list.error x (began j) (began k) (begun j a).near (begun k b).near
+    begins_near j k a b = omega (arith, ints, (begun j a).near, (begun k b).near)
 
     starter_in : Group list plan p
     starter_in =
-        let starter = f.follows.starter in
-        let nodes = f.follows.nodes in
         let good = f.follows.good.starter in
-        (omega (arith, starter, nodes, good.0), ap (has_node plan.begin) (sym starter) ∙ good.1)
+        let starter = f.follows.starter in
+        (omega (arith, starter, f.follows.nodes, good.0), ap (has_node plan.begin) (sym starter) ∙ good.1)
 
     frame_began : began p ≡ x
     frame_began =
@@ -230,39 +179,31 @@ module _ (list : Medl) (script : Script) (start : ClusterStart) (z : ℕ) (plan 
     note_first : (b : Bool) (k : ℕ) → Group list plan k
         → Locate z (width list (suc p)) began (clock k) (cond b (pos 0 ∷ []) []) (cond b (p ∷ []) [])
     note_first true k a = (
-      λ other. start_note list.error (clock_after list script history k) (jump_of script k (length history))
-          (drift_of script k) (join_deviation (entry_of row k)) list.drift (drift_in list (suc p)) (began p) x
-          (first_still k a) (drifts list script start z plan f k a.0) (one_drift list.drift p up) (begun k a).near
-          frame_began,
+      λ other. let drift = drifts list script start z plan f k a.0 in
+          omega (arith, ints, first_still k a, drift, one_drift list.drift p up, (begun k a).near, frame_began),
       tt,
     )
     note_first false k a = tt
 
-    notes_first : (k : ℕ) → Group list plan k
-        → round_notes list (row ∷ history) k ≡ cond sync (pos 0 ∷ []) []
+    notes_first : (k : ℕ) → Group list plan k → round_notes list (row ∷ history) k ≡ cond sync (pos 0 ∷ []) []
     notes_first k a =
         notes_anew list k (diary_of history k) (entry_of row k) (start_place p) (begun k a).place
-        (begun_round_first (start_place p) (entry_of row k) (begun k a).begins)
-        ∙ (begun k a).notes
+        (begun_round_first (start_place p) (entry_of row k) (begun k a).begins) ∙ (begun k a).notes
 
     round_first : Round list (Group list plan) z start.slot (suc (length history)) (suc p) clock
         (round_notes list (row ∷ history))
     round_first = record {
       began = began;
-      apart = λ j k a b. wide_start (drift_in list (length list.slots)) list.error (began j -ℤ began k)
-          (product_up list.drift (length list.slots) up) some (begins_near j k a b);
+      apart = λ j k a b. omega (arith, ints, product_up list.drift (length list.slots) up, some, begins_near j k a b);
       first = λ early. begins_near;
-      moved = λ k a. start_moves (clock_after list script history k) (jump_of script k (length history))
-          (drift_of script k) (join_deviation (entry_of row k)) list.drift (drift_in list (suc p)) (first_still k a)
-          (drifts list script start z plan f k a.0) (one_drift list.drift p up);
+      moved = λ k a. let drift = drifts list script start z plan f k a.0 in
+          omega (arith, ints, first_still k a, drift, one_drift list.drift p up);
       senders = cond sync (p ∷ []) [];
       turns = turn_first sync;
-      noted = λ k a. subst (λ ns. Locate z (width list (suc p)) began (clock k) ns (cond sync (p ∷ []) []))
-          (sym (notes_first k a)) (note_first sync k a);
+      noted = λ k a. rw (notes_first k a) (note_first sync k a);
     }
 
-    clock_first : (k : ℕ) → Group list plan k
-        → clock_after list script (row ∷ history) k
+    clock_first : (k : ℕ) → Group list plan k → clock_after list script (row ∷ history) k
         ≡ clock k +ℤ correction list p (round_notes list (row ∷ history) k)
     clock_first k a =
         offset_corrected list k (diary_of history k) (surroundings_of script history k) (entry_of row k)
@@ -273,10 +214,9 @@ module _ (list : Medl) (script : Script) (start : ClusterStart) (z : ℕ) (plan 
         (clock_after list script (row ∷ history)) (round_notes list (row ∷ history))
     after_start =
         let number = started.number in
-        let many = f.valid.count.0 in
         after_slot list (Group list plan) z start.slot (suc (length history)) p clock
         (clock_after list script (row ∷ history)) (round_notes list (row ∷ history)) up some (omega (arith, number))
-        round_first (λ ends late. absurd (omega (arith, late, number, many))) clock_first
+        round_first (λ ends late. absurd (omega (arith, late, number, f.valid.count.0))) clock_first
         (suc p == length list.slots) refl
 
   -- A later slot.
@@ -292,10 +232,7 @@ module _ (list : Medl) (script : Script) (start : ClusterStart) (z : ℕ) (plan 
       → After list (Group list plan) z start.slot (length history) (sender plan turn)
       (suc (sender plan turn) == length list.slots) (clock_after list script history) (round_notes list history)
       → Begins turn history
-  begins-of turn history after =
-      subst (λ q. Round list (Group list plan) z start.slot (length history) q (clock_after list script history)
-      (λ k. cond (suc (sender plan turn) == length list.slots) [] (round_notes list history k)))
-      (sym (index-of list script start plan turn f.follows)) after
+  begins-of turn history after = rw (index-of list script start plan turn f.follows) after
 
   module _ (turn : ℕ) (row : List Entry) (history : History) (before : NotedByPlan list script start plan turn history)
       (noted : NotedInSlot list script plan (suc turn) row history) (within : start.slot + suc turn < script.slots)
@@ -327,10 +264,9 @@ module _ (list : Medl) (script : Script) (start : ClusterStart) (z : ℕ) (plan 
         round_goes list (Group list plan) z start.slot (length history) q (clock_after list script history)
         (clock_moved list script history)
         (λ k. cond (suc (sender plan turn) == length list.slots) [] (round_notes list history k))
-        (λ k. notes_in list (planned_place list plan (suc turn)) (entry_of row k))
-        (round_notes list (row ∷ history)) up begins
-        (have_drifted list script start z plan f turn history number within)
-        (slot_notes list script start z plan f turn history number within start.slot (length history)
+        (λ k. notes_in list (planned_place list plan (suc turn)) (entry_of row k)) (round_notes list (row ∷ history)) up
+        begins (have_drifted list script start z plan f turn history number within) (slot_notes list script start z plan
+        f turn history number within start.slot (length history)
         (λ k. cond (suc (sender plan turn) == length list.slots) [] (round_notes list history k)) begins row noted)
         (λ k a. notes-next list row history k (sender plan turn) (planned_place list plan (suc turn))
         (suc (sender plan turn) == length list.slots) (goes k a) (place k a)
@@ -339,21 +275,18 @@ module _ (list : Medl) (script : Script) (start : ClusterStart) (z : ℕ) (plan 
     enough : suc q ≡ length list.slots → start.slot + length list.slots < suc (length history)
         → (k : ℕ) → Group list plan k → 4 ≤ length (round_notes list (row ∷ history) k)
     enough ends late k a =
-        let nodes = f.follows.nodes in
-        let slots = f.follows.slots in
         let from = suc (suc turn) - plan.nodes in
-        let round : from + plan.nodes ≡ suc (suc turn) = omega (arith, late, number, nodes) in
-        let whole : plan.nodes ≡ suc q = nodes ∙ sym ends in
+        let round : from + plan.nodes ≡ suc (suc turn) = omega (arith, late, number, f.follows.nodes) in
+        let whole : plan.nodes ≡ suc q = f.follows.nodes ∙ sym ends in
         let many : 4 ≤ tally (is_measured plan) from plan.nodes =
-        four-measured plan (suc turn) from f.follows.good (omega (arith, within, slots)) round in
+        four-measured plan (suc turn) from f.follows.good (omega (arith, within, f.follows.slots)) round in
         let count : length (round_notes list (row ∷ history) k) ≡ tally (is_measured plan) from (suc q) =
         counted.notes k from (to_sound list script start z plan f (suc turn) k a)
-        (omega (arith, round, late, number, nodes)) (omega (arith, round, whole))
+        (omega (arith, round, late, number, f.follows.nodes)) (omega (arith, round, whole))
         (λ turn after to. none-enters plan turn k (stay list script start z plan f)) in
         subst (λ n. 4 ≤ n) (ap (tally (is_measured plan) from) whole ∙ sym count) many
 
-    clock_is : (k : ℕ) → Group list plan k
-        → clock_after list script (row ∷ history) k
+    clock_is : (k : ℕ) → Group list plan k → clock_after list script (row ∷ history) k
         ≡ clock_moved list script history k +ℤ correction list q (round_notes list (row ∷ history) k)
     clock_is k a =
         clock-next list script row history k (planned_place list plan (suc turn)) (goes k a) (place k a)
@@ -361,18 +294,16 @@ module _ (list : Medl) (script : Script) (start : ClusterStart) (z : ℕ) (plan 
 
     begins-next : Begins (suc turn) (row ∷ history)
     begins-next =
-        begins-of (suc turn) (row ∷ history)
-        (after_slot list (Group list plan) z start.slot (suc (length history)) q (clock_moved list script history)
-        (clock_after list script (row ∷ history)) (round_notes list (row ∷ history)) up some (omega (arith, number))
-        uncorrected enough clock_is (suc q == length list.slots) refl)
+        begins-of (suc turn) (row ∷ history) (after_slot list (Group list plan) z start.slot (suc (length history)) q
+        (clock_moved list script history) (clock_after list script (row ∷ history)) (round_notes list (row ∷ history))
+        up some (omega (arith, number)) uncorrected enough clock_is (suc q == length list.slots) refl)
 
   -- The run.
 
   begins-first : (row : List Entry) (history : History) → StartedByPlan list script start plan row history
       → start.slot < script.slots → Begins 0 (row ∷ history)
   begins-first row history started within =
-      let first : p ≡ sender plan 0 =
-      sym f.follows.starter ∙ sym (first-sender plan f.follows.good) in
+      let first : p ≡ sender plan 0 = sym f.follows.starter ∙ sym (first-sender plan f.follows.good) in
       begins-of 0 (row ∷ history)
       (subst (λ m. After list (Group list plan) z start.slot (suc (length history)) m (suc m == length list.slots)
       (clock_after list script (row ∷ history)) (round_notes list (row ∷ history))) first
@@ -401,28 +332,24 @@ module _ (list : Medl) (script : Script) (start : ClusterStart) (z : ℕ) (plan 
       (turn-inside (suc turn)) (begins-run turn history noted within)
 
   pub faced-clocks : (turn : ℕ) (history : History) → NotedByPlan list script start plan turn history
-      → length history ≤ script.slots
-      → (j k : ℕ) → IsSoundIn list plan turn j → IsSoundIn list plan turn k
+      → length history ≤ script.slots → (j k : ℕ) → IsSoundIn list plan turn j → IsSoundIn list plan turn k
       → ((node_past list script history j).offset -ℤ (node_past list script history k).offset) ≤ℤ bound list
   faced-clocks turn history noted within j k a b =
-      below_too (clock_after list script history j -ℤ clock_after list script history k) (in_round list) (bound list)
-      (near-run turn history noted within j k (of_sound list script start z plan f turn j a)
-      (of_sound list script start z plan f turn k b))
-      (in_round_bound list up)
+      let near = near-run turn history noted within j k (of_sound list script start z plan f turn j a)
+      (of_sound list script start z plan f turn k b) in
+      omega (arith, ints, near, in_round_bound list up)
 
   pub faced-window : (turn : ℕ) (history : History) → NotedByPlan list script start plan turn history
-      → start.slot + suc turn < script.slots
-      → (r s : ℕ) → IsSoundIn list plan (suc turn) r → IsSoundIn list plan (suc turn) s
-      → is_within_window list (measured list script history r s) ≡ true
+      → start.slot + suc turn < script.slots → (r s : ℕ) → IsSoundIn list plan (suc turn) r
+      → IsSoundIn list plan (suc turn) s → is_within_window list (measured list script history r s) ≡ true
   faced-window turn history noted within r s a b =
       let count = number-of list script start plan turn history noted in
       let number : length history ≡ start.slot + suc turn = omega (arith, count) in
       let hears = of_sound list script start z plan f (suc turn) r a in
       let sends = of_sound list script start z plan f (suc turn) s b in
       let near = near-run turn history noted (omega (arith, number, within)) in
-      in_window (bound list) list.window (in_round list) (frame_of list script history s)
-      (frame_of list script history r) (clock_after list script history s) (clock_after list script history r)
-      (reading_error script r (length history)) (frame_is list script start z plan f turn history number within s sends)
-      (frame_is list script start z plan f turn history number within r hears) (near s r sends hears)
-      (near r s hears sends) (in_round_bound list up)
-      (errors list script start z plan f r (length history) a.0 (omega (arith, number, within)))
+      let sent = frame_is list script start z plan f turn history number within s sends in
+      let heard = frame_is list script start z plan f turn history number within r hears in
+      let error = errors list script start z plan f r (length history) a.0 (omega (arith, number, within)) in
+      test_of list.window (measured list script history r s)
+      (omega (arith, ints, sent, heard, error, near s r sends hears, near r s hears sends, in_round_bound list up))

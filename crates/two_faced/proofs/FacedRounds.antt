@@ -3,15 +3,15 @@
 --
 -- The group began in slot s, and t slots are over, of which the last q are those of the round so far.
 use Rattle.std.proofs.Common.{◌≡◌, ℕ, suc, ◌+◌, ◌*◌, ◌<◌, ◌≤◌, ℤ, pos, negsuc, ◌+ℤ◌, ◌-ℤ◌, ◌*ℤ◌, ◌≤ℤ◌, inl, inr}
-use Rattle.std.proofs.Common.{List, [], ◌++◌, length, sym, subst, ◌∙◌, arith}
+use Rattle.std.proofs.Common.{List, [], ◌++◌, length, sym, ◌∙◌, arith}
 use Rattle.std.proofs.lemmas.Int.{ints}
 use Rattle.ttp_world.specs.declared.medl.Medl.{Medl}
 use Rattle.ttp_world.specs.Clock.{fta}
 use Rattle.precision.proofs.Averages.{IsUpTo, fta-few}
-use Rattle.precision.proofs.Rounds.{drift_in, product_more, product_upto, product_up, AreWithin, add_drift as wider, few_or_many, early_or_late}
-use Rattle.precision.proofs.Rounds.{HaveDrifted}
+use Rattle.precision.proofs.Rounds.{drift_in, product_more, product_upto, product_up, AreWithin, HaveDrifted}
+use Rattle.precision.proofs.Rounds.{few_or_many, early_or_late}
 use Rattle.two_faced.specs.Errors.{bound}
-use Rattle.two_faced.proofs.PulledNotes.{Locate, AreTurns, Pulled, averages_pull, Locate-append, Locate-moved}
+use Rattle.two_faced.proofs.PulledNotes.{Locate, AreTurns, averages_pull, Locate-append, Locate-moved}
 use Rattle.two_faced.proofs.PulledNotes.{length-noted}
 
 -- how far apart clocks are after a round's correction: 6 D n + 6 E + 2
@@ -44,7 +44,7 @@ pub record SlotNotes (list : Medl) (group : ℕ → Type 0) (z q : ℕ) (began l
 -- The beginning of a round.
 
 no_drift : (d b : ℤ) → pos 0 ≤ℤ d → IsUpTo (d *ℤ pos 0) (b -ℤ b)
-no_drift (pos a) b up = (omega (arith, ints), omega (arith, ints))
+no_drift (pos a) b up = omega (arith, ints)
 no_drift (negsuc a) b up = absurd (omega (arith, ints, up))
 
 pub round_begins : (list : Medl) (group : ℕ → Type 0) (z s t : ℕ) (clock : ℕ → ℤ) → pos 0 ≤ℤ list.drift → s < t
@@ -61,9 +61,6 @@ round_begins list group z s t clock up later apart = record {
 
 -- One slot more.
 
-moved_more : (p q d b c e : ℤ) → IsUpTo p (b -ℤ c) → IsUpTo d (e -ℤ b) → q ≡ p +ℤ d → IsUpTo q (e -ℤ c)
-moved_more p q d b c e h g is = (omega (arith, ints, h.0, g.0, is), omega (arith, ints, h.1, g.1, is))
-
 pub round_goes : (list : Medl) (group : ℕ → Type 0) (z s t q : ℕ) (clock later : ℕ → ℤ) (notes added all : ℕ → List ℤ)
     → pos 0 ≤ℤ list.drift → (r : Round list group z s t q clock notes) → HaveDrifted list group clock later
     → SlotNotes list group z q r.began later added → ((k : ℕ) → group k → all k ≡ added k ++ notes k)
@@ -74,29 +71,15 @@ round_goes list group z s t q clock later notes added all up r drifted slot is =
       began = r.began;
       apart = r.apart;
       first = λ early. r.first (omega (arith, early));
-      moved = λ k p. moved_more (drift_in list q) (drift_in list (suc q)) list.drift (clock k) (r.began k) (later k)
-          (r.moved k p) (drifted k p) more;
+      moved = λ k p. omega (arith, ints, r.moved k p, drifted k p, more);
       senders = slot.new ++ r.senders;
       turns = slot.turn r.senders r.turns;
-      noted = λ k p. subst (λ ns. Locate z (width list (suc q)) r.began (later k) ns (slot.new ++ r.senders))
-          (sym (is k p))
-          (Locate-append z (width list (suc q)) r.began (later k) (added k) (notes k) slot.new r.senders
-          (slot.noted k p)
-          (Locate-moved z (width list q) (width list (suc q)) list.drift r.began (clock k) (later k) (notes k) r.senders
-          (drifted k p) (wider list.error (drift_in list q) (drift_in list (suc q)) list.drift more) (r.noted k p)));
+      noted = λ k p. rw (is k p) (Locate-append z (width list (suc q)) r.began (later k) (added k) (notes k) slot.new
+          r.senders (slot.noted k p) (Locate-moved z (width list q) (width list (suc q)) list.drift r.began (clock k)
+          (later k) (notes k) r.senders (drifted k p) (omega (arith, ints, more)) (r.noted k p)));
     }
 
 -- The end of a round.
-
-halved : (n e x y : ℤ) → Pulled (n *ℤ pos 6 +ℤ (e *ℤ pos 6 +ℤ pos 2)) (e +ℤ n) x y
-    → (x -ℤ y) ≤ℤ (n *ℤ pos 6 +ℤ (e *ℤ pos 6 +ℤ pos 2))
-halved n e x y h = omega (arith, ints, h)
-
-unaveraged : (n e b c x y p q : ℤ) → (b -ℤ c) ≤ℤ (e +ℤ e) → IsUpTo n (x -ℤ b) → IsUpTo n (y -ℤ c) → p ≡ pos 0
-    → q ≡ pos 0 → pos 0 ≤ℤ n → pos 0 ≤ℤ e
-    → ((x +ℤ p) -ℤ (y +ℤ q)) ≤ℤ (n *ℤ pos 6 +ℤ (e *ℤ pos 6 +ℤ pos 2))
-unaveraged n e b c x y p q near h g is was up some =
-    omega (arith, ints, near, h.0, h.1, g.0, g.1, is, was, up, some)
 
 -- each takes its average, of four notes or more, but in the round in which the group began
 pub round_ends : (list : Medl) (group : ℕ → Type 0) (z s t q : ℕ) (clock : ℕ → ℤ) (notes : ℕ → List ℤ)
@@ -106,16 +89,15 @@ pub round_ends : (list : Medl) (group : ℕ → Type 0) (z s t q : ℕ) (clock :
 round_ends list group z s t q clock notes up some last r enough j k a b = elim (few_or_many (length (notes j))) [
   | inl few ↦ elim (early_or_late t (s + q)) [
     | inl early ↦
-        unaveraged (drift_in list (length list.slots)) list.error (r.began j) (r.began k) (clock j) (clock k)
-        (fta (notes j)) (fta (notes k)) (r.first early j k a b) (whole j a) (whole k b) (fta-few (notes j) few)
-        (fta-few (notes k) (omega (arith, few, same))) (product_up list.drift (length list.slots) up) some
+        let none = fta-few (notes k) (omega (arith, few, same)) in
+        let upward = product_up list.drift (length list.slots) up in
+        omega (arith, ints, r.first early j k a b, whole j a, whole k b, fta-few (notes j) few, none, upward)
     | inr late ↦ absurd (omega (arith, few, enough (omega (arith, late, last)) j a))
   ]
   | inr many ↦
-      halved (drift_in list (length list.slots)) list.error (clock j +ℤ fta (notes j)) (clock k +ℤ fta (notes k))
-      (subst (λ m. Pulled (after_pull list) (width list m) (clock j +ℤ fta (notes j)) (clock k +ℤ fta (notes k))) last
-      (averages_pull group z q (after_pull list) (width list q) (clock j) (clock k) r.began (notes j) (notes k)
-      r.senders r.apart r.turns (r.noted j a) (r.noted k b) many))
+      let near = averages_pull group z q (after_pull list) (width list q) (clock j) (clock k) r.began (notes j)
+      (notes k) r.senders r.apart r.turns (r.noted j a) (r.noted k b) many in
+      omega (arith, ints, rw last at near)
 ]
   where
     same : length (notes j) ≡ length (notes k)
@@ -124,7 +106,7 @@ round_ends list group z s t q clock notes up some last r enough j k a b = elim (
         ∙ sym (length-noted z (width list q) r.began (clock k) (notes k) r.senders (r.noted k b))
 
     whole : (i : ℕ) → group i → IsUpTo (drift_in list (length list.slots)) (clock i -ℤ r.began i)
-    whole i p = subst (λ m. IsUpTo (drift_in list m) (clock i -ℤ r.began i)) last (r.moved i p)
+    whole i p = rw (← last) (r.moved i p)
 
 -- The bound.
 
@@ -132,27 +114,16 @@ round_ends list group z s t q clock notes up some last r enough j k a b = elim (
 abbrev pub in_round : Medl → ℤ
 in_round list = drift_in list (length list.slots) *ℤ pos 8 +ℤ (list.error *ℤ pos 6 +ℤ pos 2)
 
-apart_in_round : (p n e b c x y : ℤ) → (b -ℤ c) ≤ℤ (n *ℤ pos 6 +ℤ (e *ℤ pos 6 +ℤ pos 2)) → IsUpTo p (x -ℤ b)
-    → IsUpTo p (y -ℤ c) → p ≤ℤ n
-    → (x -ℤ y) ≤ℤ (n *ℤ pos 8 +ℤ (e *ℤ pos 6 +ℤ pos 2))
-apart_in_round p n e b c x y near h g few = omega (arith, ints, near, h.0, h.1, g.0, g.1, few)
-
 pub round_within : (list : Medl) (group : ℕ → Type 0) (z s t q : ℕ) (clock : ℕ → ℤ) (notes : ℕ → List ℤ)
     → pos 0 ≤ℤ list.drift → q ≤ length list.slots → Round list group z s t q clock notes
     → AreWithin group clock (in_round list)
 round_within list group z s t q clock notes up few r j k a b =
-    apart_in_round (drift_in list q) (drift_in list (length list.slots)) list.error (r.began j) (r.began k) (clock j)
-    (clock k) (r.apart j k a b) (r.moved j a) (r.moved k b) (product_upto list.drift q (length list.slots) up few)
+    omega (arith, ints, r.apart j k a b, r.moved j a, r.moved k b, product_upto list.drift q (length list.slots) up few)
 
 product_twelve : (d : ℤ) (n : ℕ) → pos 0 ≤ℤ d → d *ℤ pos (12 * n) ≡ (d *ℤ pos n) *ℤ pos 12
 product_twelve (pos a) n up = omega (arith, ints)
 product_twelve (negsuc a) n up = absurd (omega (arith, ints, up))
 
-below_bound : (n e b : ℤ) → pos 0 ≤ℤ n → b ≡ n *ℤ pos 12
-    → (n *ℤ pos 8 +ℤ (e *ℤ pos 6 +ℤ pos 2)) ≤ℤ (b +ℤ (e *ℤ pos 6 +ℤ pos 2))
-below_bound n e b up is = omega (arith, ints, up, is)
-
 pub in_round_bound : (list : Medl) → pos 0 ≤ℤ list.drift → in_round list ≤ℤ bound list
 in_round_bound list up =
-    below_bound (drift_in list (length list.slots)) list.error (list.drift *ℤ pos (12 * length list.slots))
-    (product_up list.drift (length list.slots) up) (product_twelve list.drift (length list.slots) up)
+    omega (arith, ints, product_up list.drift (length list.slots) up, product_twelve list.drift (length list.slots) up)

@@ -1,9 +1,8 @@
 -- What the nodes of a plan that loses none note in one slot, where one sender may be two-faced.
 use Rattle.std.proofs.Common.{◌≡◌, ◌≢◌, ℕ, suc, ◌+◌, ◌-◌, ◌*◌, ◌%◌, ◌<◌, ℤ, pos, ◌+ℤ◌, ◌-ℤ◌, ◌≤ℤ◌, Bool, true, false}
-use Rattle.std.proofs.Common.{cond, ◌&&◌, List, [], ◌∷◌, ◌++◌, length, Some, None, refl, ap, sym, subst, ◌∙◌, arith}
+use Rattle.std.proofs.Common.{cond, ◌&&◌, List, [], ◌∷◌, ◌++◌, length, Some, refl, ap, sym, subst, ◌∙◌, arith}
 use Rattle.std.specs.Prelude.{nat_le, ◌==◌}
 use Rattle.std.specs.Int.{int_max}
-use Rattle.std.specs.Option.{option_to_list}
 use Rattle.std.proofs.lemmas.Bool.{ne_eqb, and_left, and_right}
 use Rattle.std.proofs.lemmas.Int.{ints}
 use Rattle.ttp_base.specs.NodeSet.{has_node}
@@ -31,7 +30,7 @@ use Rattle.safety_laws.specs.NotedByPlan.{IsSoundIn, NotedInSlot}
 use Rattle.safety_laws.proofs.NearNotes.{clock_moved, drift-moves as drift_moves}
 use Rattle.safety_laws.proofs.RoundNotes.{none-silent, sender-in}
 use Rattle.two_faced.specs.Errors.{bound, is_faced_slot, allowed_error, HasFacedClocks}
-use Rattle.two_faced.proofs.Lossless.{sound-always, none-returns}
+use Rattle.two_faced.proofs.QuietPlan.{sound-always, none-returns}
 use Rattle.two_faced.proofs.PulledNotes.{Locate, AreTurns, AreTurns-later}
 use Rattle.two_faced.proofs.FacedRounds.{width, Round, SlotNotes}
 use Rattle.precision.proofs.ClockBounds.{within_bound as upto_of_test}
@@ -49,15 +48,9 @@ Group list plan k = IsIn list (has_node plan.begin) k
 
 -- Errors.
 
-max_within : (e w : ℤ) → e ≤ℤ w → int_max e w ≤ℤ w
-max_within e w h = grind (arith, ints)
-
 allowed_within : (faced : Bool) (e w : ℤ) → e ≤ℤ w → cond faced (int_max e w) e ≤ℤ w
-allowed_within true e w h = max_within e w h
+allowed_within true e w h = grind (arith, ints)
 allowed_within false e w h = h
-
-beside_error : (b e w : ℤ) → (b +ℤ e) ≤ℤ w → e ≤ℤ (w -ℤ b)
-beside_error b e w h = omega (arith, ints, h)
 
 module _ (list : Medl) (script : Script) (start : ClusterStart) (z : ℕ) (plan : Plan)
     (f : IsFacing list script start z plan) where
@@ -79,25 +72,20 @@ module _ (list : Medl) (script : Script) (start : ClusterStart) (z : ℕ) (plan 
   errors k slot node within =
       wider_upto (allowed_error list z (Some start) slot) (list.window -ℤ bound list) (reading_error script k slot)
       (allowed_within (is_faced_slot list z (Some start) slot) list.error (list.window -ℤ bound list)
-      (beside_error (bound list) list.error list.window f.clocks.window))
-      (upto_of_test (allowed_error list z (Some start) slot) (reading_error script k slot)
-      (f.clocks.errors k slot node within))
+      (omega (arith, ints, f.clocks.window))) (upto_of_test (allowed_error list z (Some start) slot)
+      (reading_error script k slot) (f.clocks.errors k slot node within))
 
   -- in another node's slot, and before two rounds are over, they keep the list's bound
-  error_of : (k slot : ℕ) → k < length list.slots → slot < script.slots
-      → is_faced_slot list z (Some start) slot ≡ false
+  error_of : (k slot : ℕ) → k < length list.slots → slot < script.slots → is_faced_slot list z (Some start) slot ≡ false
       → IsUpTo list.error (reading_error script k slot)
   error_of k slot node within usual =
-      subst (λ b. IsUpTo (cond b (int_max list.error (list.window -ℤ bound list)) list.error)
-      (reading_error script k slot)) usual
-      (upto_of_test (allowed_error list z (Some start) slot) (reading_error script k slot)
+      rw usual at (upto_of_test (allowed_error list z (Some start) slot) (reading_error script k slot)
       (f.clocks.errors k slot node within))
 
   pub errors_first : (k : ℕ) → k < length list.slots → start.slot < script.slots
       → IsUpTo list.error (reading_error script k start.slot)
   errors_first k node within =
-      let many = f.valid.count.0 in
-      error_of k start.slot node within (early (length list.slots) (omega (arith, many)))
+      error_of k start.slot node within (early (length list.slots) (omega (arith, f.valid.count.0)))
     where
       early : (n : ℕ) → 0 < n
           → (nat_le (start.slot + 2 * n) start.slot && (expected_sender list start start.slot == z)) ≡ false
@@ -112,8 +100,7 @@ module _ (list : Medl) (script : Script) (start : ClusterStart) (z : ℕ) (plan 
       ∙ (λ i. (sym f.follows.starter i + turn) % sym f.follows.nodes i)
 
   pub errors_beside : (k turn slot : ℕ) → k < length list.slots → slot < script.slots → slot ≡ start.slot + turn
-      → sender plan turn ≢ z
-      → IsUpTo list.error (reading_error script k slot)
+      → sender plan turn ≢ z → IsUpTo list.error (reading_error script k slot)
   errors_beside k turn slot node within is other =
       error_of k slot node within
       (ap (λ p. nat_le (start.slot + 2 * length list.slots) slot && (p == z)) (sender_same slot turn is)
@@ -128,36 +115,15 @@ one_located z p w c d began true near = (near, tt)
 one_located z p w c d began false near = tt
 
 told_located : (list : Medl) (script : Script) (history : History) (z p k : ℕ) (place : Place) (w c : ℤ)
-    (began : ℕ → ℤ) (e : Entry)
-    → TellsOf list script history p k e
+    (began : ℕ → ℤ) (e : Entry) → TellsOf list script history p k e
     → (k ≡ p → p ≢ z → IsUpTo w ((c +ℤ pos 0) -ℤ began p))
     → ((d : ℤ) → d ≡ measured list script history k p → p ≢ z → IsUpTo w ((c +ℤ d) -ℤ began p))
     → Locate z w began c (notes_in list place e) (cond (plan_at list place.slot).sync (p ∷ []) [])
 told_located list script history z p k place w c began (entry.Sent message) tells own other =
     one_located z p w c (pos 0) began (plan_at list place.slot).sync (own tells)
 told_located list script history z p k place w c began (entry.Judged sender v deviation) tells own other =
-    let sync = (plan_at list place.slot).sync in
-    subst (λ b. Locate z w began c (cond sync (option_to_list (cond b (Some deviation) None)) [])
-    (cond sync (p ∷ []) [])) (sym tells.0)
-    (one_located z p w c deviation began sync (other deviation tells.1))
+    rw tells.0 (one_located z p w c deviation began (plan_at list place.slot).sync (other deviation tells.1))
 told_located list script history z p k place w c began _ tells own other = absurd tells
-
--- A node that goes on.
-
-own_near : (e q v o j d b : ℤ) → j ≡ pos 0 → IsUpTo q d → IsUpTo v (o -ℤ b) → pos 0 ≤ℤ e
-    → IsUpTo (e +ℤ (v +ℤ q)) (((o +ℤ (j +ℤ (d +ℤ pos 0))) +ℤ pos 0) -ℤ b)
-own_near e q v o j d b still drift moved up = (
-  omega (arith, ints, still, drift.0, drift.1, moved.0, moved.1, up),
-  omega (arith, ints, still, drift.0, drift.1, moved.0, moved.1, up),
-)
-
-other_near : (e q v o j d b n x y r u : ℤ) → j ≡ pos 0 → IsUpTo q d → IsUpTo e r → IsUpTo v (u -ℤ b)
-    → n ≡ (x -ℤ y) +ℤ r → x ≡ u → y ≡ o
-    → IsUpTo (e +ℤ (v +ℤ q)) (((o +ℤ (j +ℤ (d +ℤ pos 0))) +ℤ n) -ℤ b)
-other_near e q v o j d b n x y r u still drift error moved note sends hears = (
-  omega (arith, ints, still, drift.0, drift.1, error.0, error.1, moved.0, moved.1, note, sends, hears),
-  omega (arith, ints, still, drift.0, drift.1, error.0, error.1, moved.0, moved.1, note, sends, hears),
-)
 
 -- The slot of the turn after this one.
 
@@ -166,8 +132,7 @@ module _ (list : Medl) (script : Script) (start : ClusterStart) (z : ℕ) (plan 
     (number : length history ≡ start.slot + suc turn) (within : start.slot + suc turn < script.slots) where
   pub still : (k : ℕ) → Group list plan k → jump_of script k (length history) ≡ pos 0
   still k p =
-      subst (λ t. jump_of script k t ≡ pos 0) (sym number)
-      (f.follows.clocks (suc turn) k p.0 within
+      subst (λ t. jump_of script k t ≡ pos 0) (sym number) (f.follows.clocks (suc turn) k p.0 within
       (to_sound list script start z plan f (suc turn) k p).1)
 
   -- a node's frame lies where its clock was after the slot before
@@ -197,23 +162,17 @@ module _ (list : Medl) (script : Script) (start : ClusterStart) (z : ℕ) (plan 
     own : (k : ℕ) → Group list plan k → k ≡ q → q ≢ z
         → IsUpTo (width list (suc q)) ((clock_moved list script history k +ℤ pos 0) -ℤ r.began q)
     own k p is other =
-        subst (λ v. IsUpTo (list.error +ℤ v) ((clock_moved list script history k +ℤ pos 0) -ℤ r.began q)) (sym more)
-        (own_near list.error list.drift (drift_in list q) (clock_after list script history k)
-        (jump_of script k (length history)) (drift_of script k) (r.began q) (still k p)
-        (drifts list script start z plan f k p.0)
-        (subst (λ j. IsUpTo (drift_in list q) (clock_after list script history k -ℤ r.began j)) is (r.moved k p))
-        f.valid.error.0)
+        let began : r.began k ≡ r.began q = ap r.began is in
+        let drift = drifts list script start z plan f k p.0 in
+        omega (arith, ints, more, still k p, drift, r.moved k p, began, f.valid.error.0)
 
     heard : (k : ℕ) → Group list plan k → Group list plan q → (d : ℤ) → d ≡ measured list script history k q → q ≢ z
         → IsUpTo (width list (suc q)) ((clock_moved list script history k +ℤ d) -ℤ r.began q)
     heard k p sends d is other =
-        subst (λ v. IsUpTo (list.error +ℤ v) ((clock_moved list script history k +ℤ d) -ℤ r.began q)) (sym more)
-        (other_near list.error list.drift (drift_in list q) (clock_after list script history k)
-        (jump_of script k (length history)) (drift_of script k) (r.began q) d (frame_of list script history q)
-        (frame_of list script history k) (reading_error script k (length history)) (clock_after list script history q)
-        (still k p) (drifts list script start z plan f k p.0)
-        (errors_beside list script start z plan f k (suc turn) (length history) p.0 (omega (arith, number, within))
-        number other) (r.moved q sends) is (frame_is q sends) (frame_is k p))
+        let error = errors_beside list script start z plan f k (suc turn) (length history) p.0
+        (omega (arith, number, within)) number other in
+        let drift = drifts list script start z plan f k p.0 in
+        omega (arith, ints, more, still k p, drift, r.moved q sends, error, frame_is q sends, frame_is k p)
 
     abbrev sync : Bool
     sync = (plan_at list (planned_place list plan (suc turn)).slot).sync
@@ -232,15 +191,13 @@ module _ (list : Medl) (script : Script) (start : ClusterStart) (z : ℕ) (plan 
       noted = λ k p. told_located list script history z q k (planned_place list plan (suc turn)) (width list (suc q))
           (clock_moved list script history k) r.began (entry_of row k)
           (noted.good k good (to_sound list script start z plan f (suc turn) k p)
-          (none-enters plan (suc turn) k (stay list script start z plan f))) (own k p)
-          (heard k p (sender_turn good));
+          (none-enters plan (suc turn) k (stay list script start z plan f))) (own k p) (heard k p (sender_turn good));
     }
     by_good false wrong = record {
       new = [];
       turn = λ senders turns. AreTurns-later (Group list plan) q senders turns;
-      noted = λ k p. subst (λ ns. Locate z (width list (suc q)) r.began (clock_moved list script history k) ns [])
-          (sym (none-silent list (planned_place list plan (suc turn)) (entry_of row k)
-          (noted.other k wrong (to_sound list script start z plan f (suc turn) k p)))) tt;
+      noted = λ k p. rw (none-silent list (planned_place list plan (suc turn)) (entry_of row k)
+          (noted.other k wrong (to_sound list script start z plan f (suc turn) k p))) tt;
     }
 
     pub slot_notes : SlotNotes list (Group list plan) z q r.began (clock_moved list script history)

@@ -1,6 +1,6 @@
 -- A run of a script in which one sender may be two-faced, after each slot from the start on.
-use Rattle.std.proofs.Common.{◌≡◌, ◌≢◌, ℕ, suc, ◌+◌, ◌-◌, ◌<◌, ◌≤◌, ◌-ℤ◌, ◌≤ℤ◌, Bool, true, false, cond, List, []}
-use Rattle.std.proofs.Common.{◌∷◌, length, refl, ap, sym, subst, ◌∙◌, inl, inr, arith}
+use Rattle.std.proofs.Common.{◌≡◌, ◌≢◌, ℕ, suc, ◌+◌, ◌-◌, ◌<◌, ◌≤◌, ◌-ℤ◌, ◌≤ℤ◌, Bool, true, false, List, [], ◌∷◌}
+use Rattle.std.proofs.Common.{length, refl, ap, sym, ◌∙◌, inl, inr, arith}
 use Rattle.std.proofs.lemmas.Bool.{both_ways, cases_eq}
 use Rattle.ttp_base.specs.NodeSet.{has_node}
 use Rattle.ttp_world.specs.declared.medl.Medl.{Medl}
@@ -33,16 +33,12 @@ use Rattle.safety_laws.specs.ByPlan.{IsByPlan}
 use Rattle.safety_laws.proofs.Together.{KeepsClocks, run-by_plan}
 use Rattle.two_faced.specs.Errors.{bound}
 use Rattle.two_faced.proofs.FacedClocks.{faced-clocks, faced-window}
-use Rattle.two_faced.proofs.Lossless.{fate-always}
+use Rattle.two_faced.proofs.QuietPlan.{fate-always, quiet_plan, follows, on-sound, begun, clocks}
 use Rattle.two_faced.proofs.FacedSlots.{IsFacing}
 use Rattle.two_faced.specs.Halved.{AreJudgedCorrect, JudgedCorrectSince}
-use Rattle.two_faced.proofs.QuietPlan.{quiet_plan, follows, on-sound, begun, clocks}
 use Rattle.two_faced.proofs.Rules.{RulesHold}
 use Rattle.fault_plan.proofs.FateSteps.{sound-fate as sound-only}
-
-never-falling : (begins : Bool) (fate : Fate) → cond begins Sound Absent ≡ fate → (is_lost fate ≡ true) → ⊥
-never-falling true fate is lost = both_ways (is_lost fate) (ap is_lost (sym is)) lost
-never-falling false fate is lost = both_ways (is_lost fate) (ap is_lost (sym is)) lost
+use Rattle.fault_plan.proofs.FaultySets.{lost-begin}
 
 -- a node that doubts none holds the group
 undoubted : (group : List ℕ) (a : Ack) → ((y : ℕ) → a ≡ ack.Doubt y → ⊥) → held_with group a ≡ group
@@ -86,7 +82,8 @@ module _ (list : Medl) (script : Script) (z slot : ℕ) (valid : IsValid list) (
 
   never-lost : (turn k : ℕ) (fate : Fate) → fate_of plan turn k ≡ fate → is_lost fate ≡ true → ⊥
   never-lost turn k fate is =
-      never-falling (has_node plan.begin k) fate (sym (fate-always plan turn k refl refl) ∙ is)
+      both_ways (is_lost fate)
+      (ap is_lost (sym is ∙ fate-always plan turn k refl refl) ∙ lost-begin (has_node plan.begin k))
 
   keeps : KeepsClocks list script start plan
   keeps turn numbers noted within = record {
@@ -98,8 +95,7 @@ module _ (list : Medl) (script : Script) (z slot : ℕ) (valid : IsValid list) (
   }
 
   run-at : (numbers : Numbers) (turn : ℕ) → IsLegal list script numbers → length numbers ≡ suc (start.slot + turn)
-      → length numbers ≤ script.slots
-      → IsByPlan list script start plan turn (world list script numbers)
+      → length numbers ≤ script.slots → IsByPlan list script start plan turn (world list script numbers)
   run-at numbers turn legal number within =
       run-by_plan list script start plan (begun list script z slot valid rules script_valid) keeps turn numbers number
       (omega (arith, number, within)) legal
@@ -109,13 +105,11 @@ module _ (list : Medl) (script : Script) (z slot : ℕ) (valid : IsValid list) (
   -- a node that sent was sound
   sent-sound : (turn p : ℕ) (row : List Entry) (history : History) → p < length list.slots
       → IsByFate list plan turn p (node_past list script (row ∷ history) p) (fate_of plan turn p)
-      → is_sending (entry_of row p) ≡ true
-      → is_sound_after plan turn p ≡ true
+      → is_sending (entry_of row p) ≡ true → is_sound_after plan turn p ≡ true
   sent-sound turn p row history node at sent = by (fate_of plan turn p) refl at
     where
       by : (fate : Fate) → fate_of plan turn p ≡ fate
-          → IsByFate list plan turn p (node_past list script (row ∷ history) p) fate
-          → is_sound_after plan turn p ≡ true
+          → IsByFate list plan turn p (node_past list script (row ∷ history) p) fate → is_sound_after plan turn p ≡ true
       by Sound is at = ap is_sound is
       by Absent is off = absurd (both_ways (is_sending (entry_of row p)) (off-silent (entry_of row p) off) sent)
       by (Falling change since) is at = absurd (never-lost turn p _ is refl)
@@ -124,8 +118,7 @@ module _ (list : Medl) (script : Script) (z slot : ℕ) (valid : IsValid list) (
 
   judged-slot : (turn : ℕ) (row : List Entry) (history : History) → length history ≡ start.slot + suc turn
       → IsByPlan list script start plan (suc turn) (row ∷ history) → AreJudgedCorrect list script row history
-  judged-slot turn row history number by_plan p r sends hears other on sent =
-      by (is_good_slot plan (suc turn)) refl
+  judged-slot turn row history number by_plan p r sends hears other on sent = by (is_good_slot plan (suc turn)) refl
     where
       noted : NotedInSlot list script plan (suc turn) row history
       noted = by_plan.noted.1
@@ -139,13 +132,10 @@ module _ (list : Medl) (script : Script) (z slot : ℕ) (valid : IsValid list) (
 
       by : (good : Bool) → is_good_slot plan (suc turn) ≡ good → TellsOf list script history p r (entry_of row r)
       by true good = elim (cases_eq p (sender plan (suc turn))) [
-        | inl own ↦
-            subst (λ j. TellsOf list script history j r (entry_of row r)) (sym own)
-            (noted.good r good (hears, receiver_sound) refl)
+        | inl own ↦ rw own (noted.good r good (hears, receiver_sound) refl)
         | inr apart ↦
-            absurd (both_ways (is_sending (entry_of row p))
-            (hearing-entry list script history (sender plan (suc turn)) p (entry_of row p) apart
-            (noted.good p good (sends, sender_sound) refl)) sent)
+            absurd (both_ways (is_sending (entry_of row p)) (hearing-entry list script history (sender plan (suc turn))
+            p (entry_of row p) apart (noted.good p good (sends, sender_sound) refl)) sent)
       ]
       by false wrong =
           absurd (both_ways (is_sending (entry_of row p))
@@ -156,10 +146,10 @@ module _ (list : Medl) (script : Script) (z slot : ℕ) (valid : IsValid list) (
   runs-judged [] legal within = tt
   runs-judged (new ∷ numbers) legal within = (
     λ later.
-        let from = rules.from in
         let long = length-world list script numbers in
         let turn = length numbers - suc slot in
-        let number : length (world list script numbers) ≡ start.slot + suc turn = omega (arith, later, from, long) in
+        let number : length (world list script numbers) ≡ start.slot + suc turn =
+        omega (arith, later, rules.from, long) in
         judged-slot turn _ (world list script numbers) number
         (run-at (new ∷ numbers) (suc turn) legal (omega (arith, number, long)) within),
     runs-judged numbers (legal-older list script new numbers legal) (omega (arith, within)),
@@ -189,14 +179,11 @@ module _ (list : Medl) (script : Script) (z slot : ℕ) (valid : IsValid list) (
 
     sound-node : (k : ℕ) → k < length list.slots → is_on script k (newest_slot history) ≡ true
         → is_sound_after plan turn k ≡ true
-    sound-node k node on =
-        on-sound list script z slot valid rules turn k node (ap (is_on script k) (sym newest) ∙ on)
+    sound-node k node on = on-sound list script z slot valid rules turn k node (ap (is_on script k) (sym newest) ∙ on)
 
     at-sound : (k : ℕ) → k < length list.slots → is_on script k (newest_slot history) ≡ true
         → IsSoundAt list plan turn k (node_past list script history k)
-    at-sound k node on =
-        subst (IsByFate list plan turn k (node_past list script history k))
-        (sound-only (fate_of plan turn k) (sound-node k node on)) (run.holds.nodes k node)
+    at-sound k node on = rw (sound-only (fate_of plan turn k) (sound-node k node on)) at (run.holds.nodes k node)
 
     pub runs-active : (k : ℕ) → k < length list.slots → is_on script k (newest_slot history) ≡ true
         → (node_past list script history k).phase ≡ phase.Active
@@ -206,8 +193,7 @@ module _ (list : Medl) (script : Script) (z slot : ℕ) (valid : IsValid list) (
         → members_of_node list history k ≡ planned_members plan turn
     planned k node on =
         let at = at-sound k node on in
-        at.group.members
-        ∙ undoubted (planned_members plan turn) (node_past list script history k).ack
+        at.group.members ∙ undoubted (planned_members plan turn) (node_past list script history k).ack
         (λ y doubt. let lost = at.doubted y doubt in never-lost turn y _ lost.1 refl)
 
     pub runs-members : (j k : ℕ) → j < length list.slots → k < length list.slots

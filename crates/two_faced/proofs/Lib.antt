@@ -1,15 +1,13 @@
 pub mod PulledNotes
 pub mod FacedRounds
-pub mod Lossless
 pub mod FacedSlots
 pub mod FacedClocks
 pub mod Spans
 pub mod Rules
-pub mod QuietScript
 pub mod QuietPlan
 pub mod Judged
 pub mod Widest
-pub mod SeenWithin
 pub mod SeenAlike
+pub mod SeenWithin
 pub mod ZerosPayloads
 pub mod ZerosRun

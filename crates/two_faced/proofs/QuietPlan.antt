@@ -1,8 +1,8 @@
--- The plan of a script in which no node is lost: it loses none, and the script follows it.
-use Rattle.std.proofs.Common.{◌≡◌, ℕ, ◌+◌, ◌<◌, ◌≤◌, true, not}
-use Rattle.std.proofs.Common.{[], length, Some, None, refl, ap, sym, subst, ◌∙◌, arith}
-use Rattle.std.specs.Prelude.{◌&&◌, int_le, find, ◌+ℤ◌}
-use Rattle.std.specs.List.{filter}
+-- A plan that loses no node.
+use Rattle.std.proofs.Common.{◌≡◌, ℕ, ◌+◌, ◌<◌, ◌≤◌, true, not, [], length, Some, None, refl, ap, sym, subst, ◌∙◌}
+use Rattle.std.proofs.Common.{arith, pos, false, Bool, List, ◌∷◌, Option, zero, suc, cond}
+use Rattle.std.specs.Prelude.{◌&&◌, int_le, find, ◌+ℤ◌, is_some, ◌==◌}
+use Rattle.std.specs.List.{filter, AllByRecursion, list_any, filter_map, Contains}
 use Rattle.std.proofs.lemmas.Bool.{both_ways, not-false, leb-true}
 use Rattle.std.proofs.lemmas.Option.{none-some}
 use Rattle.ttp_base.specs.NodeSet.{below, has_node}
@@ -10,30 +10,157 @@ use Rattle.ttp_base.proofs.Below.{each-below}
 use Rattle.ttp_base.proofs.NodeSets.{has_node-sieve, same_sieve}
 use Rattle.ttp_world.specs.declared.medl.Medl.{Medl}
 use Rattle.ttp_world.specs.declared.script.Script.{Script}
-use Rattle.ttp_world.specs.Hypothesis.{ClusterStart, is_within_bound, drifts_hold, start_of}
-use Rattle.ttp_world.specs.Hypothesis.{only_starter, is_steady}
+use Rattle.ttp_world.specs.Hypothesis.{ClusterStart, is_within_bound, drifts_hold, start_of, only_starter, is_steady}
+use Rattle.ttp_world.specs.Hypothesis.{loses}
 use Rattle.ttp_world.specs.Medl.{IsValid, plan_at, may_start}
-use Rattle.ttp_world.specs.Script.{IsValidScript, is_ever_on, is_on, on_slot, drift_of, reading_error}
+use Rattle.ttp_world.specs.Script.{IsValidScript, is_ever_on, is_on, on_slot, drift_of, reading_error, has_jump}
+use Rattle.ttp_world.specs.Script.{jump_of, flipped_bits, has_send_fault, has_receive_fault, is_send_fault}
+use Rattle.ttp_world.specs.Script.{is_receive_fault, flipped_bit, jump_in, sum_ℤ}
 use Rattle.ttp_world.specs.Starts.{StartsAlone}
 use Rattle.ttp_world.proofs.Lists.{nodes-most}
 use Rattle.ttp_world.proofs.Starts.{found-start, alone-start, on-start}
 use Rattle.hypothesis.specs.SoleStart.{sole_start_in, sole_start}
-use Rattle.fault_plan.specs.Plan.{Plan, sender, plan_of}
-use Rattle.fault_plan.specs.Fates.{fate_of, is_sound_after, is_lost, is_steady_after, steady_nodes}
+use Rattle.fault_plan.specs.Plan.{Plan, sender, plan_of, Return, incident_at, is_in_slot}
+use Rattle.fault_plan.specs.Fates.{fate_of, is_sound_after, is_lost, is_steady_after, steady_nodes, Fate, Absent, Sound}
+use Rattle.fault_plan.specs.Fates.{Falling, Fallen, fate_at_begin, next_fate, turned, struck, is_sound}
 use Rattle.fault_plan.specs.GoodPlan.{IsGoodPlan}
 use Rattle.fault_plan.specs.Kept.{FollowsPlan, IsHeardByPlan}
 use Rattle.fault_plan.proofs.Bounds.{both-hold, wide}
 use Rattle.fault_plan.proofs.CoursePlans.{on-always, due-ever}
-use Rattle.fault_plan.proofs.Returns.{none-among, never-listens}
+use Rattle.fault_plan.proofs.Returns.{none-among, never-listens, none-armed, none-enters}
 use Rattle.fault_plan.proofs.Sieves.{none-found}
 use Rattle.safety_laws.specs.PlannedRun.{IsBegun}
 use Rattle.two_faced.specs.Errors.{bound, HasFacedClocks}
-use Rattle.two_faced.proofs.Lossless.{fate-always, sound-always}
-use Rattle.two_faced.specs.Faced.{allowed_error, errors_allowed_in, clocks_broken}
-use Rattle.two_faced.proofs.QuietScript.{IsQuiet, quiet-script}
+use Rattle.two_faced.specs.Faced.{allowed_error, errors_allowed_in, clocks_broken, fault_slot, faults_broken}
 use Rattle.two_faced.proofs.Rules.{RulesHold}
-use Rattle.fault_plan.proofs.FaultySets.{lost-begin as never-lost}
+use Rattle.fault_plan.proofs.FaultySets.{lost-begin as begin-lost, sound-begin as begin-sound}
 use Rattle.ttp_world.proofs.SmallTests.{le_of_test, and-true}
+use Rattle.ttp_world.specs.declared.script.Channel.{Channel}
+use Rattle.ttp_world.specs.declared.script.Channel.TheVariants as channel
+use Rattle.ttp_world.specs.declared.script.Event.{Event}
+use Rattle.ttp_world.specs.declared.script.Event.TheVariants as event
+use Rattle.ttp_world.specs.declared.script.Fault.{Fault}
+use Rattle.ttp_world.specs.declared.script.Fault.TheVariants as fault
+use Rattle.ttp_world.proofs.Jumps.{each-none}
+use Rattle.fault_plan.specs.Told.{IsTold}
+use Rattle.fault_plan.proofs.FateSteps.{next-same}
+use Rattle.fault_plan.proofs.FateTells.{fate-told}
+
+pub none-at : (plan : Plan) (slot : ℕ) → plan.incidents ≡ [] → incident_at plan slot ≡ None
+none-at plan slot none = ap (find (is_in_slot slot)) none
+
+turned-begin : (own begins : Bool) (slot : ℕ) → turned own slot (cond begins Sound Absent) ≡ cond begins Sound Absent
+turned-begin true true slot = refl
+turned-begin true false slot = refl
+turned-begin false begins slot = refl
+
+-- one slot changes no fate
+fate-same : (plan : Plan) (slot k : ℕ) (fate : Fate) → plan.incidents ≡ [] → plan.returns ≡ []
+    → fate ≡ fate_at_begin plan k → next_fate plan slot k fate ≡ fate_at_begin plan k
+fate-same plan slot k fate none stay is =
+    next-same plan slot k fate (none-armed plan slot k stay) (none-enters plan slot k stay)
+    ∙ ap (λ found. turned (sender plan slot == k) slot (struck slot k fate found)) (none-at plan slot none)
+    ∙ ap (turned (sender plan slot == k) slot) is ∙ turned-begin (sender plan slot == k) (has_node plan.begin k) slot
+
+pub fate-always : (plan : Plan) (slot k : ℕ) → plan.incidents ≡ [] → plan.returns ≡ []
+    → fate_of plan slot k ≡ fate_at_begin plan k
+fate-always plan zero k none stay = fate-same plan 0 k (fate_at_begin plan k) none stay refl
+fate-always plan (suc slot) k none stay =
+    fate-same plan (suc slot) k (fate_of plan slot k) none stay (fate-always plan slot k none stay)
+
+-- the nodes that begin are sound always
+pub sound-always : (plan : Plan) (slot k : ℕ) → plan.incidents ≡ [] → plan.returns ≡ []
+    → is_sound_after plan slot k ≡ has_node plan.begin k
+sound-always plan slot k none stay =
+    ap is_sound (fate-always plan slot k none stay) ∙ begin-sound (has_node plan.begin k)
+
+-- And none returns, since only a lost node does.
+
+never-lost : (plan : Plan) (slot k : ℕ) (fate : Fate) → plan.incidents ≡ [] → IsTold plan slot k fate
+    → is_lost fate ≡ true → ⊥
+never-lost plan slot k (Falling change since) none told lost =
+    none-some told.loss.incident (sym (none-at plan since none) ∙ told.loss.found)
+never-lost plan slot k (Fallen change since shown) none told lost =
+    none-some told.loss.incident (sym (none-at plan since none) ∙ told.loss.found)
+never-lost plan slot k _ none told lost = both_ways false refl lost
+
+pub none-returns : (plan : Plan) → IsGoodPlan plan → plan.incidents ≡ [] → plan.returns ≡ []
+none-returns plan good none = by plan.returns refl
+  where
+    by : (returns : List Return) → plan.returns ≡ returns → plan.returns ≡ []
+    by [] is = is
+    by (r ∷ returns) is =
+        let among : Contains plan.returns r = subst (λ rs. Contains rs r) (sym is) (0, omega arith, refl) in
+        let was = (good.returns r among).was in
+        absurd (never-lost plan was.0 r.node (fate_of plan was.0 r.node) none (fate-told plan was.0 r.node good) was.1.1)
+
+-- A script without faults of senders and receivers, flipped bits and jumps.
+
+-- what no event is, or says, of a kind that is no fault
+none-any : (p : Event → Bool) (events : List Event) → ((e : Event) → fault_slot e ≡ None → p e ≡ false)
+    → AllByRecursion (λ e. fault_slot e ≡ None) events → list_any p events ≡ false
+none-any p [] fails quiet = refl
+none-any p (e ∷ events) fails quiet =
+    let here : p e ≡ false = fails e quiet.0 in
+    rw here (none-any p events fails quiet.1)
+
+none-mapped : {B : Type 0} (f : Event → Option B) (events : List Event)
+    → ((e : Event) → fault_slot e ≡ None → f e ≡ None)
+    → AllByRecursion (λ e. fault_slot e ≡ None) events → filter_map f events ≡ []
+none-mapped f [] fails quiet = refl
+none-mapped f (e ∷ events) fails quiet =
+    let here : f e ≡ None = fails e quiet.0 in
+    rw here (none-mapped f events fails quiet.1)
+
+no-send : (kind : Fault) (k : ℕ) (c : Channel) (slot : ℕ) (e : Event) → fault_slot e ≡ None
+    → is_send_fault kind k c slot e ≡ false
+no-send kind k c slot (event.Send node channels f from to) none = absurd (none-some from (sym none))
+no-send kind k c slot _ none = refl
+
+no-receive : (kind : Fault) (k : ℕ) (c : Channel) (slot : ℕ) (e : Event) → fault_slot e ≡ None
+    → is_receive_fault kind k c slot e ≡ false
+no-receive kind k c slot (event.Receive node channels f from to) none = absurd (none-some from (sym none))
+no-receive kind k c slot _ none = refl
+
+no-flip : (k : ℕ) (c : Channel) (slot : ℕ) (e : Event) → fault_slot e ≡ None → flipped_bit k c slot e ≡ None
+no-flip k c slot (event.Flip node channels bit at) none = absurd (none-some at (sym none))
+no-flip k c slot _ none = refl
+
+no-jump : (k slot : ℕ) (e : Event) → fault_slot e ≡ None → jump_in k slot e ≡ None
+no-jump k slot (event.Jump node value at) none = absurd (none-some at (sym none))
+no-jump k slot _ none = refl
+
+-- in each slot, of all nodes
+pub record IsQuiet (script : Script) : Type 0 where
+  pub heard : (p r slot : ℕ) → loses script p slot r ≡ false
+  pub flips : (k slot : ℕ) (c : Channel) → flipped_bits script k c slot ≡ []
+  pub jumps : (k slot : ℕ) → has_jump script k slot ≡ false
+  pub still : (k slot : ℕ) → jump_of script k slot ≡ pos 0
+
+pub quiet-script : (script : Script) → faults_broken script ≡ None → IsQuiet script
+quiet-script script none = record {
+  heard = λ p r slot. rw (
+    sends fault.Silence p channel.A slot,
+    sends fault.Noise p channel.A slot,
+    receives fault.Silence r channel.A slot,
+    receives fault.Noise r channel.A slot,
+  ) refl;
+  flips = λ k slot c. none-mapped (flipped_bit k c slot) script.events (no-flip k c slot) quiet;
+  jumps = λ k slot. none-any (λ e. is_some (jump_in k slot e)) script.events
+      (λ e none. ap is_some (no-jump k slot e none)) quiet;
+  still = λ k slot. ap sum_ℤ (none-mapped (jump_in k slot) script.events (no-jump k slot) quiet);
+}
+  where
+    quiet : AllByRecursion (λ e. fault_slot e ≡ None) script.events
+    quiet = each-none fault_slot script.events none
+
+    sends : (kind : Fault) (k : ℕ) (c : Channel) (slot : ℕ) → has_send_fault script kind k c slot ≡ false
+    sends kind k c slot = none-any (is_send_fault kind k c slot) script.events (no-send kind k c slot) quiet
+
+    receives : (kind : Fault) (k : ℕ) (c : Channel) (slot : ℕ) → has_receive_fault script kind k c slot ≡ false
+    receives kind k c slot = none-any (is_receive_fault kind k c slot) script.events (no-receive kind k c slot) quiet
+
+-- The plan of a script in which no node is lost: it loses none, and the script follows it.
 
 abbrev pub quiet_plan : Medl → Script → ClusterStart → Plan
 quiet_plan list script start = record (plan_of list script start) { incidents = [] }
@@ -66,8 +193,7 @@ module _ (list : Medl) (script : Script) (z slot : ℕ) (valid : IsValid list) (
         same_sieve (is_steady list script []) (is_steady_after plan turn) (length list.slots) (λ k less.
         let measured = sym (has_node-sieve (λ k. (plan_at list k).sync) (length list.slots) k less) in
         let begins = sym (has_node-sieve (is_ever_on script) (length list.slots) k less) ∙ sym (sound turn k) in
-        λ i. measured i
-        && (sym (and-true (is_ever_on script k)) ∙ begins ∙ and-true (is_sound_after plan turn k)) i)
+        λ i. measured i && (sym (and-true (is_ever_on script k)) ∙ begins ∙ and-true (is_sound_after plan turn k)) i)
 
     good : IsGoodPlan plan
     good = record {
@@ -82,8 +208,7 @@ module _ (list : Medl) (script : Script) (z slot : ℕ) (valid : IsValid list) (
       apart = λ slot later first second found next less. absurd (none-some first found);
       losses = λ turn incident found. absurd (none-some incident found);
       returns = λ r among. absurd (none-among plan r refl among);
-      steady = λ turn less.
-          subst (λ ks. 4 ≤ length ks) (steady-same turn) (leb-true 4 _ rules.steady);
+      steady = λ turn less. subst (λ ks. 4 ≤ length ks) (steady-same turn) (leb-true 4 _ rules.steady);
     }
 
     hearing : (turn : ℕ) → IsHeardByPlan script start plan turn
@@ -126,9 +251,8 @@ module _ (list : Medl) (script : Script) (z slot : ℕ) (valid : IsValid list) (
         valid = valid;
         script_valid = script_valid;
         follows = follows;
-        arms = λ k turn node lost.
-            absurd (both_ways (is_lost (fate_of plan turn k))
-            (ap is_lost (fate-always plan turn k refl refl) ∙ never-lost (has_node plan.begin k)) lost);
+        arms = λ k turn node lost. absurd (both_ways (is_lost (fate_of plan turn k))
+            (ap is_lost (fate-always plan turn k refl refl) ∙ begin-lost (has_node plan.begin k)) lost);
       };
       alone = alone;
       heard = λ k node other on. quiet.heard start.node k start.slot;
@@ -137,9 +261,8 @@ module _ (list : Medl) (script : Script) (z slot : ℕ) (valid : IsValid list) (
     parts : (drifts_hold list script ≡ true)
         × (find (λ slot. not (errors_allowed_in list script z (Some start) slot)) (below script.slots) ≡ None)
     parts =
-        both-hold (drifts_hold list script) _
-        (subst (λ found. clocks_broken list script z found ≡ None) (sole-start list script start rules.started)
-        rules.clocks)
+        both-hold (drifts_hold list script) _ (subst (λ found. clocks_broken list script z found ≡ None)
+        (sole-start list script start rules.started) rules.clocks)
 
     pub clocks : HasFacedClocks list script start z
     clocks = record {

@@ -28,12 +28,10 @@ filter_map-agree f g n (k ∷ ks) agree within = λ i.
 apart-alike : (list : Medl) (script : Script) (z slot : ℕ) (one other : History) → AreRuns list script one other
     → apart_after list script z slot one ≡ apart_after list script z slot other
 apart-alike list script z slot one other runs =
-    ap widest
-    (filter_map-agree (clock_beside list script z slot one) (clock_beside list script z slot other)
+    ap widest (filter_map-agree (clock_beside list script z slot one) (clock_beside list script z slot other)
     (length list.slots) (nodes_of list)
     (λ k node i. cond (not (k == z) && is_on script k slot) (Some (runs-clocks list script one other k runs node i))
-    None)
-    (below-lt (length list.slots)))
+    None) (below-lt (length list.slots)))
 
 seen_in-alike : (list : Medl) (script : Script) (z start : ℕ) (one other : History) → AreRuns list script one other
     → seen_in list script z start one ≡ seen_in list script z start other
@@ -61,8 +59,7 @@ zeros-legal list script numbers valid legal = record {
 }
 
 pub seen_of-zeros : (list : Medl) (script : Script) (z start : ℕ) (numbers : Numbers) → IsValidScript list script
-    → IsLegalRun list script numbers
-    → seen_in list script z start (zeros_world list script script.slots)
+    → IsLegalRun list script numbers → seen_in list script z start (zeros_world list script script.slots)
     ≡ seen_in list script z start (world list script numbers)
 seen_of-zeros list script z start numbers valid legal =
     seen_in-alike list script z start (zeros_world list script script.slots) (world list script numbers)

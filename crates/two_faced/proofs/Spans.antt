@@ -44,8 +44,7 @@ difference_is span near =
     rw (
       to_z-of_z w64 span.greatest (near_fits span.greatest near.1),
       to_z-of_z w64 span.least (near_fits span.least near.0),
-    )
-    (to_z-of_z w64 (span.greatest -ℤ span.least) (fits_signed_from_abs w64 (span.greatest -ℤ span.least)
+    ) (to_z-of_z w64 (span.greatest -ℤ span.least) (fits_signed_from_abs w64 (span.greatest -ℤ span.least)
     (omega (arith, small))))
 
 -- A node's clock counts where it is another node and on.

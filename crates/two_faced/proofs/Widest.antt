@@ -12,21 +12,15 @@ all-map : {X : Type 0} (P Q : X → Type 0) (xs : List X) → ((x : X) → P x �
 all-map P Q [] of all = tt
 all-map P Q (x ∷ xs) of all = (of x all.0, all-map P Q xs of all.1)
 
-max_within : (b u z x : ℤ) → (z -ℤ u) ≤ℤ b → (x -ℤ u) ≤ℤ b → (int_max z x -ℤ u) ≤ℤ b
-max_within b u z x h g = grind (arith, ints)
-
-min_within : (b g z x : ℤ) → (g -ℤ z) ≤ℤ b → (g -ℤ x) ≤ℤ b → (g -ℤ int_min z x) ≤ℤ b
-min_within b g z x h p = grind (arith, ints)
-
 greatest_within : (b u z : ℤ) (zs : List ℤ) → (z -ℤ u) ≤ℤ b → AllByRecursion (λ x. (x -ℤ u) ≤ℤ b) zs
     → (greatest z zs -ℤ u) ≤ℤ b
 greatest_within b u z [] h all = h
-greatest_within b u z (x ∷ xs) h all = greatest_within b u (int_max z x) xs (max_within b u z x h all.0) all.1
+greatest_within b u z (x ∷ xs) h all = greatest_within b u (int_max z x) xs (grind (arith, ints, all.0)) all.1
 
 least_within : (b g z : ℤ) (zs : List ℤ) → (g -ℤ z) ≤ℤ b → AllByRecursion (λ x. (g -ℤ x) ≤ℤ b) zs
     → (g -ℤ least z zs) ≤ℤ b
 least_within b g z [] h all = h
-least_within b g z (x ∷ xs) h all = least_within b g (int_min z x) xs (min_within b g z x h all.0) all.1
+least_within b g z (x ∷ xs) h all = least_within b g (int_min z x) xs (grind (arith, ints, all.0)) all.1
 
 -- where any two of them are within b
 pub widest_within : (b : ℤ) (zs : List ℤ) → pos 0 ≤ℤ b

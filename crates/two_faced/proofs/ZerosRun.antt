@@ -22,8 +22,7 @@ length-all_zeros list = length-map-range_with_len (zeros_chosen list) 0 (length 
 -- message 0 of a node is as long as the list says
 zeros-sizes : (list : Medl) (script : Script) (history : History)
     → HaveSizes (slot_after list script history) (all_zeros list)
-zeros-sizes list script history = λ k node loaded.
-    ap (λ (c : Chosen). length c.payload)
+zeros-sizes list script history = λ k node loaded. ap (λ (c : Chosen). length c.payload)
     (get_or-map-range_with_len (zeros_chosen list) 0 (length list.slots) k k nothing_chosen node (omega arith))
     ∙ length-replicate (plan_at list k).payload 0
 

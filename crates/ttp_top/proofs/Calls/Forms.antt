@@ -33,7 +33,7 @@ use Rattle.ttp_top.specs.Calls.Words.{takes_trace, runs_cluster}
 use Rattle.ttp_top.proofs.Calls.Differences.{differences-each}
 use Rattle.ttp_top.proofs.Calls.Precision.{precisions-each}
 use Rattle.ttp_top.proofs.Samples.Lines.{samples-each}
-use Rattle.hypothesis.proofs.Ranges.{and-false as and_false}
+use Rattle.std.proofs.Math.Bool.{and-false as and_false}
 
 -- an ending that a form may come to
 pub record IsOfForm (form : Option Form) (ending : Ending) : Type 0 where

@@ -19,8 +19,7 @@ returns-then-is_deaf c = λ faulties same.
 
 pub returns : goal.returns
 returns c = λ faulties same.
-    let script = c.args.script.now in
     let few = nodes-most c.args.list.now c.requires.valid in
-    sym (none-passes (is_deaf script faulties c.args.slot) 0 (length c.args.list.now.slots) (λ k from less.
-    sym (deaf-same script c.args.faulty faulties c.args.slot k (omega (arith, few)) same)
+    sym (none-passes (is_deaf c.args.script.now faulties c.args.slot) 0 (length c.args.list.now.slots) (λ k from less.
+    sym (deaf-same c.args.script.now c.args.faulty faulties c.args.slot k (omega (arith, few)) same)
     ∙ c.loop-node.invariant k (omega arith)))

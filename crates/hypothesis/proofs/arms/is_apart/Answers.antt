@@ -6,7 +6,7 @@ use Rattle.ttp_world.specs.Returning.{two_rounds, four_rounds, is_near_fault}
 use Rattle.ttp_world.proofs.Lists.{nodes-most}
 use Rattle.hypothesis.specs.Walks.{joined_in}
 use Rattle.hypothesis.proofs.LongFaulty.{joined-none, joined-some, few-zero, some-many}
-use Rattle.hypothesis.proofs.Ranges.{and-false}
+use Rattle.std.proofs.Math.Bool.{and-false}
 use Rattle.hypothesis.proofs.arms.is_apart.Goals as goal
 
 pub joins_in-requires-clause-come : goal.joins_in-requires-clause-come
@@ -23,8 +23,7 @@ loop-at-preserved c = λ start are.
     let list = c.args.list.now in
     let script = c.args.script.now in
     below_more (λ t. c.saturating_sub-from.result ≤ t → nat_lt 0 (length (joined_in list script start t)) ≡ false)
-    c.loop-at.at (c.loop-at.invariant start are)
-    (λ from. sym (c.joins_in.ensures list script start are) ∙ search rules)
+    c.loop-at.at (c.loop-at.invariant start are) (λ from. sym (c.joins_in.ensures list script start are) ∙ search rules)
 
 pub returns-then-joins_in : goal.returns-then-joins_in
 returns-then-joins_in c = λ start are.

@@ -5,18 +5,16 @@ use Rattle.ttp_world.proofs.Lists.{nodes-most}
 use Rattle.hypothesis.specs.Standing.{told_start}
 use Rattle.hypothesis.proofs.LongFaulty.{long-faulty}
 use Rattle.ttp_base.proofs.NodeSets.{and-true}
-use Rattle.hypothesis.proofs.Ranges.{and-false}
+use Rattle.std.proofs.Math.Bool.{and-false}
 use Rattle.hypothesis.proofs.arms.is_long_faulty.Goals as goal
 
 pub returns-then-not-is_apart : goal.returns-then-not-is_apart
 returns-then-not-is_apart c =
-    let list = c.args.list.now in
-    let script = c.args.script.now in
     let start = told_start c.args.start in
-    let apart : is_apart list script start c.args.slot ≡ false =
+    let apart : is_apart c.args.list.now c.args.script.now start c.args.slot ≡ false =
     sym (c.is_apart.ensures start c.requires.newest) ∙ search rules in
-    sym (ap (λ b. is_long_faulty list script start c.args.node c.args.slot && b) apart
-    ∙ and-false (is_long_faulty list script start c.args.node c.args.slot))
+    sym (ap (λ b. is_long_faulty c.args.list.now c.args.script.now start c.args.node c.args.slot && b) apart
+    ∙ and-false (is_long_faulty c.args.list.now c.args.script.now start c.args.node c.args.slot))
 
 pub slot_at-requires-clause-kept : goal.slot_at-requires-clause-kept
 slot_at-requires-clause-kept c = let few = nodes-most c.args.list.now c.requires.valid in omega arith

@@ -5,7 +5,7 @@ use Rattle.std.proofs.lemmas.Bool.{le-ltb}
 use Rattle.ttp_world.specs.Returning.{two_rounds, offers_place, run_slots}
 use Rattle.ttp_world.proofs.Lists.{nodes-most}
 use Rattle.hypothesis.specs.Standing.{told_start}
-use Rattle.hypothesis.proofs.Ranges.{or-true}
+use Rattle.std.proofs.Math.Bool.{or-true}
 use Rattle.ttp_world.proofs.RangeFacts.{any-range as one-passes, none-passes}
 use Rattle.hypothesis.proofs.arms.is_offered.Goals as goal
 
@@ -20,11 +20,9 @@ loop-at-init c = λ t less from. absurd (omega arith)
 
 pub loop-at-preserved : goal.loop-at-preserved
 loop-at-preserved c =
-    let list = c.args.list.now in
-    let script = c.args.script.now in
     let start = told_start c.args.start in
-    let kept = c.slot_at.ensures list script start c.requires.newest in
-    below_more (λ t. c.args.slot ≤ t → offers_place list script start c.args.node t ≡ false)
+    let kept = c.slot_at.ensures c.args.list.now c.args.script.now start c.requires.newest in
+    below_more (λ t. c.args.slot ≤ t → offers_place c.args.list.now c.args.script.now start c.args.node t ≡ false)
     c.loop-at.at c.loop-at.invariant (λ from. sym (c.offers_place.ensures kept.stayed) ∙ search rules)
 
 pub returns-then-offers_place : goal.returns-then-offers_place
@@ -38,9 +36,8 @@ returns-then-offers_place c =
     let offers : offers_place list script start c.args.node at ≡ true =
     sym (c.offers_place.ensures kept.stayed) ∙ search rules in
     sym (ap (λ b. nat_lt script.slots (slot + two_rounds list) || b)
-    (one-passes (offers_place list script start c.args.node) slot
-    (min (slot + two_rounds list) script.slots - slot) at (omega arith) (omega arith) offers)
-    ∙ or-true (nat_lt script.slots (slot + two_rounds list)))
+    (one-passes (offers_place list script start c.args.node) slot (min (slot + two_rounds list) script.slots - slot) at
+    (omega arith) (omega arith) offers) ∙ or-true (nat_lt script.slots (slot + two_rounds list)))
 
 pub returns : goal.returns
 returns c =
@@ -52,6 +49,5 @@ returns c =
     le-ltb script.slots (slot + two_rounds list) (omega arith) in
     sym (ap (λ b. b || list_any (offers_place list script start c.args.node)
     (run_slots script slot (two_rounds list))) whole
-    ∙ none-passes (offers_place list script start c.args.node) slot
-    (min (slot + two_rounds list) script.slots - slot)
+    ∙ none-passes (offers_place list script start c.args.node) slot (min (slot + two_rounds list) script.slots - slot)
     (λ t from to. c.loop-at.invariant t (omega arith) from))

@@ -47,9 +47,6 @@ loop-slot-preserved c =
 
 pub returns-then-breaks_arm_in : goal.returns-then-breaks_arm_in
 returns-then-breaks_arm_in c =
-    let list = c.args.list.now in
-    let rounds = c.four_rounds-rounds.result in
-    sym (first-below (breaks_arm_in list c.args.script.now (told_start c.args.start)) c.args.script.now.slots
-    (c.loop-slot.slot + 1 - rounds) (omega (arith, c.requires.valid.count))
-    (λ t less. c.loop-slot.invariant.fine t (omega (arith, less)))
-    (sym c.breaks_arm_in.ensures ∙ search rules))
+    sym (first-below (breaks_arm_in c.args.list.now c.args.script.now (told_start c.args.start)) c.args.script.now.slots
+    (c.loop-slot.slot + 1 - c.four_rounds-rounds.result) (omega (arith, c.requires.valid.count))
+    (λ t less. c.loop-slot.invariant.fine t (omega (arith, less))) (sym c.breaks_arm_in.ensures ∙ search rules))

@@ -18,9 +18,8 @@ loop-slot-init c =
 
 pub returns-then-breaks_arm_in : goal.returns-then-breaks_arm_in
 returns-then-breaks_arm_in c =
-    sym (first-below (breaks_arm_in c.args.list.now c.args.script.now (told_start c.args.start))
-    c.args.script.now.slots c.loop-slot.slot (omega arith) c.loop-slot.invariant
-    (sym c.breaks_arm_in.ensures ∙ search rules))
+    sym (first-below (breaks_arm_in c.args.list.now c.args.script.now (told_start c.args.start)) c.args.script.now.slots
+    c.loop-slot.slot (omega arith) c.loop-slot.invariant (sym c.breaks_arm_in.ensures ∙ search rules))
 
 pub returns : goal.returns
 returns c =

@@ -6,10 +6,9 @@ use Rattle.hypothesis.proofs.back_walk.started_back.Goals as goal
 
 pub back_over-requires-clause-walked : goal.back_over-requires-clause-walked
 back_over-requires-clause-walked c =
-    let list = c.args.list.now in
     let script = c.args.script.now in
     let start = told_start c.args.start in
-    subst (λ t. HasWalked list script start (back_course list script start) t c.loop-slot.walk)
+    subst (λ t. HasWalked c.args.list.now script start (back_course c.args.list.now script start) t c.loop-slot.walk)
     (sym c.loop-slot.invariant.end) c.loop-slot.invariant.walked
 
 pub loop-slot-init : goal.loop-slot-init

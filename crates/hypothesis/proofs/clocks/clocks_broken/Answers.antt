@@ -16,15 +16,13 @@ nothing-within bound least = grind (arith, ints)
 pub returns-then-not-errors_hold_in : goal.returns-then-not-errors_hold_in
 returns-then-not-errors_hold_in c =
     let fails : ℕ → Bool = λ slot. not (errors_hold_in c.args.list.now c.args.script.now slot) in
-    let holds = c.loop-slot.invariant.0 in
-    sym (ap (λ b. cond b (find fails (below c.args.script.now.slots)) (Some 0)) holds
+    sym (ap (λ b. cond b (find fails (below c.args.script.now.slots)) (Some 0)) c.loop-slot.invariant.0
     ∙ first-below fails c.args.script.now.slots c.loop-slot.slot (omega arith) c.loop-slot.invariant.1 (search rules))
 
 pub returns : goal.returns
 returns c =
     let fails : ℕ → Bool = λ slot. not (errors_hold_in c.args.list.now c.args.script.now slot) in
-    let holds = c.loop-slot.invariant.0 in
-    sym (ap (λ b. cond b (find fails (below c.args.script.now.slots)) (Some 0)) holds
+    sym (ap (λ b. cond b (find fails (below c.args.script.now.slots)) (Some 0)) c.loop-slot.invariant.0
     ∙ none-below fails c.args.script.now.slots (λ k less. c.loop-slot.invariant.1 k (omega arith)))
 
 pub returns-then-not-has_errors : goal.returns-then-not-has_errors

@@ -25,12 +25,10 @@ pub returns : goal.returns
 returns c = λ thens before then are k small.
     let script = c.args.script.now in
     let slot = c.args.slot in
-    let is_in : ℕ → Bool =
-    λ j. not (has_node c.args.then j && is_armed script j slot) && has_node c.args.faulty j in
+    let is_in : ℕ → Bool = λ j. not (has_node c.args.then j && is_armed script j slot) && has_node c.args.faulty j in
     let stays : ℕ → Bool = λ j. not (has_node thens j && is_armed script j slot) in
     let all : c.loop-node.node ≡ most_nodes = omega arith in
     ap (λ s. has_node s k) c.loop-node.invariant ∙ ap (λ n. has_node (filter is_in (below n)) k) all
-    ∙ has_node-sieve is_in most_nodes k small
-    ∙ (λ i. not (then k small i && is_armed script k slot) && are k small i)
+    ∙ has_node-sieve is_in most_nodes k small ∙ (λ i. not (then k small i && is_armed script k slot) && are k small i)
     ∙ sym (has_node-filter stays (numbers_of before) k)
     ∙ ap (λ nodes. has_node nodes k) (sym (numbers-filter stays before))

@@ -8,8 +8,7 @@ use Rattle.hypothesis.proofs.FarJumps.{far_jump-sum}
 use Rattle.hypothesis.proofs.losses.has_far_jump.Goals as goal
 
 tells : (jump : ℤ) (has : Bool) → to_z w64 (of_z w64 jump) ≡ jump → (has ≡ false → jump ≡ pos 0)
-    → (has ≡ true → jump ≡ pos 0 → ⊥)
-    → not (nat_eq (of_z w64 jump) 0) ≡ has
+    → (has ≡ true → jump ≡ pos 0 → ⊥) → not (nat_eq (of_z w64 jump) 0) ≡ has
 tells jump true kept none some = ap not (ne_eqb (of_z w64 jump) 0 (λ zero. some refl (sym kept ∙ ap (to_z w64) zero)))
 tells jump false kept none some = ap (λ z. not (nat_eq (of_z w64 z) 0)) (none refl)
 

@@ -1,6 +1,7 @@
 use Rattle.std.proofs.Common.{◌≡◌, ℕ, ◌<◌, Bool, true, false, ◌&&◌, ap, sym, subst, ◌≤◌, ◌∙◌, length, rules, arith}
 use Rattle.std.specs.Prelude.{filter, All}
-use Rattle.hypothesis.proofs.Ranges.{small-sieve, and-false}
+use Rattle.std.proofs.Math.Bool.{and-false}
+use Rattle.hypothesis.proofs.Ranges.{small-sieve}
 use Rattle.ttp_base.specs.NodeSet.{most_nodes, below, with_node}
 use Rattle.ttp_base.proofs.NodeLists.{with_node-next, filter-next}
 use Rattle.ttp_base.proofs.NodeSets.{filter-filter}

@@ -11,7 +11,6 @@ loop-node-preserved c =
           subst United (sym (w.all-is ∙ w.with-all.ensures))
           (united-with c.loop-node.all c.args.first c.args.second c.loop-node.node c.loop-node.invariant (search rules))
       | else-has w ↦
-          subst United (sym w.all-is)
-          (united-without c.loop-node.all c.args.first c.args.second c.loop-node.node c.loop-node.invariant
-          (search rules))
+          subst United (sym w.all-is) (united-without c.loop-node.all c.args.first c.args.second c.loop-node.node
+          c.loop-node.invariant (search rules))
     ]

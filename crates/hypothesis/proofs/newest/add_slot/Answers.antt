@@ -1,5 +1,5 @@
 use Rattle.std.proofs.Common.{refl}
-use Rattle.hypothesis.proofs.BackSlots.{newest-more}
+use Rattle.hypothesis.proofs.SlotSteps.{newest-more}
 use Rattle.hypothesis.proofs.newest.add_slot.Goals as goal
 
 pub returns-clause-newest : goal.returns-clause-newest

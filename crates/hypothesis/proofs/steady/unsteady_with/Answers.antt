@@ -15,17 +15,15 @@ use Rattle.hypothesis.proofs.steady.unsteady_with.Goals.{then-is_some-via-then-i
 use Rattle.hypothesis.proofs.steady.unsteady_with.Goals.{then-is_some-via-else-is_some+then-slot-start}
 
 unsteady-next : (list : Medl) (script : Script) (start : ClusterStart) (course : Course) (slot : ℕ) (faulty : List ℕ)
-    (fine : Bool) → IsValid list
-    → HaveSameNodes faulty (numbers_of (course.after (slot + 1)))
-    → fine ≡ nat_le 4 (length (filter (is_steady list script faulty) (nodes_of list)))
-    → start.slot ≤ slot + 1 → is_some (first_unsteady list script start course slot) ≡ false
+    (fine : Bool) → IsValid list → HaveSameNodes faulty (numbers_of (course.after (slot + 1)))
+    → fine ≡ nat_le 4 (length (filter (is_steady list script faulty) (nodes_of list))) → start.slot ≤ slot + 1
+    → is_some (first_unsteady list script start course slot) ≡ false
     → first_unsteady list script start course (slot + 1) ≡ cond fine None (Some (max slot start.slot))
 unsteady-next list script start course slot faulty fine valid are is near none =
     let few : length list.slots ≤ most_nodes = nodes-most list valid in
     let enough : ℕ → Bool = has_four_in list script course in
     let next : suc slot ≡ slot + 1 = omega arith in
-    let now : fine ≡ enough (slot + 1) = is
-    ∙ ap (λ nodes. nat_le 4 (length nodes))
+    let now : fine ≡ enough (slot + 1) = is ∙ ap (λ nodes. nat_le 4 (length nodes))
     (same_steady list script faulty (numbers_of (course.after (slot + 1))) few are) in
     lack-next (enough start.slot) fine (lacks_four_in list script course) start.slot slot near none
     (λ here. ap enough (sym here) ∙ sym now) (ap (λ t. not (enough t)) next ∙ ap not (sym now))

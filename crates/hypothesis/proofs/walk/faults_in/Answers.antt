@@ -38,8 +38,7 @@ returns c = λ so_far same.
     fallen-same list script c.args.faulty before c.jumpers_in-jumpers.result c.united-fallen.result slot few same
     c.jumpers_in-jumpers.ensures c.united-fallen.ensures in
     let loss : told_loss c.loss_in-loss.result ≡ loss_in list script start before slot =
-    c.loss_in-loss.ensures.value
-    ∙ same_loss list script start before c.united-fallen.result slot few
+    c.loss_in-loss.ensures.value ∙ same_loss list script start before c.united-fallen.result slot few
     (sender-small list start slot c.requires.valid) fell in
     let made = c.nodes_made-made.ensures ∙ ap nodes_made loss in
     record {

@@ -11,9 +11,8 @@ loop-slot-init c =
 
 pub returns-in-None : goal.returns-in-None
 returns-in-None c =
-    broken-keep c.args.list.now c.args.script.now
-    (told_start c.args.start) c.loop-slot.slot c.loop-slot.walk c.in-None.ensures.0 c.loop-slot.invariant
-    c.in-None.ensures.1
+    broken-keep c.args.list.now c.args.script.now (told_start c.args.start) c.loop-slot.slot c.loop-slot.walk
+    c.in-None.ensures.0 c.loop-slot.invariant c.in-None.ensures.1
 
 pub returns : goal.returns
 returns c =

@@ -6,16 +6,15 @@ use Rattle.hypothesis.proofs.walk.walk_over.Goals as goal
 
 pub returns : goal.returns
 returns c =
-    let list = c.args.list.now in
     let script = c.args.script.now in
     let start = told_start c.args.start in
     let slot = c.args.slot in
     let walked = c.requires.walked in
-    let made = c.faults_in-faults.ensures (faulty_nodes_before list script start slot) walked.faulty in
+    let made = c.faults_in-faults.ensures (faulty_nodes_before c.args.list.now script start slot) walked.faulty in
     let next : slot + 1 ≡ suc slot = omega arith in
-    c.walk_with.ensures (keep_course list script start) walked (record {
+    c.walk_with.ensures (keep_course c.args.list.now script start) walked (record {
       faulty = subst (λ t. HaveSameNodes c.faults_in-faults.result.faulty
-          (numbers_of (faulty_nodes_before list script start t))) (sym next) made.faulty;
+          (numbers_of (faulty_nodes_before c.args.list.now script start t))) (sym next) made.faulty;
       count = made.count;
       breaks = made.breaks;
     })

@@ -11,17 +11,14 @@ use Rattle.hypothesis.proofs.walk.walk_with.Goals.{else-is_within_run-via-else-i
 
 pub returns : goal.returns
 returns c = λ course walked made.
-    let list = c.args.list.now in
     let script = c.args.script.now in
     let start = told_start c.args.start in
     let slot = c.args.slot in
-    let gap = two_rounds list in
+    let gap = two_rounds c.args.list.now in
     let from = start.slot + gap in
     let count = c.if-is_within_run-2.count in
     let before = fault_slots_before script course slot in
-    let within : slot < script.slots → count ≡ length (course.joined slot) =
-    λ less.
-    elim c.if-is_within_run-2.branch [
+    let within : slot < script.slots → count ≡ length (course.joined slot) = λ less. elim c.if-is_within_run-2.branch [
       | then-is_within_run-2 w ↦ w.count-is ∙ made.count
       | else-is_within_run-2 w ↦ absurd (omega arith)
     ] in
@@ -29,8 +26,7 @@ returns c = λ course walked made.
       | then-is_within_run-2 w ↦ absurd (omega arith)
       | else-is_within_run-2 w ↦ w.count-is
     ] in
-    let fine : slot < script.slots → course.breaks slot ≡ false =
-    λ less. elim c.else-is_within_run.branch [
+    let fine : slot < script.slots → course.breaks slot ≡ false = λ less. elim c.else-is_within_run.branch [
       | else-is_within_run-via-then-is_within_run+else-faults w ↦ sym made.breaks ∙ search rules
       | else-is_within_run-via-else-is_within_run w ↦ absurd (omega arith)
     ] in

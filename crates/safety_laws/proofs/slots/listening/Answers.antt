@@ -34,7 +34,7 @@ pub returns-clause-joins : goal.returns-clause-joins
 returns-clause-joins c = joined-place
 
 pub returns-clause-place : goal.returns-clause-place
-returns-clause-place c = place-alone
+returns-clause-place c = λ list script numbers chosen p r valid sends. place-alone numbers r valid sends
 
 pub returns-clause-no_place : goal.returns-clause-no_place
-returns-clause-no_place c = no_place-alone
+returns-clause-no_place c = λ list script numbers chosen p r valid sends. no_place-alone numbers r valid sends

@@ -4,13 +4,13 @@ use Rattle.safety_laws.proofs.Payloads.{HasPayload-world}
 use Rattle.safety_laws.proofs.slots.one_sender.Goals as goal
 
 pub returns-clause-heard : goal.returns-clause-heard
-returns-clause-heard c = members-alone
+returns-clause-heard c = λ list script history chosen p r sends. members-alone r sends
 
 pub returns-clause-outside : goal.returns-clause-outside
-returns-clause-outside c = outside-alone
+returns-clause-outside c = λ list script history chosen p r sends. outside-alone r sends
 
 pub returns-clause-lost : goal.returns-clause-lost
-returns-clause-lost c = none-alone
+returns-clause-lost c = λ list script history chosen p r sends. none-alone r sends
 
 pub returns-clause-silent : goal.returns-clause-silent
 returns-clause-silent c = silent-none_sends

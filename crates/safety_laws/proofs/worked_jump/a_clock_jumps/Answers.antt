@@ -49,8 +49,7 @@ and-noted slot row history sound good tells before = (
 )
   where
     never : (k since : ℕ) → fate_of one_jump (suc slot) k ≡ Sound
-        → fate_of one_jump (suc slot) k ≡ Falling Jumping since
-        → NotesNothing (entry_of row k)
+        → fate_of one_jump (suc slot) k ≡ Falling Jumping since → NotesNothing (entry_of row k)
     never k since is falls = cc
 
 bare-valid : IsValidSlot 1 1 bare_slot
@@ -116,8 +115,7 @@ pub returns-clause-others : goal.returns-clause-others
 unfolding members_in with_node
 returns-clause-others c = refl
 
-start-noted : (history : History) (row : List Entry)
-    → length history ≡ 10 → entry_of row 0 ≡ entry.Started
+start-noted : (history : History) (row : List Entry) → length history ≡ 10 → entry_of row 0 ≡ entry.Started
     → OfFive (λ k. k ≢ 0
     → entry_of row k ≡ entry.Joined 0 (cold_start_cstate 0) (measured five_clocks late_jump history k 0))
     → StartedByPlan five_clocks late_jump five_clocks_start one_jump row history
@@ -130,8 +128,7 @@ start-noted history row number starts joins = record {
 }
 
 -- the slot of the jump
-jump-noted : (history : History)
-    → TellsOf five_clocks late_jump history 4 0 (entry_of newest_row 0)
+jump-noted : (history : History) → TellsOf five_clocks late_jump history 4 0 (entry_of newest_row 0)
     → TellsOf five_clocks late_jump history 4 1 (entry_of newest_row 1)
     → TellsOf five_clocks late_jump history 4 2 (entry_of newest_row 2)
     → NotedInSlot five_clocks late_jump one_jump 14 newest_row history

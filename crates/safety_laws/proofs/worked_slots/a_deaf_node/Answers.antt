@@ -14,8 +14,7 @@ returns-clause-invalid c = refl
 
 pub returns-clause-judging : goal.returns-clause-judging
 unfolding members_in with_node
-returns-clause-judging c =
-    judging-at deaf 10 3 (0 ∷ []) (omega arith) refl (omega arith) (λ same. cc) refl refl tt
+returns-clause-judging c = judging-at deaf 10 3 (0 ∷ []) (omega arith) refl (omega arith) (λ same. cc) refl refl tt
 
 pub returns-clause-hears : goal.returns-clause-hears
 unfolding members_in with_node
@@ -31,8 +30,7 @@ returns-clause-alone c = refl
 
 pub returns-clause-own : goal.returns-clause-own
 unfolding members_in with_node
-returns-clause-own c =
-    own-at deaf 11 3 (0 ∷ []) (omega arith) refl refl refl refl
+returns-clause-own c = own-at deaf 11 3 (0 ∷ []) (omega arith) refl refl refl refl
 
 pub returns-clause-closed : goal.returns-clause-closed
 unfolding members_in with_node

@@ -9,8 +9,7 @@ use Rattle.safety_laws.proofs.worked_slots.a_jumped_clock.Goals as goal
 
 pub returns-clause-judging : goal.returns-clause-judging
 unfolding members_in with_node
-returns-clause-judging c =
-    judging-at jumping 9 0 (0 ∷ []) (omega arith) refl (omega arith) (λ same. cc) refl refl tt
+returns-clause-judging c = judging-at jumping 9 0 (0 ∷ []) (omega arith) refl (omega arith) (λ same. cc) refl refl tt
 
 pub returns-clause-hears : goal.returns-clause-hears
 unfolding members_in with_node

@@ -52,9 +52,7 @@ returns-clause-holds c =
 pub returns-clause-no_answer : goal.returns-clause-no_answer
 unfolding members_in with_node
 returns-clause-no_answer c =
-    Lacks 2 (0 ∷ 2 ∷ [])
-    (hears-at silent 10 1 2 (0 ∷ 2 ∷ []) (0 ∷ []) refl refl refl refl refl)
-    refl
+    Lacks 2 (0 ∷ 2 ∷ []) (hears-at silent 10 1 2 (0 ∷ 2 ∷ []) (0 ∷ []) refl refl refl refl refl) refl
 
 pub returns-clause-unacknowledged : goal.returns-clause-unacknowledged
 unfolding members_in with_node

@@ -6,8 +6,7 @@ use Rattle.safety_laws.proofs.worked_slots.own_slots.Goals as goal
 
 pub returns-clause-own : goal.returns-clause-own
 unfolding members_in with_node
-returns-clause-own c =
-    own-at faultless 10 2 (0 ∷ 1 ∷ []) (omega arith) refl refl refl refl
+returns-clause-own c = own-at faultless 10 2 (0 ∷ 1 ∷ []) (omega arith) refl refl refl refl
 
 pub returns-clause-closed : goal.returns-clause-closed
 unfolding members_in with_node
@@ -23,8 +22,7 @@ returns-clause-sends c = refl
 
 pub returns-clause-own_again : goal.returns-clause-own_again
 unfolding members_in with_node
-returns-clause-own_again c =
-    own-at silent_and_deaf 13 1 (1 ∷ []) (omega arith) refl refl refl refl
+returns-clause-own_again c = own-at silent_and_deaf 13 1 (1 ∷ []) (omega arith) refl refl refl refl
 
 pub returns-clause-waits : goal.returns-clause-waits
 unfolding members_in with_node
@@ -36,8 +34,7 @@ returns-clause-unacknowledged c = refl
 
 pub returns-clause-starter : goal.returns-clause-starter
 unfolding members_in with_node
-returns-clause-starter c =
-    own-at alone 12 0 (0 ∷ []) (omega arith) refl refl refl refl
+returns-clause-starter c = own-at alone 12 0 (0 ∷ []) (omega arith) refl refl refl refl
 
 pub returns-clause-cold_start : goal.returns-clause-cold_start
 unfolding members_in with_node

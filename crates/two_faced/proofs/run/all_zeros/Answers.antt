@@ -16,8 +16,6 @@ loop-node-preserved c =
     let plan = c.get.result.now in
     let at : slice_get list.slots node ≡ Some plan = ap (slice_get list.slots) (sym c.from.ensures) ∙ c.get.ensures in
     let new : record { number = 0; payload = c.zeros-payload.result }
-    ≡ zeros_chosen list node = zeros_chosen-plan list node plan c.zeros-payload.result at c.zeros-payload.ensures
-    in
-    c.in_ok-push.ensures.ok
-    ∙ (λ i. c.loop-node.invariant i ++ new i ∷ [])
+    ≡ zeros_chosen list node = zeros_chosen-plan list node plan c.zeros-payload.result at c.zeros-payload.ensures in
+    c.in_ok-push.ensures.ok ∙ (λ i. c.loop-node.invariant i ++ new i ∷ [])
     ∙ sym (map-range_with_len_more (zeros_chosen list) 0 node node (omega arith))

@@ -49,8 +49,7 @@ loop-k-preserved c =
           let ahead = to_z w64 (of_z w64 w.clock.result) in
           let counts : clock k ≡ Some ahead =
           clock_counts (k == c.args.node) (is_on script k slot) past.offset (ne_eqb k c.args.node w.if-k-node.true)
-          (sym w.is_on.ensures ∙ w.if-is_on.true)
-          ∙ sym (ap Some (to_z-of_z w64 w.clock.result fits)
+          (sym w.is_on.ensures ∙ w.if-is_on.true) ∙ sym (ap Some (to_z-of_z w64 w.clock.result fits)
           ∙ ap Some shows) in (
             (λ i. widest_with (w.span-is i) (filter_map clock rest))
                 ∙ (λ i. widest_with (Some (w.with_clock.ensures.value i)) (filter_map clock rest))
@@ -60,11 +59,9 @@ loop-k-preserved c =
       | else-k-node w ↦
           let none : clock k ≡ None = elim w.else-k-node.branch [
             | else-k-node-via-then-k-node+else-is_on v ↦
-                clock_off (k == c.args.node) (is_on script k slot) past.offset
-                (sym v.is_on.ensures ∙ v.if-is_on.false)
+                clock_off (k == c.args.node) (is_on script k slot) past.offset (sym v.is_on.ensures ∙ v.if-is_on.false)
             | else-k-node-via-else-k-node v ↦
-                clock_own (k == c.args.node) (is_on script k slot) past.offset
-                (eq-eqb k c.args.node v.if-k-node.false)
+                clock_own (k == c.args.node) (is_on script k slot) past.offset (eq-eqb k c.args.node v.if-k-node.false)
           ] in (
             (λ i. widest_with (w.span-is i) (filter_map clock rest))
                 ∙ widest-none clock k rest c.loop-k.span none ∙ so_far,

@@ -13,5 +13,4 @@ invariant-loop-k l =
     (widest_with l.span
     (filter_map (clock_beside l.list l.script l.node l.slot (zeros_world l.list l.script (l.slot + 1)))
     (range_with_len l.k (length l.list.slots - l.k)))
-    ≡ apart_after l.list l.script l.node l.slot (zeros_world l.list l.script (l.slot + 1)))
-    × IfSome l.span IsNearSpan
+    ≡ apart_after l.list l.script l.node l.slot (zeros_world l.list l.script (l.slot + 1))) × IfSome l.span IsNearSpan

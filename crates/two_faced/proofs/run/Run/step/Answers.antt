@@ -4,12 +4,8 @@ use Rattle.two_faced.proofs.run.Run.step.Goals as goal
 
 pub slot-requires-clause-slot : goal.slot-requires-clause-slot
 slot-requires-clause-slot c =
-    omega (
-      arith,
-      c.requires.stands.plant.slot,
-      length-zeros_world c.args.list.now c.args.script.now c.args.slot,
-      c.requires.slot,
-    )
+    let count = length-zeros_world c.args.list.now c.args.script.now c.args.slot in
+    omega (arith, c.requires.stands.plant.slot, count, c.requires.slot)
 
 pub slot-requires-clause-count : goal.slot-requires-clause-count
 slot-requires-clause-count c =
@@ -17,9 +13,8 @@ slot-requires-clause-count c =
 
 pub slot-requires-clause-chosen : goal.slot-requires-clause-chosen
 slot-requires-clause-chosen c =
-    let stands = c.requires.stands in
     may_step c.args.list.now c.args.script.now c.args.slot c.args.self.now.plant c.as_slice.result.now c.requires.list
-    stands.same (c.as_slice.ensures ∙ stands.zeros) stands.plant
+    c.requires.stands.same (c.as_slice.ensures ∙ c.requires.stands.zeros) c.requires.stands.plant
 
 pub returns : goal.returns
 returns c =
