@@ -1,9 +1,9 @@
 //! A slot whose first pass and third pass go over two parts of the nodes, as two threads share them.
-ghost use Rattle.std.specs.Prelude.{◌≡◌, ◌<◌, ◌≤◌, ◌+◌, List, length, All, IfOk};
+ghost use Rattle.std.specs.Prelude.{◌≡◌, ◌<◌, ◌≤◌, ◌+◌, ℕ, List, length, All, IfOk};
 ghost use Rattle.ttp_world.specs.declared.node.Chosen.{Chosen as Choice};
 ghost use Rattle.ttp_world.specs.declared.script.TheConstants.{SLOT_LIMIT, DRIFT_LIMIT};
 ghost use Rattle.ttp_world.specs.Diary.{History};
-ghost use Rattle.ttp_world.specs.Medl.{IsValid};
+ghost use Rattle.ttp_world.specs.Medl.{IsValid, plan_at};
 ghost use Rattle.ttp_world.specs.Script.{IsValidScript, IsWithinSpan};
 ghost use Rattle.ttp_world.specs.World.{slot_after, frames_in};
 ghost use Rattle.controller.specs.Limits.{IsBegun, IsPlanned};
@@ -98,21 +98,33 @@ fn step_in_parts(
     take_in_parts(seats, medium, list, script, cut);
 }
 
-// The seats of the cluster after so many slots, each of which is taken by the next cut.
+// The seats of this list's nodes after so many slots, each of which is taken by the next cut.
+fn parts_of(alloc: Global, list: &Medl, script: &Script, slots: u32) -> Result<Vec<Seat>, Memory>
+    requires valid { IsValid list.now }
+    requires nodes { length list.now.slots ≡ 4 }
+    requires bare { (k : ℕ) → (plan_at list.now k).payload ≡ 0 }
+    requires script { IsValidScript list.now script.now }
+    requires slots { slots ≤ script.now.slots }
+    ensures { IfOk result (λ seats. length seats.items ≡ 4) }
+{
+    let chosen = nothing_for_all();
+    let mut medium = Medium::new(alloc, list)?;
+    let mut seats = seats_of(alloc, list)?;
+    for slot in 0..slots {
+        let cut = (slot % 5) as u8;
+        step_in_parts(&mut seats, &mut medium, list, script, cut, slot, &chosen);
+    }
+    Ok(seats)
+}
+
+// The seats of the cluster after so many slots.
 fn after_in_parts(alloc: Global, slots: u32) -> Result<Vec<Seat>, Memory>
     requires { slots ≤ 12 }
     ensures { IfOk result (λ seats. length seats.items ≡ 4) }
 {
     let list = four_nodes(alloc)?;
     let script = quiet_script(alloc)?;
-    let chosen = nothing_for_all();
-    let mut seats = seats_of(alloc, &list)?;
-    let mut medium = Medium::new(alloc, &list)?;
-    for slot in 0..slots {
-        let cut = (slot % 5) as u8;
-        step_in_parts(&mut seats, &mut medium, &list, &script, cut, slot, &chosen);
-    }
-    Ok(seats)
+    parts_of(alloc, &list, &script, slots)
 }
 
 #[test]
