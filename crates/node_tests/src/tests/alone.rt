@@ -9,7 +9,6 @@ use controller::{Controller, Outcome};
 use medium::Arrival;
 use std::alloc::Global;
 use std::process::Abort;
-use std::test::Fail;
 use ttp_base::{List, Memory};
 use ttp_world::{Ack, Entry, Kind, Medl, NodeState, Phase, SlotPlan, Verdict};
 
@@ -25,7 +24,9 @@ fn add_slot(alloc: Global, slots: &mut List<SlotPlan>) -> Result<(), Memory>
     } ∷ []) }
 {
     let mut kinds = List::new(alloc);
-    kinds.push(Kind::I)?;
+    let Ok(()) = kinds.push(Kind::I) else {
+        return Err(Memory);
+    };
     slots.push(SlotPlan {
         kinds,
         payload: 0,
@@ -44,10 +45,18 @@ pub(super) fn four_nodes(alloc: Global) -> Result<Medl, Memory>
     ensures bare { (k : ℕ) → IfOk result (λ list. (plan_at list k).payload ≡ 0) }
 {
     let mut slots = List::new(alloc);
-    add_slot(alloc, &mut slots)?;
-    add_slot(alloc, &mut slots)?;
-    add_slot(alloc, &mut slots)?;
-    add_slot(alloc, &mut slots)?;
+    let Ok(()) = add_slot(alloc, &mut slots) else {
+        return Err(Memory);
+    };
+    let Ok(()) = add_slot(alloc, &mut slots) else {
+        return Err(Memory);
+    };
+    let Ok(()) = add_slot(alloc, &mut slots) else {
+        return Err(Memory);
+    };
+    let Ok(()) = add_slot(alloc, &mut slots) else {
+        return Err(Memory);
+    };
     Ok(Medl {
         version: 1,
         rounds: 1,
@@ -146,11 +155,20 @@ fn comes_on(rt: &impl Abort, node: &mut Controller, list: &Medl)
     assert!(rt; passes(rt, node, list, true, &entry));
 }
 
+// Takes node 1 from off up to the slot after its start, and tells whether it was off at first.
+fn starts_from_off(rt: &impl Abort, alloc: Global) -> Result<bool, Memory> {
+    let Ok(list) = four_nodes(alloc) else {
+        return Err(Memory);
+    };
+    let Ok(mut node) = Controller::new(alloc, &list, 1) else {
+        return Err(Memory);
+    };
+    let is_off = node.state().phase == Phase::Off;
+    comes_on(rt, &mut node, &list);
+    Ok(is_off)
+}
+
 #[test]
-fn a_node_that_hears_nobody_starts(rt: HostRuntime) -> Result<(), Fail> {
-    let list = four_nodes(rt.alloc())?;
-    let mut node = Controller::new(rt.alloc(), &list, 1)?;
-    assert!(rt; node.state().phase == Phase::Off);
-    comes_on(&rt, &mut node, &list);
-    Ok(())
+fn a_node_that_hears_nobody_starts(rt: HostRuntime) {
+    assert!(rt; starts_from_off(&rt, rt.alloc()) == Ok(true));
 }

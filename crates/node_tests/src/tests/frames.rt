@@ -9,7 +9,6 @@ use controller::{Controller, Outcome};
 use medium::{Arrival, Outgoing};
 use std::alloc::Global;
 use std::process::Abort;
-use std::test::Fail;
 use ttp_base::{List, Memory, NodeSet};
 use ttp_frame::{FrameIn, encode};
 use ttp_world::{CState, Delivered, Entry, Kind, Medl, Reason, SlotPlan, Verdict};
@@ -32,7 +31,9 @@ fn add_slot(
     } ∷ []) }
 {
     let mut kinds = List::new(alloc);
-    kinds.push(kind)?;
+    let Ok(()) = kinds.push(kind) else {
+        return Err(Memory);
+    };
     slots.push(SlotPlan {
         kinds,
         payload,
@@ -48,10 +49,18 @@ fn four_nodes(alloc: Global) -> Result<Medl, Memory>
     ensures { IfOk result IsValid }
 {
     let mut slots = List::new(alloc);
-    add_slot(alloc, &mut slots, Kind::I, 0, true)?;
-    add_slot(alloc, &mut slots, Kind::X, 2, false)?;
-    add_slot(alloc, &mut slots, Kind::N, 2, false)?;
-    add_slot(alloc, &mut slots, Kind::I, 0, false)?;
+    let Ok(()) = add_slot(alloc, &mut slots, Kind::I, 0, true) else {
+        return Err(Memory);
+    };
+    let Ok(()) = add_slot(alloc, &mut slots, Kind::X, 2, false) else {
+        return Err(Memory);
+    };
+    let Ok(()) = add_slot(alloc, &mut slots, Kind::N, 2, false) else {
+        return Err(Memory);
+    };
+    let Ok(()) = add_slot(alloc, &mut slots, Kind::I, 0, false) else {
+        return Err(Memory);
+    };
     Ok(Medl {
         version: 1,
         rounds: 1,
@@ -188,27 +197,21 @@ fn has_joined(node: &Controller) -> bool {
     state.offset == 4 && state.members == three_members()
 }
 
-// A node before node 1's slot that holds nodes 0, 1 and 3 for members, and whose clock is 4 ahead. Node 3 has
-// joined on node 0's frame, and owes no answer. Node 0 has joined on node 3's frame and then sent one that is
+// Takes a new node up to node 1's slot, so that it holds nodes 0, 1 and 3 for members, and its clock is 4 ahead.
+// Node 3 joins on node 0's frame, and owes no answer. Node 0 joins on node 3's frame and then sends one that is
 // not answered.
-fn receiver(
-    rt: &impl Abort,
-    alloc: Global,
-    list: &Medl,
-    answered: bool,
-) -> Result<Controller, Memory>
-    requires { IsValid list.now }
-    ensures list { IfOk result (λ c. list.now ≡ c.list) }
-    ensures turn { IfOk result (λ c. IsEnded c.turn) }
+fn become_receiver(rt: &impl Abort, node: &mut Controller, list: &Medl, answered: bool)
+    requires list { list.now ≡ node.old.list }
+    requires turn { IsEnded node.old.turn }
+    ensures list { list.now ≡ node.new.list }
+    ensures turn { IsEnded node.new.turn }
 {
-    let (number, sender, time) = if answered { (3, 0, 4) } else { (0, 3, 3) };
-    let mut node = Controller::new(alloc, list, number)?;
-    assert!(rt; !sends_as_it_joins(rt, &mut node, list, sender, time));
+    let (sender, time) = if answered { (0, 4) } else { (3, 3) };
+    assert!(rt; !sends_as_it_joins(rt, node, list, sender, time));
     if !answered {
-        assert!(rt; sends_after(rt, &mut node, list, &Arrival::Silence, 0));
+        assert!(rt; sends_after(rt, node, list, &Arrival::Silence, 0));
     }
-    assert!(rt; has_joined(&node));
-    Ok(node)
+    assert!(rt; has_joined(node));
 }
 
 // The first byte of what is delivered.
@@ -243,28 +246,48 @@ fn sends_after_both(
     through_slot(rt, node, list, true, 0, (&a, &b), 1, 0, outcome)
 }
 
-// Whether a node that hears this sends nothing, enters this, and delivers a payload that begins so.
+// Takes a receiver through node 1's slot, and tells whether it sends nothing, enters this, and delivers a payload
+// that begins so.
+fn judges(
+    rt: &impl Abort,
+    node: &mut Controller,
+    list: &Medl,
+    others: NodeSet,
+    came: (Came, Came),
+    entry: &Entry,
+    byte: Option<u8>,
+) -> bool
+    requires list { list.now ≡ node.old.list }
+    requires turn { IsEnded node.old.turn }
+{
+    let mut outcome = no_outcome();
+    let sends = sends_after_both(rt, node, list, others, came.0, came.1, &mut outcome);
+    !sends && node.state().entry == *entry && first_byte(&outcome) == byte
+}
+
+// Whether a receiver judges so: node 3 where it is answered, and else node 0.
 fn decides(
     rt: &impl Abort,
     alloc: Global,
-    list: &Medl,
     answered: bool,
     came: (Came, Came),
     entry: &Entry,
     byte: Option<u8>,
-) -> Result<bool, Memory>
-    requires { IsValid list.now }
-{
-    let others = three_members().without(if answered { 3 } else { 0 });
-    let mut outcome = no_outcome();
-    let mut node = receiver(rt, alloc, list, answered)?;
-    let sends = sends_after_both(rt, &mut node, list, others, came.0, came.1, &mut outcome);
-    Ok(!sends && node.state().entry == *entry && first_byte(&outcome) == byte)
+) -> Result<bool, Memory> {
+    let number = if answered { 3 } else { 0 };
+    let Ok(list) = four_nodes(alloc) else {
+        return Err(Memory);
+    };
+    let Ok(mut node) = Controller::new(alloc, &list, number) else {
+        return Err(Memory);
+    };
+    become_receiver(rt, &mut node, &list, answered);
+    let others = three_members().without(number);
+    Ok(judges(rt, &mut node, &list, others, came, entry, byte))
 }
 
 #[test]
-fn better_channel_decides(rt: HostRuntime) -> Result<(), Fail> {
-    let list = four_nodes(rt.alloc())?;
+fn better_channel_decides(rt: HostRuntime) {
     let rows: &[(bool, Came, Came, Verdict, i64, Option<u8>)] = &[
         (true, Came::Right, Came::Wrong, Verdict::Correct, 7, Some(7)),
         (true, Came::Right, Came::Late, Verdict::Correct, 7, Some(7)),
@@ -308,11 +331,10 @@ fn better_channel_decides(rt: HostRuntime) -> Result<(), Fail> {
         };
         let came = (*on_a, *on_b);
         assert!(rt;
-            decides(&rt, rt.alloc(), &list, *answered, came, &entry, *byte)?,
+            decides(&rt, rt.alloc(), *answered, came, &entry, *byte) == Ok(true),
             "{on_a:?} {on_b:?}"
         );
     }
-    Ok(())
 }
 
 // That a node joined on node 1's frame.
@@ -324,37 +346,43 @@ fn joined(deviation: i64) -> Entry {
     }
 }
 
-// Whether node 3, whose clock jumps to 4, sends nothing in its first slot, and enters this.
+// Takes a new node, whose clock jumps to 4, through node 1's slot, and tells whether it sends nothing and enters
+// this.
 fn enters(
     rt: &impl Abort,
-    alloc: Global,
+    node: &mut Controller,
     list: &Medl,
     came: (Came, Came),
     entry: &Entry,
-) -> Result<bool, Memory>
-    requires { IsValid list.now }
+) -> bool
+    requires list { list.now ≡ node.old.list }
+    requires turn { IsEnded node.old.turn }
 {
     let right = frame_of_1(rt, three_members(), 7);
     let a = arrival_of(came.0, right.as_slice(), b"\x02");
     let b = arrival_of(came.1, right.as_slice(), b"\x02");
-    let mut node = Controller::new(alloc, list, 3)?;
-    let sends = through_slot(
-        rt,
-        &mut node,
-        list,
-        true,
-        4,
-        (&a, &b),
-        1,
-        0,
-        &mut no_outcome(),
-    );
-    Ok(!sends && node.state().entry == *entry)
+    let sends = through_slot(rt, node, list, true, 4, (&a, &b), 1, 0, &mut no_outcome());
+    !sends && node.state().entry == *entry
+}
+
+// Whether node 3 enters this.
+fn joins(
+    rt: &impl Abort,
+    alloc: Global,
+    came: (Came, Came),
+    entry: &Entry,
+) -> Result<bool, Memory> {
+    let Ok(list) = four_nodes(alloc) else {
+        return Err(Memory);
+    };
+    let Ok(mut node) = Controller::new(alloc, &list, 3) else {
+        return Err(Memory);
+    };
+    Ok(enters(rt, &mut node, &list, came, entry))
 }
 
 #[test]
-fn nodes_join_on_either_channel(rt: HostRuntime) -> Result<(), Fail> {
-    let list = four_nodes(rt.alloc())?;
+fn nodes_join_on_either_channel(rt: HostRuntime) {
     let rows: &[(Came, Came, Entry)] = &[
         (Came::Right, Came::Late, joined(7)),
         (Came::Late, Came::Right, joined(997)),
@@ -366,11 +394,10 @@ fn nodes_join_on_either_channel(rt: HostRuntime) -> Result<(), Fail> {
     ];
     for (on_a, on_b, entry) in rows {
         assert!(rt;
-            enters(&rt, rt.alloc(), &list, (*on_a, *on_b), entry)?,
+            joins(&rt, rt.alloc(), (*on_a, *on_b), entry) == Ok(true),
             "{on_a:?} {on_b:?}"
         );
     }
-    Ok(())
 }
 
 // Takes a node through the slot in which this frame comes on both channels, and tells whether it sends nothing and
@@ -425,11 +452,19 @@ fn leaves(rt: &impl Abort, node: &mut Controller, list: &Medl) -> bool
     hears(rt, node, list, &second, &left)
 }
 
+// Whether node 0, which nobody answers, doubts first and then leaves.
+fn is_denied(rt: &impl Abort, alloc: Global) -> Result<bool, Memory> {
+    let Ok(list) = four_nodes(alloc) else {
+        return Err(Memory);
+    };
+    let Ok(mut node) = Controller::new(alloc, &list, 0) else {
+        return Err(Memory);
+    };
+    become_receiver(rt, &mut node, &list, false);
+    Ok(doubts(rt, &mut node, &list) && leaves(rt, &mut node, &list))
+}
+
 #[test]
-fn denied_node_leaves(rt: HostRuntime) -> Result<(), Fail> {
-    let list = four_nodes(rt.alloc())?;
-    let mut node = receiver(&rt, rt.alloc(), &list, false)?;
-    assert!(rt; doubts(&rt, &mut node, &list));
-    assert!(rt; leaves(&rt, &mut node, &list));
-    Ok(())
+fn denied_node_leaves(rt: HostRuntime) {
+    assert!(rt; is_denied(&rt, rt.alloc()) == Ok(true));
 }

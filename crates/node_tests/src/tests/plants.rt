@@ -6,7 +6,6 @@ ghost use Rattle.ttp_world.specs.Script.{IsValidScript};
 use super::alone::four_nodes;
 use controller::{Controller, Plant, is_loaded, laws};
 use std::alloc::Global;
-use std::test::Fail;
 use ttp_base::{List, Memory};
 use ttp_world::{Ack, Chosen, Entry, Events, Medl, Payload, Phase, Script, Verdict};
 
@@ -73,8 +72,12 @@ pub(super) fn after(alloc: Global, slots: u32) -> Result<Plant, Memory>
     requires { slots ≤ 12 }
     ensures { IfOk result (λ plant. length plant.list.slots ≡ 4) }
 {
-    let list = four_nodes(alloc)?;
-    let script = quiet_script(alloc)?;
+    let Ok(list) = four_nodes(alloc) else {
+        return Err(Memory);
+    };
+    let Ok(script) = quiet_script(alloc) else {
+        return Err(Memory);
+    };
     after_of(alloc, &list, &script, slots)
 }
 
@@ -95,11 +98,14 @@ fn is_like(copy: &Plant, plant: &Plant) -> bool
     copy.node(2) == plant.node(2) && copy.delivered(2).is_none()
 }
 
-// Whether a new controller's frame carries no message.
+// Whether the frame of node 0's new controller carries no message.
 fn is_quiet(alloc: Global, list: &Medl) -> Result<bool, Memory>
     requires { IsValid list.now }
 {
-    Ok(!is_loaded(&Controller::new(alloc, list, 0)?))
+    match &Controller::new(alloc, list, 0) {
+        Ok(node) => Ok(!is_loaded(node)),
+        Err(_) => Err(Memory),
+    }
 }
 
 // Whether a plant shows nothing, and a copy of it the same.
@@ -107,8 +113,12 @@ fn copies(alloc: Global, list: &Medl) -> Result<bool, Memory>
     requires valid { IsValid list.now }
     requires slots { length list.now.slots ≡ 4 }
 {
-    let plant = Plant::new(alloc, list)?;
-    let mut copy = Plant::new(alloc, list)?;
+    let Ok(plant) = Plant::new(alloc, list) else {
+        return Err(Memory);
+    };
+    let Ok(mut copy) = Plant::new(alloc, list) else {
+        return Err(Memory);
+    };
     copy.copy_from(&plant);
     Ok(is_unused(&plant) && is_like(&copy, &plant))
 }
@@ -117,7 +127,10 @@ fn copies(alloc: Global, list: &Medl) -> Result<bool, Memory>
 fn stands_at_0(alloc: Global, slots: u32) -> Result<bool, Memory>
     requires { slots ≤ 12 }
 {
-    Ok(after(alloc, slots)?.node(2).offset == 0)
+    match &after(alloc, slots) {
+        Ok(plant) => Ok(plant.node(2).offset == 0),
+        Err(_) => Err(Memory),
+    }
 }
 
 // Whether node 0 heard the first frame of node 1, and holds itself and node 1 for answered.
@@ -148,27 +161,33 @@ fn is_told(plant: &Plant) -> bool
         && plant.status(1).words == [9, 41, 0x0001_0001_0003, 256]
 }
 
-// Whether the cluster begins so, before its first slot.
+// Whether a controller and a plant of the cluster begin so, before the first slot.
 fn begins(alloc: Global) -> Result<bool, Memory> {
-    let list = four_nodes(alloc)?;
-    Ok(is_quiet(alloc, &list)? && copies(alloc, &list)?)
+    let Ok(list) = four_nodes(alloc) else {
+        return Err(Memory);
+    };
+    match is_quiet(alloc, &list) {
+        Ok(true) => copies(alloc, &list),
+        answer => answer,
+    }
 }
 
 // Whether the tenth slot was the first one after the start.
 fn has_started(alloc: Global) -> Result<bool, Memory> {
-    let plant = after(alloc, 10)?;
-    Ok(is_answered(&plant) && is_sent(&plant) && is_told(&plant))
+    match &after(alloc, 10) {
+        Ok(plant) => Ok(is_answered(plant) && is_sent(plant) && is_told(plant)),
+        Err(_) => Err(Memory),
+    }
 }
 
 #[test]
-fn a_cluster_starts(rt: HostRuntime) -> Result<(), Fail> {
+fn a_cluster_starts(rt: HostRuntime) {
     let alloc = rt.alloc();
     laws::plants_of_scripts_that_agree();
-    assert!(rt; begins(alloc)?);
+    assert!(rt; begins(alloc) == Ok(true));
     // Node 0 waits for two rounds, then starts, and node 1 sends the first frame after it.
     for slots in 1..10u32 {
-        assert!(rt; stands_at_0(alloc, slots)?, "in slot {slots}");
+        assert!(rt; stands_at_0(alloc, slots) == Ok(true), "in slot {slots}");
     }
-    assert!(rt; has_started(alloc)?);
-    Ok(())
+    assert!(rt; has_started(alloc) == Ok(true));
 }
