@@ -1,27 +1,29 @@
 //! The bounds of one list, worked out by hand.
-ghost use Rattle.std.specs.Prelude.{◌≡◌, [], ◌∷◌, true, false, IfOk};
+ghost use Rattle.std.specs.Prelude.{◌≡◌, [], ◌∷◌, ◌++◌, true, false, IfOk};
 ghost use Rattle.ttp_world.specs.declared.medl.Kind.TheVariants as kind;
 ghost use Rattle.ttp_world.specs.Medl.{IsValid};
 
 use precision::{needed, needed_rejoining, spread, spread_rejoining};
 use std::alloc::Global;
-use std::test::Fail;
 use ttp_base::{List, Memory};
 use ttp_world::{Kind, Medl, SlotPlan};
 
-fn slot_plan(alloc: Global) -> Result<SlotPlan, Memory>
-    ensures { IfOk result (λ plan. plan ≡ record {
+// Adds the slot of one more node.
+fn add_slot(alloc: Global, slots: &mut List<SlotPlan>) -> Result<(), Memory>
+    ensures { IfOk result (λ _. slots.new ≡ slots.old ++ record {
       kinds = kind.I ∷ [];
       payload = 0;
       sync = true;
       start = true;
       requests = false;
       live = 1;
-    }) }
+    } ∷ []) }
 {
     let mut kinds = List::new(alloc);
-    kinds.push(Kind::I)?;
-    Ok(SlotPlan {
+    let Ok(()) = kinds.push(Kind::I) else {
+        return Err(Memory);
+    };
+    slots.push(SlotPlan {
         kinds,
         payload: 0,
         sync: true,
@@ -36,10 +38,18 @@ fn four_nodes(alloc: Global) -> Result<Medl, Memory>
     ensures { IfOk result IsValid }
 {
     let mut slots = List::new(alloc);
-    slots.push(slot_plan(alloc)?)?;
-    slots.push(slot_plan(alloc)?)?;
-    slots.push(slot_plan(alloc)?)?;
-    slots.push(slot_plan(alloc)?)?;
+    let Ok(()) = add_slot(alloc, &mut slots) else {
+        return Err(Memory);
+    };
+    let Ok(()) = add_slot(alloc, &mut slots) else {
+        return Err(Memory);
+    };
+    let Ok(()) = add_slot(alloc, &mut slots) else {
+        return Err(Memory);
+    };
+    let Ok(()) = add_slot(alloc, &mut slots) else {
+        return Err(Memory);
+    };
     Ok(Medl {
         version: 1,
         rounds: 1,
@@ -53,12 +63,25 @@ fn four_nodes(alloc: Global) -> Result<Medl, Memory>
     })
 }
 
+// Whether the bounds of this list are these.
+fn are_bounds(list: &Medl) -> bool
+    requires { IsValid list.now }
+{
+    spread(list) == 21
+        && needed(list) == 23
+        && spread_rejoining(list) == 33
+        && needed_rejoining(list) == 35
+}
+
+// Whether they are those of four nodes.
+fn bounds_are_told(alloc: Global) -> Result<bool, Memory> {
+    match &four_nodes(alloc) {
+        Ok(list) => Ok(are_bounds(list)),
+        Err(_) => Err(Memory),
+    }
+}
+
 #[test]
-fn bounds_of_four_nodes(rt: HostRuntime) -> Result<(), Fail> {
-    let list = four_nodes(rt.alloc())?;
-    assert!(rt; spread(&list) == 21);
-    assert!(rt; needed(&list) == 23);
-    assert!(rt; spread_rejoining(&list) == 33);
-    assert!(rt; needed_rejoining(&list) == 35);
-    Ok(())
+fn bounds_of_four_nodes(rt: HostRuntime) {
+    assert!(rt; bounds_are_told(rt.alloc()) == Ok(true));
 }

@@ -1,5 +1,5 @@
 //! A node that hears nobody, slot by slot, worked out by hand.
-ghost use Rattle.std.specs.Prelude.{◌≡◌, ◌≤◌, ℕ, [], ◌∷◌, length, true, false, unsigned_abs, IfOk};
+ghost use Rattle.std.specs.Prelude.{◌≡◌, ◌≤◌, ℕ, [], ◌∷◌, ◌++◌, length, true, false, unsigned_abs, IfOk};
 ghost use Rattle.ttp_world.specs.declared.medl.Kind.TheVariants as kind;
 ghost use Rattle.ttp_world.specs.Medl.{IsValid, plan_at};
 ghost use Rattle.controller.specs.PlantWithin.{IsEnded};
@@ -9,23 +9,25 @@ use controller::{Controller, Outcome};
 use medium::Arrival;
 use std::alloc::Global;
 use std::process::Abort;
-use std::test::Fail;
 use ttp_base::{List, Memory};
-use ttp_world::{Ack, Entry, Kind, Medl, Phase, SlotPlan, Verdict};
+use ttp_world::{Ack, Entry, Kind, Medl, NodeState, Phase, SlotPlan, Verdict};
 
-fn slot_plan(alloc: Global) -> Result<SlotPlan, Memory>
-    ensures { IfOk result (λ plan. plan ≡ record {
+// Adds the slot of one more node.
+fn add_slot(alloc: Global, slots: &mut List<SlotPlan>) -> Result<(), Memory>
+    ensures { IfOk result (λ _. slots.new ≡ slots.old ++ record {
       kinds = kind.I ∷ [];
       payload = 0;
       sync = true;
       start = true;
       requests = false;
       live = 1;
-    }) }
+    } ∷ []) }
 {
     let mut kinds = List::new(alloc);
-    kinds.push(Kind::I)?;
-    Ok(SlotPlan {
+    let Ok(()) = kinds.push(Kind::I) else {
+        return Err(Memory);
+    };
+    slots.push(SlotPlan {
         kinds,
         payload: 0,
         sync: true,
@@ -43,10 +45,18 @@ pub(super) fn four_nodes(alloc: Global) -> Result<Medl, Memory>
     ensures bare { (k : ℕ) → IfOk result (λ list. (plan_at list k).payload ≡ 0) }
 {
     let mut slots = List::new(alloc);
-    slots.push(slot_plan(alloc)?)?;
-    slots.push(slot_plan(alloc)?)?;
-    slots.push(slot_plan(alloc)?)?;
-    slots.push(slot_plan(alloc)?)?;
+    let Ok(()) = add_slot(alloc, &mut slots) else {
+        return Err(Memory);
+    };
+    let Ok(()) = add_slot(alloc, &mut slots) else {
+        return Err(Memory);
+    };
+    let Ok(()) = add_slot(alloc, &mut slots) else {
+        return Err(Memory);
+    };
+    let Ok(()) = add_slot(alloc, &mut slots) else {
+        return Err(Memory);
+    };
     Ok(Medl {
         version: 1,
         rounds: 1,
@@ -91,32 +101,74 @@ fn silent_slot(
     )
 }
 
-#[test]
-fn a_node_that_hears_nobody_starts(rt: HostRuntime) -> Result<(), Fail> {
-    let list = four_nodes(rt.alloc())?;
-    let mut outcome = no_outcome();
-    let mut node = Controller::new(rt.alloc(), &list, 1)?;
-    assert!(rt; node.state().phase == Phase::Off);
-    assert!(rt; !silent_slot(&rt, &mut node, &list, false, 0, 0, &mut outcome));
-    assert!(rt; node.state().entry == Entry::Off);
+// Takes node 1 through a slot in which it hears nothing, without a jump and without drift, and tells whether it
+// sends nothing and this is entered.
+fn passes(rt: &impl Abort, node: &mut Controller, list: &Medl, on: bool, entry: &Entry) -> bool
+    requires list { list.now ≡ node.old.list }
+    requires turn { IsEnded node.old.turn }
+    ensures list { list.now ≡ node.new.list }
+    ensures turn { IsEnded node.new.turn }
+{
+    let sends = silent_slot(rt, node, list, on, 0, 0, &mut no_outcome());
+    !sends && node.state().entry == *entry
+}
+
+// Whether a node stands in its start, alone.
+fn is_alone(state: &NodeState) -> bool {
+    state.entry == Entry::Started
+        && state.phase == Phase::Active
+        && state.members.bits() == 0b10
+        && state.accepted == 1
+        && state.rejected == 0
+        && state.ack == Ack::First
+        && state.offset == 2
+}
+
+// Takes node 1 through the slot of its start, and tells whether it sends and stands in it alone.
+fn starts(rt: &impl Abort, node: &mut Controller, list: &Medl) -> bool
+    requires list { list.now ≡ node.old.list }
+    requires turn { IsEnded node.old.turn }
+    ensures list { list.now ≡ node.new.list }
+    ensures turn { IsEnded node.new.turn }
+{
+    let sends = silent_slot(rt, node, list, true, 3, -1, &mut no_outcome());
+    sends && is_alone(&node.state())
+}
+
+// Takes node 1, which is off, through its slots up to the one after its start.
+fn comes_on(rt: &impl Abort, node: &mut Controller, list: &Medl)
+    requires list { list.now ≡ node.old.list }
+    requires turn { IsEnded node.old.turn }
+{
+    assert!(rt; passes(rt, node, list, false, &Entry::Off));
     // It comes on, and hears nothing for two rounds and one slot more, for node 1.
     for _ in 0..9u8 {
-        assert!(rt; !silent_slot(&rt, &mut node, &list, true, 0, 0, &mut outcome));
-        assert!(rt; node.state().entry == Entry::Waited);
+        assert!(rt; passes(rt, node, list, true, &Entry::Waited));
     }
-    assert!(rt; silent_slot(&rt, &mut node, &list, true, 3, -1, &mut outcome));
-    let state = node.state();
-    assert!(rt; state.entry == Entry::Started);
-    assert!(rt; state.phase == Phase::Active && state.members.bits() == 0b10);
-    assert!(rt; state.accepted == 1 && state.rejected == 0 && state.ack == Ack::First);
-    assert!(rt; state.offset == 2);
+    assert!(rt; starts(rt, node, list));
     // The next slot is that of node 2.
-    assert!(rt; !silent_slot(&rt, &mut node, &list, true, 0, 0, &mut outcome));
     let entry = Entry::Judged {
         sender: 2,
         verdict: Verdict::Null,
         deviation: 0,
     };
-    assert!(rt; node.state().entry == entry);
-    Ok(())
+    assert!(rt; passes(rt, node, list, true, &entry));
+}
+
+// Takes node 1 from off up to the slot after its start, and tells whether it was off at first.
+fn starts_from_off(rt: &impl Abort, alloc: Global) -> Result<bool, Memory> {
+    let Ok(list) = four_nodes(alloc) else {
+        return Err(Memory);
+    };
+    let Ok(mut node) = Controller::new(alloc, &list, 1) else {
+        return Err(Memory);
+    };
+    let is_off = node.state().phase == Phase::Off;
+    comes_on(rt, &mut node, &list);
+    Ok(is_off)
+}
+
+#[test]
+fn a_node_that_hears_nobody_starts(rt: HostRuntime) {
+    assert!(rt; starts_from_off(&rt, rt.alloc()) == Ok(true));
 }

@@ -1,5 +1,5 @@
 //! What a node makes of right, wrong, late and missing frames, worked out by hand.
-ghost use Rattle.std.specs.Prelude.{◌≡◌, ◌≤◌, true, false, [], ◌∷◌, unsigned_abs, IfOk};
+ghost use Rattle.std.specs.Prelude.{◌≡◌, ◌≤◌, true, false, [], ◌∷◌, ◌++◌, unsigned_abs, IfOk};
 ghost use Rattle.ttp_world.specs.Medl.{IsValid};
 ghost use Rattle.controller.specs.PlantWithin.{IsEnded};
 ghost use Rattle.controller.specs.Limits.{offset_of_arrival};
@@ -9,24 +9,32 @@ use controller::{Controller, Outcome};
 use medium::{Arrival, Outgoing};
 use std::alloc::Global;
 use std::process::Abort;
-use std::test::Fail;
 use ttp_base::{List, Memory, NodeSet};
 use ttp_frame::{FrameIn, encode};
 use ttp_world::{CState, Delivered, Entry, Kind, Medl, Reason, SlotPlan, Verdict};
 
-fn slot_of(alloc: Global, kind: Kind, payload: u8, start: bool) -> Result<SlotPlan, Memory>
-    ensures { IfOk result (λ plan. plan ≡ record {
+// Adds the slot of one more node.
+fn add_slot(
+    alloc: Global,
+    slots: &mut List<SlotPlan>,
+    kind: Kind,
+    payload: u8,
+    start: bool,
+) -> Result<(), Memory>
+    ensures { IfOk result (λ _. slots.new ≡ slots.old ++ record {
       kinds = kind ∷ [];
       payload = payload;
       sync = true;
       start = start;
       requests = false;
       live = 1;
-    }) }
+    } ∷ []) }
 {
     let mut kinds = List::new(alloc);
-    kinds.push(kind)?;
-    Ok(SlotPlan {
+    let Ok(()) = kinds.push(kind) else {
+        return Err(Memory);
+    };
+    slots.push(SlotPlan {
         kinds,
         payload,
         sync: true,
@@ -41,10 +49,18 @@ fn four_nodes(alloc: Global) -> Result<Medl, Memory>
     ensures { IfOk result IsValid }
 {
     let mut slots = List::new(alloc);
-    slots.push(slot_of(alloc, Kind::I, 0, true)?)?;
-    slots.push(slot_of(alloc, Kind::X, 2, false)?)?;
-    slots.push(slot_of(alloc, Kind::N, 2, false)?)?;
-    slots.push(slot_of(alloc, Kind::I, 0, false)?)?;
+    let Ok(()) = add_slot(alloc, &mut slots, Kind::I, 0, true) else {
+        return Err(Memory);
+    };
+    let Ok(()) = add_slot(alloc, &mut slots, Kind::X, 2, false) else {
+        return Err(Memory);
+    };
+    let Ok(()) = add_slot(alloc, &mut slots, Kind::N, 2, false) else {
+        return Err(Memory);
+    };
+    let Ok(()) = add_slot(alloc, &mut slots, Kind::I, 0, false) else {
+        return Err(Memory);
+    };
     Ok(Medl {
         version: 1,
         rounds: 1,
@@ -126,59 +142,76 @@ fn arrival_of<'a>(came: Came, right: &'a [u8], wrong: &'a [u8]) -> Arrival<'a>
     }
 }
 
-// A node before node 1's slot that holds nodes 0, 1 and 3 for members, and whose clock is 4 ahead. Node 3 has
-// joined on node 0's frame, and owes no answer. Node 0 has joined on node 3's frame and then sent one that is
-// not answered.
-fn receiver(
+// Takes a node that is on through a slot in which the same comes on both channels, and tells whether it sends.
+fn sends_after(
     rt: &impl Abort,
-    alloc: Global,
+    node: &mut Controller,
     list: &Medl,
-    answered: bool,
-) -> Result<Controller, Memory>
-    requires { IsValid list.now }
-    ensures list { IfOk result (λ c. list.now ≡ c.list) }
-    ensures turn { IfOk result (λ c. IsEnded c.turn) }
+    came: &Arrival,
+    error: i64,
+) -> bool
+    requires list { list.now ≡ node.old.list }
+    requires turn { IsEnded node.old.turn }
+    requires came { unsigned_abs (offset_of_arrival came.now) ≤ 1000 }
+    requires error { unsigned_abs error ≤ 1000 }
+    ensures list { list.now ≡ node.new.list }
+    ensures turn { IsEnded node.new.turn }
 {
-    let (number, sender, time) = if answered { (3, 0, 4) } else { (0, 3, 3) };
+    through_slot(
+        rt,
+        node,
+        list,
+        true,
+        0,
+        (came, came),
+        error,
+        0,
+        &mut no_outcome(),
+    )
+}
+
+// Takes a node through the slot of a sender whose frame it may join on, and tells whether it sends.
+fn sends_as_it_joins(
+    rt: &impl Abort,
+    node: &mut Controller,
+    list: &Medl,
+    sender: u8,
+    time: u16,
+) -> bool
+    requires list { list.now ≡ node.old.list }
+    requires turn { IsEnded node.old.turn }
+    ensures list { list.now ≡ node.new.list }
+    ensures turn { IsEnded node.new.turn }
+{
     let joined = frame_of(rt, 1, place_of(sender, time, three_members()), &[]);
     let came = Arrival::Bits {
         bytes: joined.as_slice(),
         offset: 4,
     };
-    let mut outcome = no_outcome();
-    let mut node = Controller::new(alloc, list, number)?;
-    assert!(rt;
-        !through_slot(
-            rt,
-            &mut node,
-            list,
-            true,
-            0,
-            (&came, &came),
-            0,
-            0,
-            &mut outcome
-        )
-    );
-    if !answered {
-        let silence = Arrival::Silence;
-        assert!(rt;
-            through_slot(
-                rt,
-                &mut node,
-                list,
-                true,
-                0,
-                (&silence, &silence),
-                0,
-                0,
-                &mut outcome
-            )
-        );
-    }
+    sends_after(rt, node, list, &came, 0)
+}
+
+// Whether a node's clock is 4 ahead, and it holds nodes 0, 1 and 3 for members.
+fn has_joined(node: &Controller) -> bool {
     let state = node.state();
-    assert!(rt; state.offset == 4 && state.members == three_members());
-    Ok(node)
+    state.offset == 4 && state.members == three_members()
+}
+
+// Takes a new node up to node 1's slot, so that it holds nodes 0, 1 and 3 for members, and its clock is 4 ahead.
+// Node 3 joins on node 0's frame, and owes no answer. Node 0 joins on node 3's frame and then sends one that is
+// not answered.
+fn become_receiver(rt: &impl Abort, node: &mut Controller, list: &Medl, answered: bool)
+    requires list { list.now ≡ node.old.list }
+    requires turn { IsEnded node.old.turn }
+    ensures list { list.now ≡ node.new.list }
+    ensures turn { IsEnded node.new.turn }
+{
+    let (sender, time) = if answered { (0, 4) } else { (3, 3) };
+    assert!(rt; !sends_as_it_joins(rt, node, list, sender, time));
+    if !answered {
+        assert!(rt; sends_after(rt, node, list, &Arrival::Silence, 0));
+    }
+    assert!(rt; has_joined(node));
 }
 
 // The first byte of what is delivered.
@@ -189,11 +222,72 @@ fn first_byte(outcome: &Outcome) -> Option<u8> {
     }
 }
 
+// Takes a node that is on through node 1's slot, in which the right frame is that with all three members and the
+// wrong one that without one of them, and tells whether it sends.
+fn sends_after_both(
+    rt: &impl Abort,
+    node: &mut Controller,
+    list: &Medl,
+    others: NodeSet,
+    on_a: Came,
+    on_b: Came,
+    outcome: &mut Outcome,
+) -> bool
+    requires list { list.now ≡ node.old.list }
+    requires turn { IsEnded node.old.turn }
+    ensures list { list.now ≡ node.new.list }
+    ensures turn { IsEnded node.new.turn }
+{
+    let right_a = frame_of_1(rt, three_members(), 7);
+    let right_b = frame_of_1(rt, three_members(), 8);
+    let (wrong_a, wrong_b) = (frame_of_1(rt, others, 7), frame_of_1(rt, others, 8));
+    let a = arrival_of(on_a, right_a.as_slice(), wrong_a.as_slice());
+    let b = arrival_of(on_b, right_b.as_slice(), wrong_b.as_slice());
+    through_slot(rt, node, list, true, 0, (&a, &b), 1, 0, outcome)
+}
+
+// Takes a receiver through node 1's slot, and tells whether it sends nothing, enters this, and delivers a payload
+// that begins so.
+fn judges(
+    rt: &impl Abort,
+    node: &mut Controller,
+    list: &Medl,
+    others: NodeSet,
+    came: (Came, Came),
+    entry: &Entry,
+    byte: Option<u8>,
+) -> bool
+    requires list { list.now ≡ node.old.list }
+    requires turn { IsEnded node.old.turn }
+{
+    let mut outcome = no_outcome();
+    let sends = sends_after_both(rt, node, list, others, came.0, came.1, &mut outcome);
+    !sends && node.state().entry == *entry && first_byte(&outcome) == byte
+}
+
+// Whether a receiver judges so: node 3 where it is answered, and else node 0.
+fn decides(
+    rt: &impl Abort,
+    alloc: Global,
+    answered: bool,
+    came: (Came, Came),
+    entry: &Entry,
+    byte: Option<u8>,
+) -> Result<bool, Memory> {
+    let number = if answered { 3 } else { 0 };
+    let Ok(list) = four_nodes(alloc) else {
+        return Err(Memory);
+    };
+    let Ok(mut node) = Controller::new(alloc, &list, number) else {
+        return Err(Memory);
+    };
+    become_receiver(rt, &mut node, &list, answered);
+    let others = three_members().without(number);
+    Ok(judges(rt, &mut node, &list, others, came, entry, byte))
+}
+
 #[test]
-fn better_channel_decides(rt: HostRuntime) -> Result<(), Fail> {
-    let list = four_nodes(rt.alloc())?;
-    let right_a = frame_of_1(&rt, three_members(), 7);
-    let right_b = frame_of_1(&rt, three_members(), 8);
+fn better_channel_decides(rt: HostRuntime) {
     let rows: &[(bool, Came, Came, Verdict, i64, Option<u8>)] = &[
         (true, Came::Right, Came::Wrong, Verdict::Correct, 7, Some(7)),
         (true, Came::Right, Came::Late, Verdict::Correct, 7, Some(7)),
@@ -230,33 +324,65 @@ fn better_channel_decides(rt: HostRuntime) -> Result<(), Fail> {
         (true, Came::Silence, Came::Silence, Verdict::Null, 0, None),
     ];
     for (answered, on_a, on_b, verdict, deviation, byte) in rows {
-        let others = three_members().without(if *answered { 3 } else { 0 });
-        let (wrong_a, wrong_b) = (frame_of_1(&rt, others, 7), frame_of_1(&rt, others, 8));
-        let a = arrival_of(*on_a, right_a.as_slice(), wrong_a.as_slice());
-        let b = arrival_of(*on_b, right_b.as_slice(), wrong_b.as_slice());
-        let mut outcome = no_outcome();
-        let mut node = receiver(&rt, rt.alloc(), &list, *answered)?;
-        assert!(rt; !through_slot(&rt, &mut node, &list, true, 0, (&a, &b), 1, 0, &mut outcome));
         let entry = Entry::Judged {
             sender: 1,
             verdict: *verdict,
             deviation: *deviation,
         };
-        assert!(rt; node.state().entry == entry, "{on_a:?} {on_b:?}");
-        assert!(rt; first_byte(&outcome) == *byte, "{on_a:?} {on_b:?}");
+        let came = (*on_a, *on_b);
+        assert!(rt;
+            decides(&rt, rt.alloc(), *answered, came, &entry, *byte) == Ok(true),
+            "{on_a:?} {on_b:?}"
+        );
     }
-    Ok(())
 }
 
-#[test]
-fn nodes_join_on_either_channel(rt: HostRuntime) -> Result<(), Fail> {
-    let list = four_nodes(rt.alloc())?;
-    let right = frame_of_1(&rt, three_members(), 7);
-    let joined = |deviation| Entry::Joined {
+// That a node joined on node 1's frame.
+fn joined(deviation: i64) -> Entry {
+    Entry::Joined {
         sender: 1,
         cstate: place_of(1, 5, three_members()),
         deviation,
+    }
+}
+
+// Takes a new node, whose clock jumps to 4, through node 1's slot, and tells whether it sends nothing and enters
+// this.
+fn enters(
+    rt: &impl Abort,
+    node: &mut Controller,
+    list: &Medl,
+    came: (Came, Came),
+    entry: &Entry,
+) -> bool
+    requires list { list.now ≡ node.old.list }
+    requires turn { IsEnded node.old.turn }
+{
+    let right = frame_of_1(rt, three_members(), 7);
+    let a = arrival_of(came.0, right.as_slice(), b"\x02");
+    let b = arrival_of(came.1, right.as_slice(), b"\x02");
+    let sends = through_slot(rt, node, list, true, 4, (&a, &b), 1, 0, &mut no_outcome());
+    !sends && node.state().entry == *entry
+}
+
+// Whether node 3 enters this.
+fn joins(
+    rt: &impl Abort,
+    alloc: Global,
+    came: (Came, Came),
+    entry: &Entry,
+) -> Result<bool, Memory> {
+    let Ok(list) = four_nodes(alloc) else {
+        return Err(Memory);
     };
+    let Ok(mut node) = Controller::new(alloc, &list, 3) else {
+        return Err(Memory);
+    };
+    Ok(enters(rt, &mut node, &list, came, entry))
+}
+
+#[test]
+fn nodes_join_on_either_channel(rt: HostRuntime) {
     let rows: &[(Came, Came, Entry)] = &[
         (Came::Right, Came::Late, joined(7)),
         (Came::Late, Came::Right, joined(997)),
@@ -267,58 +393,78 @@ fn nodes_join_on_either_channel(rt: HostRuntime) -> Result<(), Fail> {
         (Came::Silence, Came::Silence, Entry::Waited),
     ];
     for (on_a, on_b, entry) in rows {
-        let a = arrival_of(*on_a, right.as_slice(), b"\x02");
-        let b = arrival_of(*on_b, right.as_slice(), b"\x02");
-        let mut outcome = no_outcome();
-        let mut node = Controller::new(rt.alloc(), &list, 3)?;
-        // Its clock jumps to 4.
-        assert!(rt; !through_slot(&rt, &mut node, &list, true, 4, (&a, &b), 1, 0, &mut outcome));
-        assert!(rt; node.state().entry == *entry, "{on_a:?} {on_b:?}");
+        assert!(rt;
+            joins(&rt, rt.alloc(), (*on_a, *on_b), entry) == Ok(true),
+            "{on_a:?} {on_b:?}"
+        );
     }
-    Ok(())
 }
 
-#[test]
-fn denied_node_leaves(rt: HostRuntime) -> Result<(), Fail> {
-    let list = four_nodes(rt.alloc())?;
-    let mut node = receiver(&rt, rt.alloc(), &list, false)?;
-    let mut outcome = no_outcome();
-    // Neither node 1 nor node 2 holds node 0 for a member.
-    let first = frame_of_1(&rt, NodeSet::empty().with(1).with(3), 7);
-    let second = frame_of(
-        &rt,
-        0,
-        place_of(2, 6, NodeSet::empty().with(1).with(2).with(3)),
-        &[7, 9],
-    );
+// Takes a node through the slot in which this frame comes on both channels, and tells whether it sends nothing and
+// this is entered.
+fn hears(
+    rt: &impl Abort,
+    node: &mut Controller,
+    list: &Medl,
+    frame: &Outgoing,
+    entry: &Entry,
+) -> bool
+    requires list { list.now ≡ node.old.list }
+    requires turn { IsEnded node.old.turn }
+    ensures list { list.now ≡ node.new.list }
+    ensures turn { IsEnded node.new.turn }
+{
+    let came = Arrival::Bits {
+        bytes: frame.as_slice(),
+        offset: 0,
+    };
+    let sends = sends_after(rt, node, list, &came, 1);
+    !sends && node.state().entry == *entry
+}
+
+// Whether a node holds the frame of node 1, which does not hold node 0 for a member, for tentative.
+fn doubts(rt: &impl Abort, node: &mut Controller, list: &Medl) -> bool
+    requires list { list.now ≡ node.old.list }
+    requires turn { IsEnded node.old.turn }
+    ensures list { list.now ≡ node.new.list }
+    ensures turn { IsEnded node.new.turn }
+{
+    let first = frame_of_1(rt, NodeSet::empty().with(1).with(3), 7);
     let tentative = Entry::Judged {
         sender: 1,
         verdict: Verdict::Tentative,
         deviation: -3,
     };
+    hears(rt, node, list, &first, &tentative)
+}
+
+// Whether a node leaves on the frame of node 2, which does not hold node 0 for a member either.
+fn leaves(rt: &impl Abort, node: &mut Controller, list: &Medl) -> bool
+    requires list { list.now ≡ node.old.list }
+    requires turn { IsEnded node.old.turn }
+{
+    let members = NodeSet::empty().with(1).with(2).with(3);
+    let second = frame_of(rt, 0, place_of(2, 6, members), &[7, 9]);
     let left = Entry::Left {
         reason: Reason::Denied,
         peer: 2,
     };
-    for (frame, entry) in [(&first, tentative), (&second, left)] {
-        let came = Arrival::Bits {
-            bytes: frame.as_slice(),
-            offset: 0,
-        };
-        assert!(rt;
-            !through_slot(
-                &rt,
-                &mut node,
-                &list,
-                true,
-                0,
-                (&came, &came),
-                1,
-                0,
-                &mut outcome
-            )
-        );
-        assert!(rt; node.state().entry == entry);
-    }
-    Ok(())
+    hears(rt, node, list, &second, &left)
+}
+
+// Whether node 0, which nobody answers, doubts first and then leaves.
+fn is_denied(rt: &impl Abort, alloc: Global) -> Result<bool, Memory> {
+    let Ok(list) = four_nodes(alloc) else {
+        return Err(Memory);
+    };
+    let Ok(mut node) = Controller::new(alloc, &list, 0) else {
+        return Err(Memory);
+    };
+    become_receiver(rt, &mut node, &list, false);
+    Ok(doubts(rt, &mut node, &list) && leaves(rt, &mut node, &list))
+}
+
+#[test]
+fn denied_node_leaves(rt: HostRuntime) {
+    assert!(rt; is_denied(&rt, rt.alloc()) == Ok(true));
 }

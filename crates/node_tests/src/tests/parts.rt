@@ -1,9 +1,9 @@
 //! A slot whose first pass and third pass go over two parts of the nodes, as two threads share them.
-ghost use Rattle.std.specs.Prelude.{◌≡◌, ◌<◌, ◌≤◌, ◌+◌, List, length, All, IfOk};
+ghost use Rattle.std.specs.Prelude.{◌≡◌, ◌<◌, ◌≤◌, ◌+◌, ℕ, List, length, All, IfOk};
 ghost use Rattle.ttp_world.specs.declared.node.Chosen.{Chosen as Choice};
 ghost use Rattle.ttp_world.specs.declared.script.TheConstants.{SLOT_LIMIT, DRIFT_LIMIT};
 ghost use Rattle.ttp_world.specs.Diary.{History};
-ghost use Rattle.ttp_world.specs.Medl.{IsValid};
+ghost use Rattle.ttp_world.specs.Medl.{IsValid, plan_at};
 ghost use Rattle.ttp_world.specs.Script.{IsValidScript, IsWithinSpan};
 ghost use Rattle.ttp_world.specs.World.{slot_after, frames_in};
 ghost use Rattle.controller.specs.Limits.{IsBegun, IsPlanned};
@@ -15,10 +15,9 @@ ghost use Rattle.controller.specs.PlantWithin.{IsFromWithin};
 
 use super::alone::four_nodes;
 use super::plants::{after, nothing_for_all, quiet_script};
-use controller::{Seat, begin_all, plan_all, seats_of, take_all};
+use controller::{Plant, Seat, begin_all, plan_all, seats_of, take_all};
 use medium::Medium;
 use std::alloc::Global;
-use std::test::Fail;
 use ttp_base::Memory;
 use ttp_world::{Chosen, Medl, Script};
 
@@ -98,47 +97,94 @@ fn step_in_parts(
     take_in_parts(seats, medium, list, script, cut);
 }
 
-// The seats of the cluster after so many slots, each of which is taken by the next cut.
-fn after_in_parts(alloc: Global, slots: u32) -> Result<Vec<Seat>, Memory>
-    requires { slots ≤ 12 }
+// The seats of this list's nodes after so many slots, each of which is taken by the next cut.
+fn parts_of(alloc: Global, list: &Medl, script: &Script, slots: u32) -> Result<Vec<Seat>, Memory>
+    requires valid { IsValid list.now }
+    requires nodes { length list.now.slots ≡ 4 }
+    requires bare { (k : ℕ) → (plan_at list.now k).payload ≡ 0 }
+    requires script { IsValidScript list.now script.now }
+    requires slots { slots ≤ script.now.slots }
     ensures { IfOk result (λ seats. length seats.items ≡ 4) }
 {
-    let list = four_nodes(alloc)?;
-    let script = quiet_script(alloc)?;
     let chosen = nothing_for_all();
-    let mut seats = seats_of(alloc, &list)?;
-    let mut medium = Medium::new(alloc, &list)?;
+    let Ok(mut medium) = Medium::new(alloc, list) else {
+        return Err(Memory);
+    };
+    let mut seats = seats_of(alloc, list)?;
     for slot in 0..slots {
         let cut = (slot % 5) as u8;
-        step_in_parts(&mut seats, &mut medium, &list, &script, cut, slot, &chosen);
+        step_in_parts(&mut seats, &mut medium, list, script, cut, slot, &chosen);
     }
     Ok(seats)
 }
 
+// The seats of the cluster after so many slots.
+fn after_in_parts(alloc: Global, slots: u32) -> Result<Vec<Seat>, Memory>
+    requires { slots ≤ 12 }
+    ensures { IfOk result (λ seats. length seats.items ≡ 4) }
+{
+    let Ok(list) = four_nodes(alloc) else {
+        return Err(Memory);
+    };
+    let Ok(script) = quiet_script(alloc) else {
+        return Err(Memory);
+    };
+    parts_of(alloc, &list, &script, slots)
+}
+
+// Whether a plant shows of a node what its seat shows.
+fn shows(whole: &Plant, seat: &Seat, k: u8) -> bool
+    requires { k < length whole.now.list.slots }
+{
+    whole.node(k) == seat.controller.state() && whole.status(k) == seat.outcome.status
+}
+
+// Whether after so many slots a node is the same both ways.
+fn is_same(alloc: Global, slots: u32, k: u8) -> Result<bool, Memory>
+    requires slots { slots ≤ 12 }
+    requires k { k < 4 }
+{
+    let Ok(whole) = after(alloc, slots) else {
+        return Err(Memory);
+    };
+    let Ok(parts) = after_in_parts(alloc, slots) else {
+        return Err(Memory);
+    };
+    Ok(shows(&whole, &parts[k as usize], k))
+}
+
 #[test]
-fn a_slot_is_taken_in_parts(rt: HostRuntime) -> Result<(), Fail> {
-    let alloc = rt.alloc();
+fn a_slot_is_taken_in_parts(rt: HostRuntime) {
     for slots in 0..13u32 {
-        let (whole, parts) = (after(alloc, slots)?, after_in_parts(alloc, slots)?);
         for k in 0..4u8 {
-            let seat = &parts[k as usize];
             assert!(rt;
-                whole.node(k) == seat.controller.state() && whole.status(k) == seat.outcome.status,
+                is_same(rt.alloc(), slots, k) == Ok(true),
                 "after {slots} slots, node {k}"
             );
         }
     }
-    Ok(())
 }
 
 // That a thread may be handed such a value, and may share one.
 fn may_cross<T: Send + Sync>(_value: &T) {}
 
-#[test]
-fn parts_may_go_to_threads(rt: HostRuntime) -> Result<(), Fail> {
-    let alloc = rt.alloc();
-    let list = four_nodes(alloc)?;
-    may_cross(&seats_of(alloc, &list)?);
-    may_cross(&Medium::new(alloc, &list)?);
+// That the seats and the medium of the cluster may cross to a thread.
+fn cross(alloc: Global) -> Result<(), Memory> {
+    let Ok(list) = four_nodes(alloc) else {
+        return Err(Memory);
+    };
+    let Ok(seats) = seats_of(alloc, &list) else {
+        return Err(Memory);
+    };
+    let Ok(medium) = Medium::new(alloc, &list) else {
+        return Err(Memory);
+    };
+    may_cross(&seats);
+    may_cross(&medium);
     Ok(())
+}
+
+#[test]
+fn parts_may_go_to_threads(rt: HostRuntime) {
+    assert!(rt; cross(rt.alloc()) == Ok(()));
 }

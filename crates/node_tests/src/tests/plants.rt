@@ -1,10 +1,11 @@
 //! A cold start of four nodes, worked out by hand.
-ghost use Rattle.std.specs.Prelude.{◌≡◌, ◌<◌, ◌≤◌, [], All, Some, length, pos, replicate, IfOk};
+ghost use Rattle.std.specs.Prelude.{◌≡◌, ◌<◌, ◌≤◌, ℕ, [], All, Some, length, pos, replicate, IfOk};
+ghost use Rattle.ttp_world.specs.Medl.{IsValid, plan_at};
+ghost use Rattle.ttp_world.specs.Script.{IsValidScript};
 
 use super::alone::four_nodes;
 use controller::{Controller, Plant, is_loaded, laws};
 use std::alloc::Global;
-use std::test::Fail;
 use ttp_base::{List, Memory};
 use ttp_world::{Ack, Chosen, Entry, Events, Medl, Payload, Phase, Script, Verdict};
 
@@ -49,52 +50,144 @@ pub(super) fn nothing_for_all() -> [Chosen; 4]
     [nothing(), nothing(), nothing(), nothing()]
 }
 
+// The plant of this list after so many slots in which no node has anything to send.
+fn after_of(alloc: Global, list: &Medl, script: &Script, slots: u32) -> Result<Plant, Memory>
+    requires valid { IsValid list.now }
+    requires nodes { length list.now.slots ≡ 4 }
+    requires bare { (k : ℕ) → (plan_at list.now k).payload ≡ 0 }
+    requires script { IsValidScript list.now script.now }
+    requires slots { slots ≤ script.now.slots }
+    ensures { IfOk result (λ plant. length plant.list.slots ≡ 4) }
+{
+    let chosen = nothing_for_all();
+    let mut plant = Plant::new(alloc, list)?;
+    for _ in 0..slots {
+        plant.slot(list, script, &chosen);
+    }
+    Ok(plant)
+}
+
 /// The cluster after so many slots.
 pub(super) fn after(alloc: Global, slots: u32) -> Result<Plant, Memory>
     requires { slots ≤ 12 }
     ensures { IfOk result (λ plant. length plant.list.slots ≡ 4) }
 {
-    let list = four_nodes(alloc)?;
-    let script = quiet_script(alloc)?;
-    let chosen = nothing_for_all();
-    let mut plant = Plant::new(alloc, &list)?;
-    for _ in 0..slots {
-        plant.slot(&list, &script, &chosen);
+    let Ok(list) = four_nodes(alloc) else {
+        return Err(Memory);
+    };
+    let Ok(script) = quiet_script(alloc) else {
+        return Err(Memory);
+    };
+    after_of(alloc, &list, &script, slots)
+}
+
+// Whether a plant shows what it shows before the first slot.
+fn is_unused(plant: &Plant) -> bool
+    requires { length plant.now.list.slots ≡ 4 }
+{
+    plant.node(0).phase == Phase::Off
+        && plant.delivered(1).is_none()
+        && plant.status(3).words == [0, 0, 0, 0]
+}
+
+// Whether a plant shows of node 2 what another shows, of which nothing was delivered.
+fn is_like(copy: &Plant, plant: &Plant) -> bool
+    requires copy { length copy.now.list.slots ≡ 4 }
+    requires plant { length plant.now.list.slots ≡ 4 }
+{
+    copy.node(2) == plant.node(2) && copy.delivered(2).is_none()
+}
+
+// Whether the frame of node 0's new controller carries no message.
+fn is_quiet(alloc: Global, list: &Medl) -> Result<bool, Memory>
+    requires { IsValid list.now }
+{
+    match &Controller::new(alloc, list, 0) {
+        Ok(node) => Ok(!is_loaded(node)),
+        Err(_) => Err(Memory),
     }
-    Ok(plant)
+}
+
+// Whether a plant shows nothing, and a copy of it the same.
+fn copies(alloc: Global, list: &Medl) -> Result<bool, Memory>
+    requires valid { IsValid list.now }
+    requires slots { length list.now.slots ≡ 4 }
+{
+    let Ok(plant) = Plant::new(alloc, list) else {
+        return Err(Memory);
+    };
+    let Ok(mut copy) = Plant::new(alloc, list) else {
+        return Err(Memory);
+    };
+    copy.copy_from(&plant);
+    Ok(is_unused(&plant) && is_like(&copy, &plant))
+}
+
+// Whether node 2's clock stands at 0 after so many slots.
+fn stands_at_0(alloc: Global, slots: u32) -> Result<bool, Memory>
+    requires { slots ≤ 12 }
+{
+    match &after(alloc, slots) {
+        Ok(plant) => Ok(plant.node(2).offset == 0),
+        Err(_) => Err(Memory),
+    }
+}
+
+// Whether node 0 heard the first frame of node 1, and holds itself and node 1 for answered.
+fn is_answered(plant: &Plant) -> bool
+    requires { length plant.now.list.slots ≡ 4 }
+{
+    let first = plant.node(0);
+    let entry = Entry::Judged {
+        sender: 1,
+        verdict: Verdict::Correct,
+        deviation: 0,
+    };
+    first.entry == entry && first.ack == Ack::Closed && first.accepted == 2
+}
+
+// Whether node 1 sent a frame that carries no message.
+fn is_sent(plant: &Plant) -> bool
+    requires { length plant.now.list.slots ≡ 4 }
+{
+    plant.node(1).entry == Entry::Sent { message: None } && plant.delivered(0).is_none()
+}
+
+// Whether the status words of nodes 0 and 1 tell of that slot.
+fn is_told(plant: &Plant) -> bool
+    requires { length plant.now.list.slots ≡ 4 }
+{
+    plant.status(0).words == [9, 1, 0x0001_0001_0003, 512]
+        && plant.status(1).words == [9, 41, 0x0001_0001_0003, 256]
+}
+
+// Whether a controller and a plant of the cluster begin so, before the first slot.
+fn begins(alloc: Global) -> Result<bool, Memory> {
+    let Ok(list) = four_nodes(alloc) else {
+        return Err(Memory);
+    };
+    match is_quiet(alloc, &list) {
+        Ok(true) => copies(alloc, &list),
+        answer => answer,
+    }
+}
+
+// Whether the tenth slot was the first one after the start.
+fn has_started(alloc: Global) -> Result<bool, Memory> {
+    match &after(alloc, 10) {
+        Ok(plant) => Ok(is_answered(plant) && is_sent(plant) && is_told(plant)),
+        Err(_) => Err(Memory),
+    }
 }
 
 #[test]
-fn a_cluster_starts(rt: HostRuntime) -> Result<(), Fail> {
+fn a_cluster_starts(rt: HostRuntime) {
     let alloc = rt.alloc();
-    let list = four_nodes(alloc)?;
     laws::plants_of_scripts_that_agree();
-    let plant = Plant::new(alloc, &list)?;
-    assert!(rt; plant.node(0).phase == Phase::Off);
-    assert!(rt; !is_loaded(&Controller::new(alloc, &list, 0)?));
-    assert!(rt; plant.delivered(1).is_none());
-    assert!(rt; plant.status(3).words == [0, 0, 0, 0]);
-    let mut copy = Plant::new(alloc, &list)?;
-    copy.copy_from(&plant);
-    assert!(rt; copy.node(2) == plant.node(2) && copy.delivered(2).is_none());
+    assert!(rt; begins(alloc) == Ok(true));
     // Node 0 waits for two rounds, then starts, and node 1 sends the first frame after it.
     for slots in 1..10u32 {
-        assert!(rt; after(alloc, slots)?.node(2).offset == 0, "in slot {slots}");
+        assert!(rt; stands_at_0(alloc, slots) == Ok(true), "in slot {slots}");
     }
-    let plant = after(alloc, 10)?;
-    let first = plant.node(0);
-    assert!(rt;
-        first.entry
-            == Entry::Judged {
-                sender: 1,
-                verdict: Verdict::Correct,
-                deviation: 0
-            }
-    );
-    assert!(rt; first.ack == Ack::Closed && first.accepted == 2);
-    assert!(rt; plant.node(1).entry == Entry::Sent { message: None });
-    assert!(rt; plant.delivered(0).is_none());
-    assert!(rt; plant.status(0).words == [9, 1, 0x0001_0001_0003, 512]);
-    assert!(rt; plant.status(1).words == [9, 41, 0x0001_0001_0003, 256]);
-    Ok(())
+    assert!(rt; has_started(alloc) == Ok(true));
 }

@@ -4,7 +4,7 @@ use Rattle.ttp_world.specs.World.{row_in, slot_after}
 use Rattle.controller.proofs.Payloads.{chosen-step, nothing-chosen}
 use Rattle.controller.specs.PlantStands.{PlantStandsFor, MayStep, plant_of}
 use Rattle.controller.specs.declared.seat.Seat.{Seat}
-use Rattle.node_tests.proofs.tests.parts.after_in_parts.Goals as goal
+use Rattle.node_tests.proofs.tests.parts.parts_of.Goals as goal
 
 pub loop-slot-init : goal.loop-slot-init
 loop-slot-init c =
@@ -18,29 +18,29 @@ pub step_in_parts-requires-clause-chosen : goal.step_in_parts-requires-clause-ch
 step_in_parts-requires-clause-chosen c =
     let invariant = c.loop-slot.invariant in
     subst
-    (λ (seats : List Seat). MayStep (plant_of c.in_ok-list.list c.loop-slot.slot seats) c.in_ok-script.script
+    (λ (seats : List Seat). MayStep (plant_of c.args.list.now c.loop-slot.slot seats) c.args.script.now
     c.nothing_for_all-chosen.result) (sym c.deref_mut.ensures.value)
-    (chosen-step c.nothing_for_all-chosen.result c.in_ok-list.ensures.valid invariant.stands
-    (nothing-chosen (slot_after c.in_ok-list.list c.in_ok-script.script invariant.history)
-    c.nothing_for_all-chosen.result c.in_ok-list.ensures.bare (omega (arith, c.in_ok-list.ensures.slots))
+    (chosen-step c.nothing_for_all-chosen.result c.requires.valid invariant.stands
+    (nothing-chosen (slot_after c.args.list.now c.args.script.now invariant.history)
+    c.nothing_for_all-chosen.result c.requires.bare (omega (arith, c.requires.nodes))
     c.nothing_for_all-chosen.ensures))
 
 pub loop-slot-preserved : goal.loop-slot-preserved
 loop-slot-preserved c =
     let invariant = c.loop-slot.invariant in
-    let stands : PlantStandsFor (plant_of c.in_ok-list.list c.loop-slot.slot c.deref_mut.result.now)
-    c.in_ok-script.script invariant.history =
+    let stands : PlantStandsFor (plant_of c.args.list.now c.loop-slot.slot c.deref_mut.result.now)
+    c.args.script.now invariant.history =
     subst
-    (λ (seats : List Seat). PlantStandsFor (plant_of c.in_ok-list.list c.loop-slot.slot seats) c.in_ok-script.script
+    (λ (seats : List Seat). PlantStandsFor (plant_of c.args.list.now c.loop-slot.slot seats) c.args.script.now
     invariant.history) (sym c.deref_mut.ensures.value) invariant.stands in
     let told = with_items_is c.loop-slot.seats c.step_in_parts.new.seats
     (omega (arith, c.step_in_parts.ensures.nodes, c.deref_mut.ensures.len)) in
     let before = invariant.history in
-    let row = row_in (slot_after c.in_ok-list.list c.in_ok-script.script before) c.nothing_for_all-chosen.result in
+    let row = row_in (slot_after c.args.list.now c.args.script.now before) c.nothing_for_all-chosen.result in
     record {
       history = row ∷ before;
       stands =
           subst
-          (λ (seats : List Seat). PlantStandsFor (plant_of c.in_ok-list.list (c.loop-slot.slot + 1) seats)
-          c.in_ok-script.script (row ∷ before)) (sym told) (c.step_in_parts.ensures.steps before stands).stands;
+          (λ (seats : List Seat). PlantStandsFor (plant_of c.args.list.now (c.loop-slot.slot + 1) seats)
+          c.args.script.now (row ∷ before)) (sym told) (c.step_in_parts.ensures.steps before stands).stands;
     }
