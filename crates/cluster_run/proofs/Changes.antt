@@ -1,9 +1,6 @@
 -- Lists that a loop changes place by place.
-use Rattle.std.proofs.lemmas.Bool.Decides.{nat_tests}
-use Rattle.std.proofs.lemmas.Grind.{common_steps}
-use Rattle.std.proofs.Common.{◌≡◌, ℕ, ◌+◌, ◌<◌, ◌≤◌, List, length, set, get_or, ◌∙◌, below_more, arith}
-use Rattle.std.proofs.lemmas.List.{get_or-set_same, get_or-set_other}
-use Rattle.ttp_world.proofs.ListFacts.{at_any}
+use Rattle.cluster_run.proofs.Words.{◌≡◌, ℕ, ◌+◌, ◌<◌, ◌≤◌, List, length, set, get_or, ◌∙◌, below_more, arith}
+use Rattle.cluster_run.proofs.Words.{get_or-set_same, get_or-set_other, at_any, steps}
 
 -- So it is at the first places, so many, between what was there and what is, and the others are as they were.
 pub record AreChanged {A : Type 0} (P : ℕ → A → A → Type 0) (d : A) (k : ℕ) (old now : List A) : Type 0 where
@@ -15,8 +12,7 @@ pub record AreChanged {A : Type 0} (P : ℕ → A → A → Type 0) (d : A) (k :
 pub changed_more : {A : Type 0} {P : ℕ → A → A → Type 0} {d : A} {k : ℕ} {old now : List A} (x new : A)
     → AreChanged P d k old now → k < length now → x ≡ get_or now k x → P k x new
     → AreChanged P d (k + 1) old (set now k new)
-changed_more {P = P} {d = d} {k = k} {old = old} {now = now} x new so near here by =
-    grind (arith, common_steps, nat_tests)
+changed_more {P = P} {d = d} {k = k} {old = old} {now = now} x new so near here by = grind steps
 
 -- The same of two lists.
 pub record AreBothChanged {A B : Type 0} (P : ℕ → A → A → B → B → Type 0) (d : A) (e : B) (k : ℕ) (old now : List A)
@@ -33,11 +29,9 @@ both_more {P = P} {d = d} {e = e} {k = k} {old = old} {now = now} {was = was} {i
     here' by = record {
       first = changed_more x new so.first near here tt;
       second = changed_more y next so.second near' here' tt;
-      done =
-          below_more
+      done = below_more
           (λ j. P j (get_or old j d) (get_or (set now k new) j d) (get_or was j e) (get_or (set is k next) j e)) k
-          (λ j earlier.
-          rw (get_or-set_other now k j new d (omega arith), get_or-set_other is k j next e (omega arith))
+          (λ j earlier. rw (get_or-set_other now k j new d (omega arith), get_or-set_other is k j next e (omega arith))
           (so.done j earlier))
           (rw (
             ← (here ∙ at_any now k x d near ∙ so.first.rest k (omega arith)),

@@ -1,54 +1,34 @@
 -- What a node's fetcher got is a message of its host: the fetch was one attempt, which no write of the slot overtook.
-use Rattle.std.proofs.lemmas.Bool.Decides.{nat_tests}
-use Rattle.std.proofs.lemmas.Grind.{common_steps}
-use Rattle.std.proofs.Common.{◌≡◌, ℕ, zero, suc, ◌+◌, ◌-◌, ◌/◌, ◌<◌, ◌≤◌, Bool, true, false, List, []}
-use Rattle.std.proofs.Common.{◌∷◌, ◌++◌, length, map, get_or, Option, Some, None, option_map, IsSomeAnd, All, refl, sym}
-use Rattle.std.proofs.Common.{ap, subst, ◌∙◌, arith, length-append, cond}
-use Rattle.std.specs.Prelude.{slice_get, ◌&&◌, nat_le}
-use Rattle.std.proofs.lemmas.Bool.{le-leb}
-use Rattle.std.proofs.lemmas.List.{append-nil, map-append, length-map}
+use Rattle.cluster_run.proofs.Words.{◌≡◌, ℕ, zero, suc, ◌+◌, ◌-◌, ◌/◌, ◌<◌, ◌≤◌, Bool, true, false, List, [], ◌∷◌, ◌++◌}
+use Rattle.cluster_run.proofs.Words.{length, map, get_or, Option, Some, None, IsSomeAnd, All, refl, sym, ap, subst, ◌∙◌}
+use Rattle.cluster_run.proofs.Words.{arith, cond, slice_get, ◌&&◌, nat_le, le-leb, append-nil, map-append, length-map}
+use Rattle.cluster_run.proofs.Words.{All-push, All-head, none-some, same_Some, Message, Shape, WriterState, ReaderState}
+use Rattle.cluster_run.proofs.Words.{new_reader, with_joined, settlement_of, Medl, Chosen, Script, is_legal_message}
+use Rattle.cluster_run.proofs.Words.{plan_at, messages_before, message_chosen, IsValidScript, messages_written}
+use Rattle.cluster_run.proofs.Words.{writes_in, word_count, words_of_payload, AreBytes, bytes_in, words_tell, HasSeen}
+use Rattle.cluster_run.proofs.Words.{Attempts, is_intact, HostState, message_shape, shape_of, GotEach, SawAtMost}
+use Rattle.cluster_run.proofs.Words.{IsRing, IsRingOf, pair_of, words_written, Fetches, FetchesOne, SettlesFetch}
+use Rattle.cluster_run.proofs.Words.{after_writes, fetcher_lent, with_messages, message_sizes, some_message, steps}
+use Rattle.cluster_run.proofs.Words.{IsWhole, pair_sent, choice_by}
+use Rattle.std.proofs.Common.{length-append}
 use Rattle.std.proofs.lemmas.List.Concat.{flat_map-append}
-use Rattle.std.proofs.lemmas.List.Elements.{All-push, All-head}
-use Rattle.std.proofs.lemmas.Option.{none-some, same_Some}
-use Rattle.nbw_ring.specs.declared.view.Message.{Message}
 use Rattle.nbw_ring.specs.declared.view.Settlement.{Settlement}
-use Rattle.nbw_ring.specs.declared.view.Shape.{Shape}
 use Rattle.nbw_ring.specs.Numbers.{IsMessageOf}
-use Rattle.nbw_ring.specs.States.{WriterState, ReaderState, new_reader, with_joined, settlement_of}
-use Rattle.ttp_world.specs.declared.medl.Medl.{Medl}
-use Rattle.ttp_world.specs.declared.node.Chosen.{Chosen}
-use Rattle.ttp_world.specs.declared.script.Script.{Script}
-use Rattle.ttp_world.specs.declared.script.Source.TheVariants as source
-use Rattle.ttp_world.specs.Legal.{is_legal_message}
-use Rattle.ttp_world.specs.Medl.{plan_at}
 use Rattle.ttp_world.specs.Messages.{newest_number}
-use Rattle.ttp_world.specs.Outgoing.{messages_before, message_chosen}
-use Rattle.ttp_world.specs.Script.{IsValidScript, messages_written, writes_in}
-use Rattle.ttp_world.specs.Words.{word_count, words_of_payload}
-use Rattle.line_text.specs.HostLines.{AreBytes, bytes_in}
-use Rattle.line_text.proofs.PayloadWords.{words_tell}
-use Rattle.host_port.specs.Fetching.{HasSeen, IsWhole}
-use Rattle.host_port.specs.Reading.{Attempts, is_intact}
-use Rattle.host_port.specs.Rings.{HostState, message_shape, shape_of}
-use Rattle.cluster_run.specs.Rings.{GotEach, SawAtMost, IsRing, IsRingOf, pair_of, pair_sent, words_written}
-use Rattle.cluster_run.specs.Sending.{Fetches, FetchesOne, SettlesFetch, after_writes, choice_by, fetcher_lent}
-use Rattle.cluster_run.specs.Sending.{with_messages}
-use Rattle.ttp_world.proofs.HostMessages.{message_sizes, some_message}
+use Rattle.ttp_world.specs.declared.script.Source.TheVariants as source
 
 -- The ring of a node that sends payload is there.
 
 pub shape_there : (list : Medl) (k : ℕ) → 1 ≤ (plan_at list k).payload
     → message_shape list k ≡ Some (shape_of list (word_count (plan_at list k).payload))
-shape_there list k some =
-    grind (arith, common_steps, nat_tests)
+shape_there list k some = grind steps
 
 -- a ring with these messages more
 
-ring_more_some : (shape : Shape) (before new : List (List ℕ)) (pairs : List Message) (w : HostState)
-    → IsSomeAnd w (IsRing shape (map words_of_payload before) pairs)
-    → IsSomeAnd (option_map (λ v. with_messages v new) w) (IsRing shape (map words_of_payload (before ++ new)) pairs)
-ring_more_some shape before new pairs None ring = ring
-ring_more_some shape before new pairs (Some w) ring = record {
+ring_more : (shape : Shape) (before new : List (List ℕ)) (pairs : List Message) (w : WriterState)
+    → IsRing shape (map words_of_payload before) pairs w
+    → IsRing shape (map words_of_payload (before ++ new)) pairs (with_messages w new)
+ring_more shape before new pairs w ring = record {
   shape_is = ring.shape_is;
   messages_are =
       ap (λ ms. ms ++ map words_of_payload new) ring.messages_are ∙ sym (map-append words_of_payload before new);
@@ -56,12 +36,6 @@ ring_more_some shape before new pairs (Some w) ring = record {
   seen = λ j s within. omega (arith, ring.seen j s within, length-append w.messages (map words_of_payload new));
   once = ring.once;
 }
-
-ring_more : (shape : Option Shape) (before new : List (List ℕ)) (pairs : List Message) (w : HostState)
-    → IsRingOf shape (map words_of_payload before) pairs w
-    → IsRingOf shape (map words_of_payload (before ++ new)) pairs (option_map (λ v. with_messages v new) w)
-ring_more None before new pairs w ring = ap (option_map (λ v. with_messages v new)) ring
-ring_more (Some shape) before new pairs w ring = ring_more_some shape before new pairs w ring
 
 -- A message by its words.
 
@@ -92,14 +66,9 @@ module _ (before new : List (List ℕ)) (w : WriterState) (f : ReaderState)
   count_before : length w.messages ≡ length before
   count_before = ap length is ∙ length-map before words_of_payload
 
-  count_after : length (w.messages ++ map words_of_payload new) ≡ length before + length new
-  count_after =
-      grind (arith, common_steps, nat_tests)
-
   -- no write of the slot overtook it
   intact : is_intact f ≡ true
-  intact =
-      grind (arith, common_steps, nat_tests)
+  intact = grind steps
 
   messages_after : w.messages ++ map words_of_payload new ≡ map words_of_payload (before ++ new)
   messages_after = ap (λ ms. ms ++ map words_of_payload new) is ∙ sym (map-append words_of_payload before new)
@@ -131,10 +100,8 @@ pub settled_ring : (shape : Shape) (before new : List (List ℕ)) (pairs : List 
 settled_ring shape before new pairs w f k ring got tries seen = record {
   shape_is = ring.shape_is;
   messages_are = ring.messages_are;
-  pairs_are =
-      flat_map-append (λ (s : Settlement). s.pairs) w.joined (settlement_of f ∷ [])
-      ∙ (λ i. ring.pairs_are i ++ append-nil f.got i)
-      ∙ ap (λ ms. pairs ++ ms) got.one;
+  pairs_are = flat_map-append (λ (s : Settlement). s.pairs) w.joined (settlement_of f ∷ [])
+      ∙ (λ i. ring.pairs_are i ++ append-nil f.got i) ∙ ap (λ ms. pairs ++ ms) got.one;
   seen = All-push (SawAtMost w.messages) w.joined (settlement_of f) ring.seen seen;
   once = λ more. All-push GotEach w.joined (settlement_of f) (ring.once more) (tries ∙ sym (ap length got.one));
 }
@@ -156,13 +123,14 @@ module _ (list : Medl) (script : Script) (slot k : ℕ) (valid : IsValidScript l
   abbrev len : ℕ
   len = (plan_at list k).payload
 
-  chosen_by : (pairs : List Message) (w : WriterState) (f : ReaderState) (new : HostState) (c0 c1 : Chosen)
+  fetched : (old : HostState) {pairs : List Message} {f : Option ReaderState} {new : HostState} {c0 c1 : Chosen}
       → message_shape list k ≡ Some (shape_of list (word_count len))
-      → IsRing (shape_of list (word_count len)) (words_written list script k slot) pairs w
-      → Attempts (new_reader w 1) f
-      → SettlesFetch len (Some f) (Some (with_messages w (messages_written script k slot))) new c0 c1
+      → IsSomeAnd old (IsRing (shape_of list (word_count len)) (words_written list script k slot) pairs)
+      → Fetches (fetcher_lent true old) f → SettlesFetch len f (after_writes (writes_in script slot) k old) new c0 c1
       → IsNodeChoice list script slot k true pairs new c1
-  chosen_by pairs w f new c0 c1 there ring attempt settles =
+  fetched None there ring attempt settles = absurd ring
+  fetched (Some w) {f = None} there ring none settles = absurd none
+  fetched (Some w) {pairs = pairs} {f = Some f} {new = new} {c0 = c0} {c1 = c1} there ring attempt settles =
       let before = messages_before list script k slot in
       let more = messages_written script k slot in
       let shape = shape_of list (word_count len) in
@@ -181,13 +149,11 @@ module _ (list : Medl) (script : Script) (slot k : ℕ) (valid : IsValidScript l
       settles.choice_is ∙ ap (λ ms. choice_by len (slice_get ms 0) c0) got.one
       ∙ (λ t. record { number = i; payload = told t }) in
       let number : c1.number ≡ i = ap (λ (c : Chosen). c.number) choice in
-      let whole = ring_more_some shape before more pairs (Some w) ring in
-      let end = settled_ring shape before more pairs (with_messages w more) f k whole got tries
-      settles.whole.1 in
+      let whole = ring_more shape before more pairs w ring in
+      let end = settled_ring shape before more pairs (with_messages w more) f k whole got tries settles.whole.1 in
       record {
         message = λ _. choice ∙ ap (λ n. message_chosen list script slot k (Some n)) (sym number);
-        legal =
-            ap (λ n. is_legal_message list script slot k (Some n)) number
+        legal = ap (λ n. is_legal_message list script slot k (Some n)) number
             ∙ between (newest_number before) (newest_number (before ++ more)) i (omega (arith, got.low))
             (omega (arith, got.high));
         ring =
@@ -199,23 +165,12 @@ module _ (list : Medl) (script : Script) (slot k : ℕ) (valid : IsValidScript l
             (pairs ++ pair_sent list script slot k (Some n)) (with_joined (with_messages w more) f)) (sym number) end));
       }
 
-  fetched : (pairs : List Message) (old : HostState) (f : Option ReaderState) (new : HostState) (c0 c1 : Chosen)
-      → message_shape list k ≡ Some (shape_of list (word_count len))
-      → IsSomeAnd old (IsRing (shape_of list (word_count len)) (words_written list script k slot) pairs)
-      → Fetches (fetcher_lent true old) f → SettlesFetch len f (after_writes (writes_in script slot) k old) new c0 c1
-      → IsNodeChoice list script slot k true pairs new c1
-  fetched pairs None f new c0 c1 there ring attempt settles = absurd ring
-  fetched pairs (Some w) None new c0 c1 there ring none settles = absurd none
-  fetched pairs (Some w) (Some f) new c0 c1 there ring attempt settles =
-      chosen_by pairs w f new c0 c1 there ring attempt settles
-
-  unfetched : (pairs : List Message) (old : HostState) (f : Option ReaderState) (new : HostState) (c0 c1 : Chosen)
-      → IsRingOf (message_shape list k) (words_written list script k slot) pairs old
-      → Fetches None f → SettlesFetch len f (after_writes (writes_in script slot) k old) new c0 c1
+  unfetched : (old : HostState) {pairs : List Message} {f : Option ReaderState} {new : HostState} {c0 c1 : Chosen}
+      → IsRingOf (message_shape list k) (words_written list script k slot) pairs old → Fetches None f
+      → SettlesFetch len f (after_writes (writes_in script slot) k old) new c0 c1
       → IsNodeChoice list script slot k false pairs new c1
-  unfetched pairs old (Some f) new c0 c1 ring some settles = absurd some
-  unfetched pairs old None new c0 c1 ring none settles =
-      grind (arith, common_steps, nat_tests)
+  unfetched old {f = Some f} ring some settles = absurd some
+  unfetched old {f = None} ring none settles = grind steps
 
   pub node_choice : {loaded : Bool} {pairs : List Message} {old new : HostState} {c0 c1 : Chosen}
       → (loaded ≡ true → 1 ≤ len) → IsRingOf (message_shape list k) (words_written list script k slot) pairs old
@@ -223,8 +178,8 @@ module _ (list : Medl) (script : Script) (slot k : ℕ) (valid : IsValidScript l
       → IsNodeChoice list script slot k loaded pairs new c1
   node_choice {loaded = true} {pairs = pairs} {old = old} some ring by =
       let there = shape_there list k (some refl) in
-      fetched pairs old by.tried _ _ _ there
+      fetched old {f = by.tried} there
       (subst (λ (s : Option Shape). IsRingOf s (words_written list script k slot) pairs old) there ring) by.fetches
       by.settles
-  node_choice {loaded = false} {pairs = pairs} {old = old} some ring by =
-      unfetched pairs old by.tried _ _ _ ring by.fetches by.settles
+  node_choice {loaded = false} {old = old} some ring by =
+      unfetched old {f = by.tried} ring by.fetches by.settles

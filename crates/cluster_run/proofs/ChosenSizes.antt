@@ -1,19 +1,9 @@
 -- What is chosen for a frame is as long as the list gives its node.
-use Rattle.std.proofs.Common.{◌≡◌, suc, ◌≤◌, true, cond, [], length, Some, None, sym, ap, ◌∙◌, arith}
-use Rattle.std.specs.Prelude.{List, nat_le}
-use Rattle.std.proofs.lemmas.Bool.{and_parts, leb-true}
-use Rattle.ttp_world.specs.declared.medl.Medl.{Medl}
-use Rattle.ttp_world.specs.declared.node.Chosen.{Chosen}
-use Rattle.ttp_world.specs.declared.script.Script.{Script}
-use Rattle.ttp_world.specs.Legal.{is_legal_message}
+use Rattle.cluster_run.proofs.Words.{◌≡◌, suc, ◌≤◌, true, cond, [], length, Some, None, sym, ap, ◌∙◌, arith, List}
+use Rattle.cluster_run.proofs.Words.{nat_le, and_parts, Medl, Chosen, Script, is_legal_message, messages_before}
+use Rattle.cluster_run.proofs.Words.{IsValidScript, Numbers, chosen_of, AreChosen, HostState, HaveChosen, next_slot}
+use Rattle.cluster_run.proofs.Words.{message_sizes, some_message, leb-true, out_messages}
 use Rattle.ttp_world.specs.Messages.{newest_number}
-use Rattle.ttp_world.specs.Outgoing.{messages_before, out_messages}
-use Rattle.ttp_world.specs.Script.{IsValidScript}
-use Rattle.ttp_world.specs.World.{Numbers, chosen_of}
-use Rattle.controller.specs.Passes.{AreChosen}
-use Rattle.host_port.specs.Rings.{HostState}
-use Rattle.cluster_run.specs.Choosing.{HaveChosen, next_slot}
-use Rattle.ttp_world.proofs.HostMessages.{message_sizes, some_message}
 
 pub chosen_sizes : {list : Medl} {script : Script} {numbers : Numbers} {chosen : List Chosen} {ends : List HostState}
     → IsValidScript list script → HaveChosen list script numbers chosen ends

@@ -1,37 +1,20 @@
 -- What a node delivers came from another node, which sends payload, and is as long as the list gives that node.
-use Rattle.std.proofs.lemmas.Bool.Decides.{nat_tests}
-use Rattle.std.proofs.lemmas.Grind.{common_steps}
-use Rattle.std.proofs.Common.{arith}
-use Rattle.std.proofs.Common.{◌≡◌, ◌≢◌, ℕ, ◌<◌, ◌≤◌, ℤ, true, List}
-use Rattle.std.proofs.Common.{length, Option, Some, None, IfSome, refl, sym, subst}
-use Rattle.ttp_world.specs.declared.medl.Medl.{Medl}
+use Rattle.cluster_run.proofs.Words.{◌≡◌, ◌≢◌, ℕ, ◌<◌, ◌≤◌, true, List, length, Option, Some, None, IfSome, refl, sym}
+use Rattle.cluster_run.proofs.Words.{subst, Medl, Chosen, Delivered, Entry, Script, History, plan_at, chosen_of}
+use Rattle.cluster_run.proofs.Words.{frames_in, is_loaded, node_past, slot_after, delivered_at, steps, ℤ, Listen, Send}
+use Rattle.cluster_run.proofs.Words.{Judge, carries_payload, delivery, new_entry, payload_taken, verdict_entry}
+use Rattle.cluster_run.proofs.Words.{joinable, NodePast, Hearing, expected_length, expected_of, verdict_of, view_of}
+use Rattle.cluster_run.proofs.Words.{is_armed, is_on, BegunNode, hearing_in, node_after, node_of, sends_payload}
+use Rattle.cluster_run.proofs.Words.{carries, taken_size, node_of-slot_after, entry_of-row_in}
 use Rattle.ttp_world.specs.declared.node.Act.{Act}
-use Rattle.ttp_world.specs.declared.node.Act.TheVariants.{Off, Gone, Listen, Start, Retry, Leave, Send, Judge}
-use Rattle.ttp_world.specs.declared.node.Chosen.{Chosen}
 use Rattle.ttp_world.specs.declared.node.CState.{CState}
-use Rattle.ttp_world.specs.declared.node.Delivered.{Delivered}
-use Rattle.ttp_world.specs.declared.node.Entry.{Entry}
-use Rattle.ttp_world.specs.declared.node.Entry.TheVariants as entry
 use Rattle.ttp_world.specs.declared.node.Verdict.{Verdict}
-use Rattle.ttp_world.specs.declared.node.Verdict.TheVariants as verdict
-use Rattle.ttp_world.specs.declared.script.Script.{Script}
 use Rattle.ttp_world.specs.Act.{coming_place}
-use Rattle.ttp_world.specs.Conduct.{carries_payload, delivery, new_entry, payload_taken, verdict_entry}
-use Rattle.ttp_world.specs.Diary.{History}
-use Rattle.ttp_world.specs.Fitting.{joinable}
-use Rattle.ttp_world.specs.Medl.{plan_at}
-use Rattle.ttp_world.specs.Past.{NodePast}
-use Rattle.ttp_world.specs.Reception.{Hearing, expected_length, expected_of}
-use Rattle.ttp_world.specs.Reception.{verdict_of, view_of}
-use Rattle.ttp_world.specs.Script.{is_armed, is_on}
-use Rattle.ttp_world.specs.World.{BegunNode, chosen_of, frames_in, hearing_in, is_loaded, node_after, node_of}
-use Rattle.ttp_world.specs.World.{node_past, sends_payload, slot_after}
-use Rattle.ttp_world.proofs.DeliveredSizes.{carries, taken_size}
 use Rattle.ttp_world.proofs.EntriesMade.{listening_entry-holds}
-use Rattle.ttp_world.proofs.Slots.{node_of-slot_after, entry_of-row_in}
-use Rattle.controller.specs.Passes.{delivered_at}
 use Rattle.controller.specs.ControllerWithin.{IsPossible}
 use Rattle.controller.proofs.Endings.{possible-at}
+use Rattle.ttp_world.specs.declared.node.Entry.TheVariants as entry
+use Rattle.ttp_world.specs.declared.node.Verdict.TheVariants as verdict
 
 pub record IsDeliverable (list : Medl) (k : ℕ) (d : Delivered) : Type 0 where
   pub other : d.sender ≢ k
@@ -45,13 +28,8 @@ judged : (list : Medl) (k : ℕ) (past : NodePast) (h : Hearing) (v : Verdict) (
     → (v ≡ verdict.Correct
     → length (payload_taken list (expected_of list k past) h) ≡ expected_length list (coming_place list past))
     → IfSome (delivery list k past h (verdict_entry (coming_place list past).slot v deviation)) (IsDeliverable list k)
-judged list k past h verdict.Denied deviation other size = tt
-judged list k past h verdict.Null deviation other size = tt
-judged list k past h verdict.Invalid deviation other size = tt
-judged list k past h verdict.Incorrect deviation other size = tt
-judged list k past h verdict.Tentative deviation other size = tt
-judged list k past h verdict.Correct deviation other size =
-    grind (arith, common_steps, nat_tests)
+judged list k past h verdict.Correct deviation other size = grind steps
+judged list k past h v deviation other size = tt
 
 joined_nothing : (list : Medl) (k : ℕ) (past : NodePast) (h : Hearing) (c : Option CState)
     → IfSome c (λ c. (d : ℤ) → IfSome (delivery list k past h (entry.Joined c.slot c d)) (IsDeliverable list k))
@@ -61,12 +39,6 @@ joined_nothing list k past h (Some c) = λ d. tt
 made : (list : Medl) (k : ℕ) (past : NodePast) (chosen : Chosen) (h : Hearing) (does : Act)
     → (does ≡ Judge → (coming_place list past).slot ≢ k)
     → IfSome (delivery list k past h (new_entry list k past chosen h does)) (IsDeliverable list k)
-made list k past chosen h Off judges = tt
-made list k past chosen h Gone judges = tt
-made list k past chosen h Start judges = tt
-made list k past chosen h Retry judges = tt
-made list k past chosen h (Leave why) judges = tt
-made list k past chosen h Send judges = tt
 made list k past chosen h Listen judges =
     listening_entry-holds (λ e. IfSome (delivery list k past h e) (IsDeliverable list k)) list h tt
     (λ bytes. joined_nothing list k past h (joinable list bytes))
@@ -74,8 +46,8 @@ made list k past chosen h Judge judges =
     let expected = expected_of list k past in
     judged list k past h
     (verdict_of (view_of list expected h.deviation h.a) (view_of list expected h.deviation h.b) past.ack)
-    _ (judges refl)
-    (taken_size list expected h past.ack)
+    _ (judges refl) (taken_size list expected h past.ack)
+made list k past chosen h does judges = tt
 
 -- The world's slot.
 
@@ -98,8 +70,7 @@ judges_other list script history k judges =
     (λ x can is. possible-at list k past Judge (subst (IsPossible list k past) is can))
 
 pub delivered-deliverable : (list : Medl) (script : Script) (history : History) (chosen : List Chosen) (r : ℕ)
-    → r < length list.slots
-    → IfSome (delivered_at (slot_after list script history) chosen r) (IsDeliverable list r)
+    → r < length list.slots → IfSome (delivered_at (slot_after list script history) chosen r) (IsDeliverable list r)
 delivered-deliverable list script history chosen r node =
     let s = slot_after list script history in
     let h = hearing_in s (frames_in s chosen) r in
@@ -116,22 +87,14 @@ pub record SendsOwn (list : Medl) (past : NodePast) (does : Act) : Type 0 where
   pub sends : does ≡ Send
   pub carries : carries_payload list (coming_place list past) ≡ true
 
-sends_own : (list : Medl) (past : NodePast) (does : Act) → sends_payload list past does ≡ true
-    → SendsOwn list past does
+sends_own : (list : Medl) (past : NodePast) (does : Act) → sends_payload list past does ≡ true → SendsOwn list past does
 sends_own list past Send is = record { sends = refl; carries = is }
-sends_own list past Off is = absurd cc
-sends_own list past Gone is = absurd cc
-sends_own list past Listen is = absurd cc
-sends_own list past Start is = absurd cc
-sends_own list past Retry is = absurd cc
-sends_own list past (Leave why) is = absurd cc
-sends_own list past Judge is = absurd cc
+sends_own list past does is = absurd cc
 
 loaded_node : (list : Medl) (script : Script) (history : History) (k : ℕ)
     → sends_payload list (node_after list script history k).past (node_after list script history k).act ≡ true
     → 1 ≤ (plan_at list k).payload
-loaded_node list script history k loaded =
-    grind (arith, common_steps, nat_tests, carries, possible, possible-at, sends_own)
+loaded_node list script history k loaded = grind (steps, carries, possible, possible-at, sends_own)
 
 pub loaded-payload : (list : Medl) (script : Script) (history : History) (k : ℕ) → k < length list.slots
     → is_loaded (slot_after list script history) k ≡ true → 1 ≤ (plan_at list k).payload

@@ -1,23 +1,12 @@
 -- The nodes in two parts, one after the other: what is ready for the end of a slot, and what has ended it.
-use Rattle.std.proofs.lemmas.Bool.Decides.{nat_tests}
-use Rattle.std.proofs.lemmas.Grind.{common_steps}
-use Rattle.std.proofs.Common.{◌≡◌, ℕ, ◌+◌, ◌-◌, ◌<◌, List, [], ◌++◌, length, map, get_or, take, drop}
-use Rattle.std.proofs.Common.{None, sym, ap, subst, ◌∙◌, ⊎_elim, arith, length-append}
-use Rattle.std.proofs.lemmas.Bool.{cases_lt}
-use Rattle.std.proofs.lemmas.List.{map-append, length-map, get_or-append-add, take-append-drop}
+use Rattle.cluster_run.proofs.Words.{◌≡◌, ℕ, ◌+◌, ◌-◌, ◌<◌, List, [], ◌++◌, length, map, get_or, take, drop, None, sym}
+use Rattle.cluster_run.proofs.Words.{ap, subst, ◌∙◌, arith, cases_lt, map-append, length-map, take-append-drop, Medl}
+use Rattle.cluster_run.proofs.Words.{Script, slot_after, delivered_at, no_outcome, outcomes_of, Seat, ControllerState}
+use Rattle.cluster_run.proofs.Words.{Desk, MayHandOn, HasPartEnded, handed_on, number_handed, outcome_of, rings_of}
+use Rattle.cluster_run.proofs.Words.{end_at, desk_ends, desk_numbers, steps, ⊎_elim, get_or-append-add, each-front}
+use Rattle.cluster_run.proofs.Words.{each-back, each-joined, IsPartReady}
+use Rattle.std.proofs.Common.{length-append}
 use Rattle.medium.specs.Carried.{Carried}
-use Rattle.ttp_world.specs.declared.medl.Medl.{Medl}
-use Rattle.ttp_world.specs.declared.script.Script.{Script}
-use Rattle.ttp_world.specs.World.{slot_after}
-use Rattle.controller.specs.Passes.{delivered_at}
-use Rattle.controller.specs.PlantStands.{no_outcome, outcomes_of}
-use Rattle.controller.specs.declared.seat.Seat.{Seat}
-use Rattle.controller.proofs.Parts.{each-front, each-back, each-joined}
-use Rattle.host_port.specs.Rings.{ControllerState}
-use Rattle.cluster_run.specs.declared.nodes.Desk.{Desk}
-use Rattle.cluster_run.specs.Ending.{MayHandOn, IsPartReady, HasPartEnded, handed_on, number_handed}
-use Rattle.cluster_run.specs.Ending.{outcome_of}
-use Rattle.cluster_run.specs.Ends.{rings_of, end_at, desk_ends, desk_numbers}
 
 -- the first ones of a list, so many, and the others
 pub record AreParts {X : Type 0} (half : ℕ) (whole front back : List X) : Type 0 where
@@ -37,8 +26,7 @@ parts_length {front = front} {back = back} parts =
 -- what is at a place of a part
 at_front : {X : Type 0} {half : ℕ} {whole front back : List X} (d : X) (j : ℕ) → AreParts half whole front back
     → j < half → get_or whole j d ≡ get_or front j d
-at_front {front = front} {back = back} d j parts less =
-    grind (arith, common_steps, nat_tests)
+at_front {front = front} {back = back} d j parts less = grind steps
 
 at_back : {X : Type 0} {half : ℕ} {whole front back : List X} (d : X) (j : ℕ) → AreParts half whole front back
     → get_or whole (half + j) d ≡ get_or back j d
@@ -53,8 +41,7 @@ mapped f {front = front} {back = back} parts =
 
 -- as many desks have as many rings
 pub same_many : (xs ys : List Desk) → map rings_of (desk_ends xs) ≡ map rings_of (desk_ends ys) → length xs ≡ length ys
-same_many xs ys same =
-    grind (arith, common_steps, nat_tests)
+same_many xs ys same = grind steps
 
 -- The parts of all that the end of a slot works on.
 module _ {half : ℕ} {ss ss1 ss2 : List Seat} {ds ds1 ds2 : List Desk} (c : AreParts half ss ss1 ss2)
@@ -113,8 +100,7 @@ module _ {half : ℕ} {ss ss1 ss2 : List Seat} {ds ds1 ds2 : List Desk} (c : Are
           hands_on = λ j near.
               let at : 0 + (half + j) ≡ half + j = omega arith in
               subst (λ (end : ControllerState). MayHandOn end
-              (delivered_at (slot_after l sc may.history) may.chosen (half + j)))
-              (at_back [] j e)
+              (delivered_at (slot_after l sc may.history) may.chosen (half + j))) (at_back [] j e)
               (subst (λ k. MayHandOn (end_at (desk_ends ds) (half + j))
               (delivered_at (slot_after l sc may.history) may.chosen k))
               at (may.hands_on (half + j) (omega (arith, near, parts_length e))));
@@ -123,9 +109,8 @@ module _ {half : ℕ} {ss ss1 ss2 : List Seat} {ds ds1 ds2 : List Desk} (c : Are
 
   -- where both parts have ended, the whole has
   pub both_ended : {l : Medl} {sc : Script} {carried : Carried} {ss' ss1' ss2' : List Seat} {ds' ds1' ds2' : List Desk}
-      → ss' ≡ ss1' ++ ss2' → ds' ≡ ds1' ++ ds2'
-      → HasPartEnded l sc carried 0 ss1 ss1' ds1 ds1' → HasPartEnded l sc carried half ss2 ss2' ds2 ds2'
-      → HasPartEnded l sc carried 0 ss ss' ds ds'
+      → ss' ≡ ss1' ++ ss2' → ds' ≡ ds1' ++ ds2' → HasPartEnded l sc carried 0 ss1 ss1' ds1 ds1'
+      → HasPartEnded l sc carried half ss2 ss2' ds2 ds2' → HasPartEnded l sc carried 0 ss ss' ds ds'
   both_ended {ss' = ss'} {ss1' = ss1'} {ss2' = ss2'} {ds' = ds'} {ds1' = ds1'} {ds2' = ds2'} c' d' front back =
       let seats : AreParts half ss' ss1' ss2' = record { is = c'; count = front.count ∙ c.count } in
       let outcomes : AreParts half (outcomes_of ss') (outcomes_of ss1') (outcomes_of ss2') =
@@ -149,37 +134,28 @@ module _ {half : ℕ} {ss ss1 ss2 : List Seat} {ds ds1 ds2 : List Desk} (c : Are
               stand = rw c' (each-joined next first.stand second.stand);
               left = rw c' (each-joined next first.left second.left);
             };
-        rings =
-            ap (map rings_of) after.is ∙ map-append rings_of (desk_ends ds1') (desk_ends ds2')
-            ∙ (λ i. front.rings i ++ back.rings i)
-            ∙ sym (map-append rings_of (desk_ends ds1) (desk_ends ds2))
+        rings = ap (map rings_of) after.is ∙ map-append rings_of (desk_ends ds1') (desk_ends ds2')
+            ∙ (λ i. front.rings i ++ back.rings i) ∙ sym (map-append rings_of (desk_ends ds1) (desk_ends ds2))
             ∙ ap (map rings_of) (sym e.is);
         handed = record {
           ends = λ j near. ⊎_elim
-              (λ less.
-              at_front [] j after less
-              ∙ front.handed.ends j (omega (arith, less, e.count))
+              (λ less. at_front [] j after less ∙ front.handed.ends j (omega (arith, less, e.count))
               ∙ (λ i. handed_on (sym (at_front [] j e less) i) (sym (at_front no_outcome j outcomes less) i)))
               (λ more.
               let at : half + (j - half) ≡ j = omega (arith, more) in
               let within : j - half < length (desk_ends ds2) = omega (arith, near, more, parts_length e) in
-              ap (end_at (desk_ends ds')) (sym at)
-              ∙ at_back [] (j - half) after
-              ∙ back.handed.ends (j - half) within
+              ap (end_at (desk_ends ds')) (sym at) ∙ at_back [] (j - half) after ∙ back.handed.ends (j - half) within
               ∙ (λ i. handed_on (sym (at_back [] (j - half) e) i) (sym (at_back no_outcome (j - half) outcomes) i))
               ∙ (λ i. handed_on (end_at (desk_ends ds) (at i)) (outcome_of (outcomes_of ss') (at i))))
               (cases_lt j half);
           numbers_are = λ j near. ⊎_elim
-              (λ less.
-              at_front None j told less
-              ∙ front.handed.numbers_are j (omega (arith, less, e.count))
+              (λ less. at_front None j told less ∙ front.handed.numbers_are j (omega (arith, less, e.count))
               ∙ (λ i. number_handed (sym (at_front [] j e less) i)
               (sym (at_front no_outcome j outcomes less) i).delivered))
               (λ more.
               let at : half + (j - half) ≡ j = omega (arith, more) in
               let within : j - half < length (desk_ends ds2) = omega (arith, near, more, parts_length e) in
-              ap (λ (k : ℕ). get_or (desk_numbers ds') k None) (sym at)
-              ∙ at_back None (j - half) told
+              ap (λ (k : ℕ). get_or (desk_numbers ds') k None) (sym at) ∙ at_back None (j - half) told
               ∙ back.handed.numbers_are (j - half) within
               ∙ (λ i. number_handed (sym (at_back [] (j - half) e) i)
               (sym (at_back no_outcome (j - half) outcomes) i).delivered)

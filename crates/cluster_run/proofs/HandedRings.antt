@@ -1,36 +1,18 @@
 -- What a slot hands on is in the rings of the world after it.
-use Rattle.std.proofs.lemmas.Bool.Decides.{nat_tests}
-use Rattle.std.proofs.lemmas.Grind.{common_steps}
-use Rattle.std.proofs.Common.{◌≡◌, ◌≢◌, ℕ, List, [], ◌∷◌, ◌++◌, length, map}
-use Rattle.std.proofs.Common.{Option, Some, None, IsSomeAnd, cond, is_some, refl, sym, ap, subst, ◌∙◌, arith}
+use Rattle.cluster_run.proofs.Words.{◌≡◌, ◌≢◌, ℕ, List, [], ◌∷◌, ◌++◌, length, map, Option, Some, None, IsSomeAnd}
+use Rattle.cluster_run.proofs.Words.{is_some, refl, sym, ap, subst, ◌∙◌, arith, map-append, get_or-set_other, Message}
+use Rattle.cluster_run.proofs.Words.{Shape, WriterState, Medl, Delivered, Entry, Script, Source, History, delivered_of}
+use Rattle.cluster_run.proofs.Words.{new_messages, ring_messages, status_words, words_of_payload, node_past, Outcome}
+use Rattle.cluster_run.proofs.Words.{ControllerState, at_source, incoming_shape, place_of, written, written_at}
+use Rattle.cluster_run.proofs.Words.{delivered_to, handed_on, IsRing, IsRingOf, ring_words, words_read, steps}
 use Rattle.std.proofs.Common.{length-append}
-use Rattle.std.proofs.lemmas.Bool.{eq-eqb, ne_eqb}
-use Rattle.std.proofs.lemmas.List.{map-append, get_or-set_other}
-use Rattle.nbw_ring.specs.declared.view.Message.{Message}
-use Rattle.nbw_ring.specs.declared.view.Shape.{Shape}
-use Rattle.nbw_ring.specs.States.{WriterState}
-use Rattle.ttp_world.specs.declared.medl.Medl.{Medl}
-use Rattle.ttp_world.specs.declared.node.Delivered.{Delivered}
-use Rattle.ttp_world.specs.declared.node.Entry.{Entry}
-use Rattle.ttp_world.specs.declared.script.Script.{Script}
-use Rattle.ttp_world.specs.declared.script.Source.{Source}
 use Rattle.ttp_world.specs.declared.script.Source.TheVariants as source
-use Rattle.ttp_world.specs.Diary.{History}
-use Rattle.ttp_world.specs.Messages.{delivered_of, new_messages, ring_messages, status_words}
-use Rattle.ttp_world.specs.Words.{words_of_payload}
-use Rattle.ttp_world.specs.World.{node_past}
-use Rattle.controller.specs.declared.controller.Outcome.{Outcome}
-use Rattle.host_port.specs.Rings.{ControllerState, at_source, incoming_shape, place_of}
-use Rattle.host_port.specs.Writing.{written, written_at}
-use Rattle.cluster_run.specs.Ending.{delivered_to, handed_on}
-use Rattle.cluster_run.specs.Rings.{IsRing, IsRingOf, ring_words, words_read}
 
 -- The ring that is written, and the others.
 
 at_written : (end : ControllerState) (from : Source) (words : List ℕ)
     → at_source (written_at end from words) from ≡ written (at_source end from) words
-at_written end from words =
-    grind (arith, common_steps, nat_tests)
+at_written end from words = grind steps
 
 at_other : (end : ControllerState) (from other : Source) (words : List ℕ) → place_of other ≢ place_of from
     → at_source (written_at end from words) other ≡ at_source end other
@@ -62,33 +44,18 @@ more_words from before message = map-append (ring_words from) before (message �
 
 -- What was delivered.
 
--- the rings of other sources than the one that was delivered stay
-delivered_stays : (end : ControllerState) (d : Delivered) (p : ℕ) → d.sender ≢ p
-    → at_source (delivered_to end (Some d)) (source.Node p) ≡ at_source end (source.Node p)
-delivered_stays end d p other =
-    grind (arith, common_steps, nat_tests)
-
-new_from : (d : Delivered) (p : ℕ) → d.sender ≡ p → new_messages p (Some d) ≡ d.payload ∷ []
-new_from d p same = ap (λ b. cond b (d.payload ∷ []) []) (eq-eqb d.sender p same)
-
-new_other : (d : Delivered) (p : ℕ) → d.sender ≢ p → new_messages p (Some d) ≡ []
-new_other d p other = ap (λ b. cond b (d.payload ∷ []) []) (ne_eqb d.sender p other)
-
 delivered_ring : (shape : Option Shape) (before : List (List ℕ)) (pairs : List Message) (end : ControllerState)
     (delivered : Option Delivered) (p : ℕ)
     → IsRingOf shape (map words_of_payload before) pairs (at_source end (source.Node p))
     → IsRingOf shape (map words_of_payload (before ++ new_messages p delivered)) pairs
     (at_source (delivered_to end delivered) (source.Node p))
-delivered_ring shape before pairs end None p ring =
-    grind (arith, common_steps, nat_tests)
-delivered_ring shape before pairs end (Some d) p ring =
-    grind (arith, common_steps, nat_tests)
+delivered_ring shape before pairs end None p ring = grind steps
+delivered_ring shape before pairs end (Some d) p ring = grind steps
 
 status_stays : (end : ControllerState) (delivered : Option Delivered)
     → at_source (delivered_to end delivered) source.Status ≡ at_source end source.Status
 status_stays end None = refl
-status_stays end (Some d) =
-    grind (arith, common_steps, nat_tests)
+status_stays end (Some d) = grind steps
 
 -- What is handed on: a slot's payload and status, in the rings of the world with one row more.
 
@@ -108,8 +75,7 @@ pub handed_ring : {list : Medl} {script : Script} {row : List Entry} {before : H
 handed_ring {list} {script} {row} {before} {k} {outcome} source.Status pairs end handed ring =
     let after = delivered_to end outcome.delivered in
     let here : at_source (handed_on end outcome) source.Status
-    ≡ written (at_source end source.Status) outcome.status.words =
-    at_written after source.Status outcome.status.words
+    ≡ written (at_source end source.Status) outcome.status.words = at_written after source.Status outcome.status.words
     ∙ ap (λ w. written w outcome.status.words) (status_stays end outcome.delivered) in
     let messages : words_read list script (row ∷ before) k source.Status
     ≡ words_read list script before k source.Status ++ outcome.status.words ∷ [] =

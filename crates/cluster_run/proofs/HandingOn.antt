@@ -1,25 +1,15 @@
 -- Controllers hand on what a slot left, one after another.
-use Rattle.std.proofs.lemmas.Bool.Decides.{nat_tests}
-use Rattle.std.proofs.lemmas.Grind.{common_steps}
-use Rattle.std.proofs.Common.{◌≡◌, ℕ, zero, suc, ◌+◌, ◌<◌, ◌≤◌, List, [], ◌∷◌, length, map, set, get_or}
-use Rattle.std.proofs.Common.{Option, Some, None, IsSomeAnd, refl, sym, ap, ◌∙◌, arith, length-append}
+use Rattle.cluster_run.proofs.Words.{◌≡◌, ℕ, zero, suc, ◌+◌, ◌<◌, ◌≤◌, List, [], ◌∷◌, length, map, set, get_or, Option}
+use Rattle.cluster_run.proofs.Words.{Some, None, IsSomeAnd, refl, sym, ap, ◌∙◌, arith, get_or-set_same, map-set}
+use Rattle.cluster_run.proofs.Words.{set-get_or, WriterState, Delivered, Source, words_of_payload, Outcome}
+use Rattle.cluster_run.proofs.Words.{ControllerState, place_of, at_source, written, written_at, HasRoom, IsNewest, Desk}
+use Rattle.cluster_run.proofs.Words.{HaveHandedOn, delivered_to, handed_on, number_handed, outcome_of, rings_of}
+use Rattle.cluster_run.proofs.Words.{desk_ends, desk_numbers, message_count, steps, written_ring, ring_of}
+use Rattle.std.proofs.Common.{length-append}
 use Rattle.std.proofs.Math.ListN.{get_or-map}
-use Rattle.std.proofs.lemmas.List.{get_or-set_same, map-set, set-get_or}
-use Rattle.nbw_ring.specs.States.{WriterState}
-use Rattle.ttp_world.specs.declared.node.Delivered.{Delivered}
-use Rattle.ttp_world.specs.declared.script.Source.{Source}
-use Rattle.ttp_world.specs.declared.script.Source.TheVariants as source
-use Rattle.ttp_world.specs.Words.{words_of_payload}
-use Rattle.controller.specs.declared.controller.Outcome.{Outcome}
-use Rattle.host_port.proofs.ReaderLists.{written_ring}
-use Rattle.host_port.specs.Rings.{ControllerState, place_of, at_source}
-use Rattle.host_port.specs.Writing.{written, written_at, HasRoom, IsNewest}
-use Rattle.cluster_run.specs.declared.nodes.Desk.{Desk}
-use Rattle.cluster_run.specs.Ending.{HaveHandedOn, delivered_to, handed_on, number_handed, outcome_of}
-use Rattle.cluster_run.specs.Ends.{ring_of, rings_of, desk_ends, desk_numbers}
-use Rattle.cluster_run.specs.Sending.{message_count}
 use Rattle.cluster_run.proofs.Changes.{AreChanged, changed_more}
 use Rattle.cluster_run.proofs.Places.{read_alike}
+use Rattle.ttp_world.specs.declared.script.Source.TheVariants as source
 
 -- The number of a message that was just written.
 
@@ -36,8 +26,7 @@ newest_of_written (Some w) words n newest = omega (arith, newest, length-append 
 
 pub number_written : (end : ControllerState) (from : Source) (words : List ℕ) (n : ℕ) → HasRoom (at_source end from)
     → IsNewest (at_source (written_at end from words) from) n → n ≡ message_count (at_source end from)
-number_written end from words n room newest =
-    grind (arith, common_steps, nat_tests, get_or-set_same, newest_of_written, some_within)
+number_written end from words n room newest = grind (steps, get_or-set_same, newest_of_written, some_within)
 
 rings_written : (end : ControllerState) (from : Source) (words : List ℕ)
     → rings_of (written_at end from words) ≡ rings_of end
@@ -45,8 +34,7 @@ rings_written end from words =
     let i = place_of from in
     map-set ring_of end i (written (get_or end i None) words)
     ∙ ap (set (map ring_of end) i) (written_ring (get_or end i None) words)
-    ∙ sym (map-set ring_of end i (get_or end i None))
-    ∙ ap (map ring_of) (set-get_or end i None)
+    ∙ sym (map-set ring_of end i (get_or end i None)) ∙ ap (map ring_of) (set-get_or end i None)
 
 rings_delivered : (end : ControllerState) (delivered : Option Delivered)
     → rings_of (delivered_to end delivered) ≡ rings_of end
@@ -55,8 +43,7 @@ rings_delivered end (Some got) = rings_written end (source.Node got.sender) (wor
 
 -- what is handed on changes no ring
 pub rings_handed : (end : ControllerState) (outcome : Outcome) → rings_of (handed_on end outcome) ≡ rings_of end
-rings_handed end outcome =
-    rings_written (delivered_to end outcome.delivered) source.Status outcome.status.words
+rings_handed end outcome = rings_written (delivered_to end outcome.delivered) source.Status outcome.status.words
     ∙ rings_delivered end outcome.delivered
 
 -- no desk
@@ -77,18 +64,14 @@ pub handed_more : {outcomes : List Outcome} {k : ℕ} {old desks : List Desk} (d
     → AreHandedOn outcomes k old desks → k < length desks → desk ≡ get_or desks k desk → HandsOn outcomes k desk new
     → AreHandedOn outcomes (k + 1) old (set desks k new)
 handed_more {outcomes} {k} {old} {desks} desk new so near here by = record {
-  rings =
-      ap (map rings_of) (map-set (λ (d : Desk). d.end) desks k new)
+  rings = ap (map rings_of) (map-set (λ (d : Desk). d.end) desks k new)
       ∙ read_alike rings_of (desk_ends desks) k desk.end new.end
       (ap (λ (d : Desk). d.end) here ∙ sym (get_or-map (λ (d : Desk). d.end) desks k desk))
-      (ap rings_of by.end_is ∙ rings_handed desk.end (outcome_of outcomes k))
-      ∙ so.rings;
+      (ap rings_of by.end_is ∙ rings_handed desk.end (outcome_of outcomes k)) ∙ so.rings;
   changed = changed_more desk new so.changed near here by;
 }
 
 -- all have
 pub have_handed_on : {outcomes : List Outcome} {k : ℕ} {old desks : List Desk} → length old ≤ k
-    → AreHandedOn outcomes k old desks
-    → HaveHandedOn outcomes (desk_ends old) (desk_ends desks) (desk_numbers desks)
-have_handed_on {outcomes} {k} {old} {desks} all so =
-    grind (arith, common_steps, nat_tests)
+    → AreHandedOn outcomes k old desks → HaveHandedOn outcomes (desk_ends old) (desk_ends desks) (desk_numbers desks)
+have_handed_on {outcomes} {k} {old} {desks} all so = grind steps

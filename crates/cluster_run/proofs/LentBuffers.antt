@@ -1,54 +1,32 @@
 -- How many buffers the rings have that are lent in a slot.
-use Rattle.std.proofs.lemmas.Bool.Decides.{nat_tests}
-use Rattle.std.proofs.lemmas.Grind.{common_steps}
-use Rattle.std.proofs.Common.{◌≡◌, ℕ, Bool, true, false, cond, List, length, Option, Some, None, option_map}
-use Rattle.std.proofs.Common.{inl, inr, refl, sym, ap, ◌∙◌, arith}
-use Rattle.std.specs.Prelude.{◌==◌}
-use Rattle.std.proofs.lemmas.Bool.{cases_lt}
-use Rattle.std.proofs.lemmas.List.{get_or_past}
-use Rattle.std.proofs.lemmas.Option.{none-some, same_Some}
-use Rattle.nbw_ring.specs.declared.view.Message.{Message}
-use Rattle.nbw_ring.specs.declared.view.Shape.{Shape}
-use Rattle.nbw_ring.specs.States.{WriterState, ReaderState, new_reader}
-use Rattle.ttp_world.specs.declared.medl.Medl.{Medl}
-use Rattle.ttp_world.specs.declared.script.Source.{Source}
-use Rattle.ttp_world.specs.declared.script.Source.TheVariants as source
-use Rattle.ttp_world.specs.Script.{reads_in}
-use Rattle.ttp_world.specs.World.{Numbers}
-use Rattle.host_port.specs.Reading.{ReadersState, reads_from, lent}
-use Rattle.host_port.specs.Rings.{ControllerState, at_source, shape_of, incoming_shape}
-use Rattle.cluster_run.specs.declared.current.CurrentSlot.{CurrentSlot}
-use Rattle.cluster_run.specs.Ends.{end_at}
-use Rattle.cluster_run.specs.Reading.{readers_at, reader_in, ReadBuffers}
-use Rattle.cluster_run.specs.Rings.{IsRingOf}
+use Rattle.cluster_run.proofs.Words.{◌≡◌, ℕ, Bool, true, false, cond, List, length, Option, Some, None, option_map, inl, inr}
+use Rattle.cluster_run.proofs.Words.{refl, sym, ap, ◌∙◌, arith, ◌==◌, cases_lt, get_or_past, none-some, same_Some}
+use Rattle.cluster_run.proofs.Words.{Message, Shape, WriterState, ReaderState, new_reader, Medl, Source, reads_in}
+use Rattle.cluster_run.proofs.Words.{Numbers, ReadersState, reads_from, lent, ControllerState, at_source, shape_of}
+use Rattle.cluster_run.proofs.Words.{incoming_shape, CurrentSlot, end_at, readers_at, reader_in, ReadBuffers, IsRingOf}
+use Rattle.cluster_run.proofs.Words.{steps}
 use Rattle.cluster_run.proofs.LentReaders.{AreLentFor}
 use Rattle.cluster_run.proofs.RingReads.{HasBuffers}
-
-sized_if : (buffers : ℕ) (b : Bool) (shape : Option Shape) → HasBuffers buffers shape
-    → HasBuffers buffers (cond b None shape)
-sized_if buffers true shape sized = λ s none. absurd (none-some s none)
-sized_if buffers false shape sized = sized
+use Rattle.ttp_world.specs.declared.script.Source.TheVariants as source
 
 sized_shape : (list : Medl) (width : ℕ) → HasBuffers list.buffers (Some (shape_of list width))
 sized_shape list width = λ s is. ap (λ (x : Shape). x.buffers) (same_Some s (shape_of list width) (sym is))
 
 pub sized_ring : (list : Medl) (k : ℕ) (from : Source) → HasBuffers list.buffers (incoming_shape list k from)
 sized_ring list k source.Status = sized_shape list 4
-sized_ring list k (source.Node p) =
-    grind (arith, common_steps, nat_tests)
+sized_ring list k (source.Node p) = grind steps
 
 -- A reader that is lent has its ring's number.
-lent_sized : (buffers n : ℕ) (shape : Option Shape) (messages : List (List ℕ)) (pairs : List Message)
+lent_sized : (messages : List (List ℕ)) (pairs : List Message) (buffers n : ℕ) (shape : Option Shape)
     (w : Option WriterState) (unread : Bool) (r : ReaderState) → HasBuffers buffers shape
     → IsRingOf shape messages pairs w → cond unread None (option_map (λ (v : WriterState). new_reader v n) w) ≡ Some r
     → r.ring.shape.buffers ≡ buffers
-lent_sized buffers n shape messages pairs w true r sized ring is = absurd (none-some r is)
-lent_sized buffers n shape messages pairs None false r sized ring is = absurd (none-some r is)
-lent_sized buffers n None messages pairs (Some w) false r sized ring is = absurd (none-some w (sym ring))
-lent_sized buffers n (Some shape) messages pairs (Some w) false r sized ring is =
+lent_sized messages pairs buffers n shape w true r sized ring is = absurd (none-some r is)
+lent_sized messages pairs buffers n shape None false r sized ring is = absurd (none-some r is)
+lent_sized messages pairs buffers n None (Some w) false r sized ring is = absurd (none-some w (sym ring))
+lent_sized messages pairs buffers n (Some shape) (Some w) false r sized ring is =
     ap (λ (x : ReaderState). x.ring.shape.buffers) (sym (same_Some (new_reader w n) r is))
-    ∙ ap (λ (s : Shape). s.buffers) ring.shape_is
-    ∙ sized shape refl
+    ∙ ap (λ (s : Shape). s.buffers) ring.shape_is ∙ sized shape refl
 
 reader_there : (o : Option ReadersState) (from : Source) (r : ReaderState) → reader_in o from ≡ Some r
     → (x : ReadersState) × (o ≡ Some x)
@@ -68,7 +46,7 @@ lent_buffers {at = at} {ends = ends} {readers = readers} are k from r is =
           let lent_is : lent w n ≡ Some r =
           sym ((are.lent.each k (omega (arith, near, are.ends_count)) there.0 there.1).readers from)
           ∙ ap (λ (o : Option ReadersState). reader_in o from) (sym there.1) ∙ is in
-          lent_sized list.buffers n (incoming_shape list k from) _ _ w (n == 0) r (sized_ring list k from)
+          lent_sized _ _ list.buffers n (incoming_shape list k from) w (n == 0) r (sized_ring list k from)
           (are.rings k near from) lent_is
       | inr past ↦
           absurd (none-some there.0 (sym (get_or_past readers k None (omega (arith, past, are.count))) ∙ there.1))

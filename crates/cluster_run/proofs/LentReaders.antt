@@ -1,22 +1,9 @@
 -- Readers are lent to hosts, one after another.
-use Rattle.std.proofs.lemmas.Bool.Decides.{nat_tests}
-use Rattle.std.proofs.lemmas.Grind.{common_steps}
-use Rattle.std.proofs.Common.{◌≡◌, ℕ, ◌+◌, ◌<◌, List, [], ◌∷◌, ◌++◌, length, Option, None, is_some, sym, ◌∙◌, subst}
-use Rattle.std.proofs.Common.{arith, below_more}
-use Rattle.std.specs.Option.{ForSome}
-use Rattle.std.proofs.lemmas.List.{get_or_append_left, get_or_push}
-use Rattle.ttp_world.specs.declared.host_lines.HostRead.{HostRead}
-use Rattle.ttp_world.specs.declared.script.Source.{Source}
-use Rattle.ttp_world.specs.Script.{reads_in}
-use Rattle.ttp_world.specs.World.{Numbers}
-use Rattle.host_port.specs.Reading.{ReadersState, AreReadersOfEnd}
-use Rattle.host_port.specs.Rings.{ControllerState}
-use Rattle.cluster_run.specs.declared.current.CurrentSlot.{CurrentSlot}
-use Rattle.cluster_run.specs.declared.nodes.Nodes.{Nodes}
-use Rattle.cluster_run.specs.Ends.{desk_ends, end_at}
-use Rattle.cluster_run.specs.Reading.{AreLentTo, AreReadersLent, AreReadersOfAll, has_reads, readers_at}
-use Rattle.cluster_run.specs.Slots.{MayEndSlot}
-use Rattle.cluster_run.specs.Standing.{HoldsRead}
+use Rattle.cluster_run.proofs.Words.{◌≡◌, ℕ, ◌+◌, ◌<◌, List, [], ◌∷◌, ◌++◌, length, Option, None, is_some, sym, ◌∙◌}
+use Rattle.cluster_run.proofs.Words.{subst, arith, below_more, ForSome, get_or_append_left, get_or_push, HostRead}
+use Rattle.cluster_run.proofs.Words.{Source, reads_in, Numbers, ReadersState, AreReadersOfEnd, ControllerState}
+use Rattle.cluster_run.proofs.Words.{CurrentSlot, Nodes, desk_ends, end_at, AreLentTo, AreReadersLent, AreReadersOfAll}
+use Rattle.cluster_run.proofs.Words.{has_reads, readers_at, MayEndSlot, HoldsRead, steps}
 
 -- what is lent to node k's host
 pub record IsLentAt (reads : List HostRead) (ends : List ControllerState) (k : ℕ) (readers : Option ReadersState)
@@ -36,13 +23,11 @@ lent_at reads ends k readers end at there each own = record {
 
 -- to the hosts of the first nodes, so many
 pub lent_more : (reads : List HostRead) (ends : List ControllerState) (k : ℕ) (readers : List (Option ReadersState))
-    (new : Option ReadersState) → length readers ≡ k
-    → ((i : ℕ) → i < k → IsLentAt reads ends i (readers_at readers i)) → IsLentAt reads ends k new
-    → (i : ℕ) → i < k + 1 → IsLentAt reads ends i (readers_at (readers ++ new ∷ []) i)
+    (new : Option ReadersState) → length readers ≡ k → ((i : ℕ) → i < k → IsLentAt reads ends i (readers_at readers i))
+    → IsLentAt reads ends k new → (i : ℕ) → i < k + 1 → IsLentAt reads ends i (readers_at (readers ++ new ∷ []) i)
 lent_more reads ends k readers new count lent last =
     below_more (λ i. IsLentAt reads ends i (readers_at (readers ++ new ∷ []) i)) k
-    (λ i near.
-    subst (IsLentAt reads ends i)
+    (λ i near. subst (IsLentAt reads ends i)
     (sym (get_or_append_left readers (new ∷ []) None i (omega (arith, near, count)))) (lent i near))
     (subst (IsLentAt reads ends k) (sym (get_or_push readers new None k count)) last)
 
@@ -75,5 +60,4 @@ pub all_lent_for : {at : CurrentSlot} {readers : List (Option ReadersState)} (no
     → AreReadersOfAll (desk_ends nodes.desks.items) readers
     → AreReadersLent (reads_in at.script.now at.slot) (desk_ends nodes.desks.items) readers
     → AreLentFor at may.numbers (desk_ends nodes.desks.items) readers
-all_lent_for nodes may own lent =
-    grind (arith, common_steps, nat_tests)
+all_lent_for nodes may own lent = grind steps

@@ -1,3 +1,4 @@
+pub mod Words
 pub mod NewNodes
 pub mod NewRings
 pub mod NewClusters

@@ -1,31 +1,15 @@
 -- The lines of a slot's reads: what each host and source got, seen over all lines.
-use Rattle.std.proofs.lemmas.Bool.Decides.{nat_tests}
-use Rattle.std.proofs.lemmas.Grind.{common_steps}
-use Rattle.std.proofs.Common.{◌≡◌, ℕ, ◌+◌, ◌≤◌, Bool, true, false, cond, not, ◌&&◌, ◌||◌, List, []}
-use Rattle.std.proofs.Common.{◌∷◌, ◌++◌, map, refl, ap, ◌∙◌, subst}
-use Rattle.std.proofs.Common.{arith}
-use Rattle.std.specs.Prelude.{◌==◌, nat_le, reverse}
-use Rattle.std.specs.List.{AllByRecursion, list_all}
-use Rattle.std.proofs.lemmas.Bool.{and_parts, le-leb}
-use Rattle.std.proofs.lemmas.List.{reverse-append}
+use Rattle.cluster_run.proofs.Words.{◌≡◌, ℕ, ◌+◌, ◌≤◌, Bool, true, false, cond, ◌&&◌, ◌||◌, List, [], ◌∷◌, ◌++◌, map}
+use Rattle.cluster_run.proofs.Words.{refl, ap, ◌∙◌, subst, ◌==◌, nat_le, reverse, AllByRecursion, list_all, and_parts}
+use Rattle.cluster_run.proofs.Words.{le-leb, Message, Medl, Script, History, ring_messages, Source, ReadMessage}
+use Rattle.cluster_run.proofs.Words.{read_messages, never_fall, is_legal_read, ReadLine, pairs_from, place_of, read_of}
+use Rattle.cluster_run.proofs.Words.{lines_by, read_shown, pairs_read_in, steps, not, reverse-append, is_same_source}
+use Rattle.cluster_run.proofs.Words.{is_same_ring, is_not_older, is_line_from, pair_read}
 use Rattle.std.proofs.lemmas.List.Folds.{list_all-append}
-use Rattle.nbw_ring.specs.declared.view.Message.{Message}
-use Rattle.ttp_world.specs.declared.medl.Medl.{Medl}
-use Rattle.ttp_world.specs.declared.script.Script.{Script}
-use Rattle.ttp_world.specs.Diary.{History}
-use Rattle.ttp_world.specs.Messages.{ring_messages, newest_number}
-use Rattle.ttp_world.specs.declared.script.Source.{Source}
-use Rattle.ttp_world.specs.declared.script.Source.TheVariants as source
-use Rattle.ttp_world.specs.Legal.{ReadMessage, read_messages, is_same_source, is_same_ring, is_not_older, never_fall}
-use Rattle.ttp_world.specs.Legal.{is_legal_read}
-use Rattle.host_port.specs.declared.report.ReadLine.{ReadLine}
-use Rattle.host_port.specs.Reading.{is_line_from, pairs_from}
-use Rattle.host_port.specs.Rings.{place_of}
-use Rattle.cluster_run.specs.Reading.{read_of, lines_by}
-use Rattle.cluster_run.specs.Report.{read_shown}
-use Rattle.cluster_run.specs.Rings.{pair_read, pairs_read_in}
+use Rattle.ttp_world.specs.Messages.{newest_number}
 use Rattle.ttp_world.proofs.LegalReads.{reverse-all}
 use Rattle.cluster_run.proofs.Readers.{Rises}
+use Rattle.ttp_world.specs.declared.script.Source.TheVariants as source
 
 -- the message that a line tells of, by its number
 abbrev pub message_told : ReadLine → ReadMessage
@@ -45,22 +29,18 @@ pairs_of k from lines = pairs_from from (lines_by k lines)
 pairs_front : (k : ℕ) (from : Source) (line : ReadLine) (lines : List ReadLine) (b c : Bool) → (line.host == k) ≡ b
     → is_line_from from line ≡ c
     → pairs_of k from (line ∷ lines) ≡ cond (b && c) (line.pair ∷ pairs_of k from lines) (pairs_of k from lines)
-pairs_front k from line lines true true own here =
-    grind (arith, common_steps, nat_tests)
-pairs_front k from line lines true false own here =
-    grind (arith, common_steps, nat_tests)
+pairs_front k from line lines true true own here = grind steps
+pairs_front k from line lines true false own here = grind steps
 pairs_front k from line lines false c own here =
     ap (λ t. pairs_from from (cond t (line ∷ lines_by k lines) (lines_by k lines))) own
 
 pub pairs_own : (line : ReadLine) (lines : List ReadLine)
     → pairs_of line.host line.source (line ∷ lines) ≡ line.pair ∷ pairs_of line.host line.source lines
-pairs_own line lines =
-    grind (arith, common_steps, nat_tests)
+pairs_own line lines = grind steps
 
 -- what holds of all pairs of each host and source holds of each line
 front_later : (P : Message → Type 0) (x : Message) (xs : List Message) (b : Bool)
-    → AllByRecursion P (cond b (x ∷ xs) xs)
-    → AllByRecursion P xs
+    → AllByRecursion P (cond b (x ∷ xs) xs) → AllByRecursion P xs
 front_later P x xs true all = all.1
 front_later P x xs false all = all
 
@@ -73,20 +53,15 @@ each_line P (line ∷ lines) all = (
   each_line P lines (λ k from.
       front_later (P k from) line.pair (pairs_of k from lines) ((line.host == k) && is_line_from from line)
       (subst (AllByRecursion (P k from))
-      (pairs_front k from line lines (line.host == k) (is_line_from from line) refl refl)
-      (all k from))),
+      (pairs_front k from line lines (line.host == k) (is_line_from from line) refl refl) (all k from))),
 )
 
 -- No number falls.
 
 same_by_place : (a b : Source) → is_same_source a b ≡ (place_of a == place_of b)
 same_by_place source.Status source.Status = refl
-same_by_place source.Status (source.Node k) =
-    grind (arith, common_steps, nat_tests)
-same_by_place (source.Node j) source.Status =
-    grind (arith, common_steps, nat_tests)
-same_by_place (source.Node j) (source.Node k) =
-    grind (arith, common_steps, nat_tests)
+same_by_place (source.Node j) (source.Node k) = grind steps
+same_by_place a b = grind steps
 
 never_fall-last : (rs : List ReadMessage) (e : ReadMessage) → never_fall rs ≡ true
     → AllByRecursion (λ (r : ReadMessage). is_not_older r e ≡ true) rs → never_fall (rs ++ e ∷ []) ≡ true
@@ -134,8 +109,7 @@ never_fall-lines (line ∷ lines) rise =
     let told = map message_told lines in
     let later = rises_head line.pair (pairs_of line.host line.source lines)
     (subst Rises (pairs_own line lines) (rise line.host line.source)) in
-    ap never_fall (reverse-append (message_told line ∷ []) told)
-    ∙ never_fall-last (reverse told) (message_told line)
+    ap never_fall (reverse-append (message_told line ∷ []) told) ∙ never_fall-last (reverse told) (message_told line)
     (never_fall-lines lines (λ k from.
     rise_later line.pair (pairs_of k from lines) ((line.host == k) && is_line_from from line)
     (subst Rises (pairs_front k from line lines (line.host == k) (is_line_from from line) refl refl) (rise k from))))
@@ -158,8 +132,7 @@ pub pairs_told : (list : Medl) (script : Script) (after : History) (lines : List
     → AllByRecursion (TellsRing list script after) lines
     → pairs_read_in list script after (map message_told lines) k from ≡ pairs_of k from lines
 pairs_told list script after [] k from all = refl
-pairs_told list script after (line ∷ lines) k from all =
-    grind (arith, common_steps, nat_tests, pairs_told list script after lines k from all.1)
+pairs_told list script after (line ∷ lines) k from all = grind (steps, pairs_told list script after lines k from all.1)
 
 -- and that lie between the messages of their rings before the slot and after it
 pub record IsLegalLine (list : Medl) (script : Script) (before after : History) (line : ReadLine) : Type 0 where
@@ -171,4 +144,4 @@ pub legal_lines : (list : Medl) (script : Script) (before after : History) (line
     → list_all (is_legal_read list script before after) (map message_told lines) ≡ true
 legal_lines list script before after [] all = refl
 legal_lines list script before after (line ∷ lines) all =
-    grind (arith, common_steps, nat_tests, legal_lines list script before after lines all.1)
+    grind (steps, legal_lines list script before after lines all.1)

@@ -1,36 +1,16 @@
 -- The readers of a slot have room for all reads of it.
-use Rattle.std.proofs.lemmas.Bool.Decides.{nat_tests}
-use Rattle.std.proofs.lemmas.Grind.{common_steps}
-use Rattle.std.proofs.Common.{◌≡◌, ℕ, ◌+◌, ◌<◌, ◌≤◌, Bool, true, false, cond, ◌||◌, List, [], ◌∷◌, length}
-use Rattle.std.proofs.Common.{Option, Some, None, option_map, IsSomeAnd, All, inl, inr, refl, sym, ap, ◌∙◌, subst}
-use Rattle.std.proofs.Common.{arith}
-use Rattle.std.specs.Prelude.{◌==◌, is_some}
-use Rattle.std.specs.List.{AllByRecursion}
-use Rattle.std.specs.Option.{ForSome}
-use Rattle.std.proofs.lemmas.Bool.{cases_Bool, cases_lt, eqb-true, false_from_ne_true, and_parts, ne_eqb, false≢true}
-use Rattle.std.proofs.lemmas.List.{get_or_past}
-use Rattle.std.proofs.lemmas.List.Elements.{All-from_recursion}
-use Rattle.nbw_ring.specs.declared.view.Message.{Message}
-use Rattle.nbw_ring.specs.declared.view.Shape.{Shape}
-use Rattle.nbw_ring.specs.States.{WriterState, ReaderState, new_reader}
-use Rattle.ttp_world.specs.declared.host_lines.HostRead.{HostRead}
-use Rattle.ttp_world.specs.declared.medl.Medl.{Medl}
-use Rattle.ttp_world.specs.declared.script.Script.{Script}
-use Rattle.ttp_world.specs.declared.script.Source.{Source}
-use Rattle.ttp_world.specs.declared.script.Source.TheVariants as source
-use Rattle.ttp_world.specs.Medl.{plan_at}
-use Rattle.ttp_world.specs.Script.{IsSource, IsValidScript, reads_in}
-use Rattle.ttp_world.specs.Words.{word_count}
-use Rattle.ttp_world.specs.World.{Numbers, world}
-use Rattle.host_port.specs.Reading.{ReadersState, is_read_at, reads_from, lent}
-use Rattle.host_port.specs.Rings.{ControllerState, place_of, at_source, shape_of, incoming_shape, message_shape}
-use Rattle.ttp_world.proofs.HostPayloads.{IsReadOf, reads_of_valid}
-use Rattle.cluster_run.specs.declared.current.CurrentSlot.{CurrentSlot}
-use Rattle.cluster_run.specs.Ends.{end_at}
-use Rattle.cluster_run.specs.Reading.{readers_at, reader_in, reader_at, calls_in, has_reads, AreLentTo}
-use Rattle.cluster_run.specs.Reading.{MayReadAll}
-use Rattle.cluster_run.specs.Rings.{IsRingOf, pairs_read, words_read}
+use Rattle.cluster_run.proofs.Words.{◌≡◌, ℕ, ◌+◌, ◌<◌, ◌≤◌, Bool, true, false, cond, ◌||◌, List, [], ◌∷◌, length}
+use Rattle.cluster_run.proofs.Words.{Option, Some, None, option_map, IsSomeAnd, All, inl, inr, refl, sym, ap, ◌∙◌}
+use Rattle.cluster_run.proofs.Words.{subst, arith, ◌==◌, is_some, AllByRecursion, ForSome, cases_lt, eqb-true}
+use Rattle.cluster_run.proofs.Words.{false_from_ne_true, and_parts, ne_eqb, false≢true, get_or_past, All-from_recursion}
+use Rattle.cluster_run.proofs.Words.{Message, Shape, WriterState, ReaderState, new_reader, HostRead, Medl, Script}
+use Rattle.cluster_run.proofs.Words.{Source, plan_at, IsSource, IsValidScript, reads_in, word_count, Numbers, world}
+use Rattle.cluster_run.proofs.Words.{ReadersState, reads_from, lent, ControllerState, place_of, at_source, shape_of}
+use Rattle.cluster_run.proofs.Words.{incoming_shape, message_shape, CurrentSlot, end_at, readers_at, reader_in}
+use Rattle.cluster_run.proofs.Words.{reader_at, calls_in, has_reads, AreLentTo, IsRingOf, pairs_read, words_read, steps}
+use Rattle.cluster_run.proofs.Words.{cases_Bool, is_read_at, IsReadOf, reads_of_valid, MayReadAll}
 use Rattle.cluster_run.proofs.LentReaders.{AreLentFor}
+use Rattle.ttp_world.specs.declared.script.Source.TheVariants as source
 
 -- The reads of a valid script are of nodes of its list.
 
@@ -50,25 +30,17 @@ hosts_within list script slot valid =
 
 one_more : (k : ℕ) (from : Source) (r : HostRead) (reads : List HostRead) (b : Bool)
     → is_read_at k (place_of from) r ≡ b → 1 ≤ reads_from (r ∷ reads) k from → 1 ≤ cond b 1 0 + reads_from reads k from
-one_more k from r reads b is some =
-    grind (arith, common_steps, nat_tests)
-
-own_read : (k : ℕ) (from : Source) (r : HostRead) → is_read_at k (place_of from) r ≡ true
-    → (r.host ≡ k) × (r.source ≡ from)
-own_read k from r is =
-    grind (arith, common_steps, nat_tests)
+one_more k from r reads b is some = grind steps
 
 read_here : (Q : ℕ → Source → Type 0) (k : ℕ) (from : Source) (r : HostRead) (b : Bool)
     → is_read_at k (place_of from) r ≡ b → Q r.host r.source → (b ≡ false → Q k from) → Q k from
-read_here Q k from r true is here later =
-    grind (arith, common_steps, nat_tests)
+read_here Q k from r true is here later = grind steps
 read_here Q k from r false is here later = later refl
 
 read_there : (Q : ℕ → Source → Type 0) (k : ℕ) (from : Source) (reads : List HostRead)
     → AllByRecursion (λ (r : HostRead). Q r.host r.source) reads → 1 ≤ reads_from reads k from → Q k from
 read_there Q k from [] all some = absurd (omega arith)
-read_there Q k from (r ∷ reads) all some =
-    read_here Q k from r (is_read_at k (place_of from) r) refl all.0
+read_there Q k from (r ∷ reads) all some = read_here Q k from r (is_read_at k (place_of from) r) refl all.0
     (λ not_here. read_there Q k from reads all.1 (omega (arith, one_more k from r reads false not_here some)))
 
 or_right : (b c : Bool) → c ≡ true → (b || c) ≡ true
@@ -78,15 +50,13 @@ or_right false c is = is
 or_left : (b c : Bool) → b ≡ true → (b || c) ≡ true
 or_left b c is = ap (λ x. x || c) is
 
-reads_there : (k : ℕ) (from : Source) (reads : List HostRead) → 1 ≤ reads_from reads k from
-    → has_reads reads k ≡ true
+reads_there : (k : ℕ) (from : Source) (reads : List HostRead) → 1 ≤ reads_from reads k from → has_reads reads k ≡ true
 reads_there k from [] some = absurd (omega arith)
 reads_there k from (r ∷ reads) some =
     let b = is_read_at k (place_of from) r in
     elim (cases_Bool b) [
       | inl own ↦
-          or_left (r.host == k) (has_reads reads k)
-          (and_parts (r.host == k) (place_of r.source == place_of from) own).0
+          or_left (r.host == k) (has_reads reads k) (and_parts (r.host == k) (place_of r.source == place_of from) own).0
       | inr other ↦
           or_right (r.host == k) (has_reads reads k)
           (reads_there k from reads (omega (arith, one_more k from r reads false other some)))

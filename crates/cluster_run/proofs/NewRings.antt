@@ -1,25 +1,11 @@
 -- A new ring has the zeros of the world before its first slot.
-use Rattle.std.proofs.lemmas.Bool.Decides.{nat_tests}
-use Rattle.std.proofs.lemmas.Grind.{common_steps}
-use Rattle.std.proofs.Common.{◌≡◌, ℕ, zero, suc, ◌+◌, ◌*◌, Bool, true, false, cond, List, [], ◌∷◌}
-use Rattle.std.proofs.Common.{length, map, get_or}
-use Rattle.std.proofs.Common.{replicate, Option, Some, None, refl, sym, ap, subst, ◌∙◌, arith, All}
-use Rattle.std.proofs.lemmas.List.{length-replicate}
-use Rattle.std.proofs.lemmas.List.FromFn.{length-range_with_len}
-use Rattle.nbw_ring.specs.declared.view.Shape.{Shape}
-use Rattle.nbw_ring.specs.States.{WriterState}
-use Rattle.ttp_base.proofs.Below.{map_agree-below}
-use Rattle.ttp_base.specs.NodeSet.{below}
-use Rattle.ttp_world.specs.declared.medl.Medl.{Medl}
-use Rattle.ttp_world.specs.declared.script.Script.{Script}
-use Rattle.ttp_world.specs.declared.script.Source.{Source}
+use Rattle.cluster_run.proofs.Words.{◌≡◌, ℕ, zero, suc, ◌+◌, ◌*◌, Bool, true, false, cond, List, [], ◌∷◌, length, map}
+use Rattle.cluster_run.proofs.Words.{get_or, replicate, Option, Some, None, refl, sym, ap, subst, ◌∙◌, arith, All}
+use Rattle.cluster_run.proofs.Words.{length-replicate, length-range_with_len, Shape, WriterState, below, Medl, Script}
+use Rattle.cluster_run.proofs.Words.{Source, plan_at, word_count, words_of_payload, shape_of, message_shape}
+use Rattle.cluster_run.proofs.Words.{incoming_shape, IsNew, GotEach, SawAtMost, joined_pairs, IsRingOf, words_written}
+use Rattle.cluster_run.proofs.Words.{words_read, steps, map_agree-below, number_in, zeros_of, payload_word}
 use Rattle.ttp_world.specs.declared.script.Source.TheVariants as source
-use Rattle.ttp_world.specs.Fitting.{number_in}
-use Rattle.ttp_world.specs.Medl.{plan_at}
-use Rattle.ttp_world.specs.Outgoing.{zeros_of}
-use Rattle.ttp_world.specs.Words.{word_count, payload_word, words_of_payload}
-use Rattle.host_port.specs.Rings.{shape_of, message_shape, incoming_shape, IsNew}
-use Rattle.cluster_run.specs.Rings.{GotEach, SawAtMost, joined_pairs, IsRingOf, words_written, words_read}
 
 -- The words of zeros are zeros.
 
@@ -29,8 +15,7 @@ zero_at (suc n) zero = refl
 zero_at (suc n) (suc k) = zero_at n k
 
 word_of_zeros : (n i : ℕ) → payload_word (replicate n 0) i ≡ 0
-word_of_zeros n i =
-    ap number_in
+word_of_zeros n i = ap number_in
     (map_agree-below (λ j. get_or (replicate n 0) (8 * i + j) 0) (λ j. 0) 8 (λ j near. zero_at n (8 * i + j)))
 
 map-zero : (xs : List ℕ) → map {B = ℕ} (λ x. 0) xs ≡ replicate (length xs) 0
@@ -38,22 +23,18 @@ map-zero [] = refl
 map-zero (x ∷ xs) = ap (λ zs. 0 ∷ zs) (map-zero xs)
 
 words_of_zeros : (n : ℕ) → words_of_payload (replicate n 0) ≡ replicate (word_count n) 0
-words_of_zeros n =
-    ap (λ m. map (payload_word (replicate n 0)) (below (word_count m))) (length-replicate n 0)
+words_of_zeros n = ap (λ m. map (payload_word (replicate n 0)) (below (word_count m))) (length-replicate n 0)
     ∙ map_agree-below (payload_word (replicate n 0)) (λ x. 0) (word_count n) (λ i near. word_of_zeros n i)
-    ∙ map-zero (below (word_count n))
-    ∙ ap (λ m. replicate m 0) (length-range_with_len 0 (word_count n))
+    ∙ map-zero (below (word_count n)) ∙ ap (λ m. replicate m 0) (length-range_with_len 0 (word_count n))
 
 -- A new ring.
 
-new_ring : (shape : Shape) (messages : List (List ℕ)) (w : Option WriterState)
-    → messages ≡ replicate shape.width 0 ∷ [] → IsNew (Some shape) w → IsRingOf (Some shape) messages [] w
+new_ring : (shape : Shape) (messages : List (List ℕ)) (w : Option WriterState) → messages ≡ replicate shape.width 0 ∷ []
+    → IsNew (Some shape) w → IsRingOf (Some shape) messages [] w
 new_ring shape messages None zeros new = new
 new_ring shape messages (Some w) zeros new = record {
   shape_is = new.0;
-  messages_are =
-      ap (λ (v : WriterState). v.messages) new.1
-      ∙ ap (λ (s : Shape). replicate s.width 0 ∷ []) new.0
+  messages_are = ap (λ (v : WriterState). v.messages) new.1 ∙ ap (λ (s : Shape). replicate s.width 0 ∷ []) new.0
       ∙ sym zeros;
   pairs_are = ap joined_pairs new.1;
   seen = subst (All (SawAtMost w.messages)) (sym (ap (λ (v : WriterState). v.joined) new.1))
@@ -76,8 +57,7 @@ zero_words list k = ap (λ ws. ws ∷ []) (words_of_zeros (plan_at list k).paylo
 -- what hosts send
 pub new_written : (list : Medl) (script : Script) (k : ℕ) (w : Option WriterState) → IsNew (message_shape list k) w
     → IsRingOf (message_shape list k) (words_written list script k 0) [] w
-new_written list script k w new =
-    grind (arith, common_steps, nat_tests, new_ring_if, zero_words)
+new_written list script k w new = grind (steps, new_ring_if, zero_words)
 
 -- and what they read
 new_read_if : (own empty : Bool) (shape : Shape) (messages : List (List ℕ)) (w : Option WriterState)
@@ -87,8 +67,7 @@ new_read_if true empty shape messages w zeros new = new
 new_read_if false empty shape messages w zeros new = new_ring_if empty shape messages w zeros new
 
 pub new_read : (list : Medl) (script : Script) (k : ℕ) (from : Source) (w : Option WriterState)
-    → IsNew (incoming_shape list k from) w → IsRingOf (incoming_shape list k from)
-    (words_read list script [] k from) [] w
+    → IsNew (incoming_shape list k from) w
+    → IsRingOf (incoming_shape list k from) (words_read list script [] k from) [] w
 new_read list script k source.Status w new = new_ring (shape_of list 4) (replicate 4 0 ∷ []) w refl new
-new_read list script k (source.Node p) w new =
-    grind (arith, common_steps, nat_tests, new_read_if, zero_words)
+new_read list script k (source.Node p) w new = grind (steps, new_read_if, zero_words)

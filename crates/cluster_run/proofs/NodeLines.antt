@@ -1,35 +1,18 @@
 -- The line of a node after a slot.
-use Rattle.std.proofs.Common.{◌≡◌, ℕ, ◌<◌, List, ◌∷◌, length, get_or, Option, Some, None, refl, ◌∙◌, subst, zero-add}
-use Rattle.std.specs.Prelude.{slice_get}
-use Rattle.ttp_world.specs.declared.medl.Medl.{Medl}
-use Rattle.ttp_world.specs.declared.node.Entry.{Entry}
-use Rattle.ttp_world.specs.declared.node.Entry.TheVariants as entry
+use Rattle.cluster_run.proofs.Words.{◌≡◌, ℕ, ◌<◌, List, ◌∷◌, length, get_or, Option, Some, None, refl, ◌∙◌, subst}
+use Rattle.cluster_run.proofs.Words.{slice_get, Medl, Entry, Script, History, node_past, IsEnded, ShowsState, Seat}
+use Rattle.cluster_run.proofs.Words.{NodeLine, HaveEndedSlot, message_named, number_told, node_shown, zero-add, Diary}
+use Rattle.cluster_run.proofs.Words.{Surroundings, diary_of, past_of, state_of, message_shown, StandsAfter}
+use Rattle.cluster_run.proofs.Words.{IsControllerOf, StandsFor, Stands}
 use Rattle.ttp_world.specs.declared.node.NodeState.{NodeState}
-use Rattle.ttp_world.specs.declared.script.Script.{Script}
-use Rattle.ttp_world.specs.Diary.{History, Diary, Surroundings, diary_of}
 use Rattle.ttp_world.specs.Medium.{surroundings_of}
-use Rattle.ttp_world.specs.Past.{past_of, state_of}
-use Rattle.ttp_world.specs.Trace.{message_shown}
-use Rattle.ttp_world.specs.World.{node_past}
-use Rattle.controller.specs.Passes.{StandsAfter}
-use Rattle.controller.specs.PlantWithin.{IsEnded, IsControllerOf}
-use Rattle.controller.specs.StandsFor.{StandsFor, Stands, ShowsState}
 use Rattle.controller.specs.ControllerView.{ControllerView}
-use Rattle.controller.specs.declared.seat.Seat.{Seat}
-use Rattle.host_port.specs.declared.report.NodeLine.{NodeLine}
-use Rattle.cluster_run.specs.Report.{HaveEndedSlot, message_named, number_told, node_shown}
+use Rattle.ttp_world.specs.declared.node.Entry.TheVariants as entry
 
 named_shown : (list : Medl) (script : Script) (row : List Entry) (before : History) (k : ℕ) (e : Entry)
     → message_named e (number_told list script row before k) ≡ message_shown list script row before k e
 named_shown list script row before k entry.Off = refl
-named_shown list script row before k entry.Waited = refl
-named_shown list script row before k entry.Retried = refl
-named_shown list script row before k entry.Gone = refl
-named_shown list script row before k entry.Started = refl
-named_shown list script row before k (entry.Sent message) = refl
-named_shown list script row before k (entry.Joined sender cstate deviation) = refl
-named_shown list script row before k (entry.Judged sender v deviation) = refl
-named_shown list script row before k (entry.Left why peer) = refl
+named_shown list script row before k e = refl
 
 stands_now : {view : ControllerView} {diary : Diary} {surroundings : Surroundings} → StandsFor view diary surroundings
     → Stands view diary surroundings view.turn
@@ -53,9 +36,7 @@ line_shown {list} {script} {row} {before} so k seat line again here near shows s
     shows_again (diary_of after k) (surroundings_of script after k) view.turn stands in
     let same : state_of past ≡ state_of (node_past list script after k) =
     λ i. state_of (past_of (is.list i) (is.node i) (diary_of after k) (surroundings_of script after k)) in
-    let named : line.message
-    ≡ message_shown list script row before k (state_of (node_past list script after k)).entry =
-    message
-    ∙ (λ i. message_named ((state_again ∙ same) i).entry (so.numbers k near i))
+    let named : line.message ≡ message_shown list script row before k (state_of (node_past list script after k)).entry =
+    message ∙ (λ i. message_named ((state_again ∙ same) i).entry (so.numbers k near i))
     ∙ named_shown list script row before k (state_of (node_past list script after k)).entry in
     λ i. record { state = (state ∙ same) i; message = named i }

@@ -1,12 +1,9 @@
 -- Places of lists.
-use Rattle.std.proofs.Common.{◌≡◌, ℕ, List, map, set, get_or, sym, ap}
-use Rattle.std.proofs.Common.{◌∙◌}
-use Rattle.std.proofs.lemmas.List.{map-set, set-get_or}
+use Rattle.cluster_run.proofs.Words.{◌≡◌, ℕ, List, map, set, get_or, sym, ap, ◌∙◌, map-set, set-get_or}
 
 -- what is read alike is written where it was: the same is read of the whole list
 pub read_alike : {A B : Type 0} (f : A → B) (xs : List A) (i : ℕ) (old new : A) → old ≡ get_or xs i old → f new ≡ f old
     → map f (set xs i new) ≡ map f xs
-read_alike f xs i old new here same =
-    map-set f xs i new
+read_alike f xs i old new here same = map-set f xs i new
     ∙ (ap (set (map f xs) i) (same ∙ ap f here)
     ∙ (sym (map-set f xs i (get_or xs i old)) ∙ ap (map f) (set-get_or xs i old)))

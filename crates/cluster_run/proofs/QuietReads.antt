@@ -1,19 +1,9 @@
 -- A slot in which no host reads: there are no readers, and nothing is read.
-use Rattle.std.proofs.Common.{◌≡◌, ℕ, zero, suc, List, [], length, replicate, Option, None, refl, sym, ap, subst, ◌∙◌}
-use Rattle.std.specs.Prelude.{is_some}
-use Rattle.std.proofs.lemmas.List.{length-replicate}
-use Rattle.std.proofs.lemmas.Option.{none-some}
-use Rattle.ttp_world.specs.Script.{reads_in}
-use Rattle.host_port.specs.Reading.{ReadersState, got_of, reads_from}
-use Rattle.host_port.specs.Rings.{ControllerState, at_source}
-use Rattle.cluster_run.specs.declared.current.CurrentSlot.{CurrentSlot}
-use Rattle.cluster_run.specs.declared.nodes.Nodes.{Nodes}
-use Rattle.controller.specs.PlantStands.{outcomes_of}
-use Rattle.cluster_run.specs.Ending.{HaveHandedOn}
-use Rattle.cluster_run.specs.Ends.{end_at, desk_ends, desk_numbers}
-use Rattle.cluster_run.specs.Reading.{ReadsMany, SettlesReadsOf, calls_in, has_reads, reader_at, reader_in}
-use Rattle.cluster_run.specs.Reading.{readers_at, sources_of}
-use Rattle.cluster_run.specs.Slots.{TellsReads}
+use Rattle.cluster_run.proofs.Words.{◌≡◌, ℕ, zero, suc, List, [], length, replicate, Option, None, refl, sym, ap, subst}
+use Rattle.cluster_run.proofs.Words.{◌∙◌, is_some, length-replicate, none-some, reads_in, ReadersState, got_of}
+use Rattle.cluster_run.proofs.Words.{reads_from, ControllerState, at_source, CurrentSlot, Nodes, outcomes_of}
+use Rattle.cluster_run.proofs.Words.{HaveHandedOn, end_at, desk_ends, desk_numbers, ReadsMany, SettlesReadsOf, calls_in}
+use Rattle.cluster_run.proofs.Words.{has_reads, reader_at, reader_in, readers_at, sources_of, TellsReads}
 use Rattle.cluster_run.proofs.SettledReaders.{is_settled-none, settled-none}
 
 -- nothing for each of so many nodes

@@ -1,18 +1,10 @@
 -- Reads of a host's reader, one after another: what each of them keeps, and that each got a message where the reader is
 -- clear.
-use Rattle.std.proofs.lemmas.Bool.Decides.{nat_tests}
-use Rattle.std.proofs.lemmas.Grind.{common_steps}
-use Rattle.std.proofs.Common.{◌≡◌, ◌≢◌, ℕ, zero, suc, ◌/◌, ◌<◌, ◌≤◌, Bool, true, false, List, [], ◌∷◌, ◌++◌}
-use Rattle.std.proofs.Common.{length, Option, Some, None, IsSomeAnd, refl, sym, ap, ◌∙◌, subst, arith}
+use Rattle.cluster_run.proofs.Words.{◌≡◌, ◌≢◌, ℕ, zero, suc, ◌/◌, ◌<◌, ◌≤◌, true, List, [], ◌∷◌, ◌++◌, length, Option}
+use Rattle.cluster_run.proofs.Words.{Some, None, IsSomeAnd, refl, sym, ap, ◌∙◌, subst, arith, AllByRecursion, Message}
+use Rattle.cluster_run.proofs.Words.{ReaderState, Reads, got_one, ReadsMany, IsClear, steps, lt-ltb, limit}
 use Rattle.std.proofs.Common.{length-append}
-use Rattle.std.specs.List.{AllByRecursion}
-use Rattle.std.proofs.lemmas.Bool.{lt-ltb}
-use Rattle.nbw_ring.specs.declared.view.Message.{Message}
 use Rattle.nbw_ring.specs.Attempts.{Gets}
-use Rattle.nbw_ring.specs.Numbers.{limit}
-use Rattle.nbw_ring.specs.States.{ReaderState}
-use Rattle.host_port.specs.Reading.{Attempts, Repeats, Reads, is_intact, got_one}
-use Rattle.cluster_run.specs.Reading.{ReadsMany, IsClear}
 
 -- A read keeps the ring, and what was loaded and got never falls back.
 
@@ -23,49 +15,23 @@ pub record KeepsReader (old new : ReaderState) : Type 0 where
 
 abbrev pub Keeps : Option ReaderState → Option ReaderState → Type 0
 Keeps None None = Unit {0}
-Keeps None (Some new) = ⊥
-Keeps (Some old) None = ⊥
 Keeps (Some old) (Some new) = KeepsReader old new
+Keeps old new = ⊥
 
 pub keeps_refl : (r : Option ReaderState) → Keeps r r
 keeps_refl None = tt
 keeps_refl (Some r) = record { ring = refl; floor = omega arith; seen = omega arith }
 
 pub keeps_trans : (a b c : Option ReaderState) → Keeps a b → Keeps b c → Keeps a c
-keeps_trans None None None p q = tt
-keeps_trans None None (Some c) p q = q
-keeps_trans None (Some b) c p q = absurd p
-keeps_trans (Some a) None c p q = absurd p
-keeps_trans (Some a) (Some b) None p q = q
 keeps_trans (Some a) (Some b) (Some c) p q =
     record { ring = q.ring ∙ p.ring; floor = omega arith; seen = omega arith }
-
-attempt_floor : (old new : ReaderState) (b : Bool) → is_intact new ≡ b → Attempts old new → old.floor ≤ new.floor
-attempt_floor old new true is a =
-    let got = a.got is in omega (arith, a.floor, got.floor)
-attempt_floor old new false is a =
-    let nothing = a.nothing is in omega (arith, nothing.floor)
-
-attempt_keeps : (old new : ReaderState) → Attempts old new → KeepsReader old new
-attempt_keeps old new a = record {
-  ring = a.ring;
-  floor = attempt_floor old new (is_intact new) refl a;
-  seen = omega (arith, a.later, a.forward);
-}
-
-repeat_keeps : (old new : ReaderState) → Repeats old new → KeepsReader old new
-repeat_keeps old new r = record {
-  ring = r.ring;
-  floor = let got = r.got in omega (arith, r.floor, got.floor);
-  seen = omega (arith, r.later, r.forward);
-}
+keeps_trans (Some a) (Some b) None p q = q
+keeps_trans None None c p q = q
+keeps_trans a b c p q = absurd p
 
 pub reads_keep : (buffers : ℕ) (old new : Option ReaderState) → Reads buffers old new → Keeps old new
-reads_keep buffers None None reads = absurd reads
-reads_keep buffers None (Some new) reads = absurd reads
-reads_keep buffers (Some old) None reads = absurd reads
-reads_keep buffers (Some old) (Some new) reads =
-    grind (arith, common_steps, nat_tests)
+reads_keep buffers (Some old) (Some new) reads = grind steps
+reads_keep buffers old new reads = absurd reads
 
 pub many_keep : (buffers n : ℕ) (old new : Option ReaderState) → ReadsMany buffers n old new → Keeps old new
 many_keep buffers zero old new same = subst (λ (r : Option ReaderState). Keeps old r) (sym same) (keeps_refl old)
@@ -75,40 +41,31 @@ many_keep buffers (suc n) old new reads =
 -- What is clear at the end was clear before each read.
 pub clear_before : (buffers : ℕ) (old mid new : Option ReaderState) → Keeps mid new → IsClear buffers old new
     → IsClear buffers old mid
-clear_before buffers None mid new keeps clear = tt
-clear_before buffers (Some old) None new keeps clear = tt
-clear_before buffers (Some old) (Some mid) None keeps clear = absurd keeps
 clear_before buffers (Some old) (Some mid) (Some new) keeps clear = λ more. omega (arith, clear more, keeps.seen)
+clear_before buffers (Some old) (Some mid) None keeps clear = absurd keeps
+clear_before buffers old mid new keeps clear = tt
 
 -- So each read got a message.
 
-shape_kept : (old new : ReaderState) → new.ring ≡ old.ring → new.ring.shape.buffers ≡ old.ring.shape.buffers
-shape_kept old new same = λ i. (same i).shape.buffers
-
 intact : (buffers : ℕ) (old mid new : ReaderState) → KeepsReader old mid → Reads buffers (Some mid) (Some new)
     → IsClear buffers (Some old) (Some new) → new.seen < limit new.ring.shape (new.first / 2)
-intact buffers old mid new keeps reads clear =
-    grind (arith, common_steps, nat_tests)
+intact buffers old mid new keeps reads clear = grind steps
 
 gets : (buffers : ℕ) (mid new : ReaderState) → Reads buffers (Some mid) (Some new)
     → new.seen < limit new.ring.shape (new.first / 2) → Gets mid new (new.first / 2)
-gets buffers mid new reads below =
-    grind (arith, common_steps, nat_tests)
+gets buffers mid new reads below = grind steps
 
 least : (buffers : ℕ) (mid new : ReaderState) → Reads buffers (Some mid) (Some new) → mid.floor ≤ new.first / 2
-least buffers mid new reads =
-    grind (arith, common_steps, nat_tests)
+least buffers mid new reads = grind steps
 
 -- of a read after so many others
-pub clear_got : (buffers n : ℕ) (old mid new : Option ReaderState) → ReadsMany buffers n old mid
-    → Reads buffers mid new → IsClear buffers old new → got_one new ≡ true
-clear_got buffers n old None None many reads clear = absurd reads
-clear_got buffers n old None (Some new) many reads clear = absurd reads
-clear_got buffers n old (Some mid) None many reads clear = absurd reads
-clear_got buffers n None (Some mid) (Some new) many reads clear = absurd (many_keep buffers n None (Some mid) many)
+pub clear_got : (buffers n : ℕ) (old mid new : Option ReaderState) → ReadsMany buffers n old mid → Reads buffers mid new
+    → IsClear buffers old new → got_one new ≡ true
 clear_got buffers n (Some old) (Some mid) (Some new) many reads clear =
     lt-ltb new.seen (limit new.ring.shape (new.first / 2))
     (intact buffers old mid new (many_keep buffers n (Some old) (Some mid) many) reads clear)
+clear_got buffers n None (Some mid) (Some new) many reads clear = absurd (many_keep buffers n None (Some mid) many)
+clear_got buffers n old mid new many reads clear = absurd reads
 
 -- What a clear reader got by so many reads: a message by each, none older than its floor at first, and none older than
 -- the one before it.
@@ -139,8 +96,7 @@ each-raised (m ∷ ms) low high up all = (omega (arith, up, all.0), each-raised 
 rises-push : (ms : List Message) (m : Message) (most : ℕ) → Rises ms
     → AllByRecursion (λ (e : Message). e.number ≤ most) ms → most ≤ m.number → Rises (ms ++ m ∷ [])
 rises-push [] m most rise all up = (tt, tt)
-rises-push (e ∷ ms) m most rise all up =
-    grind (arith, common_steps, nat_tests, rises-push ms m most rise.1 all.1 up)
+rises-push (e ∷ ms) m most rise all up = grind (steps, rises-push ms m most rise.1 all.1 up)
 
 tries_more : (buffers n : ℕ) (mid new : ReaderState) → Reads buffers (Some mid) (Some new)
     → (buffers ≢ 1 → mid.tries ≡ n) → buffers ≢ 1 → new.tries ≡ suc n
@@ -160,11 +116,9 @@ got_more buffers n old mid new so reads clear =
       keeps = kept;
       count = ap length g.got ∙ length-append mid.got (m ∷ []) ∙ (omega (arith, so.count));
       once = tries_more buffers n mid new reads so.once;
-      least =
-          subst (AllByRecursion (λ (e : Message). old.floor ≤ e.number)) (sym g.got)
+      least = subst (AllByRecursion (λ (e : Message). old.floor ≤ e.number)) (sym g.got)
           (each-push (λ (e : Message). old.floor ≤ e.number) mid.got m so.least from);
-      most =
-          subst (AllByRecursion (λ (e : Message). e.number ≤ new.floor)) (sym g.got)
+      most = subst (AllByRecursion (λ (e : Message). e.number ≤ new.floor)) (sym g.got)
           (each-push (λ (e : Message). e.number ≤ new.floor) mid.got m
           (each-raised mid.got mid.floor new.floor raised so.most) last);
       rise = subst Rises (sym g.got) (rises-push mid.got m mid.floor so.rise so.most up);
@@ -176,19 +130,14 @@ got_next buffers n old None new so reads clear = absurd so
 got_next buffers n old (Some mid) None so reads clear = absurd reads
 got_next buffers n old (Some mid) (Some new) so reads clear = got_more buffers n old mid new so reads clear
 
-got_none : (buffers : ℕ) (old : ReaderState) → old.got ≡ [] → old.tries ≡ 0 → GotEvery buffers 0 old old
-got_none buffers old none untried = record {
-  keeps = keeps_refl (Some old);
-  count = ap length none;
-  once = λ more. untried;
-  least = subst (AllByRecursion (λ (m : Message). old.floor ≤ m.number)) (sym none) tt;
-  most = subst (AllByRecursion (λ (m : Message). m.number ≤ old.floor)) (sym none) tt;
-  rise = subst Rises (sym none) tt;
-}
-
 pub got_every : (buffers n : ℕ) (old : ReaderState) (new : Option ReaderState) → old.got ≡ [] → old.tries ≡ 0
     → ReadsMany buffers n (Some old) new → IsClear buffers (Some old) new → IsSomeAnd new (GotEvery buffers n old)
-got_every buffers zero old new none untried same clear =
-    grind (arith, common_steps, nat_tests)
+got_every buffers zero old new none untried same clear = grind steps
 got_every buffers (suc n) old new none untried many clear =
-    grind (arith, common_steps, nat_tests, got_every buffers n old many.0 none untried many.1 (clear_before buffers (Some old) many.0 new (reads_keep buffers many.0 new many.2) clear), clear_before, got_next, reads_keep)
+    grind (
+      steps,
+      got_every buffers n old many.0 none untried many.1 (clear_before buffers (Some old) many.0 new (reads_keep buffers many.0 new many.2) clear),
+      clear_before,
+      got_next,
+      reads_keep,
+    )

@@ -1,44 +1,21 @@
 -- The report of a slot may be written, and its text is the slot's of the trace.
-use Rattle.std.proofs.lemmas.Bool.Decides.{nat_tests}
-use Rattle.std.proofs.lemmas.Grind.{common_steps}
-use Rattle.std.proofs.Common.{◌≡◌, ℕ, zero, suc, ◌+◌, List, [], ◌∷◌, All, length, map, get_or}
-use Rattle.std.proofs.Common.{refl, sym, ap, ◌∙◌, subst, append_assoc, arith}
-use Rattle.std.specs.List.{AllByRecursion, range_with_len}
-use Rattle.std.proofs.lemmas.List.{length-map}
-use Rattle.std.proofs.lemmas.List.FromFn.{length-range_with_len}
-use Rattle.std.proofs.lemmas.List.Elements.{All-from_recursion, All-nil}
-use Rattle.ttp_base.specs.NodeSet.{below}
-use Rattle.ttp_base.proofs.Below.{map_each-below}
-use Rattle.ttp_world.specs.declared.medl.Medl.{Medl}
-use Rattle.ttp_world.specs.declared.node.Entry.{Entry}
-use Rattle.ttp_world.specs.declared.script.Script.{Script}
-use Rattle.ttp_world.specs.declared.script.Source.{Source}
-use Rattle.ttp_world.specs.declared.script.Source.TheVariants as source
-use Rattle.ttp_world.specs.Diary.{History}
-use Rattle.ttp_world.specs.Legal.{IsLegal, ReadMessage, read_messages}
-use Rattle.ttp_world.specs.Medl.{IsValid}
-use Rattle.ttp_world.specs.Script.{HostWrite, IsSource, IsValidScript, reads_in}
-use Rattle.ttp_world.specs.Trace.{node_line_of, more_write_lines, read_line, slot_lines}
-use Rattle.ttp_world.specs.Words.{words_of_payload}
-use Rattle.ttp_world.specs.World.{Numbers, SlotNumbers, world}
-use Rattle.ttp_world.proofs.HostPayloads.{HasRead, IsMessageOf, messages_read}
-use Rattle.ttp_world.proofs.Worlds.{length-world}
-use Rattle.host_port.specs.declared.report.NodeLine.{NodeLine}
-use Rattle.host_port.specs.declared.report.SlotReport.{SlotReport}
-use Rattle.line_text.specs.HostLines.{HasWords, bytes_in, message_in}
+use Rattle.cluster_run.proofs.Words.{◌≡◌, ℕ, zero, suc, ◌+◌, List, [], ◌∷◌, All, length, map, refl, sym, ap, ◌∙◌, subst}
+use Rattle.cluster_run.proofs.Words.{append_assoc, arith, AllByRecursion, length-map, length-range_with_len}
+use Rattle.cluster_run.proofs.Words.{All-from_recursion, All-nil, below, Medl, Entry, Script, Source, History, IsLegal}
+use Rattle.cluster_run.proofs.Words.{ReadMessage, read_messages, IsValid, HostWrite, IsSource, IsValidScript, reads_in}
+use Rattle.cluster_run.proofs.Words.{words_of_payload, Numbers, SlotNumbers, world, length-world, NodeLine, SlotReport}
+use Rattle.cluster_run.proofs.Words.{bytes_in, words_tell, AreBytesBefore, node_shown, numbers_in, writes_shown}
+use Rattle.cluster_run.proofs.Words.{read_shown, ring_words, IsNext, steps, range_with_len, map_each-below}
+use Rattle.cluster_run.proofs.Words.{node_line_of, more_write_lines, read_line, slot_lines, HasRead, messages_read}
+use Rattle.cluster_run.proofs.Words.{HasWords, message_in, HasMessage, IsListed, node_texts, payload_size, read_text}
+use Rattle.cluster_run.proofs.Words.{report_lines, write_text, ShowsSlot, ClusterView}
+use Rattle.ttp_world.proofs.HostPayloads.{IsMessageOf}
 use Rattle.line_text.specs.LineParts.{HasDigits}
-use Rattle.trace_text.specs.ReportText.{HasMessage, IsListed, node_texts, payload_size, read_text, report_lines}
-use Rattle.trace_text.specs.ReportText.{write_text}
 use Rattle.line_text.proofs.MemberDigits.{state_of-digits}
-use Rattle.line_text.proofs.PayloadWords.{words_tell}
-use Rattle.cluster_run.specs.Choosing.{AreBytesBefore}
 use Rattle.cluster_run.specs.NextSlots.{next_row}
-use Rattle.cluster_run.specs.Report.{node_shown, numbers_in, writes_shown, read_shown, ShowsSlot}
-use Rattle.cluster_run.specs.Rings.{ring_words}
-use Rattle.cluster_run.specs.Slots.{IsNext}
-use Rattle.cluster_run.specs.Standing.{ClusterView}
 use Rattle.cluster_run.specs.Texts.{TellsNext}
 use Rattle.ttp_world.proofs.WorldFacts.{plan-short as plan_few}
+use Rattle.ttp_world.specs.declared.script.Source.TheVariants as source
 
 -- The lines.
 
@@ -52,8 +29,7 @@ nodes_told list script row before first (suc many) =
 writes_told : (list : Medl) (script : Script) (slot : ℕ) (earlier ws : List HostWrite)
     → map (write_text slot) (writes_shown list script slot earlier ws) ≡ more_write_lines list script slot earlier ws
 writes_told list script slot earlier [] = refl
-writes_told list script slot earlier (w ∷ ws) =
-    grind (arith, common_steps, nat_tests, writes_told list script slot (w ∷ earlier) ws)
+writes_told list script slot earlier (w ∷ ws) = grind (steps, writes_told list script slot (w ∷ earlier) ws)
 
 -- the words of a message tell it
 message_again : (list : Medl) (from : Source) (message : List ℕ) → IsMessageOf list from message
@@ -67,15 +43,14 @@ reads_told : (list : Medl) (script : Script) (slot : ℕ) (after : History) (rs 
     → map (read_text list slot) (map (read_shown list script after) rs) ≡ map (read_line list script slot after) rs
 reads_told list script slot after [] are = refl
 reads_told list script slot after (r ∷ rs) are =
-    grind (arith, common_steps, nat_tests, reads_told list script slot after rs are.1, get_or, message_again)
+    grind (steps, reads_told list script slot after rs are.1, message_again)
 
 report_told : (list : Medl) (script : Script) (row : List Entry) (before : History) (new : SlotNumbers)
     (report : SlotReport) → ShowsSlot list script row before new report
-    → AllByRecursion (HasRead list script (row ∷ before))
-    (read_messages (reads_in script (length before)) new.read)
+    → AllByRecursion (HasRead list script (row ∷ before)) (read_messages (reads_in script (length before)) new.read)
     → report_lines list report ≡ slot_lines list script row before new
 report_told list script row before new report shows are =
-    grind (arith, common_steps, nat_tests, append_assoc, length, map, nodes_told, reads_told, writes_told)
+    grind (steps, append_assoc, nodes_told, reads_told, writes_told)
 
 -- What is asked of a report that is written.
 
@@ -86,19 +61,17 @@ listed list host (source.Node p) is = is.0
 words_of : (list : Medl) (from : Source) (message : List ℕ) → IsValid list → IsMessageOf list from message
     → HasWords from (payload_size list from) (ring_words from message)
 words_of list source.Status message valid is = is
-words_of list (source.Node p) message valid is =
-    grind (arith, common_steps, nat_tests, length, length-map, length-range_with_len, plan_few)
+words_of list (source.Node p) message valid is = grind (steps, length-map, length-range_with_len, plan_few)
 
 reads_have : (list : Medl) (script : Script) (after : History) (rs : List ReadMessage) → IsValid list
     → AllByRecursion (HasRead list script after) rs → All (HasMessage list) (map (read_shown list script after) rs)
 reads_have list script after [] valid are = All-nil (HasMessage list)
 reads_have list script after (r ∷ rs) valid are =
-    grind (arith, common_steps, nat_tests, reads_have list script after rs valid are.1, get_or, listed, map, words_of)
+    grind (steps, reads_have list script after rs valid are.1, listed, words_of)
 
 nodes_have : (list : Medl) (script : Script) (row : List Entry) (before : History) (n : ℕ) → IsValid list
     → All (λ (line : NodeLine). HasDigits list line.state) (map (node_shown list script row before) (below n))
-nodes_have list script row before n valid =
-    All-from_recursion (λ (line : NodeLine). HasDigits list line.state)
+nodes_have list script row before n valid = All-from_recursion (λ (line : NodeLine). HasDigits list line.state)
     (map (node_shown list script row before) (below n))
     (map_each-below (λ (line : NodeLine). HasDigits list line.state) (node_shown list script row before) n
     (λ k less. state_of-digits list script (row ∷ before) k valid))

@@ -1,30 +1,19 @@
 -- What the reads of a slot got of one ring, and the ring once its reader is settled.
-use Rattle.std.proofs.lemmas.Bool.Decides.{nat_tests}
-use Rattle.std.proofs.lemmas.Grind.{common_steps}
-use Rattle.std.proofs.Common.{◌≡◌, ℕ, ◌+◌, ◌≤◌, List, [], ◌∷◌, ◌++◌, length, Option, Some, None}
-use Rattle.std.proofs.Common.{refl, sym, ap, ◌∙◌, subst, arith}
-use Rattle.std.specs.List.{AllByRecursion}
-use Rattle.std.specs.Option.{ForSome}
+use Rattle.cluster_run.proofs.Words.{◌≡◌, ℕ, ◌+◌, ◌≤◌, List, [], ◌∷◌, ◌++◌, length, Option, Some, None, refl, sym, ap}
+use Rattle.cluster_run.proofs.Words.{◌∙◌, subst, arith, AllByRecursion, ForSome, append-nil, All-push}
+use Rattle.cluster_run.proofs.Words.{recursion_from_All, Message, Shape, WriterState, ReaderState, new_reader}
+use Rattle.cluster_run.proofs.Words.{settlement_of, with_joined, HasSeen, IsSettled, settled, got_of, ReadsMany}
+use Rattle.cluster_run.proofs.Words.{IsClear, joined_pairs, GotEach, SawAtMost, IsRing, IsRingOf, steps}
 use Rattle.std.proofs.lemmas.Grind.{flat_map-append}
-use Rattle.std.proofs.lemmas.List.{append-nil}
-use Rattle.std.proofs.lemmas.List.Elements.{All-push, recursion_from_All}
-use Rattle.nbw_ring.specs.declared.view.Message.{Message}
-use Rattle.nbw_ring.specs.declared.view.Shape.{Shape}
 use Rattle.nbw_ring.specs.Numbers.{newest_number, IsMessageOf}
-use Rattle.nbw_ring.specs.States.{WriterState, ReaderState, new_reader, settlement_of, with_joined}
-use Rattle.host_port.specs.Fetching.{HasSeen}
-use Rattle.host_port.specs.Reading.{IsSettled, settled, got_of}
-use Rattle.cluster_run.specs.Reading.{ReadsMany, IsClear}
-use Rattle.cluster_run.specs.Rings.{joined_pairs, GotEach, SawAtMost, IsRing, IsRingOf}
 use Rattle.cluster_run.proofs.SettledReaders.{settled-none}
 use Rattle.cluster_run.proofs.Readers.{Rises, GotEvery, many_keep, got_every}
 
 -- a reader, if there is one, is a new one of this writer's
 abbrev pub IsLentBy : Option WriterState → Option ReaderState → Type 0
-IsLentBy None None = Unit {0}
-IsLentBy None (Some r) = ⊥
-IsLentBy (Some w) None = Unit {0}
 IsLentBy (Some w) (Some r) = (reads : ℕ) × (r ≡ new_reader w reads)
+IsLentBy None (Some r) = ⊥
+IsLentBy w r = Unit {0}
 
 -- of the messages of a ring before and after a slot: what was got of them in it
 pub record AreGotOf (before after : List (List ℕ)) (got : List Message) : Type 0 where
@@ -93,15 +82,12 @@ is_there old (Some shape) (Some w) (Some v) sized is be lent = record {
 
 settles_in : {buffers : ℕ} (r : RingSlot buffers) {last : WriterState} {new : ReaderState} → r.later ≡ Some last
     → r.read ≡ Some new → IsSettled (Some last) (Some new)
-settles_in r {new = new} later read =
-    grind (arith, common_steps, nat_tests)
+settles_in r {new = new} later read = grind steps
 
 -- With two buffers or more its reader is clear, as the slot brought one message at most.
 
 clear_if : {buffers : ℕ} (r : RingSlot buffers) (old new : Option ReaderState) → r.lent ≡ old → r.read ≡ new
     → IsClear buffers old new
-clear_if r None new lent read = tt
-clear_if r (Some old) None lent read = tt
 clear_if {buffers} r (Some old) (Some new) lent read = λ more.
     let t = is_there old r.shape r.writer r.later r.sized r.is r.be (subst (IsLentBy r.writer) lent r.lent_by) in
     let settles = settles_in r t.last_is read in
@@ -119,6 +105,7 @@ clear_if {buffers} r (Some old) (Some new) lent read = λ more.
       r.some,
       more,
     )
+clear_if r old new lent read = tt
 
 pub clear_of : {buffers : ℕ} (r : RingSlot buffers) → IsClear buffers r.lent r.read
 clear_of r = clear_if r r.lent r.read refl refl
@@ -128,8 +115,7 @@ clear_of r = clear_if r r.lent r.read refl refl
 got_ring : (before after : List (List ℕ)) {shape : Shape} {pairs : List Message} {w v : WriterState} {buffers n : ℕ}
     {old new : ReaderState} → IsRing shape before pairs w → IsRing shape after pairs v → IsLentBy (Some w) (Some old)
     → GotEvery buffers n old new → IsSettled (Some v) (Some new) → AreGotOf before after new.got
-got_ring before after {v = v} {new = new} is be lent got settles =
-    grind (arith, common_steps, nat_tests, recursion_from_All)
+got_ring before after {v = v} {new = new} is be lent got settles = grind (steps, recursion_from_All)
 
 joined_more : (v : WriterState) (r : ReaderState) → joined_pairs (with_joined v r) ≡ joined_pairs v ++ r.got
 joined_more v r =
@@ -143,8 +129,7 @@ settled_ring {v = v} {new = new} sized be got seen = record {
   messages_are = be.messages_are;
   pairs_are = joined_more v new ∙ ap (λ ms. ms ++ new.got) be.pairs_are;
   seen = All-push (SawAtMost v.messages) v.joined (settlement_of new) be.seen seen;
-  once = λ more.
-      All-push GotEach v.joined (settlement_of new) (be.once more)
+  once = λ more. All-push GotEach v.joined (settlement_of new) (be.once more)
       (got.once (λ one. more (sized ∙ one)) ∙ sym got.count);
 }
 
@@ -162,8 +147,7 @@ read_if r n None None lent read many clear = record {
       subst (λ (x : Option ReaderState). IsRingOf r.shape r.after (r.pairs ++ got_of x) (settled r.later x)) (sym read)
       (subst (IsRingOf r.shape r.after (r.pairs ++ [])) (settled-none r.later) (rw (append-nil r.pairs) r.be));
 }
-read_if {buffers} r n (Some old) None lent read many clear =
-    grind (arith, common_steps, nat_tests)
+read_if {buffers} r n (Some old) None lent read many clear = grind steps
 read_if {buffers} r n (Some old) (Some new) lent read many clear =
     let t = is_there old r.shape r.writer r.later r.sized r.is r.be (subst (IsLentBy r.writer) lent r.lent_by) in
     let settles = settles_in r t.last_is read in

@@ -1,46 +1,20 @@
 -- What the sending of a slot asks and gives, node by node.
-use Rattle.std.proofs.lemmas.Bool.Decides.{nat_tests}
-use Rattle.std.proofs.lemmas.Grind.{common_steps}
-use Rattle.std.proofs.Common.{◌≡◌, ℕ, suc, ◌+◌, ◌<◌, ◌≤◌, Bool, true, false, List, [], ◌∷◌}
-use Rattle.std.proofs.Common.{length, get_or, Option, Some, None, IfSome, IsSomeAnd, All, refl, sym, ap, subst}
-use Rattle.std.proofs.Common.{◌∙◌, arith, add-one}
-use Rattle.std.specs.Prelude.{◌==◌, IsSome, count_by}
-use Rattle.std.specs.Option.{ForSome}
-use Rattle.std.proofs.lemmas.Bool.{cond_both}
-use Rattle.std.proofs.lemmas.List.{length-map}
-use Rattle.std.proofs.lemmas.List.Elements.{All-append, All-head, All-tail}
-use Rattle.std.proofs.lemmas.Option.{none-some, same_Some}
-use Rattle.nbw_ring.specs.declared.view.Message.{Message}
-use Rattle.nbw_ring.specs.declared.view.Shape.{Shape}
-use Rattle.nbw_ring.specs.States.{WriterState, ReaderState, new_reader}
-use Rattle.ttp_world.specs.declared.medl.Medl.{Medl}
-use Rattle.ttp_world.specs.declared.node.Chosen.{Chosen}
-use Rattle.ttp_world.specs.declared.script.Script.{Script}
-use Rattle.ttp_world.specs.declared.script.TheConstants.{EVENT_LIMIT}
-use Rattle.ttp_world.specs.Medl.{plan_at}
-use Rattle.ttp_world.specs.Outgoing.{messages_before, nothing_chosen}
-use Rattle.ttp_world.specs.Script.{HostWrite, messages_written, payload_of_host, write_in}
-use Rattle.ttp_world.specs.Script.{writes_in}
-use Rattle.ttp_world.specs.Words.{word_count, words_of_payload}
-use Rattle.ttp_world.specs.World.{BegunSlot, Numbers, is_loaded, world}
-use Rattle.line_text.specs.HostLines.{AreBytes}
-use Rattle.controller.specs.declared.seat.Seat.{Seat}
-use Rattle.host_port.specs.Reading.{Attempts}
-use Rattle.host_port.specs.Rings.{HostState, message_shape, shape_of}
-use Rattle.host_port.specs.Writing.{Takes}
-use Rattle.cluster_run.specs.declared.current.CurrentSlot.{CurrentSlot}
-use Rattle.cluster_run.specs.Choosing.{AreBytesBefore, HaveBegunFor, HaveChosen, next_slot}
-use Rattle.cluster_run.specs.Ends.{host_at}
-use Rattle.cluster_run.specs.Report.{writes_shown}
-use Rattle.cluster_run.specs.Rings.{IsRing, IsRingOf, pairs_sent, words_written}
-use Rattle.cluster_run.specs.Sending.{AreLent, FetchAll, Fetches, MayFetchAll, MaySettle, MayLend, MayWriteAll}
-use Rattle.cluster_run.specs.Sending.{FetchesOne, MayFetchAlone, WritesBytes, after_writes, fetcher_lent, message_count}
-use Rattle.cluster_run.specs.Sending.{write_lines}
+use Rattle.cluster_run.proofs.Words.{◌≡◌, ℕ, suc, ◌+◌, ◌<◌, ◌≤◌, Bool, true, List, [], ◌∷◌, length, get_or, Option}
+use Rattle.cluster_run.proofs.Words.{Some, None, IfSome, IsSomeAnd, All, refl, sym, ap, subst, ◌∙◌, arith, ◌==◌, IsSome}
+use Rattle.cluster_run.proofs.Words.{count_by, ForSome, length-map, All-head, none-some, same_Some, Message, Shape}
+use Rattle.cluster_run.proofs.Words.{ReaderState, new_reader, Medl, Chosen, Script, EVENT_LIMIT, plan_at}
+use Rattle.cluster_run.proofs.Words.{messages_before, nothing_chosen, HostWrite, messages_written, payload_of_host}
+use Rattle.cluster_run.proofs.Words.{writes_in, word_count, words_of_payload, BegunSlot, Numbers, is_loaded, world}
+use Rattle.cluster_run.proofs.Words.{AreBytes, Seat, HostState, message_shape, shape_of, Takes, CurrentSlot}
+use Rattle.cluster_run.proofs.Words.{AreBytesBefore, HaveBegunFor, HaveChosen, next_slot, host_at, writes_shown, IsRing}
+use Rattle.cluster_run.proofs.Words.{IsRingOf, words_written, AreLent, Fetches, MaySettle, MayLend, MayWriteAll}
+use Rattle.cluster_run.proofs.Words.{FetchesOne, WritesBytes, after_writes, fetcher_lent, message_count, write_lines}
+use Rattle.cluster_run.proofs.Words.{steps, add-one, cond_both, All-append, All-tail, write_in, pairs_sent, FetchAll}
+use Rattle.cluster_run.proofs.Words.{MayFetchAll, MayFetchAlone, IsValidWrite, few_messages, filter_map-each}
+use Rattle.cluster_run.proofs.Words.{valid_write_at, valid_writes, filter_map-few}
 use Rattle.cluster_run.proofs.Choices.{node_choice, shape_there}
 use Rattle.cluster_run.proofs.Deliverable.{loaded-payload}
-use Rattle.ttp_world.proofs.HostMessages.{IsValidWrite, few_messages, filter_map-each, valid_write_at, valid_writes}
 use Rattle.ttp_world.proofs.WorldFacts.{plan-short as plan_few}
-use Rattle.ttp_world.proofs.ListFacts.{filter_map-few}
 
 -- A node's ring, where it sends payload.
 
@@ -107,31 +81,22 @@ more_bytes at bytes written k =
 -- Controllers may fetch.
 
 pub lent_may : (loaded : Bool) (end : HostState) (f : ReaderState) → fetcher_lent loaded end ≡ Some f → 1 ≤ f.spare
-lent_may false end f is = absurd (none-some f is)
-lent_may true None f is = absurd (none-some f is)
 lent_may true (Some w) f is = omega (arith, ap (λ (r : ReaderState). r.spare) (same_Some (new_reader w 1) f is))
+lent_may loaded end f is = absurd (none-some f is)
 
 pub may_fetch_all : {s : BegunSlot} {ends : List HostState} {fetchers : List (Option ReaderState)}
     → AreLent s ends fetchers → MayFetchAll fetchers
-may_fetch_all {s = s} {ends = ends} {fetchers = fetchers} lent k f is =
-    grind (arith, common_steps, nat_tests)
+may_fetch_all {s = s} {ends = ends} {fetchers = fetchers} lent k f is = grind steps
 
 -- Fetchers may be settled.
 
-settled_words : (width : ℕ) (w : WriterState) (f : ReaderState) → Attempts (new_reader w 1) f
-    → w.ring.shape.width ≡ width → All (λ (pair : Message). length pair.words ≡ width) f.got
-settled_words width w f attempt wide =
-    grind (arith, common_steps, nat_tests)
-
-pub fetched_may : (list : Medl) (k : ℕ) (loaded : Bool) (end : HostState) (messages : List (List ℕ))
-    (pairs : List Message) (f1 : Option ReaderState) (f : ReaderState)
+pub fetched_may : {messages : List (List ℕ)} {pairs : List Message} (list : Medl) (k : ℕ) (loaded : Bool)
+    (end : HostState) (f1 : Option ReaderState) (f : ReaderState)
     → (loaded ≡ true → HasRing list k messages pairs end) → Fetches (fetcher_lent loaded end) f1 → f1 ≡ Some f
     → MaySettle end (plan_at list k).payload f
-fetched_may list k loaded end messages pairs None f ring fetches is = absurd (none-some f is)
-fetched_may list k false end messages pairs (Some f1) f ring fetches is = absurd fetches
-fetched_may list k true None messages pairs (Some f1) f ring fetches is = absurd fetches
-fetched_may list k true (Some w) messages pairs (Some f1) f ring fetches is =
-    grind (arith, common_steps, nat_tests)
+fetched_may list k loaded end None f ring fetches is = absurd (none-some f is)
+fetched_may list k true (Some w) (Some f1) f ring fetches is = grind steps
+fetched_may list k loaded end (Some f1) f ring fetches is = absurd fetches
 
 -- and still after writes
 after_own : (writes : List HostWrite) (k len : ℕ) (end : HostState) (f : ReaderState) → MaySettle end len f
@@ -190,8 +155,7 @@ module _ {at : CurrentSlot} {numbers : Numbers} {seats : List Seat} {ends : List
 
   -- the lines of what they write
   pub lines_shown : write_lines ends [] (writes_in script at.slot) ≡ writes_shown list script at.slot [] (writes_in script at.slot)
-  lines_shown =
-      lines_of list script at.slot ends [] (writes_in script at.slot)
+  lines_shown = lines_of list script at.slot ends [] (writes_in script at.slot)
       (λ k node some.
       ring_count _ _ _ (host_at ends k) (has_ring list k _ _ (host_at ends k) some (begun.written k node)).there
       ∙ length-map (messages_before list script k (length numbers)) words_of_payload
@@ -203,17 +167,15 @@ module _ {at : CurrentSlot} {numbers : Numbers} {seats : List Seat} {ends : List
   may_fetch_alone = record {
     lend = may_lend;
     settle = λ k near tried fetches f is.
-        fetched_may list k (is_loaded s k) (host_at ends k) _ _ tried f (ring_loaded k (omega (arith, near, count)))
-        fetches is;
+        fetched_may list k (is_loaded s k) (host_at ends k) tried f (ring_loaded k (omega (arith, near, count))) fetches is;
   }
 
   -- fetchers may be settled
   pub may_settle : {fetchers : List (Option ReaderState)} (tried : List (Option ReaderState)) (writes : List HostWrite)
       → AreLent s ends fetchers → FetchAll fetchers tried → (k : ℕ) → k < length ends
       → ForSome (get_or tried k None) (MaySettle (after_writes writes k (host_at ends k)) (plan_at list k).payload)
-  may_settle tried writes lent tries k near f is =
-      after_own writes k (plan_at list k).payload (host_at ends k) f
-      (fetched_may list k (is_loaded s k) (host_at ends k) _ _ (get_or tried k None) f
+  may_settle tried writes lent tries k near f is = after_own writes k (plan_at list k).payload (host_at ends k) f
+      (fetched_may list k (is_loaded s k) (host_at ends k) (get_or tried k None) f
       (ring_loaded k (omega (arith, near, count)))
       (subst (λ (o : Option ReaderState). Fetches o (get_or tried k None)) (lent.each k near)
       (tries.each k (omega (arith, near, lent.count)))) is)
@@ -226,8 +188,7 @@ module _ {at : CurrentSlot} {numbers : Numbers} {seats : List Seat} {ends : List
       (get_or before k nothing_chosen) (get_or chosen k nothing_chosen))
       → HaveChosen list script numbers chosen settled_ends
   have_chosen {settled_ends = settled_ends} {chosen = chosen} before bytes fetches =
-      let each = λ (k : ℕ) (node : k < length list.slots).
-      node_choice list script (length numbers) k at.valid_script
+      let each = λ (k : ℕ) (node : k < length list.slots). node_choice list script (length numbers) k at.valid_script
       (subst (λ n. All AreBytes (messages_before list script k n)) (add-one at.slot ∙ ap suc (sym begun.count)) (bytes k))
       (loaded-payload list script (world list script numbers) k node) (begun.written k node)
       (subst (λ n. FetchesOne (plan_at list k).payload (is_loaded s k) (host_at ends k)

@@ -1,7 +1,7 @@
 -- What a worker is given for the back half of the nodes may go to another thread.
+use Rattle.cluster_run.proofs.Words.{crosses}
 use denote.Ref.{NamedLft}
 use denote.Param.Send.{IsSend, sendable}
-use Rattle.std.proofs.Crossing.{crosses}
 use Rattle.ttp_world.proofs.events.Incidents.TheSendSync as incidents
 use Rattle.ttp_world.proofs.events.LastLookUp.TheSendSync as last
 use Rattle.ttp_world.proofs.medl.Medl.TheSendSync as list

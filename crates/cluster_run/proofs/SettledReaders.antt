@@ -1,19 +1,11 @@
 -- The readers of hosts are settled, one after another, and leave their lines.
-use Rattle.std.proofs.lemmas.Bool.Decides.{nat_tests}
-use Rattle.std.proofs.lemmas.Grind.{common_steps}
-use Rattle.std.proofs.Common.{◌≡◌, ℕ, zero, suc, ◌+◌, ◌<◌, ◌≤◌, List, [], ◌∷◌, ◌++◌, length, map, get_or}
-use Rattle.std.proofs.Common.{Option, Some, None, All, refl, ap, ◌∙◌, arith}
-use Rattle.std.specs.List.{AllByRecursion}
+use Rattle.cluster_run.proofs.Words.{◌≡◌, ℕ, zero, suc, ◌+◌, ◌<◌, ◌≤◌, List, [], ◌∷◌, ◌++◌, length, map, get_or, Option}
+use Rattle.cluster_run.proofs.Words.{Some, None, All, refl, ap, ◌∙◌, arith, AllByRecursion, recursion_from_All}
+use Rattle.cluster_run.proofs.Words.{WriterState, ReaderState, Source, ReadLine, ReadersState, IsSettled, settled}
+use Rattle.cluster_run.proofs.Words.{got_of, pairs_from, ControllerState, place_of, at_source, Desk, desk_ends}
+use Rattle.cluster_run.proofs.Words.{desk_numbers, readers_at, SettlesReads, SettlesReadsOf, read_of, AreLinesBy}
+use Rattle.cluster_run.proofs.Words.{queue_of, steps, all_settled}
 use Rattle.std.proofs.Math.ListN.{get_or-map}
-use Rattle.std.proofs.lemmas.List.Elements.{recursion_from_All}
-use Rattle.nbw_ring.specs.States.{WriterState, ReaderState}
-use Rattle.ttp_world.specs.declared.script.Source.{Source}
-use Rattle.host_port.specs.declared.report.ReadLine.{ReadLine}
-use Rattle.host_port.specs.Reading.{ReadersState, IsSettled, settled, all_settled, got_of, pairs_from}
-use Rattle.host_port.specs.Rings.{ControllerState, place_of, at_source}
-use Rattle.cluster_run.specs.declared.nodes.Desk.{Desk}
-use Rattle.cluster_run.specs.Ends.{desk_ends, desk_numbers}
-use Rattle.cluster_run.specs.Reading.{readers_at, SettlesReads, SettlesReadsOf, read_of, AreLinesBy, queue_of}
 use Rattle.cluster_run.proofs.Changes.{AreChanged}
 use Rattle.cluster_run.proofs.HandingOn.{no_desk}
 
@@ -58,17 +50,12 @@ hosted k (line ∷ lines) all = λ i. record { host = all.0 i; source = line.sou
 -- with its lines
 pub lines_queued : (k : ℕ) (r : ReadersState) (lines : List ReadLine)
     → map (λ (line : ReadLine). line.source) lines ≡ r.calls → All (λ (line : ReadLine). line.host ≡ k) lines
-    → ((from : Source) → pairs_from from lines ≡ got_of (at_source r.readers from))
-    → AreLinesBy k (Some r) lines
+    → ((from : Source) → pairs_from from lines ≡ got_of (at_source r.readers from)) → AreLinesBy k (Some r) lines
 lines_queued k r lines sources hosts pairs = record {
-  reads =
-      hosted k lines (recursion_from_All (λ (line : ReadLine). line.host ≡ k) lines hosts)
+  reads = hosted k lines (recursion_from_All (λ (line : ReadLine). line.host ≡ k) lines hosts)
       ∙ ap (map (λ from. record { host = k; source = from })) sources;
   pairs = pairs;
 }
-
-pub no_lines : (k : ℕ) → AreLinesBy k None []
-no_lines k = record { reads = refl; pairs = λ from. refl }
 
 -- The first hosts' are settled, so many: the other desks and readers are as they were.
 pub record AreReadersSettled (k : ℕ) (old_readers readers : List (Option ReadersState)) (old desks : List Desk)
@@ -81,15 +68,13 @@ pub record AreReadersSettled (k : ℕ) (old_readers readers : List (Option Reade
 
 pub queued_more : {k : ℕ} (readers : List (Option ReadersState)) (queues : List (List ReadLine)) (queue : List ReadLine)
     → length queues ≡ k → ((i : ℕ) → i < k → AreLinesBy i (readers_at readers i) (queue_of queues i))
-    → AreLinesBy k (readers_at readers k) queue
-    → (i : ℕ) → i < k + 1 → AreLinesBy i (readers_at readers i) (queue_of (queues ++ queue ∷ []) i)
-queued_more {k} readers queues queue count are lines =
-    grind (arith, common_steps, nat_tests)
+    → AreLinesBy k (readers_at readers k) queue → (i : ℕ) → i < k + 1
+    → AreLinesBy i (readers_at readers i) (queue_of (queues ++ queue ∷ []) i)
+queued_more {k} readers queues queue count are lines = grind steps
 
 -- all are
 pub are_settled : {k : ℕ} {old_readers readers : List (Option ReadersState)} {old desks : List Desk}
-    {queues : List (List ReadLine)} → length old_readers ≤ k
-    → AreReadersSettled k old_readers readers old desks queues
+    {queues : List (List ReadLine)} → length old_readers ≤ k → AreReadersSettled k old_readers readers old desks queues
     → SettlesReads (desk_ends old) old_readers (desk_ends desks)
 are_settled {old_readers = readers} {old = old} {desks = desks} all so = record {
   each = λ i near.

@@ -1,24 +1,10 @@
 -- What is so of all nodes once a slot has begun, and once it is planned: they are ready for its end.
-use Rattle.std.proofs.lemmas.Bool.Decides.{nat_tests}
-use Rattle.std.proofs.lemmas.Grind.{common_steps}
-use Rattle.std.proofs.Common.{◌≡◌, ℕ, ◌+◌, ◌<◌, List, length, sym, ap, subst, ◌∙◌, arith}
-use Rattle.std.proofs.lemmas.List.{length-map}
-use Rattle.ttp_world.specs.Diary.{History}
-use Rattle.ttp_world.specs.World.{Numbers, slot_after, world}
-use Rattle.ttp_world.proofs.Worlds.{length-world}
-use Rattle.controller.specs.Limits.{IsPlanned}
-use Rattle.controller.specs.Passes.{HaveBegun, StandAfter, delivered_at}
-use Rattle.controller.specs.PlantWithin.{AreSeats, AreIncidents, IsEnded, IsFromWithin, most_ahead, most_ahead_in}
-use Rattle.controller.specs.declared.seat.Seat.{Seat}
-use Rattle.cluster_run.specs.declared.current.CurrentSlot.{CurrentSlot}
-use Rattle.cluster_run.specs.declared.nodes.Desk.{Desk}
-use Rattle.cluster_run.specs.declared.nodes.Nodes.{Nodes}
-use Rattle.cluster_run.specs.Choosing.{HaveBegunFor, next_slot}
-use Rattle.cluster_run.specs.Ending.{MayEnd, MayHandOn}
-use Rattle.cluster_run.specs.Ends.{end_at, desk_ends}
-use Rattle.cluster_run.specs.Rings.{pairs_read}
-use Rattle.cluster_run.specs.Slots.{AllHaveEnded, ArePlannedNodes, AreReady, IsSlotEnded, MayEndSlot, StandsAt}
-use Rattle.cluster_run.specs.Standing.{NodesView}
+use Rattle.cluster_run.proofs.Words.{◌≡◌, ℕ, ◌+◌, ◌<◌, List, length, sym, ap, subst, ◌∙◌, arith, length-map, History}
+use Rattle.cluster_run.proofs.Words.{Numbers, slot_after, world, length-world, IsPlanned, HaveBegun, StandAfter}
+use Rattle.cluster_run.proofs.Words.{delivered_at, AreSeats, AreIncidents, IsEnded, most_ahead, most_ahead_in, Seat}
+use Rattle.cluster_run.proofs.Words.{CurrentSlot, Desk, Nodes, HaveBegunFor, next_slot, MayHandOn, end_at, desk_ends}
+use Rattle.cluster_run.proofs.Words.{pairs_read, IsSlotEnded, MayEndSlot, StandsAt, steps, IsFromWithin, MayEnd}
+use Rattle.cluster_run.proofs.Words.{AllHaveEnded, ArePlannedNodes, AreReady, NodesView}
 use Rattle.cluster_run.proofs.Deliverable.{delivered-deliverable}
 use Rattle.cluster_run.proofs.Halves.{same_many}
 use Rattle.cluster_run.proofs.HandsOn.{HoldsCame, may_hand_on}
@@ -30,8 +16,7 @@ module _ (at : CurrentSlot) {numbers : Numbers} {view : NodesView} {old begun no
     (begin : (history : History) → length history ≡ at.slot → StandAfter at.script.now history 0 old
     → HaveBegun (slot_after at.list.now at.script.now history) 0 begun) where
   pub has_begun : HaveBegun (next_slot at.list.now at.script.now numbers) 0 now
-  has_begun =
-      grind (arith, common_steps, nat_tests, length-world)
+  has_begun = grind (steps, length-world)
 
   pub has_begun_for : HaveBegunFor at numbers now view.host_ends
   has_begun_for = record { count = stands.count; begun = has_begun; written = stands.stands.written }
@@ -59,8 +44,8 @@ may_end at nodes may =
           let came : HoldsCame list script history j (pairs_read list script may.numbers j) (end_at ends j) =
           record { each = λ from. may.read j node from } in
           subst (λ k. MayHandOn (end_at ends j) (delivered_at (slot_after list script history) chosen k)) here
-          (may_hand_on (delivered_at (slot_after list script history) chosen j) at.valid
-          (omega (arith, slots, may.count, at.within, at.valid_script.slots)) came
+          (may_hand_on came (delivered_at (slot_after list script history) chosen j) at.valid
+          (omega (arith, slots, may.count, at.within, at.valid_script.slots))
           (delivered-deliverable list script history chosen j node));
     }
 
@@ -87,8 +72,7 @@ pub ends_slot : (at : CurrentSlot) (old new : Nodes) → ArePlannedNodes at old 
 ends_slot at old new are all = record {
   are = record {
     seats_count = all.ended.count ∙ are.seats_count;
-    seats =
-        subst (λ (t : ℕ). AreSeats at.list.now IsEnded (most_ahead (t + 1)) 0 new.seats.items) are.slot_is
+    seats = subst (λ (t : ℕ). AreSeats at.list.now IsEnded (most_ahead (t + 1)) 0 new.seats.items) are.slot_is
         all.ended.seats_are;
     desks = same_many _ _ all.ended.rings ∙ are.desks;
     host_ends = ap (λ v. length v.items) all.host_ends ∙ are.host_ends;

@@ -1,53 +1,24 @@
 -- The reads of a slot: each gets a message, the lines are the world's for the numbers in them, these are legal, and the
 -- rings keep what was got of them.
-use Rattle.std.proofs.lemmas.Bool.Decides.{nat_tests}
-use Rattle.std.proofs.lemmas.Grind.{common_steps}
-use Rattle.std.proofs.Common.{◌≡◌, ℕ, ◌+◌, ◌<◌, ◌≤◌, Bool, true, false, cond, ◌&&◌, List, [], ◌∷◌}
-use Rattle.std.proofs.Common.{◌++◌, length, map, get_or, Option, Some, None, IfSome, option_map, inl, inr, refl, sym}
-use Rattle.std.proofs.Common.{ap, ◌∙◌, subst, arith}
-use Rattle.std.specs.Prelude.{◌==◌, slice_get, reverse, is_some}
-use Rattle.std.specs.List.{AllByRecursion, list_all}
-use Rattle.std.specs.Option.{ForSome}
-use Rattle.std.proofs.lemmas.Bool.{cases_lt, eq-eqb}
-use Rattle.std.proofs.lemmas.List.{length-map, get_or_past}
-use Rattle.std.proofs.lemmas.Option.{none-some, same_Some, slice_get-map, slice_get_within, get_or_from_slice_get}
-use Rattle.nbw_ring.specs.declared.view.Message.{Message}
+use Rattle.cluster_run.proofs.Words.{◌≡◌, ℕ, ◌+◌, ◌<◌, ◌≤◌, Bool, true, false, cond, ◌&&◌, List, [], ◌∷◌, ◌++◌, length}
+use Rattle.cluster_run.proofs.Words.{map, get_or, Option, Some, None, IfSome, option_map, inl, inr, refl, sym, ap, ◌∙◌}
+use Rattle.cluster_run.proofs.Words.{subst, arith, ◌==◌, slice_get, reverse, is_some, AllByRecursion, list_all, ForSome}
+use Rattle.cluster_run.proofs.Words.{cases_lt, eq-eqb, length-map, get_or_past, none-some, same_Some, slice_get_within}
+use Rattle.cluster_run.proofs.Words.{get_or_from_slice_get, Message, WriterState, ReaderState, new_reader, HostRead}
+use Rattle.cluster_run.proofs.Words.{Medl, Delivered, Entry, Script, Source, History, read_messages, is_legal_read}
+use Rattle.cluster_run.proofs.Words.{are_legal_reads, never_fall, ring_messages, status_words, message_chosen, reads_in}
+use Rattle.cluster_run.proofs.Words.{Numbers, node_past, row_in, world, chosen_of, length-world, Outcome, outcomes_of}
+use Rattle.cluster_run.proofs.Words.{ReadLine, WriteLine, ReadersState, reads_from, lent, got_of, ControllerState}
+use Rattle.cluster_run.proofs.Words.{at_source, incoming_shape, CurrentSlot, Desk, Nodes, next_slot, outcome_of}
+use Rattle.cluster_run.proofs.Words.{desk_ends, desk_numbers, end_at, readers_at, reader_in, reader_at, AreLentTo}
+use Rattle.cluster_run.proofs.Words.{IsClear, AreLinesOf, read_of, number_told, read_shown, ring_words, words_read}
+use Rattle.cluster_run.proofs.Words.{pair_of, pairs_read, pairs_read_in, IsRingOf, IsSlotEnded, StandsAt, TellsReads}
+use Rattle.cluster_run.proofs.Words.{HoldsRead, nodes_view, steps, slice_get-map, AreOfHosts, delivered_of-row_in}
+use Rattle.cluster_run.proofs.Words.{HaveEnded, HavePlannedSlot, IsSlotPlanned}
 use Rattle.nbw_ring.specs.Numbers.{newest_number as newest_in, IsMessageOf}
-use Rattle.nbw_ring.specs.States.{WriterState, ReaderState, new_reader}
-use Rattle.ttp_world.specs.declared.host_lines.HostRead.{HostRead}
-use Rattle.ttp_world.specs.declared.medl.Medl.{Medl}
-use Rattle.ttp_world.specs.declared.node.Delivered.{Delivered}
-use Rattle.ttp_world.specs.declared.node.Entry.{Entry}
-use Rattle.ttp_world.specs.declared.script.Script.{Script}
-use Rattle.ttp_world.specs.declared.script.Source.{Source}
-use Rattle.ttp_world.specs.declared.script.Source.TheVariants as source
-use Rattle.ttp_world.specs.Diary.{History}
-use Rattle.ttp_world.specs.Legal.{read_messages, is_legal_read, are_legal_reads, never_fall}
-use Rattle.ttp_world.specs.Messages.{ring_messages, status_words, newest_number}
-use Rattle.ttp_world.specs.Outgoing.{message_chosen}
-use Rattle.ttp_world.specs.Script.{reads_in}
-use Rattle.ttp_world.specs.World.{Numbers, node_past, row_in, world, chosen_of}
-use Rattle.ttp_world.proofs.Carried.{AreOfHosts, delivered_of-row_in}
-use Rattle.ttp_world.proofs.Worlds.{length-world}
-use Rattle.controller.specs.declared.controller.Outcome.{Outcome}
-use Rattle.controller.specs.Passes.{HaveEnded, IsLeft}
-use Rattle.controller.specs.PlantStands.{outcomes_of}
+use Rattle.ttp_world.specs.Messages.{newest_number}
+use Rattle.controller.specs.Passes.{IsLeft}
 use Rattle.controller.proofs.Plants.{left_at}
-use Rattle.host_port.specs.declared.report.ReadLine.{ReadLine}
-use Rattle.host_port.specs.declared.report.WriteLine.{WriteLine}
-use Rattle.host_port.specs.Reading.{ReadersState, reads_from, lent, got_of}
-use Rattle.host_port.specs.Rings.{ControllerState, at_source, incoming_shape}
-use Rattle.cluster_run.specs.declared.current.CurrentSlot.{CurrentSlot}
-use Rattle.cluster_run.specs.declared.nodes.Desk.{Desk}
-use Rattle.cluster_run.specs.declared.nodes.Nodes.{Nodes}
-use Rattle.cluster_run.specs.Choosing.{next_slot}
-use Rattle.cluster_run.specs.Ending.{outcome_of}
-use Rattle.cluster_run.specs.Ends.{desk_ends, desk_numbers, end_at}
-use Rattle.cluster_run.specs.Reading.{readers_at, reader_in, reader_at, AreLentTo, IsClear, AreLinesOf, read_of}
-use Rattle.cluster_run.specs.Report.{number_told, read_shown}
-use Rattle.cluster_run.specs.Rings.{ring_words, words_read, pair_of, pairs_read, pairs_read_in, IsRingOf}
-use Rattle.cluster_run.specs.Slots.{IsSlotEnded, HavePlannedSlot, IsSlotPlanned, StandsAt, TellsReads}
-use Rattle.cluster_run.specs.Standing.{HoldsRead, nodes_view}
 use Rattle.cluster_run.proofs.Deliverable.{IsDeliverable, delivered-deliverable}
 use Rattle.cluster_run.proofs.HandedRings.{IsHandedOf, handed_ring}
 use Rattle.cluster_run.proofs.HandsOn.{HoldsCame, number_is_told}
@@ -55,6 +26,7 @@ use Rattle.cluster_run.proofs.LineReads.{message_told, messages_told, pairs_of, 
 use Rattle.cluster_run.proofs.LineReads.{reads_shown, pairs_told, IsLegalLine, legal_lines}
 use Rattle.cluster_run.proofs.LentBuffers.{sized_ring}
 use Rattle.cluster_run.proofs.RingReads.{IsLentBy, AreGotOf, RingSlot, nothing_got, clear_of, IsRingRead, ring_read}
+use Rattle.ttp_world.specs.declared.script.Source.TheVariants as source
 
 -- Messages of rings: there is one at first, and a slot brings one more at most.
 
@@ -62,18 +34,14 @@ ring_messages-some : (list : Medl) (script : Script) (history : History) (k : �
     → 1 ≤ length (ring_messages list script history k from)
 ring_messages-some list script [] k source.Status = omega arith
 ring_messages-some list script [] k (source.Node p) = omega arith
-ring_messages-some list script (row ∷ history) k source.Status =
-    grind (arith, common_steps, nat_tests)
+ring_messages-some list script (row ∷ history) k source.Status = grind steps
 ring_messages-some list script (row ∷ history) k (source.Node p) =
-    grind (arith, common_steps, nat_tests, ring_messages-some list script history k (source.Node p))
+    grind (steps, ring_messages-some list script history k (source.Node p))
 
 ring_messages-few : (list : Medl) (script : Script) (row : List Entry) (history : History) (k : ℕ) (from : Source)
-    → length (ring_messages list script (row ∷ history) k from)
-    ≤ length (ring_messages list script history k from) + 1
-ring_messages-few list script row history k source.Status =
-    grind (arith, common_steps, nat_tests)
-ring_messages-few list script row history k (source.Node p) =
-    grind (arith, common_steps, nat_tests)
+    → length (ring_messages list script (row ∷ history) k from) ≤ length (ring_messages list script history k from) + 1
+ring_messages-few list script row history k source.Status = grind steps
+ring_messages-few list script row history k (source.Node p) = grind steps
 
 length-words : (list : Medl) (script : Script) (history : History) (k : ℕ) (from : Source)
     → length (words_read list script history k from) ≡ length (ring_messages list script history k from)
@@ -97,8 +65,7 @@ lent_self w n = lent_if w n (n == 0)
 lent_by : (reads : List HostRead) (k : ℕ) (end : ControllerState) (o : Option ReadersState)
     → ForSome o (AreLentTo reads k end) → (from : Source) → IsLentBy (at_source end from) (reader_in o from)
 lent_by reads k end None are from = lent_nothing (at_source end from)
-lent_by reads k end (Some x) are from =
-    subst (IsLentBy (at_source end from)) (sym ((are x refl).readers from))
+lent_by reads k end (Some x) are from = subst (IsLentBy (at_source end from)) (sym ((are x refl).readers from))
     (lent_self (at_source end from) (reads_from reads k from))
 
 -- A node that there isn't has no reader.
@@ -129,8 +96,7 @@ is_pair from messages m is =
 
 is_near : (from : Source) (messages : List (List ℕ)) (m : Message) → IsMessageOf (map (ring_words from) messages) m
     → m.number ≤ newest_number messages
-is_near from messages m is =
-    grind (arith, common_steps, nat_tests, length-map, map, messages, slice_get_within)
+is_near from messages m is = grind (steps, length-map, messages, slice_get_within)
 
 each_told : (list : Medl) (script : Script) (after : History) (lines : List ReadLine)
     → AllByRecursion (λ (line : ReadLine). IsMessageOf (words_read list script after line.host line.source) line.pair)
@@ -148,7 +114,7 @@ each_legal : (list : Medl) (script : Script) (before after : History) (lines : L
     lines → AllByRecursion (IsLegalLine list script before after) lines
 each_legal list script before after [] least are = tt
 each_legal list script before after (line ∷ lines) least are =
-    grind (arith, common_steps, nat_tests, each_legal list script before after lines least.1 are.1, is_near, length-words)
+    grind (steps, each_legal list script before after lines least.1 are.1, is_near, length-words)
 
 -- A slot that was taken, by the numbers that its nodes stood for.
 
@@ -207,8 +173,7 @@ module _ (so : TakenSlot) where
 
   pub of_hosts : AreOfHosts (next_slot list script so.numbers) so.mid.chosen.items
   of_hosts = record {
-    message = λ k node loaded.
-        planned.chosen.messages k node loaded
+    message = λ k node loaded. planned.chosen.messages k node loaded
         ∙ ap (λ n. message_chosen list script n k (Some (chosen_of so.mid.chosen.items k).number))
         (sym (length-world list script so.numbers));
   }
@@ -233,20 +198,17 @@ module _ (so : TakenSlot) where
   came : (k : ℕ) → k < length list.slots
       → HoldsCame list script before k (pairs_read list script so.numbers k) (end_at (desk_ends so.mid.desks.items) k)
   came k node = record {
-    each = λ from.
-        subst (λ v. HoldsRead list script so.numbers (desk_ends v.items) k from) (sym so.plans.desks)
+    each = λ from. subst (λ v. HoldsRead list script so.numbers (desk_ends v.items) k from) (sym so.plans.desks)
         (so.stands.stands.read k node from);
   }
 
   -- so the numbers told are those of the world
   pub numbers_delivered : (k : ℕ) → k < length list.slots
       → get_or (desk_numbers so.new.desks.items) k None ≡ number_told list script row before k
-  numbers_delivered k node =
-      so.tells.handed_are.numbers_are k (omega (arith, node, ends_count))
-      ∙ number_is_told row (outcome k).delivered (came k node)
+  numbers_delivered k node = so.tells.handed_are.numbers_are k (omega (arith, node, ends_count))
+      ∙ number_is_told (came k node) row (outcome k).delivered
       (subst (λ (o : Option Delivered). IfSome o (IsDeliverable list k)) (sym (left_here k node).delivered)
-      (delivered-deliverable list script before so.mid.chosen.items k node))
-      (handed_of k node).delivered
+      (delivered-deliverable list script before so.mid.chosen.items k node)) (handed_of k node).delivered
 
   -- What was read.
 
@@ -270,8 +232,7 @@ module _ (so : TakenSlot) where
         there = omega (arith, count, some);
         few = omega (arith, count, length-words list script (row ∷ before) k from, few);
         is = is;
-        be =
-            rw (so.tells.handed_are.ends k (omega (arith, near, ends_count)))
+        be = rw (so.tells.handed_are.ends k (omega (arith, near, ends_count)))
             (handed_ring from _ _ (handed_of k near) is);
         lent_by = lent_by reads k _ (readers_at so.tells.first k)
             (so.tells.lent.each k (omega (arith, near, ends_count))) from;
@@ -317,8 +278,7 @@ module _ (so : TakenSlot) where
   told = each_told list script (row ∷ before) so.reads are_messages
 
   messages : read_messages reads (numbers_told so.reads) ≡ map message_told so.reads
-  messages =
-      ap (λ rs. read_messages rs (numbers_told so.reads)) (sym are_lines.reads_are) ∙ messages_told so.reads
+  messages = ap (λ rs. read_messages rs (numbers_told so.reads)) (sym are_lines.reads_are) ∙ messages_told so.reads
 
   pub reads_shown_are : so.reads
       ≡ map (read_shown list script (row ∷ before)) (read_messages reads (numbers_told so.reads))
@@ -332,8 +292,7 @@ module _ (so : TakenSlot) where
       let count : (length reads == length (numbers_told so.reads)) ≡ true =
       eq-eqb (length reads) (length (numbers_told so.reads))
       (ap length (sym are_lines.reads_are) ∙ length-told so.reads) in
-      λ i.
-      count i
+      λ i. count i
       && (ap (list_all (is_legal_read list script before (row ∷ before))) messages
       ∙ legal_lines list script before (row ∷ before) so.reads
       (each_legal list script before (row ∷ before) so.reads least are_messages)) i

@@ -1,69 +1,38 @@
 -- A slot takes a cluster to the world of one slot more: its numbers are those in its report, which shows that slot.
-use Rattle.std.proofs.lemmas.Bool.Decides.{nat_tests}
-use Rattle.std.proofs.lemmas.Grind.{common_steps}
-use Rattle.std.proofs.Common.{◌≡◌, ℕ, ◌+◌, ◌<◌, true, ◌&&◌, List, [], ◌∷◌, ◌++◌}
-use Rattle.std.proofs.Common.{length, map, get_or, Option, None, sym, ap, subst, ◌∙◌, arith}
-use Rattle.std.specs.List.{list_all}
+use Rattle.cluster_run.proofs.Words.{◌≡◌, ℕ, ◌+◌, ◌<◌, true, ◌&&◌, List, [], ◌∷◌, ◌++◌, length, map, get_or, Option}
+use Rattle.cluster_run.proofs.Words.{None, sym, ap, subst, ◌∙◌, arith, list_all, length-map, below, Medl, Entry, Script}
+use Rattle.cluster_run.proofs.Words.{History, IsLegal, are_legal_reads, is_legal_message, read_messages, reads_in}
+use Rattle.cluster_run.proofs.Words.{writes_in, SlotNumbers, Numbers, legal-after, length-world, StandAfter, most_ahead}
+use Rattle.cluster_run.proofs.Words.{NodeLine, SlotReport, at_source, incoming_shape, next_slot, desk_ends}
+use Rattle.cluster_run.proofs.Words.{desk_numbers, end_at, HaveEndedSlot, node_shown, numbers_in, read_shown}
+use Rattle.cluster_run.proofs.Words.{writes_shown, IsRingOf, pairs_read, pairs_read_in, words_read, IsNextOf}
+use Rattle.cluster_run.proofs.Words.{NodesStandFor, nodes_view, steps, fill_by_all, all-below, entry_of}
+use Rattle.cluster_run.proofs.Words.{are_legal_messages, are_same_numbers, is_legal_slot, message_of, message_of-row_in}
+use Rattle.cluster_run.proofs.Words.{length-row_in, row_of_world, row_of_world-told, HoldsSent, number_sent}
 use Rattle.std.proofs.Math.ListN.{get_or-map}
-use Rattle.std.proofs.lemmas.List.{length-map}
-use Rattle.std.proofs.lemmas.List.FromFn.{fill_by_all}
-use Rattle.ttp_base.specs.NodeSet.{below}
-use Rattle.ttp_base.proofs.Below.{all-below}
-use Rattle.ttp_world.specs.declared.medl.Medl.{Medl}
-use Rattle.ttp_world.specs.declared.node.Entry.{Entry}
-use Rattle.ttp_world.specs.declared.node.Entry.TheVariants as entry
-use Rattle.ttp_world.specs.declared.script.Script.{Script}
-use Rattle.ttp_world.specs.Diary.{History, entry_of}
-use Rattle.ttp_world.specs.Legal.{IsLegal, are_legal_messages, are_legal_reads, are_same_numbers, is_legal_message}
-use Rattle.ttp_world.specs.Legal.{is_legal_slot, read_messages}
-use Rattle.ttp_world.specs.Messages.{message_of}
-use Rattle.ttp_world.specs.Script.{reads_in, writes_in}
-use Rattle.ttp_world.specs.World.{SlotNumbers, Numbers, row_in, world}
-use Rattle.ttp_world.proofs.Carried.{message_of-row_in}
 use Rattle.ttp_world.proofs.LegalRuns.{are_same_numbers-refl as same_numbers}
-use Rattle.ttp_world.proofs.LegalSlots.{legal-after}
 use Rattle.ttp_world.proofs.LineLists.{map_of_map}
-use Rattle.ttp_world.proofs.Slots.{length-row_in}
-use Rattle.ttp_world.proofs.Worlds.{length-world, row_of_world, row_of_world-told}
-use Rattle.controller.specs.Passes.{StandAfter}
-use Rattle.controller.specs.PlantWithin.{most_ahead}
-use Rattle.host_port.specs.declared.report.NodeLine.{NodeLine}
-use Rattle.host_port.specs.declared.report.SlotReport.{SlotReport}
-use Rattle.host_port.specs.Rings.{at_source, incoming_shape}
-use Rattle.cluster_run.specs.Choosing.{HoldsSent, next_slot, number_sent}
-use Rattle.cluster_run.specs.Ends.{desk_ends, desk_numbers, end_at}
-use Rattle.cluster_run.specs.Report.{HaveEndedSlot, node_shown, numbers_in, read_shown, writes_shown}
-use Rattle.cluster_run.specs.Rings.{IsRingOf, pairs_read, pairs_read_in, words_read}
-use Rattle.cluster_run.specs.Slots.{IsNextOf}
-use Rattle.cluster_run.specs.Standing.{NodesStandFor, nodes_view}
-use Rattle.cluster_run.proofs.SlotReads.{TakenSlot, of_hosts, planned, ended, numbers_delivered, slots}
-use Rattle.cluster_run.proofs.SlotReads.{reads_shown_are, reads_legal, reads_rise, rings_settled}
+use Rattle.cluster_run.proofs.SlotReads.{TakenSlot, of_hosts, planned, ended, numbers_delivered, slots, reads_shown_are}
+use Rattle.cluster_run.proofs.SlotReads.{reads_legal, reads_rise, rings_settled, row as row_taken}
+use Rattle.cluster_run.proofs.SlotReads.{before as world_before}
+use Rattle.ttp_world.specs.declared.node.Entry.TheVariants as entry
 
 -- The numbers that a slot's node lines tell are those of its row.
 
 messages_told : (row : List Entry) → map (λ k. message_of (entry_of row k)) (below (length row)) ≡ map message_of row
 messages_told row =
     sym (fill_by_all (λ k. message_of (entry_of row k)) (map message_of row) (length row) None
-    (length-map row message_of)
-    (λ k less. get_or-map message_of row k entry.Off))
+    (length-map row message_of) (λ k less. get_or-map message_of row k entry.Off))
 
 sent_told : (list : Medl) (script : Script) (row : List Entry) (before : History) (n : ℕ) (lines : List NodeLine)
     → length row ≡ n → lines ≡ map (node_shown list script row before) (below n)
     → map (λ line. message_of line.state.entry) lines ≡ map message_of row
-sent_told list script row before n lines count are =
-    grind (arith, common_steps, nat_tests, map, map_of_map, messages_told)
+sent_told list script row before n lines count are = grind (steps, map_of_map, messages_told)
 
 -- The report of a slot that was taken, whose lines of nodes these are.
 
 abbrev pub report_of : TakenSlot → List NodeLine → SlotReport
 report_of so nodes = record { slot = so.at.slot; nodes = nodes; writes = so.writes; reads = so.reads }
-
--- the slot's row, and the world before it
-abbrev pub row_taken : TakenSlot → List Entry
-row_taken so = row_in (next_slot so.at.list.now so.at.script.now so.numbers) so.mid.chosen.items
-
-abbrev pub world_before : TakenSlot → History
-world_before so = world so.at.list.now so.at.script.now so.numbers
 
 -- all nodes have ended it
 pub has_ended : (so : TakenSlot) → HaveEndedSlot so.at.list.now so.at.script.now (row_taken so) (world_before so)
@@ -104,15 +73,12 @@ module _ (so : TakenSlot) (nodes : List NodeLine)
 
   -- they make the slot's row
   rows : row_of_world list script told numbers ≡ row
-  rows =
-      ap (λ (ns : List (Option ℕ)). row_of_world list script (record { sent = ns; read = told.read }) numbers) sent
+  rows = ap (λ (ns : List (Option ℕ)). row_of_world list script (record { sent = ns; read = told.read }) numbers) sent
       ∙ row_of_world-told list script numbers so.mid.chosen.items told.read (of_hosts so)
 
   sent_at : (k : ℕ) → k < length list.slots
       → get_or told.sent k None ≡ number_sent (next_slot list script numbers) so.mid.chosen.items k
-  sent_at k node =
-      ap (λ (ns : List (Option ℕ)). get_or ns k None) sent
-      ∙ get_or-map message_of row k entry.Off
+  sent_at k node = ap (λ (ns : List (Option ℕ)). get_or ns k None) sent ∙ get_or-map message_of row k entry.Off
       ∙ message_of-row_in (next_slot list script numbers) so.mid.chosen.items k node
 
   stand : NodesStandFor list script (nodes_view so.new) (told ∷ numbers)
@@ -124,8 +90,7 @@ module _ (so : TakenSlot) (nodes : List NodeLine)
         v.items k) (sym so.ends.host_ends) ((planned so).chosen.written k node));
     read = λ k node from.
         subst (λ (r : List Entry). IsRingOf (incoming_shape list k from) (words_read list script (r ∷ before) k from)
-        (pairs_read list script numbers k from
-        ++ pairs_read_in list script (r ∷ before)
+        (pairs_read list script numbers k from ++ pairs_read_in list script (r ∷ before)
         (read_messages (reads_in script (length numbers)) told.read) k from)
         (at_source (end_at (desk_ends so.new.desks.items) k) from)) (sym rows)
         (rw so.stands.count (rings_settled so k node from));
@@ -135,12 +100,10 @@ module _ (so : TakenSlot) (nodes : List NodeLine)
 
   legal_at : (k : ℕ) → k < length list.slots
       → is_legal_message list script (length before) k (message_of (entry_of row k)) ≡ true
-  legal_at k node =
-      ap (is_legal_message list script (length before) k)
+  legal_at k node = ap (is_legal_message list script (length before) k)
       (message_of-row_in (next_slot list script numbers) so.mid.chosen.items k node)
       ∙ ap (λ n. is_legal_message list script n k (number_sent (next_slot list script numbers) so.mid.chosen.items k))
-      (length-world list script numbers)
-      ∙ (planned so).chosen.legal k node
+      (length-world list script numbers) ∙ (planned so).chosen.legal k node
 
   messages_legal : are_legal_messages list script (length before) row told.sent ≡ true
   messages_legal =
@@ -159,8 +122,7 @@ module _ (so : TakenSlot) (nodes : List NodeLine)
       λ i. messages_legal i && reads i
 
   legal : IsLegal list script numbers → IsLegal list script (told ∷ numbers)
-  legal older =
-      legal-after list script told numbers older
+  legal older = legal-after list script told numbers older
       (subst (λ (r : List Entry). is_legal_slot list script r before told ≡ true) (sym rows) slot_legal)
       (rw so.stands.count (reads_rise so))
 
@@ -172,8 +134,7 @@ module _ (so : TakenSlot) (nodes : List NodeLine)
       nodes = are
           ∙ ap (λ (r : List Entry). map (node_shown list script r before) (below (length list.slots))) (sym rows);
       writes = so.plans.lines_are ∙ ap (λ n. writes_shown list script n [] (writes_in script n)) (sym (slots so));
-      reads =
-          reads_shown_are so
+      reads = reads_shown_are so
           ∙ (λ i. map (read_shown list script (sym rows i ∷ before))
           (read_messages (reads_in script (sym (slots so) i)) told.read));
     };

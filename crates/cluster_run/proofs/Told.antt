@@ -1,11 +1,7 @@
 -- Who watches a run is told of each slot.
-use Rattle.std.proofs.Common.{◌≡◌, ◌+◌, ◌<◌, refl}
-use Rattle.cluster_run.specs.declared.progress.Course.{Course}
-use Rattle.cluster_run.specs.declared.progress.Progress.{Progress}
-use Rattle.cluster_run.specs.Choosing.{AreBytesBefore}
-use Rattle.cluster_run.specs.Progress.{cluster_at, IsOnCourse}
+use Rattle.cluster_run.proofs.Words.{◌≡◌, ◌+◌, ◌<◌, refl, Course, Progress, AreBytesBefore, cluster_at, IsOnCourse}
+use Rattle.cluster_run.proofs.Words.{Steps}
 use Rattle.cluster_run.specs.Runs.{IsToldOf}
-use Rattle.cluster_run.specs.Slots.{Steps}
 
 -- what a slot makes of a cluster is what is told
 pub told_next : (course : Course) (old new : Progress) → IsOnCourse course old → old.done < course.script.now.slots

@@ -1,26 +1,14 @@
 -- What the writes of a slot make of the ends of hosts, write by write.
-use Rattle.std.proofs.lemmas.Bool.Decides.{nat_tests}
-use Rattle.std.proofs.lemmas.Grind.{common_steps}
-use Rattle.std.proofs.Common.{◌≡◌, ℕ, zero, suc, ◌+◌, ◌<◌, ◌≤◌, Bool, true, false, cond, List, [], ◌∷◌, ◌++◌}
-use Rattle.std.proofs.Common.{length, map, set, take, drop, get_or, count_by, Option, Some, None, option_map}
-use Rattle.std.proofs.Common.{refl, sym, ap}
-use Rattle.std.proofs.Common.{◌∙◌, arith, length-append}
-use Rattle.std.specs.Prelude.{◌==◌, IsSome}
-use Rattle.std.specs.List.{filter_map, cons_option}
-use Rattle.std.proofs.lemmas.Bool.{false≢true, eq-eqb, eqb-true, false_from_ne_true}
-use Rattle.std.proofs.lemmas.List.{append-nil, length-map, length-set, take_more}
-use Rattle.std.proofs.lemmas.List.{take-append-drop, get_or-set_same, get_or-set_other}
-use Rattle.std.proofs.lemmas.List.Elements.{filter_map-append}
+use Rattle.cluster_run.proofs.Words.{◌≡◌, ℕ, zero, suc, ◌+◌, ◌<◌, ◌≤◌, Bool, true, false, cond, List, [], ◌∷◌, ◌++◌}
+use Rattle.cluster_run.proofs.Words.{length, map, set, take, drop, get_or, count_by, Option, Some, None, option_map}
+use Rattle.cluster_run.proofs.Words.{refl, sym, ap, ◌∙◌, arith, ◌==◌, IsSome, filter_map, false≢true, eq-eqb, eqb-true}
+use Rattle.cluster_run.proofs.Words.{false_from_ne_true, append-nil, length-map, length-set, take_more}
+use Rattle.cluster_run.proofs.Words.{take-append-drop, get_or-set_same, get_or-set_other, HostWrite, payload_of_host}
+use Rattle.cluster_run.proofs.Words.{words_of_payload, WriteLine, HostState, written, Takes, HasRoom, host_at}
+use Rattle.cluster_run.proofs.Words.{with_messages, after_writes, message_count, write_line, write_lines, steps}
+use Rattle.cluster_run.proofs.Words.{cons_option, filter_map-append, most_number, messages_by}
+use Rattle.std.proofs.Common.{length-append}
 use Rattle.std.proofs.lemmas.List.Sums.{count_by-le-length}
-use Rattle.ttp_world.specs.Script.{HostWrite, payload_of_host}
-use Rattle.ttp_world.specs.Words.{words_of_payload}
-use Rattle.host_port.specs.declared.report.WriteLine.{WriteLine}
-use Rattle.host_port.specs.Rings.{HostState}
-use Rattle.host_port.specs.Writing.{written, Takes, HasRoom}
-use Rattle.nbw_ring.specs.Numbers.{most_number}
-use Rattle.cluster_run.specs.Ends.{host_at}
-use Rattle.cluster_run.specs.Sending.{messages_by, with_messages, after_writes, message_count}
-use Rattle.cluster_run.specs.Sending.{write_line, write_lines}
 
 -- the ends and the lines once these writes were made
 pub record AreWritten (old : List HostState) (writes : List HostWrite) (ends : List HostState) (lines : List WriteLine)
@@ -35,12 +23,9 @@ after_one : (own : Bool) (messages : List (List ℕ)) (payload : List ℕ) (end 
     → option_map (λ w. with_messages w (messages ++ cons_option (cond own (Some payload) None) [])) end
     ≡ cond own (written (option_map (λ w. with_messages w messages) end) (words_of_payload payload))
     (option_map (λ w. with_messages w messages) end)
-after_one true messages payload None = refl
-after_one false messages payload None = refl
-after_one true messages payload (Some w) =
-    grind (arith, common_steps, nat_tests)
-after_one false messages payload (Some w) =
-    λ i. Some (with_messages w (append-nil messages i))
+after_one true messages payload (Some w) = grind steps
+after_one false messages payload (Some w) = λ i. Some (with_messages w (append-nil messages i))
+after_one own messages payload end = refl
 
 after_more : (writes : List HostWrite) (w : HostWrite) (k : ℕ) (end : HostState)
     → after_writes (writes ++ w ∷ []) k end
@@ -51,33 +36,21 @@ after_more writes w k end =
 
 -- The line: its number follows those of the messages before it.
 
-by_host : ℕ → HostWrite → Bool
-by_host k e = e.host == k
-
 write_lines-more : (old : List HostState) (earlier writes : List HostWrite) (w : HostWrite)
     → write_lines old earlier (writes ++ w ∷ [])
     ≡ write_lines old earlier writes
     ++ write_line old w.host (count_by (λ e. e.host == w.host) earlier + count_by (λ e. e.host == w.host) writes) ∷ []
-write_lines-more old earlier [] w =
-    ap (λ n. write_line old w.host n ∷ []) (omega arith)
-write_lines-more old earlier (v ∷ writes) w =
-    grind (arith, common_steps, nat_tests, write_lines-more old (v ∷ earlier) writes w)
-
-counted_one : (own : Bool) (payload : List ℕ) (messages : List (List ℕ)) (n : ℕ) → length messages ≡ n
-    → length (cons_option (cond own (Some payload) None) messages) ≡ cond own 1 0 + n
-counted_one true payload messages n same = omega arith
-counted_one false payload messages n same = omega arith
+write_lines-more old earlier [] w = ap (λ n. write_line old w.host n ∷ []) (omega arith)
+write_lines-more old earlier (v ∷ writes) w = grind (steps, write_lines-more old (v ∷ earlier) writes w)
 
 counted : (k : ℕ) (writes : List HostWrite) → length (messages_by k writes) ≡ count_by (λ e. e.host == k) writes
 counted k [] = refl
-counted k (w ∷ writes) =
-    grind (arith, common_steps, nat_tests, counted k writes)
+counted k (w ∷ writes) = grind (steps, counted k writes)
 
 count_after : (k : ℕ) (writes : List HostWrite) (end : HostState) → IsSome end
     → message_count (after_writes writes k end) ≡ message_count end + count_by (λ e. e.host == k) writes
 count_after k writes None some = absurd (false≢true some)
-count_after k writes (Some w) some =
-    length-append w.messages (map words_of_payload (messages_by k writes))
+count_after k writes (Some w) some = length-append w.messages (map words_of_payload (messages_by k writes))
     ∙ ap (λ n. length w.messages + n) (length-map (messages_by k writes) words_of_payload ∙ counted k writes)
 
 was_some : (k : ℕ) (writes : List HostWrite) (end : HostState) → IsSome (after_writes writes k end) → IsSome end
@@ -90,7 +63,19 @@ pub written_more : (old ends : List HostState) (writes : List HostWrite) (lines 
     (set ends w.host (written (host_at ends w.host) (words_of_payload w.payload)))
     (lines ++ write_line ends w.host 0 ∷ [])
 written_more old ends writes lines w so within some =
-    grind (arith, common_steps, nat_tests, after_more, cond, count_after, count_by, eq-eqb, eqb-true, false_from_ne_true, get_or-set_other, get_or-set_same, length-set, set, was_some, write_lines-more)
+    grind (
+      steps,
+      after_more,
+      count_after,
+      eq-eqb,
+      eqb-true,
+      false_from_ne_true,
+      get_or-set_other,
+      get_or-set_same,
+      length-set,
+      was_some,
+      write_lines-more,
+    )
 
 -- What a ring takes, it takes after the writes, and it has room for one more of so many.
 
@@ -117,15 +102,13 @@ takes-some (Some w) size takes = refl
 
 pub taken_some : {X Y : Type 0} (h : X → Option Y) (xs : List X) (i : ℕ) (x : X) (y : Y) → i < length xs
     → x ≡ get_or xs i x → h x ≡ Some y → filter_map h (take (i + 1) xs) ≡ filter_map h (take i xs) ++ y ∷ []
-taken_some h xs i x y within here is =
-    ap (filter_map h) (take_more xs i x within)
+taken_some h xs i x y within here is = ap (filter_map h) (take_more xs i x within)
     ∙ filter_map-append h (take i xs) (get_or xs i x ∷ [])
     ∙ ap (λ o. filter_map h (take i xs) ++ cons_option o []) (ap h (sym here) ∙ is)
 
-pub taken_none : {X Y : Type 0} (h : X → Option Y) (xs : List X) (i : ℕ) (x : X) → i < length xs
-    → x ≡ get_or xs i x → h x ≡ None → filter_map h (take (i + 1) xs) ≡ filter_map h (take i xs)
-taken_none h xs i x within here is =
-    grind (arith, common_steps, nat_tests, append-nil, filter_map-append, get_or, take, take_more)
+pub taken_none : {X Y : Type 0} (h : X → Option Y) (xs : List X) (i : ℕ) (x : X) → i < length xs → x ≡ get_or xs i x
+    → h x ≡ None → filter_map h (take (i + 1) xs) ≡ filter_map h (take i xs)
+taken_none h xs i x within here is = grind (steps, append-nil, filter_map-append, take_more)
 
 -- one that is taken leaves room in the count of all
 pub taken_room : {X Y : Type 0} (h : X → Option Y) (xs : List X) (i : ℕ) (x : X) (y : Y) → i < length xs
@@ -135,8 +118,7 @@ taken_room h xs i x y within here is =
     let back = filter_map h (drop (i + 1) xs) in
     let one : length front ≡ length (filter_map h (take i xs) ++ y ∷ []) =
     ap length (taken_some h xs i x y within here is) in
-    let whole : length (filter_map h xs) ≡ length (front ++ back) =
-    ap length
+    let whole : length (filter_map h xs) ≡ length (front ++ back) = ap length
     (ap (filter_map h) (sym (take-append-drop (i + 1) xs)) ∙ filter_map-append h (take (i + 1) xs) (drop (i + 1) xs)) in
     omega (arith, one, whole, length-append (filter_map h (take i xs)) (y ∷ []), length-append front back)
 

@@ -1,7 +1,5 @@
-use Rattle.std.proofs.Common.{◌≡◌, ◌++◌, ap, subst, ◌∙◌, arith}
-use Rattle.std.proofs.lemmas.List.{with_items_is}
+use Rattle.cluster_run.proofs.Words.{◌≡◌, ◌++◌, ap, subst, ◌∙◌, arith, with_items_is, HasPartEnded}
 use Rattle.std.specs.Arc.{arc_value}
-use Rattle.cluster_run.specs.Ending.{HasPartEnded}
 use Rattle.cluster_run.proofs.Halves.{front_ready, back_ready, both_ended}
 use Rattle.cluster_run.proofs.beside.end_staying.Goals as goal
 

@@ -1,6 +1,5 @@
-use Rattle.std.proofs.Common.{subst}
+use Rattle.cluster_run.proofs.Words.{subst, HaveHostsDone}
 use Rattle.cluster_run.specs.declared.jobs.HostJob.TheVariants as job
-use Rattle.cluster_run.specs.Jobs.{HaveHostsDone}
 use Rattle.cluster_run.proofs.beside.write_beside.Goals as goal
 
 pub unreachable-requires : goal.unreachable-requires

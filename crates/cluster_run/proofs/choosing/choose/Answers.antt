@@ -1,6 +1,4 @@
-use Rattle.std.proofs.Common.{sym, subst, arith}
-use Rattle.std.proofs.lemmas.List.{with_items_is}
-use Rattle.cluster_run.specs.Choosing.{MayChoose}
+use Rattle.cluster_run.proofs.Words.{sym, subst, arith, with_items_is, MayChoose}
 use Rattle.cluster_run.proofs.choosing.choose.Goals as goal
 
 pub fetch_and_choose-requires-clause-may : goal.fetch_and_choose-requires-clause-may

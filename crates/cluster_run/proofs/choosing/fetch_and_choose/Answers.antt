@@ -1,9 +1,5 @@
-use Rattle.std.proofs.Common.{[], All, sym, ap, subst, ◌∙◌}
-use Rattle.std.proofs.lemmas.List.Elements.{All-nil}
-use Rattle.cluster_run.specs.Choosing.{next_slot}
-use Rattle.cluster_run.specs.Ends.{host_at}
-use Rattle.cluster_run.specs.Report.{writes_shown}
-use Rattle.cluster_run.specs.Sending.{WritesBytes, after_writes}
+use Rattle.cluster_run.proofs.Words.{[], All, sym, ap, subst, ◌∙◌, All-nil, next_slot, host_at, writes_shown}
+use Rattle.cluster_run.proofs.Words.{WritesBytes, after_writes}
 use Rattle.cluster_run.proofs.Alone.{unwritten}
 use Rattle.cluster_run.proofs.Sends.{have_chosen, may_fetch_alone, more_bytes}
 use Rattle.cluster_run.proofs.choosing.fetch_and_choose.Goals as goal
@@ -20,13 +16,10 @@ returns g c =
     record {
       count = c.fetch_each.ensures.ends_count;
       bytes = bytes;
-      lines_are =
-          c.new.ensures.items
-          ∙ ap (writes_shown at.list.now at.script.now at.slot []) (sym c.requires.quiet);
+      lines_are = c.new.ensures.items ∙ ap (writes_shown at.list.now at.script.now at.slot []) (sym c.requires.quiet);
       chooses = λ numbers begun.
           let s = next_slot at.list.now at.script.now numbers in
           have_chosen may.ends_count begun c.args.chosen.now bytes
-          (λ k node.
-          rw (ap (λ ws. after_writes ws k (host_at ends k)) c.requires.quiet ∙ unwritten (host_at ends k) k)
+          (λ k node. rw (ap (λ ws. after_writes ws k (host_at ends k)) c.requires.quiet ∙ unwritten (host_at ends k) k)
           (c.in_ok-fetch_each.ensures.fetches s begun.begun k (rw may.ends_count node)));
     }

@@ -1,23 +1,13 @@
-use Rattle.std.proofs.Common.{◌≡◌, ◌<◌, ◌≤◌, [], length, All, get_or, None}
-use Rattle.std.proofs.Common.{sym, ap, subst, ◌∙◌, arith}
-use Rattle.std.specs.List.{filter_map}
-use Rattle.std.specs.Option.{ForSome}
-use Rattle.std.proofs.lemmas.List.{with_items_is}
-use Rattle.ttp_world.specs.declared.script.TheConstants.{EVENT_LIMIT}
-use Rattle.ttp_world.specs.Medl.{plan_at}
-use Rattle.ttp_world.specs.Script.{write_at, writes_in}
-use Rattle.host_port.specs.Rings.{HostState}
-use Rattle.cluster_run.specs.Choosing.{HaveChosen, next_slot}
-use Rattle.cluster_run.specs.Ends.{host_at}
-use Rattle.cluster_run.specs.Sending.{AreLent, Fetches, MayLend, MaySettle, MayWriteAll, WritesBytes}
-use Rattle.cluster_run.specs.Sending.{after_writes, write_lines}
+use Rattle.cluster_run.proofs.Words.{◌≡◌, ◌<◌, ◌≤◌, [], length, All, get_or, None, sym, ap, subst, ◌∙◌, arith}
+use Rattle.cluster_run.proofs.Words.{filter_map, ForSome, with_items_is, EVENT_LIMIT, plan_at, write_at, writes_in}
+use Rattle.cluster_run.proofs.Words.{HostState, HaveChosen, next_slot, host_at, AreLent, Fetches, MayLend, MaySettle}
+use Rattle.cluster_run.proofs.Words.{MayWriteAll, WritesBytes, after_writes, write_lines}
 use Rattle.cluster_run.proofs.Sends.{few_writes, have_chosen, lines_shown, may_fetch_all, may_lend, may_settle}
 use Rattle.cluster_run.proofs.Sends.{may_write_all, more_bytes}
 use Rattle.cluster_run.proofs.choosing.write_and_choose.Goals as goal
 
 pub lend_fetchers-requires-clause-rings : goal.lend_fetchers-requires-clause-rings
-lend_fetchers-requires-clause-rings g c =
-    subst (MayLend c.args.seats.now) (sym c.as_mut_slice.ensures.value)
+lend_fetchers-requires-clause-rings g c = subst (MayLend c.args.seats.now) (sym c.as_mut_slice.ensures.value)
     (may_lend c.requires.may.ends_count c.requires.may.begun)
 
 pub write_and_fetch-ends-requires-clause-writes : goal.write_and_fetch-ends-requires-clause-writes
@@ -30,8 +20,7 @@ write_and_fetch-ends-requires-clause-writes g c κs within =
     let lent = with_items_is c.args.ends _ (ap length c.lend_fetchers.ensures.ends ∙ c.as_mut_slice.ensures.len)
     ∙ c.lend_fetchers.ensures.ends ∙ c.as_mut_slice.ensures.value in
     record {
-      writes =
-          subst (MayWriteAll script many) (sym lent)
+      writes = subst (MayWriteAll script many) (sym lent)
           (may_write_all c.requires.may.ends_count c.requires.may.begun many few);
       empty = c.in_ok-lines.ensures.items;
       room = omega (arith, c.in_ok-lines.ensures.capacity);
@@ -107,9 +96,7 @@ returns g c =
         ap length lent_ends,
       );
       bytes = bytes;
-      lines_are =
-          wrote.written.lines_are
-          ∙ (λ i. write_lines (lent_ends i) [] (c.requires.places i))
+      lines_are = wrote.written.lines_are ∙ (λ i. write_lines (lent_ends i) [] (c.requires.places i))
           ∙ lines_shown may.ends_count may.begun;
       chooses = λ numbers begun.
           let s = next_slot at.list.now at.script.now numbers in
@@ -119,8 +106,7 @@ returns g c =
           (have_chosen may.ends_count begun c.args.chosen.now bytes
           (λ k node. record {
             tried = get_or tried k None;
-            fetches =
-                subst (λ f. Fetches f (get_or tried k None)) (lent.each k (omega (arith, node, may.ends_count)))
+            fetches = subst (λ f. Fetches f (get_or tried k None)) (lent.each k (omega (arith, node, may.ends_count)))
                 (wrote.fetches.each k (omega (arith, node, may.ends_count, lent.count)));
             settles =
                 rw (← (ap (λ xs. host_at xs k) c.as_mut_slice-2.ensures.value ∙ wrote.written.ends k

@@ -1,9 +1,6 @@
-use Rattle.std.proofs.Common.{Some, ap, subst}
-use Rattle.ttp_world.specs.declared.script.Source.TheVariants as source
-use Rattle.ttp_world.specs.Words.{words_of_payload}
-use Rattle.host_port.specs.Rings.{ControllerState, at_source}
-use Rattle.host_port.specs.Writing.{IsNewest}
+use Rattle.cluster_run.proofs.Words.{Some, ap, subst, words_of_payload, ControllerState, at_source, IsNewest}
 use Rattle.cluster_run.proofs.HandingOn.{number_written}
+use Rattle.ttp_world.specs.declared.script.Source.TheVariants as source
 use Rattle.cluster_run.proofs.ending.deliver.Goals as goal
 
 pub returns-in-Some-clause-number : goal.returns-in-Some-clause-number

@@ -1,4 +1,4 @@
-use Rattle.std.proofs.Common.{refl}
+use Rattle.cluster_run.proofs.Words.{refl}
 use Rattle.cluster_run.proofs.Halves.{parts_of, front_ready, back_ready, both_ended}
 use Rattle.cluster_run.proofs.ending.end_halves.Goals as goal
 

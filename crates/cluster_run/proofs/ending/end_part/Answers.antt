@@ -1,14 +1,8 @@
-use Rattle.std.proofs.Common.{◌≡◌, ◌<◌, [], length, get_or, refl, sym, ap, ◌∙◌, arith}
+use Rattle.cluster_run.proofs.Words.{◌≡◌, ◌<◌, [], length, get_or, refl, sym, ap, ◌∙◌, arith, length-map, Seat}
+use Rattle.cluster_run.proofs.Words.{no_outcome, outcomes_of, Desk, handed_on, number_handed, outcome_of, end_at}
+use Rattle.cluster_run.proofs.Words.{desk_ends, at_any, slice_get_read}
 use Rattle.std.proofs.Math.ListN.{get_or-map}
-use Rattle.std.proofs.lemmas.List.{length-map}
-use Rattle.std.proofs.lemmas.Option.{slice_get_read}
-use Rattle.controller.specs.declared.seat.Seat.{Seat}
-use Rattle.controller.specs.PlantStands.{no_outcome, outcomes_of}
-use Rattle.cluster_run.specs.declared.nodes.Desk.{Desk}
-use Rattle.cluster_run.specs.Ending.{handed_on, number_handed, outcome_of}
-use Rattle.cluster_run.specs.Ends.{end_at, desk_ends}
 use Rattle.cluster_run.proofs.HandingOn.{handed_more, have_handed_on, no_desk}
-use Rattle.ttp_world.proofs.ListFacts.{at_any}
 use Rattle.cluster_run.proofs.ending.end_part.Goals as goal
 
 pub hand_on-requires-clause-room : goal.hand_on-requires-clause-room
@@ -30,8 +24,7 @@ hand_on-requires-clause-room g c κs within =
     let end_is : (get_or desks j desk).end ≡ end_at (desk_ends old) j =
     sym (get_or-map (λ (d : Desk). d.end) desks j desk)
     ∙ at_any (desk_ends desks) j desk.end [] (omega (arith, now_many, so.changed.count, c.loop-j-test.true))
-    ∙ get_or-map (λ (d : Desk). d.end) desks j no_desk
-    ∙ ap (λ (d : Desk). d.end) (so.changed.rest j (omega arith))
+    ∙ get_or-map (λ (d : Desk). d.end) desks j no_desk ∙ ap (λ (d : Desk). d.end) (so.changed.rest j (omega arith))
     ∙ sym (get_or-map (λ (d : Desk). d.end) old j no_desk) in
     let delivered_is = ap (λ (s : Seat). s.outcome.delivered) (sym c.index-seats-j.is) ∙ left.delivered in
     rw (end_is, delivered_is) (may.hands_on j (omega (arith, many, c.loop-j-test.true)))
@@ -57,11 +50,9 @@ loop-j-preserved g c =
     handed_more c.index-desks-j.result c.hand_on.new.desk so (omega (arith, so.changed.count, c.loop-j-test.true))
     c.index-desks-j.is
     (record {
-      end_is =
-          c.hand_on.ensures.end
+      end_is = c.hand_on.ensures.end
           ∙ (λ t. handed_on (sym c.index-desks-j.is t).end (((λ i. (sym c.index-seats-j.is i).outcome) ∙ outcome) t));
-      number_is =
-          c.hand_on.ensures.number
+      number_is = c.hand_on.ensures.number
           ∙ (λ t. number_handed (sym c.index-desks-j.is t).end
           (((λ i. (sym c.index-seats-j.is i).outcome) ∙ outcome) t).delivered);
     })

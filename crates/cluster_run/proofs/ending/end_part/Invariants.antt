@@ -1,4 +1,4 @@
-use Rattle.controller.specs.PlantStands.{outcomes_of}
+use Rattle.cluster_run.proofs.Words.{outcomes_of}
 use Rattle.cluster_run.proofs.HandingOn.{AreHandedOn}
 use Rattle.cluster_run.proofs.ending.end_part.Given as goal
 

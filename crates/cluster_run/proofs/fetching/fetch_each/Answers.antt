@@ -1,13 +1,7 @@
-use Rattle.std.proofs.Common.{◌<◌, length, None, subst, sym, ◌∙◌, arith}
-use Rattle.std.specs.Prelude.{IsSome}
-use Rattle.std.proofs.lemmas.Option.{slice_get-get_or}
-use Rattle.ttp_world.specs.World.{is_loaded}
-use Rattle.controller.proofs.Parts.{each-of}
-use Rattle.cluster_run.specs.Sending.{MaySettleAfter}
+use Rattle.cluster_run.proofs.Words.{◌<◌, length, None, subst, sym, ◌∙◌, arith, IsSome, slice_get-get_or, is_loaded}
+use Rattle.cluster_run.proofs.Words.{each-of, at_any, payload_few, MaySettleAfter}
 use Rattle.cluster_run.proofs.Changes.{both_more}
 use Rattle.cluster_run.proofs.Settling.{plan_there}
-use Rattle.ttp_world.proofs.ListFacts.{at_any}
-use Rattle.ttp_world.proofs.WorldFacts.{payload_few}
 use Rattle.cluster_run.proofs.fetching.fetch_each.Goals as goal
 
 pub fetch_for-requires-clause-ring : goal.fetch_for-requires-clause-ring

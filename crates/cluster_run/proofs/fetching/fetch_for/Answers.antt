@@ -1,8 +1,4 @@
-use Rattle.std.proofs.Common.{◌≡◌, sym, subst, ◌∙◌}
-use Rattle.std.specs.Option.{ForSome}
-use Rattle.host_port.specs.Reading.{IsSettled, settled}
-use Rattle.host_port.specs.Rings.{HostState}
-use Rattle.cluster_run.specs.Sending.{Fetches, MaySettle}
+use Rattle.cluster_run.proofs.Words.{◌≡◌, sym, subst, ◌∙◌, ForSome, IsSettled, settled, HostState, Fetches, MaySettle}
 use Rattle.cluster_run.proofs.Sends.{lent_may}
 use Rattle.cluster_run.proofs.fetching.fetch_for.Goals as goal
 

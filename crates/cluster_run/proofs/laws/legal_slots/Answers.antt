@@ -1,4 +1,4 @@
-use Rattle.ttp_world.proofs.LegalSlots.{legal-after}
+use Rattle.cluster_run.proofs.Words.{legal-after}
 use Rattle.cluster_run.proofs.laws.legal_slots.Goals as goal
 
 pub returns : goal.returns

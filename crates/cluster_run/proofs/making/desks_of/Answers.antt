@@ -1,7 +1,4 @@
-use Rattle.std.proofs.Common.{◌+◌, ◌∷◌, ◌++◌, [], None, sym, subst}
-use Rattle.std.proofs.lemmas.List.{map-append}
-use Rattle.cluster_run.specs.declared.nodes.Desk.{Desk}
-use Rattle.cluster_run.specs.Ends.{desk_ends}
+use Rattle.cluster_run.proofs.Words.{◌+◌, ◌∷◌, ◌++◌, [], None, sym, subst, map-append, Desk, desk_ends}
 use Rattle.cluster_run.proofs.NewNodes.{AreMade, made_more}
 use Rattle.cluster_run.proofs.making.desks_of.Goals as goal
 

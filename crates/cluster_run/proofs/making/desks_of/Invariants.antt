@@ -1,4 +1,4 @@
-use Rattle.cluster_run.specs.Ends.{desk_ends}
+use Rattle.cluster_run.proofs.Words.{desk_ends}
 use Rattle.cluster_run.proofs.NewNodes.{AreMade}
 use Rattle.cluster_run.proofs.making.desks_of.Given as goal
 

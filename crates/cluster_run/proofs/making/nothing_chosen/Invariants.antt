@@ -1,4 +1,4 @@
-use Rattle.std.proofs.Common.{◌≡◌, length}
+use Rattle.cluster_run.proofs.Words.{◌≡◌, length}
 use Rattle.cluster_run.proofs.making.nothing_chosen.Given as goal
 
 abbrev pub invariant-loop : goal.invariant-loop

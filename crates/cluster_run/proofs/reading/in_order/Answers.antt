@@ -1,12 +1,10 @@
-use Rattle.std.proofs.Common.{◌≡◌, ◌+◌, ◌∷◌, ◌++◌, [], take, drop, map, get_or, refl, sym, ap, ◌∙◌, subst, arith}
-use Rattle.std.specs.Prelude.{vec_len, vec_capacity}
-use Rattle.std.proofs.lemmas.List.{take_more, take_all, drop_more, take-append-drop}
-use Rattle.ttp_world.specs.declared.host_lines.HostRead.{HostRead}
-use Rattle.ttp_world.specs.declared.script.Source.TheVariants as source
-use Rattle.std.specs.Vec.Iter.{into_iter_items}
+use Rattle.cluster_run.proofs.Words.{◌≡◌, ◌+◌, ◌∷◌, ◌++◌, [], take, drop, map, get_or, sym, ap, ◌∙◌, subst, arith}
+use Rattle.cluster_run.proofs.Words.{vec_len, vec_capacity, take_more, take-append-drop, HostRead, into_iter_items}
+use Rattle.cluster_run.proofs.Words.{take_all, drop_more}
 use Rattle.cluster_run.proofs.LineOrder.{AreInOrder, line_taken, line_there, all_in_order}
-use Rattle.cluster_run.proofs.reading.in_order.Goals as goal
 use Rattle.cluster_run.proofs.reading.in_order.Goals.{in-Some, in_default}
+use Rattle.ttp_world.specs.declared.script.Source.TheVariants as source
+use Rattle.cluster_run.proofs.reading.in_order.Goals as goal
 
 pub loop-read-preserved : goal.loop-read-preserved
 loop-read-preserved c =
@@ -24,17 +22,16 @@ loop-read-preserved c =
     sym (take-append-drop i reads) ∙ ap (λ xs. done ++ xs) (drop_more reads i d c.loop-read-test.true) in
     elim c.match-next_line.branch [
       | in-Some w ↦ record {
-        ordered = λ due.
-            subst (λ ls. AreInOrder (take (i + 1) reads) whole after ls)
+        ordered = λ due. subst (λ ls. AreInOrder (take (i + 1) reads) whole after ls)
             (sym (ap (λ v. v.items) w.lines-is ∙ w.push_reserved.ensures.items))
             (subst (λ xs. AreInOrder xs whole after (c.loop-read.lines.items ++ w.in-Some.line ∷ [])) next
-            (line_taken (r ∷ rest) split due (so due) r rest w.in-Some.line refl w.in-Some.ensures.first w.in-Some.ensures.others));
+            (line_taken r rest split due (so due) w.in-Some.line w.in-Some.ensures.first w.in-Some.ensures.others));
         queues = w.in-Some.ensures.count ∙ c.loop-read.invariant.queues;
         count = omega (arith, ap vec_len w.lines-is, w.push_reserved.ensures.len, c.loop-read.invariant.count);
         room = ap vec_capacity w.lines-is ∙ w.push_reserved.ensures.capacity ∙ c.loop-read.invariant.room;
       }
       | in_default w ↦ record {
-        ordered = λ due. absurd (line_there (r ∷ rest) split due (so due) r rest refl w.in_default.ensures.none);
+        ordered = λ due. absurd (line_there r rest split due (so due) w.in_default.ensures.none);
         queues = w.in_default.ensures.count ∙ c.loop-read.invariant.queues;
         count = omega (arith, ap vec_len w.lines-is, c.loop-read.invariant.count);
         room = ap vec_capacity w.lines-is ∙ c.loop-read.invariant.room;

@@ -1,6 +1,4 @@
-use Rattle.std.proofs.Common.{◌≡◌, ◌≤◌, map, take, length, vec_len, vec_capacity}
-use Rattle.std.specs.Vec.Iter.{into_iter_items}
-use Rattle.cluster_run.specs.Reading.{AreDue}
+use Rattle.cluster_run.proofs.Words.{◌≡◌, ◌≤◌, map, take, length, vec_len, vec_capacity, into_iter_items, AreDue}
 use Rattle.cluster_run.proofs.LineOrder.{AreInOrder}
 use Rattle.cluster_run.proofs.reading.in_order.Given as goal
 

@@ -1,12 +1,7 @@
-use Rattle.std.proofs.Common.{◌≡◌, ◌<◌, [], length, get_or, sym, ap, ◌∙◌, subst, arith}
+use Rattle.cluster_run.proofs.Words.{◌≡◌, ◌<◌, [], length, get_or, sym, ap, ◌∙◌, subst, arith, length-map, set_back}
+use Rattle.cluster_run.proofs.Words.{Desk, end_at, desk_ends, readers_at, at_any}
 use Rattle.std.proofs.Math.ListN.{get_or-map}
-use Rattle.std.proofs.lemmas.List.{length-map}
-use Rattle.host_port.proofs.ReaderLists.{set_back}
-use Rattle.cluster_run.specs.declared.nodes.Desk.{Desk}
-use Rattle.cluster_run.specs.Ends.{end_at, desk_ends}
-use Rattle.cluster_run.specs.Reading.{readers_at}
 use Rattle.cluster_run.proofs.LentReaders.{IsLentAt, lent_at, lent_more, all_lent, all_own}
-use Rattle.ttp_world.proofs.ListFacts.{at_any}
 use Rattle.cluster_run.proofs.reading.lend_readers.Goals as goal
 
 pub loop-k-preserved : goal.loop-k-preserved
@@ -21,19 +16,14 @@ loop-k-preserved c =
     let was = get_or c.loop-k.desks k desk in
     let within : k < length ends =
     omega (arith, length-map old_desks (λ (d : Desk). d.end), ap length c.loop-k.invariant.desks, c.loop-k-test.true) in
-    let end : was.end ≡ end_at ends k =
-    ap (λ xs. (get_or xs k desk).end) c.loop-k.invariant.desks
-    ∙ sym (get_or-map (λ (d : Desk). d.end) old_desks k desk)
-    ∙ at_any ends k desk.end [] within in
+    let end : was.end ≡ end_at ends k = ap (λ xs. (get_or xs k desk).end) c.loop-k.invariant.desks
+    ∙ sym (get_or-map (λ (d : Desk). d.end) old_desks k desk) ∙ at_any ends k desk.end [] within in
     record {
-      desks =
-          set_back c.loop-k.desks k desk (record was { end = c.lend_one.new.end }) c.index-desks-k.is
-          (ap (λ e. record was { end = e }) c.lend_one.ensures.end ∙ sym c.index-desks-k.is)
-          ∙ c.loop-k.invariant.desks;
+      desks = set_back c.loop-k.desks k desk (record was { end = c.lend_one.new.end }) c.index-desks-k.is
+          (ap (λ e. record was { end = e }) c.lend_one.ensures.end ∙ sym c.index-desks-k.is) ∙ c.loop-k.invariant.desks;
       count = omega (arith, c.push_reserved.ensures.len, c.loop-k.invariant.count);
       room = c.push_reserved.ensures.capacity ∙ c.loop-k.invariant.room;
-      lent = λ i near.
-          subst (λ xs. IsLentAt reads ends i (readers_at xs i)) (sym c.push_reserved.ensures.items)
+      lent = λ i near. subst (λ xs. IsLentAt reads ends i (readers_at xs i)) (sym c.push_reserved.ensures.items)
           (lent_more reads ends k old new (omega (arith, c.loop-k.invariant.count)) c.loop-k.invariant.lent
           (lent_at reads ends k new was.end end c.in_ok-lend_one.ensures.there
           c.in_ok-lend_one.ensures.lent c.in_ok-lend_one.ensures.own) i near);

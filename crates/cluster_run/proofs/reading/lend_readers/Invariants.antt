@@ -1,6 +1,4 @@
-use Rattle.std.proofs.Common.{◌≡◌, ℕ, ◌<◌, length, vec_len, vec_capacity}
-use Rattle.cluster_run.specs.Ends.{desk_ends}
-use Rattle.cluster_run.specs.Reading.{readers_at}
+use Rattle.cluster_run.proofs.Words.{◌≡◌, ℕ, ◌<◌, length, vec_len, vec_capacity, desk_ends, readers_at}
 use Rattle.cluster_run.proofs.LentReaders.{IsLentAt}
 use Rattle.cluster_run.proofs.reading.lend_readers.Given as goal
 

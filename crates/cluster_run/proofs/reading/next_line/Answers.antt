@@ -1,6 +1,5 @@
-use Rattle.std.proofs.Common.{◌<◌, [], length, get_or, ◌∙◌, arith}
+use Rattle.cluster_run.proofs.Words.{◌<◌, [], length, get_or, ◌∙◌, arith, into_iter_items, into_iter_len}
 use Rattle.std.proofs.lemmas.List.{get_or-map}
-use Rattle.std.specs.Vec.Iter.{into_iter_items, into_iter_len}
 use Rattle.cluster_run.proofs.LineOrder.{queue_set, queue_kept, if_none}
 use Rattle.host_port.proofs.LineQueues.{if_taken as if_first}
 use Rattle.cluster_run.proofs.reading.next_line.Goals as goal

@@ -1,37 +1,31 @@
-use Rattle.std.proofs.Common.{None, get_or, subst}
-use Rattle.ttp_world.specs.declared.host_lines.HostRead.{HostRead}
-use Rattle.ttp_world.specs.declared.script.Source.TheVariants as source
+use Rattle.cluster_run.proofs.Words.{None, get_or, subst, HostRead, reader_in, at_any}
 use Rattle.host_port.specs.Reading.{IsLeft}
-use Rattle.cluster_run.specs.Reading.{reader_in}
-use Rattle.cluster_run.proofs.ReadLoop.{left_at, within_at, read_next}
-use Rattle.ttp_world.proofs.ListFacts.{at_any}
+use Rattle.cluster_run.proofs.ReadLoop.{IsNextRead, left_at, within_at, read_next}
+use Rattle.ttp_world.specs.declared.script.Source.TheVariants as source
 use Rattle.cluster_run.proofs.reading.read_all.Goals as goal
+
+abbrev first : HostRead
+first = record { host = 0; source = source.Status }
 
 pub bounds-readers-k : goal.bounds-readers-k
 bounds-readers-k g c =
-    within_at c.args.reads.now c.loop-read.read-index (record { host = 0; source = source.Status })
-    c.args.readers.now c.loop-read.readers c.from-k.result c.loop-read-test.true c.from-k.ensures c.loop-read.invariant
+    let next : IsNextRead c.args.reads.now c.loop-read.read-index first c.args.readers.now c.loop-read.readers c.from-k.result =
+    record { near = c.loop-read-test.true; host = c.from-k.ensures; so = c.loop-read.invariant } in
+    within_at next
 
 pub read_one-requires-clause-left : goal.read_one-requires-clause-left
 read_one-requires-clause-left g c κs within =
-    let so = c.loop-read.invariant in
     let reads = c.args.reads.now in
     let i = c.loop-read.read-index in
-    let d : HostRead = record { host = 0; source = source.Status } in
-    let near = within_at reads i d c.args.readers.now c.loop-read.readers c.from-k.result
-    c.loop-read-test.true c.from-k.ensures so in
-    subst (λ o. IsLeft (reader_in o (get_or reads i d).source))
-    (at_any c.loop-read.readers c.from-k.result None c.index-readers-k.result near)
-    (left_at reads i d c.args.readers.now c.loop-read.readers c.from-k.result c.loop-read-test.true
-    c.from-k.ensures so)
+    let next : IsNextRead reads i first c.args.readers.now c.loop-read.readers c.from-k.result =
+    record { near = c.loop-read-test.true; host = c.from-k.ensures; so = c.loop-read.invariant } in
+    subst (λ o. IsLeft (reader_in o (get_or reads i first).source))
+    (at_any c.loop-read.readers c.from-k.result None c.index-readers-k.result (within_at next)) (left_at next)
 
 pub loop-read-preserved : goal.loop-read-preserved
 loop-read-preserved g c =
-    read_next c.args.reads.now c.loop-read.read-index (record { host = 0; source = source.Status })
-    c.args.readers.now c.loop-read.readers c.from-k.result c.index-readers-k.result
-    c.read_one.new.readers c.loop-read-test.true c.from-k.ensures c.loop-read.invariant c.read_one.ensures.rings
-    (record {
-      reads = c.read_one.ensures.reads;
-      others = c.read_one.ensures.others;
-      calls = c.read_one.ensures.calls;
-    })
+    let next : IsNextRead c.args.reads.now c.loop-read.read-index first c.args.readers.now c.loop-read.readers c.from-k.result =
+    record { near = c.loop-read-test.true; host = c.from-k.ensures; so = c.loop-read.invariant } in
+    let read = c.read_one.ensures in
+    read_next next c.index-readers-k.result c.read_one.new.readers read.rings
+    (record { reads = read.reads; others = read.others; calls = read.calls })

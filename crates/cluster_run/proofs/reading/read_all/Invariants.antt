@@ -1,4 +1,4 @@
-use Rattle.std.proofs.Common.{take}
+use Rattle.cluster_run.proofs.Words.{take}
 use Rattle.cluster_run.proofs.ReadLoop.{AreRead}
 use Rattle.cluster_run.proofs.reading.read_all.Given as goal
 

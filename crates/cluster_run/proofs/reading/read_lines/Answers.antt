@@ -1,8 +1,5 @@
-use Rattle.std.proofs.Common.{map, ap, ◌∙◌, arith}
-use Rattle.std.proofs.lemmas.List.{length-map}
-use Rattle.std.specs.Vec.Iter.{into_iter_items}
-use Rattle.cluster_run.specs.declared.nodes.Desk.{Desk}
-use Rattle.cluster_run.specs.Reading.{read_of, lines_by, queue_of}
+use Rattle.cluster_run.proofs.Words.{map, ap, ◌∙◌, arith, length-map, into_iter_items, Desk, read_of, lines_by}
+use Rattle.cluster_run.proofs.Words.{queue_of}
 use Rattle.cluster_run.proofs.ReadLines.{lines_of_all}
 use Rattle.cluster_run.proofs.reading.read_lines.Goals as goal
 
@@ -18,10 +15,7 @@ returns-clause-lines c =
       c.in_ok-queues.ensures.queues_count,
       length-map c.args.desks.now (λ (d : Desk). d.end),
       c.requires.own.count,
-    ))
-    c.in_ok-queues.ensures.queues
+    )) c.in_ok-queues.ensures.queues
     (λ due. ap (map read_of) c.from_vec.ensures ∙ c.in_order.ensures.reads (rw same due))
-    (λ due k.
-    ap (lines_by k) c.from_vec.ensures
-    ∙ c.in_order.ensures.lines (rw same due) k
+    (λ due k. ap (lines_by k) c.from_vec.ensures ∙ c.in_order.ensures.lines (rw same due) k
     ∙ ap (λ qs. queue_of qs k) same)

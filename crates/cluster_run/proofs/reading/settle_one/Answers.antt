@@ -1,5 +1,4 @@
-use Rattle.std.proofs.Common.{sym, ◌∙◌, subst}
-use Rattle.cluster_run.specs.Reading.{SettlesReadsOf}
+use Rattle.cluster_run.proofs.Words.{sym, ◌∙◌, subst, SettlesReadsOf}
 use Rattle.cluster_run.proofs.SettledReaders.{settles_readers, lines_queued}
 use Rattle.cluster_run.proofs.reading.settle_one.Goals as goal
 
@@ -14,5 +13,4 @@ returns-clause-lines c =
     let ok = c.in_ok-settle_reads.ensures in
     let settled = c.in_ok-settle_reads.field-0 in
     let same = c.into_iter-2.ensures.rest ∙ c.into_vec-lines.ensures in
-    rw (same, c.in-Some.is)
-    (lines_queued c.args.host c.in-Some.readers settled ok.sources ok.hosts ok.pairs)
+    rw (same, c.in-Some.is) (lines_queued c.args.host c.in-Some.readers settled ok.sources ok.hosts ok.pairs)

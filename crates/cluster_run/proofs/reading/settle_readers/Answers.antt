@@ -1,17 +1,12 @@
-use Rattle.std.proofs.Common.{◌≡◌, ◌<◌, ◌∷◌, [], None, length, map, get_or, sym, ap, ◌∙◌, subst, arith}
-use Rattle.std.specs.Vec.Iter.{into_iter_items}
+use Rattle.cluster_run.proofs.Words.{◌≡◌, ◌<◌, ◌∷◌, [], None, length, map, get_or, sym, ap, ◌∙◌, subst, arith}
+use Rattle.cluster_run.proofs.Words.{into_iter_items, length-map, map-append, AreReadersOfEnd, ControllerState, Desk}
+use Rattle.cluster_run.proofs.Words.{desk_ends, end_at, AreLinesBy, SettlesReadsOf, at_any}
 use Rattle.std.proofs.Math.ListN.{get_or-map}
-use Rattle.std.proofs.lemmas.List.{length-append, length-map, map-append}
-use Rattle.host_port.specs.Reading.{AreReadersOfEnd}
-use Rattle.host_port.specs.Rings.{ControllerState}
-use Rattle.cluster_run.specs.declared.nodes.Desk.{Desk}
-use Rattle.cluster_run.specs.Ends.{desk_ends, end_at}
-use Rattle.cluster_run.specs.Reading.{AreLinesBy, SettlesReadsOf}
+use Rattle.std.proofs.lemmas.List.{length-append}
 use Rattle.cluster_run.proofs.Changes.{changed_more}
 use Rattle.cluster_run.proofs.HandingOn.{no_desk}
 use Rattle.cluster_run.proofs.Places.{read_alike}
 use Rattle.cluster_run.proofs.SettledReaders.{are_settled, queued_more}
-use Rattle.ttp_world.proofs.ListFacts.{at_any}
 use Rattle.cluster_run.proofs.reading.settle_readers.Goals as goal
 
 pub settle_one-requires : goal.settle_one-requires
@@ -33,16 +28,14 @@ settle_one-requires c = record {
       subst (λ (e : ControllerState). AreReadersOfEnd e x) (sym end_is)
       (c.requires.own.own k (omega (arith, many, so.desks_are.count, now)) x
       (sym (c.index_mut.ensures.value ∙ at_any readers k c.index_mut.result.now None near
-      ∙ so.readers_are.rest k (omega arith))
-      ∙ sym c.take-own.ensures.value ∙ is));
+      ∙ so.readers_are.rest k (omega arith)) ∙ sym c.take-own.ensures.value ∙ is));
 }
 
 pub returns-in_err-settle_one-clause-numbers : goal.returns-in_err-settle_one-clause-numbers
 returns-in_err-settle_one-clause-numbers c =
     let desk = c.index-desks-k.result in
     read_alike (λ (d : Desk). d.delivered) c.loop-k.desks c.loop-k.k desk _ c.index-desks-k.is
-    (ap (λ (d : Desk). d.delivered) (sym c.index-desks-k.is))
-    ∙ c.loop-k.invariant.settled.numbers
+    (ap (λ (d : Desk). d.delivered) (sym c.index-desks-k.is)) ∙ c.loop-k.invariant.settled.numbers
 
 pub loop-k-preserved : goal.loop-k-preserved
 loop-k-preserved c =
@@ -62,10 +55,8 @@ loop-k-preserved c =
     ∙ map-append into_iter_items c.loop-k.queues.items (c.in_ok-settle_one.field-0 ∷ []) in
     record {
       settled = record {
-        numbers =
-            read_alike (λ (d : Desk). d.delivered) c.loop-k.desks k desk new c.index-desks-k.is
-            (ap (λ (d : Desk). d.delivered) (sym c.index-desks-k.is))
-            ∙ so.numbers;
+        numbers = read_alike (λ (d : Desk). d.delivered) c.loop-k.desks k desk new c.index-desks-k.is
+            (ap (λ (d : Desk). d.delivered) (sym c.index-desks-k.is)) ∙ so.numbers;
         desks_are =
             changed_more desk new so.desks_are (omega (arith, so.desks_are.count, c.loop-k-test.true)) c.index-desks-k.is
             (subst (λ o. SettlesReadsOf desk.end o new.end) own
@@ -73,12 +64,10 @@ loop-k-preserved c =
             (sym (ap (λ (d : Desk). d.end) c.index-desks-k.is)) ok.settles));
         readers_are =
             changed_more c.index_mut.result.now c.take-own.new.self so.readers_are near c.index_mut.ensures.value tt;
-        queues_are =
-            rw queues
+        queues_are = rw queues
             (queued_more c.args.readers.items (map into_iter_items c.loop-k.queues.items) queue so.queues_count so.queues_are
             (subst (λ o. AreLinesBy k o queue) own ok.lines));
-        queues_count =
-            ap length queues ∙ length-append (map into_iter_items c.loop-k.queues.items) (queue ∷ [])
+        queues_count = ap length queues ∙ length-append (map into_iter_items c.loop-k.queues.items) (queue ∷ [])
             ∙ (omega (arith, so.queues_count));
       };
       room = c.push_reserved.ensures.capacity ∙ c.loop-k.invariant.room;

@@ -1,5 +1,4 @@
-use Rattle.std.proofs.Common.{◌≡◌, map, length, vec_capacity}
-use Rattle.std.specs.Vec.Iter.{into_iter_items}
+use Rattle.cluster_run.proofs.Words.{◌≡◌, map, length, vec_capacity, into_iter_items}
 use Rattle.cluster_run.proofs.SettledReaders.{AreReadersSettled}
 use Rattle.cluster_run.proofs.reading.settle_readers.Given as goal
 

@@ -1,12 +1,7 @@
-use Rattle.std.proofs.Common.{◌≡◌, ◌∷◌, ◌++◌, [], None, get_or, sym, ap, ◌∙◌, subst, arith}
+use Rattle.cluster_run.proofs.Words.{◌≡◌, ◌∷◌, ◌++◌, [], None, get_or, sym, ap, ◌∙◌, subst, arith, same_Some}
+use Rattle.cluster_run.proofs.Words.{slice_get-get_or, ShowsState, Seat, NodeLine, Desk, message_named, node_shown}
+use Rattle.cluster_run.proofs.Words.{map-next}
 use Rattle.std.proofs.lemmas.List.{get_or-map}
-use Rattle.std.proofs.lemmas.Option.{same_Some, slice_get-get_or}
-use Rattle.ttp_base.proofs.Below.{map-next}
-use Rattle.controller.specs.StandsFor.{ShowsState}
-use Rattle.controller.specs.declared.seat.Seat.{Seat}
-use Rattle.host_port.specs.declared.report.NodeLine.{NodeLine}
-use Rattle.cluster_run.specs.declared.nodes.Desk.{Desk}
-use Rattle.cluster_run.specs.Report.{message_named, node_shown}
 use Rattle.cluster_run.proofs.NodeLines.{line_shown}
 use Rattle.cluster_run.proofs.reporting.node_lines.Goals as goal
 
@@ -18,8 +13,7 @@ loop-k-preserved c =
     let seat_again = get_or seats k c.index-seats-k-in-loop-k.result in
     let line : NodeLine = record { state = c.state-state.result; message = c.message_shown-message.result } in
     let there = slice_get-get_or seats k c.index-seats-k.result c.loop-k-test.true in
-    let same : seat_again ≡ seat =
-    same_Some seat_again seat
+    let same : seat_again ≡ seat = same_Some seat_again seat
     (sym (slice_get-get_or seats k c.index-seats-k-in-loop-k.result c.loop-k-test.true) ∙ there) in
     let number = get_or-map (λ (d : Desk). d.delivered) c.args.desks.now k c.index-desks-k.result None
     (omega (arith, c.requires, c.loop-k-test.true)) in
@@ -31,7 +25,6 @@ loop-k-preserved c =
           line_shown so k seat line c.state.result there c.loop-k-test.true c.state-state.ensures.shows
           (subst (λ (x : Seat). ShowsState x.controller c.state.result) same c.state.ensures.shows)
           (c.message_shown-message.ensures ∙ ap (message_named c.state.result.entry) (sym number)) in
-          c.push_reserved.ensures.items
-          ∙ (λ i. c.loop-k.invariant.shown list script row before so i ++ is i ∷ [])
+          c.push_reserved.ensures.items ∙ (λ i. c.loop-k.invariant.shown list script row before so i ++ is i ∷ [])
           ∙ sym (map-next (node_shown list script row before) k);
     }

@@ -1,11 +1,5 @@
-use Rattle.std.proofs.Common.{◌≡◌, ◌≤◌, List, length, map, vec_len, vec_capacity}
-use Rattle.ttp_base.specs.NodeSet.{below}
-use Rattle.ttp_world.specs.declared.medl.Medl.{Medl}
-use Rattle.ttp_world.specs.declared.node.Entry.{Entry}
-use Rattle.ttp_world.specs.declared.script.Script.{Script}
-use Rattle.ttp_world.specs.Diary.{History}
-use Rattle.cluster_run.specs.Ends.{desk_numbers}
-use Rattle.cluster_run.specs.Report.{node_shown, HaveEndedSlot}
+use Rattle.cluster_run.proofs.Words.{◌≡◌, ◌≤◌, List, length, map, vec_len, vec_capacity, below, Medl, Entry, Script}
+use Rattle.cluster_run.proofs.Words.{History, desk_numbers, node_shown, HaveEndedSlot}
 use Rattle.cluster_run.proofs.reporting.node_lines.Given as goal
 
 abbrev pub invariant-loop-k : goal.invariant-loop-k

@@ -1,5 +1,4 @@
-use Rattle.std.proofs.lemmas.Result.{on_ok_weaker, IfErr-weaker}
-use Rattle.cluster_run.specs.Progress.{cluster_at}
+use Rattle.cluster_run.proofs.Words.{cluster_at, on_ok_weaker, IfErr-weaker}
 use Rattle.cluster_run.proofs.Told.{told_next}
 use Rattle.cluster_run.proofs.run.next_told.Goals as goal
 
@@ -20,7 +19,6 @@ returns-clause-runs g c =
     record {
       within = c.slot.ensures.within;
       ok = on_ok_weaker c.told.result (λ ok start follows. ok start old new told follows) c.told.ensures.ok;
-      fault =
-          IfErr-weaker c.told.result _ _ (λ fault left start follows. left start old new told follows)
+      fault = IfErr-weaker c.told.result _ _ (λ fault left start follows. left start old new told follows)
           c.told.ensures.fault;
     }

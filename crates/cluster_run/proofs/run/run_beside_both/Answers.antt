@@ -1,8 +1,8 @@
+use Rattle.cluster_run.proofs.Words.{crosses}
 use denote.Param.Send.{sendable}
-use Rattle.std.proofs.Crossing.{crosses}
+use Rattle.cluster_run.proofs.Sent.{job_send}
 use Rattle.std.proofs.option.Option.TheSendSync as option
 use Rattle.errand.proofs.ends.Worker.TheSendSync as worker
-use Rattle.cluster_run.proofs.Sent.{job_send}
 use Rattle.cluster_run.proofs.run.run_beside_both.Goals as goal
 
 pub join_mut-left-requires-send-F : goal.join_mut-left-requires-send-F

@@ -1,5 +1,4 @@
-use Rattle.std.proofs.Common.{◌≡◌, ◌+◌}
-use Rattle.cluster_run.specs.Progress.{cluster_at, IsOnCourse}
+use Rattle.cluster_run.proofs.Words.{◌≡◌, ◌+◌, cluster_at, IsOnCourse}
 use Rattle.cluster_run.proofs.run.run_slots.Given as goal
 
 -- so many slots were done, and the watcher was told of them

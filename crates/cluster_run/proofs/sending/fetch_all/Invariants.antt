@@ -1,5 +1,4 @@
-use Rattle.std.proofs.Common.{◌≡◌, ℕ, ◌<◌, ◌≤◌, length, get_or, None}
-use Rattle.cluster_run.specs.Sending.{Fetches}
+use Rattle.cluster_run.proofs.Words.{◌≡◌, ℕ, ◌<◌, ◌≤◌, length, get_or, None, Fetches}
 use Rattle.cluster_run.proofs.sending.fetch_all.Given as goal
 
 -- the first fetchers have made their attempt

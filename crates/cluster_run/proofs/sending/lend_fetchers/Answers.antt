@@ -1,14 +1,6 @@
-use Rattle.std.proofs.Common.{◌≡◌, ◌<◌, ◌∷◌, [], None, length, get_or, sym, ap, ◌∙◌, subst}
-use Rattle.std.proofs.Common.{below_more, arith}
-use Rattle.std.specs.Prelude.{IsSome}
-use Rattle.std.proofs.lemmas.List.{get_or_append_left, get_or_push}
-use Rattle.std.proofs.lemmas.Option.{slice_get-get_or}
-use Rattle.ttp_world.specs.World.{is_loaded}
-use Rattle.host_port.proofs.ReaderLists.{set_back}
-use Rattle.controller.proofs.Parts.{each-of}
-use Rattle.cluster_run.specs.Ends.{host_at}
-use Rattle.cluster_run.specs.Sending.{fetcher_lent}
-use Rattle.ttp_world.proofs.ListFacts.{at_any}
+use Rattle.cluster_run.proofs.Words.{◌≡◌, ◌<◌, ◌∷◌, [], None, length, get_or, sym, ap, ◌∙◌, subst, below_more, arith}
+use Rattle.cluster_run.proofs.Words.{IsSome, get_or_append_left, get_or_push, slice_get-get_or, is_loaded, set_back}
+use Rattle.cluster_run.proofs.Words.{each-of, host_at, fetcher_lent, at_any}
 use Rattle.cluster_run.proofs.sending.lend_fetchers.Goals as goal
 
 pub lend_one-requires : goal.lend_one-requires
@@ -37,29 +29,23 @@ loop-k-preserved c =
     let end = ap (λ xs. get_or xs k c.index-ends-k.result) c.loop-k.invariant.ends
     ∙ at_any ends k c.index-ends-k.result None within in
     record {
-      ends =
-          set_back c.loop-k.ends k c.index-ends-k.result c.lend_one.new.end c.index-ends-k.is
-          (c.lend_one.ensures.end ∙ sym c.index-ends-k.is)
-          ∙ c.loop-k.invariant.ends;
+      ends = set_back c.loop-k.ends k c.index-ends-k.result c.lend_one.new.end c.index-ends-k.is
+          (c.lend_one.ensures.end ∙ sym c.index-ends-k.is) ∙ c.loop-k.invariant.ends;
       count = omega (arith, c.push_reserved.ensures.len, c.loop-k.invariant.count);
       room = c.push_reserved.ensures.capacity ∙ c.loop-k.invariant.room;
-      lent = λ s begun.
-          below_more
+      lent = λ s begun. below_more
           (λ j. get_or c.push_reserved.new.self.items j None ≡ fetcher_lent (is_loaded s j) (host_at ends j)) k
-          (λ j near.
-          ap (λ xs. get_or xs j None) c.push_reserved.ensures.items
+          (λ j near. ap (λ xs. get_or xs j None) c.push_reserved.ensures.items
           ∙ get_or_append_left old (new ∷ []) None j (omega (arith, near, c.loop-k.invariant.count))
           ∙ c.loop-k.invariant.lent s begun j near)
           (ap (λ xs. get_or xs k None) c.push_reserved.ensures.items
-          ∙ get_or_push old new None k (omega (arith, c.loop-k.invariant.count))
-          ∙ c.in_ok-lend_one.ensures.fetcher
+          ∙ get_or_push old new None k (omega (arith, c.loop-k.invariant.count)) ∙ c.in_ok-lend_one.ensures.fetcher
           ∙ (λ i. fetcher_lent (c.is_loaded-loaded.ensures s k (each-of begun k seat) i) (end i)));
     }
 
 pub returns-clause-fetchers : goal.returns-clause-fetchers
 returns-clause-fetchers c = λ s begun. record {
   count = omega (arith, ap length c.loop-k.invariant.ends, c.loop-k.invariant.count, c.loop-k-test.false);
-  each = λ k near.
-      c.loop-k.invariant.lent s begun k
+  each = λ k near. c.loop-k.invariant.lent s begun k
       (omega (arith, near, ap length c.loop-k.invariant.ends, c.loop-k-test.false));
 }

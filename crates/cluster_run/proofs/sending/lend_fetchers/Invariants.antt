@@ -1,8 +1,5 @@
-use Rattle.std.proofs.Common.{◌≡◌, ℕ, ◌<◌, length, get_or, None, vec_len, vec_capacity}
-use Rattle.ttp_world.specs.World.{BegunSlot, is_loaded}
-use Rattle.controller.specs.Passes.{HaveBegun}
-use Rattle.cluster_run.specs.Ends.{host_at}
-use Rattle.cluster_run.specs.Sending.{fetcher_lent}
+use Rattle.cluster_run.proofs.Words.{◌≡◌, ℕ, ◌<◌, length, get_or, None, vec_len, vec_capacity, BegunSlot, is_loaded}
+use Rattle.cluster_run.proofs.Words.{HaveBegun, host_at, fetcher_lent}
 use Rattle.cluster_run.proofs.sending.lend_fetchers.Given as goal
 
 abbrev pub invariant-loop-k : goal.invariant-loop-k

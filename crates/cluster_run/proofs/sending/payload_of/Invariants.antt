@@ -1,6 +1,4 @@
-use Rattle.std.proofs.Common.{◌≡◌, ◌*◌, take, length}
-use Rattle.std.specs.Int.{w64, to_be_bytes}
-use Rattle.std.specs.List.{flat_map}
+use Rattle.cluster_run.proofs.Words.{◌≡◌, ◌*◌, take, length, w64, to_be_bytes, flat_map}
 use Rattle.cluster_run.proofs.sending.payload_of.Given as goal
 
 abbrev pub invariant-loop-i : goal.invariant-loop-i

@@ -1,12 +1,7 @@
-use Rattle.std.proofs.Common.{◌≡◌, ◌<◌, length, get_or, None, subst, sym, ap, ◌∙◌, arith}
-use Rattle.ttp_world.specs.Medl.{plan_at}
-use Rattle.host_port.specs.Reading.{settled, IsSettled}
-use Rattle.host_port.specs.Rings.{HostState}
-use Rattle.cluster_run.specs.Sending.{MaySettle, SettlesFetch, choice_of}
+use Rattle.cluster_run.proofs.Words.{◌≡◌, ◌<◌, length, get_or, None, subst, sym, ap, ◌∙◌, arith, plan_at, settled}
+use Rattle.cluster_run.proofs.Words.{IsSettled, HostState, MaySettle, SettlesFetch, at_any, payload_few, choice_of}
 use Rattle.cluster_run.proofs.Changes.{both_more, changed_more}
 use Rattle.cluster_run.proofs.Settling.{plan_there}
-use Rattle.ttp_world.proofs.ListFacts.{at_any}
-use Rattle.ttp_world.proofs.WorldFacts.{payload_few}
 use Rattle.cluster_run.proofs.sending.settle_fetchers.Goals as goal
 
 pub settle_one-requires-clause-limit : goal.settle_one-requires-clause-limit
@@ -18,12 +13,10 @@ settle_one-requires-clause-fetcher c = λ x is.
     let k = c.loop-k.k in
     let so = c.loop-k.invariant in
     let here : k < length c.args.ends.now = omega (arith, so.settled.first.count, c.loop-k-test.true) in
-    let near : k < length c.loop-k.fetchers.items =
-    omega (arith, so.taken.count, c.requires.fetchers_count, here) in
+    let near : k < length c.loop-k.fetchers.items = omega (arith, so.taken.count, c.requires.fetchers_count, here) in
     let was : get_or c.args.fetchers.items k None ≡ _ =
     sym (c.index_mut.ensures.value ∙ at_any c.loop-k.fetchers.items k c.index_mut.result.now None near
-    ∙ so.taken.rest k (omega arith))
-    ∙ sym c.take-fetcher.ensures.value ∙ is in
+    ∙ so.taken.rest k (omega arith)) ∙ sym c.take-fetcher.ensures.value ∙ is in
     let now : k < length c.loop-k.ends = omega (arith, so.settled.first.count, c.loop-k-test.true) in
     rw (← plan_there c.args.list.now k c.get.result.now c.get.ensures)
     (subst (λ (e : HostState). MaySettle e (plan_at c.args.list.now k).payload x)
@@ -53,8 +46,7 @@ loop-k-preserved c =
           (record {
             whole = subst (λ (e : HostState). IsSettled e c.take-fetcher.result) end c.settle_one.ensures.whole;
             settled_is = c.settle_one.ensures.settled ∙ ap (λ e. settled e c.take-fetcher.result) end;
-            choice_is =
-                c.settle_one.ensures.chosen
+            choice_is = c.settle_one.ensures.chosen
                 ∙ (λ t. choice_of c.take-fetcher.result (sym plan t).payload (sym c.index-chosen-k.is t));
           }));
     }

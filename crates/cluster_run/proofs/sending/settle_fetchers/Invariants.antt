@@ -1,7 +1,4 @@
-use Rattle.std.proofs.Common.{get_or, None}
-use Rattle.ttp_world.specs.Medl.{plan_at}
-use Rattle.ttp_world.specs.Outgoing.{nothing_chosen}
-use Rattle.cluster_run.specs.Sending.{SettlesFetch}
+use Rattle.cluster_run.proofs.Words.{get_or, None, plan_at, nothing_chosen, SettlesFetch}
 use Rattle.cluster_run.proofs.Changes.{AreBothChanged, AreChanged}
 use Rattle.cluster_run.proofs.sending.settle_fetchers.Given as goal
 

@@ -1,20 +1,11 @@
-use Rattle.std.proofs.Common.{◌≡◌, ◌∷◌, ◌++◌, [], take, set, length, get_or, Some, None, sym, ap, ◌∙◌, subst, arith}
-use Rattle.std.proofs.Common.{All}
-use Rattle.std.specs.Prelude.{option_map, vec_len, vec_capacity}
-use Rattle.std.specs.List.{filter_map}
-use Rattle.std.proofs.lemmas.List.{with_items_is, length-set}
-use Rattle.std.proofs.lemmas.List.Elements.{All-push}
-use Rattle.ttp_world.specs.Script.{host_write, write_at}
-use Rattle.host_port.specs.Rings.{HostState}
-use Rattle.host_port.specs.Writing.{written, Takes, HasRoom}
-use Rattle.ttp_world.specs.Words.{words_of_payload}
-use Rattle.cluster_run.specs.Ends.{host_at}
-use Rattle.cluster_run.specs.Sending.{WritesBytes, write_line}
-use Rattle.cluster_run.proofs.Writes.{written_more, takes_after, room_after, takes-some, takes-within}
-use Rattle.cluster_run.proofs.Writes.{taken_some, taken_none, taken_room, written_along}
-use Rattle.ttp_world.proofs.ListFacts.{at_any}
-use Rattle.cluster_run.proofs.sending.write_all.Goals as goal
+use Rattle.cluster_run.proofs.Words.{◌≡◌, ◌∷◌, ◌++◌, [], take, set, length, get_or, Some, None, sym, ap, ◌∙◌, subst}
+use Rattle.cluster_run.proofs.Words.{arith, All, option_map, vec_len, vec_capacity, filter_map, with_items_is}
+use Rattle.cluster_run.proofs.Words.{length-set, All-push, write_at, HostState, written, Takes, HasRoom}
+use Rattle.cluster_run.proofs.Words.{words_of_payload, host_at, WritesBytes, write_line, at_any, host_write}
+use Rattle.cluster_run.proofs.Writes.{written_more, takes_after, room_after, takes-some, takes-within, taken_some}
+use Rattle.cluster_run.proofs.Writes.{taken_none, taken_room, written_along}
 use Rattle.cluster_run.proofs.sending.write_all.Goals.{in-Some, in_default}
+use Rattle.cluster_run.proofs.sending.write_all.Goals as goal
 
 pub write_one-requires-clause-takes : goal.write_one-requires-clause-takes
 write_one-requires-clause-takes g c κs within =
@@ -62,27 +53,22 @@ loop-place-preserved g c =
           (takes_after x.host (filter_map at (take i places)) (host_at old x.host) (length x.payload) may.takes) in
           let value = w.as_mut_slice.ensures.value in
           record {
-            written =
-                written_along (taken_some at places i place x c.loop-place-test.true here is)
-                (ap (λ v. v.items) w.ends-is
-                ∙ with_items_is c.loop-place.ends w.write_one.new.ends
+            written = written_along (taken_some at places i place x c.loop-place-test.true here is)
+                (ap (λ v. v.items) w.ends-is ∙ with_items_is c.loop-place.ends w.write_one.new.ends
                 (omega (
                   arith,
                   ap length w.write_one.ensures.ends,
                   length-set w.as_mut_slice.result.now x.host
                       (written (host_at w.as_mut_slice.result.now x.host) (words_of_payload x.payload)),
                   w.as_mut_slice.ensures.len,
-                ))
-                ∙ w.write_one.ensures.ends
+                )) ∙ w.write_one.ensures.ends
                 ∙ (λ j. set (value j) x.host (written (host_at (value j) x.host) (words_of_payload x.payload))))
-                (ap (λ v. v.items) w.lines-is
-                ∙ w.push_reserved.ensures.items
+                (ap (λ v. v.items) w.lines-is ∙ w.push_reserved.ensures.items
                 ∙ ap (λ l. lines ++ l ∷ []) (w.write_one.ensures.line ∙ ap (λ xs. write_line xs x.host 0) value))
                 (written_more old ends (filter_map at (take i places)) lines x so
                 (takes-within ends x.host (length x.payload) there)
                 (takes-some (host_at ends x.host) (length x.payload) there));
-            bytes =
-                subst (All WritesBytes) (sym (taken_some at places i place x c.loop-place-test.true here is))
+            bytes = subst (All WritesBytes) (sym (taken_some at places i place x c.loop-place-test.true here is))
                 (All-push WritesBytes (filter_map at (take i places)) x c.loop-place.invariant.bytes
                 w.write_one.ensures.bytes);
             count = omega (arith, ap vec_len w.lines-is, w.push_reserved.ensures.len, c.loop-place.invariant.count);
@@ -93,10 +79,8 @@ loop-place-preserved g c =
           record {
             written =
                 written_along (taken_none at places i place c.loop-place-test.true here is) (ap
-                (λ v. v.items) w.ends-is)
-                (ap (λ v. v.items) w.lines-is) so;
-            bytes =
-                subst (All WritesBytes) (sym (taken_none at places i place c.loop-place-test.true here is))
+                (λ v. v.items) w.ends-is) (ap (λ v. v.items) w.lines-is) so;
+            bytes = subst (All WritesBytes) (sym (taken_none at places i place c.loop-place-test.true here is))
                 c.loop-place.invariant.bytes;
             count = omega (arith, ap vec_len w.lines-is, c.loop-place.invariant.count);
             room = ap vec_capacity w.lines-is ∙ c.loop-place.invariant.room;

@@ -1,7 +1,4 @@
-use Rattle.std.proofs.Common.{◌≡◌, ◌≤◌, take, vec_len, vec_capacity, All}
-use Rattle.std.specs.List.{filter_map}
-use Rattle.ttp_world.specs.Script.{write_at}
-use Rattle.cluster_run.specs.Sending.{WritesBytes}
+use Rattle.cluster_run.proofs.Words.{◌≡◌, ◌≤◌, take, vec_len, vec_capacity, All, filter_map, write_at, WritesBytes}
 use Rattle.cluster_run.proofs.Writes.{AreWritten}
 use Rattle.cluster_run.proofs.sending.write_all.Given as goal
 

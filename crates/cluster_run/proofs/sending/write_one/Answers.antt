@@ -1,5 +1,4 @@
-use Rattle.std.proofs.Common.{◌<◌, All, subst, arith}
-use Rattle.ttp_world.proofs.ListFacts.{at_any}
+use Rattle.cluster_run.proofs.Words.{◌<◌, All, subst, arith, at_any}
 use Rattle.cluster_run.proofs.sending.write_one.Goals as goal
 
 pub tell_bytes-requires : goal.tell_bytes-requires

@@ -1,6 +1,4 @@
-use Rattle.std.proofs.Common.{subst}
-use Rattle.cluster_run.specs.Ends.{desk_ends}
-use Rattle.cluster_run.specs.Reading.{HaveRead}
+use Rattle.cluster_run.proofs.Words.{subst, desk_ends, HaveRead}
 use Rattle.cluster_run.proofs.LentBuffers.{lent_buffers}
 use Rattle.cluster_run.proofs.LentReaders.{all_lent_for}
 use Rattle.cluster_run.proofs.MayRead.{may_read_all}

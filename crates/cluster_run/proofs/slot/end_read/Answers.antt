@@ -1,28 +1,19 @@
-use Rattle.std.proofs.Common.{◌<◌, length, All, sym, ap, subst, ◌∙◌, arith}
-use Rattle.std.proofs.lemmas.List.{length-map, with_items_is}
-use Rattle.ttp_world.specs.declared.host_lines.HostRead.{HostRead}
-use Rattle.ttp_world.specs.Script.{reads_in}
-use Rattle.controller.specs.PlantStands.{outcomes_of}
-use Rattle.cluster_run.specs.declared.nodes.Desk.{Desk}
-use Rattle.cluster_run.specs.Ending.{HaveHandedOn}
-use Rattle.cluster_run.specs.Ends.{desk_ends, desk_numbers}
-use Rattle.cluster_run.specs.Reading.{AllGot, AreLinesOf, AreReadersLent, AreReadersOfAll, SettlesReads}
-use Rattle.cluster_run.specs.Standing.{HoldsRead}
+use Rattle.cluster_run.proofs.Words.{◌<◌, length, All, sym, ap, subst, ◌∙◌, arith, length-map, with_items_is, HostRead}
+use Rattle.cluster_run.proofs.Words.{reads_in, outcomes_of, Desk, HaveHandedOn, desk_ends, desk_numbers, AllGot}
+use Rattle.cluster_run.proofs.Words.{AreLinesOf, AreReadersLent, AreReadersOfAll, SettlesReads, HoldsRead}
 use Rattle.cluster_run.proofs.MayRead.{hosts_within}
 use Rattle.cluster_run.proofs.slot.end_read.Goals as goal
 
 pub end-requires-clause-own : goal.end-requires-clause-own
 end-requires-clause-own g c κs within =
     let lent = with_items_is c.args.nodes.now.desks c.lend_readers.new.desks
-    (omega (arith, ap length c.lend_readers.ensures.desks, c.deref_mut.ensures.len))
-    ∙ c.lend_readers.ensures.desks in
+    (omega (arith, ap length c.lend_readers.ensures.desks, c.deref_mut.ensures.len)) ∙ c.lend_readers.ensures.desks in
     (subst (λ ds. AreReadersOfAll (desk_ends ds) c.in_ok-lent.lent.items) (sym lent) c.in_ok-lent.ensures.own)
 
 pub end-requires-clause-lent : goal.end-requires-clause-lent
 end-requires-clause-lent g c κs within =
     let lent = with_items_is c.args.nodes.now.desks c.lend_readers.new.desks
-    (omega (arith, ap length c.lend_readers.ensures.desks, c.deref_mut.ensures.len))
-    ∙ c.lend_readers.ensures.desks in
+    (omega (arith, ap length c.lend_readers.ensures.desks, c.deref_mut.ensures.len)) ∙ c.lend_readers.ensures.desks in
     rw (← c.requires.reads)
     (subst (λ ds. AreReadersLent c.args.reads.now (desk_ends ds) c.in_ok-lent.lent.items) (sym lent)
     c.in_ok-lent.ensures.lent)
@@ -55,8 +46,7 @@ end-requires-clause-may g c κs within =
     }
 
 pub read_lines-requires-clause-own : goal.read_lines-requires-clause-own
-read_lines-requires-clause-own g c =
-    rw c.deref_mut-2.ensures.value c.in_ok-readers.ensures.own
+read_lines-requires-clause-own g c = rw c.deref_mut-2.ensures.value c.in_ok-readers.ensures.own
 
 pub read_lines-requires-clause-hosts : goal.read_lines-requires-clause-hosts
 read_lines-requires-clause-hosts g c =
@@ -111,20 +101,16 @@ returns-clause-tells g c =
       first_count = c.in_ok-lent.ensures.own.count ∙ ap (λ ds. length (desk_ends ds)) c.deref_mut.ensures.value
           ∙ many ∙ c.requires.may.are.desks;
       last_count = ended.own.count ∙ done_many ∙ ended.ends.are.desks;
-      handed_are =
-          rw (settled, c.read_lines.ensures.numbers, c.deref_mut-2.ensures.value)
+      handed_are = rw (settled, c.read_lines.ensures.numbers, c.deref_mut-2.ensures.value)
           (subst (λ ds. HaveHandedOn (outcomes_of done.seats.items) (desk_ends ds) handed (desk_numbers done.desks.items))
           lent ended.handed);
-      lent =
-          subst (λ ds. AreReadersLent reads (desk_ends ds) c.in_ok-lent.lent.items) c.deref_mut.ensures.value
+      lent = subst (λ ds. AreReadersLent reads (desk_ends ds) c.in_ok-lent.lent.items) c.deref_mut.ensures.value
           (subst (λ rs. AreReadersLent rs (desk_ends c.deref_mut.result.now) c.in_ok-lent.lent.items)
           c.requires.reads c.in_ok-lent.ensures.lent);
       read = ended.reads;
-      settles =
-          subst (λ ds. SettlesReads handed last (desk_ends ds)) (sym settled)
+      settles = subst (λ ds. SettlesReads handed last (desk_ends ds)) (sym settled)
           (subst (λ ds. SettlesReads (desk_ends ds) last (desk_ends c.read_lines.new.desks)) c.deref_mut-2.ensures.value
           c.in_ok-lines.ensures.settles);
-      told =
-          subst (λ rs. AllGot rs last → AreLinesOf rs last c.in_ok-lines.lines) c.requires.reads
+      told = subst (λ rs. AllGot rs last → AreLinesOf rs last c.in_ok-lines.lines) c.requires.reads
           c.in_ok-lines.ensures.lines;
     }

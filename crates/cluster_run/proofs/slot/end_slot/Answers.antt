@@ -1,6 +1,4 @@
-use Rattle.std.proofs.Common.{length, sym, ◌∙◌}
-use Rattle.std.proofs.lemmas.Bool.{eqb-true}
-use Rattle.std.proofs.lemmas.List.{nil_from_length}
+use Rattle.cluster_run.proofs.Words.{length, sym, ◌∙◌, eqb-true, nil_from_length}
 use Rattle.cluster_run.proofs.QuietReads.{none_read}
 use Rattle.cluster_run.proofs.SlotParts.{ends_slot, part_ready}
 use Rattle.cluster_run.proofs.slot.end_slot.Goals as goal
@@ -12,10 +10,8 @@ pub returns-then-is_empty-clause-ends : goal.returns-then-is_empty-clause-ends
 returns-then-is_empty-clause-ends g c = ends_slot c.args.at.now _ _ c.requires.are c.end_unread.ensures
 
 pub returns-then-is_empty-clause-tells : goal.returns-then-is_empty-clause-tells
-returns-then-is_empty-clause-tells g c =
-    rw c.new.ensures
+returns-then-is_empty-clause-tells g c = rw c.new.ensures
     (none_read c.args.at.now c.args.nodes.now c.end_unread.new.nodes
-    (sym c.reads-reads.ensures
-    ∙ nil_from_length c.reads-reads.result.now
+    (sym c.reads-reads.ensures ∙ nil_from_length c.reads-reads.result.now
     (eqb-true (length c.reads-reads.result.now) 0 (sym c.is_empty.ensures ∙ c.if-is_empty.true)))
     c.end_unread.ensures.ended.handed)

@@ -1,6 +1,4 @@
-use Rattle.std.proofs.Common.{subst, ◌∙◌}
-use Rattle.std.proofs.lemmas.List.{with_items_is}
-use Rattle.cluster_run.specs.Jobs.{HaveReadBy}
+use Rattle.cluster_run.proofs.Words.{subst, ◌∙◌, with_items_is, HaveReadBy}
 use Rattle.cluster_run.proofs.slot.end_with_started.Goals as goal
 
 pub end_started-requires-clause-ready : goal.end_started-requires-clause-ready

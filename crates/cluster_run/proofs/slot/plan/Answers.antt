@@ -1,13 +1,7 @@
-use Rattle.std.proofs.Common.{length, refl, sym, ap, subst, ◌∙◌, arith}
-use Rattle.std.specs.Vec.{with_items}
-use Rattle.std.proofs.lemmas.List.{with_items_is}
-use Rattle.ttp_world.specs.World.{frames_in, world}
-use Rattle.ttp_world.proofs.Worlds.{length-world}
-use Rattle.controller.specs.Limits.{IsBegun, IsPlanned}
-use Rattle.controller.specs.Passes.{AreChosen, Carries, HavePlanned}
-use Rattle.controller.specs.PlantWithin.{AreIncidents, AreSeats, most_ahead_in}
+use Rattle.cluster_run.proofs.Words.{length, refl, sym, ap, subst, ◌∙◌, arith, with_items, with_items_is, frames_in}
+use Rattle.cluster_run.proofs.Words.{world, length-world, IsPlanned, AreChosen, AreIncidents, AreSeats, most_ahead_in}
+use Rattle.cluster_run.proofs.Words.{HaveChosen, next_slot, IsBegun, Carries, HavePlanned}
 use Rattle.controller.proofs.Payloads.{payloads-chosen}
-use Rattle.cluster_run.specs.Choosing.{HaveChosen, next_slot}
 use Rattle.cluster_run.proofs.ChosenSizes.{chosen_sizes}
 use Rattle.cluster_run.proofs.SlotParts.{has_begun, has_begun_for}
 use Rattle.cluster_run.proofs.slot.plan.Goals as goal
@@ -30,8 +24,7 @@ choose-requires-after_bounds g c κs within =
       chosen_count = omega (arith, ap length c.deref_mut-2.ensures.value, are.chosen);
       bytes = c.requires.bytes;
       numbers = c.requires.nodes.stands.numbers;
-      begun =
-          has_begun_for at (c.deref.ensures.value ∙ begun) c.requires.nodes.stands.at c.deref_mut.ensures.value
+      begun = has_begun_for at (c.deref.ensures.value ∙ begun) c.requires.nodes.stands.at c.deref_mut.ensures.value
           c.begin_all.ensures.begin;
     }
 
@@ -107,17 +100,14 @@ returns g c =
           let begun_now = has_begun at (c.deref_mut-3.ensures.value ∙ begun) stands c.deref_mut.ensures.value
           c.begin_all.ensures.begin in
           record {
-            chosen =
-                subst (λ xs. HaveChosen list script numbers xs c.choose.new.ends.items) (sym told)
+            chosen = subst (λ xs. HaveChosen list script numbers xs c.choose.new.ends.items) (sym told)
                 (chose.chooses numbers
                 (has_begun_for at (c.deref.ensures.value ∙ begun) stands c.deref_mut.ensures.value
                 c.begin_all.ensures.begin));
-            planned =
-                subst (HavePlanned s (with_items nodes.chosen c.choose.new.chosen).items 0) (sym planned)
+            planned = subst (HavePlanned s (with_items nodes.chosen c.choose.new.chosen).items 0) (sym planned)
                 (subst (λ xs. HavePlanned s xs 0 c.plan_all.new.seats) c.deref-2.ensures.value
                 (c.plan_all.ensures.plan (world list script numbers) begun_now));
-            carries =
-                subst (λ xs. Carries s (frames_in s xs) c.plan_all.new.medium) c.deref-2.ensures.value
+            carries = subst (λ xs. Carries s (frames_in s xs) c.plan_all.new.medium) c.deref-2.ensures.value
                 (c.plan_all.ensures.carries (world list script numbers)
                 (length-world list script numbers ∙ stands.count) begun_now);
           };

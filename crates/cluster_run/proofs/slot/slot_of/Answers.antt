@@ -1,9 +1,6 @@
-use Rattle.std.proofs.Common.{map, sym, ap, subst, ◌∙◌, length}
-use Rattle.ttp_base.specs.NodeSet.{below}
-use Rattle.cluster_run.specs.Ends.{desk_numbers}
-use Rattle.cluster_run.specs.Report.{HaveEndedSlot, node_shown}
-use Rattle.cluster_run.proofs.SlotReads.{TakenSlot}
-use Rattle.cluster_run.proofs.SlotSteps.{has_ended, is_next, row_taken, world_before}
+use Rattle.cluster_run.proofs.Words.{map, sym, ap, subst, ◌∙◌, length, below, desk_numbers, HaveEndedSlot, node_shown}
+use Rattle.cluster_run.proofs.SlotReads.{TakenSlot, row as row_taken, before as world_before}
+use Rattle.cluster_run.proofs.SlotSteps.{has_ended, is_next}
 use Rattle.cluster_run.proofs.slot.slot_of.Goals as goal
 
 pub returns-clause-steps : goal.returns-clause-steps

@@ -1,8 +1,5 @@
-use Rattle.std.proofs.Common.{sym, subst, ◌∙◌}
-use Rattle.std.proofs.lemmas.List.{with_items_is}
-use Rattle.std.specs.Vec.{with_items}
+use Rattle.cluster_run.proofs.Words.{sym, subst, ◌∙◌, with_items_is, with_items, HaveHostsDone, HaveReadBy}
 use Rattle.cluster_run.specs.declared.jobs.HostJob.TheVariants as job
-use Rattle.cluster_run.specs.Jobs.{HaveHostsDone, HaveReadBy}
 use Rattle.cluster_run.proofs.staff.do_host_job.Goals as goal
 
 pub returns-in-Read : goal.returns-in-Read

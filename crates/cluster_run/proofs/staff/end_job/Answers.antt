@@ -1,6 +1,4 @@
-use Rattle.std.proofs.Common.{subst, ◌∙◌}
-use Rattle.std.proofs.lemmas.List.{with_items_is}
-use Rattle.cluster_run.specs.Ending.{HasPartEnded}
+use Rattle.cluster_run.proofs.Words.{subst, ◌∙◌, with_items_is, HasPartEnded}
 use Rattle.cluster_run.proofs.staff.end_job.Goals as goal
 
 pub returns : goal.returns

@@ -1,5 +1,4 @@
-use Rattle.std.proofs.Common.{refl, subst, arith}
-use Rattle.std.proofs.lemmas.Option.{same_Some}
+use Rattle.cluster_run.proofs.Words.{refl, subst, arith, same_Some}
 use Rattle.cluster_run.specs.Clusters.{AreClusterNodes}
 use Rattle.cluster_run.proofs.NewClusters.{new_bytes, new_nodes, new_stands}
 use Rattle.cluster_run.proofs.cluster.Cluster.make.Goals as goal
@@ -15,8 +14,7 @@ invariant_of-result c =
       valid_script = c.requires.script;
       few = omega arith;
       bytes = new_bytes list script;
-      nodes_are = λ n is.
-          subst (AreClusterNodes list script 0) (same_Some nodes n is)
+      nodes_are = λ n is. subst (AreClusterNodes list script 0) (same_Some nodes n is)
           (record { are = new.are; stands = new_stands list script nodes new });
     }
 
