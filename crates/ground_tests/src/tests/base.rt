@@ -5,46 +5,57 @@ use std::io::{BufWriter, Read, Write};
 use std::test::Fail;
 use std::{fs, io};
 use ttp_base::{
-    Failed, FileLibrary, Gate, Library, Line, List, LoadError, MemoryLibrary, MemorySink, NodeSet,
-    OpenGate, Sink, StreamSink, front_of,
+    Failed, FileLibrary, Gate, Library, Line, List, LoadError, Memory, MemoryLibrary, MemorySink,
+    NodeSet, OpenGate, Sink, StreamSink, front_of,
 };
+
+fn grown(alloc: Global) -> Result<List<u32>, Memory> {
+    let mut list = List::new(alloc);
+    list.push(7)?;
+    list.push(9)?;
+    Ok(list)
+}
+
+fn is_grown(list: &List<u32>) -> bool {
+    list.len() == 2 && *list.get(1) == 9 && list.as_slice() == [7, 9].as_slice()
+}
+
+// Whether the items are the same in a vector, and in a list of it.
+fn stays_grown(list: List<u32>) -> bool {
+    let items = list.into_vec();
+    items.as_slice() == [7, 9].as_slice() && List::from_vec(items).as_slice() == [7, 9].as_slice()
+}
 
 #[test]
 fn a_list_grows(rt: HostRuntime) -> Result<(), Fail> {
-    let mut list = List::new(rt.alloc());
-    assert_eq!(rt; list.len(), 0);
-    list.push(7u32)?;
-    list.push(9)?;
-    assert_eq!(rt; list.len(), 2);
-    assert_eq!(rt; *list.get(1), 9);
-    assert_eq!(rt; list.as_slice(), [7, 9].as_slice());
-    let items = list.into_vec();
-    assert_eq!(rt; items.as_slice(), [7, 9].as_slice());
-    let list = List::from_vec(items);
-    assert_eq!(rt; list.as_slice(), [7, 9].as_slice());
+    assert!(rt; List::<u32>::new(rt.alloc()).len() == 0);
+    let list = grown(rt.alloc())?;
+    assert!(rt; is_grown(&list));
+    assert!(rt; stays_grown(list));
     Ok(())
+}
+
+fn has_two(set: NodeSet) -> bool {
+    set.has(2)
+        && !set.has(5)
+        && set.count() == 2
+        && set.first() == Some(2)
+        && set.bits() == 0x80_0004
 }
 
 #[test]
 fn a_set_of_nodes(rt: HostRuntime) {
     let none = NodeSet::empty();
     let set = none.with(23).with(5).with(2).without(5);
-    assert!(rt; set.has(2));
-    assert!(rt; !set.has(5));
-    assert_eq!(rt; set.count(), 2);
-    assert!(rt; set.first() == Some(2));
+    assert!(rt; has_two(set));
     assert!(rt; none.first().is_none());
-    assert_eq!(rt; set.bits(), 0x80_0004);
     let copy = set;
-    assert!(rt; copy == set);
-    assert!(rt; copy != none);
+    assert!(rt; copy == set && copy != none);
 }
 
-#[test]
 #[tactic(auto, using(ttp_base::proofs::Room::room))]
-fn a_line_takes_each_kind_of_text(rt: HostRuntime) {
+fn line_of_each_kind() -> Line {
     let mut line = Line::new();
-    assert_eq!(rt; line.room(), 640);
     line.put_text("slot ");
     line.put_number(20_000);
     line.put_text(" clock ");
@@ -53,11 +64,15 @@ fn a_line_takes_each_kind_of_text(rt: HostRuntime) {
     line.put_hex(0x1b, 4);
     line.put_text(" ");
     line.put_hex_bytes(&[0x5d, 0x6d, 0xcb]);
-    assert_eq!(rt;
-        line.bytes(),
-        b"slot 20000 clock -15 mem 001b 5d6dcb".as_slice()
-    );
-    assert_eq!(rt; line.room(), 604);
+    line
+}
+
+#[test]
+fn a_line_takes_each_kind_of_text(rt: HostRuntime) {
+    assert!(rt; Line::new().room() == 640);
+    let line = line_of_each_kind();
+    assert!(rt; line.bytes() == b"slot 20000 clock -15 mem 001b 5d6dcb".as_slice());
+    assert!(rt; line.room() == 604);
 }
 
 #[test]
@@ -66,11 +81,11 @@ fn a_line_is_cut_and_goes_on(rt: HostRuntime) {
     let mut line = Line::new();
     line.put_text("slot 12 node ");
     let head = line.len();
-    assert_eq!(rt; head, 13);
+    assert!(rt; head == 13);
     line.put_number(3);
     line.cut(head);
     line.put_bytes(b"40");
-    assert_eq!(rt; line.bytes(), b"slot 12 node 40".as_slice());
+    assert!(rt; line.bytes() == b"slot 12 node 40".as_slice());
 }
 
 #[test]
@@ -82,10 +97,7 @@ fn the_ends_of_the_number_ranges(rt: HostRuntime) {
     line.put_number(u64::MAX);
     line.put_text(" ");
     line.put_signed(i64::MIN);
-    assert_eq!(rt;
-        line.bytes(),
-        b"0 18446744073709551615 -9223372036854775808".as_slice()
-    );
+    assert!(rt; line.bytes() == b"0 18446744073709551615 -9223372036854775808".as_slice());
 }
 
 #[test]
@@ -94,27 +106,72 @@ fn the_ends_of_the_hexadecimal_range(rt: HostRuntime) {
     let mut line = Line::new();
     line.put_hex(u64::MAX, 16);
     line.put_hex(0, 1);
-    assert_eq!(rt; line.bytes(), b"ffffffffffffffff0".as_slice());
+    assert!(rt; line.bytes() == b"ffffffffffffffff0".as_slice());
 }
+
+// Whether a library gives what is due under a name.
+fn gives(
+    alloc: Global,
+    library: &mut impl Library,
+    name: &str,
+    limit: u32,
+    due: Result<&[u8], LoadError>,
+) -> bool {
+    match (library.load(alloc, name, limit as usize), due) {
+        (Ok(bytes), Ok(due)) => bytes.as_slice() == due,
+        (Err(error), Err(due)) => error == due,
+        _ => false,
+    }
+}
+
+// A library whose second call is to fail.
+fn library_in_memory(alloc: Global) -> Result<MemoryLibrary, Memory> {
+    let mut fail = List::new(alloc);
+    fail.push(2)?;
+    let mut library = MemoryLibrary::new(alloc, fail);
+    library.add("a", b"one")?;
+    library.add("a", b"three")?;
+    Ok(library)
+}
+
+// A name, a limit, and what comes: the first `limit + 1` bytes. Nothing is held under the last name.
+const LOADS: &[(&str, u32, Result<&[u8], LoadError>)] = &[
+    ("a", 3, Ok(b"thre")),
+    ("a", 3, Err(LoadError::Failed)),
+    ("a", 9, Ok(b"three")),
+    ("b", 9, Err(LoadError::Failed)),
+];
 
 #[test]
 fn a_library_in_memory(rt: HostRuntime) -> Result<(), Fail> {
-    let mut fail = List::new(rt.alloc());
-    fail.push(2)?;
-    let mut library = MemoryLibrary::new(rt.alloc(), fail);
-    library.add("a", b"one")?;
-    library.add("a", b"three")?;
-    // The first `limit + 1` bytes.
-    let bytes = library.load(rt.alloc(), "a", 3).ok().ok_or("held")?;
-    assert_eq!(rt; bytes.as_slice(), b"thre".as_slice());
-    // The second call is to fail.
-    assert!(rt; library.load(rt.alloc(), "a", 3).err() == Some(LoadError::Failed));
-    let bytes = library.load(rt.alloc(), "a", 9).ok().ok_or("held")?;
-    assert_eq!(rt; bytes.as_slice(), b"three".as_slice());
-    // Nothing is held there.
-    assert!(rt; library.load(rt.alloc(), "b", 9).err() == Some(LoadError::Failed));
-    assert_eq!(rt; library.faults(), 2);
+    let mut library = library_in_memory(rt.alloc())?;
+    for (name, limit, due) in LOADS {
+        assert!(rt;
+            gives(rt.alloc(), &mut library, name, *limit, *due),
+            "{name} {limit}"
+        );
+    }
+    assert!(rt; library.faults() == 2);
     Ok(())
+}
+
+// Each piece, and how it is refused, if it is: the second call is to fail, and then one byte is left.
+const PIECES: &[(&[u8], Option<Failed>)] = &[
+    (b"ab", None),
+    (b"cd", Some(Failed)),
+    (b"efg", None),
+    (b"hi", Some(Failed)),
+    (b"j", None),
+];
+
+// The first piece that is not taken or refused as it is due to be.
+fn wrong_piece(sink: &mut MemorySink) -> Option<usize> {
+    for (place, (piece, due)) in PIECES.iter().enumerate() {
+        if sink.write(piece).err() != *due {
+            return Some(place);
+        }
+    }
+    None
 }
 
 #[test]
@@ -122,30 +179,26 @@ fn a_sink_in_memory(rt: HostRuntime) -> Result<(), Fail> {
     let mut fail = List::new(rt.alloc());
     fail.push(2)?;
     let mut sink = MemorySink::new(rt.alloc(), 6, fail)?;
-    assert!(rt; sink.write(b"ab").is_ok());
-    assert!(rt; sink.write(b"cd").err() == Some(Failed));
-    assert!(rt; sink.write(b"efg").is_ok());
-    // One byte is left.
-    assert!(rt; sink.write(b"hi").err() == Some(Failed));
-    assert!(rt; sink.write(b"j").is_ok());
-    assert_eq!(rt; sink.bytes(), b"abefgj".as_slice());
-    assert_eq!(rt; sink.faults(), 2);
+    assert!(rt; wrong_piece(&mut sink).is_none());
+    assert!(rt; sink.bytes() == b"abefgj".as_slice() && sink.faults() == 2);
     Ok(())
 }
+
+// A limit, and what comes: one byte past the limit, and no more.
+const FRONTS: &[(u32, &[u8])] = &[(4, b"01234"), (10, b"0123456789")];
 
 #[test]
 fn a_file_as_it_lies(rt: HostRuntime) -> Result<(), Fail> {
     let path = "ground_tests_file";
     fs::write(&rt, path, b"0123456789".as_slice())?;
     let mut library = FileLibrary::new(&rt);
-    // One byte past the limit, and no more; and the file stays as it is.
-    for (limit, expected) in [(4, b"01234".as_slice()), (10, b"0123456789".as_slice())] {
-        let front = library.load(rt.alloc(), path, limit).ok().ok_or("there")?;
-        assert_eq!(rt; front.as_slice(), expected);
+    // The file stays as it is.
+    for (limit, front) in FRONTS {
+        assert!(rt; gives(rt.alloc(), &mut library, path, *limit, Ok(front)));
     }
     fs::remove_file(&rt, path)?;
     for name in [path, "."] {
-        assert!(rt; library.load(rt.alloc(), name, 4).err() == Some(LoadError::Failed));
+        assert!(rt; gives(rt.alloc(), &mut library, name, 4, Err(LoadError::Failed)));
     }
     Ok(())
 }
@@ -197,36 +250,46 @@ type FrontCase = (
     u32,
 );
 
+const BLOCKED: Option<(usize, io::ErrorKind)> = Some((6, io::ErrorKind::WouldBlock));
+
+const BROKEN: Option<(usize, io::ErrorKind)> = Some((6, io::ErrorKind::BrokenPipe));
+
+const REFUSED: Option<(usize, io::ErrorKind)> = Some((6, io::ErrorKind::OutOfMemory));
+
+const FRONT_CASES: &[FrontCase] = &[
+    (10, 5, 3, 0, None, Ok(5), 5, 2),
+    (10, 20, 3, 0, None, Ok(10), 10, 5),
+    (10, 5, 1, 5000, None, Ok(5), 5, 5005),
+    (10, 0, 3, 0, None, Ok(0), 0, 0),
+    (10, 8, 3, 0, BROKEN, Err(LoadError::Failed), 6, 3),
+    (10, 8, 3, 0, BLOCKED, Err(LoadError::Failed), 6, 3),
+    (10, 8, 3, 0, REFUSED, Err(LoadError::Memory), 6, 3),
+    (10, 6, 3, 0, BROKEN, Ok(6), 6, 2),
+    (100_000, 200_000, 50_000, 0, None, Ok(100_000), 100_000, 26),
+    (100_000, 70_000, 4096, 0, None, Ok(70_000), 70_000, 18),
+];
+
+fn gives_front(alloc: Global, case: &FrontCase) -> bool {
+    let (length, count, most, interrupts, fails, expected, taken, calls) = *case;
+    let mut reader = Pieces {
+        length,
+        at: 0,
+        most,
+        interrupts,
+        fails,
+        calls: 0,
+    };
+    let given = match front_of(alloc, Ok(&mut reader), count) {
+        Ok(bytes) => Ok(bytes.len()),
+        Err(error) => Err(error),
+    };
+    given == expected && reader.at == taken && reader.calls == calls
+}
+
 #[test]
 fn the_front_of_what_a_reader_gives(rt: HostRuntime) {
-    let blocked = Some((6, io::ErrorKind::WouldBlock));
-    let broken = Some((6, io::ErrorKind::BrokenPipe));
-    let refused = Some((6, io::ErrorKind::OutOfMemory));
-    let cases: &[FrontCase] = &[
-        (10, 5, 3, 0, None, Ok(5), 5, 2),
-        (10, 20, 3, 0, None, Ok(10), 10, 5),
-        (10, 5, 1, 5000, None, Ok(5), 5, 5005),
-        (10, 0, 3, 0, None, Ok(0), 0, 0),
-        (10, 8, 3, 0, broken, Err(LoadError::Failed), 6, 3),
-        (10, 8, 3, 0, blocked, Err(LoadError::Failed), 6, 3),
-        (10, 8, 3, 0, refused, Err(LoadError::Memory), 6, 3),
-        (10, 6, 3, 0, broken, Ok(6), 6, 2),
-        (100_000, 200_000, 50_000, 0, None, Ok(100_000), 100_000, 26),
-        (100_000, 70_000, 4096, 0, None, Ok(70_000), 70_000, 18),
-    ];
-    for (length, count, most, interrupts, fails, expected, taken, calls) in cases {
-        let mut reader = Pieces {
-            length: *length,
-            at: 0,
-            most: *most,
-            interrupts: *interrupts,
-            fails: *fails,
-            calls: 0,
-        };
-        let given = front_of(rt.alloc(), Ok(&mut reader), *count).map(|bytes| bytes.len());
-        assert!(rt; given == *expected);
-        assert_eq!(rt; reader.at, *taken);
-        assert_eq!(rt; reader.calls, *calls);
+    for (row, case) in FRONT_CASES.iter().enumerate() {
+        assert!(rt; gives_front(rt.alloc(), case), "row {row}");
     }
 }
 
@@ -271,55 +334,78 @@ impl Write for Slow {
     }
 }
 
+// The most bytes at once, the room, interrupted writes and the piece; whether it is taken, how many
+// of its bytes are, and the number of calls.
+type StreamCase = (usize, usize, u32, &'static [u8], bool, usize, u32);
+
+const LONG: &[u8] = &[b'x'; 640];
+
+const STREAM_CASES: &[StreamCase] = &[
+    (2, 99, 0, b"abcde", true, 5, 3),
+    (9, 99, 2, b"abcde", true, 5, 3),
+    (9, 99, 1000, b"abcde", true, 5, 1001),
+    (999, 999, 0, LONG, true, 640, 1),
+    (999, 999, 5000, LONG, true, 640, 5001),
+    (9, 99, 0, b"", true, 0, 1),
+    (0, 99, 0, b"abcde", false, 0, 1),
+    (2, 3, 0, b"abcde", false, 3, 3),
+];
+
+// Whether a writer was given the first bytes of a piece, so many, in so many calls.
+fn was_given(slow: &Slow, piece: &[u8], count: usize, calls: u32) -> bool {
+    piece.get(..count) == Some(slow.taken.as_slice()) && slow.calls == calls
+}
+
+fn is_given(alloc: Global, case: &StreamCase) -> bool {
+    let (most, room, interrupts, piece, is_taken, count, calls) = *case;
+    let mut slow = Slow::new(alloc, most, room, interrupts);
+    let written = StreamSink::new(&mut slow).write(piece).is_ok();
+    written == is_taken && was_given(&slow, piece, count, calls)
+}
+
 #[test]
 fn a_stream_gives_each_piece_whole(rt: HostRuntime) {
-    let long = [b'x'; 640];
-    // The most bytes at once, the room, interrupted writes and the piece; whether it is taken, how many
-    // of its bytes are, and the number of calls.
-    let cases: &[(usize, usize, u32, &[u8], bool, usize, u32)] = &[
-        (2, 99, 0, b"abcde".as_slice(), true, 5, 3),
-        (9, 99, 2, b"abcde".as_slice(), true, 5, 3),
-        (9, 99, 1000, b"abcde".as_slice(), true, 5, 1001),
-        (999, 999, 0, long.as_slice(), true, 640, 1),
-        (999, 999, 5000, long.as_slice(), true, 640, 5001),
-        (9, 99, 0, b"".as_slice(), true, 0, 1),
-        (0, 99, 0, b"abcde".as_slice(), false, 0, 1),
-        (2, 3, 0, b"abcde".as_slice(), false, 3, 3),
-    ];
-    for (most, room, interrupts, piece, is_taken, count, calls) in cases {
-        let mut slow = Slow::new(rt.alloc(), *most, *room, *interrupts);
-        let mut sink = StreamSink::new(&mut slow);
-        assert_eq!(rt; sink.write(piece).is_ok(), *is_taken);
-        drop(sink);
-        let front = piece.get(..*count).expect(&rt, "a front of the piece");
-        assert_eq!(rt; slow.taken.as_slice(), front);
-        assert_eq!(rt; slow.calls, *calls);
+    for (row, case) in STREAM_CASES.iter().enumerate() {
+        assert!(rt; is_given(rt.alloc(), case), "row {row}");
     }
+}
+
+// The room of the writer; which of four pieces of 5 bytes are taken, through a buffer of 8, and
+// whether the end succeeds.
+type BufferCase = (usize, [bool; 4], bool);
+
+const BUFFER_CASES: &[BufferCase] = &[
+    (99, [true, true, true, true], true),
+    (12, [true, true, true, false], false),
+    (17, [true, true, true, true], false),
+];
+
+// Whether of four pieces those are taken that are due to be.
+fn are_taken_as_due(sink: &mut impl Sink, taken: [bool; 4]) -> bool {
+    for is_taken in taken {
+        if sink.write(b"line\n").is_ok() != is_taken {
+            return false;
+        }
+    }
+    true
+}
+
+fn is_buffered(alloc: Global, case: &BufferCase) -> Result<bool, io::Error> {
+    let (room, taken, ends) = *case;
+    let mut slow = Slow::new(alloc, 99, room, 0);
+    let buffered = BufWriter::with_capacity(alloc, 8, &mut slow)?;
+    let mut sink = StreamSink::new(buffered);
+    let are_taken = are_taken_as_due(&mut sink, taken);
+    let ended = sink.end().is_ok() == ends;
+    Ok(are_taken && ended && slow.taken.as_slice() == &b"line\nline\nline\nline\n"[..room.min(20)])
 }
 
 // What is buffered comes to the writer in one call at the end, or as the buffer fills; a writer that is
 // full is told at the latest at the end.
 #[test]
 fn a_buffered_stream_hands_on_all_at_its_end(rt: HostRuntime) -> Result<(), Fail> {
-    // The room of the writer; which of four pieces of 5 bytes are taken, through a buffer of 8, and
-    // whether the end succeeds.
-    let cases = [
-        (99, [true, true, true, true], true),
-        (12, [true, true, true, false], false),
-        (17, [true, true, true, true], false),
-    ];
-    for (room, taken, ends) in cases {
-        let mut slow = Slow::new(rt.alloc(), 99, room, 0);
-        let buffered = BufWriter::with_capacity(rt.alloc(), 8, &mut slow)?;
-        let mut sink = StreamSink::new(buffered);
-        for is_taken in taken {
-            assert_eq!(rt; sink.write(b"line\n").is_ok(), is_taken);
-        }
-        assert_eq!(rt; sink.end().is_ok(), ends);
-        assert_eq!(rt;
-            slow.taken.as_slice(),
-            &b"line\nline\nline\nline\n"[..room.min(20)]
-        );
+    for (row, case) in BUFFER_CASES.iter().enumerate() {
+        assert!(rt; is_buffered(rt.alloc(), case)?, "row {row}");
     }
     Ok(())
 }

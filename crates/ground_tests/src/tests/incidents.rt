@@ -148,122 +148,159 @@ fn script_of(alloc: Global, events: Events) -> Result<Script, Memory>
     })
 }
 
-#[test]
-fn incidents_at_the_edges_of_events(rt: HostRuntime) -> Result<(), Fail> {
-    let script = script_of(rt.alloc(), all_kinds(rt.alloc())?)?;
-    let silenced = Incidents {
-        send_silence: ON_BOTH,
-        ..NOTHING
-    };
-    let silenced_on_a = Incidents {
-        send_silence: ON_A,
-        ..NOTHING
-    };
-    let deaf_on_b = Incidents {
-        receive_noise: ON_B,
-        ..NOTHING
-    };
-    let flipped = Incidents {
-        has_flip: true,
-        ..NOTHING
-    };
-    let rows: &[(u8, u32, Incidents)] = &[
-        (0, 2, NOTHING),
-        (0, 3, silenced),
-        (
-            0,
-            5,
-            Incidents {
-                send_noise: ON_A,
-                ..silenced
-            },
-        ),
-        (0, 6, silenced_on_a),
-        (0, 8, silenced_on_a),
-        (0, 9, NOTHING),
-        (1, 3, NOTHING),
-        (23, 0, deaf_on_b),
-        (
-            23,
-            19_999,
-            Incidents {
-                receive_silence: ON_A,
-                ..deaf_on_b
-            },
-        ),
-        (23, 20_000, NOTHING),
-        (22, 19_998, NOTHING),
-        (
-            22,
-            19_999,
-            Incidents {
-                armed: true,
-                ..NOTHING
-            },
-        ),
-        (1, 9, NOTHING),
-        (
-            1,
-            10,
-            Incidents {
-                error: 7,
-                ..NOTHING
-            },
-        ),
-        (
-            1,
-            12,
-            Incidents {
-                error: 10_004,
-                jump: 3,
-                ..NOTHING
-            },
-        ),
-        (
-            1,
-            14,
-            Incidents {
-                error: -3,
-                ..NOTHING
-            },
-        ),
-        (1, 15, NOTHING),
-        (2, 3, NOTHING),
-        (2, 4, flipped),
-        (2, 5, flipped),
-        (2, 6, NOTHING),
-    ];
+// The run of all kinds of events.
+fn full_script(alloc: Global) -> Result<Script, Memory> {
+    script_of(alloc, all_kinds(alloc)?)
+}
+
+const SILENCED: Incidents = Incidents {
+    send_silence: ON_BOTH,
+    ..NOTHING
+};
+
+const SILENCED_ON_A: Incidents = Incidents {
+    send_silence: ON_A,
+    ..NOTHING
+};
+
+const DEAF_ON_B: Incidents = Incidents {
+    receive_noise: ON_B,
+    ..NOTHING
+};
+
+const FLIPPED: Incidents = Incidents {
+    has_flip: true,
+    ..NOTHING
+};
+
+// A node, a slot, and what happens to the node in it.
+const EDGES: &[(u8, u32, Incidents)] = &[
+    (0, 2, NOTHING),
+    (0, 3, SILENCED),
+    (
+        0,
+        5,
+        Incidents {
+            send_noise: ON_A,
+            ..SILENCED
+        },
+    ),
+    (0, 6, SILENCED_ON_A),
+    (0, 8, SILENCED_ON_A),
+    (0, 9, NOTHING),
+    (1, 3, NOTHING),
+    (23, 0, DEAF_ON_B),
+    (
+        23,
+        19_999,
+        Incidents {
+            receive_silence: ON_A,
+            ..DEAF_ON_B
+        },
+    ),
+    (23, 20_000, NOTHING),
+    (22, 19_998, NOTHING),
+    (
+        22,
+        19_999,
+        Incidents {
+            armed: true,
+            ..NOTHING
+        },
+    ),
+    (1, 9, NOTHING),
+    (
+        1,
+        10,
+        Incidents {
+            error: 7,
+            ..NOTHING
+        },
+    ),
+    (
+        1,
+        12,
+        Incidents {
+            error: 10_004,
+            jump: 3,
+            ..NOTHING
+        },
+    ),
+    (
+        1,
+        14,
+        Incidents {
+            error: -3,
+            ..NOTHING
+        },
+    ),
+    (1, 15, NOTHING),
+    (2, 3, NOTHING),
+    (2, 4, FLIPPED),
+    (2, 5, FLIPPED),
+    (2, 6, NOTHING),
+];
+
+fn is_due_after(script: &Script, edge: &(u8, u32, Incidents), last: &mut LastLookUp) -> bool {
+    let (node, slot, due) = *edge;
+    script.incidents_after(node, slot, last) == due
+}
+
+fn is_due(script: &Script, edge: &(u8, u32, Incidents), last: &mut LastLookUp) -> bool {
+    let (node, slot, due) = *edge;
+    script.incidents(node, slot) == due && is_due_after(script, edge, last)
+}
+
+// The first edge in the order of the table, and then backwards, at which something else happens. Backwards,
+// each look-up begins behind its answer.
+fn wrong_edge(script: &Script) -> Option<(u8, u32)> {
     let mut last = LastLookUp::none();
-    for (node, slot, due) in rows {
-        assert!(rt;
-            script.incidents(*node, *slot) == *due
-                && script.incidents_after(*node, *slot, &mut last) == *due,
-            "node {node} in slot {slot}"
-        );
+    for edge in EDGES {
+        if !is_due(script, edge, &mut last) {
+            return Some((edge.0, edge.1));
+        }
     }
-    // Backwards, each look-up begins behind its answer.
-    for (node, slot, due) in rows.iter().rev() {
-        assert!(rt;
-            script.incidents_after(*node, *slot, &mut last) == *due,
-            "node {node} in slot {slot}"
-        );
+    for edge in EDGES.iter().rev() {
+        if !is_due_after(script, edge, &mut last) {
+            return Some((edge.0, edge.1));
+        }
     }
-    Ok(())
+    None
 }
 
 #[test]
+fn incidents_at_the_edges_of_events(rt: HostRuntime) -> Result<(), Fail> {
+    let script = full_script(rt.alloc())?;
+    let wrong = wrong_edge(&script);
+    assert!(rt; wrong.is_none(), "node and slot {wrong:?}");
+    Ok(())
+}
+
+const FLIPS: &[FlippedBit] = &[
+    FlippedBit {
+        channels: ON_A,
+        bit: 9,
+    },
+    FlippedBit {
+        channels: ON_BOTH,
+        bit: 9,
+    },
+    FlippedBit {
+        channels: ON_B,
+        bit: 2_047,
+    },
+];
+
+// Nodes and slots in which nothing is flipped.
+const UNFLIPPED: &[(u8, u32)] = &[(2, 3), (2, 6), (1, 4), (3, 4)];
+
+#[test]
 fn flips_in_the_order_of_the_script(rt: HostRuntime) -> Result<(), Fail> {
-    let script = script_of(rt.alloc(), all_kinds(rt.alloc())?)?;
-    let due = [(ON_A, 9), (ON_BOTH, 9), (ON_B, 2_047)];
-    let flips = script.flips(2, 4);
-    assert!(rt; flips.len() == due.len());
-    for (flip, (channels, bit)) in flips.iter().zip(due) {
-        assert!(rt; *flip == FlippedBit { channels, bit });
-    }
-    assert!(rt; script.flips(2, 5).len() == 1);
-    for (node, slot) in [(2, 3), (2, 6), (1, 4), (3, 4)] {
+    let script = full_script(rt.alloc())?;
+    assert!(rt; script.flips(2, 4) == FLIPS && script.flips(2, 5).len() == 1);
+    for (node, slot) in UNFLIPPED {
         assert!(rt;
-            script.flips(node, slot).is_empty(),
+            script.flips(*node, *slot).is_empty(),
             "node {node} in slot {slot}"
         );
     }
@@ -299,23 +336,37 @@ fn of_hosts(alloc: Global) -> Result<Events, Memory> {
     Events::index(alloc, events)
 }
 
+const READS: &[HostRead] = &[
+    HostRead {
+        host: 3,
+        source: Source::Node(1),
+    },
+    HostRead {
+        host: 0,
+        source: Source::Status,
+    },
+];
+
+fn has_reads(script: &Script) -> bool {
+    script.reads(7) == READS && script.reads(6).len() == 1 && script.reads(9).is_empty()
+}
+
+fn has_writes(script: &Script) -> bool {
+    script.writes(7) == [2, 6].as_slice() && script.writes(9) == [1].as_slice()
+}
+
+fn is_written(script: &Script, place: usize, host: u8, bytes: &[u8]) -> bool {
+    match script.write(place) {
+        Some(write) => write.host == host && write.payload.bytes() == bytes,
+        None => false,
+    }
+}
+
 #[test]
 fn lines_of_hosts_in_the_order_of_the_script(rt: HostRuntime) -> Result<(), Fail> {
     let script = script_of(rt.alloc(), of_hosts(rt.alloc())?)?;
-    let source = Source::Node(1);
-    let first = HostRead { host: 3, source };
-    let second = HostRead {
-        host: 0,
-        source: Source::Status,
-    };
-    assert!(rt; script.reads(7) == [first, second].as_slice());
-    assert!(rt; script.reads(6).len() == 1 && script.reads(9).is_empty());
-    assert!(rt; script.writes(7) == [2, 6].as_slice() && script.writes(9) == [1].as_slice());
-    let (Some(long), Some(empty)) = (script.write(2), script.write(6)) else {
-        return Err(Fail::new("no write"));
-    };
-    assert!(rt; long.host == 1 && long.payload.bytes() == [2, 3].as_slice());
-    assert!(rt; empty.host == 0 && empty.payload.bytes().is_empty());
+    assert!(rt; has_reads(&script) && has_writes(&script));
+    assert!(rt; is_written(&script, 2, 1, &[2, 3]) && is_written(&script, 6, 0, &[]));
     assert!(rt; script.write(3).is_none() && script.write(7).is_none());
     Ok(())
 }
@@ -325,24 +376,33 @@ fn header_of_each_kind(rt: HostRuntime) {
     assert!(rt; Kind::N.header() == 0 && Kind::I.header() == 1 && Kind::X.header() == 2);
 }
 
+fn is_quiet(script: &Script) -> bool {
+    script.incidents(0, 0) == NOTHING
+        && script.flips(0, 0).is_empty()
+        && script.events.as_slice().is_empty()
+}
+
+// A node, a slot, and whether the node is on in it.
+const SWITCHED: &[(u8, u32, bool)] = &[(0, 2, false), (0, 3, true), (1, 19_999, false)];
+
 #[test]
 fn nothing_happens_without_events(rt: HostRuntime) -> Result<(), Fail> {
     let script = script_of(rt.alloc(), Events::none(rt.alloc()))?;
-    assert!(rt; script.incidents(0, 0) == NOTHING && script.flips(0, 0).is_empty());
-    assert!(rt; script.events.as_slice().is_empty());
-    for (node, slot, on) in [(0, 2, false), (0, 3, true), (1, 19_999, false)] {
+    assert!(rt; is_quiet(&script));
+    for (node, slot, on) in SWITCHED {
+        assert!(rt; (*node as usize) < script.on.len());
         assert!(rt;
-            script.is_on(node, slot) == on,
+            script.is_on(*node, *slot) == *on,
             "node {node} in slot {slot}"
         );
     }
     Ok(())
 }
 
-#[test]
-fn copy_of_a_list(rt: HostRuntime) -> Result<(), Fail> {
-    let mut slots = List::new(rt.alloc());
-    let mut kinds = List::new(rt.alloc());
+// A list whose fields are all told from one another.
+fn full_list(alloc: Global) -> Result<Medl, Memory> {
+    let mut slots = List::new(alloc);
+    let mut kinds = List::new(alloc);
     kinds.push(Kind::N)?;
     slots.push(SlotPlan {
         kinds,
@@ -352,7 +412,7 @@ fn copy_of_a_list(rt: HostRuntime) -> Result<(), Fail> {
         requests: true,
         live: 5,
     })?;
-    let list = Medl {
+    Ok(Medl {
         version: 2,
         rounds: 1,
         schedule: 77,
@@ -362,13 +422,34 @@ fn copy_of_a_list(rt: HostRuntime) -> Result<(), Fail> {
         window: 60,
         modes: 7,
         slots,
-    };
+    })
+}
+
+fn is_copied_plan(plan: &SlotPlan) -> bool {
+    plan.kinds.as_slice() == [Kind::N].as_slice()
+        && plan.payload == 9
+        && plan.sync
+        && !plan.start
+        && plan.requests
+        && plan.live == 5
+}
+
+fn is_copied(copy: &Medl) -> bool {
+    let numbers = copy.version == 2
+        && copy.rounds == 1
+        && copy.schedule == 77
+        && copy.buffers == 3
+        && copy.drift == 4
+        && copy.error == 5
+        && copy.window == 60
+        && copy.modes == 7;
+    numbers && copy.slots.len() == 1 && is_copied_plan(copy.slots.get(0))
+}
+
+#[test]
+fn copy_of_a_list(rt: HostRuntime) -> Result<(), Fail> {
+    let list = full_list(rt.alloc())?;
     let copy = list.copy(rt.alloc())?;
-    assert!(rt; copy.version == 2 && copy.rounds == 1 && copy.schedule == 77 && copy.buffers == 3);
-    assert!(rt; copy.drift == 4 && copy.error == 5 && copy.window == 60 && copy.modes == 7);
-    assert!(rt; copy.slots.len() == 1);
-    let plan = copy.slots.get(0);
-    assert!(rt; plan.kinds.len() == 1 && plan.payload == 9 && plan.sync && !plan.start);
-    assert!(rt; plan.requests && plan.live == 5 && *plan.kinds.get(0) == Kind::N);
+    assert!(rt; is_copied(&copy));
     Ok(())
 }

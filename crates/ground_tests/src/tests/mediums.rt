@@ -145,103 +145,167 @@ fn put_in_slot(medium: &mut Medium, script: &Script, node: u8, frame: &Outgoing,
     medium.put(script, &incidents, node, frame, offset);
 }
 
+// Two lines of the script, who sends, and what node 2 hears on channels A and B.
+type Row = ([Line; 2], [bool; 2], Heard, Heard);
+
+const ROWS: &[Row] = &[
+    (
+        [Line::None, Line::None],
+        NEITHER,
+        Heard::Silence,
+        Heard::Silence,
+    ),
+    ([Line::None, Line::None], FIRST, ZERO, ZERO),
+    ([Line::None, Line::None], SECOND, ONE, ONE),
+    // Two frames, a frame and noise, a frame beside a silenced one, and silence over noise.
+    ([Line::None, Line::None], EACH, Heard::Noise, Heard::Noise),
+    (
+        [Line::SendNoise(0, BOTH), Line::None],
+        EACH,
+        Heard::Noise,
+        Heard::Noise,
+    ),
+    (
+        [Line::SendNoise(1, BOTH), Line::None],
+        EACH,
+        Heard::Noise,
+        Heard::Noise,
+    ),
+    ([Line::SendSilence(0, BOTH), Line::None], EACH, ONE, ONE),
+    ([Line::SendSilence(1, BOTH), Line::None], EACH, ZERO, ZERO),
+    (
+        [Line::SendSilence(0, A), Line::None],
+        EACH,
+        ONE,
+        Heard::Noise,
+    ),
+    (
+        [Line::SendSilence(0, A), Line::SendSilence(1, B)],
+        EACH,
+        ONE,
+        ZERO,
+    ),
+    (
+        [Line::SendNoise(0, B), Line::None],
+        FIRST,
+        ZERO,
+        Heard::Noise,
+    ),
+    (
+        [Line::SendNoise(0, A), Line::SendSilence(0, A)],
+        FIRST,
+        Heard::Silence,
+        ZERO,
+    ),
+    (
+        [Line::SendNoise(0, A), Line::SendSilence(0, A)],
+        EACH,
+        ONE,
+        Heard::Noise,
+    ),
+    ([Line::SendNoise(2, BOTH), Line::None], FIRST, ZERO, ZERO),
+    // Flips inside, past the end, of one bit twice, of two bits, and of another node.
+    (
+        [Line::Flip(0, A, 8), Line::None],
+        FIRST,
+        Heard::Bits(&[0x10, 0x25, 0xff], -7),
+        ZERO,
+    ),
+    (
+        [Line::Flip(0, B, 23), Line::None],
+        FIRST,
+        ZERO,
+        Heard::Bits(&[0x10, 0xa5, 0xfe], -7),
+    ),
+    ([Line::Flip(0, BOTH, 24), Line::None], FIRST, ZERO, ZERO),
+    (
+        [Line::Flip(0, A, 12), Line::Flip(0, BOTH, 12)],
+        FIRST,
+        ZERO,
+        Heard::Bits(&[0x10, 0xad, 0xff], -7),
+    ),
+    (
+        [Line::Flip(1, A, 8), Line::Flip(1, A, 16)],
+        SECOND,
+        Heard::Bits(&[0x11, 0x80, 0xbc], 40),
+        ONE,
+    ),
+    ([Line::Flip(1, BOTH, 8), Line::None], FIRST, ZERO, ZERO),
+    // The receiver's own faults over a frame, noise and silence, and another receiver's.
+    (
+        [Line::ReceiveSilence(2, A), Line::None],
+        FIRST,
+        Heard::Silence,
+        ZERO,
+    ),
+    (
+        [Line::ReceiveNoise(2, B), Line::None],
+        FIRST,
+        ZERO,
+        Heard::Noise,
+    ),
+    (
+        [Line::ReceiveSilence(2, A), Line::ReceiveNoise(2, B)],
+        EACH,
+        Heard::Silence,
+        Heard::Noise,
+    ),
+    (
+        [Line::ReceiveSilence(2, A), Line::ReceiveNoise(2, B)],
+        NEITHER,
+        Heard::Silence,
+        Heard::Silence,
+    ),
+    (
+        [Line::ReceiveNoise(2, A), Line::ReceiveSilence(2, A)],
+        FIRST,
+        Heard::Silence,
+        ZERO,
+    ),
+    (
+        [Line::ReceiveNoise(2, A), Line::SendSilence(0, A)],
+        FIRST,
+        Heard::Silence,
+        ZERO,
+    ),
+    (
+        [Line::ReceiveNoise(0, BOTH), Line::ReceiveSilence(1, BOTH)],
+        FIRST,
+        ZERO,
+        ZERO,
+    ),
+];
+
+// Puts the frames of those that send on the medium, in slot 3.
+fn put_frames(medium: &mut Medium, script: &Script, sends: [bool; 2]) {
+    medium.begin(3);
+    for node in 0..2u8 {
+        if sends[node as usize] {
+            let (bytes, offset) = SENT[node as usize];
+            put_in_slot(medium, script, node, &outgoing(bytes), offset);
+        }
+    }
+}
+
+// Whether node 2 hears on channels A and B what it is due to hear.
+fn are_heard(alloc: Global, medium: &mut Medium, row: &Row) -> Result<[bool; 2], Memory> {
+    let (lines, sends, a, b) = *row;
+    let script = script(alloc, lines)?;
+    put_frames(medium, &script, sends);
+    let incidents = script.incidents(2, 3);
+    Ok([
+        is_heard(medium.heard(&incidents, Channel::A), a),
+        is_heard(medium.heard(&incidents, Channel::B), b),
+    ])
+}
+
 #[test]
 fn a_third_node_hears_what_is_left(rt: HostRuntime) -> Result<(), Fail> {
-    use Heard::{Bits, Noise, Silence};
-    use Line::{Flip, None, ReceiveNoise, ReceiveSilence, SendNoise, SendSilence};
-    // Two lines of the script, who sends, and what node 2 hears on channels A and B.
-    let rows: &[([Line; 2], [bool; 2], Heard, Heard)] = &[
-        ([None, None], NEITHER, Silence, Silence),
-        ([None, None], FIRST, ZERO, ZERO),
-        ([None, None], SECOND, ONE, ONE),
-        // Two frames, a frame and noise, a frame beside a silenced one, and silence over noise.
-        ([None, None], EACH, Noise, Noise),
-        ([SendNoise(0, BOTH), None], EACH, Noise, Noise),
-        ([SendNoise(1, BOTH), None], EACH, Noise, Noise),
-        ([SendSilence(0, BOTH), None], EACH, ONE, ONE),
-        ([SendSilence(1, BOTH), None], EACH, ZERO, ZERO),
-        ([SendSilence(0, A), None], EACH, ONE, Noise),
-        ([SendSilence(0, A), SendSilence(1, B)], EACH, ONE, ZERO),
-        ([SendNoise(0, B), None], FIRST, ZERO, Noise),
-        ([SendNoise(0, A), SendSilence(0, A)], FIRST, Silence, ZERO),
-        ([SendNoise(0, A), SendSilence(0, A)], EACH, ONE, Noise),
-        ([SendNoise(2, BOTH), None], FIRST, ZERO, ZERO),
-        // Flips inside, past the end, of one bit twice, of two bits, and of another node.
-        (
-            [Flip(0, A, 8), None],
-            FIRST,
-            Bits(&[0x10, 0x25, 0xff], -7),
-            ZERO,
-        ),
-        (
-            [Flip(0, B, 23), None],
-            FIRST,
-            ZERO,
-            Bits(&[0x10, 0xa5, 0xfe], -7),
-        ),
-        ([Flip(0, BOTH, 24), None], FIRST, ZERO, ZERO),
-        (
-            [Flip(0, A, 12), Flip(0, BOTH, 12)],
-            FIRST,
-            ZERO,
-            Bits(&[0x10, 0xad, 0xff], -7),
-        ),
-        (
-            [Flip(1, A, 8), Flip(1, A, 16)],
-            SECOND,
-            Bits(&[0x11, 0x80, 0xbc], 40),
-            ONE,
-        ),
-        ([Flip(1, BOTH, 8), None], FIRST, ZERO, ZERO),
-        // The receiver's own faults over a frame, noise and silence, and another receiver's.
-        ([ReceiveSilence(2, A), None], FIRST, Silence, ZERO),
-        ([ReceiveNoise(2, B), None], FIRST, ZERO, Noise),
-        (
-            [ReceiveSilence(2, A), ReceiveNoise(2, B)],
-            EACH,
-            Silence,
-            Noise,
-        ),
-        (
-            [ReceiveSilence(2, A), ReceiveNoise(2, B)],
-            NEITHER,
-            Silence,
-            Silence,
-        ),
-        (
-            [ReceiveNoise(2, A), ReceiveSilence(2, A)],
-            FIRST,
-            Silence,
-            ZERO,
-        ),
-        (
-            [ReceiveNoise(2, A), SendSilence(0, A)],
-            FIRST,
-            Silence,
-            ZERO,
-        ),
-        (
-            [ReceiveNoise(0, BOTH), ReceiveSilence(1, BOTH)],
-            FIRST,
-            ZERO,
-            ZERO,
-        ),
-    ];
     let mut medium = Medium::new(rt.alloc(), &empty_list(rt.alloc()))?;
-    for (i, (lines, sends, a, b)) in rows.iter().enumerate() {
-        let script = script(rt.alloc(), *lines)?;
-        medium.begin(3);
-        for node in 0..2u8 {
-            if sends[node as usize] {
-                let (bytes, offset) = SENT[node as usize];
-                put_in_slot(&mut medium, &script, node, &outgoing(bytes), offset);
-            }
-        }
-        let incidents = script.incidents(2, 3);
-        let on_a = medium.heard(&incidents, Channel::A);
-        assert!(rt; is_heard(on_a, *a), "channel A of row {i}");
-        let on_b = medium.heard(&incidents, Channel::B);
-        assert!(rt; is_heard(on_b, *b), "channel B of row {i}");
+    for (i, row) in ROWS.iter().enumerate() {
+        let [on_a, on_b] = are_heard(rt.alloc(), &mut medium, row)?;
+        assert!(rt; on_a, "channel A of row {i}");
+        assert!(rt; on_b, "channel B of row {i}");
     }
     Ok(())
 }
