@@ -1,12 +1,12 @@
 //! A trace of five nodes with a change, and what `verify` says of it.
 
 use super::runs::traces::changed;
-use super::texts::{list_of, script_of};
-use super::{Call, HEAD, call_of, gives, gives_fronts};
+use super::texts::{list_of, script_of, scripted};
+use super::{Call, HEAD, gives, gives_fronts};
 use std::process::Abort;
 use std::sync::Wait;
-use std::test::Fail;
 use std::thread::Threads;
+use ttp_base::Memory;
 
 const POLL: &str = "read 1 11 status\n";
 
@@ -82,23 +82,41 @@ const CASES: &[Case] = &[
     ),
 ];
 
-// What `verify` answers and writes for a script of five nodes and 15 slots, by a case.
-fn tells<R: Threads + Wait + Sync + AllocGlobal + Abort>(rt: &R, case: &Case) -> Result<(), Fail> {
-    let (lines, before, with, after, answer) = *case;
+const VERIFY: &[&str] = &["verify", "cluster.toml", "five.script", "five.trace"];
+
+// A call of `verify` for a list, a script and a trace.
+fn verifying<'a>(list: &'a str, script: &'a str, trace: &'a str) -> Call<'a> {
+    Call {
+        trace: Some(trace.as_bytes()),
+        ..scripted(VERIFY, list, script)
+    }
+}
+
+// What `verify` answers and writes for a script of five nodes and a trace.
+fn verifies<R: Threads + Wait + Sync + AllocGlobal + Abort>(
+    rt: &R,
+    script: &str,
+    trace: &str,
+    answer: &str,
+) -> Result<(), Memory> {
     let list = list_of(rt, HEAD, "FSSSS")?;
+    let status = u8::from(answer != "same\n");
+    gives(rt, &verifying(&list, script, trace), status, &[answer])
+}
+
+// What it answers and writes for a script of five nodes and 15 slots, by a case.
+fn tells<R: Threads + Wait + Sync + AllocGlobal + Abort>(
+    rt: &R,
+    case: &Case,
+) -> Result<(), Memory> {
+    let (lines, before, with, after, answer) = *case;
     let script = script_of(rt, "slots 15\n", 5, lines)?;
     let trace = changed(rt, before, with, after)?;
-    let words = ["verify", "cluster.toml", "five.script", "five.trace"];
-    let call = Call {
-        script: Some(script.as_bytes()),
-        trace: Some(trace.as_bytes()),
-        ..call_of(&words, list.as_bytes())
-    };
-    gives(rt, &call, u8::from(answer != "same\n"), &[answer])
+    verifies(rt, &script, &trace, answer)
 }
 
 #[test]
-fn changes_of_a_trace(rt: HostRuntime) -> Result<(), Fail> {
+fn changes_of_a_trace(rt: HostRuntime) -> Result<(), Memory> {
     for case in CASES {
         tells(&rt, case)?;
     }
@@ -106,16 +124,11 @@ fn changes_of_a_trace(rt: HostRuntime) -> Result<(), Fail> {
 }
 
 #[test]
-fn a_trace_that_cannot_be_loaded(rt: HostRuntime) -> Result<(), Fail> {
+fn a_trace_that_cannot_be_loaded(rt: HostRuntime) -> Result<(), Memory> {
     let list = list_of(&rt, HEAD, "FSSSS")?;
     let script = script_of(&rt, "slots 15\n", 5, "")?;
     let trace = changed(&rt, 77, "", 77)?;
-    let words = ["verify", "cluster.toml", "five.script", "five.trace"];
-    let call = Call {
-        script: Some(script.as_bytes()),
-        trace: Some(trace.as_bytes()),
-        ..call_of(&words, list.as_bytes())
-    };
+    let call = verifying(&list, &script, &trace);
     let failing = Call {
         bad_load: 3,
         ..call

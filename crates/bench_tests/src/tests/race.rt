@@ -3,16 +3,15 @@
 //! one of them to the end, and both messages come in a frame. And controllers end a slot in two halves of as many
 //! nodes.
 
-use super::texts::{list_of, script_of};
-use super::{Call, HEAD, answer_at, call_of, has_each};
+use super::texts::{list_of, script_of, scripted};
+use super::{HEAD, answer_past, has_each};
 use std::hint::spin_loop;
 use std::process::Abort;
 use std::sync::Wait;
 use std::sync::atomic::AtomicU64;
 use std::sync::atomic::Ordering::SeqCst;
-use std::test::Fail;
 use std::thread::Threads;
-use ttp_base::Gate;
+use ttp_base::{Gate, Memory};
 
 // A hold lasts no longer.
 const TURNS: u64 = 10_000_000;
@@ -80,6 +79,11 @@ impl Beside {
         ]
     }
 
+    // Whether two threads were held, none of them to the end.
+    fn held_both(&self) -> bool {
+        self.held.load(SeqCst) == 2 && self.in_vain.load(SeqCst) == 0
+    }
+
     fn hold(&self, hold: &Hold) {
         self.held.fetch_add(1, SeqCst);
         for _ in 0..TURNS {
@@ -116,25 +120,30 @@ struct Case<'a> {
     passes: [u64; 6],
 }
 
+// What the run answers and writes, with this gate.
+fn answer_beside<R: Threads + Wait + Sync + AllocGlobal>(
+    rt: &R,
+    case: &Case<'_>,
+    gate: &Beside,
+) -> Result<(u8, Vec<u8>), Memory> {
+    let list = list_of(rt, case.list.0, case.list.1)?;
+    let script = script_of(rt, case.slots, case.on, case.hosts)?;
+    let words = ["run", "cluster.toml", "five.script"];
+    answer_past(rt, &scripted(&words, &list, &script), gate)
+}
+
 // The run has these lines, both threads are held, none of them to the end, and each place is passed once for
 // each step.
 fn runs_beside<R: Threads + Wait + Sync + AllocGlobal + Abort>(
     rt: &R,
     case: &Case<'_>,
-) -> Result<(), Fail> {
-    let list = list_of(rt, case.list.0, case.list.1)?;
-    let script = script_of(rt, case.slots, case.on, case.hosts)?;
-    let words = ["run", "cluster.toml", "five.script"];
-    let call = Call {
-        script: Some(script.as_bytes()),
-        ..call_of(&words, list.as_bytes())
-    };
+) -> Result<(), Memory> {
     let gate = Beside::new(case.holds);
-    let (status, written) = answer_at(rt, &call, &gate, &mut None)?;
-    assert_eq!(rt; status, 0);
-    assert_eq!(rt; (gate.held.load(SeqCst), gate.in_vain.load(SeqCst)), (2, 0));
-    has_each(rt, &written, case.lines)?;
-    assert_eq!(rt; gate.passes(), case.passes);
+    let (status, written) = answer_beside(rt, case, &gate)?;
+    assert!(rt; status == 0);
+    assert!(rt; gate.held_both());
+    has_each(rt, &written, case.lines);
+    assert!(rt; gate.passes() == case.passes);
     Ok(())
 }
 
@@ -148,7 +157,7 @@ const FETCHES: u64 = 1;
 
 // In 20 slots there are 100 statuses, eight messages are delivered and two fetched, and the host writes.
 #[test]
-fn hosts_write_beside_fetches(rt: HostRuntime) -> Result<(), Fail> {
+fn hosts_write_beside_fetches(rt: HostRuntime) -> Result<(), Memory> {
     let late = Case {
         list: (HEAD, "FSNSS"),
         slots: "slots 20\n",
@@ -210,7 +219,7 @@ fn hosts_write_beside_fetches(rt: HostRuntime) -> Result<(), Fail> {
 // Four nodes publish 44 statuses before slot 11. In it the first one who comes waits until two more have, which are
 // those of the other half; the last of these waits until the first half has its second one.
 #[test]
-fn two_halves_have_as_many_nodes(rt: HostRuntime) -> Result<(), Fail> {
+fn two_halves_have_as_many_nodes(rt: HostRuntime) -> Result<(), Memory> {
     let case = Case {
         list: (HEAD, "FSSS"),
         slots: "slots 15\n",

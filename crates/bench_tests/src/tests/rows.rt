@@ -5,11 +5,11 @@ use super::texts::{
     DRIFT_HEAD, LOADED_HEAD, ONE_BUFFER_HEAD, WIDE_HEAD, WINDOW_HEAD, gives_for, script_of,
     trace_for,
 };
-use super::{HEAD, has_each};
+use super::{HEAD, has_each, text_of};
 use std::process::Abort;
 use std::sync::Wait;
-use std::test::Fail;
 use std::thread::Threads;
+use ttp_base::Memory;
 
 const EIGHT_SCRIPT: &str =
     "drift 1 1\ndrift 4 -1\nerror 2 2 0 399\nerror 5 -2 0 399\nsend 0 AB noise 40 40\nreceive 3 AB silence 70 70\n";
@@ -361,117 +361,158 @@ const TWENTY_FOUR: Run<'static> = Run {
 fn trace_of<R: Threads + Wait + Sync + AllocGlobal + Abort>(
     rt: &R,
     run: &Run<'_>,
-) -> Result<Vec<u8>, Fail> {
+) -> Result<Vec<u8>, Memory> {
     let script = script_of(rt, run.length, run.on, run.script)?;
     trace_for(rt, (run.top, run.slots), &script)
+}
+
+// `keeps` writes the run's last line.
+fn keeps<R: Threads + Wait + Sync + AllocGlobal + Abort>(
+    rt: &R,
+    run: &Run<'_>,
+) -> Result<(), Memory> {
+    let script = script_of(rt, run.length, run.on, run.script)?;
+    gives_for(rt, "keeps", (run.top, run.slots), &script, 0, &[run.keep])
 }
 
 // A run's trace has its lines, and ends with its last one, which `keeps` writes.
 fn has_lines<R: Threads + Wait + Sync + AllocGlobal + Abort>(
     rt: &R,
     run: &Run<'_>,
-) -> Result<(), Fail> {
-    let script = script_of(rt, run.length, run.on, run.script)?;
-    gives_for(rt, "keeps", (run.top, run.slots), &script, 0, &[run.keep])?;
+) -> Result<(), Memory> {
+    keeps(rt, run)?;
     let trace = trace_of(rt, run)?;
-    has_each(rt, &trace, run.lines)?;
-    assert!(rt; trace.ends_with(run.keep.as_bytes()), "no {script}");
+    has_each(rt, &trace, run.lines);
+    assert!(rt; text_of(&trace).ends_with(run.keep), "no {}", run.keep);
     Ok(())
 }
 
+// Starts that collide, and senders that are noise or silent to all.
+fn starts_and_noise<R: Threads + Wait + Sync + AllocGlobal + Abort>(rt: &R) -> Result<(), Memory> {
+    has_lines(rt, &COLLIDING)?;
+    has_lines(rt, &NOISY)?;
+    has_lines(rt, &SILENCED)
+}
+
+// Receivers that hear nothing for a slot.
+fn deaf_receivers<R: Threads + Wait + Sync + AllocGlobal + Abort>(rt: &R) -> Result<(), Memory> {
+    has_lines(rt, &DEAF_BEFORE_IT_SENDS)?;
+    has_lines(rt, &DEAF_ON_ONE_CHANNEL)?;
+    has_lines(rt, &DEAF_IN_MID_ROUND)
+}
+
+// Receivers that hear nothing, beside a faulty sender or for good, and one noisy channel.
+fn deaf_for_long<R: Threads + Wait + Sync + AllocGlobal + Abort>(rt: &R) -> Result<(), Memory> {
+    has_lines(rt, &DEAF_AND_SENDING)?;
+    has_lines(rt, &DEAF_FOR_GOOD)?;
+    has_lines(rt, &ONE_CHANNEL_NOISY)
+}
+
+// Four nodes, and runs with payload.
+fn payload<R: Threads + Wait + Sync + AllocGlobal + Abort>(rt: &R) -> Result<(), Memory> {
+    has_lines(rt, &FOUR_NODES)?;
+    has_lines(rt, &PAYLOAD)?;
+    has_lines(rt, &EIGHT_NODES)
+}
+
+// Nodes that come late, and clocks that drift or jump.
+fn clocks<R: Threads + Wait + Sync + AllocGlobal + Abort>(rt: &R) -> Result<(), Memory> {
+    has_lines(rt, &LATE)?;
+    has_lines(rt, &DRIFTING)?;
+    has_lines(rt, &JUMPING)
+}
+
+// Armed nodes, and as many nodes as a list can have.
+fn armed_and_many<R: Threads + Wait + Sync + AllocGlobal + Abort>(rt: &R) -> Result<(), Memory> {
+    has_lines(rt, &ARMED)?;
+    has_lines(rt, &TWENTY_FOUR)
+}
+
 #[test]
-fn runs_have_the_lines_that_were_worked_out(rt: HostRuntime) -> Result<(), Fail> {
-    let runs = [
-        COLLIDING,
-        NOISY,
-        SILENCED,
-        DEAF_BEFORE_IT_SENDS,
-        DEAF_ON_ONE_CHANNEL,
-        DEAF_IN_MID_ROUND,
-        DEAF_AND_SENDING,
-        DEAF_FOR_GOOD,
-        ONE_CHANNEL_NOISY,
-        FOUR_NODES,
-        PAYLOAD,
-        EIGHT_NODES,
-        LATE,
-        DRIFTING,
-        JUMPING,
-        ARMED,
-        TWENTY_FOUR,
-    ];
-    for run in &runs {
-        has_lines(&rt, run)?;
-    }
-    Ok(())
+fn runs_have_the_lines_that_were_worked_out(rt: HostRuntime) -> Result<(), Memory> {
+    starts_and_noise(&rt)?;
+    deaf_receivers(&rt)?;
+    deaf_for_long(&rt)?;
+    payload(&rt)?;
+    clocks(&rt)?;
+    armed_and_many(&rt)
+}
+
+fn are_equal<R: Threads + Wait + Sync + AllocGlobal + Abort>(
+    rt: &R,
+    one: &Run<'_>,
+    other: &Run<'_>,
+) -> Result<bool, Memory> {
+    let trace = trace_of(rt, one)?;
+    Ok(trace == trace_of(rt, other)?)
 }
 
 // A frame that is bad on one channel is as good as any, and a fault that is split over both channels
 // is one on both.
 #[test]
-fn runs_with_equal_traces(rt: HostRuntime) -> Result<(), Fail> {
-    let split = trace_of(&rt, &DEAF_ON_ONE_CHANNEL)?;
-    assert!(rt; split == trace_of(&rt, &DEAF_BEFORE_IT_SENDS)?);
-    let noisy = trace_of(&rt, &ONE_CHANNEL_NOISY)?;
-    assert!(rt; noisy == trace_of(&rt, &NO_FAULT)?);
+fn runs_with_equal_traces(rt: HostRuntime) -> Result<(), Memory> {
+    assert!(rt; are_equal(&rt, &DEAF_ON_ONE_CHANNEL, &DEAF_BEFORE_IT_SENDS)?);
+    assert!(rt; are_equal(&rt, &ONE_CHANNEL_NOISY, &NO_FAULT)?);
     // All five nodes are members on each node line from slot 14 on, and never before.
-    let trace = str::from_utf8(&noisy)?;
-    assert!(rt; trace.matches(" mem 001f ").count() == 130);
+    let noisy = trace_of(&rt, &ONE_CHANNEL_NOISY)?;
+    assert!(rt; text_of(&noisy).matches(" mem 001f ").count() == 130);
     Ok(())
 }
 
+// Scripts for a list of four nodes, and the line that says what is wrong.
+const WRONG: &[(&str, &str)] = &[
+    ("", "script: line 1 no slots\n"),
+    ("# nothing\n\n", "script: line 3 no slots\n"),
+    ("on 0 0\n", "script: line 1 no slots\n"),
+    ("slots 20001\n", "script: line 1 range\n"),
+    ("slots 1234567890\n", "script: line 1 number\n"),
+    ("slots 20\nslots 20\n", "script: line 2 repeat\n"),
+    ("slots 20\nrun 1\n", "script: line 2 word\n"),
+    ("slots 20\non 4 0\n", "script: line 2 no node\n"),
+    ("slots 20\non 0 20\n", "script: line 2 range\n"),
+    ("slots 20\non 0 0\non 0 1\n", "script: line 3 repeat\n"),
+    ("slots 20\nsend 0 BA noise 0 0\n", "script: line 2 word\n"),
+    ("slots 20\nsend 0 AB noise 5 4\n", "script: line 2 range\n"),
+    (
+        "slots 20\nsend 2 AB noise 22 22\n",
+        "script: line 2 range\n",
+    ),
+    (
+        "slots 20\nreceive 4 A silence 0 0\n",
+        "script: line 2 no node\n",
+    ),
+    ("slots 20\nflip 0 A 2048 3\n", "script: line 2 range\n"),
+    ("slots 20\nflip 0 A 7 3\n", "script: line 2 range\n"),
+    ("slots 20\ndrift 0 -1001\n", "script: line 2 range\n"),
+    ("slots 20\ndrift 0 -\n", "script: line 2 number\n"),
+    (
+        "slots 20\ndrift 0 1\ndrift 0 1\n",
+        "script: line 3 repeat\n",
+    ),
+    ("slots 20\nerror 0 10001 3 3\n", "script: line 2 range\n"),
+    ("slots 20\njump 0 -1000001 3\n", "script: line 2 range\n"),
+    ("slots 20\narm 0 20\n", "script: line 2 range\n"),
+    ("slots 20\narm 4 19\n", "script: line 2 no node\n"),
+    ("slots 20\narm 0\n", "script: line 2 word\n"),
+    // Hosts: node 1 sends two bytes, and a host writes once in a slot.
+    ("slots 20\nwrite 1 3\n", "script: line 2 word\n"),
+    ("slots 20\nwrite 1 3 0g02\n", "script: line 2 number\n"),
+    ("slots 20\nwrite 0 3 0102\n", "script: line 2 no data\n"),
+    ("slots 20\nwrite 1 3 01\n", "script: line 2 range\n"),
+    (
+        "slots 20\nwrite 1 3 0102\nwrite 1 3 0304\n",
+        "script: line 3 too many\n",
+    ),
+    ("slots 20\nread 0 3 any\n", "script: line 2 number\n"),
+    ("slots 20\nread 0 3 4\n", "script: line 2 no node\n"),
+    ("slots 20\nread 0 3 2\n", "script: line 2 no data\n"),
+    ("slots 20\nread 1 3 1\n", "script: line 2 range\n"),
+];
+
 #[test]
-fn scripts_that_are_refused(rt: HostRuntime) -> Result<(), Fail> {
-    let wrong: [(&str, &str); 33] = [
-        ("", "script: line 1 no slots\n"),
-        ("# nothing\n\n", "script: line 3 no slots\n"),
-        ("on 0 0\n", "script: line 1 no slots\n"),
-        ("slots 20001\n", "script: line 1 range\n"),
-        ("slots 1234567890\n", "script: line 1 number\n"),
-        ("slots 20\nslots 20\n", "script: line 2 repeat\n"),
-        ("slots 20\nrun 1\n", "script: line 2 word\n"),
-        ("slots 20\non 4 0\n", "script: line 2 no node\n"),
-        ("slots 20\non 0 20\n", "script: line 2 range\n"),
-        ("slots 20\non 0 0\non 0 1\n", "script: line 3 repeat\n"),
-        ("slots 20\nsend 0 BA noise 0 0\n", "script: line 2 word\n"),
-        ("slots 20\nsend 0 AB noise 5 4\n", "script: line 2 range\n"),
-        (
-            "slots 20\nsend 2 AB noise 22 22\n",
-            "script: line 2 range\n",
-        ),
-        (
-            "slots 20\nreceive 4 A silence 0 0\n",
-            "script: line 2 no node\n",
-        ),
-        ("slots 20\nflip 0 A 2048 3\n", "script: line 2 range\n"),
-        ("slots 20\nflip 0 A 7 3\n", "script: line 2 range\n"),
-        ("slots 20\ndrift 0 -1001\n", "script: line 2 range\n"),
-        ("slots 20\ndrift 0 -\n", "script: line 2 number\n"),
-        (
-            "slots 20\ndrift 0 1\ndrift 0 1\n",
-            "script: line 3 repeat\n",
-        ),
-        ("slots 20\nerror 0 10001 3 3\n", "script: line 2 range\n"),
-        ("slots 20\njump 0 -1000001 3\n", "script: line 2 range\n"),
-        ("slots 20\narm 0 20\n", "script: line 2 range\n"),
-        ("slots 20\narm 4 19\n", "script: line 2 no node\n"),
-        ("slots 20\narm 0\n", "script: line 2 word\n"),
-        // Hosts: node 1 sends two bytes, and a host writes once in a slot.
-        ("slots 20\nwrite 1 3\n", "script: line 2 word\n"),
-        ("slots 20\nwrite 1 3 0g02\n", "script: line 2 number\n"),
-        ("slots 20\nwrite 0 3 0102\n", "script: line 2 no data\n"),
-        ("slots 20\nwrite 1 3 01\n", "script: line 2 range\n"),
-        (
-            "slots 20\nwrite 1 3 0102\nwrite 1 3 0304\n",
-            "script: line 3 too many\n",
-        ),
-        ("slots 20\nread 0 3 any\n", "script: line 2 number\n"),
-        ("slots 20\nread 0 3 4\n", "script: line 2 no node\n"),
-        ("slots 20\nread 0 3 2\n", "script: line 2 no data\n"),
-        ("slots 20\nread 1 3 1\n", "script: line 2 range\n"),
-    ];
-    for (script, line) in wrong {
-        gives_for(&rt, "run", (HEAD, "FTSS"), script, 4, &[line])?;
+fn scripts_that_are_refused(rt: HostRuntime) -> Result<(), Memory> {
+    for (script, line) in WRONG {
+        gives_for(&rt, "run", (HEAD, "FTSS"), script, 4, &[*line])?;
     }
     let list = (ONE_BUFFER_HEAD, "FTSS");
     let line = "script: line 2 no buffer\n";

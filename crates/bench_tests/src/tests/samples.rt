@@ -1,13 +1,12 @@
 //! Summaries of generated runs.
 
 use super::texts::{LOADED_HEAD, WIDE_HEAD, list_of};
-use super::{Call, HEAD, USAGE, answer_at, call_of, gives, gives_fronts};
+use super::{Call, HEAD, USAGE, answer_at, call_of, gives, gives_fronts, let_go};
 use cluster_run::Cluster;
 use std::process::Abort;
 use std::sync::Wait;
-use std::test::Fail;
 use std::thread::Threads;
-use ttp_base::OpenGate;
+use ttp_base::{Memory, OpenGate};
 
 // What `sample` answers and writes for a list, given by its top and letters for its slots.
 fn samples<R: Threads + Wait + Sync + AllocGlobal + Abort>(
@@ -15,7 +14,7 @@ fn samples<R: Threads + Wait + Sync + AllocGlobal + Abort>(
     list: (&str, &str),
     numbers: (&str, &str),
     texts: &[&str],
-) -> Result<(), Fail> {
+) -> Result<(), Memory> {
     let list = list_of(rt, list.0, list.1)?;
     let words = ["sample", "cluster.toml", numbers.0, numbers.1];
     gives(rt, &call_of(&words, list.as_bytes()), 0, texts)
@@ -29,14 +28,14 @@ const FOUR: &[&str] = &[
 ];
 
 #[test]
-fn four_nodes_in_twelve_slots(rt: HostRuntime) -> Result<(), Fail> {
+fn four_nodes_in_twelve_slots(rt: HostRuntime) -> Result<(), Memory> {
     samples(&rt, (HEAD, "FSSS"), ("12", "7"), FOUR)?;
     samples(&rt, (HEAD, "FSSS"), ("00000000000000000012", "07"), FOUR)
 }
 
 // The first slot of the run is the last one here, and no node is active.
 #[test]
-fn no_node_is_active(rt: HostRuntime) -> Result<(), Fail> {
+fn no_node_is_active(rt: HostRuntime) -> Result<(), Memory> {
     for (top, members) in [
         (HEAD, "sent 0 left 0 members 0000\n"),
         (WIDE_HEAD, "sent 0 left 0 members 000000\n"),
@@ -63,7 +62,7 @@ const EIGHT: &[&str] = &[
 // Four of eight nodes with payload become faulty and leave. Each host writes in its node's slot, and the host
 // of the next node reads twice. The second line is that of a reading of the rules of its own.
 #[test]
-fn eight_nodes_in_many_slots(rt: HostRuntime) -> Result<(), Fail> {
+fn eight_nodes_in_many_slots(rt: HostRuntime) -> Result<(), Memory> {
     for _ in 0..2u8 {
         samples(&rt, (LOADED_HEAD, "GGLLLLLL"), ("2000", "1"), EIGHT)?;
     }
@@ -72,7 +71,7 @@ fn eight_nodes_in_many_slots(rt: HostRuntime) -> Result<(), Fail> {
 
 // They are no form, so that no file is looked at.
 #[test]
-fn words_that_are_no_numbers(rt: HostRuntime) -> Result<(), Fail> {
+fn words_that_are_no_numbers(rt: HostRuntime) -> Result<(), Memory> {
     let words: &[(&str, &str)] = &[
         ("0", "7"),
         ("20001", "7"),
@@ -101,7 +100,7 @@ fn words_that_are_no_numbers(rt: HostRuntime) -> Result<(), Fail> {
 }
 
 #[test]
-fn files_and_sinks_that_fail(rt: HostRuntime) -> Result<(), Fail> {
+fn files_and_sinks_that_fail(rt: HostRuntime) -> Result<(), Memory> {
     let list = list_of(&rt, HEAD, "FSSS")?;
     let words = ["sample", "cluster.toml", "12", "7"];
     let call = call_of(&words, list.as_bytes());
@@ -120,7 +119,7 @@ fn done_after<R: Threads + Wait + Sync + AllocGlobal>(
     rt: &R,
     slots: &str,
     kept: &mut Option<Cluster>,
-) -> Result<Option<u32>, Fail> {
+) -> Result<Option<u32>, Memory> {
     let list = list_of(rt, HEAD, "FSSS")?;
     let words = ["sample", "cluster.toml", slots, "7"];
     let call = call_of(&words, list.as_bytes());
@@ -132,10 +131,19 @@ fn done_after<R: Threads + Wait + Sync + AllocGlobal>(
 }
 
 // The cluster that ran is kept, until the next call.
-#[test]
-fn the_cluster_is_kept(rt: HostRuntime) -> Result<(), Fail> {
-    let mut kept = None;
-    assert_eq!(rt; done_after(&rt, "12", &mut kept)?, Some(12));
-    assert_eq!(rt; done_after(&rt, "0", &mut kept)?, None);
+fn keeps_until_the_next<R: Threads + Wait + Sync + AllocGlobal + Abort>(
+    rt: &R,
+    kept: &mut Option<Cluster>,
+) -> Result<(), Memory> {
+    assert!(rt; done_after(rt, "12", kept)? == Some(12));
+    assert!(rt; done_after(rt, "0", kept)?.is_none());
     Ok(())
+}
+
+#[test]
+fn the_cluster_is_kept(rt: HostRuntime) -> Result<(), Memory> {
+    let mut kept = None;
+    let told = keeps_until_the_next(&rt, &mut kept);
+    let_go(kept);
+    told
 }

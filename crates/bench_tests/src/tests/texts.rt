@@ -1,11 +1,11 @@
 //! Lists and scripts in short: the top of a list, a letter for each of its slots, and how many nodes
 //! are on from slot 0.
 
-use super::{Call, FIRST, SLOT, add_each, call_of, gives, joined, output_of};
+use super::{Call, FIRST, SLOT, add_each, gives, joined, output_of};
 use std::process::Abort;
 use std::sync::Wait;
-use std::test::Fail;
 use std::thread::Threads;
+use ttp_base::Memory;
 
 pub(super) const WIDE_HEAD: &str =
     "version = 2\nrounds = 1\nschedule = 0\nbuffers = 2\ndrift = 0\nerror = 0\nwindow = 1\n";
@@ -86,7 +86,7 @@ pub(super) fn script_of<R: AllocGlobal>(
     length: &str,
     on: usize,
     lines: &str,
-) -> Result<String, Fail> {
+) -> Result<String, Memory> {
     let mut script = joined(rt, &[length])?;
     add_each(&mut script, on_lines(on))?;
     script.push_str(lines)?;
@@ -94,12 +94,24 @@ pub(super) fn script_of<R: AllocGlobal>(
 }
 
 // A list: its top, and letters for its slots.
-pub(super) fn list_of<R: AllocGlobal>(rt: &R, top: &str, slots: &str) -> Result<String, Fail> {
+pub(super) fn list_of<R: AllocGlobal>(rt: &R, top: &str, slots: &str) -> Result<String, Memory> {
     let mut list = joined(rt, &[top])?;
     for letter in slots.as_bytes() {
         list.push_str(slot_of(*letter))?;
     }
     Ok(list)
+}
+
+// A call with these words, this list and this script, in which nothing fails.
+pub(super) fn scripted<'a>(words: &'a [&'a str], list: &'a str, script: &'a str) -> Call<'a> {
+    Call {
+        words,
+        list: list.as_bytes(),
+        script: Some(script.as_bytes()),
+        trace: None,
+        bad_load: 0,
+        bad_write: 0,
+    }
 }
 
 // A command for a list, given by its top and letters for its slots, and a script answers this status and
@@ -111,14 +123,10 @@ pub(super) fn gives_for<R: Threads + Wait + Sync + AllocGlobal + Abort>(
     script: &str,
     status: u8,
     texts: &[&str],
-) -> Result<(), Fail> {
+) -> Result<(), Memory> {
     let list = list_of(rt, list.0, list.1)?;
     let words = [verb, "cluster.toml", "five.script"];
-    let call = Call {
-        script: Some(script.as_bytes()),
-        ..call_of(&words, list.as_bytes())
-    };
-    gives(rt, &call, status, texts)
+    gives(rt, &scripted(&words, &list, script), status, texts)
 }
 
 // What `run` writes for such a list and a script.
@@ -126,12 +134,8 @@ pub(super) fn trace_for<R: Threads + Wait + Sync + AllocGlobal + Abort>(
     rt: &R,
     list: (&str, &str),
     script: &str,
-) -> Result<Vec<u8>, Fail> {
+) -> Result<Vec<u8>, Memory> {
     let list = list_of(rt, list.0, list.1)?;
     let words = ["run", "cluster.toml", "five.script"];
-    let call = Call {
-        script: Some(script.as_bytes()),
-        ..call_of(&words, list.as_bytes())
-    };
-    output_of(rt, &call)
+    output_of(rt, &scripted(&words, &list, script))
 }

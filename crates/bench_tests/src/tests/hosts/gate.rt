@@ -1,15 +1,17 @@
 //! Threads that are held until others have come: the halves of the controllers run at once, and so do the
 //! controllers and the hosts' reads.
 
-use super::super::texts::{list_of, script_of};
-use super::super::{Call, HEAD, answer_at, call_of};
+use super::super::texts::{list_of, script_of, scripted};
+use super::super::{HEAD, answer_at, call_of, let_go};
 use super::is_polled;
 use cluster_run::Cluster;
 use std::hint::spin_loop;
+use std::process::Abort;
+use std::sync::Wait;
 use std::sync::atomic::AtomicU64;
 use std::sync::atomic::Ordering::SeqCst;
-use std::test::Fail;
-use ttp_base::Gate;
+use std::thread::Threads;
+use ttp_base::{Gate, Memory};
 
 // A hold lasts no longer.
 const TURNS: u64 = 10_000_000;
@@ -114,23 +116,53 @@ fn is_done(cluster: &Cluster) -> bool {
         && report.nodes.len() == 5
 }
 
-#[test]
-fn controllers_and_hosts_run_at_once(rt: HostRuntime) -> Result<(), Fail> {
-    let list = list_of(&rt, HEAD, "FSSSS")?;
-    let script = script_of(&rt, "slots 15\n", 5, "read 1 11 status\n")?;
+fn is_kept(kept: &Option<Cluster>) -> bool {
+    match kept {
+        Some(cluster) => is_done(cluster),
+        None => false,
+    }
+}
+
+// Whether the run of a polled status answers 0, and writes a legal trace.
+fn is_run<R: Threads + Wait + Sync + AllocGlobal>(
+    rt: &R,
+    gate: &Holds,
+    kept: &mut Option<Cluster>,
+) -> Result<bool, Memory> {
+    let list = list_of(rt, HEAD, "FSSSS")?;
+    let script = script_of(rt, "slots 15\n", 5, "read 1 11 status\n")?;
     let words = ["run", "cluster.toml", "five.script"];
-    let call = Call {
-        script: Some(script.as_bytes()),
-        ..call_of(&words, list.as_bytes())
-    };
+    let (status, text) = answer_at(rt, &scripted(&words, &list, &script), gate, kept)?;
+    Ok(status == 0 && is_polled(&text))
+}
+
+// Whether a call without words answers 2, and keeps no cluster.
+fn is_no_form<R: Threads + Wait + Sync + AllocGlobal>(
+    rt: &R,
+    gate: &Holds,
+    kept: &mut Option<Cluster>,
+) -> Result<bool, Memory> {
+    let (status, _usage) = answer_at(rt, &call_of(&[], b""), gate, kept)?;
+    Ok(status == 2 && kept.is_none())
+}
+
+// The cluster that ran is kept, until the next call.
+fn runs_and_keeps<R: Threads + Wait + Sync + AllocGlobal + Abort>(
+    rt: &R,
+    kept: &mut Option<Cluster>,
+) -> Result<(), Memory> {
     let gate = Holds::new();
-    let mut kept = None;
-    let (status, text) = answer_at(&rt, &call, &gate, &mut kept)?;
-    assert!(rt; status == 0 && is_polled(&rt, &text)?);
+    assert!(rt; is_run(rt, &gate, kept)?);
     assert!(rt; gate.passed());
-    // The cluster that ran is kept, until the next call.
-    assert!(rt; kept.as_ref().is_some_and(is_done));
-    let (status, _usage) = answer_at(&rt, &call_of(&[], b""), &gate, &mut kept)?;
-    assert!(rt; status == 2 && kept.is_none());
+    assert!(rt; is_kept(kept));
+    assert!(rt; is_no_form(rt, &gate, kept)?);
     Ok(())
+}
+
+#[test]
+fn controllers_and_hosts_run_at_once(rt: HostRuntime) -> Result<(), Memory> {
+    let mut kept = None;
+    let told = runs_and_keeps(&rt, &mut kept);
+    let_go(kept);
+    told
 }

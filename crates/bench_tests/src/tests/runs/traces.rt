@@ -1,7 +1,7 @@
 //! Traces that were worked out from the protocol's rules.
 
 use super::super::{add_each, joined};
-use std::test::Fail;
+use ttp_base::Memory;
 
 // Five nodes that are all on from slot 0, for 15 slots.
 const FAULT_FREE: &[&str] = &[
@@ -99,7 +99,7 @@ pub(in super::super) fn changed<R: AllocGlobal>(
     before: usize,
     with: &str,
     after: usize,
-) -> Result<String, Fail> {
+) -> Result<String, Memory> {
     let mut trace = joined(rt, fault_free_lines(0, before))?;
     trace.push_str(with)?;
     add_each(&mut trace, fault_free_lines(after, 77))?;
