@@ -30,7 +30,7 @@ ghost use Rattle.ttp_world.specs.Medl.{IsValid, plan_at};
 ghost use Rattle.ttp_world.specs.Script.{IsValidScript};
 ghost use Rattle.ttp_world.specs.World.{chosen_of};
 ghost use Rattle.controller.specs.PlantStands.{PlantStandsFor};
-ghost use Rattle.trace_text.specs.LineParts.{HasDigits};
+ghost use Rattle.line_text.specs.LineParts.{HasDigits};
 
 use controller::Plant;
 use hypothesis::keeps;
@@ -40,7 +40,7 @@ use std::alloc::Global;
 use std::io::BufWriter;
 use std::process::ExitCode;
 use std::{env, fs, io};
-use trace_text::{NodeLines, put_keep, put_node_line};
+use line_text::{NodeLines, put_keep, put_node_line};
 use ttp_base::{Failed, List, Memory, Sink, StreamSink};
 use ttp_world::{Chosen, Entry, Medl, NodeState, PAYLOAD_LIMIT, Payload, Script};
 
@@ -252,7 +252,7 @@ put_slots-requires-clause-sizes g c = c.fit.ensures.sizes c.if-fit.true
 """,
 }
 
-USES = "ttp_base ttp_world medl_text script_text hypothesis controller trace_text"
+USES = "ttp_base ttp_world medl_text script_text hypothesis controller line_text"
 
 
 def lines_of_run(command):

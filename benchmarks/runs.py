@@ -20,8 +20,12 @@ use hypothesis::keeps;
 use medl_text::read_medl;
 use script_text::read_script;
 use std::alloc::Global;
+use std::env::Env;
 use std::io::Write;
 use std::process::ExitCode;
+use std::rt::Files;
+use std::sync::Wait;
+use std::thread::Threads;
 use std::{env, fs, io};
 use ttp_base::{List, MemoryLibrary, OpenGate, StreamSink};
 use ttp_top::bench;
@@ -42,7 +46,7 @@ fn main(rt: HostRuntime) -> ExitCode {
 }
 
 // Whether the words name a list and a script that are read, and three numbers of times.
-fn work(rt: &HostRuntime) -> io::Result<bool> {
+fn work<R: Env + Files + Threads + Wait + Sync + AllocGlobal>(rt: &R) -> io::Result<bool> {
     let words: Vec<String> = env::args(rt)?.skip(1).collect(rt.alloc())?;
     if words.len() != 5 {
         return Ok(false);
@@ -97,7 +101,7 @@ fn is_done(alloc: Global, list: &Medl, text: &[u8], times: Times) -> bool
 
 // Whether list and script are run to the end. Behind the writer's type no compiler sees that the bytes are
 // not used, and so spares their making.
-fn is_run(rt: &HostRuntime, list: &[u8], text: &[u8]) -> io::Result<bool> {
+fn is_run<R: Threads + Wait + Sync + AllocGlobal>(rt: &R, list: &[u8], text: &[u8]) -> io::Result<bool> {
     let mut library = MemoryLibrary::new(rt.alloc(), List::new(rt.alloc()));
     if library.add("list", list).is_err() || library.add("script", text).is_err() {
         return Ok(false);
