@@ -1,8 +1,13 @@
 //! Answers for lists and scripts as their files say them, worked out by hand from the rules.
+ghost use Rattle.std.specs.Prelude.{IfSome};
+ghost use Rattle.ttp_world.specs.Medl.{IsValid};
+ghost use Rattle.ttp_world.specs.Script.{IsValidScript};
 
+use super::scripts::script_of;
 use medl_text::read_medl;
-use script_text::read_script;
+use std::alloc::Global;
 use std::test::Fail;
+use ttp_world::{Medl, Script};
 use two_faced::{Faced, Seen, bound, find_faced, find_seen, halved};
 
 // Four nodes, of which node 0 starts in slot 8; their clocks drift by up to one microtick.
@@ -80,34 +85,67 @@ const CASES: &[Case] = &[
     ),
 ];
 
-#[test]
-fn rules_are_told_in_their_order(rt: HostRuntime) -> Result<(), Fail> {
-    for (list, script, node, answer) in CASES {
-        assert!(rt; script.len() <= 1_048_576);
-        let list = read_medl(rt.alloc(), list.as_bytes())?;
-        let read = read_script(rt.alloc(), &list, script.as_bytes())?;
-        assert_eq!(rt; find_faced(&list, &read, *node), *answer, "{script}");
+/// The list of a text, where it has one.
+pub(crate) fn list_of(alloc: Global, text: &str) -> Option<Medl>
+    ensures { IfSome result IsValid }
+{
+    match read_medl(alloc, text.as_bytes()) {
+        Ok(list) => Some(list),
+        Err(_) => None,
     }
-    Ok(())
+}
+
+fn faced(alloc: Global, list: &str, script: &str, node: u8) -> Option<Faced> {
+    let list = list_of(alloc, list)?;
+    let script = script_of(alloc, &list, script.as_bytes())?;
+    Some(find_faced(&list, &script, node))
+}
+
+#[test]
+fn rules_are_told_in_their_order(rt: HostRuntime) {
+    for (list, script, node, answer) in CASES {
+        assert!(rt;
+            faced(rt.alloc(), list, script, *node) == Some(*answer),
+            "{script}"
+        );
+    }
 }
 
 #[test]
 fn bound_of_four_nodes(rt: HostRuntime) -> Result<(), Fail> {
-    let list = read_medl(rt.alloc(), WIDE.as_bytes())?;
-    assert_eq!(rt; bound(&list), 50);
+    let Some(list) = list_of(rt.alloc(), WIDE) else {
+        return Err(Fail::new("refused"));
+    };
+    assert!(rt; bound(&list) == 50);
     Ok(())
+}
+
+const KEEPING: &str =
+    "slots 28\non 0 0\non 1 0\non 2 0\non 3 0\ndrift 0 1\nerror 0 14 19 19\nerror 1 -14 19 19\n";
+
+// Asks the law for a script that keeps the rules, and is false for any other one.
+fn is_owed_law(list: &Medl, script: &Script, node: u8) -> bool
+    requires valid { IsValid list.now }
+    requires script { IsValidScript list.now script.now }
+{
+    match find_faced(list, script, node) {
+        Faced::Yes { start } => {
+            halved(list, script, node, start);
+            true
+        }
+        Faced::No { .. } => false,
+    }
 }
 
 #[test]
 fn a_script_that_keeps_the_rules_is_owed_the_law(rt: HostRuntime) -> Result<(), Fail> {
-    let list = read_medl(rt.alloc(), WIDE.as_bytes())?;
-    let script =
-        "slots 28\non 0 0\non 1 0\non 2 0\non 3 0\ndrift 0 1\nerror 0 14 19 19\nerror 1 -14 19 19\n";
-    let read = read_script(rt.alloc(), &list, script.as_bytes())?;
-    match find_faced(&list, &read, 3) {
-        Faced::Yes { start } => halved(&list, &read, 3, start),
-        Faced::No { rule, slot } => assert!(rt; false, "rule {rule} in slot {slot}"),
-    }
+    let Some(list) = list_of(rt.alloc(), WIDE) else {
+        return Err(Fail::new("refused"));
+    };
+    let Some(script) = script_of(rt.alloc(), &list, KEEPING.as_bytes()) else {
+        return Err(Fail::new("refused"));
+    };
+    assert!(rt; is_owed_law(&list, &script, 3));
     Ok(())
 }
 
@@ -137,15 +175,21 @@ const DIFFERENCES: &[(&str, u8, Seen)] = &[
     ),
 ];
 
+fn seen_beside(alloc: Global, list: &Medl, script: &str, node: u8) -> Option<Seen>
+    requires { IsValid list.now }
+{
+    let script = script_of(alloc, list, script.as_bytes())?;
+    find_seen(alloc, list, &script, node).ok()
+}
+
 #[test]
 fn differences_are_seen_beside_a_node(rt: HostRuntime) -> Result<(), Fail> {
-    let list = read_medl(rt.alloc(), WIDE.as_bytes())?;
+    let Some(list) = list_of(rt.alloc(), WIDE) else {
+        return Err(Fail::new("refused"));
+    };
     for (script, node, seen) in DIFFERENCES {
-        assert!(rt; script.len() <= 1_048_576);
-        let read = read_script(rt.alloc(), &list, script.as_bytes())?;
-        assert_eq!(rt;
-            find_seen(rt.alloc(), &list, &read, *node)?,
-            *seen,
+        assert!(rt;
+            seen_beside(rt.alloc(), &list, script, *node) == Some(*seen),
             "{script}"
         );
     }

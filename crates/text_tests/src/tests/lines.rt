@@ -1,6 +1,6 @@
 //! Lines of nodes, as the format of the trace gives them.
 ghost use Rattle.std.specs.Prelude.{◌≡◌};
-ghost use Rattle.line_text.specs.LineParts.{HasDigits};
+ghost use Rattle.line_text.specs.HostLines.{HasWords};
 
 use line_text::{
     NodeLines, RingMessage, put_back, put_keep, put_node_line, put_read_line, put_write_line,
@@ -11,7 +11,7 @@ use ttp_base::{Line, List, Memory, MemorySink, NodeSet};
 use ttp_world::{Ack, Back, CState, Entry, Keep, Medl, NodeState, Phase, Reason, Source, Verdict};
 
 // A list without slots: of it a line needs the version alone.
-fn list(rt: &HostRuntime, version: u8) -> Medl
+fn list(alloc: Global, version: u8) -> Medl
     ensures { result.version ≡ version }
 {
     Medl {
@@ -23,7 +23,7 @@ fn list(rt: &HostRuntime, version: u8) -> Medl
         error: 0,
         window: 1,
         modes: 1,
-        slots: List::new(rt.alloc()),
+        slots: List::new(alloc),
     }
 }
 
@@ -75,177 +75,189 @@ fn heard(sender: u8, verdict: Verdict, members: NodeSet) -> NodeState {
     active(judged(sender, verdict), members, 3, 0, Ack::Closed)
 }
 
-// A sink with the line of a node after a slot, or without it where it does not fit.
-fn written_line(
+// Whether the line of a node after a slot is this text. Its members can be written in four digits.
+fn is_line(
     alloc: Global,
     list: &Medl,
-    slot: u32,
-    node: u8,
-    state: &NodeState,
-    message: Option<u64>,
+    row: &Row,
     newest: &mut NodeLines,
-) -> Result<MemorySink, Memory>
-    requires { HasDigits list.now state.now }
+    text: &str,
+) -> Result<bool, Memory>
+    requires { list.now.version ≡ 1 }
 {
+    let (slot, node, state, message) = *row;
+    if state.members.bits() >= 65_536 {
+        return Ok(false);
+    }
     let mut out = MemorySink::new(alloc, 111, List::new(alloc))?;
     newest.begin(slot);
-    match put_node_line(list, node, state, message, newest, &mut out) {
-        Ok(()) | Err(_) => Ok(out),
-    }
+    let written = put_node_line(list, node, &state, message, newest, &mut out);
+    Ok(written.is_ok() && out.bytes() == text.as_bytes())
 }
 
-#[test]
-fn active_nodes(rt: HostRuntime) -> Result<(), Fail> {
-    let narrow = list(&rt, 1);
-    let sent = Entry::Sent { message: Some(1) };
-    let bare = Entry::Sent { message: None };
-    let joined = Entry::Joined {
+// A slot, a node, what its line shows of it, and the message of the slot.
+type Row = (u32, u8, NodeState, Option<u64>);
+
+// The first text that is not the line of its row.
+fn wrong_line(
+    alloc: Global,
+    rows: &[Row],
+    lines: &[&'static str],
+) -> Result<Option<&'static str>, Memory> {
+    let narrow = list(alloc, 1);
+    let mut newest = NodeLines::new();
+    for (row, text) in rows.iter().zip(lines.iter()) {
+        if !is_line(alloc, &narrow, row, &mut newest, text)? {
+            return Ok(Some(*text));
+        }
+    }
+    Ok(None)
+}
+
+// The state of a node that joined on the frame of node 0.
+fn joined() -> NodeState {
+    let one = NodeSet::empty().with(0);
+    let entry = Entry::Joined {
         sender: 0,
         cstate: CState {
             time: 0,
             round: 0,
             slot: 0,
-            members: NodeSet::empty().with(0),
+            members: one,
         },
         deviation: 0,
     };
+    active(entry, one, 1, 0, Ack::Closed)
+}
+
+fn started_rows() -> [Row; 5] {
     let one = NodeSet::empty().with(0);
     let two = one.with(1);
-    let four = four_members();
-    let all = four.with(2);
+    let bare = Entry::Sent { message: None };
     let correct = judged(1, Verdict::Correct);
-    let rows: &[(u32, u8, NodeState, Option<u64>)] = &[
+    let third = judged(2, Verdict::Correct);
+    let all = four_members().with(2);
+    [
         (10, 0, active(Entry::Started, one, 1, 0, Ack::First), None),
-        (10, 1, active(joined, one, 1, 0, Ack::Closed), None),
+        (10, 1, joined(), None),
         (11, 0, active(correct, two, 2, 0, Ack::Closed), None),
         (11, 1, active(bare, two, 1, 0, Ack::First), None),
-        (
-            17,
-            0,
-            active(judged(2, Verdict::Correct), all, 3, 0, Ack::Closed),
-            Some(2),
-        ),
+        (17, 0, active(third, all, 3, 0, Ack::Closed), Some(2)),
+    ]
+}
+
+fn later_rows() -> [Row; 5] {
+    let four = four_members();
+    let all = four.with(2);
+    let sent = Entry::Sent { message: Some(1) };
+    let invalid = judged(2, Verdict::Invalid);
+    let tentative = judged(3, Verdict::Tentative);
+    let null = judged(2, Verdict::Null);
+    let incorrect = judged(2, Verdict::Incorrect);
+    [
         (17, 2, active(sent, all, 1, 0, Ack::First), Some(1)),
-        (
-            22,
-            0,
-            active(judged(2, Verdict::Invalid), four, 2, 1, Ack::Closed),
-            None,
-        ),
-        (
-            23,
-            2,
-            active(judged(3, Verdict::Tentative), all, 1, 0, Ack::Doubt(3)),
-            None,
-        ),
-        (
-            24,
-            1,
-            active(judged(2, Verdict::Null), four, 2, 0, Ack::Closed),
-            None,
-        ),
-        (
-            24,
-            3,
-            active(judged(2, Verdict::Incorrect), four, 2, 1, Ack::First),
-            None,
-        ),
-    ];
-    let lines: &[&str] = &[
-        "slot 10 node 0 start peer 0 msg - mem 0001 acc 1 rej 0 ack first clock 0\n",
-        "slot 10 node 1 join peer 0 msg - mem 0001 acc 1 rej 0 ack none clock 0\n",
-        "slot 11 node 0 correct peer 1 msg - mem 0003 acc 2 rej 0 ack none clock 0\n",
-        "slot 11 node 1 send peer 1 msg - mem 0003 acc 1 rej 0 ack first clock 0\n",
-        "slot 17 node 0 correct peer 2 msg 2 mem 001f acc 3 rej 0 ack none clock 0\n",
-        "slot 17 node 2 send peer 2 msg 1 mem 001f acc 1 rej 0 ack first clock 0\n",
-        "slot 22 node 0 invalid peer 2 msg - mem 001b acc 2 rej 1 ack none clock 0\n",
-        "slot 23 node 2 tentative peer 3 msg - mem 001f acc 1 rej 0 ack doubt:3 clock 0\n",
-        "slot 24 node 1 null peer 2 msg - mem 001b acc 2 rej 0 ack none clock 0\n",
-        "slot 24 node 3 incorrect peer 2 msg - mem 001b acc 2 rej 1 ack first clock 0\n",
-    ];
-    let mut newest = NodeLines::new();
-    for (row, text) in rows.iter().zip(lines.iter()) {
-        let (slot, node, state, message) = *row;
-        assert!(rt; state.members.bits() < 65_536);
-        let out = written_line(
-            rt.alloc(),
-            &narrow,
-            slot,
-            node,
-            &state,
-            message,
-            &mut newest,
-        )?;
-        assert!(rt; out.bytes() == text.as_bytes(), "{text}");
-    }
+        (22, 0, active(invalid, four, 2, 1, Ack::Closed), None),
+        (23, 2, active(tentative, all, 1, 0, Ack::Doubt(3)), None),
+        (24, 1, active(null, four, 2, 0, Ack::Closed), None),
+        (24, 3, active(incorrect, four, 2, 1, Ack::First), None),
+    ]
+}
+
+const STARTED_LINES: &[&str] = &[
+    "slot 10 node 0 start peer 0 msg - mem 0001 acc 1 rej 0 ack first clock 0\n",
+    "slot 10 node 1 join peer 0 msg - mem 0001 acc 1 rej 0 ack none clock 0\n",
+    "slot 11 node 0 correct peer 1 msg - mem 0003 acc 2 rej 0 ack none clock 0\n",
+    "slot 11 node 1 send peer 1 msg - mem 0003 acc 1 rej 0 ack first clock 0\n",
+    "slot 17 node 0 correct peer 2 msg 2 mem 001f acc 3 rej 0 ack none clock 0\n",
+];
+
+const LATER_LINES: &[&str] = &[
+    "slot 17 node 2 send peer 2 msg 1 mem 001f acc 1 rej 0 ack first clock 0\n",
+    "slot 22 node 0 invalid peer 2 msg - mem 001b acc 2 rej 1 ack none clock 0\n",
+    "slot 23 node 2 tentative peer 3 msg - mem 001f acc 1 rej 0 ack doubt:3 clock 0\n",
+    "slot 24 node 1 null peer 2 msg - mem 001b acc 2 rej 0 ack none clock 0\n",
+    "slot 24 node 3 incorrect peer 2 msg - mem 001b acc 2 rej 1 ack first clock 0\n",
+];
+
+#[test]
+fn active_nodes(rt: HostRuntime) -> Result<(), Fail> {
+    let wrong = wrong_line(rt.alloc(), &started_rows(), STARTED_LINES)?;
+    assert!(rt; wrong.is_none(), "{wrong:?}");
+    let wrong = wrong_line(rt.alloc(), &later_rows(), LATER_LINES)?;
+    assert!(rt; wrong.is_none(), "{wrong:?}");
     Ok(())
 }
+
+fn idle_row(slot: u32, node: u8, phase: Phase, entry: Entry) -> Row {
+    (slot, node, idle(phase, entry), None)
+}
+
+fn left_row(slot: u32, node: u8, reason: Reason, peer: u8) -> Row {
+    idle_row(slot, node, Phase::Left, left(reason, peer))
+}
+
+fn other_rows() -> [Row; 7] {
+    [
+        idle_row(0, 3, Phase::Off, Entry::Off),
+        idle_row(9, 4, Phase::Listening, Entry::Waited),
+        idle_row(16, 1, Phase::Listening, Entry::Retried),
+        left_row(24, 2, Reason::Denied, 4),
+        left_row(33, 3, Reason::Unacknowledged, 3),
+        left_row(31, 1, Reason::Clique, 1),
+        idle_row(32, 1, Phase::Left, Entry::Gone),
+    ]
+}
+
+const OTHER_LINES: &[&str] = &[
+    "slot 0 node 3 off peer - msg - mem 0000 acc 0 rej 0 ack none clock 0\n",
+    "slot 9 node 4 wait peer - msg - mem 0000 acc 0 rej 0 ack none clock 0\n",
+    "slot 16 node 1 retry peer - msg - mem 0000 acc 0 rej 0 ack none clock 0\n",
+    "slot 24 node 2 denied peer 4 msg - mem 0000 acc 0 rej 0 ack none clock 0\n",
+    "slot 33 node 3 unacknowledged peer 3 msg - mem 0000 acc 0 rej 0 ack none clock 0\n",
+    "slot 31 node 1 clique peer 1 msg - mem 0000 acc 0 rej 0 ack none clock 0\n",
+    "slot 32 node 1 gone peer - msg - mem 0000 acc 0 rej 0 ack none clock 0\n",
+];
 
 #[test]
 fn other_nodes(rt: HostRuntime) -> Result<(), Fail> {
-    let narrow = list(&rt, 1);
-    let off = Phase::Off;
-    let listening = Phase::Listening;
-    let gone = Phase::Left;
-    let rows: &[(u32, u8, NodeState)] = &[
-        (0, 3, idle(off, Entry::Off)),
-        (9, 4, idle(listening, Entry::Waited)),
-        (16, 1, idle(listening, Entry::Retried)),
-        (24, 2, idle(gone, left(Reason::Denied, 4))),
-        (33, 3, idle(gone, left(Reason::Unacknowledged, 3))),
-        (31, 1, idle(gone, left(Reason::Clique, 1))),
-        (32, 1, idle(gone, Entry::Gone)),
-    ];
-    let lines: &[&str] = &[
-        "slot 0 node 3 off peer - msg - mem 0000 acc 0 rej 0 ack none clock 0\n",
-        "slot 9 node 4 wait peer - msg - mem 0000 acc 0 rej 0 ack none clock 0\n",
-        "slot 16 node 1 retry peer - msg - mem 0000 acc 0 rej 0 ack none clock 0\n",
-        "slot 24 node 2 denied peer 4 msg - mem 0000 acc 0 rej 0 ack none clock 0\n",
-        "slot 33 node 3 unacknowledged peer 3 msg - mem 0000 acc 0 rej 0 ack none clock 0\n",
-        "slot 31 node 1 clique peer 1 msg - mem 0000 acc 0 rej 0 ack none clock 0\n",
-        "slot 32 node 1 gone peer - msg - mem 0000 acc 0 rej 0 ack none clock 0\n",
-    ];
-    let mut newest = NodeLines::new();
-    for (row, text) in rows.iter().zip(lines.iter()) {
-        let (slot, node, state) = *row;
-        assert!(rt; state.members.bits() < 65_536);
-        let out = written_line(rt.alloc(), &narrow, slot, node, &state, None, &mut newest)?;
-        assert!(rt; out.bytes() == text.as_bytes(), "{text}");
-    }
+    let wrong = wrong_line(rt.alloc(), &other_rows(), OTHER_LINES)?;
+    assert!(rt; wrong.is_none(), "{wrong:?}");
     Ok(())
 }
 
+fn slot_row(node: u8, sender: u8, verdict: Verdict, members: NodeSet, message: Option<u64>) -> Row {
+    (17, node, heard(sender, verdict, members), message)
+}
+
 // Nodes of one slot that judge it alike, and then otherwise in one thing after another.
-#[test]
-fn lines_of_one_slot(rt: HostRuntime) -> Result<(), Fail> {
-    let narrow = list(&rt, 1);
+fn slot_rows() -> [Row; 7] {
     let four = four_members();
     let all = four.with(2);
-    let rows: &[(u8, NodeState, Option<u64>)] = &[
-        (0, heard(2, Verdict::Correct, all), Some(2)),
-        (1, heard(2, Verdict::Correct, all), Some(2)),
-        (3, heard(2, Verdict::Correct, four), Some(2)),
-        (4, heard(2, Verdict::Correct, four), Some(3)),
-        (5, heard(2, Verdict::Correct, four), None),
-        (6, heard(2, Verdict::Tentative, four), None),
-        (7, heard(3, Verdict::Tentative, four), None),
-    ];
-    let lines: &[&str] = &[
-        "slot 17 node 0 correct peer 2 msg 2 mem 001f acc 3 rej 0 ack none clock 0\n",
-        "slot 17 node 1 correct peer 2 msg 2 mem 001f acc 3 rej 0 ack none clock 0\n",
-        "slot 17 node 3 correct peer 2 msg 2 mem 001b acc 3 rej 0 ack none clock 0\n",
-        "slot 17 node 4 correct peer 2 msg 3 mem 001b acc 3 rej 0 ack none clock 0\n",
-        "slot 17 node 5 correct peer 2 msg - mem 001b acc 3 rej 0 ack none clock 0\n",
-        "slot 17 node 6 tentative peer 2 msg - mem 001b acc 3 rej 0 ack none clock 0\n",
-        "slot 17 node 7 tentative peer 3 msg - mem 001b acc 3 rej 0 ack none clock 0\n",
-    ];
-    let mut newest = NodeLines::new();
-    for (row, text) in rows.iter().zip(lines.iter()) {
-        let (node, state, message) = *row;
-        assert!(rt; state.members.bits() < 65_536);
-        let out = written_line(rt.alloc(), &narrow, 17, node, &state, message, &mut newest)?;
-        assert!(rt; out.bytes() == text.as_bytes(), "{text}");
-    }
+    [
+        slot_row(0, 2, Verdict::Correct, all, Some(2)),
+        slot_row(1, 2, Verdict::Correct, all, Some(2)),
+        slot_row(3, 2, Verdict::Correct, four, Some(2)),
+        slot_row(4, 2, Verdict::Correct, four, Some(3)),
+        slot_row(5, 2, Verdict::Correct, four, None),
+        slot_row(6, 2, Verdict::Tentative, four, None),
+        slot_row(7, 3, Verdict::Tentative, four, None),
+    ]
+}
+
+const SLOT_LINES: &[&str] = &[
+    "slot 17 node 0 correct peer 2 msg 2 mem 001f acc 3 rej 0 ack none clock 0\n",
+    "slot 17 node 1 correct peer 2 msg 2 mem 001f acc 3 rej 0 ack none clock 0\n",
+    "slot 17 node 3 correct peer 2 msg 2 mem 001b acc 3 rej 0 ack none clock 0\n",
+    "slot 17 node 4 correct peer 2 msg 3 mem 001b acc 3 rej 0 ack none clock 0\n",
+    "slot 17 node 5 correct peer 2 msg - mem 001b acc 3 rej 0 ack none clock 0\n",
+    "slot 17 node 6 tentative peer 2 msg - mem 001b acc 3 rej 0 ack none clock 0\n",
+    "slot 17 node 7 tentative peer 3 msg - mem 001b acc 3 rej 0 ack none clock 0\n",
+];
+
+#[test]
+fn lines_of_one_slot(rt: HostRuntime) -> Result<(), Fail> {
+    let wrong = wrong_line(rt.alloc(), &slot_rows(), SLOT_LINES)?;
+    assert!(rt; wrong.is_none(), "{wrong:?}");
     Ok(())
 }
 
@@ -262,38 +274,69 @@ fn widest_state() -> NodeState {
     state
 }
 
+const WIDEST: &str =
+    "slot 19999 node 23 correct peer 23 msg 20000 mem 80001b acc 255 rej 255 ack doubt:22 clock -576460752303423488\n";
+
+// Whether the widest line with a message is written whole into a sink that has room for it.
+fn is_widest_line(alloc: Global) -> Result<bool, Memory> {
+    let wide = list(alloc, 2);
+    let state = widest_state();
+    if state.members.bits() >= 16_777_216 {
+        return Ok(false);
+    }
+    let mut newest = NodeLines::new();
+    newest.begin(19_999);
+    let mut out = MemorySink::new(alloc, 111, List::new(alloc))?;
+    let written = put_node_line(&wide, 23, &state, Some(20_000), &mut newest, &mut out);
+    Ok(written.is_ok() && out.bytes() == WIDEST.as_bytes())
+}
+
 #[test]
 fn a_wide_line_is_one_piece(rt: HostRuntime) -> Result<(), Fail> {
-    let mut newest = NodeLines::new();
-    let wide = list(&rt, 2);
-    let state = widest_state();
-    let text =
-        "slot 19999 node 23 correct peer 23 msg 20000 mem 80001b acc 255 rej 255 ack doubt:22 clock -576460752303423488\n";
-    assert!(rt; state.members.bits() < 16_777_216);
-    let out = written_line(
-        rt.alloc(),
-        &wide,
-        19_999,
-        23,
-        &state,
-        Some(20_000),
-        &mut newest,
-    )?;
-    assert!(rt; out.bytes() == text.as_bytes());
+    assert!(rt; is_widest_line(rt.alloc())?);
     Ok(())
+}
+
+// Whether a line that is longer than its sink is refused whole.
+fn is_line_refused(alloc: Global) -> Result<bool, Memory> {
+    let wide = list(alloc, 2);
+    let state = widest_state();
+    if state.members.bits() >= 16_777_216 {
+        return Ok(false);
+    }
+    let mut lines = NodeLines::new();
+    let mut narrow = MemorySink::new(alloc, 102, List::new(alloc))?;
+    let written = put_node_line(&wide, 23, &state, None, &mut lines, &mut narrow);
+    Ok(written.is_err() && narrow.bytes().is_empty())
 }
 
 #[test]
 fn a_line_that_does_not_fit(rt: HostRuntime) -> Result<(), Fail> {
-    let mut lines = NodeLines::new();
-    let wide = list(&rt, 2);
-    let state = widest_state();
-    let mut narrow = MemorySink::new(rt.alloc(), 102, List::new(rt.alloc()))?;
-    assert!(rt; state.members.bits() < 16_777_216);
-    let written = put_node_line(&wide, 23, &state, None, &mut lines, &mut narrow);
-    assert!(rt; written.is_err());
-    assert!(rt; narrow.bytes().is_empty(), "a part of a line was written");
+    assert!(rt;
+        is_line_refused(rt.alloc())?,
+        "a part of a line was written"
+    );
     Ok(())
+}
+
+// Whether the line of a message that node 1's host reads is this text.
+fn is_read_line(
+    alloc: Global,
+    message: &RingMessage,
+    line: &mut Line,
+    text: &str,
+) -> Result<bool, Memory>
+    requires { HasWords message.now.source message.now.size message.now.words.now }
+{
+    let mut sink = MemorySink::new(alloc, 100, List::new(alloc))?;
+    let written = put_read_line(11, 1, message, line, &mut sink);
+    Ok(written.is_ok() && sink.bytes() == text.as_bytes())
+}
+
+fn is_write_line(alloc: Global, line: &mut Line) -> Result<bool, Memory> {
+    let mut sink = MemorySink::new(alloc, 100, List::new(alloc))?;
+    let written = put_write_line(19_999, 23, 60_000, line, &mut sink);
+    Ok(written.is_ok() && sink.bytes() == b"slot 19999 host 23 write 60000\n".as_slice())
 }
 
 #[test]
@@ -339,17 +382,39 @@ fn lines_of_hosts(rt: HostRuntime) -> Result<(), Fail> {
             words,
             size,
         };
-        let mut sink = MemorySink::new(rt.alloc(), 100, List::new(rt.alloc()))?;
         assert!(rt;
-            put_read_line(11, 1, &message, &mut line, &mut sink).is_ok(),
+            is_read_line(rt.alloc(), &message, &mut line, text)?,
             "{text}"
         );
-        assert!(rt; sink.bytes() == text.as_bytes(), "{text}");
     }
-    let mut sink = MemorySink::new(rt.alloc(), 100, List::new(rt.alloc()))?;
-    assert!(rt; put_write_line(19_999, 23, 60_000, &mut line, &mut sink).is_ok());
-    assert!(rt; sink.bytes() == b"slot 19999 host 23 write 60000\n".as_slice());
+    assert!(rt; is_write_line(rt.alloc(), &mut line)?);
     Ok(())
+}
+
+// Whether a line of a write and the longest line there is fit into a sink that has room for both.
+fn is_longest_whole(alloc: Global, message: &RingMessage, line: &mut Line) -> Result<bool, Memory>
+    requires { HasWords message.now.source message.now.size message.now.words.now }
+{
+    let mut whole = MemorySink::new(alloc, 600, List::new(alloc))?;
+    let first = put_write_line(3, 4, 5, line, &mut whole).is_ok();
+    let second = put_read_line(19_999, 23, message, line, &mut whole).is_ok();
+    let written = whole.bytes();
+    Ok(
+        first
+            && second
+            && written.len() == 22 + 33 + 480 + 1
+            && written.starts_with(b"slot 3 host 4 write 5\n".as_slice()),
+    )
+}
+
+// Whether a line that is longer than its sink is refused whole, and a short one is taken after it.
+fn is_longest_refused(alloc: Global, message: &RingMessage, line: &mut Line) -> Result<bool, Memory>
+    requires { HasWords message.now.source message.now.size message.now.words.now }
+{
+    let mut narrow = MemorySink::new(alloc, 513, List::new(alloc))?;
+    let refused = put_read_line(19_999, 23, message, line, &mut narrow).is_err();
+    let empty = narrow.bytes().is_empty();
+    Ok(refused && empty && put_write_line(3, 4, 5, line, &mut narrow).is_ok())
 }
 
 // A payload of 240 bytes makes the longest line there is.
@@ -363,52 +428,68 @@ fn a_line_of_a_host_is_one_piece(rt: HostRuntime) -> Result<(), Fail> {
         words: &words,
         size: 240,
     };
-    let mut whole = MemorySink::new(rt.alloc(), 600, List::new(rt.alloc()))?;
-    assert!(rt; put_write_line(3, 4, 5, &mut line, &mut whole).is_ok());
-    assert!(rt; put_read_line(19_999, 23, &message, &mut line, &mut whole).is_ok());
-    let written = whole.bytes();
-    assert!(rt; written.len() == 22 + 33 + 480 + 1);
-    assert!(rt; written.starts_with(b"slot 3 host 4 write 5\n".as_slice()));
-    let mut narrow = MemorySink::new(rt.alloc(), 513, List::new(rt.alloc()))?;
-    assert!(rt; put_read_line(19_999, 23, &message, &mut line, &mut narrow).is_err());
-    assert!(rt; narrow.bytes().is_empty(), "a part of a line was written");
-    assert!(rt; put_write_line(3, 4, 5, &mut line, &mut narrow).is_ok());
+    assert!(rt; is_longest_whole(rt.alloc(), &message, &mut line)?);
+    assert!(rt; is_longest_refused(rt.alloc(), &message, &mut line)?);
     Ok(())
+}
+
+const KEEPS: &[(Keep, &str)] = &[
+    (Keep::Yes { start: 10 }, "keeps yes start 10\n"),
+    (Keep::Yes { start: 20_070 }, "keeps yes start 20070\n"),
+    (Keep::No { rule: 4, slot: 0 }, "keeps no H4 0\n"),
+    (Keep::No { rule: 6, slot: 41 }, "keeps no H6 41\n"),
+];
+
+fn is_keep_line(alloc: Global, keep: &Keep, text: &str) -> Result<bool, Memory> {
+    let mut out = MemorySink::new(alloc, 22, List::new(alloc))?;
+    Ok(put_keep(keep, &mut out).is_ok() && out.bytes() == text.as_bytes())
+}
+
+// Whether a line that is longer than its sink is refused whole.
+fn is_keep_refused(alloc: Global) -> Result<bool, Memory> {
+    let mut narrow = MemorySink::new(alloc, 13, List::new(alloc))?;
+    let keep = Keep::No { rule: 4, slot: 0 };
+    Ok(put_keep(&keep, &mut narrow).is_err() && narrow.bytes().is_empty())
 }
 
 #[test]
 fn answers_of_the_hypothesis_test(rt: HostRuntime) -> Result<(), Fail> {
-    let rows: &[(Keep, &str)] = &[
-        (Keep::Yes { start: 10 }, "keeps yes start 10\n"),
-        (Keep::Yes { start: 20_070 }, "keeps yes start 20070\n"),
-        (Keep::No { rule: 4, slot: 0 }, "keeps no H4 0\n"),
-        (Keep::No { rule: 6, slot: 41 }, "keeps no H6 41\n"),
-    ];
-    for (keep, text) in rows {
-        let mut out = MemorySink::new(rt.alloc(), 22, List::new(rt.alloc()))?;
-        assert!(rt; put_keep(keep, &mut out).is_ok());
-        assert!(rt; out.bytes() == text.as_bytes(), "{text}");
+    for (keep, text) in KEEPS {
+        assert!(rt; is_keep_line(rt.alloc(), keep, text)?, "{text}");
     }
-    let mut narrow = MemorySink::new(rt.alloc(), 13, List::new(rt.alloc()))?;
-    assert!(rt; put_keep(&Keep::No { rule: 4, slot: 0 }, &mut narrow).is_err());
-    assert!(rt; narrow.bytes().is_empty(), "a part of a line was written");
+    assert!(rt;
+        is_keep_refused(rt.alloc())?,
+        "a part of a line was written"
+    );
     Ok(())
+}
+
+const BACKS: &[(Back, &str)] = &[
+    (Back::Yes { start: 12 }, "returns yes start 12\n"),
+    (Back::No { rule: 8, slot: 37 }, "returns no Q8 37\n"),
+    (Back::No { rule: 2, slot: 0 }, "returns no Q2 0\n"),
+];
+
+fn is_back_line(alloc: Global, back: &Back, text: &str) -> Result<bool, Memory> {
+    let mut out = MemorySink::new(alloc, 21, List::new(alloc))?;
+    Ok(put_back(back, &mut out).is_ok() && out.bytes() == text.as_bytes())
+}
+
+// Whether a line that is longer than its sink is refused whole.
+fn is_back_refused(alloc: Global) -> Result<bool, Memory> {
+    let mut narrow = MemorySink::new(alloc, 15, List::new(alloc))?;
+    let back = Back::No { rule: 2, slot: 0 };
+    Ok(put_back(&back, &mut narrow).is_err() && narrow.bytes().is_empty())
 }
 
 #[test]
 fn answers_on_armed_nodes(rt: HostRuntime) -> Result<(), Fail> {
-    let rows: &[(Back, &str)] = &[
-        (Back::Yes { start: 12 }, "returns yes start 12\n"),
-        (Back::No { rule: 8, slot: 37 }, "returns no Q8 37\n"),
-        (Back::No { rule: 2, slot: 0 }, "returns no Q2 0\n"),
-    ];
-    for (back, text) in rows {
-        let mut out = MemorySink::new(rt.alloc(), 21, List::new(rt.alloc()))?;
-        assert!(rt; put_back(back, &mut out).is_ok());
-        assert!(rt; out.bytes() == text.as_bytes(), "{text}");
+    for (back, text) in BACKS {
+        assert!(rt; is_back_line(rt.alloc(), back, text)?, "{text}");
     }
-    let mut narrow = MemorySink::new(rt.alloc(), 15, List::new(rt.alloc()))?;
-    assert!(rt; put_back(&Back::No { rule: 2, slot: 0 }, &mut narrow).is_err());
-    assert!(rt; narrow.bytes().is_empty(), "a part of a line was written");
+    assert!(rt;
+        is_back_refused(rt.alloc())?,
+        "a part of a line was written"
+    );
     Ok(())
 }

@@ -204,27 +204,46 @@ const LINES: &str = "slot 11 node 0 correct peer 2 msg 7 mem 0007 acc 3 rej 0 ac
     slot 11 host 1 read 2 3 ffeeddccbbaa998877\n\
     slot 11 host 1 read 1 0 00\n";
 
+fn are_lines(alloc: Global, list: &Medl, report: &SlotReport) -> Result<bool, Memory>
+    requires version { list.now.version ≡ 1 }
+    requires nodes { length report.now.nodes ≤ 3 }
+    requires digits { All (λ line. HasDigits list.now line.state) report.now.nodes }
+    requires reads { All (HasMessage list.now) report.now.reads }
+{
+    let mut whole = MemorySink::new(alloc, 1_000, List::new(alloc))?;
+    let written = put_slot(list, report, &mut NodeLines::new(), &mut whole);
+    Ok(written.is_ok() && whole.bytes() == LINES.as_bytes())
+}
+
 #[test]
 fn lines_of_a_report(rt: HostRuntime) -> Result<(), Fail> {
     let list = three_nodes(&rt)?;
     let report = report(rt.alloc(), &list)?;
-    let mut whole = MemorySink::new(rt.alloc(), 1_000, List::new(rt.alloc()))?;
-    assert!(rt; put_slot(&list, &report, &mut NodeLines::new(), &mut whole).is_ok());
-    assert!(rt; whole.bytes() == LINES.as_bytes());
+    assert!(rt; are_lines(rt.alloc(), &list, &report)?);
     Ok(())
 }
 
-// A sink that is full at any place has some first lines, and none of the lines after them.
+// Whether a sink that is full has some first lines, and none of the lines after them.
+fn is_cut(alloc: Global, list: &Medl, report: &SlotReport, room: usize) -> Result<bool, Memory>
+    requires version { list.now.version ≡ 1 }
+    requires nodes { length report.now.nodes ≤ 3 }
+    requires digits { All (λ line. HasDigits list.now line.state) report.now.nodes }
+    requires reads { All (HasMessage list.now) report.now.reads }
+{
+    let mut narrow = MemorySink::new(alloc, room, List::new(alloc))?;
+    let refused = put_slot(list, report, &mut NodeLines::new(), &mut narrow).is_err();
+    let written = narrow.bytes();
+    let whole_lines = written.is_empty() || written.ends_with(b"\n".as_slice());
+    Ok(refused && whole_lines && LINES.as_bytes().starts_with(written))
+}
+
+// A sink that is full at any place.
 #[test]
 fn a_report_that_does_not_fit(rt: HostRuntime) -> Result<(), Fail> {
     let list = three_nodes(&rt)?;
     let report = report(rt.alloc(), &list)?;
     for room in 0..LINES.len() {
-        let mut narrow = MemorySink::new(rt.alloc(), room, List::new(rt.alloc()))?;
-        assert!(rt; put_slot(&list, &report, &mut NodeLines::new(), &mut narrow).is_err());
-        let written = narrow.bytes();
-        assert!(rt; LINES.as_bytes().starts_with(written));
-        assert!(rt; written.is_empty() || written.ends_with(b"\n".as_slice()));
+        assert!(rt; is_cut(rt.alloc(), &list, &report, room)?, "room {room}");
     }
     Ok(())
 }

@@ -1,11 +1,14 @@
 //! Traces of four nodes, worked out by hand from the protocol's rules, and what becomes of them with a
 //! change. Node 0 starts in slot 8; in slot 9 node 1 sends, its host writes, and that of node 0 reads.
+ghost use Rattle.ttp_world.specs.Medl.{IsValid};
+ghost use Rattle.ttp_world.specs.Script.{IsValidScript};
 
-use medl_text::read_medl;
-use script_text::read_script;
-use std::alloc::Global;
+use super::faced_nodes::list_of;
+use super::scripts::script_of;
+use std::alloc::{AllocError, Global};
 use std::test::Fail;
 use trace_check::{Outcome, verify};
+use ttp_world::{Medl, Script};
 
 const LIST: &str =
     "version = 1\nrounds = 1\nschedule = 0\nbuffers = 3\ndrift = 0\nerror = 0\nwindow = 1\n
@@ -43,7 +46,7 @@ const NEW: &str = "slot 9 host 0 read 1 1 a1b2\n";
 const LAST: &str = "keeps yes start 8\n";
 
 // The first line and those of the slots before the start.
-fn waits(alloc: Global) -> Result<String, Fail> {
+fn waits(alloc: Global) -> Result<String, AllocError> {
     let mut text = String::from_str(alloc, HEADER)?;
     for slot in 0..8u32 {
         for node in 0..4u32 {
@@ -84,12 +87,11 @@ const CASES: &[(&str, &[&str], u32)] = &[
     ("1", &[NEW, "slot 9 host 0 ", "", ""], 44),
 ];
 
-fn text_of(alloc: Global, sent: &str, behind: &[&str]) -> Result<String, Fail> {
+fn text_of(alloc: Global, sent: &str, behind: &[&str]) -> Result<String, AllocError> {
     let mut text = waits(alloc)?;
-    text.push_str(START)?;
-    text.push_str(SENT)?;
-    text.push_str(sent)?;
-    text.push_str(BEHIND)?;
+    for part in [START, SENT, sent, BEHIND] {
+        text.push_str(part)?;
+    }
     for part in behind {
         text.push_str(part)?;
     }
@@ -104,15 +106,36 @@ fn answer_of(line: u32) -> Outcome {
     }
 }
 
+// Whether a trace with these choices has the answer that it is due.
+fn is_answered(
+    alloc: Global,
+    list: &Medl,
+    script: &Script,
+    case: &(&str, &[&str], u32),
+) -> Result<bool, Fail>
+    requires list { IsValid list.now }
+    requires script { IsValidScript list.now script.now }
+{
+    let (sent, behind, line) = *case;
+    let text = text_of(alloc, sent, behind)?;
+    Ok(verify(alloc, list, script, text.as_bytes())? == answer_of(line))
+}
+
 #[test]
 fn choices_of_hosts(rt: HostRuntime) -> Result<(), Fail> {
-    let alloc = rt.alloc();
-    let list = read_medl(alloc, LIST.as_bytes())?;
-    let script = read_script(alloc, &list, SCRIPT.as_bytes())?;
-    for (sent, behind, line) in CASES {
-        let text = text_of(alloc, sent, behind)?;
-        let answer = verify(alloc, &list, &script, text.as_bytes())?;
-        assert_eq!(rt; answer, answer_of(*line), "{sent} {behind:?}");
+    let Some(list) = list_of(rt.alloc(), LIST) else {
+        return Err(Fail::new("refused"));
+    };
+    let Some(script) = script_of(rt.alloc(), &list, SCRIPT.as_bytes()) else {
+        return Err(Fail::new("refused"));
+    };
+    for case in CASES {
+        assert!(rt;
+            is_answered(rt.alloc(), &list, &script, case)?,
+            "{} {:?}",
+            case.0,
+            case.1
+        );
     }
     Ok(())
 }
