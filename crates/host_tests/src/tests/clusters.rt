@@ -8,10 +8,10 @@ ghost use Rattle.ttp_world.specs.Medl.{IsValid, plan_at};
 ghost use Rattle.ttp_world.specs.Script.{IsBounded, IsValidScript};
 
 use cluster_run::{Cluster, Watch};
-use host_port::SlotReport;
+use host_port::{ReadLine, SlotReport};
+use nbw_ring::Pair;
 use std::alloc::Global;
 use std::sync::Wait;
-use std::test::Fail;
 use std::thread::Threads;
 use ttp_base::{Gate, List, Memory, OpenGate};
 use ttp_world::{Event, Events, Kind, Medl, Script, SlotPlan, Source};
@@ -113,6 +113,10 @@ fn poll(alloc: Global, list: &Medl) -> Result<Script, Memory>
     Ok(script)
 }
 
+// Lets a cluster go. A function of its own, since what a cluster holds is let go part by part in each
+// function that may do so.
+fn let_go(_cluster: Cluster) {}
+
 // The cluster after so many slots.
 fn after<R: Threads + Wait + Sync, G: Gate>(
     rt: &R,
@@ -128,27 +132,48 @@ fn after<R: Threads + Wait + Sync, G: Gate>(
 {
     let mut cluster = Cluster::make(alloc, list, script)?;
     for _ in 0..slots {
-        cluster.slot(rt, gate)?;
+        if let Err(fault) = cluster.slot(rt, gate) {
+            let_go(cluster);
+            return Err(fault);
+        }
     }
     Ok(cluster)
 }
 
+// Whether a pair is the status of slot 10, or that of slot 11.
+fn is_status(pair: &Pair) -> bool {
+    if pair.number() == 11 {
+        pair.words() == [10u64, 1, 0x0000_0000_0001, 256].as_slice()
+    } else {
+        pair.number() == 12 && pair.words() == [11u64, 41, 0x0001_0001_0003, 256].as_slice()
+    }
+}
+
+fn is_poll(read: &ReadLine) -> bool {
+    read.host == 1 && read.source == Source::Status && is_status(&read.pair)
+}
+
+// Whether the host of node 1 alone has read, and read its status.
+fn is_polled(report: &SlotReport) -> bool {
+    report.reads.len() == 1 && is_poll(report.reads.get(0))
+}
+
+// Whether the host has read by the end of slot 11.
+fn polls<R: Threads + Wait + Sync>(rt: &R, alloc: Global, buffers: u8) -> Result<bool, Memory>
+    requires { (1 ≤ buffers) × (buffers ≤ 16) }
+{
+    let list = five_nodes(alloc, buffers)?;
+    let script = poll(alloc, &list)?;
+    let cluster = after(rt, alloc, list, script, 12, &OpenGate::new())?;
+    let is_right = is_polled(cluster.report());
+    let_go(cluster);
+    Ok(is_right)
+}
+
 #[test]
-fn a_host_polls_a_status(rt: HostRuntime) -> Result<(), Fail> {
+fn a_host_polls_a_status(rt: HostRuntime) -> Result<(), Memory> {
     for buffers in 1..5u8 {
-        let list = five_nodes(rt.alloc(), buffers)?;
-        let script = poll(rt.alloc(), &list)?;
-        let cluster = after(&rt, rt.alloc(), list, script, 12, &OpenGate::new())?;
-        let report = cluster.report();
-        assert!(rt; report.reads.len() == 1);
-        let read = report.reads.get(0);
-        assert!(rt; read.host == 1 && read.source == Source::Status);
-        if read.pair.number() == 11 {
-            assert!(rt; read.pair.words() == [10u64, 1, 0x0000_0000_0001, 256].as_slice());
-        } else {
-            assert!(rt; read.pair.number() == 12);
-            assert!(rt; read.pair.words() == [11u64, 41, 0x0001_0001_0003, 256].as_slice());
-        }
+        assert!(rt; polls(&rt, rt.alloc(), buffers)?);
     }
     Ok(())
 }
@@ -195,25 +220,43 @@ impl Watch for Counter {
     }
 }
 
+fn poll_cluster(alloc: Global) -> Result<Cluster, Memory> {
+    let list = five_nodes(alloc, 2)?;
+    let script = poll(alloc, &list)?;
+    Cluster::make(alloc, list, script)
+}
+
+// Whether a run ends after the slot that makes so many.
+fn is_ended<R: Threads + Wait + Sync>(
+    rt: &R,
+    cluster: &mut Cluster,
+    told: &mut Told,
+    most: u32,
+) -> bool {
+    let ended = cluster.run(rt, &mut Counter { most }, told, &OpenGate::new());
+    ended.is_err() && told.slots == most && cluster.done() == most
+}
+
+// Whether a run goes on to the end.
+fn is_whole<R: Threads + Wait + Sync>(rt: &R, cluster: &mut Cluster, told: &mut Told) -> bool {
+    let ended = cluster.run(rt, &mut Counter { most: 0 }, told, &OpenGate::new());
+    ended.is_ok() && told.slots == 20 && told.reads == 1 && cluster.done() == 20
+}
+
+// Who watches may end a run, and another one goes on.
+fn goes_on<R: Threads + Wait + Sync>(rt: &R, alloc: Global, most: u32) -> Result<bool, Memory> {
+    let mut cluster = poll_cluster(alloc)?;
+    let mut told = Told { slots: 0, reads: 0 };
+    let is_right = is_ended(rt, &mut cluster, &mut told, most)
+        && is_whole(rt, &mut cluster, &mut told);
+    let_go(cluster);
+    Ok(is_right)
+}
+
 #[test]
-fn a_run_tells_of_each_slot(rt: HostRuntime) -> Result<(), Fail> {
+fn a_run_tells_of_each_slot(rt: HostRuntime) -> Result<(), Memory> {
     for most in [1u32, 11, 12, 13, 20] {
-        let list = five_nodes(rt.alloc(), 2)?;
-        let script = poll(rt.alloc(), &list)?;
-        let mut cluster = Cluster::make(rt.alloc(), list, script)?;
-        let mut told = Told { slots: 0, reads: 0 };
-        // Who watches may end a run, and another one goes on.
-        let ended = cluster.run(&rt, &mut Counter { most }, &mut told, &OpenGate::new());
-        assert!(rt; ended.is_err() && told.slots == most && cluster.done() == most);
-        cluster.run(&rt, &mut Counter { most: 0 }, &mut told, &OpenGate::new())?;
-        assert_eq!(rt;
-            told,
-            Told {
-                slots: 20,
-                reads: 1
-            }
-        );
-        assert!(rt; cluster.done() == 20);
+        assert!(rt; goes_on(&rt, rt.alloc(), most)?, "at {most}");
     }
     Ok(())
 }

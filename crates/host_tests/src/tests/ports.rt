@@ -13,7 +13,6 @@ ghost use Rattle.host_port.specs.Reading.{AreReadersOf, IsLeft};
 use host_port::{ControllerEnd, Fetcher, HostEnd, HostReaders, Port, ReadLine, Try};
 use std::alloc::Global;
 use std::sync::Wait;
-use std::test::Fail;
 use std::thread::{Threads, join};
 use ttp_base::{List, Memory, OpenGate};
 use ttp_world::{
@@ -161,17 +160,24 @@ fn lines_after<R: Wait>(rt: &R, alloc: Global) -> Result<List<ReadLine>, Memory>
     port.settle_reads(&mut end, readers)
 }
 
-#[test]
-fn a_host_reads_what_its_controller_wrote(rt: HostRuntime) -> Result<(), Fail> {
-    let lines = lines_after(&rt, rt.alloc())?;
-    assert!(rt; lines.len() == 2);
-    let (first, second) = (lines.get(0), lines.get(1));
-    assert!(rt; first.host == 0 && first.source == Source::Node(1) && first.pair.number() == 1);
+// Whether host 0 read message 1 of a source, with these words.
+fn is_first(line: &ReadLine, source: Source, words: &[u64]) -> bool {
+    line.host == 0 && line.source == source && line.pair.number() == 1 && line.pair.words() == words
+}
+
+// Whether the host read the message of node 1, and then the status.
+fn are_firsts(lines: &List<ReadLine>) -> bool {
     // The first byte is the most significant one, and zeros are behind the last.
     let words = [0x0102_0304_0506_0708, 0x0900_0000_0000_0000];
-    assert!(rt; first.pair.words() == words.as_slice());
-    assert!(rt; second.host == 0 && second.source == Source::Status && second.pair.number() == 1);
-    assert!(rt; second.pair.words() == [10, 20, 30, 40].as_slice());
+    lines.len() == 2
+        && is_first(lines.get(0), Source::Node(1), &words)
+        && is_first(lines.get(1), Source::Status, &[10, 20, 30, 40])
+}
+
+#[test]
+fn a_host_reads_what_its_controller_wrote(rt: HostRuntime) -> Result<(), Memory> {
+    let lines = lines_after(&rt, rt.alloc())?;
+    assert!(rt; are_firsts(&lines));
     Ok(())
 }
 
@@ -188,14 +194,23 @@ fn lines_beside<R: Threads + Wait + Sync>(
     port.settle_reads(&mut end, readers)
 }
 
+// Whether message 0 or 1 of a source was read.
+fn is_early(line: &ReadLine, source: Source) -> bool {
+    line.source == source && line.pair.number() <= 1
+}
+
+// Whether the host read a message of node 1, and then a status.
+fn are_early(lines: &List<ReadLine>) -> bool {
+    lines.len() == 2
+        && is_early(lines.get(0), Source::Node(1))
+        && is_early(lines.get(1), Source::Status)
+}
+
 #[test]
-fn a_host_reads_beside_its_controller(rt: HostRuntime) -> Result<(), Fail> {
+fn a_host_reads_beside_its_controller(rt: HostRuntime) -> Result<(), Memory> {
     for buffers in 1..5u8 {
         let lines = lines_beside(&rt, rt.alloc(), buffers)?;
-        assert!(rt; lines.len() == 2);
-        let (first, second) = (lines.get(0), lines.get(1));
-        assert!(rt; first.source == Source::Node(1) && first.pair.number() <= 1);
-        assert!(rt; second.source == Source::Status && second.pair.number() <= 1);
+        assert!(rt; are_early(&lines));
     }
     Ok(())
 }
@@ -255,11 +270,15 @@ fn fetched_beside<R: Threads + Sync>(rt: &R, alloc: Global) -> Result<Option<(u6
     Ok(pair.words().first().map(|word| (number, *word)))
 }
 
+fn is_message(told: Option<(u64, u64)>) -> bool {
+    told == Some((0, 0)) || told == Some((1, 0x0102_0304_0506_0708))
+}
+
 #[test]
-fn a_controller_fetches_beside_its_host(rt: HostRuntime) -> Result<(), Fail> {
+fn a_controller_fetches_beside_its_host(rt: HostRuntime) -> Result<(), Memory> {
     for _ in 0..20u8 {
         let told = fetched_beside(&rt, rt.alloc())?;
-        assert!(rt; told == Some((0, 0)) || told == Some((1, 0x0102_0304_0506_0708)));
+        assert!(rt; is_message(told));
     }
     Ok(())
 }

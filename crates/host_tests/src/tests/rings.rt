@@ -5,14 +5,14 @@ mod scenes;
 
 ghost use Rattle.std.specs.Prelude.{◌≡◌, ◌<◌, ◌≤◌, IfOk, OnOk};
 
-use nbw_ring::{Reader, Ring, Try, Writer};
+use nbw_ring::{Pair, Reader, Ring, Try, Writer};
 use std::alloc::Global;
 use std::hint::spin_loop;
+use std::sync::Wait;
 use std::sync::atomic::Ordering::SeqCst;
 use std::sync::atomic::{AtomicBool, AtomicU64};
-use std::test::Fail;
 use std::thread::{Threads, join};
-use ttp_base::{Gate, Memory, OpenGate};
+use ttp_base::{Gate, List, Memory, OpenGate};
 
 // A hold lasts no longer.
 const TURNS: u32 = 10_000_000;
@@ -145,20 +145,37 @@ fn written(
     Ok((ring, writer))
 }
 
-#[test]
-fn a_message_is_written_and_read(rt: HostRuntime) -> Result<(), Fail> {
-    let (ring, mut writer) = written(rt.alloc(), 2, 2, 2)?;
+fn is_pair(pair: &Pair, number: u64, words: &[u64]) -> bool {
+    pair.number() == number && pair.words() == words
+}
+
+// Whether these are the pairs of messages 2 and 3.
+fn are_pairs(pairs: &List<Pair>) -> bool {
+    pairs.len() == 2
+        && is_pair(pairs.get(0), 2, &[128, 129])
+        && is_pair(pairs.get(1), 3, &[192, 193])
+}
+
+// Whether a reader gets the newest message, and then the one that is written next.
+fn is_read<R: Wait>(rt: &R, alloc: Global) -> Result<bool, Memory> {
+    let (ring, mut writer) = written(alloc, 2, 2, 2)?;
     let gate = OpenGate::new();
     let mut reader = ring.lend(&mut writer, 3)?;
-    assert!(rt; writer.number() == 2 && reader.spare() == 3);
-    assert!(rt; ring.read(&rt, &mut reader, &gate) == 2);
+    if writer.number() != 2 || reader.spare() != 3 || ring.read(rt, &mut reader, &gate) != 2 {
+        return Ok(false);
+    }
     write_next(&ring, &mut writer, 2, &gate);
-    assert!(rt; ring.try_read(&mut reader, &gate) == Try::Got { number: 3 });
-    assert!(rt; reader.spare() == 1 && reader.words() == [192, 193].as_slice());
+    if ring.try_read(&mut reader, &gate) != (Try::Got { number: 3 }) {
+        return Ok(false);
+    }
+    let is_read = reader.spare() == 1 && reader.words() == [192, 193].as_slice();
     let pairs = ring.settle(&mut writer, reader)?.into_pairs();
-    assert!(rt; pairs.len() == 2);
-    assert!(rt; pairs.get(0).number() == 2 && pairs.get(0).words() == [128, 129].as_slice());
-    assert!(rt; pairs.get(1).number() == 3 && pairs.get(1).words() == [192, 193].as_slice());
+    Ok(is_read && are_pairs(&pairs))
+}
+
+#[test]
+fn a_message_is_written_and_read(rt: HostRuntime) -> Result<(), Memory> {
+    assert!(rt; is_read(&rt, rt.alloc())?);
     Ok(())
 }
 
@@ -183,19 +200,28 @@ impl Places {
     }
 }
 
-#[test]
-fn each_step_on_a_word_passes_the_gate(rt: HostRuntime) -> Result<(), Fail> {
+// The places that are passed by a write, by an attempt to read and by a read, where both get message 5.
+fn passed<R: Wait>(rt: &R, alloc: Global) -> Result<[u64; 3], Memory> {
     let places = Places {
         digits: AtomicU64::new(0),
     };
-    let (ring, mut writer) = written(rt.alloc(), 3, 2, 4)?;
+    let (ring, mut writer) = written(alloc, 3, 2, 4)?;
     let mut reader = ring.lend(&mut writer, 2)?;
     write_next(&ring, &mut writer, 3, &places);
-    assert_eq!(rt; places.told(), 12223);
-    assert!(rt; ring.try_read(&mut reader, &places) == Try::Got { number: 5 });
-    assert_eq!(rt; places.told(), 45556);
-    assert_eq!(rt; ring.read(&rt, &mut reader, &places), 5);
-    assert_eq!(rt; places.told(), 45556);
+    let by_write = places.told();
+    if ring.try_read(&mut reader, &places) != (Try::Got { number: 5 }) {
+        return Ok([0; 3]);
+    }
+    let by_attempt = places.told();
+    if ring.read(rt, &mut reader, &places) != 5 {
+        return Ok([0; 3]);
+    }
+    Ok([by_write, by_attempt, places.told()])
+}
+
+#[test]
+fn each_step_on_a_word_passes_the_gate(rt: HostRuntime) -> Result<(), Memory> {
+    assert!(rt; passed(&rt, rt.alloc())? == [12223, 45556, 45556]);
     Ok(())
 }
 
@@ -258,33 +284,43 @@ fn played<R: Threads + Sync>(
     Ok((answer, scene.word_loads.load(SeqCst), right))
 }
 
+// Whether an attempt answers this in a scene, and the pairs that were got are right.
+fn is_answer<R: Threads + Sync>(
+    rt: &R,
+    alloc: Global,
+    buffers: usize,
+    places: (u32, u32),
+    wanted: Try,
+) -> Result<bool, Memory>
+    requires { (0 < buffers) × (buffers ≤ 16) }
+{
+    let (answer, _, right) = played(rt, alloc, buffers, places.0, places.1)?;
+    Ok(answer == wanted && right)
+}
+
+// Whether a ring of one buffer is not read while it is written.
+fn is_not_read<R: Threads + Sync>(rt: &R, alloc: Global) -> Result<bool, Memory> {
+    let open = Try::Overrun {
+        number: 3,
+        begin: 7,
+        end: 7,
+    };
+    let (answer, loads, right) = played(rt, alloc, 1, 0, 2)?;
+    Ok(answer == open && right && loads == 0)
+}
+
 #[test]
-fn the_last_load_decides(rt: HostRuntime) -> Result<(), Fail> {
+fn the_last_load_decides(rt: HostRuntime) -> Result<(), Memory> {
     // One message more leaves the buffer of message 3 as it is, and the next one begins to take it.
-    let (answer, _, right) = played(&rt, rt.alloc(), 2, 6, 0)?;
-    assert!(rt; answer == Try::Got { number: 3 } && right);
-    let (answer, _, right) = played(&rt, rt.alloc(), 2, 6, 2)?;
-    assert!(rt;
-        answer
-            == Try::Overrun {
-                number: 3,
-                begin: 6,
-                end: 9
-            }
-            && right
-    );
-    // A ring of one buffer is not read while it is written.
-    let (answer, loads, right) = played(&rt, rt.alloc(), 1, 0, 2)?;
-    assert!(rt;
-        answer
-            == Try::Overrun {
-                number: 3,
-                begin: 7,
-                end: 7
-            }
-            && right
-    );
-    assert!(rt; loads == 0);
+    let got = Try::Got { number: 3 };
+    assert!(rt; is_answer(&rt, rt.alloc(), 2, (6, 0), got)?);
+    let overrun = Try::Overrun {
+        number: 3,
+        begin: 6,
+        end: 9,
+    };
+    assert!(rt; is_answer(&rt, rt.alloc(), 2, (6, 2), overrun)?);
+    assert!(rt; is_not_read(&rt, rt.alloc())?);
     Ok(())
 }
 
@@ -366,7 +402,7 @@ fn is_stable<R: Threads + Sync>(
 }
 
 #[test]
-fn readers_get_what_was_written(rt: HostRuntime) -> Result<(), Fail> {
+fn readers_get_what_was_written(rt: HostRuntime) -> Result<(), Memory> {
     for buffers in [1, 2, 4, 16] {
         for width in [1, 4, 32] {
             assert!(rt; is_stable(&rt, rt.alloc(), width, buffers)?);

@@ -3,11 +3,11 @@
 
 ghost use Rattle.std.specs.Prelude.{◌<◌, ◌≤◌};
 
-use super::played;
+use super::is_answer;
 use nbw_ring::Try;
 use std::process::Abort;
-use std::test::Fail;
 use std::thread::Threads;
+use ttp_base::Memory;
 
 // In a scene of a ring with number 3 an attempt answers this, and the pairs that were got are right.
 fn plays<R: Threads + Sync + AllocGlobal + Abort>(
@@ -16,19 +16,17 @@ fn plays<R: Threads + Sync + AllocGlobal + Abort>(
     reader_place: u32,
     writer_place: u32,
     wanted: Try,
-) -> Result<(), Fail>
+) -> Result<(), Memory>
     requires { (0 < buffers) × (buffers ≤ 16) }
 {
-    let (answer, _, right) = played(rt, rt.alloc(), buffers, reader_place, writer_place)?;
-    assert!(rt;
-        answer == wanted && right,
-        "{buffers} {reader_place} {writer_place}"
-    );
+    let places = (reader_place, writer_place);
+    let is_right = is_answer(rt, rt.alloc(), buffers, places, wanted)?;
+    assert!(rt; is_right, "{buffers} {reader_place} {writer_place}");
     Ok(())
 }
 
 #[test]
-fn each_step_comes_behind_its_place(rt: HostRuntime) -> Result<(), Fail> {
+fn each_step_comes_behind_its_place(rt: HostRuntime) -> Result<(), Memory> {
     let open = Try::Overrun {
         number: 3,
         begin: 7,
