@@ -1,11 +1,11 @@
 -- Controllers in a slot of the world: what each stands for at each turn is its node of the slot after the history, and
 -- what they send in the second pass is on the medium.
-use Rattle.std.proofs.Common.{◌≡◌, ℕ, ◌<◌, ◌≤◌, ℤ, ◌+ℤ◌, Bool, List, [], ◌∷◌, length, min, Option}
+use Rattle.std.proofs.Common.{◌≡◌, ℕ, ◌<◌, ◌≤◌, ℤ, ◌+ℤ◌, Bool, List, [], ◌∷◌, ◌++◌, length, min, Option}
 use Rattle.std.proofs.Common.{is_some, refl, ap, sym, ◌∙◌, subst, arith, ◌+◌, get_or, set, unsigned_abs, pos}
 use Rattle.std.specs.List.{flat_map}
 use Rattle.std.specs.Option.{option_map_or}
 use Rattle.std.specs.Prelude.{slice_get, None, Some}
-use Rattle.std.proofs.lemmas.List.{length-map}
+use Rattle.std.proofs.lemmas.List.{append-nil, length-map}
 use Rattle.ttp_base.specs.NodeSet.{below}
 use Rattle.ttp_base.proofs.Below.{flat_map-next}
 use Rattle.ttp_world.specs.declared.medl.Medl.{Medl}
@@ -36,8 +36,7 @@ use Rattle.controller.specs.Hearing.{hearing_of}
 use Rattle.controller.specs.Limits.{view_clock, view_intent, turn_jump, IsBegun}
 use Rattle.controller.specs.Kept.{kept}
 use Rattle.controller.specs.Passes.{StandsAfter, StandsForNode, jump_begun, HasBegun, HasPlanned, frames_by, IsLeft}
-use Rattle.controller.specs.Passes.{Carries, payload_handed, HaveBegun, IsFromClocks, KeepsClocks}
-use Rattle.controller.specs.Passes.{IsPlannedFrom, PlansIn, PutsFrames}
+use Rattle.controller.specs.Passes.{Carries, payload_handed, HaveBegun, IsFromClocks, IsPlannedFrom, PlansIn, SendsOne}
 use Rattle.controller.specs.StandsFor.{Stands, IsSameNode, Begins, Plans, Ends, view_past, frames_planned, most_slots}
 use Rattle.controller.specs.StandsFor.{message_planned, clock_begun}
 use Rattle.controller.specs.ControllerView.{Turn, Ended, Begun, Planned, ControllerView}
@@ -173,6 +172,23 @@ module _ (list : Medl) (script : Script) (history : History) (k : ℕ) (node : k
         },
       )
 
+-- a seat that sends nothing leaves the medium as it is
+pub sends-nothing : {list : Medl} {script : Script} {k : ℕ} {chosen : Chosen} {carried : Carried} (old new : Seat)
+    → IsPlannedFrom old.controller new.controller → new.incidents ≡ old.incidents
+    → ((history : History) → HasBegun (slot_after list script history) k old.controller
+    → HasPlanned (slot_after list script history) chosen k new.controller
+    × ([] ≡ frames_by (slot_after list script history) chosen k))
+    → SendsOne list script k chosen old new carried carried
+sends-nothing {list = list} {script = script} {carried = carried} old new planned same plans = record {
+  planned = planned;
+  plans = λ history begun. (plans history begun).0;
+  incidents = same;
+  puts = λ history frames begun carries. subst
+      (λ (sent : List SentFrame). Carries (slot_after list script history) sent carried)
+      (sym (append-nil frames) ∙ ap (λ (sent : List SentFrame). frames ++ sent) (plans history begun).1) carries;
+  clocks = λ slot clock is from. from;
+}
+
 -- The second pass: node by node, controllers plan, and what they send is put on the medium.
 
 -- what a pass makes of node k's seat
@@ -205,29 +221,21 @@ module _ {list : Medl} {script : Script} {slot : ℕ} {chosen : List Chosen} whe
         subst (λ (t : ℕ). medium.StandsFor carried script t [] clock) (sym long) (begins script clock);
   }
 
-  pub AreSent-more : {k : ℕ} {old new : List Seat} {before after : Carried} {message : Chosen}
-      (d planned : Seat) → AreSent list script slot chosen k old new before → k < length old → message ≡ chosen_of chosen k
-      → IsPlannedFrom (get_or new k d).controller planned.controller
-      → PlansIn list script k message (get_or new k d).controller planned.controller
-      → planned.incidents ≡ (get_or new k d).incidents
-      → PutsFrames list script k (get_or new k d).controller message before after
-      → KeepsClocks script k (get_or new k d).controller before after
+  pub AreSent-more : {k : ℕ} {old new : List Seat} {before after : Carried} (d planned : Seat)
+      → AreSent list script slot chosen k old new before → k < length old
+      → SendsOne list script k (chosen_of chosen k) (get_or new k d) planned before after
       → AreSent list script slot chosen (k + 1) old (set new k planned) after
-  AreSent-more {k = k} {old = old} {new = new} {before = before} {after = after} d planned sent within is
-      by plans same puts clocks =
-      let view = (get_or new k d).controller in
+  AreSent-more {k = k} {old = old} {after = after} d planned sent within sends =
       let coming = ArePassed-coming sent.passed d within in
       record {
-        passed = ArePassed-more sent.passed d within
-            (by, subst (λ (m : Chosen). PlansIn list script k m view planned.controller) is plans, same);
-        from = clocks slot (clock_in old)
+        passed = ArePassed-more sent.passed d within (sends.planned, sends.plans, sends.incidents);
+        from = sends.clocks slot (clock_in old)
             (ap (λ (o : Option Seat). option_map_or (λ (seat : Seat). view_clock seat.controller) o (pos 0)) (sym coming))
             sent.from;
         carries = λ history long begun.
             let s = slot_after list script history in
             subst (λ (frames : List SentFrame). Carries s frames after) (sym (flat_map-next (frames_of s chosen) k))
-            (subst (λ (m : Chosen). PutsFrames list script k view m before after) is puts history _
-            (each-of begun k coming) (sent.carries history long begun));
+            (sends.puts history _ (each-of begun k coming) (sent.carries history long begun));
       }
 
   -- the medium is in that slot

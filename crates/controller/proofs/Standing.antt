@@ -1,5 +1,5 @@
 -- What a controller stands for at each turn of a slot: what it keeps is all that the rules ask of its node's past.
-use Rattle.std.proofs.Common.{◌≡◌, ℕ, zero, ◌+◌, ◌≤◌, min, ℤ, ◌+ℤ◌, Bool, true, false, cond, ◌&&◌, List, [], ◌∷◌}
+use Rattle.std.proofs.Common.{◌≡◌, ◌≢◌, ℕ, zero, ◌+◌, ◌≤◌, min, ℤ, ◌+ℤ◌, Bool, true, false, cond, ◌&&◌, List, [], ◌∷◌}
 use Rattle.std.proofs.Common.{length, take, refl, ap, sym, ◌∙◌, arith, ◌<◌, Some, None, Option, subst, suc, is_some}
 use Rattle.std.proofs.Common.{◌++◌}
 use Rattle.std.specs.Prelude.{nat_le}
@@ -184,6 +184,18 @@ abbrev pub IsFrameOf : Medl → ℕ → NodePast → Act → List ℕ → Option
 IsFrameOf list k past does payload planned =
     (chosen : Chosen) → payload_planned list past chosen does ≡ payload
     → frames_planned k planned ≡ node_frames list k past chosen does
+
+-- where it sends nothing, there is none
+never_quiet : (loads : Bool) → cond loads intent.Loaded intent.Bare ≢ intent.Quiet
+never_quiet true = λ quiet. cc
+never_quiet false = λ quiet. cc
+
+pub nothing-sent : (list : Medl) (k : ℕ) (past : NodePast) (does : Act) → intent_by list past does ≡ intent.Quiet
+    → IsFrameOf list k past does [] None
+nothing-sent list k past Start quiet chosen paid = absurd cc
+nothing-sent list k past Send quiet chosen paid =
+    absurd (never_quiet (carries_payload list (coming_place list past)) quiet)
+nothing-sent list k past _ quiet chosen paid = refl
 
 pub Plans-turn : (list : Medl) (k : ℕ) (past : NodePast) (slots : ℕ) (now : Turn) (does : Act) (jumped again : ℤ)
     (number : ℕ) (payload : List ℕ) (message : Option ℕ) (planned : Option (List ℕ))

@@ -202,3 +202,12 @@ pub record IsPlannedFrom (old new : ControllerView) : Type 0 where
   pub same : IsSameNode old new
   pub clock : view_clock new ≡ view_clock old
   pub turn : IsPlanned new.turn
+
+-- a seat of node k has planned, and what it sends is put on the medium
+pub record SendsOne (list : Medl) (script : Script) (k : ℕ) (chosen : Chosen) (old new : Seat) (before after : Carried)
+    : Type 0 where
+  pub planned : IsPlannedFrom old.controller new.controller
+  pub plans : PlansIn list script k chosen old.controller new.controller
+  pub incidents : new.incidents ≡ old.incidents
+  pub puts : PutsFrames list script k old.controller chosen before after
+  pub clocks : KeepsClocks script k old.controller before after

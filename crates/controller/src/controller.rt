@@ -1,5 +1,5 @@
 //! A controller: one node, slot by slot.
-ghost use Rattle.std.specs.Prelude.{◌≡◌, ◌&&◌, ◌<◌, ◌≤◌, ◌+◌, [], length, unsigned_abs, IsOk, IfOk};
+ghost use Rattle.std.specs.Prelude.{◌≡◌, ℕ, ◌&&◌, ◌<◌, ◌≤◌, ◌+◌, [], length, unsigned_abs, None, IsOk, IfOk};
 ghost use Rattle.ttp_world.specs.Act.{act};
 ghost use Rattle.ttp_world.specs.Medl.{IsValid};
 ghost use Rattle.ttp_world.specs.World.{jump_taken};
@@ -193,6 +193,24 @@ impl Controller {
         }
     }
 
+    /// The same, where the node sends nothing.
+    pub(crate) fn plan_nothing(&mut self)
+        requires turn { IsBegun self.old.turn }
+        requires quiet { view_intent self.old ≡ Intent.Quiet }
+        ensures same { IsSameNode self.old self.new }
+        ensures clock { view_clock self.new ≡ view_clock self.old }
+        ensures plans { (number : ℕ) → Plans self.old self.new number [] None }
+        ensures turn { IsPlanned self.new.turn }
+    {
+        if let Turn::Begun { act, jump } = self.turn {
+            self.turn = Turn::Planned {
+                act,
+                jump,
+                message: None,
+            };
+        }
+    }
+
     /// The end of the slot, by what came on both channels. The reading error is that of the node as
     /// a receiver in this slot, and the drift that of its clock, in microticks. A node that sent,
     /// left or retried in this slot hears nothing. What the slot leaves for the node's host is
@@ -241,13 +259,34 @@ impl Controller {
         ensures clock { StaysNear self.new.past.offset self.old a.now b.now error drift }
         ensures turn { self.new.turn ≡ Ended }
     {
-        if let Turn::Planned { act, jump, message } = self.turn {
-            self.end(list, act, jump, message, a, b, known, error, drift, outcome);
+        // Nodes mostly judge, so that is compiled by itself.
+        match self.turn {
+            Turn::Planned {
+                act: Act::Judge,
+                jump,
+                message,
+            } => self.end(
+                list,
+                Act::Judge,
+                jump,
+                message,
+                a,
+                b,
+                known,
+                error,
+                drift,
+                outcome,
+            ),
+            Turn::Planned { act, jump, message } => {
+                self.end(list, act, jump, message, a, b, known, error, drift, outcome);
+            }
+            Turn::Ended | Turn::Begun { .. } => {}
         }
     }
 
     // The end of a slot in which the node does this, and its clock jumped and its frame carried a
     // message so.
+    #[inline(always)]
     fn end(
         &mut self,
         list: &Medl,

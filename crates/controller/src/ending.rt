@@ -15,6 +15,7 @@ use medium::Arrival;
 use ttp_world::{Act, Delivered, Entry, Medl};
 
 // The slot of another node, which an active node judges.
+#[inline(always)]
 fn judged(
     list: &Medl,
     k: u8,
@@ -44,6 +45,7 @@ fn judged(
 /// How a slot ends for node k, by what it does in it and by what came on both channels: its entry is
 /// the answer, and what it hands to its host is written in place. `message` is that of its own frame,
 /// if that carries one.
+#[inline(always)]
 pub(crate) fn ending_of(
     list: &Medl,
     k: u8,

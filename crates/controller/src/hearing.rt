@@ -168,6 +168,7 @@ fn expected_of(list: &Medl, receiver: &Receiver) -> Expected
 }
 
 // Whether the bytes are the expected frame with these members, with others, or no frame of its form.
+#[inline(always)]
 fn match_with(
     list: &Medl,
     expected: &Expected,
@@ -188,6 +189,7 @@ fn match_with(
 }
 
 // Whether the bytes are the expected frame with the members of the second candidate.
+#[inline(always)]
 fn fits_second(list: &Medl, expected: &Expected, known: &mut KnownFrame) -> bool
     requires valid { IsValid list.now }
     requires expected { IsExpected list.now expected.now }
@@ -202,6 +204,7 @@ fn fits_second(list: &Medl, expected: &Expected, known: &mut KnownFrame) -> bool
 }
 
 // How bytes are seen that came within the window.
+#[inline(always)]
 fn view_of_frame(list: &Medl, expected: &Expected, known: &mut KnownFrame) -> ChannelView
     requires valid { IsValid list.now }
     requires expected { IsExpected list.now expected.now }
@@ -231,6 +234,7 @@ fn is_within_window(list: &Medl, deviation: i64) -> bool
     -list.window <= deviation && deviation <= list.window
 }
 
+#[inline(always)]
 fn view_of_bits(
     list: &Medl,
     expected: &Expected,
@@ -251,6 +255,7 @@ fn view_of_bits(
 }
 
 // What a receiver sees on a channel.
+#[inline(always)]
 fn see(
     list: &Medl,
     expected: &Expected,
@@ -303,6 +308,7 @@ fn is_first_view(view: ChannelView) -> bool
 }
 
 // A check word costs time, so channel B is judged only where A's view does not settle the verdict.
+#[inline(always)]
 fn judged_by(
     list: &Medl,
     expected: &Expected,
@@ -341,6 +347,7 @@ fn judged_by(
 /// What a receiver makes of what came on both channels: the verdict and the deviation of its entry.
 ///
 /// It costs at most two check words for each channel.
+#[inline(always)]
 pub(crate) fn judging(
     list: &Medl,
     receiver: &Receiver,

@@ -85,7 +85,9 @@ impl<'a> KnownFrame<'a> {
         }
     }
 
-    // Judges the bytes by a C-state of this place, and keeps what is found.
+    // Judges the bytes by a C-state of this place, and keeps what is found. It stands apart, so that a look at
+    // what is known is inlined.
+    #[inline(never)]
     fn judge_anew(&mut self, list: &Medl, place: &SlotClock, cstate: CState) -> FrameMatch
         requires list { self.old.list ≡ list.now }
         requires valid { IsValid list.now }
@@ -106,6 +108,7 @@ impl<'a> KnownFrame<'a> {
     /// form.
     ///
     /// It costs a check word, where it is not known yet.
+    #[inline(always)]
     pub(crate) fn judge(&mut self, list: &Medl, place: &SlotClock, members: NodeSet) -> FrameMatch
         requires list { self.old.list ≡ list.now }
         requires valid { IsValid list.now }

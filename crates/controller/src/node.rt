@@ -310,6 +310,7 @@ impl Node {
     }
 
     /// Takes one more entry of node k, with what came from outside in its slot.
+    #[inline(always)]
     pub(crate) fn enter(&mut self, list: &Medl, k: u8, entry: &Entry, outside: &Outside)
         requires valid { IsValid list.now }
         requires node { k < length list.now.slots }

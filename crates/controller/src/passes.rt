@@ -22,9 +22,9 @@ ghost use Rattle.ttp_world.specs.declared.script.Channel.TheVariants as ScriptCh
 ghost use Rattle.controller.specs.KnownFrames.{AreKnownOf};
 ghost use Rattle.controller.specs.Limits.{IsBegun, IsPlanned};
 ghost use Rattle.controller.specs.Passes.{StandAfter, HasBegun, HaveBegun, HavePlanned, Carries, HaveEnded};
-ghost use Rattle.controller.specs.Passes.{BeginsSlot, PlansSlot, PlansIn, PutsFrames, EndsSlot, IsPlannedFrom};
+ghost use Rattle.controller.specs.Passes.{BeginsSlot, PlansSlot, SendsOne, EndsSlot, IsPlannedFrom};
 ghost use Rattle.controller.specs.Passes.{ArePayloadsBefore, ArePayloadsFor, IsPayloadBefore, IsPayloadFor};
-ghost use Rattle.controller.specs.Passes.{KeepsClocks, payload_handed};
+ghost use Rattle.controller.specs.Passes.{payload_handed};
 ghost use Rattle.controller.specs.PlantWithin.{most_ahead, most_ahead_in, IsEnded, IsControllerOf, AreSeats};
 ghost use Rattle.controller.specs.PlantWithin.{IsIncidentsOf, AreIncidents, IsFromWithin};
 
@@ -47,10 +47,14 @@ fn begin_one(seat: &mut Seat, list: &Medl, script: &Script, k: u8, slot: u32)
         → IsPayloadFor seat.new.controller chosen }
 {
     let mut last = seat.controller.last_look_up();
-    let incidents = script.incidents_after(k, slot, &mut last);
-    seat.controller.begin(list, script.is_on(k, slot), incidents.armed, incidents.jump);
+    seat.incidents = script.incidents_after(k, slot, &mut last);
+    seat.controller.begin(
+        list,
+        script.is_on(k, slot),
+        seat.incidents.armed,
+        seat.incidents.jump,
+    );
     seat.controller.keep_look_up(last);
-    seat.incidents = incidents;
 }
 
 /// The first pass, over the seats of the nodes from `first` on: each begins the slot. What happens to
@@ -106,7 +110,29 @@ fn plan_one(controller: &mut Controller, list: &Medl, chosen: &Chosen) -> Option
     controller.plan(list, chosen.number, payload)
 }
 
-// A controller plans, and its frame is put on the medium, if it sends one.
+// A controller plans, and its frame is put on the medium, if it sends one. It stands apart, since room for a
+// frame is made in it.
+#[inline(never)]
+fn send_frame(
+    seat: &mut Seat,
+    medium: &mut Medium,
+    list: &Medl,
+    script: &Script,
+    k: u8,
+    chosen: &Chosen,
+)
+    requires node { k < length list.now.slots }
+    requires controller { IsControllerOf list.now IsBegun (most_ahead_in medium.old.slot) k seat.old.controller }
+    requires payload { IsPayloadFor seat.old.controller chosen.now }
+    requires incidents { IsIncidentsOf script.now medium.old.slot k seat.old.incidents }
+    ensures { SendsOne list.now script.now k chosen.now seat.old seat.new medium.old medium.new }
+{
+    if let Some(frame) = plan_one(&mut seat.controller, list, chosen) {
+        medium.put(script, &seat.incidents, k, &frame, seat.controller.clock());
+    }
+}
+
+// The same, by a shorter way for the many that send nothing.
 fn send_one(
     seat: &mut Seat,
     medium: &mut Medium,
@@ -119,14 +145,11 @@ fn send_one(
     requires controller { IsControllerOf list.now IsBegun (most_ahead_in medium.old.slot) k seat.old.controller }
     requires payload { IsPayloadFor seat.old.controller chosen.now }
     requires incidents { IsIncidentsOf script.now medium.old.slot k seat.old.incidents }
-    ensures incidents { seat.new.incidents ≡ seat.old.incidents }
-    ensures planned { IsPlannedFrom seat.old.controller seat.new.controller }
-    ensures plans { PlansIn list.now script.now k chosen.now seat.old.controller seat.new.controller }
-    ensures puts { PutsFrames list.now script.now k seat.old.controller chosen.now medium.old medium.new }
-    ensures clocks { KeepsClocks script.now k seat.old.controller medium.old medium.new }
+    ensures { SendsOne list.now script.now k chosen.now seat.old seat.new medium.old medium.new }
 {
-    if let Some(frame) = plan_one(&mut seat.controller, list, chosen) {
-        medium.put(script, &seat.incidents, k, &frame, seat.controller.clock());
+    match seat.controller.intent() {
+        Intent::Quiet => seat.controller.plan_nothing(),
+        Intent::Bare | Intent::Loaded => send_frame(seat, medium, list, script, k, chosen),
     }
 }
 

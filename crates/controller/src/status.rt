@@ -90,6 +90,7 @@ fn is_doubt(ack: Ack) -> bool
 }
 
 // The flags after a slot, in which the node delivered a payload or not, by what is shown of it.
+#[inline(always)]
 fn flags_of(list: &Medl, node: &Node, state: &NodeState, delivers: bool) -> StatusFlags
     requires valid { IsValid list.now }
     requires state { state.now ≡ state_of node.now }
@@ -124,6 +125,7 @@ fn cstate_number(list: &Medl, c: CState) -> u64
 /// The status words of a node after a slot: the slot's number, the flags, the C-state of an active
 /// node, and the counts.
 #[tactic(auto, using(crate::proofs::Sets::rooms))]
+#[inline(always)]
 pub(crate) fn status_words(
     list: &Medl,
     k: u8,

@@ -26,11 +26,13 @@ fn through<'a, 'b>(there: &'b Arrival<'a>, silenced: bool, noisy: bool) -> &'b A
     ensures shows { ShowsReceived there.now silenced noisy result.now }
     ensures part { IsPartOf there.now result.now }
 {
-    match there {
-        _ if silenced => &Arrival::Silence,
-        Arrival::Bits { .. } if noisy => &Arrival::Noise,
-        _ => there,
+    if silenced {
+        return &Arrival::Silence;
     }
+    if noisy && let Arrival::Bits { .. } = there {
+        return &Arrival::Noise;
+    }
+    there
 }
 
 /// What a node hears of what is on a channel, if `incidents` are what the script says of it in the slot.

@@ -145,6 +145,7 @@ impl Node {
     }
 
     // It judges the slot of another node.
+    #[inline(always)]
     fn judge(&mut self, list: &Medl, k: u8, sender: u8, verdict: Verdict, deviation: i64)
         requires valid { IsValid list.now }
         requires node { k < length list.now.slots }
@@ -152,12 +153,13 @@ impl Node {
         requires judged { IsJudgedWithin list.now k self.old sender verdict deviation }
         ensures { self.new ≡ stint_after list.now k self.old (Entry.Judged sender verdict deviation) }
     {
-        let asked = self.ack.step(sender, verdict);
         let clock = next_clock(list, &self.cstate);
         let mut members = Membership::of(self.cstate.members);
+        // Asked as late as may be, so that a compiler goes by the answer at once.
+        let asked = self.ack.step(sender, verdict);
         members.apply(asked, sender);
-        self.cstate = clock.cstate(members.set());
         self.counts.count(asked);
+        self.cstate = clock.cstate(members.set());
         note(
             &mut self.measures,
             list,
@@ -167,6 +169,7 @@ impl Node {
     }
 
     /// What one more entry makes of its stint. A C-state that it joins by is adopted as it is.
+    #[inline(always)]
     pub(crate) fn enter_stint(&mut self, list: &Medl, k: u8, entry: &Entry)
         requires valid { IsValid list.now }
         requires node { k < length list.now.slots }

@@ -9,19 +9,19 @@ use Rattle.controller.proofs.passes.begin_one.Goals as goal
 
 pub begin-requires-clause-clock : goal.begin-requires-clause-clock
 begin-requires-clause-clock c =
-    jump_fits c.args.slot c.requires.controller c.incidents_after-incidents.ensures.bounds c.requires.slot
+    jump_fits c.args.slot c.requires.controller c.incidents_after-seat.ensures.bounds c.requires.slot
 
 pub returns-clause-controller : goal.returns-clause-controller
 returns-clause-controller c =
     let begun = c.begin.ensures in
     rw c.keep_look_up.ensures
-    (begun-controller c.args.slot c.requires.controller c.incidents_after-incidents.ensures.bounds begun.same begun.clock begun.turn)
+    (begun-controller c.args.slot c.requires.controller c.incidents_after-seat.ensures.bounds begun.same begun.clock begun.turn)
 
 pub returns-clause-begins : goal.returns-clause-begins
 returns-clause-begins c history long stands =
     let script = c.args.script.now in
     let k = c.args.k in
-    let happens = c.incidents_after-incidents.ensures in
+    let happens = c.incidents_after-seat.ensures in
     rw c.keep_look_up.ensures
     (begun-node c.args.list.now script history k c.requires.node (c.is_on.ensures ∙ ap (is_on script k) (sym long))
     (ap (λ w. w.armed) happens.value ∙ ap (is_armed script k) (sym long))
@@ -31,7 +31,7 @@ returns-clause-begins c history long stands =
 pub returns-clause-payload : goal.returns-clause-payload
 returns-clause-payload c chosen before =
     let view = c.args.seat.now.controller in
-    let armed = ap (λ w. w.armed) c.incidents_after-incidents.ensures.value in
+    let armed = ap (λ w. w.armed) c.incidents_after-seat.ensures.value in
     rw c.keep_look_up.ensures
     (payload-begun c.args.script.now c.args.slot c.args.k chosen c.begin.ensures.same
     (c.begin.ensures.sends

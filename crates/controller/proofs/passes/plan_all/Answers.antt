@@ -5,7 +5,8 @@ use Rattle.ttp_base.specs.NodeSet.{below}
 use Rattle.ttp_world.specs.declared.events.Incidents.{Incidents}
 use Rattle.ttp_world.specs.Outgoing.{nothing_chosen}
 use Rattle.ttp_world.specs.World.{slot_after, frames_of}
-use Rattle.controller.specs.Passes.{Carries, IsPayloadFor}
+use Rattle.ttp_world.specs.declared.node.Chosen.{Chosen}
+use Rattle.controller.specs.Passes.{Carries, IsPayloadFor, SendsOne}
 use Rattle.controller.specs.PlantWithin.{IsIncidentsOf}
 use Rattle.controller.proofs.InSlot.{AreSent-none, AreSent-more, AreSent-slot, AreSent-near}
 use Rattle.controller.proofs.Near.{planned-controller}
@@ -36,11 +37,12 @@ send_one-requires-clause-incidents c =
 
 pub loop-k-preserved : goal.loop-k-preserved
 loop-k-preserved c =
-    let sent = c.send_one.ensures in
     AreSent-more c.index-seats-k.result _ c.loop-k.invariant (omega arith)
+    (subst (λ (m : Chosen). SendsOne c.args.list.now c.args.script.now c.loop-k.k m
+    (get_or c.loop-k.seats c.loop-k.k c.index-seats-k.result) c.send_one.new.seat c.loop-k.medium c.send_one.new.medium)
     (get_or_read c.args.chosen.now c.loop-k.k c.index-chosen-k.result
     (omega (arith, c.requires.count, c.requires.nodes)) c.index-chosen-k.is nothing_chosen)
-    sent.planned sent.plans sent.incidents sent.puts sent.clocks
+    c.send_one.ensures)
 
 pub returns-clause-seats : goal.returns-clause-seats
 returns-clause-seats c =

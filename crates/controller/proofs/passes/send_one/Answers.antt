@@ -1,20 +1,12 @@
-use Rattle.std.proofs.Common.{w64, ◌∙◌}
-use Rattle.std.proofs.lemmas.Int.{to_z-of_z}
-use Rattle.controller.proofs.InSlot.{clock-node}
+use Rattle.std.proofs.Common.{refl, sym, ◌∙◌}
+use Rattle.controller.specs.Passes.{payload_handed}
+use Rattle.controller.proofs.InSlot.{planned-node, sends-nothing}
 use Rattle.controller.proofs.passes.send_one.Goals as goal
 
-pub returns-in-Some-clause-puts : goal.returns-in-Some-clause-puts
-returns-in-Some-clause-puts c history frames begun carries =
-    let list = c.args.list.now in
-    let script = c.args.script.now in
-    let k = c.args.k in
-    let of = c.in-Some.ensures in
-    let offset = to_z-of_z w64 c.clock.result (record { sfits = c.clock.type_inv }) ∙ c.clock.ensures ∙ of.planned.clock
-    ∙ clock-node list script history k c.requires.node begun in
-    rw (← (of.plans list script history k c.requires.node begun).1) (c.put.ensures _ frames _ offset carries)
-
-pub returns-in-Some-clause-clocks : goal.returns-in-Some-clause-clocks
-returns-in-Some-clause-clocks c slot clock is from =
-    let offset = to_z-of_z w64 c.clock.result (record { sfits = c.clock.type_inv }) ∙ c.clock.ensures
-    ∙ c.in-Some.ensures.planned.clock ∙ is in
-    record { frames = _; stands = c.put.ensures slot from.frames clock offset from.stands }
+pub returns-in-Quiet : goal.returns-in-Quiet
+returns-in-Quiet c =
+    let chosen = c.args.chosen.now in
+    let of = c.plan_nothing.ensures in
+    sends-nothing c.args.seat.now _ (record { same = of.same; clock = of.clock; turn = of.turn }) refl (λ history begun.
+    planned-node c.args.list.now c.args.script.now history c.args.k c.requires.node chosen of.same
+    (of.plans chosen.number) (λ i. payload_handed ((sym c.in-Quiet.is ∙ c.intent.ensures) i) chosen) begun)

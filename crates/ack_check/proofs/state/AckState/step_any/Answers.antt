@@ -1,6 +1,6 @@
 use Rattle.ack_check.specs.Moves.{taken_verdict}
 use Rattle.ack_check.proofs.MoveLaws.{IsMoveOf-move_of}
-use Rattle.ack_check.proofs.state.AckState.step.Goals as goal
+use Rattle.ack_check.proofs.state.AckState.step_any.Goals as goal
 
 pub returns-clause-means : goal.returns-clause-means
 returns-clause-means c =
