@@ -7,7 +7,7 @@ use Rattle.ttp_world.specs.Hypothesis.{expected_sender}
 use Rattle.ttp_world.proofs.Lists.{nodes-most}
 use Rattle.hypothesis.specs.Standing.{told_start, told_loss}
 use Rattle.hypothesis.proofs.SlotSteps.{fallen-same, same_jumpers, same_loss, faulty-next, count-next, count-fits}
-use Rattle.hypothesis.proofs.walk.faults_in.Goals as goal
+use Rattle.hypothesis.proofs.walk.faults_of.Goals as goal
 
 sender-small : (list : Medl) (start : ClusterStart) (slot : ℕ) → IsValid list
     → expected_sender list start slot < most_nodes

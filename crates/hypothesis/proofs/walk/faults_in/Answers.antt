@@ -1,0 +1,19 @@
+use Rattle.std.proofs.Common.{arith}
+use Rattle.ttp_world.specs.Hypothesis.{numbers_of}
+use Rattle.hypothesis.specs.Standing.{told_start}
+use Rattle.hypothesis.proofs.Kept.{calm-faults}
+use Rattle.hypothesis.proofs.walk.faults_in.Goals as goal
+
+pub returns-then-is_calm : goal.returns-then-is_calm
+returns-then-is_calm c =
+    let list = c.args.list.now in
+    let script = c.args.script.now in
+    record {
+      kept = λ t from before. c.go_on.ensures.later t (omega (arith, from)) before;
+      faults = λ before same.
+          let calm = c.is_calm.ensures script (numbers_of before) c.go_on.ensures.now c.if-is_calm.true in
+          calm-faults list script (told_start c.args.start) c.args.slot before c.args.faulty calm.0 calm.1 same;
+    }
+
+pub returns-clause-kept : goal.returns-clause-kept
+returns-clause-kept c = λ t from before. c.go_on.ensures.later t (omega (arith, from)) before
