@@ -70,7 +70,7 @@ nothing-yet true None more from none = refl
 nothing-yet true (Some k) more from none = grind arith
 nothing-yet false found more from none = grind arith
 
-nothing : (found : Option ℕ) → is_some found ≡ false → found ≡ None
+pub nothing : (found : Option ℕ) → is_some found ≡ false → found ≡ None
 nothing None none = refl
 nothing (Some k) none = grind arith
 
@@ -95,3 +95,33 @@ lack-next enough fine lacks from slot near none at_start after = elim (cases_lt 
       (sym (lack-since enough lacks from slot (slot - from) since refl) ∙ missing)
       ∙ ap (λ b. cond b (Some slot) None) after ∙ told-by fine slot ∙ ap (λ k. cond fine None (Some k)) top
 ]
+
+first-fine : (b : Bool) (found : Option ℕ) (from : ℕ) → is_some (cond b found (Some from)) ≡ false → b ≡ true
+first-fine true found from none = refl
+first-fine false found from none = grind arith
+
+last-fine : (b lacks : Bool) (found : Option ℕ) (k from : ℕ)
+    → is_some (cond b (option_or found (cond (not lacks) (Some k) None)) (Some from)) ≡ false → lacks ≡ true
+last-fine true true None k from none = refl
+last-fine true false None k from none = grind arith
+last-fine true lacks (Some j) k from none = grind arith
+last-fine false lacks found k from none = grind arith
+
+-- where nothing was found so far, there is enough
+pub lack-none : (enough : ℕ → Bool) (from slot : ℕ) → from ≤ slot
+    → is_some (first_lack (enough from) (λ k. not (enough (suc k))) from slot) ≡ false → enough slot ≡ true
+lack-none enough from slot since none =
+    let lacks : ℕ → Bool = λ k. not (enough (suc k)) in
+    elim (cases_lt from slot) [
+      | inl less ↦
+          let last : suc (slot - 1) ≡ slot = omega (arith, less) in
+          let next : slot - 1 + 1 ≡ slot = omega (arith, less) in
+          ap enough (sym last)
+          ∙ last-fine (enough from) (enough (suc (slot - 1))) (find lacks (range_with_len from (slot - 1 - from))) (slot - 1)
+          from (ap is_some (sym (lack-more (enough from) lacks from (slot - 1) (omega (arith, less)))
+          ∙ ap (first_lack (enough from) lacks from) next) ∙ none)
+      | inr last ↦
+          let here : slot ≡ from = omega (arith, since, last) in
+          ap enough here ∙ first-fine (enough from) (find lacks (range_with_len from (slot - from))) from
+          (ap is_some (sym (lack-since (enough from) lacks from slot (slot - from) since refl)) ∙ none)
+    ]

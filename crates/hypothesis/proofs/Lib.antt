@@ -12,3 +12,4 @@ pub mod Stayers
 pub mod LongFaulty
 pub mod ArmLines
 pub mod ErrorFree
+pub mod Kept

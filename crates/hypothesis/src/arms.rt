@@ -1,5 +1,5 @@
 //! Arm lines: what is asked of each, in the four rounds from its slot on.
-ghost use Rattle.std.specs.Prelude.{◌≡◌, ℕ, ◌+◌, ◌^◌, ◌<◌, ◌≤◌, nat_lt, min, ◌&&◌, List, length};
+ghost use Rattle.std.specs.Prelude.{◌≡◌, ℕ, ◌+◌, ◌^◌, ◌<◌, ◌≤◌, nat_lt, min, ◌&&◌, List, length, None};
 ghost use Rattle.std.specs.List.{list_any};
 ghost use Rattle.ttp_base.specs.NodeSet.{most_nodes};
 ghost use Rattle.ttp_world.specs.Hypothesis.{ClusterStart, nodes_of, numbers_of};
@@ -8,16 +8,17 @@ ghost use Rattle.ttp_world.specs.Returning.{is_long_faulty, two_rounds, four_rou
 ghost use Rattle.ttp_world.specs.Returning.{is_arm_line, is_left_alone};
 ghost use Rattle.ttp_world.specs.Returning.{is_line_of, touches, is_sound, is_deaf, is_missed_in, is_heard, round_of};
 ghost use Rattle.ttp_world.specs.Returning.{offers_place, is_offered, may_return, fails_if_armed, breaks_arm_in};
-ghost use Rattle.ttp_world.specs.Returning.{faulty_at};
+ghost use Rattle.ttp_world.specs.Returning.{disturbance_broken, faulty_at};
 ghost use Rattle.ttp_world.specs.Script.{IsValidScript};
 ghost use Rattle.ttp_world.specs.declared.medl.Medl.{Medl};
 ghost use Rattle.ttp_world.specs.declared.script.Script.{Script};
 ghost use Rattle.hypothesis.specs.FaultySlots.{kept_slots, AreNewest, HasRoundsFrom};
+ghost use Rattle.hypothesis.specs.SlotIncidents.{AreKeptFrom};
 ghost use Rattle.hypothesis.specs.Standing.{told_start, HaveSameNodes};
 ghost use Rattle.hypothesis.specs.Walks.{joined_in};
 
-use crate::incidents::LastLookUps;
-use crate::losses::expected_sender;
+use crate::incidents::{KeptIncidents, go_on};
+use crate::losses::{Jumps, expected_sender};
 use crate::newest::{NewestSlots, slot_at};
 use crate::start::Start;
 use ttp_base::NodeSet;
@@ -366,26 +367,33 @@ fn fails_if_armed(
     !may_return(list, script, start, newest, node, slot)
 }
 
-/// Whether a node that is armed in a slot does not meet what is asked of it, looked up after the last
-/// slot's.
+/// Whether a node that is armed in a slot does not meet what is asked of it. A few steps where none is and
+/// the same happens as in the slot before.
 pub(crate) fn breaks_arm_in(
     list: &Medl,
     script: &Script,
     start: Start,
     newest: &NewestSlots,
     slot: u32,
-    last: &mut LastLookUps,
+    kept: &mut KeptIncidents,
 ) -> bool
     requires valid { IsValid list.now }
     requires script { IsValidScript list.now script.now }
     requires slot { slot < script.now.slots }
     requires come { HasRoundsFrom list.now script.now slot newest.now.end }
     requires newest { AreNewest list.now script.now (told_start start) newest.now }
-    ensures { result ≡ breaks_arm_in list.now script.now (told_start start) slot }
+    requires inside { disturbance_broken list.now script.now ≡ None }
+    requires kept { AreKeptFrom list.now script.now slot kept.old }
+    ensures kept { AreKeptFrom list.now script.now (slot + 1) kept.new }
+    ensures value { result ≡ breaks_arm_in list.now script.now (told_start start) slot }
 {
+    go_on(list, script, Jumps::Far, slot, kept);
+    if !kept.incidents.kinds.arm {
+        return false;
+    }
     for node in 0..list.nodes() {
-        let incidents = script.incidents_after(node, slot, &mut last.nodes[node as usize]);
-        if fails_if_armed(list, script, start, newest, node, slot, incidents.armed) {
+        let armed = kept.incidents.nodes[node as usize].armed;
+        if fails_if_armed(list, script, start, newest, node, slot, armed) {
             return true;
         }
     }

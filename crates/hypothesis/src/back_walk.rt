@@ -1,5 +1,5 @@
 //! The walk over the slots of a run in which faulty nodes come back.
-ghost use Rattle.std.specs.Prelude.{◌≡◌, ℕ, ◌+◌, ◌*◌, ◌<◌, ◌≤◌, true, false, Some, None, MatchOption};
+ghost use Rattle.std.specs.Prelude.{◌≡◌, ℕ, ◌+◌, ◌-◌, ◌*◌, ◌<◌, ◌≤◌, true, false, Some, None, MatchOption};
 ghost use Rattle.ttp_base.specs.NodeSet.{most_nodes};
 ghost use Rattle.ttp_world.specs.Hypothesis.{start_of, numbers_of};
 ghost use Rattle.ttp_world.specs.Medl.{IsValid};
@@ -8,12 +8,13 @@ ghost use Rattle.ttp_world.specs.Returning.{four_rounds, breaks_arm_in, unless_b
 ghost use Rattle.ttp_world.specs.Script.{IsValidScript};
 ghost use Rattle.ttp_world.specs.declared.keep.Back.TheVariants as back;
 ghost use Rattle.hypothesis.specs.FaultySlots.{AreNewest};
+ghost use Rattle.hypothesis.specs.SlotIncidents.{AreKeptFrom};
 ghost use Rattle.hypothesis.specs.Standing.{told_start, HaveSameNodes};
 ghost use Rattle.hypothesis.specs.Walks.{back_course, AreFaultsOf, HasWalked};
 
 use crate::arms::{breaks_arm_in, four_rounds};
 use crate::forgiven::{faulty_then, stayed_in};
-use crate::incidents::{LastLookUps, no_look_ups};
+use crate::incidents::{KeptIncidents, nothing_kept};
 use crate::losses::Jumps;
 use crate::newest::{FaultySlot, NewestSlots, add_slot, no_slots};
 use crate::start::Start;
@@ -30,7 +31,7 @@ pub(crate) fn back_faults_in(
     jumps: Jumps,
     newest: &mut NewestSlots,
     faulty: NodeSet,
-    last: &mut LastLookUps,
+    kept: &mut KeptIncidents,
 ) -> SlotFaults
     requires valid { IsValid list.now }
     requires script { IsValidScript list.now script.now }
@@ -39,6 +40,8 @@ pub(crate) fn back_faults_in(
     requires newest { AreNewest list.now script.now (told_start start) newest.old }
     requires faulty { HaveSameNodes faulty
         (numbers_of (faulty_since (slots_before list.now script.now (told_start start) newest.old.end))) }
+    requires kept { AreKeptFrom list.now script.now newest.old.end kept.old }
+    ensures kept { AreKeptFrom list.now script.now (newest.old.end + 1) kept.new }
     ensures end { newest.new.end ≡ newest.old.end + 1 }
     ensures newest { AreNewest list.now script.now (told_start start) newest.new }
     ensures faults { AreFaultsOf (back_course list.now script.now (told_start start)) newest.old.end result }
@@ -47,7 +50,7 @@ pub(crate) fn back_faults_in(
     let rounds = four_rounds(list);
     let then = faulty_then(newest, rounds);
     let stayed = stayed_in(script, then, slot.saturating_sub(rounds), faulty);
-    let faults = faults_in(list, script, start, jumps, slot, stayed, last);
+    let faults = faults_in(list, script, start, jumps, slot, stayed, kept);
     add_slot(
         newest,
         FaultySlot {
@@ -65,7 +68,7 @@ fn back_over(
     start: Start,
     newest: &mut NewestSlots,
     walk: Walk,
-    last: &mut LastLookUps,
+    kept: &mut KeptIncidents,
 ) -> Option<Walk>
     requires valid { IsValid list.now }
     requires script { IsValidScript list.now script.now }
@@ -74,6 +77,8 @@ fn back_over(
     requires newest { AreNewest list.now script.now (told_start start) newest.old }
     requires walked { HasWalked list.now script.now (told_start start)
         (back_course list.now script.now (told_start start)) newest.old.end walk }
+    requires kept { AreKeptFrom list.now script.now newest.old.end kept.old }
+    ensures kept { AreKeptFrom list.now script.now (newest.old.end + 1) kept.new }
     ensures end { newest.new.end ≡ newest.old.end + 1 }
     ensures newest { AreNewest list.now script.now (told_start start) newest.new }
     ensures walk { MatchOption result
@@ -83,7 +88,7 @@ fn back_over(
         (back_course list.now script.now (told_start start)) (newest.old.end + 1) walk) }
 {
     let slot = newest.end;
-    let faults = back_faults_in(list, script, start, Jumps::Far, newest, walk.faulty, last);
+    let faults = back_faults_in(list, script, start, Jumps::Far, newest, walk.faulty, kept);
     walk_with(list, script, start, slot, walk, faults)
 }
 
@@ -94,19 +99,21 @@ fn late_arms_broken(
     script: &Script,
     start: Start,
     newest: &NewestSlots,
-    last: &mut LastLookUps,
+    kept: &mut KeptIncidents,
 ) -> Option<u32>
     requires valid { IsValid list.now }
     requires script { IsValidScript list.now script.now }
     requires end { newest.now.end ≡ script.now.slots }
     requires newest { AreNewest list.now script.now (told_start start) newest.now }
+    requires inside { disturbance_broken list.now script.now ≡ None }
+    requires kept { AreKeptFrom list.now script.now (script.now.slots + 1 - four_rounds list.now) kept.old }
     requires before { (t : ℕ) → t + four_rounds list.now ≤ script.now.slots
         → breaks_arm_in list.now script.now (told_start start) t ≡ false }
     ensures { result ≡ arms_broken list.now script.now (told_start start) }
 {
     let from = (script.slots + 1).saturating_sub(four_rounds(list));
     for slot in from..script.slots {
-        if breaks_arm_in(list, script, start, newest, slot, last) {
+        if breaks_arm_in(list, script, start, newest, slot, kept) {
             return Some(slot);
         }
     }
@@ -124,8 +131,8 @@ fn arms_broken(list: &Medl, script: &Script, start: Start) -> Option<u32>
     let rounds = four_rounds(list);
     let mut newest = no_slots();
     let mut faulty = NodeSet::empty();
-    let mut last = no_look_ups();
-    let mut arms = no_look_ups();
+    let mut kept = nothing_kept();
+    let mut arms = nothing_kept();
     for slot in 0..script.slots {
         faulty = back_faults_in(
             list,
@@ -134,7 +141,7 @@ fn arms_broken(list: &Medl, script: &Script, start: Start) -> Option<u32>
             Jumps::Far,
             &mut newest,
             faulty,
-            &mut last,
+            &mut kept,
         )
         .faulty;
         let has_come = slot + 1 >= rounds;
@@ -178,9 +185,9 @@ pub(crate) fn started_back(list: &Medl, script: &Script, start: Start) -> Back
 {
     let mut walk = first_walk(list, start);
     let mut newest = no_slots();
-    let mut last = no_look_ups();
+    let mut kept = nothing_kept();
     for slot in 0..script.slots.max(start.slot) {
-        match back_over(list, script, start, &mut newest, walk, &mut last) {
+        match back_over(list, script, start, &mut newest, walk, &mut kept) {
             Some(next) => walk = next,
             None => return Back::No { rule: 5, slot },
         }

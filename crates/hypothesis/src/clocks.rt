@@ -1,6 +1,6 @@
 //! Clocks and the window: each drift and each sum of reading errors is within its bound, and the
 //! window is as wide as a deviation between correct nodes needs.
-ghost use Rattle.std.specs.Prelude.{◌≡◌, ◌*◌, ◌<◌, pos, ◌*ℤ◌, ◌≤ℤ◌, length, All};
+ghost use Rattle.std.specs.Prelude.{◌≡◌, ℕ, ◌*◌, ◌<◌, ◌≤◌, pos, ◌*ℤ◌, ◌≤ℤ◌, true, length, All, is_some, IfSome};
 ghost use Rattle.std.specs.List.{list_any};
 ghost use Rattle.ttp_world.specs.Hypothesis.{is_within_bound, drifts_hold, errors_hold_in, clocks_broken};
 ghost use Rattle.ttp_world.specs.Hypothesis.{window_broken};
@@ -45,25 +45,30 @@ pub fn drifts_hold(list: &Medl, script: &Script) -> bool
     true
 }
 
-// Whether each node's reading errors of a slot add up to no more than a bound, looked up after the last slot's.
+// Where each node's reading errors of a slot add up to no more than a bound, the first slot after it in
+// which one's may add up to something else. They are looked up after the last slot's.
 fn errors_within(
     list: &Medl,
     script: &Script,
     bound: i64,
     slot: u32,
     last: &mut LastLookUps,
-) -> bool
+) -> Option<u32>
     requires valid { IsValid list.now }
     requires bound { pos 0 ≤ℤ bound }
-    ensures { result ≡ errors_hold_within list.now script.now bound slot }
+    ensures value { is_some result ≡ errors_hold_within list.now script.now bound slot }
+    ensures stands { IfSome result (λ until. (t : ℕ) → slot ≤ t → t < until
+        → errors_hold_within list.now script.now bound t ≡ true) }
 {
+    let mut until = u32::MAX;
     for node in 0..list.nodes() {
-        let incidents = script.incidents_after(node, slot, &mut last.nodes[node as usize]);
-        if !is_within_bound(bound, incidents.error) {
-            return false;
+        let standing = script.incidents_from(node, slot, &mut last.nodes[node as usize]);
+        if !is_within_bound(bound, standing.incidents.error) {
+            return None;
         }
+        until = until.min(standing.until);
     }
-    true
+    Some(until)
 }
 
 /// Whether each node's reading errors of a slot add up to no more than a bound, either way, in
@@ -73,15 +78,33 @@ pub fn errors_hold_within(list: &Medl, script: &Script, bound: i64, slot: u32) -
     requires bound { pos 0 ≤ℤ bound }
     ensures { result ≡ errors_hold_within list.now script.now bound slot }
 {
-    errors_within(list, script, bound, slot, &mut no_look_ups())
+    errors_within(list, script, bound, slot, &mut no_look_ups()).is_some()
 }
 
-// Whether each node's reading errors of a slot add up to no more than the list's.
-fn errors_hold_in(list: &Medl, script: &Script, slot: u32, last: &mut LastLookUps) -> bool
-    requires { IsValid list.now }
-    ensures { result ≡ errors_hold_in list.now script.now slot }
+// Whether each node's reading errors of a slot add up to no more than the list's. It is asked anew where they
+// were not known to do so up to a later slot.
+fn errors_hold_in(
+    list: &Medl,
+    script: &Script,
+    slot: u32,
+    until: &mut u32,
+    last: &mut LastLookUps,
+) -> bool
+    requires valid { IsValid list.now }
+    requires known { (t : ℕ) → slot ≤ t → t < until.old → errors_hold_in list.now script.now t ≡ true }
+    ensures known { (t : ℕ) → slot ≤ t → t < until.new → errors_hold_in list.now script.now t ≡ true }
+    ensures value { result ≡ errors_hold_in list.now script.now slot }
 {
-    errors_within(list, script, list.error, slot, last)
+    if slot < *until {
+        return true;
+    }
+    match errors_within(list, script, list.error, slot, last) {
+        Some(next) => {
+            *until = next;
+            true
+        }
+        None => false,
+    }
 }
 
 // Whether an event is a reading error.
@@ -111,9 +134,10 @@ pub(crate) fn clocks_broken(list: &Medl, script: &Script) -> Option<u32>
     if !has_errors(script.events.as_slice()) {
         return None;
     }
+    let mut until = 0;
     let mut last = no_look_ups();
     for slot in 0..script.slots {
-        if !errors_hold_in(list, script, slot, &mut last) {
+        if !errors_hold_in(list, script, slot, &mut until, &mut last) {
             return Some(slot);
         }
     }

@@ -1,14 +1,16 @@
 //! The faulty nodes of a run, slot by slot, whichever rules its script breaks.
-ghost use Rattle.std.specs.Prelude.{◌≡◌, ◌+◌, ◌<◌, Some, None};
+ghost use Rattle.std.specs.Prelude.{◌≡◌, ℕ, ◌+◌, ◌<◌, Some, None};
 ghost use Rattle.ttp_world.specs.Hypothesis.{start_of, faulty_after, numbers_of};
 ghost use Rattle.ttp_world.specs.Medl.{IsValid};
 ghost use Rattle.ttp_world.specs.Returning.{disturbance_broken, back_faulty_after};
 ghost use Rattle.ttp_world.specs.Script.{IsValidScript};
-ghost use Rattle.hypothesis.specs.FaultyRuns.{IsKeptAt, IsBackAt};
+ghost use Rattle.ttp_world.specs.declared.medl.Medl.{Medl};
+ghost use Rattle.ttp_world.specs.declared.script.Script.{Script};
+ghost use Rattle.hypothesis.specs.FaultyRuns.{KnowsKept, IsKeptAt, KnowsBack, IsBackAt};
 ghost use Rattle.hypothesis.specs.Standing.{told_start, HaveSameNodes};
 
 use crate::back_walk::back_faults_in;
-use crate::incidents::{LastLookUps, no_look_ups};
+use crate::incidents::{KeptIncidents, forgotten, nothing_kept};
 use crate::losses::Jumps;
 use crate::newest::{NewestSlots, no_slots};
 use crate::outside::disturbance_broken;
@@ -20,14 +22,15 @@ use ttp_world::{Medl, Script};
 /// A walk over the slots of a run, by the single-fault hypothesis: a node that is faulty stays so. A slot
 /// whose losses break the rule on them makes nobody faulty by these.
 ///
-/// It takes no memory. A slot costs two look-ups for each node, and where the script has jumps that no rule
-/// allows, all of its events for each node.
+/// It takes no memory. A slot in which something else happens than in the one before costs a look-up for each
+/// node, one in which a frame may be lost or a clock jumps goes over the nodes, and each other a few steps.
+/// Where the script has jumps that no rule allows, the first goes over all events, and the second for each node.
 #[derive(Clone, Copy)]
 pub struct KeptFaulty {
     start: Start,
     jumps: Jumps,
     faulty: NodeSet,
-    last: LastLookUps,
+    kept: KeptIncidents,
 }
 
 /// The same by the test on armed nodes: four rounds after it was armed a node that was faulty is so no
@@ -38,7 +41,7 @@ pub struct BackFaulty {
     jumps: Jumps,
     newest: NewestSlots,
     faulty: NodeSet,
-    last: LastLookUps,
+    kept: KeptIncidents,
 }
 
 // Which jumps a script has.
@@ -65,7 +68,20 @@ impl KeptFaulty {
             start,
             jumps: jumps_of(list, script),
             faulty: NodeSet::empty(),
-            last: no_look_ups(),
+            kept: nothing_kept(),
+        }
+    }
+
+    /// The walk over the same slots by a script that may say something else of those to come.
+    pub fn forgetting(&self) -> KeptFaulty
+        ensures { (list : Medl) (script : Script) (slot : ℕ) → KnowsKept list script slot self.now
+            → IsKeptAt list script slot result }
+    {
+        KeptFaulty {
+            start: self.start,
+            jumps: self.jumps,
+            faulty: self.faulty,
+            kept: forgotten(self.kept),
         }
     }
 
@@ -84,7 +100,7 @@ impl KeptFaulty {
             self.jumps,
             slot,
             self.faulty,
-            &mut self.last,
+            &mut self.kept,
         );
         self.faulty = faults.faulty;
         faults.faulty
@@ -104,7 +120,21 @@ impl BackFaulty {
             jumps: jumps_of(list, script),
             newest: no_slots(),
             faulty: NodeSet::empty(),
-            last: no_look_ups(),
+            kept: nothing_kept(),
+        }
+    }
+
+    /// The walk over the same slots by a script that may say something else of those to come.
+    pub fn forgetting(&self) -> BackFaulty
+        ensures { (list : Medl) (script : Script) (slot : ℕ) → KnowsBack list script slot self.now
+            → IsBackAt list script slot result }
+    {
+        BackFaulty {
+            start: self.start,
+            jumps: self.jumps,
+            newest: self.newest,
+            faulty: self.faulty,
+            kept: forgotten(self.kept),
         }
     }
 
@@ -124,7 +154,7 @@ impl BackFaulty {
             self.jumps,
             &mut self.newest,
             self.faulty,
-            &mut self.last,
+            &mut self.kept,
         );
         self.faulty = faults.faulty;
         faults.faulty

@@ -52,6 +52,9 @@ pub(crate) fn stayed_in(script: &Script, then: NodeSet, slot: u32, faulty: NodeS
         → HaveSameNodes result (numbers_of
         (filter (λ f. not (has_node thens f.node && is_armed script.now f.node slot)) before)) }
 {
+    if then.first().is_none() {
+        return faulty;
+    }
     let mut stayed = NodeSet::empty();
     for node in 0..24u8 {
         if stays(script, then, slot, faulty, node) {

@@ -1,19 +1,49 @@
-//! What happens to the nodes in a slot, of which each is looked up once.
+//! What happens to the nodes in a slot. It is kept for as long as it stands, and then looked up anew.
+ghost use Rattle.std.specs.Prelude.{◌≡◌, ℕ, ◌+◌, ◌<◌, ◌≤◌, max, false, pos, length};
 ghost use Rattle.ttp_world.specs.Medl.{IsValid};
-ghost use Rattle.hypothesis.specs.SlotIncidents.{AreIncidentsIn};
+ghost use Rattle.ttp_world.specs.Returning.{disturbance_broken};
+ghost use Rattle.ttp_world.specs.Script.{incidents_of};
+ghost use Rattle.ttp_world.specs.declared.events.Incidents.{Incidents};
+ghost use Rattle.ttp_world.specs.declared.medl.Medl.{Medl};
+ghost use Rattle.ttp_world.specs.declared.script.Script.{Script};
+ghost use Rattle.hypothesis.specs.SlotIncidents.{AreIncidentsIn, IsOfKinds, AreKeptIn, AreKeptFrom};
 
-use ttp_world::{Incidents, LastLookUp, Medl, Script};
+use crate::losses::{Jumps, may_jump};
+use ttp_world::{Channels, Incidents, LastLookUp, Medl, Script};
 
-/// What happens to each node in a slot.
+/// Which kinds of incidents there are among those of some nodes.
+#[derive(Clone, Copy)]
+pub(crate) struct Kinds {
+    /// The channels on which one of them hears nothing.
+    pub(crate) unheard: Channels,
+    /// Whether the jumps of one's clock add up to something.
+    pub(crate) jump: bool,
+    /// Whether one of them is armed.
+    pub(crate) arm: bool,
+}
+
+/// What happens to each node from a slot on.
 #[derive(Clone, Copy)]
 pub(crate) struct SlotIncidents {
     pub(crate) nodes: [Incidents; 24],
+    pub(crate) kinds: Kinds,
+    /// The first slot after that one in which something else may happen to one of them.
+    pub(crate) until: u32,
 }
 
 /// Where what happens to each node was looked up last, in a walk over the slots.
 #[derive(Clone, Copy)]
 pub(crate) struct LastLookUps {
     pub(crate) nodes: [LastLookUp; 24],
+}
+
+/// What a walk over the slots keeps of what happens to the nodes.
+#[derive(Clone, Copy)]
+pub(crate) struct KeptIncidents {
+    pub(crate) incidents: SlotIncidents,
+    /// Whether a clock may jump.
+    pub(crate) jump: bool,
+    last: LastLookUps,
 }
 
 /// Nothing was looked up yet.
@@ -23,19 +53,107 @@ pub(crate) fn no_look_ups() -> LastLookUps {
     }
 }
 
-/// What happens to each node of a list in a slot.
-pub(crate) fn incidents_in(
-    list: &Medl,
-    script: &Script,
-    slot: u32,
-    last: &mut LastLookUps,
-) -> SlotIncidents
-    requires { IsValid list.now }
-    ensures { AreIncidentsIn list.now script.now slot result }
-{
-    let mut nodes = [script.incidents_after(0, slot, &mut last.nodes[0]); 24];
-    for node in 1..list.nodes() {
-        nodes[node as usize] = script.incidents_after(node, slot, &mut last.nodes[node as usize]);
+// No kinds.
+fn no_kinds() -> Kinds {
+    Kinds {
+        unheard: Channels { a: false, b: false },
+        jump: false,
+        arm: false,
     }
-    SlotIncidents { nodes }
+}
+
+/// Nothing is kept yet.
+pub(crate) fn nothing_kept() -> KeptIncidents
+    ensures { (list : Medl) (script : Script) (slot : ℕ) → AreKeptFrom list script slot result }
+{
+    let none = Channels { a: false, b: false };
+    let nothing = Incidents {
+        send_silence: none,
+        send_noise: none,
+        receive_silence: none,
+        receive_noise: none,
+        has_flip: false,
+        armed: false,
+        error: 0,
+        jump: 0,
+    };
+    KeptIncidents {
+        incidents: SlotIncidents {
+            nodes: [nothing; 24],
+            kinds: no_kinds(),
+            until: 0,
+        },
+        jump: false,
+        last: no_look_ups(),
+    }
+}
+
+/// Nothing is kept any longer. The next look-ups begin where the last ended.
+pub(crate) fn forgotten(mut kept: KeptIncidents) -> KeptIncidents
+    ensures { (list : Medl) (script : Script) (slot : ℕ) → AreKeptFrom list script slot result }
+{
+    kept.incidents.until = 0;
+    kept
+}
+
+// Whether the jumps of a clock add up to something.
+fn moves_clock(incidents: &Incidents) -> bool
+    ensures { result ≡ false → incidents.now.jump ≡ pos 0 }
+{
+    incidents.jump != 0
+}
+
+// The kinds of some incidents and of others.
+fn kinds_with(kinds: Kinds, incidents: &Incidents) -> Kinds
+    ensures added { IsOfKinds result incidents.now }
+    ensures others { (other : Incidents) → IsOfKinds kinds other → IsOfKinds result other }
+{
+    Kinds {
+        unheard: Channels {
+            a: kinds.unheard.a || (incidents.receive_silence.a || incidents.receive_noise.a),
+            b: kinds.unheard.b || (incidents.receive_silence.b || incidents.receive_noise.b),
+        },
+        jump: kinds.jump || moves_clock(incidents),
+        arm: kinds.arm || incidents.armed,
+    }
+}
+
+// What happens to each node of a list from a slot on.
+fn incidents_in(list: &Medl, script: &Script, slot: u32, last: &mut LastLookUps) -> SlotIncidents
+    requires { IsValid list.now }
+    ensures nodes { (t : ℕ) → slot ≤ t → t < max result.until (slot + 1) → AreIncidentsIn list.now script.now t result }
+    ensures kinds { (t k : ℕ) → slot ≤ t → t < max result.until (slot + 1) → k < length list.now.slots
+        → IsOfKinds result.kinds (incidents_of script.now k t) }
+{
+    let first = script.incidents_from(0, slot, &mut last.nodes[0]);
+    let mut nodes = [first.incidents; 24];
+    let mut kinds = kinds_with(no_kinds(), &first.incidents);
+    let mut until = first.until;
+    for node in 1..list.nodes() {
+        let standing = script.incidents_from(node, slot, &mut last.nodes[node as usize]);
+        nodes[node as usize] = standing.incidents;
+        kinds = kinds_with(kinds, &standing.incidents);
+        until = until.min(standing.until);
+    }
+    SlotIncidents {
+        nodes,
+        kinds,
+        until,
+    }
+}
+
+/// Goes on to a slot: looks up anew what happens to the nodes, where it may be something else than what is
+/// kept.
+pub(crate) fn go_on(list: &Medl, script: &Script, jumps: Jumps, slot: u32, kept: &mut KeptIncidents)
+    requires valid { IsValid list.now }
+    requires inside { jumps ≡ Jumps.Far → disturbance_broken list.now script.now ≡ None }
+    requires kept { AreKeptFrom list.now script.now slot kept.old }
+    ensures now { AreKeptIn list.now script.now slot kept.new }
+    ensures later { AreKeptFrom list.now script.now slot kept.new }
+{
+    if slot < kept.incidents.until {
+        return;
+    }
+    kept.incidents = incidents_in(list, script, slot, &mut kept.last);
+    kept.jump = may_jump(script, jumps, &kept.incidents, slot);
 }

@@ -25,9 +25,10 @@
 //!
 //! It stands on ttp_world, which has the list, the script and, in `specs/Hypothesis.antt` and
 //! `specs/Returning.antt`, the rules, and on precision, which says how wide a window has to be. It promises
-//! the answer that is defined there, for each valid list and script. A slot costs each node two look-ups in
-//! the script's index, which begin where those of the slot before ended, whatever the number of events. It
-//! takes no memory, shares nothing between threads, runs no cluster, and says nothing of what becomes of one
+//! the answer that is defined there, for each valid list and script. What happens to the nodes is looked up
+//! in the script's index where it may be something else than in the slot before, and kept for as long as it
+//! stands (`src/incidents.rt`): in between, a slot in which nothing makes a node faulty costs a few steps,
+//! whatever the number of nodes and events. It takes no memory, shares nothing between threads, runs no cluster, and says nothing of what becomes of one
 //! whose script breaks a rule.
 #![tactic(auto, using(ttp_world::proofs::Lists::nodes))]
 
@@ -83,9 +84,10 @@ use ttp_world::{Back, Keep, Medl, Script};
 ///    with `sync` are ever on and not faulty; that of the start also where they are too few at it.
 ///
 /// Slots are counted from 0, as in the script. The start may lie past the run's last slot, and is the
-/// answer all the same. Takes no memory. Each slot costs two look-ups in the script's index for each
-/// node, which begin where those of the slot before ended, and the events are gone over twice, with a
-/// binary search for each jump.
+/// answer all the same. Takes no memory. A slot in which something else happens than in the one before
+/// costs two look-ups in the script's index for each node, which begin where the last ones ended, one in
+/// which frames are lost goes over the nodes, and each other a few steps. The events are gone over twice,
+/// with a binary search for each jump.
 pub fn keeps(list: &Medl, script: &Script) -> Keep
     requires valid { IsValid list.now }
     requires script { IsValidScript list.now script.now }
@@ -120,7 +122,7 @@ pub fn keeps(list: &Medl, script: &Script) -> Keep
 ///    each correct node hears its frames on one channel at least. In the first two of them, unless the
 ///    run ends before they do, another correct node sends a frame that can be joined on.
 ///
-/// Takes no memory. Each slot costs what it does in [`keeps`], twice. For each arm line that meets what is
+/// Takes no memory. Each slot costs what it does in [`keeps`], up to three times. For each arm line that meets what is
 /// asked before, all events are gone over.
 pub fn returns(list: &Medl, script: &Script) -> Back
     requires valid { IsValid list.now }

@@ -1,21 +1,23 @@
 //! What a slot makes of the faulty nodes: clocks that jump, and frames that are lost.
-ghost use Rattle.std.specs.Prelude.{◌≡◌, ℕ, ◌<◌, ◌++◌, nat_lt, if◌then◌else◌, length, filter, All, None, is_some};
+ghost use Rattle.std.specs.Prelude.{◌≡◌, ℕ, ◌+◌, ◌<◌, ◌≤◌, ◌++◌, max, nat_lt, if◌then◌else◌, true, false, List, []};
+ghost use Rattle.std.specs.Prelude.{length, filter, All, None, is_some};
 ghost use Rattle.std.specs.List.{list_any};
 ghost use Rattle.ttp_base.specs.NodeSet.{most_nodes};
 ghost use Rattle.ttp_world.specs.Hypothesis.{Harmless, nodes_made, is_breaking, is_other, others_in, jumps_now, loses};
-ghost use Rattle.ttp_world.specs.Hypothesis.{loss_among, sender_loss, expected_sender, jumpers_in};
+ghost use Rattle.ttp_world.specs.Hypothesis.{loss_among, sender_loss, expected_sender, loss_in, jumpers_in};
 ghost use Rattle.ttp_world.specs.Medl.{IsValid};
 ghost use Rattle.ttp_world.specs.Returning.{disturbance_broken};
 ghost use Rattle.ttp_world.specs.Script.{incidents_of, has_jump, jump_in, IsValidScript};
 ghost use Rattle.ttp_world.specs.declared.medl.Medl.{Medl};
 ghost use Rattle.ttp_world.specs.declared.script.Script.{Script};
-ghost use Rattle.hypothesis.specs.SlotIncidents.{AreIncidentsIn};
+ghost use Rattle.hypothesis.specs.Jumps.{is_jump_within};
+ghost use Rattle.hypothesis.specs.SlotIncidents.{AreIncidentsIn, IsOfKinds, AreKeptIn, may_lose};
 ghost use Rattle.hypothesis.specs.Standing.{told_start, told_loss, IsOfNodes, HaveSameNodes};
 
-use crate::incidents::SlotIncidents;
+use crate::incidents::{KeptIncidents, SlotIncidents};
 use crate::start::{Start, is_ever_on};
 use ttp_base::NodeSet;
-use ttp_world::{Event, Incidents, Medl, Script};
+use ttp_world::{Channels, Event, Incidents, Medl, Script};
 
 /// What it means that some of those that are due to hear a frame lost it.
 #[derive(Clone, Copy)]
@@ -205,6 +207,42 @@ fn jumps_now(
     has_jump(script, jumps, incidents, slot, node) && script.is_on(node, slot) && !faulty.has(node)
 }
 
+// Whether an event is a jump in a slot, or in one of those after it and before another.
+fn is_jump_within(event: &Event, from: u32, until: u32) -> bool
+    ensures { result ≡ is_jump_within from until event.now }
+{
+    match event {
+        Event::Jump { slot: at, .. } => *at == from || (from <= *at && *at < until),
+        _ => false,
+    }
+}
+
+// Whether one of these events is.
+fn has_jump_within(events: &[Event], from: u32, until: u32) -> bool
+    ensures { result ≡ list_any (is_jump_within from until) events.now }
+{
+    for event in events {
+        if is_jump_within(event, from, until) {
+            return true;
+        }
+    }
+    false
+}
+
+/// Whether a clock may jump in the slots from one on in which these things happen. Where any jumps may
+/// stand, all events are gone over.
+pub(crate) fn may_jump(script: &Script, jumps: Jumps, incidents: &SlotIncidents, slot: u32) -> bool
+    ensures { (list : Medl) (t k : ℕ) → IsValid list
+        → (jumps ≡ Jumps.Far → disturbance_broken list script.now ≡ None) → result ≡ false → slot ≤ t
+        → t < max incidents.now.until (slot + 1) → IsOfKinds incidents.now.kinds (incidents_of script.now k t)
+        → has_jump script.now k t ≡ false }
+{
+    match jumps {
+        Jumps::Far => incidents.kinds.jump,
+        Jumps::Any => has_jump_within(script.events.as_slice(), slot, incidents.until),
+    }
+}
+
 /// The nodes that become faulty in a slot since their clocks jump, where these are faulty before it.
 pub(crate) fn jumpers_in(
     list: &Medl,
@@ -255,6 +293,36 @@ pub fn expected_sender(list: &Medl, start: Start, slot: u32) -> u8
 {
     let count = u64::from(list.nodes());
     ((u64::from(start.node) + u64::from(slot.saturating_sub(start.slot))) % count) as u8
+}
+
+// Whether a node may lose a frame, where this happens to its sender, and these are the channels on which nodes
+// hear nothing.
+fn may_lose(sending: &Incidents, unheard: Channels) -> bool
+    ensures { result ≡ may_lose sending.now unheard }
+{
+    let may_lose_on_a = (sending.send_silence.a || sending.send_noise.a) || unheard.a;
+    let may_lose_on_b = (sending.send_silence.b || sending.send_noise.b) || unheard.b;
+    may_lose_on_a && may_lose_on_b
+}
+
+/// Whether nothing that is kept makes a node faulty in a slot. A few steps.
+pub(crate) fn is_calm(list: &Medl, start: Start, kept: &KeptIncidents, slot: u32) -> bool
+    requires { IsValid list.now }
+    ensures { (script : Script) (faulty : List ℕ) → AreKeptIn list.now script slot kept.now → result ≡ true
+        → (loss_in list.now script (told_start start) faulty slot ≡ Harmless)
+        × (jumpers_in list.now script faulty slot ≡ []) }
+{
+    if kept.jump {
+        return false;
+    }
+    if slot < start.slot {
+        return true;
+    }
+    let sender = expected_sender(list, start, slot);
+    !may_lose(
+        &kept.incidents.nodes[sender as usize],
+        kept.incidents.kinds.unheard,
+    )
 }
 
 /// The loss in a slot, where these nodes are faulty once their clocks have jumped. Before the start

@@ -42,23 +42,27 @@ pub fn has_four_steady(list: &Medl, script: &Script, faulty: NodeSet) -> bool
 }
 
 /// The first slot, from that of the start on, after which there are fewer than four, once one slot
-/// more has made these faulty.
+/// more has made of the faulty nodes before it those after it. Where they are the same, nothing changes.
 pub(crate) fn unsteady_with(
     list: &Medl,
     script: &Script,
     start: Start,
     slot: u32,
+    before: NodeSet,
     faulty: NodeSet,
     unsteady: Option<u32>,
 ) -> Option<u32>
     requires valid { IsValid list.now }
     requires script { IsValidScript list.now script.now }
     requires bound { slot < SLOT_LIMIT + 3 * most_nodes }
-    ensures { (course : Course) → HaveSameNodes faulty (numbers_of (course.after (slot + 1)))
+    ensures { (course : Course) → HaveSameNodes before (numbers_of (course.after slot)) → HaveSameNodes faulty (numbers_of (course.after (slot + 1)))
         → unsteady ≡ first_unsteady list.now script.now (told_start start) course slot
         → result ≡ first_unsteady list.now script.now (told_start start) course (slot + 1) }
 {
     if unsteady.is_some() || slot + 1 < start.slot {
+        return unsteady;
+    }
+    if start.slot <= slot && before == faulty {
         return unsteady;
     }
     if has_four_steady(list, script, faulty) {

@@ -7,12 +7,13 @@ ghost use Rattle.ttp_world.specs.Returning.{disturbance_broken};
 ghost use Rattle.ttp_world.specs.Script.{IsValidScript};
 ghost use Rattle.ttp_world.specs.declared.keep.Keep.TheVariants as keep;
 ghost use Rattle.ttp_world.specs.declared.script.Script.{Script};
+ghost use Rattle.hypothesis.specs.SlotIncidents.{AreIncidentsIn, AreKeptFrom};
 ghost use Rattle.hypothesis.specs.Standing.{told_start, HaveSameNodes};
 ghost use Rattle.hypothesis.specs.Walks.{Course, keep_course, AreFaultsIn, AreFaultsOf, HasWalked};
 
 use crate::distances::{earliest_with, early_with};
-use crate::incidents::{LastLookUps, incidents_in, no_look_ups};
-use crate::losses::{Jumps, is_breaking, jumpers_in, loss_in, nodes_made, united};
+use crate::incidents::{KeptIncidents, SlotIncidents, go_on, nothing_kept};
+use crate::losses::{Jumps, is_breaking, is_calm, jumpers_in, loss_in, nodes_made, united};
 use crate::start::Start;
 use crate::steady::unsteady_with;
 use ttp_base::NodeSet;
@@ -43,7 +44,36 @@ pub(crate) struct Walk {
     pub(crate) unsteady: Option<u32>,
 }
 
-/// What a slot makes of the nodes that are faulty at its beginning.
+// What a slot makes of the nodes that are faulty at its beginning, where this happens to the nodes in it.
+fn faults_of(
+    list: &Medl,
+    script: &Script,
+    start: Start,
+    jumps: Jumps,
+    slot: u32,
+    faulty: NodeSet,
+    incidents: &SlotIncidents,
+) -> SlotFaults
+    requires valid { IsValid list.now }
+    requires script { IsValidScript list.now script.now }
+    requires inside { jumps ≡ Jumps.Far → disturbance_broken list.now script.now ≡ None }
+    requires incidents { AreIncidentsIn list.now script.now slot incidents.now }
+    ensures { (before : List FaultyNode) → HaveSameNodes faulty (numbers_of before)
+        → AreFaultsIn list.now script.now (told_start start) slot before result }
+{
+    let jumpers = jumpers_in(list, script, jumps, incidents, faulty, slot);
+    let fallen = united(jumpers, faulty);
+    let loss = loss_in(list, script, start, incidents, fallen, slot);
+    let made = nodes_made(loss);
+    SlotFaults {
+        faulty: united(made, fallen),
+        count: made.count() + jumpers.count(),
+        breaks: is_breaking(loss),
+    }
+}
+
+/// What a slot makes of the nodes that are faulty at its beginning. A few steps where nothing happens in it
+/// that makes one faulty, and nothing else than in the slot before.
 pub(crate) fn faults_in(
     list: &Medl,
     script: &Script,
@@ -51,24 +81,25 @@ pub(crate) fn faults_in(
     jumps: Jumps,
     slot: u32,
     faulty: NodeSet,
-    last: &mut LastLookUps,
+    kept: &mut KeptIncidents,
 ) -> SlotFaults
     requires valid { IsValid list.now }
     requires script { IsValidScript list.now script.now }
     requires inside { jumps ≡ Jumps.Far → disturbance_broken list.now script.now ≡ None }
-    ensures { (before : List FaultyNode) → HaveSameNodes faulty (numbers_of before)
+    requires kept { AreKeptFrom list.now script.now slot kept.old }
+    ensures kept { AreKeptFrom list.now script.now (slot + 1) kept.new }
+    ensures faults { (before : List FaultyNode) → HaveSameNodes faulty (numbers_of before)
         → AreFaultsIn list.now script.now (told_start start) slot before result }
 {
-    let incidents = incidents_in(list, script, slot, last);
-    let jumpers = jumpers_in(list, script, jumps, &incidents, faulty, slot);
-    let fallen = united(jumpers, faulty);
-    let loss = loss_in(list, script, start, &incidents, fallen, slot);
-    let made = nodes_made(loss);
-    SlotFaults {
-        faulty: united(made, fallen),
-        count: made.count() + jumpers.count(),
-        breaks: is_breaking(loss),
+    go_on(list, script, jumps, slot, kept);
+    if is_calm(list, start, kept, slot) {
+        return SlotFaults {
+            faulty,
+            count: 0,
+            breaks: false,
+        };
     }
+    faults_of(list, script, start, jumps, slot, faulty, &kept.incidents)
 }
 
 /// A walk before the first slot.
@@ -113,7 +144,15 @@ pub(crate) fn walk_with(
         faulty: faults.faulty,
         earliest: earliest_with(gap, walk.earliest, count, slot),
         early: early_with(walk.early, walk.earliest, count, slot),
-        unsteady: unsteady_with(list, script, start, slot, faults.faulty, walk.unsteady),
+        unsteady: unsteady_with(
+            list,
+            script,
+            start,
+            slot,
+            walk.faulty,
+            faults.faulty,
+            walk.unsteady,
+        ),
     })
 }
 
@@ -124,7 +163,7 @@ fn walk_over(
     start: Start,
     slot: u32,
     walk: Walk,
-    last: &mut LastLookUps,
+    kept: &mut KeptIncidents,
 ) -> Option<Walk>
     requires valid { IsValid list.now }
     requires script { IsValidScript list.now script.now }
@@ -132,12 +171,14 @@ fn walk_over(
     requires bound { slot < SLOT_LIMIT + 3 * most_nodes }
     requires walked { HasWalked list.now script.now (told_start start)
         (keep_course list.now script.now (told_start start)) slot walk }
-    ensures { MatchOption result
+    requires kept { AreKeptFrom list.now script.now slot kept.old }
+    ensures kept { AreKeptFrom list.now script.now (slot + 1) kept.new }
+    ensures walk { MatchOption result
         ((slot < script.now.slots) × (breaks_in list.now script.now (told_start start) slot ≡ true))
         (λ walk. HasWalked list.now script.now (told_start start)
         (keep_course list.now script.now (told_start start)) (slot + 1) walk) }
 {
-    let faults = faults_in(list, script, start, Jumps::Far, slot, walk.faulty, last);
+    let faults = faults_in(list, script, start, Jumps::Far, slot, walk.faulty, kept);
     walk_with(list, script, start, slot, walk, faults)
 }
 
@@ -164,9 +205,9 @@ pub(crate) fn started_keep(list: &Medl, script: &Script, start: Start) -> Keep
     ensures { result ≡ started_keep list.now script.now (Some (told_start start)) }
 {
     let mut walk = first_walk(list, start);
-    let mut last = no_look_ups();
+    let mut kept = nothing_kept();
     for slot in 0..script.slots.max(start.slot) {
-        match walk_over(list, script, start, slot, walk, &mut last) {
+        match walk_over(list, script, start, slot, walk, &mut kept) {
             Some(next) => walk = next,
             None => return Keep::No { rule: 5, slot },
         }

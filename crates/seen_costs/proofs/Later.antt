@@ -27,7 +27,7 @@ use Rattle.campaign.specs.ZerosWorld.{all_zeros, zeros_world}
 use Rattle.seen_costs.specs.declared.faulty.Faulty.{Faulty}
 use Rattle.seen_costs.specs.declared.faulty.Faulty.TheVariants as faulty
 use Rattle.seen_costs.specs.declared.seen.SeenCost.{SeenCost}
-use Rattle.seen_costs.specs.FaultyAt.{IsFaultyAt}
+use Rattle.seen_costs.specs.FaultyAt.{KnowsFaulty, IsFaultyAt}
 use Rattle.seen_costs.specs.Later.{comes_later, is_loss}
 use Rattle.seen_costs.specs.Told.{IsSeenOf}
 use Rattle.seen_costs.proofs.LaterFaults.{kept-longer, slots-longer, at-longer, joined-longer, has_arm-longer}
@@ -100,31 +100,31 @@ module _ (list : Medl) (script : Script) (more : Event) where
     -- A walk that tells the faulty nodes, where the event changes nothing of which jumps there are.
     pub walk-longer : (slots : ℕ) → slots ≤ begins_at more
         → disturbance_broken list script ≡ disturbance_broken list longer → (walk : Faulty)
-        → IsFaultyAt list script slots walk → IsFaultyAt list longer slots walk
+        → IsFaultyAt list script slots walk → KnowsFaulty list longer slots walk
     walk-longer slots few jumps faulty.Nobody none = none
     walk-longer slots few jumps (faulty.Kept walk) at = (
       sym (has_arm-longer list script more plain) ∙ at.0,
       record {
-        start = at.1.start;
-        jumps = λ far. sym jumps ∙ at.1.jumps far;
+        start = at.1.known.start;
+        jumps = λ far. sym jumps ∙ at.1.known.jumps far;
         faulty =
             subst (λ (nodes : List FaultyNode). HaveSameNodes walk.faulty (numbers_of nodes))
-            (kept-longer list script more (told_start walk.start) slots few) at.1.faulty;
+            (kept-longer list script more (told_start walk.start) slots few) at.1.known.faulty;
       },
     )
     walk-longer slots few jumps (faulty.Back walk) at =
         let start = told_start walk.start in (
           sym (has_arm-longer list script more plain) ∙ at.0,
           record {
-            start = at.1.start;
-            jumps = λ far. sym jumps ∙ at.1.jumps far;
-            end = at.1.end;
+            start = at.1.known.start;
+            jumps = λ far. sym jumps ∙ at.1.known.jumps far;
+            end = at.1.known.end;
             newest = record {
-              room = at.1.newest.room;
+              room = at.1.known.newest.room;
               told = λ t nothing come kept.
-                  let was = at.1.newest.told t nothing come kept in
+                  let was = at.1.known.newest.told t nothing come kept in
                   let kept_slot = get_or walk.newest.slots (t % kept_slots) nothing in
-                  let less : t < begins_at more = omega (arith, come, few, at.1.end) in
+                  let less : t < begins_at more = omega (arith, come, few, at.1.known.end) in
                   record {
                     stayed =
                         subst (λ (nodes : List FaultyNode). HaveSameNodes kept_slot.stayed (numbers_of nodes))
@@ -134,7 +134,7 @@ module _ (list : Medl) (script : Script) (more : Event) where
             };
             faulty =
                 subst (λ (ss : List FaultySlot). HaveSameNodes walk.faulty (numbers_of (faulty_since ss)))
-                (slots-longer list script more start slots few) at.1.faulty;
+                (slots-longer list script more start slots few) at.1.known.faulty;
           },
         )
 
@@ -175,8 +175,8 @@ loss-still list script (event.Read node slot from) is = absurd (false≢true is)
 
 pub walk-now : (list : Medl) (script now : Script) (more : Event) (slots : ℕ) (walk : Faulty)
     → now ≡ with_fault script more → comes_later slots more ≡ true → is_loss more ≡ true
-    → IsFaultyAt list script slots walk → IsFaultyAt list now slots walk
+    → IsFaultyAt list script slots walk → KnowsFaulty list now slots walk
 walk-now list script now more slots walk is later loss at =
-    subst (λ (s : Script). IsFaultyAt list s slots walk) (sym is)
+    subst (λ (s : Script). KnowsFaulty list s slots walk) (sym is)
     (walk-longer list script more (later-plain slots more later) slots (later-begins slots more later)
     (loss-still list script more loss) walk at)

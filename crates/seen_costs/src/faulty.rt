@@ -1,12 +1,13 @@
 //! The faulty nodes of a run, by whichever test its script is put to.
-ghost use Rattle.std.specs.Prelude.{◌≡◌, ◌+◌, ◌<◌, ◌≤◌, true};
+ghost use Rattle.std.specs.Prelude.{◌≡◌, ℕ, ◌+◌, ◌<◌, ◌≤◌, true};
+ghost use Rattle.ttp_world.specs.declared.medl.Medl.{Medl};
 ghost use Rattle.ttp_world.specs.declared.script.Script.{Script};
 ghost use Rattle.ttp_world.specs.Medl.{IsValid};
 ghost use Rattle.ttp_world.specs.Script.{IsValidScript};
 ghost use Rattle.hypothesis.specs.Standing.{HaveSameNodes};
 ghost use Rattle.campaign.specs.Cost.{faulty_by_test};
 ghost use Rattle.campaign.specs.Tried.{with_fault};
-ghost use Rattle.seen_costs.specs.FaultyAt.{IsFaultyAt};
+ghost use Rattle.seen_costs.specs.FaultyAt.{KnowsFaulty, IsFaultyAt};
 ghost use Rattle.seen_costs.specs.Later.{comes_later, is_loss};
 
 use hypothesis::{BackFaulty, KeptFaulty, has_arm, start_of};
@@ -73,8 +74,20 @@ impl Faulty {
         faulty
     }
 
-    /// The walk over the same slots by a script with one event more, which comes later. A loss leaves it as
-    /// it is. A jump may be one that no rule allows, and what a walk knows of the jumps is said of all that
+    // The walk over the same slots by a script that may say something else of those to come.
+    fn forgetting(&self) -> Faulty
+        ensures { (list : Medl) (script : Script) (slot : ℕ) → KnowsFaulty list script slot self.now
+            → IsFaultyAt list script slot result }
+    {
+        match self {
+            Faulty::Nobody => Faulty::Nobody,
+            Faulty::Kept(walk) => Faulty::Kept(walk.forgetting()),
+            Faulty::Back(walk) => Faulty::Back(walk.forgetting()),
+        }
+    }
+
+    /// The walk over the same slots by a script with one event more, which comes later. A loss leaves who is
+    /// faulty as it is. A jump may be one that no rule allows, and what a walk knows of the jumps is said of all that
     /// the script has: so the slots are gone over again.
     pub(crate) fn with_later(&self, list: &Medl, more: &Script, event: &Event, slots: u32) -> Faulty
         requires valid { IsValid list.now }
@@ -84,7 +97,7 @@ impl Faulty {
             → IsFaultyAt list.now script slots self.now → IsFaultyAt list.now more.now slots result }
     {
         if is_loss(event) {
-            *self
+            self.forgetting()
         } else {
             Faulty::after(list, more, slots)
         }

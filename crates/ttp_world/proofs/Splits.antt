@@ -57,3 +57,12 @@ splits-step steps place key rising within below above = (
       let first = ap (λ (step : Step). step.key) (get_or_default steps place d first_step (omega arith)) in
       lt-leb (get_or steps k d).key key (omega (arith, first, above (omega arith), rising place k d low high)),
 )
+
+-- a key behind splits them at the same place, where the step behind it is not at it or before it
+pub splits-later : (steps : List Step) (place key later : ℕ) → IsNonDecreasingBy (λ step. step.key) steps
+    → place ≤ length steps → SplitsAt (step_is_by key) steps place → key ≤ later
+    → (place < length steps → later < (get_or steps place first_step).key) → SplitsAt (step_is_by later) steps place
+splits-later steps place key later rising within splits behind above =
+    splits-step steps place later rising within
+    (λ some. let last = leb-true (get_or steps (place - 1) first_step).key key
+    (splits.0 (place - 1) first_step (omega arith) (omega arith)) in omega (arith, last, behind)) above

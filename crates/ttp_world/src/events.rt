@@ -1,5 +1,5 @@
 //! The events of a script, which are found by node and slot.
-ghost use Rattle.std.specs.Prelude.{◌≡◌, ◌≤◌, [], length, All, IfOk};
+ghost use Rattle.std.specs.Prelude.{◌≡◌, ℕ, ◌<◌, ◌≤◌, [], length, All, IfOk};
 ghost use Rattle.std.specs.List.{filter_map};
 ghost use Rattle.ttp_world.specs.declared.script.Channel.{Channel};
 ghost use Rattle.ttp_world.specs.Events.{bits_on, flipped_bit, incidents_in, IsBounded, AreBounded};
@@ -7,7 +7,7 @@ ghost use Rattle.ttp_world.specs.HostLines.{keyed_read, keyed_writes};
 ghost use Rattle.ttp_world.specs.Sorted.{values_of};
 
 use crate::host_lines::HostRead;
-use crate::index::{Index, incidents_before, key_of, steps_up_to};
+use crate::index::{Index, incidents_before, key_of, slot_of_step, steps_up_to};
 use crate::script::{Channels, EVENT_LIMIT, Event};
 use std::alloc::Global;
 use std::marker::Model;
@@ -32,6 +32,16 @@ pub struct Incidents {
     pub error: i64,
     /// The sum of the jumps of its clock, in microticks.
     pub jump: i64,
+}
+
+/// What happens to a node from a slot on, and how long it does.
+#[derive(Clone, Copy, Debug, PartialEq, Eq)]
+pub struct Standing {
+    /// What happens to it in that slot, all but what its host does.
+    pub incidents: Incidents,
+    /// The first slot after that one in which something else may happen, or the largest number where no event
+    /// says so: in each slot before it the same happens.
+    pub until: u32,
 }
 
 /// A bit of a frame that is flipped on these channels.
@@ -118,6 +128,22 @@ impl Events {
         let place = steps_up_to(steps, last.steps, key_of(node, slot));
         last.steps = place;
         incidents_before(steps, place)
+    }
+
+    /// The same, and how long it stands. Costs a step more.
+    pub(crate) fn standing(&self, node: u8, slot: u32, last: &mut LastLookUp) -> Standing
+        ensures value { result.incidents ≡ incidents_in self.now node slot }
+        ensures bounds { AreBounded result.incidents }
+        ensures behind { slot < u32.MAX → slot < result.until }
+        ensures stands { (t : ℕ) → slot ≤ t → t < result.until → incidents_in self.now node t ≡ result.incidents }
+    {
+        let steps = self.index.steps.as_slice();
+        let place = steps_up_to(steps, last.steps, key_of(node, slot));
+        last.steps = place;
+        Standing {
+            incidents: incidents_before(steps, place),
+            until: slot_of_step(steps, place, node),
+        }
     }
 
     /// The bits that are flipped in the frame that a node sends in a slot, in the order of the

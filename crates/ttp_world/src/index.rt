@@ -1,5 +1,5 @@
 //! The index by which events are found.
-ghost use Rattle.std.specs.Prelude.{◌≡◌, ◌-◌, ◌<◌, ◌≤◌, [], true, length, slice_index_or, IfOk};
+ghost use Rattle.std.specs.Prelude.{◌≡◌, ℕ, ◌-◌, ◌<◌, ◌≤◌, [], true, length, slice_index_or, IfOk};
 ghost use Rattle.std.specs.List.Sorted.{IsNonDecreasingBy};
 ghost use Rattle.ttp_world.specs.Index.{first_step, no_incidents, incidents_before, step_is_by, AreFew};
 ghost use Rattle.ttp_world.specs.Index.{IsIndexOf};
@@ -150,6 +150,23 @@ pub(crate) fn incidents_before(steps: &[Step], place: usize) -> Incidents
     } else {
         steps[place - 1].incidents
     }
+}
+
+/// The first slot for which the step at a place tells something else of a node, or the largest number where
+/// there is no such step: the node's slots before it have keys before the step.
+pub(crate) fn slot_of_step(steps: &[Step], place: usize, node: u8) -> u32
+    requires { place ≤ length steps.now }
+    ensures before { (slot : ℕ) → slot < result → place < length steps.now
+        → key_of node slot < (slice_index_or steps.now place first_step).key }
+    ensures behind { (slot : ℕ) → slot < u32.MAX
+        → (place < length steps.now → key_of node slot < (slice_index_or steps.now place first_step).key)
+        → slot < result }
+{
+    if place == steps.len() {
+        return u32::MAX;
+    }
+    let slots = steps[place].key.saturating_sub(key_of(node, 0));
+    slots.min(u64::from(u32::MAX)) as u32
 }
 
 impl Index {

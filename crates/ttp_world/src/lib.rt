@@ -45,7 +45,7 @@ mod script;
 mod sorted;
 mod weights;
 
-pub use events::{Events, FlippedBit, Incidents, LastLookUp};
+pub use events::{Events, FlippedBit, Incidents, LastLookUp, Standing};
 pub use host_lines::{HostRead, Written};
 pub use keep::{Back, Keep};
 pub use medl::{Kind, Medl, SlotPlan};

@@ -1,12 +1,12 @@
 //! What a script says: which nodes are switched on, their clocks, faults, and what hosts do.
 
-ghost use Rattle.std.specs.Prelude.{◌≡◌, ◌++◌, ◌<◌, ◌≤◌, length, drop, option_map};
+ghost use Rattle.std.specs.Prelude.{◌≡◌, ℕ, ◌++◌, ◌<◌, ◌≤◌, length, drop, option_map};
 ghost use Rattle.std.specs.List.{filter_map};
 ghost use Rattle.ttp_world.specs.declared.script.Channel.{Channel};
 ghost use Rattle.ttp_world.specs.Script.{is_on, incidents_of, flipped_bits, bits_on, AreBounded};
 ghost use Rattle.ttp_world.specs.Script.{host_write, write_at, writes_in, reads_in};
 
-use crate::events::{Events, FlippedBit, Incidents, LastLookUp};
+use crate::events::{Events, FlippedBit, Incidents, LastLookUp, Standing};
 use crate::host_lines::{HostRead, Written, write_of};
 use std::marker::Model;
 use ttp_base::List;
@@ -220,6 +220,17 @@ impl Script {
         ensures bounds { AreBounded result }
     {
         self.events.incidents(node, slot, last)
+    }
+
+    /// The same, and the first slot after that one in which something else may happen, which costs a step
+    /// more. A caller that goes from slot to slot asks again from that slot on, and not before it.
+    pub fn incidents_from(&self, node: u8, slot: u32, last: &mut LastLookUp) -> Standing
+        ensures value { result.incidents ≡ incidents_of self.now node slot }
+        ensures bounds { AreBounded result.incidents }
+        ensures behind { slot < u32.MAX → slot < result.until }
+        ensures stands { (t : ℕ) → slot ≤ t → t < result.until → incidents_of self.now node t ≡ result.incidents }
+    {
+        self.events.standing(node, slot, last)
     }
 
     /// The bits that are flipped in the frame that a node sends in a slot, each with its channels, in

@@ -3,6 +3,7 @@ use Rattle.std.proofs.lemmas.Bool.{cases_lt}
 use Rattle.ttp_base.specs.NodeSet.{has_node}
 use Rattle.ttp_world.specs.Hypothesis.{numbers_of}
 use Rattle.ttp_world.specs.Returning.{four_rounds, slots_before, faulty_since, breaks_arm_in}
+use Rattle.hypothesis.specs.SlotIncidents.{AreKeptFrom}
 use Rattle.hypothesis.specs.Standing.{told_start, HaveSameNodes}
 use Rattle.hypothesis.proofs.Ranges.{first-below}
 use Rattle.hypothesis.proofs.back_walk.arms_broken.Goals as goal
@@ -12,12 +13,24 @@ use Rattle.hypothesis.proofs.back_walk.arms_broken.Goals.{else-has_come-via-else
 pub breaks_arm_in-requires-clause-come : goal.breaks_arm_in-requires-clause-come
 breaks_arm_in-requires-clause-come c = record { come = omega arith; near = omega arith }
 
+pub breaks_arm_in-requires-clause-kept : goal.breaks_arm_in-requires-clause-kept
+breaks_arm_in-requires-clause-kept c = λ t from before. c.loop-slot.invariant.arms t (omega (arith, from)) before
+
+pub back_faults_in-faulty-requires-clause-kept : goal.back_faults_in-faulty-requires-clause-kept
+back_faults_in-faulty-requires-clause-kept c = λ t from before.
+    c.loop-slot.invariant.kept t (omega (arith, from, c.loop-slot.invariant.end)) before
+
+pub late_arms_broken-requires-clause-kept : goal.late_arms_broken-requires-clause-kept
+late_arms_broken-requires-clause-kept c = λ t from before. c.loop-slot.invariant.arms t (omega (arith, from)) before
+
 pub loop-slot-init : goal.loop-slot-init
 loop-slot-init c = record {
   end = search rules;
   newest = search rules;
   faulty = λ k small. ap (λ nodes. has_node nodes k) c.empty-faulty.ensures;
   fine = λ t less. absurd (omega (arith, c.requires.valid.count, less));
+  kept = c.nothing_kept-kept.ensures c.args.list.now c.args.script.now 0;
+  arms = c.nothing_kept-arms.ensures c.args.list.now c.args.script.now (0 + 1 - four_rounds c.args.list.now);
 }
 
 pub loop-slot-preserved : goal.loop-slot-preserved
@@ -30,7 +43,7 @@ loop-slot-preserved c =
     elim c.else-has_come.branch [
       | else-has_come-via-then-has_come+else-breaks_arm_in w ↦
           let same : slot + 1 - c.four_rounds-rounds.result ≡ t = omega (arith, is) in
-          ap (breaks_arm_in list script start) (sym same) ∙ sym w.breaks_arm_in.ensures ∙ search rules
+          ap (breaks_arm_in list script start) (sym same) ∙ sym w.breaks_arm_in.ensures.value ∙ search rules
       | else-has_come-via-else-has_come w ↦ absurd (omega (arith, is))
     ] in
     record {
@@ -43,10 +56,20 @@ loop-slot-preserved c =
         | inl last ↦ now t (omega (arith, less, last))
         | inr earlier ↦ c.loop-slot.invariant.fine t earlier
       ];
+      kept = λ t from before.
+          c.back_faults_in-faulty.ensures.kept t (omega (arith, from, c.loop-slot.invariant.end)) before;
+      arms = elim c.else-has_come.branch [
+        | else-has_come-via-then-has_come+else-breaks_arm_in w ↦
+            subst (AreKeptFrom list script (slot + 1 + 1 - four_rounds list)) (sym w.arms-is)
+            (λ t from before. w.breaks_arm_in.ensures.kept t (omega (arith, from)) before)
+        | else-has_come-via-else-has_come w ↦
+            subst (AreKeptFrom list script (slot + 1 + 1 - four_rounds list)) (sym w.arms-is)
+            (λ t from before. c.loop-slot.invariant.arms t (omega (arith, from)) before)
+      ];
     }
 
 pub returns-then-breaks_arm_in : goal.returns-then-breaks_arm_in
 returns-then-breaks_arm_in c =
     sym (first-below (breaks_arm_in c.args.list.now c.args.script.now (told_start c.args.start)) c.args.script.now.slots
     (c.loop-slot.slot + 1 - c.four_rounds-rounds.result) (omega (arith, c.requires.valid.count))
-    (λ t less. c.loop-slot.invariant.fine t (omega (arith, less))) (sym c.breaks_arm_in.ensures ∙ search rules))
+    (λ t less. c.loop-slot.invariant.fine t (omega (arith, less))) (sym c.breaks_arm_in.ensures.value ∙ search rules))

@@ -17,8 +17,9 @@ returns c =
     let stayed =
     stayed-at list script start slot c.saturating_sub.result c.stayed_in-stayed.result past
     (c.stayed_in-stayed.ensures (faulty_then list before) (faulty_since before) then c.requires.faulty) in
-    let made = c.faults_in-faults.ensures (faulty_at list script start slot) stayed in
+    let made = c.faults_in-faults.ensures.faults (faulty_at list script start slot) stayed in
     record {
+      kept = c.faults_in-faults.ensures.kept;
       newest = c.add_slot.ensures.newest list script start c.requires.newest
           (record { stayed = stayed; joined = made.count });
       end = search rules;

@@ -1,4 +1,5 @@
-use Rattle.std.proofs.Common.{◌≡◌, ◌+◌, max, sym, subst, ◌∙◌, rules, arith}
+use Rattle.std.proofs.Common.{◌≡◌, ℕ, ◌+◌, max, sym, subst, ◌∙◌, rules, arith}
+use Rattle.hypothesis.specs.SlotIncidents.{AreKeptFrom}
 use Rattle.hypothesis.specs.Standing.{told_start}
 use Rattle.hypothesis.specs.Walks.{HasWalked, back_course}
 use Rattle.hypothesis.proofs.Walks.{broken-back, walked-back}
@@ -11,6 +12,10 @@ back_over-requires-clause-walked c =
     subst (λ t. HasWalked c.args.list.now script start (back_course c.args.list.now script start) t c.loop-slot.walk)
     (sym c.loop-slot.invariant.end) c.loop-slot.invariant.walked
 
+pub back_over-requires-clause-kept : goal.back_over-requires-clause-kept
+back_over-requires-clause-kept c = subst (λ (n : ℕ). AreKeptFrom c.args.list.now c.args.script.now n c.loop-slot.kept)
+    (sym c.loop-slot.invariant.end) c.loop-slot.invariant.kept
+
 pub loop-slot-init : goal.loop-slot-init
 loop-slot-init c = record {
   end = search rules;
@@ -18,6 +23,7 @@ loop-slot-init c = record {
   walked =
       c.first_walk-walk.ensures c.args.script.now
       (back_course c.args.list.now c.args.script.now (told_start c.args.start)) c.requires.starts;
+  kept = c.nothing_kept-kept.ensures c.args.list.now c.args.script.now 0;
 }
 
 pub loop-slot-preserved : goal.loop-slot-preserved
@@ -30,6 +36,8 @@ loop-slot-preserved c =
       newest = search rules;
       walked = subst (λ t. HasWalked list script start (back_course list script start) (t + 1) c.in-Some.next)
           c.loop-slot.invariant.end c.in-Some.ensures.walk;
+      kept = subst (λ (n : ℕ). AreKeptFrom list script (n + 1) c.back_over.new.kept) c.loop-slot.invariant.end
+          c.back_over.ensures.kept;
     }
 
 pub returns-in-None : goal.returns-in-None

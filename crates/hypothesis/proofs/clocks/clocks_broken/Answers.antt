@@ -16,14 +16,14 @@ nothing-within bound least = grind (arith, ints)
 pub returns-then-not-errors_hold_in : goal.returns-then-not-errors_hold_in
 returns-then-not-errors_hold_in c =
     let fails : ℕ → Bool = λ slot. not (errors_hold_in c.args.list.now c.args.script.now slot) in
-    sym (ap (λ b. cond b (find fails (below c.args.script.now.slots)) (Some 0)) c.loop-slot.invariant.0
-    ∙ first-below fails c.args.script.now.slots c.loop-slot.slot (omega arith) c.loop-slot.invariant.1 (search rules))
+    sym (ap (λ b. cond b (find fails (below c.args.script.now.slots)) (Some 0)) c.loop-slot.invariant.drifts
+    ∙ first-below fails c.args.script.now.slots c.loop-slot.slot (omega arith) c.loop-slot.invariant.fine (search rules))
 
 pub returns : goal.returns
 returns c =
     let fails : ℕ → Bool = λ slot. not (errors_hold_in c.args.list.now c.args.script.now slot) in
-    sym (ap (λ b. cond b (find fails (below c.args.script.now.slots)) (Some 0)) c.loop-slot.invariant.0
-    ∙ none-below fails c.args.script.now.slots (λ k less. c.loop-slot.invariant.1 k (omega arith)))
+    sym (ap (λ b. cond b (find fails (below c.args.script.now.slots)) (Some 0)) c.loop-slot.invariant.drifts
+    ∙ none-below fails c.args.script.now.slots (λ k less. c.loop-slot.invariant.fine k (omega arith)))
 
 pub returns-then-not-has_errors : goal.returns-then-not-has_errors
 returns-then-not-has_errors c =

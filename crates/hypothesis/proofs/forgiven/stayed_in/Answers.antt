@@ -1,4 +1,4 @@
-use Rattle.std.proofs.Common.{◌≡◌, ℕ, ◌<◌, Bool, ◌&&◌, not, filter, ap, sym, ◌∙◌, rules, arith}
+use Rattle.std.proofs.Common.{◌≡◌, ℕ, ◌<◌, Bool, ◌&&◌, not, [], filter, ap, sym, ◌∙◌, rules, arith}
 use Rattle.ttp_base.specs.NodeSet.{most_nodes, has_node, with_node, below}
 use Rattle.ttp_base.proofs.NodeLists.{with_node-next, filter-next}
 use Rattle.ttp_base.proofs.NodeSets.{has_node-filter, has_node-sieve}
@@ -30,5 +30,17 @@ returns c = λ thens before then are k small.
     let all : c.loop-node.node ≡ most_nodes = omega arith in
     ap (λ s. has_node s k) c.loop-node.invariant ∙ ap (λ n. has_node (filter is_in (below n)) k) all
     ∙ has_node-sieve is_in most_nodes k small ∙ (λ i. not (then k small i && is_armed script k slot) && are k small i)
+    ∙ sym (has_node-filter stays (numbers_of before) k)
+    ∙ ap (λ nodes. has_node nodes k) (sym (numbers-filter stays before))
+
+pub returns-then-is_none : goal.returns-then-is_none
+returns-then-is_none c = λ thens before then are k small.
+    let script = c.args.script.now in
+    let slot = c.args.slot in
+    let stays : ℕ → Bool = λ j. not (has_node thens j && is_armed script j slot) in
+    let none : c.args.then ≡ [] = search rules in
+    are k small
+    ∙ ap (λ nodes. not (has_node nodes k && is_armed script k slot) && has_node (numbers_of before) k) (sym none)
+    ∙ (λ i. not (then k small i && is_armed script k slot) && has_node (numbers_of before) k)
     ∙ sym (has_node-filter stays (numbers_of before) k)
     ∙ ap (λ nodes. has_node nodes k) (sym (numbers-filter stays before))

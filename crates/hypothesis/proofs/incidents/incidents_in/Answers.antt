@@ -1,9 +1,11 @@
-use Rattle.std.proofs.Common.{◌≡◌, ℕ, ◌+◌, ◌<◌, List, length, get_or, set, replicate, refl, ◌∙◌, inl, inr}
-use Rattle.std.proofs.Common.{rules, arith}
+use Rattle.std.proofs.Common.{◌≡◌, ℕ, ◌+◌, ◌<◌, ◌≤◌, List, length, get_or, set, replicate, refl, subst, ◌∙◌, inl, inr}
+use Rattle.std.proofs.Common.{rules, arith, below_more, max}
 use Rattle.std.proofs.lemmas.Bool.{cases_eq}
 use Rattle.std.proofs.lemmas.List.{length-set, get_or-set_same, get_or-set_other}
 use Rattle.ttp_world.specs.declared.events.Incidents.{Incidents}
 use Rattle.ttp_world.specs.Script.{incidents_of}
+use Rattle.hypothesis.specs.SlotIncidents.{IsOfKinds}
+use Rattle.hypothesis.proofs.Kept.{stands-at}
 use Rattle.hypothesis.proofs.incidents.incidents_in.Goals as goal
 
 told-first : (nodes : List Incidents) (of : ℕ → Incidents) → ((nothing : Incidents) → get_or nodes 0 nothing ≡ of 0)
@@ -20,16 +22,51 @@ told-more nodes of n new within told is k nothing less = elim (cases_eq k n) [
 ]
 
 pub loop-node-init : goal.loop-node-init
-loop-node-init c = (
-  refl,
-  told-first (replicate 24 c.incidents_after-nodes.result) (λ k. incidents_of c.args.script.now k c.args.slot)
-      (λ nothing. c.incidents_after-nodes.ensures.value),
-)
+loop-node-init c =
+    let of : ℕ → Incidents = λ k. incidents_of c.args.script.now k c.args.slot in
+    record {
+      room = refl;
+      told = told-first (replicate 24 c.incidents_from-first.result.incidents) of
+          (λ nothing. c.incidents_from-first.ensures.value);
+      kinds = λ k less. let first : k ≡ 0 = omega (arith, less) in
+          rw first (subst (IsOfKinds c.kinds_with-kinds.result) c.incidents_from-first.ensures.value
+          c.kinds_with-kinds.ensures.added);
+      stands = λ k t less from before. let first : k ≡ 0 = omega (arith, less) in
+          rw first (c.incidents_from-first.ensures.stands t from before ∙ c.incidents_from-first.ensures.value);
+    }
 
 pub loop-node-preserved : goal.loop-node-preserved
 loop-node-preserved c =
-    let within : c.loop-node.node < length c.loop-node.nodes = search rules in (
-      length-set c.loop-node.nodes c.loop-node.node c.incidents_after.result ∙ c.loop-node.invariant.0,
-      told-more c.loop-node.nodes (λ k. incidents_of c.args.script.now k c.args.slot) c.loop-node.node
-          c.incidents_after.result within c.loop-node.invariant.1 c.incidents_after.ensures.value,
-    )
+    let script = c.args.script.now in
+    let slot = c.args.slot in
+    let node = c.loop-node.node in
+    let new = c.incidents_from-standing in
+    let within : node < length c.loop-node.nodes = search rules in
+    let least : c.min-until.result ≤ c.loop-node.until = search rules in
+    let least_new : c.min-until.result ≤ new.result.until = search rules in
+    record {
+      room = length-set c.loop-node.nodes node new.result.incidents ∙ c.loop-node.invariant.room;
+      told = told-more c.loop-node.nodes (λ k. incidents_of script k slot) node new.result.incidents within
+          c.loop-node.invariant.told new.ensures.value;
+      kinds = below_more (λ k. IsOfKinds c.kinds_with-kinds-in-loop-node.result (incidents_of script k slot)) node
+          (λ k less. c.kinds_with-kinds-in-loop-node.ensures.others (incidents_of script k slot) (c.loop-node.invariant.kinds k less))
+          (subst (IsOfKinds c.kinds_with-kinds-in-loop-node.result) new.ensures.value c.kinds_with-kinds-in-loop-node.ensures.added);
+      stands = λ k t less from before. below_more (λ k. incidents_of script k t ≡ incidents_of script k slot) node
+          (λ k less. c.loop-node.invariant.stands k t less from (omega (arith, before, least)))
+          (new.ensures.stands t from (omega (arith, before, least_new)) ∙ new.ensures.value) k less;
+    }
+
+pub returns : goal.returns
+returns c =
+    let script = c.args.script.now in
+    let slot = c.args.slot in
+    let until = c.loop-node.until in
+    let at : (k t : ℕ) → k < length c.args.list.now.slots → slot ≤ t → t < max until (slot + 1)
+    → incidents_of script k slot ≡ incidents_of script k t =
+    λ k t less. stands-at (incidents_of script k) slot until t (λ u. c.loop-node.invariant.stands k u (omega (arith, less))) in
+    record {
+      nodes = λ t from before k nothing less.
+          c.loop-node.invariant.told k nothing (omega (arith, less)) ∙ at k t less from before;
+      kinds = λ t k from before less. subst (IsOfKinds c.loop-node.kinds) (at k t less from before)
+          (c.loop-node.invariant.kinds k (omega (arith, less)));
+    }

@@ -1,6 +1,6 @@
 use Rattle.std.proofs.Common.{◌≡◌, ℕ, suc, ◌+◌, ◌≤◌, max, Bool, true, false, not, cond, is_some, nat_le, List, length}
 use Rattle.std.proofs.Common.{filter, Some, None, ap, sym, ◌∙◌, rules, arith}
-use Rattle.ttp_base.specs.NodeSet.{most_nodes}
+use Rattle.ttp_base.specs.NodeSet.{most_nodes, has_node}
 use Rattle.ttp_world.specs.declared.medl.Medl.{Medl}
 use Rattle.ttp_world.specs.declared.script.Script.{Script}
 use Rattle.ttp_world.specs.Hypothesis.{ClusterStart, numbers_of, nodes_of, is_steady}
@@ -8,7 +8,7 @@ use Rattle.ttp_world.specs.Medl.{IsValid}
 use Rattle.ttp_world.proofs.Lists.{nodes-most}
 use Rattle.hypothesis.specs.Standing.{told_start, HaveSameNodes}
 use Rattle.hypothesis.specs.Walks.{Course, first_unsteady, has_four_in, lacks_four_in}
-use Rattle.hypothesis.proofs.Firsts.{lack-found, lack-early, lack-next}
+use Rattle.hypothesis.proofs.Firsts.{lack-found, lack-early, lack-next, lack-none, nothing}
 use Rattle.hypothesis.proofs.SlotSteps.{same_steady}
 use Rattle.hypothesis.proofs.steady.unsteady_with.Goals as goal
 use Rattle.hypothesis.proofs.steady.unsteady_with.Goals.{then-is_some-via-then-is_some}
@@ -28,8 +28,24 @@ unsteady-next list script start course slot faulty fine valid are is near none =
     lack-next (enough start.slot) fine (lacks_four_in list script course) start.slot slot near none
     (λ here. ap enough (sym here) ∙ sym now) (ap (λ t. not (enough t)) next ∙ ap not (sym now))
 
+unsteady-still : (list : Medl) (script : Script) (start : ClusterStart) (course : Course) (slot : ℕ) (before : List ℕ)
+    → IsValid list → HaveSameNodes before (numbers_of (course.after slot))
+    → HaveSameNodes before (numbers_of (course.after (slot + 1))) → start.slot ≤ slot
+    → is_some (first_unsteady list script start course slot) ≡ false
+    → first_unsteady list script start course (slot + 1) ≡ None
+unsteady-still list script start course slot before valid were are since none =
+    let few : length list.slots ≤ most_nodes = nodes-most list valid in
+    let enough : ℕ → Bool = has_four_in list script course in
+    let next : suc slot ≡ slot + 1 = omega arith in
+    let same : enough slot ≡ enough (slot + 1) = ap (λ nodes. nat_le 4 (length nodes))
+    (same_steady list script (numbers_of (course.after slot)) (numbers_of (course.after (slot + 1))) few
+    (λ k small. sym (were k small) ∙ are k small)) in
+    let fine : enough (slot + 1) ≡ true = sym same ∙ lack-none enough start.slot slot since none in
+    lack-next (enough start.slot) true (lacks_four_in list script course) start.slot slot (omega (arith, since)) none
+    (λ here. absurd (omega (arith, since, here))) (ap (λ t. not (enough t)) next ∙ ap not fine)
+
 pub returns-then-is_some : goal.returns-then-is_some
-returns-then-is_some c = λ course are so_far.
+returns-then-is_some c = λ course were are so_far.
     let list = c.args.list.now in
     let script = c.args.script.now in
     let start = told_start c.args.start in
@@ -45,7 +61,7 @@ returns-then-is_some c = λ course are so_far.
     ]
 
 pub returns-then-has_four_steady : goal.returns-then-has_four_steady
-returns-then-has_four_steady c = λ course are so_far.
+returns-then-has_four_steady c = λ course were are so_far.
     let none : is_some c.args.unsteady ≡ false = search rules in
     let fine : c.has_four_steady.result ≡ true = search rules in
     sym (unsteady-next c.args.list.now c.args.script.now
@@ -54,7 +70,7 @@ returns-then-has_four_steady c = λ course are so_far.
     ∙ ap (λ b. cond b None (Some (max c.args.slot c.args.start.slot))) fine)
 
 pub returns-else-has_four_steady : goal.returns-else-has_four_steady
-returns-else-has_four_steady c = λ course are so_far.
+returns-else-has_four_steady c = λ course were are so_far.
     let none : is_some c.args.unsteady ≡ false = search rules in
     let few : c.has_four_steady.result ≡ false = search rules in
     let last : max c.args.slot c.args.start.slot ≡ c.max.result = search rules in
@@ -62,3 +78,15 @@ returns-else-has_four_steady c = λ course are so_far.
     (told_start c.args.start) course c.args.slot c.args.faulty c.has_four_steady.result c.requires.valid
     are c.has_four_steady.ensures (omega arith) (ap is_some (sym so_far) ∙ none)
     ∙ ap (λ b. cond b None (Some (max c.args.slot c.args.start.slot))) few ∙ ap Some last)
+
+pub returns-then-eq : goal.returns-then-eq
+returns-then-eq c = λ course were are so_far.
+    let list = c.args.list.now in
+    let script = c.args.script.now in
+    let start = told_start c.args.start in
+    let slot = c.args.slot in
+    let none : is_some c.args.unsteady ≡ false = search rules in
+    let same : c.args.before ≡ c.args.faulty = search rules in
+    nothing c.args.unsteady none
+    ∙ sym (unsteady-still list script start course slot c.args.before c.requires.valid were
+    (λ k small. ap (λ nodes. has_node nodes k) same ∙ are k small) c.if-start-slot.true (ap is_some (sym so_far) ∙ none))

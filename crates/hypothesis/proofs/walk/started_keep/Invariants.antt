@@ -1,8 +1,12 @@
+use Rattle.hypothesis.specs.SlotIncidents.{AreKeptFrom}
 use Rattle.hypothesis.specs.Standing.{told_start}
 use Rattle.hypothesis.specs.Walks.{HasWalked, keep_course}
 use Rattle.hypothesis.proofs.walk.started_keep.Given as goal
 
--- the walk has gone over the slots so far
+-- the walk has gone over the slots so far, and what is kept is so from the next one on
 abbrev pub invariant-loop-slot : goal.invariant-loop-slot
-invariant-loop-slot l =
-    HasWalked l.list l.script (told_start l.start) (keep_course l.list l.script (told_start l.start)) l.slot l.walk
+invariant-loop-slot l = record {
+  walked :
+      HasWalked l.list l.script (told_start l.start) (keep_course l.list l.script (told_start l.start)) l.slot l.walk;
+  kept : AreKeptFrom l.list l.script l.slot l.kept;
+}

@@ -43,5 +43,5 @@ returns c = λ course walked made.
           ∙ (λ i. option_or (walked.early i) (first_too_early gap (walked.earliest i) (replicate count slot)))
           ∙ sym (first_too_early-append gap from before (replicate count slot))
           ∙ sym (ap (first_too_early gap from) next);
-      unsteady = c.unsteady_with.ensures course made.faulty walked.unsteady;
+      unsteady = c.unsteady_with.ensures course walked.faulty made.faulty walked.unsteady;
     }

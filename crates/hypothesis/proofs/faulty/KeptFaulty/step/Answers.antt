@@ -9,13 +9,16 @@ returns-clause-at c =
     let list = c.args.list.now in
     let script = c.args.script.now in
     let start = told_start c.args.self.now.start in
-    let made = c.faults_in-faults.ensures (faulty_nodes_before list script start c.args.slot) c.requires.at.faulty in
+    let made = c.faults_in-faults.ensures.faults (faulty_nodes_before list script start c.args.slot) c.requires.at.known.faulty in
     record {
-      start = c.requires.at.start;
-      jumps = c.requires.at.jumps;
-      faulty =
-          subst (λ (n : ℕ). HaveSameNodes c.faults_in-faults.result.faulty
-          (numbers_of (faulty_nodes_before list script start n))) (sym (add-one c.args.slot)) made.faulty;
+      known = record {
+        start = c.requires.at.known.start;
+        jumps = c.requires.at.known.jumps;
+        faulty =
+            subst (λ (n : ℕ). HaveSameNodes c.faults_in-faults.result.faulty
+            (numbers_of (faulty_nodes_before list script start n))) (sym (add-one c.args.slot)) made.faulty;
+      };
+      kept = c.faults_in-faults.ensures.kept;
     }
 
 pub returns-clause-faulty : goal.returns-clause-faulty
@@ -23,7 +26,7 @@ returns-clause-faulty c = λ k small.
     let list = c.args.list.now in
     let script = c.args.script.now in
     let start = told_start c.args.self.now.start in
-    let made = c.faults_in-faults.ensures (faulty_nodes_before list script start c.args.slot) c.requires.at.faulty in
+    let made = c.faults_in-faults.ensures.faults (faulty_nodes_before list script start c.args.slot) c.requires.at.known.faulty in
     made.faulty k small
     ∙ ap (λ (o : Option ClusterStart). has_node (numbers_of (started_faulty_nodes list script c.args.slot o)) k)
-    (sym c.requires.at.start)
+    (sym c.requires.at.known.start)

@@ -1,0 +1,29 @@
+use Rattle.std.proofs.Common.{ℕ, ◌+◌, ap, subst, ◌∙◌, arith}
+use Rattle.ttp_world.specs.Hypothesis.{numbers_of}
+use Rattle.ttp_world.specs.Returning.{slots_before, faulty_since}
+use Rattle.hypothesis.specs.SlotIncidents.{AreKeptFrom}
+use Rattle.hypothesis.specs.Standing.{told_start, HaveSameNodes}
+use Rattle.hypothesis.proofs.faulty.BackFaulty.step.Goals as goal
+
+pub back_faults_in-faults-requires-clause-kept : goal.back_faults_in-faults-requires-clause-kept
+back_faults_in-faults-requires-clause-kept c = λ t from before. c.requires.at.kept t (omega arith) before
+
+pub returns-clause-at : goal.returns-clause-at
+returns-clause-at c =
+    let list = c.args.list.now in
+    let script = c.args.script.now in
+    let start = told_start c.args.self.now.start in
+    let end = c.requires.at.known.end in
+    record {
+      known = record {
+        start = c.requires.at.known.start;
+        jumps = c.requires.at.known.jumps;
+        end = c.back_faults_in-faults.ensures.end ∙ ap (λ (n : ℕ). n + 1) end;
+        newest = c.back_faults_in-faults.ensures.newest;
+        faulty = subst (λ (n : ℕ). HaveSameNodes c.back_faults_in-faults.result.faulty
+            (numbers_of (faulty_since (slots_before list script start (n + 1))))) end
+            c.back_faults_in-faults.ensures.faults.faulty;
+      };
+      kept = subst (λ (n : ℕ). AreKeptFrom list script (n + 1) c.back_faults_in-faults.new.kept) end
+          c.back_faults_in-faults.ensures.kept;
+    }

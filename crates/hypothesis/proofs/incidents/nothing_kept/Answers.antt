@@ -1,0 +1,5 @@
+use Rattle.std.proofs.Common.{arith}
+use Rattle.hypothesis.proofs.incidents.nothing_kept.Goals as goal
+
+pub returns : goal.returns
+returns c = λ list script slot t from before. absurd (omega (arith, before))
