@@ -9,7 +9,7 @@ ghost use Rattle.line_text.specs.LineParts.{entry_text, message_text, members_te
 ghost use Rattle.line_text.specs.Labels.{after_label};
 
 use crate::labels::after_label;
-use crate::words::{entry_word, peer_of};
+use crate::words::{peer_of, put_array, put_word};
 use std::marker::Model;
 use ttp_base::{Failed, Line, NodeSet, Sink};
 use ttp_world::{Ack, Entry, Medl, NodeState, Verdict};
@@ -74,16 +74,6 @@ impl Model for NodeLines {
     ghost invariant = { λ l. IsBegun l.slot l.head l.line };
 }
 
-// Adds a text of a known size. A copy of it can't lie in the line, so this takes few instructions.
-#[inline(always)]
-fn put_array<const N: usize>(line: &mut Line, text: &[u8; N])
-    requires { length line.old + N ≤ 640 }
-    ensures { line.new ≡ line.old ++ text.now }
-{
-    let copy = *text;
-    line.put_bytes(&copy);
-}
-
 #[tactic(auto, using(ttp_base::proofs::Room::room))]
 fn put_number_or_dash(line: &mut Line, number: Option<u64>)
     requires { length line.old + 20 ≤ 640 }
@@ -102,9 +92,7 @@ fn put_entry(line: &mut Line, node: u8, entry: &Entry)
     ensures text { line.new ≡ line.old ++ entry_text node entry.now }
     ensures short { length line.new ≤ length line.old + 50 }
 {
-    line.put_text(" ");
-    line.put_text(entry_word(entry));
-    put_array(line, b" peer ");
+    put_word(line, entry);
     put_number_or_dash(line, peer_of(node, entry).map(u64::from));
 }
 
