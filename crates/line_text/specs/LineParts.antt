@@ -70,10 +70,10 @@ pub record ToldState : Type 0 where
   pub judged : Option Judged
   pub text : List ℕ
 
--- a text tells a judgement, if there is one
-pub record IsTold (judged : Option Judged) (text : List ℕ) : Type 0 where
+-- a text of this length tells a judgement, if there is one, and is short
+pub record IsTold (judged : Option Judged) (len : ℕ) (text : List ℕ) : Type 0 where
   pub tells : IfSome judged (λ j. text ≡ text_of j)
-  pub short : length text ≤ 115
+  pub short : len ≤ 64
 
 -- so much of a line is what the lines of a slot begin with
 pub record IsBegun (slot head : ℕ) (line : List ℕ) : Type 0 where

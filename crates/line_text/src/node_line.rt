@@ -1,14 +1,15 @@
 //! The lines of the nodes after a slot.
-ghost use Rattle.std.specs.Prelude.{◌≡◌, ◌≢◌, ◌+◌, ◌≤◌, [], ◌∷◌, ◌++◌, length, MatchBool, Some, IfSome, OnOk, OnErr, option_map};
+ghost use Rattle.std.specs.Prelude.{◌≡◌, ◌≢◌, ◌+◌, ◌≤◌, [], ◌∷◌, ◌++◌, length, codes, MatchBool, Some, IfSome, OnOk, OnErr, option_map};
 ghost use Rattle.ttp_base.specs.Outside.{WroteLines, CutShort};
+ghost use Rattle.ttp_base.specs.Text.{hex};
 ghost use Rattle.ttp_world.specs.declared.node.Ack.TheVariants as ack;
-ghost use Rattle.ttp_world.specs.Trace.{number_or_dash, ack_word};
+ghost use Rattle.ttp_world.specs.Trace.{number_or_dash, ack_word, member_digits};
 ghost use Rattle.line_text.specs.LineParts.{HasDigits, listed_line, head_text, shown_text, ack_text, end_text};
 ghost use Rattle.line_text.specs.LineParts.{entry_text, message_text, members_text, text_of, with_rest};
 ghost use Rattle.line_text.specs.Labels.{after_label};
 
 use crate::labels::after_label;
-use crate::words::{entry_word, peer_of};
+use crate::words::{peer_of, put_array, put_word};
 use std::marker::Model;
 use ttp_base::{Failed, Line, NodeSet, Sink};
 use ttp_world::{Ack, Entry, Medl, NodeState, Verdict};
@@ -24,22 +25,28 @@ pub(crate) struct Judged {
     bits: u32,
 }
 
+// How long a text of a judgement may be that is kept. All of them are shorter.
+const KEPT: usize = 64;
+
 /// The newest judgement that a line showed, and what that shows between the node's number and its counts.
 /// Contracts see both.
 #[derive(Drop)]
 struct Told {
     judged: Option<Judged>,
-    text: Line,
+    // The text, and what is of no account behind it.
+    text: [u8; 64],
+    len: usize,
 }
 
 impl Model for Told {
+    ghost use Rattle.std.specs.Prelude.{take};
     ghost use Rattle.line_text.specs.LineParts.{ToldState, IsTold};
 
     ghost Value = { ToldState };
 
-    ghost view = { λ t. record { judged = t.judged; text = t.text } };
+    ghost view = { λ t. record { judged = t.judged; text = take t.len t.text } };
 
-    ghost invariant = { λ t. IsTold t.judged t.text };
+    ghost invariant = { λ t. IsTold t.judged t.len (take t.len t.text) };
 }
 
 /// Where the lines of nodes are formed, one after another. Contracts see it as the slot whose lines they
@@ -85,9 +92,7 @@ fn put_entry(line: &mut Line, node: u8, entry: &Entry)
     ensures text { line.new ≡ line.old ++ entry_text node entry.now }
     ensures short { length line.new ≤ length line.old + 50 }
 {
-    line.put_text(" ");
-    line.put_text(entry_word(entry));
-    line.put_text(" peer ");
+    put_word(line, entry);
     put_number_or_dash(line, peer_of(node, entry).map(u64::from));
 }
 
@@ -97,7 +102,7 @@ fn put_message(line: &mut Line, message: Option<u64>)
     ensures text { line.new ≡ line.old ++ message_text message }
     ensures short { length line.new ≤ length line.old + 30 }
 {
-    line.put_text(" msg ");
+    put_array(line, b" msg ");
     put_number_or_dash(line, message);
 }
 
@@ -110,7 +115,7 @@ fn put_members(line: &mut Line, list: &Medl, state: &NodeState)
     ensures short { length line.new ≤ length line.old + 30 }
 {
     let digits = if list.is_wide() { 6 } else { 4 };
-    line.put_text(" mem ");
+    put_array(line, b" mem ");
     line.put_hex(u64::from(state.members.bits()), digits);
 }
 
@@ -125,7 +130,7 @@ fn put_shown(line: &mut Line, list: &Medl, node: u8, state: &NodeState, message:
     put_entry(line, node, &state.entry);
     put_message(line, message);
     put_members(line, list, state);
-    line.put_text(" acc ");
+    put_array(line, b" acc ");
 }
 
 #[tactic(auto, using(ttp_base::proofs::Room::room))]
@@ -169,7 +174,8 @@ impl Told {
     fn nothing() -> Told {
         Told {
             judged: None,
-            text: Line::new(),
+            text: [0; 64],
+            len: 0,
         }
     }
 
@@ -183,27 +189,88 @@ impl Told {
         }
     }
 
-    // Forms the text of a judgement, that of this node's state.
-    fn tell(&mut self, judged: Judged, list: &Medl, node: u8, state: &NodeState)
-        requires digits { HasDigits list.now state.now }
-        requires judged { shown_text list.now node state.now judged.message ≡ text_of judged }
-        ensures { self.new.judged ≡ Some judged }
+    // Keeps the text of a judgement, if there is room for it.
+    fn keep(&mut self, judged: Judged, text: &[u8])
+        requires { text.now ≡ text_of judged }
     {
-        self.text.clear();
-        put_shown(&mut self.text, list, node, state, judged.message);
-        self.judged = Some(judged);
+        if text.len() <= KEPT {
+            self.text[..text.len()].copy_from_slice(text);
+            self.len = text.len();
+            self.judged = Some(judged);
+        }
     }
 
-    fn bytes(&self) -> &[u8]
-        ensures text { IfSome self.now.judged (λ j. result.now ≡ text_of j) }
-        ensures short { length result.now ≤ 115 }
+    // Adds the text. All the room for it is copied, since a copy of a known size takes few instructions.
+    #[inline(always)]
+    fn put(&self, line: &mut Line)
+        requires { length line.old + 64 ≤ 640 }
+        ensures text { line.new ≡ line.old ++ self.now.text }
+        ensures told { IfSome self.now.judged (λ j. self.now.text ≡ text_of j) }
+        ensures short { length line.new ≤ length line.old + 64 }
     {
-        self.text.bytes()
+        let end = line.len() + self.len;
+        let text = self.text;
+        line.put_bytes(&text);
+        line.cut(end);
     }
 }
 
+// Adds what a line shows between the node's number and its counts, and keeps the text.
+#[inline(never)]
+fn put_judged(
+    line: &mut Line,
+    told: &mut Told,
+    list: &Medl,
+    node: u8,
+    state: &NodeState,
+    judged: Judged,
+)
+    requires room { length line.old + 130 ≤ 640 }
+    requires digits { HasDigits list.now state.now }
+    requires judged { shown_text list.now node state.now judged.message ≡ text_of judged }
+    ensures text { line.new ≡ line.old ++ shown_text list.now node state.now judged.message }
+    ensures short { length line.new ≤ length line.old + 115 }
+{
+    let start = line.len();
+    put_shown(line, list, node, state, judged.message);
+    told.keep(judged, &line.bytes()[start..]);
+}
+
+// Adds an empty membership, and what a line shows behind it before its counts.
+fn put_nobody(line: &mut Line, list: &Medl)
+    requires { length line.old + 20 ≤ 640 }
+    ensures text { line.new ≡ line.old ++ hex (member_digits list.now) 0 ++ codes " acc " }
+    ensures short { length line.new ≤ length line.old + 20 }
+{
+    if list.is_wide() {
+        put_array(line, b"000000 acc ");
+    } else {
+        put_array(line, b"0000 acc ");
+    }
+}
+
+// Adds what a line shows of a node that is off, between its number and its counts.
+fn put_off(line: &mut Line, list: &Medl)
+    requires { length line.old + 50 ≤ 640 }
+    ensures text { line.new ≡ line.old ++ codes " off peer - msg - mem " ++ hex (member_digits list.now) 0 ++ codes " acc " }
+    ensures short { length line.new ≤ length line.old + 50 }
+{
+    put_array(line, b" off peer - msg - mem ");
+    put_nobody(line, list);
+}
+
+// The same of a node that is gone.
+fn put_gone(line: &mut Line, list: &Medl)
+    requires { length line.old + 50 ≤ 640 }
+    ensures text { line.new ≡ line.old ++ codes " gone peer - msg - mem " ++ hex (member_digits list.now) 0 ++ codes " acc " }
+    ensures short { length line.new ≤ length line.old + 50 }
+{
+    put_array(line, b" gone peer - msg - mem ");
+    put_nobody(line, list);
+}
+
 // Adds what a line shows between the node's number and its counts. Where the node judged the slot, it is
-// formed only if it is not what the line before showed.
+// formed only if it is not what the line before showed, and of a node that is off or gone it is a text.
 fn put_state(
     line: &mut Line,
     told: &mut Told,
@@ -217,24 +284,31 @@ fn put_state(
     ensures text { line.new ≡ line.old ++ shown_text list.now node state.now message }
     ensures short { length line.new ≤ length line.old + 115 }
 {
-    match state.entry {
-        Entry::Judged {
-            sender,
-            verdict,
-            ..
-        } => {
-            let judged = Judged {
-                wide: list.is_wide(),
+    match (&state.entry, message, state.members.bits()) {
+        (
+            Entry::Judged {
                 sender,
                 verdict,
+                ..
+            },
+            message,
+            bits,
+        ) => {
+            let judged = Judged {
+                wide: list.is_wide(),
+                sender: *sender,
+                verdict: *verdict,
                 message,
-                bits: state.members.bits(),
+                bits,
             };
-            if !told.tells(&judged) {
-                told.tell(judged, list, node, state);
+            if told.tells(&judged) {
+                told.put(line);
+            } else {
+                put_judged(line, told, list, node, state, judged);
             }
-            line.put_bytes(told.bytes());
         }
+        (Entry::Gone, None, 0) => put_gone(line, list),
+        (Entry::Off, None, 0) => put_off(line, list),
         _ => put_shown(line, list, node, state, message),
     }
 }
@@ -256,11 +330,11 @@ fn put_any_end(line: &mut Line, state: &NodeState)
     requires { length line.old + 130 ≤ 640 }
     ensures { line.new ≡ line.old ++ end_text state.now.rejected state.now.ack state.now.offset }
 {
-    line.put_text(" rej ");
+    put_array(line, b" rej ");
     line.put_number(u64::from(state.rejected));
-    line.put_text(" ack ");
+    put_array(line, b" ack ");
     put_ack_word(line, state.ack);
-    line.put_text(" clock ");
+    put_array(line, b" clock ");
     line.put_signed(state.offset);
     line.put_text("\n");
 }
@@ -272,7 +346,7 @@ fn put_closed(line: &mut Line)
     ensures text { line.new ≡ line.old ++ ack_text 0 ack.Closed }
     ensures short { length line.new ≤ length line.old + 30 }
 {
-    line.put_text(" rej 0 ack none clock ");
+    put_array(line, b" rej 0 ack none clock ");
 }
 
 // The same as `put_any_end` where that holds.
@@ -293,7 +367,7 @@ fn put_end(line: &mut Line, state: &NodeState)
     ensures { line.new ≡ line.old ++ end_text state.now.rejected state.now.ack state.now.offset }
 {
     match (state.rejected, state.ack, state.offset) {
-        (0, Ack::Closed, 0) => line.put_text(" rej 0 ack none clock 0\n"),
+        (0, Ack::Closed, 0) => put_array(line, b" rej 0 ack none clock 0\n"),
         (0, Ack::Closed, offset) => put_closed_end(line, offset),
         _ => put_any_end(line, state),
     }

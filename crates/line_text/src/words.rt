@@ -1,20 +1,32 @@
 //! The words of a node's line.
-ghost use Rattle.std.specs.Prelude.{◌≡◌, ◌≤◌, length};
+ghost use Rattle.std.specs.Prelude.{◌≡◌, ◌+◌, ◌≤◌, ◌++◌, length, codes};
 ghost use Rattle.ttp_world.specs.Trace.{verdict_word, reason_word, entry_word, peer_of};
 
+use ttp_base::Line;
 use ttp_world::{Entry, Reason, Verdict};
 
-fn verdict_word(verdict: Verdict) -> &'static str
-    ensures text { result.now ≡ verdict_word verdict }
-    ensures short { length result.now ≤ 9 }
+/// Adds a text of a known size. A copy of it can't lie in the line, so this takes few instructions.
+#[inline(always)]
+pub(crate) fn put_array<const N: usize>(line: &mut Line, text: &[u8; N])
+    requires { length line.old + N ≤ 640 }
+    ensures { line.new ≡ line.old ++ text.now }
+{
+    let copy = *text;
+    line.put_bytes(&copy);
+}
+
+fn put_verdict(line: &mut Line, verdict: Verdict)
+    requires { length line.old + 30 ≤ 640 }
+    ensures text { line.new ≡ line.old ++ codes " " ++ verdict_word verdict ++ codes " peer " }
+    ensures short { length line.new ≤ length line.old + 30 }
 {
     match verdict {
-        Verdict::Null => "null",
-        Verdict::Invalid => "invalid",
-        Verdict::Incorrect => "incorrect",
-        Verdict::Correct => "correct",
-        Verdict::Tentative => "tentative",
-        Verdict::Denied => "denied",
+        Verdict::Null => put_array(line, b" null peer "),
+        Verdict::Invalid => put_array(line, b" invalid peer "),
+        Verdict::Incorrect => put_array(line, b" incorrect peer "),
+        Verdict::Correct => put_array(line, b" correct peer "),
+        Verdict::Tentative => put_array(line, b" tentative peer "),
+        Verdict::Denied => put_array(line, b" denied peer "),
     }
 }
 
@@ -29,21 +41,32 @@ fn reason_word(reason: Reason) -> &'static str
     }
 }
 
-/// The word for what a node did in a slot.
-pub(crate) fn entry_word(entry: &Entry) -> &'static str
-    ensures text { result.now ≡ entry_word entry.now }
-    ensures short { length result.now ≤ 14 }
+fn put_reason(line: &mut Line, reason: Reason)
+    requires { length line.old + 30 ≤ 640 }
+    ensures text { line.new ≡ line.old ++ codes " " ++ reason_word reason ++ codes " peer " }
+    ensures short { length line.new ≤ length line.old + 30 }
+{
+    line.put_text(" ");
+    line.put_text(reason_word(reason));
+    line.put_text(" peer ");
+}
+
+/// Adds the word for what a node did in a slot, and what stands before its peer.
+pub(crate) fn put_word(line: &mut Line, entry: &Entry)
+    requires { length line.old + 30 ≤ 640 }
+    ensures text { line.new ≡ line.old ++ codes " " ++ entry_word entry.now ++ codes " peer " }
+    ensures short { length line.new ≤ length line.old + 30 }
 {
     match entry {
-        Entry::Off => "off",
-        Entry::Waited => "wait",
-        Entry::Retried => "retry",
-        Entry::Gone => "gone",
-        Entry::Started => "start",
-        Entry::Sent { .. } => "send",
-        Entry::Joined { .. } => "join",
-        Entry::Judged { verdict, .. } => verdict_word(*verdict),
-        Entry::Left { reason, .. } => reason_word(*reason),
+        Entry::Off => put_array(line, b" off peer "),
+        Entry::Waited => put_array(line, b" wait peer "),
+        Entry::Retried => put_array(line, b" retry peer "),
+        Entry::Gone => put_array(line, b" gone peer "),
+        Entry::Started => put_array(line, b" start peer "),
+        Entry::Sent { .. } => put_array(line, b" send peer "),
+        Entry::Joined { .. } => put_array(line, b" join peer "),
+        Entry::Judged { verdict, .. } => put_verdict(line, *verdict),
+        Entry::Left { reason, .. } => put_reason(line, *reason),
     }
 }
 

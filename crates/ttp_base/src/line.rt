@@ -105,32 +105,29 @@ impl Line {
 
     /// Adds a number in decimal digits, with no leading zeros.
     #[inline(always)]
-    #[tactic(auto, using(std::proofs::lemmas::Fmt::decimal_digit))]
+    #[tactic(auto, using(std::proofs::lemmas::Fmt::decimal_digit, crate::proofs::Decimal::decimal_two_digits))]
     pub fn put_number(&mut self, v: u64)
         requires { length self.old + length (decimal v) ≤ 640 }
         ensures { self.new ≡ self.old ++ decimal v }
     {
         if v < 10 {
             self.put_bytes(&[b'0' + v as u8]);
+        } else if v < 100 {
+            self.put_bytes(&[b'0' + (v / 10) as u8, b'0' + (v % 10) as u8]);
         } else {
             self.put_digits(v);
         }
     }
 
-    // Adds a number of two digits or of more.
-    #[tactic(auto, using(crate::proofs::Decimal::decimal_two_digits))]
+    // The same for any number. It stands apart, so that numbers of one digit or two are put in place.
+    #[inline(never)]
     fn put_digits(&mut self, v: u64)
-        requires room { length self.old + length (decimal v) ≤ 640 }
-        requires digits { 10 ≤ v }
+        requires { length self.old + length (decimal v) ≤ 640 }
         ensures { self.new ≡ self.old ++ decimal v }
     {
-        if v < 100 {
-            self.put_bytes(&[b'0' + (v / 10) as u8, b'0' + (v % 10) as u8]);
-        } else {
-            let mut buffer = itoa::Buffer::new();
-            let digits = buffer.format(v);
-            self.put_bytes(digits.as_bytes());
-        }
+        let mut buffer = itoa::Buffer::new();
+        let digits = buffer.format(v);
+        self.put_bytes(digits.as_bytes());
     }
 
     /// Adds a number in decimal digits, with a `-` before a negative one.
@@ -151,10 +148,10 @@ impl Line {
         requires room { length self.old + digits ≤ 640 }
         ensures { self.new ≡ self.old ++ hex digits v }
     {
-        let mut text = [b'0'; 16];
-        let start = 16 - digits as usize;
-        fill_hex(&mut text, start, v);
-        self.put_bytes(&text[start..]);
+        let start = self.len;
+        let end = start + digits as usize;
+        fill_hex(&mut self.bytes[..end], start, v);
+        self.len = end;
     }
 
     /// Adds two lower-case hexadecimal digits for each byte.

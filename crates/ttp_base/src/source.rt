@@ -21,7 +21,9 @@ pub(crate) enum Trouble {
 }
 
 impl Trouble {
-    /// What this error says.
+    /// What this error says. It stands apart, since errors are rare.
+    #[cold]
+    #[inline(never)]
     pub(crate) fn of(error: &io::Error) -> Trouble
         ensures interrupted { (result ≡ Trouble.Interrupted) ↔ (error_kind error.now ≡ ErrorKind.Interrupted) }
         ensures memory { (result ≡ Trouble.Memory) ↔ (error_kind error.now ≡ ErrorKind.OutOfMemory) }

@@ -39,7 +39,9 @@ impl<W: Write> Target for Onto<W> {
 
     fn write(&mut self, piece: &[u8]) -> Result<usize, Trouble> {
         match self.writer.write(piece) {
-            Ok(0) if !piece.is_empty() => Err(Trouble::Failed),
+            // The whole piece, as mostly.
+            Ok(count) if count == piece.len() => Ok(count),
+            Ok(0) => Err(Trouble::Failed),
             Ok(count) => Ok(count),
             Err(error) => Err(Trouble::of(&error)),
         }
