@@ -6,7 +6,7 @@ use Rattle.std.specs.Char.{is_ascii_digit}
 use Rattle.std.specs.List.{list_all}
 use Rattle.std.proofs.lemmas.Bool.Decides.{nat_tests}
 use Rattle.std.proofs.lemmas.List.Sums.{AllPass-from_list_all, list_all-from_AllPass}
-use Rattle.script_text.specs.Lines.{is_blank, is_part, has_bytes, word_at}
+use Rattle.script_text.specs.Lines.{is_blank, is_part, has_bytes, words_of, word_at}
 use Rattle.script_text.specs.Words.{CutsWord, held, AreHeld}
 use Rattle.script_text.proofs.Cuts.{has_bytes-take, words_of-empty, words_of-front, words_of-whole}
 
@@ -68,3 +68,32 @@ pub length-held : (words : List (List ℕ)) → AreHeld words → length (held w
 length-held [] are = refl
 length-held (word ∷ words) are =
     length-held_at word words (has_bytes word) refl are (length-held words)
+
+-- Words that are cut off a line one after another.
+
+-- such words are held, and have no bytes where the line has no words
+pub record AreCut (line : List ℕ) (words : List (List ℕ)) : Type 0 where
+  pub are : AreHeld words
+  pub none : words_of line ≡ [] → (i : ℕ) → word_at words i ≡ []
+
+pub AreCut-end : (line : List ℕ) → AreCut line []
+AreCut-end line = record { are = λ i. refl; none = λ none i. refl }
+
+held_some : (word : List ℕ) (words : List (List ℕ)) → AreHeld words
+    → (i : ℕ) → word_at (word ∷ held words) i ≡ word_at (word ∷ words) i
+held_some word words are zero = refl
+held_some word words are (suc n) = are n
+
+none_more : (words : List (List ℕ)) → ((i : ℕ) → word_at words i ≡ []) → (i : ℕ) → word_at ([] ∷ words) i ≡ []
+none_more words none zero = refl
+none_more words none (suc n) = none n
+
+pub AreCut-more : (line word rest : List ℕ) (words : List (List ℕ)) → CutsWord line word rest → AreCut rest words
+    → AreCut line (word ∷ words)
+AreCut-more line [] rest words cut more =
+    let none = none_more words (more.none (cut.end refl)) in
+    record { are = λ i. sym (none i); none = λ _. none }
+AreCut-more line (x ∷ xs) rest words cut more = record {
+  are = held_some (x ∷ xs) words more.are;
+  none = λ none. absurd (cc (none, cut.words));
+}

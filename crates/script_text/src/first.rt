@@ -1,7 +1,8 @@
 //! The first word of a line, and the form that it names.
-ghost use Rattle.std.specs.Prelude.{◌≡◌, ◌≤◌, true, false, length, slice_index, Some, IfSome};
+ghost use Rattle.std.specs.Prelude.{◌≡◌, ◌≤◌, ◌∷◌, true, false, length, slice_index, Some, IfSome};
 ghost use Rattle.std.specs.List.{list_all};
-ghost use Rattle.script_text.specs.Lines.{is_blank, is_part};
+ghost use Rattle.script_text.specs.declared.keyword.Keyword.TheVariants as keyword;
+ghost use Rattle.script_text.specs.Lines.{is_blank, is_comment, is_part, words_of};
 ghost use Rattle.script_text.specs.Statement.{keyword_of};
 ghost use Rattle.script_text.specs.Words.{CutsWord};
 
@@ -26,6 +27,7 @@ fn word_at_front<'a>(form: Keyword, text: &[u8], line: &'a [u8]) -> Option<First
     requires first { is_blank (slice_index line.now 0) ≡ false }
     ensures cut { IfSome result (λ first. CutsWord line.now first.cut.piece.now first.cut.rest.now) }
     ensures form { IfSome result (λ first. first.form ≡ keyword_of first.cut.piece.now) }
+    ensures piece { IfSome result (λ first. first.cut.piece.now ≡ text.now) }
 {
     let end = text.len();
     if line.len() < end {
@@ -79,6 +81,19 @@ fn any_word(line: &[u8]) -> FirstWord<'_>
             rest: past_word(line, end),
         },
         form: keyword_of(piece),
+    }
+}
+
+/// The first word of a line and what follows it, where that word is `error`.
+#[inline(always)]
+pub(crate) fn error_word(line: &[u8]) -> Option<Cut<'_>>
+    ensures words { IfSome result (λ cut. words_of line.now ≡ cut.piece.now ∷ words_of cut.rest.now) }
+    ensures form { IfSome result (λ cut. keyword_of cut.piece.now ≡ Some keyword.Error) }
+    ensures told { IfSome result (λ cut. is_comment cut.piece.now ≡ false) }
+{
+    match word_at_front(Keyword::Error, b"error", past_blanks(line)) {
+        Some(first) => Some(first.cut),
+        None => None,
     }
 }
 

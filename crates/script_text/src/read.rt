@@ -13,13 +13,13 @@ ghost use Rattle.script_text.specs.SoFar.{TakesForm, RefusesForm, TakesLine, Ref
 
 use crate::error::{LineFault, Refusal, ScriptError};
 use crate::event::{arm_in, error_in, flip_in, jump_in, receive_in, send_in};
-use crate::first::first_word;
+use crate::first::{error_word, first_word};
 use crate::form::is_spelled;
 use crate::host::read_in;
 use crate::keyword::Keyword;
 use crate::lines::next_line;
 use crate::so_far::SoFar;
-use crate::words::{Words, words_after};
+use crate::words::{Words, error_words_after, words_after};
 use std::alloc::Global;
 use ttp_base::{List, Memory};
 use ttp_world::{EVENT_LIMIT, Events, Medl, Script};
@@ -75,9 +75,10 @@ fn take_form(list: &Medl, form: Keyword, words: &Words, so_far: &mut SoFar) -> R
     take_stated(list, form, words, so_far)
 }
 
-// Takes a line.
+// Takes a line of any form.
+#[inline(never)]
 #[tactic(auto, using(crate::proofs::Kept::kept), unfolding(crate::specs::Faults::line_faults, crate::specs::Faults::statements_after))]
-fn take_line(list: &Medl, line: &[u8], so_far: &mut SoFar) -> Result<(), Refusal>
+fn take_any_line(list: &Medl, line: &[u8], so_far: &mut SoFar) -> Result<(), Refusal>
     requires valid { IsValid list.now }
     requires nodes { HasNodes list.now so_far.old }
     ensures ok { OnOk result (TakesLine list.now (words_of line.now) so_far.old so_far.new) }
@@ -95,6 +96,23 @@ fn take_line(list: &Medl, line: &[u8], so_far: &mut SoFar) -> Result<(), Refusal
         return Err(LineFault::Word.into());
     };
     take_form(list, form, &words, so_far)
+}
+
+// Takes a line. One of the form that most lines of long scripts have is taken in place.
+#[tactic(auto, using(crate::proofs::Kept::kept), unfolding(crate::specs::Faults::line_faults, crate::specs::Faults::statements_after))]
+fn take_line(list: &Medl, line: &[u8], so_far: &mut SoFar) -> Result<(), Refusal>
+    requires valid { IsValid list.now }
+    requires nodes { HasNodes list.now so_far.old }
+    ensures ok { OnOk result (TakesLine list.now (words_of line.now) so_far.old so_far.new) }
+    ensures err { IfErr result (RefusesLine list.now (words_of line.now) so_far.old) }
+    ensures nodes { HasNodes list.now so_far.new }
+{
+    if let Some(first) = error_word(line) {
+        if let Some(words) = error_words_after(first) {
+            return take_form(list, Keyword::Error, &words, so_far);
+        }
+    }
+    take_any_line(list, line, so_far)
 }
 
 fn is_comment(word: &[u8]) -> bool

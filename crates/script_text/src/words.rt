@@ -193,6 +193,19 @@ fn next_word(line: &[u8]) -> WordCut<'_>
     front_word(past_blanks(line))
 }
 
+// The first word of a line, where it is a number.
+#[inline(always)]
+fn number_word(line: &[u8]) -> Option<WordCut<'_>>
+    ensures { IfSome result (λ cut. CutsWord line.now cut.word cut.rest.now) }
+{
+    let line = past_blanks(line);
+    let digits = front_digits(line);
+    if digits.count == 0 || !is_end(line, digits.count) {
+        return None;
+    }
+    Some(cut_word(line, digits.count, digits))
+}
+
 /// At most six words of a line, of which those behind the last have no bytes. Contracts see them as the list of words.
 #[derive(Drop)]
 pub(crate) struct Words<'a> {
@@ -257,6 +270,35 @@ pub(crate) fn words_after(first: Cut<'_>) -> Option<Words<'_>>
     let fifth = next_word(fourth.rest);
     let sixth = next_word(fifth.rest);
     if next_word(sixth.rest).word.has_bytes() {
+        return None;
+    }
+    Some(Words {
+        first: first.piece,
+        second: second.word,
+        third: third.word,
+        fourth: fourth.word,
+        fifth: fifth.word,
+        sixth: sixth.word,
+    })
+}
+
+/// All words of a line, of which the first was cut off, where four follow it and all but the second of them are numbers.
+#[inline(always)]
+pub(crate) fn error_words_after(first: Cut<'_>) -> Option<Words<'_>>
+    ensures { IfSome result (λ words. words ≡ first.entry.piece.now ∷ words_of first.entry.rest.now) }
+{
+    let Some(second) = number_word(first.rest) else {
+        return None;
+    };
+    let third = next_word(second.rest);
+    let Some(fourth) = number_word(third.rest) else {
+        return None;
+    };
+    let Some(fifth) = number_word(fourth.rest) else {
+        return None;
+    };
+    let sixth = next_word(fifth.rest);
+    if sixth.word.has_bytes() {
         return None;
     }
     Some(Words {
