@@ -1,55 +1,41 @@
 -- The end of a slot: the entry that a node makes by what comes to it, and how far it takes the node's clock.
-use Rattle.std.proofs.Common.{◌≡◌, ◌≢◌, arith, ℕ, Bool, true, false, cond, not, refl, sym, subst, ◌∙◌, ◌⊎◌, inl}
-use Rattle.std.proofs.Common.{inr, ◌+◌, ◌≤◌, ℤ, pos, neg_ℤ, ◌≤ℤ◌, ◌+ℤ◌, ◌-ℤ◌, ◌&&◌, Option, Some, None, IfSome, IsTrue}
-use Rattle.std.proofs.Common.{unwrap_or, unsigned_abs, ◌<◌, max, FitsSigned, w64, to_z, of_z, length}
+use Rattle.controller.proofs.Words.{◌≡◌, ◌≢◌, arith, ℕ, Bool, true, false, cond, not, refl, sym, subst, ◌∙◌, ◌+◌, ◌≤◌}
+use Rattle.controller.proofs.Words.{ℤ, pos, ◌+ℤ◌, ◌-ℤ◌, ◌&&◌, Option, Some, None, IfSome, unwrap_or, unsigned_abs, ◌<◌}
+use Rattle.controller.proofs.Words.{FitsSigned, w64, to_z, of_z, length, ◌==◌, nat_le, nat_tests, eqb-true, and_parts}
+use Rattle.controller.proofs.Words.{ints, to_z-of_z, Medl, Ack, Act, Off, Listen, Start, Send, CState, ChannelView}
+use Rattle.controller.proofs.Words.{Chosen, Delivered, Entry, Phase, Verdict, is_correct, coming_place, phase_act}
+use Rattle.controller.proofs.Words.{past_after, correction_after, is_corrected, join_deviation, slot_change}
+use Rattle.controller.proofs.Words.{carries_payload, channel_join, new_entry, Place, SlotSurroundings, phase_after}
+use Rattle.controller.proofs.Words.{carried, is_joinable_state, Signal, Bits, plan_at, member_width, IsValid, NodePast}
+use Rattle.controller.proofs.Words.{Expected, Hearing, entry_deviation, expected_of, heard_deviation, is_taken_from_a}
+use Rattle.controller.proofs.Words.{verdict_of, view_of, jump_taken, IsDeviation, Arrival, EndsAs, hearing_of, kept}
+use Rattle.controller.proofs.Words.{loaded_length, offset_of_arrival, ArrivalFits, IsPossible, IsPlannedWithin}
+use Rattle.controller.proofs.Words.{IsEntryWithin, IsNearEnough, IsWithin}
+use Rattle.std.proofs.Common.{◌⊎◌, inl}
+use Rattle.std.proofs.Common.{inr, neg_ℤ, ◌≤ℤ◌, IsTrue}
+use Rattle.std.proofs.Common.{max}
 use Rattle.std.specs.Option.{option_or}
-use Rattle.std.specs.Prelude.{◌==◌, nat_le}
-use Rattle.std.proofs.lemmas.Bool.Decides.{nat_tests}
-use Rattle.std.proofs.lemmas.Bool.{cond_both, eqb-true, eqb-false, and_parts}
-use Rattle.std.proofs.lemmas.Int.{ints, to_z-of_z}
-use Rattle.ttp_world.specs.declared.medl.Medl.{Medl}
-use Rattle.ttp_world.specs.declared.node.Ack.{Ack}
+use Rattle.std.proofs.lemmas.Bool.{cond_both, eqb-false}
 use Rattle.ttp_world.specs.declared.node.Ack.TheVariants as ack
-use Rattle.ttp_world.specs.declared.node.Act.{Act}
-use Rattle.ttp_world.specs.declared.node.Act.TheVariants.{Off, Gone, Listen, Start, Retry, Leave, Send, Judge}
-use Rattle.ttp_world.specs.declared.node.CState.{CState}
-use Rattle.ttp_world.specs.declared.node.ChannelView.{ChannelView}
+use Rattle.ttp_world.specs.declared.node.Act.TheVariants.{Gone, Retry, Leave, Judge}
 use Rattle.ttp_world.specs.declared.node.ChannelView.TheVariants as view
-use Rattle.ttp_world.specs.declared.node.Chosen.{Chosen}
-use Rattle.ttp_world.specs.declared.node.Delivered.{Delivered}
-use Rattle.ttp_world.specs.declared.node.Entry.{Entry}
 use Rattle.ttp_world.specs.declared.node.Entry.TheVariants as entry
-use Rattle.ttp_world.specs.declared.node.Phase.{Phase}
 use Rattle.ttp_world.specs.declared.node.Phase.TheVariants as phase
 use Rattle.ttp_world.specs.declared.node.Reason.TheVariants as reason
-use Rattle.ttp_world.specs.declared.node.Verdict.{Verdict}
 use Rattle.ttp_world.specs.declared.node.Verdict.TheVariants as verdict
-use Rattle.ttp_world.specs.Acknowledgement.{is_open, is_correct}
-use Rattle.ttp_world.specs.Act.{coming_place, is_start_due, own_act, phase_act, unacknowledged_act}
-use Rattle.ttp_world.specs.After.{past_after, correction_after}
-use Rattle.ttp_world.specs.Clock.{is_corrected, join_deviation, slot_change}
-use Rattle.ttp_world.specs.Conduct.{carries_payload, channel_join, join_entry, judging_entry, new_entry, verdict_entry}
-use Rattle.ttp_world.specs.Diary.{Place, SlotSurroundings, phase_after}
-use Rattle.ttp_world.specs.Fitting.{carried, is_joinable_state}
-use Rattle.ttp_world.specs.Medium.{Signal, Bits}
-use Rattle.ttp_world.specs.Medl.{is_bare, kind_at, plan_at, payload_length, member_width, IsValid}
-use Rattle.ttp_world.specs.Past.{NodePast}
-use Rattle.ttp_world.specs.Reception.{Expected, Hearing, better_view, entry_deviation, expected_of, heard_deviation}
-use Rattle.ttp_world.specs.Reception.{is_expected_form, is_taken_from_a, is_within_window, verdict_of, verdict_of_view}
-use Rattle.ttp_world.specs.Reception.{view_of, view_of_frame}
-use Rattle.ttp_world.specs.World.{jump_taken}
+use Rattle.ttp_world.specs.Acknowledgement.{is_open}
+use Rattle.ttp_world.specs.Act.{is_start_due, own_act, unacknowledged_act}
+use Rattle.ttp_world.specs.Conduct.{join_entry, judging_entry, verdict_entry}
+use Rattle.ttp_world.specs.Medl.{is_bare, kind_at, payload_length}
+use Rattle.ttp_world.specs.Reception.{better_view}
+use Rattle.ttp_world.specs.Reception.{is_expected_form, is_within_window, verdict_of_view}
+use Rattle.ttp_world.specs.Reception.{view_of_frame}
 use Rattle.ttp_world.proofs.Averages.{fta-between}
 use Rattle.ack_check.specs.Moves.{taken_verdict}
-use Rattle.fta_sync.specs.StandsFor.{IsDeviation}
-use Rattle.medium.specs.declared.arrival.Arrival.{Arrival}
 use Rattle.medium.specs.declared.arrival.Arrival.TheVariants as arrival
 use Rattle.controller.specs.declared.controller.Intent.TheVariants as intent
-use Rattle.controller.specs.Ending.{EndsAs}
-use Rattle.controller.specs.Hearing.{ReadingFits, hearing_of}
-use Rattle.controller.specs.Kept.{kept}
-use Rattle.controller.specs.Limits.{loaded_length, most_clock, offset_of_arrival, ArrivalFits}
-use Rattle.controller.specs.ControllerWithin.{IsPossible, IsPlannedWithin}
-use Rattle.controller.specs.Within.{IsEntryWithin, IsNearEnough, IsWithin}
+use Rattle.controller.specs.Hearing.{ReadingFits}
+use Rattle.controller.specs.Limits.{most_clock}
 use Rattle.controller.proofs.Heard.{signal_from, clock_from, shows_a, shows_b}
 use Rattle.controller.proofs.Sets.{joinable-within}
 use Rattle.controller.proofs.Stints.{correction_after-take, kept_after-within, zero_near}

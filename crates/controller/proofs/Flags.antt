@@ -1,8 +1,8 @@
 -- Flags that are set one after another, the lowest first: each is added to the word of those before it.
-use Rattle.std.proofs.Common.{◌≡◌, ◌∙◌, ◌+◌, ◌-◌, ◌*◌, ◌%◌, ◌^◌, ◌<◌, ℕ, suc, Bool, true, false, arith, ap, subst, sym}
-use Rattle.std.specs.Int.{bit_at}
+use Rattle.controller.proofs.Words.{◌≡◌, ◌∙◌, ◌+◌, ◌-◌, ◌*◌, ◌^◌, ◌<◌, ℕ, suc, Bool, true, false, arith, ap, subst, sym}
+use Rattle.controller.proofs.Words.{bit_at, if◌then◌else◌}
+use Rattle.std.proofs.Common.{◌%◌}
 use Rattle.std.specs.Int.RustNames.{bit_and, bit_or}
-use Rattle.std.specs.Prelude.{if◌then◌else◌}
 use Rattle.std.proofs.Math.Nat.{mod-eq_of_lt, pow-suc}
 use Rattle.std.proofs.Math.Pow.{ones_split}
 use Rattle.std.proofs.lemmas.Nat.{and_le_l, and_mask, and_mod, mod_low, or_disjoint, pow_pos}

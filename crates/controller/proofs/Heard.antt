@@ -1,34 +1,24 @@
 -- What a node hears, judges and delivers, by what comes to it.
-use Rattle.std.proofs.Common.{◌≡◌, ℕ, zero, suc, ℤ, refl, ◌+ℤ◌, ◌-ℤ◌, List, ap, sym, subst, pos, true}
-use Rattle.std.proofs.Common.{Option, Some, None, unwrap_or, ◌∙◌, not, IfSome}
-use Rattle.std.specs.Borrow.{Bor}
-use Rattle.std.specs.Prelude.{◌==◌}
+use Rattle.controller.proofs.Words.{◌≡◌, ℕ, zero, suc, ℤ, refl, ◌+ℤ◌, ◌-ℤ◌, List, ap, sym, subst, pos, true, Option}
+use Rattle.controller.proofs.Words.{Some, None, unwrap_or, ◌∙◌, not, IfSome, Bor, ◌==◌, Medl, Ack, CState, ChannelView}
+use Rattle.controller.proofs.Words.{Entry, Correct, carries_payload, delivery, Place, Signal, Bits, NodePast, Expected}
+use Rattle.controller.proofs.Words.{Hearing, entry_deviation, expected_of, heard_deviation, is_taken_from_a, verdict_of}
+use Rattle.controller.proofs.Words.{view_of, expected_length, Shows, Arrival, is_silent_arrival, IsSeen}
+use Rattle.controller.proofs.Words.{offset_of_arrival}
 use Rattle.std.proofs.lemmas.Bool.{ne_eqb}
-use Rattle.ttp_world.specs.declared.medl.Medl.{Medl}
-use Rattle.ttp_world.specs.declared.node.Ack.{Ack}
-use Rattle.ttp_world.specs.declared.node.CState.{CState}
-use Rattle.ttp_world.specs.declared.node.ChannelView.{ChannelView}
 use Rattle.ttp_world.specs.declared.node.ChannelView.TheVariants.{First}
-use Rattle.ttp_world.specs.declared.node.Entry.{Entry}
 use Rattle.ttp_world.specs.declared.node.Entry.TheVariants as entry
-use Rattle.ttp_world.specs.declared.node.Verdict.TheVariants.{Correct}
-use Rattle.ttp_world.specs.Conduct.{carries_payload, delivery, listening_entry}
-use Rattle.ttp_world.specs.Diary.{Place}
+use Rattle.ttp_world.specs.Conduct.{listening_entry}
 use Rattle.ttp_world.specs.Fitting.{joinable}
-use Rattle.ttp_world.specs.Medium.{Signal, Silence, Noise, Bits, is_silence}
-use Rattle.ttp_world.specs.Past.{NodePast}
-use Rattle.ttp_world.specs.Reception.{Expected, Hearing, entry_deviation, expected_of, heard_deviation, is_first_view}
-use Rattle.ttp_world.specs.Reception.{is_taken_from_a, verdict_of, view_of, expected_length}
+use Rattle.ttp_world.specs.Medium.{Silence, Noise, is_silence}
+use Rattle.ttp_world.specs.Reception.{is_first_view}
 use Rattle.ttp_world.proofs.EntriesMade.{listening_entry-holds}
-use Rattle.medium.specs.Shows.{Shows}
-use Rattle.medium.specs.declared.arrival.Arrival.{Arrival}
 use Rattle.medium.specs.declared.arrival.Arrival.TheVariants as arrival
 use Rattle.controller.specs.declared.hearing.Judgement.{Judgement}
 use Rattle.controller.specs.declared.hearing.Receiver.{Receiver}
 use Rattle.controller.specs.declared.hearing.Seen.{Seen}
-use Rattle.controller.specs.Hearing.{is_silent_arrival, ForSignals, deviation_by, Receives, awaited_by, IsSeen}
+use Rattle.controller.specs.Hearing.{ForSignals, deviation_by, Receives, awaited_by}
 use Rattle.controller.specs.Hearing.{IsJudgement}
-use Rattle.controller.specs.Limits.{offset_of_arrival}
 
 -- Whatever comes to a node shows some signals.
 

@@ -1,46 +1,29 @@
 -- Controllers in a slot of the world: what each stands for at each turn is its node of the slot after the history, and
 -- what they send in the second pass is on the medium.
-use Rattle.std.proofs.Common.{◌≡◌, ℕ, ◌<◌, ◌≤◌, ℤ, ◌+ℤ◌, Bool, List, [], ◌∷◌, ◌++◌, length, min, Option}
-use Rattle.std.proofs.Common.{is_some, refl, ap, sym, ◌∙◌, subst, arith, ◌+◌, get_or, set, unsigned_abs, pos}
-use Rattle.std.specs.List.{flat_map}
+use Rattle.controller.proofs.Words.{◌≡◌, ℕ, ◌<◌, ◌≤◌, ℤ, ◌+ℤ◌, Bool, List, [], ◌∷◌, ◌++◌, length, min, Option, is_some}
+use Rattle.controller.proofs.Words.{refl, ap, sym, ◌∙◌, subst, arith, ◌+◌, get_or, set, unsigned_abs, pos, flat_map}
+use Rattle.controller.proofs.Words.{slice_get, None, Some, below, Medl, Act, Chosen, Entry, Channel, Script, SLOT_LIMIT}
+use Rattle.controller.proofs.Words.{act, new_entry, delivery, node_frames, History, diary_of, heard, surroundings_of}
+use Rattle.controller.proofs.Words.{status_words, past_of, is_on, is_armed, jump_of, reading_error, BegunNode}
+use Rattle.controller.proofs.Words.{jump_taken, node_of, slot_after, chosen_of, frames_of, node_of-slot_after, Arrival}
+use Rattle.controller.proofs.Words.{Carried, Outcome, Seat, hearing_of, view_clock, view_intent, turn_jump, IsBegun}
+use Rattle.controller.proofs.Words.{kept, HasBegun, IsLeft, Carries, payload_handed, HaveBegun, IsPlannedFrom, SendsOne}
+use Rattle.controller.proofs.Words.{Stands, IsSameNode, Begins, Plans, Ends, view_past, frames_planned, most_slots}
+use Rattle.controller.proofs.Words.{message_planned, Turn, Ended, Begun, Planned, ControllerView, AreSeats}
+use Rattle.controller.proofs.Words.{IsFromWithin}
 use Rattle.std.specs.Option.{option_map_or}
-use Rattle.std.specs.Prelude.{slice_get, None, Some}
 use Rattle.std.proofs.lemmas.List.{append-nil, length-map}
-use Rattle.ttp_base.specs.NodeSet.{below}
 use Rattle.ttp_base.proofs.Below.{flat_map-next}
-use Rattle.ttp_world.specs.declared.medl.Medl.{Medl}
-use Rattle.ttp_world.specs.declared.node.Act.{Act}
-use Rattle.ttp_world.specs.declared.node.Chosen.{Chosen}
-use Rattle.ttp_world.specs.declared.node.Entry.{Entry}
-use Rattle.ttp_world.specs.declared.script.Channel.{Channel}
 use Rattle.ttp_world.specs.declared.script.Channel.TheVariants as channel
-use Rattle.ttp_world.specs.declared.script.Script.{Script}
-use Rattle.ttp_world.specs.declared.script.TheConstants.{SLOT_LIMIT}
-use Rattle.ttp_world.specs.Act.{act}
-use Rattle.ttp_world.specs.Conduct.{new_entry, delivery, node_frames}
-use Rattle.ttp_world.specs.Diary.{History, diary_of, entry_of}
-use Rattle.ttp_world.specs.Medium.{heard, surroundings_in, surroundings_of, SentFrame}
-use Rattle.ttp_world.specs.Messages.{status_words}
-use Rattle.ttp_world.specs.Past.{past_of}
-use Rattle.ttp_world.specs.Script.{is_on, is_armed, jump_of, reading_error}
-use Rattle.ttp_world.specs.World.{BegunNode, jump_taken, node_of, slot_after, chosen_of}
-use Rattle.ttp_world.specs.World.{frames_in, hearing_in, row_in, frames_of}
+use Rattle.ttp_world.specs.Diary.{entry_of}
+use Rattle.ttp_world.specs.Medium.{surroundings_in, SentFrame}
+use Rattle.ttp_world.specs.World.{frames_in, hearing_in, row_in}
 use Rattle.ttp_world.proofs.Silences.{is_silent_to-row_in}
-use Rattle.ttp_world.proofs.Slots.{node_of-slot_after, entry_of-row_in}
-use Rattle.medium.specs.declared.arrival.Arrival.{Arrival}
-use Rattle.medium.specs.Carried.{Carried}
+use Rattle.ttp_world.proofs.Slots.{entry_of-row_in}
 use Rattle.medium.specs.StandsFor as medium
-use Rattle.controller.specs.declared.controller.Outcome.{Outcome}
-use Rattle.controller.specs.declared.seat.Seat.{Seat}
-use Rattle.controller.specs.Hearing.{hearing_of}
-use Rattle.controller.specs.Limits.{view_clock, view_intent, turn_jump, IsBegun}
-use Rattle.controller.specs.Kept.{kept}
-use Rattle.controller.specs.Passes.{StandsAfter, StandsForNode, jump_begun, HasBegun, HasPlanned, frames_by, IsLeft}
-use Rattle.controller.specs.Passes.{Carries, payload_handed, HaveBegun, IsFromClocks, IsPlannedFrom, PlansIn, SendsOne}
-use Rattle.controller.specs.StandsFor.{Stands, IsSameNode, Begins, Plans, Ends, view_past, frames_planned, most_slots}
-use Rattle.controller.specs.StandsFor.{message_planned, clock_begun}
-use Rattle.controller.specs.ControllerView.{Turn, Ended, Begun, Planned, ControllerView}
-use Rattle.controller.specs.PlantWithin.{AreSeats, IsFromWithin}
+use Rattle.controller.specs.Passes.{StandsAfter, StandsForNode, jump_begun, HasPlanned, frames_by}
+use Rattle.controller.specs.Passes.{IsFromClocks, PlansIn}
+use Rattle.controller.specs.StandsFor.{clock_begun}
 use Rattle.controller.proofs.Near.{AreHanded}
 use Rattle.controller.proofs.Payloads.{payload_planned-handed}
 use Rattle.controller.proofs.Parts.{ArePassed, ArePassed-none, ArePassed-more, ArePassed-coming, each-of}

@@ -1,23 +1,19 @@
 -- What is known of the bytes on a channel.
-use Rattle.std.proofs.Common.{◌≡◌, ℕ, List, [], ◌∷◌, ◌++◌, ap, sym, ◌∙◌, subst}
-use Rattle.std.specs.Prelude.{if◌then◌else◌}
+use Rattle.controller.proofs.Words.{◌≡◌, ℕ, List, [], ◌∷◌, ◌++◌, ap, sym, ◌∙◌, subst, if◌then◌else◌, Medl, CState}
+use Rattle.controller.proofs.Words.{Place, joined_place, is_wide, expected_header, expected_length, Arrival, BytesAre}
+use Rattle.controller.proofs.Words.{found_by}
 use Rattle.std.specs.Str.{bytes_eq}
 use Rattle.ttp_frame.specs.declared.judging.Expect.{Expect}
 use Rattle.ttp_frame.specs.declared.judging.FrameMatch.{FrameMatch}
 use Rattle.ttp_frame.specs.declared.judging.FrameMatch.TheVariants.{Match, Differs, Invalid}
 use Rattle.ttp_frame.specs.Match.{match_of}
-use Rattle.ttp_world.specs.declared.medl.Medl.{Medl}
-use Rattle.ttp_world.specs.declared.node.CState.{CState}
-use Rattle.ttp_world.specs.Diary.{Place, joined_place}
 use Rattle.ttp_world.specs.Fitting.{is_formed, payload_in}
 use Rattle.ttp_world.specs.Frame.{big_endian, is_explicit, word_bytes}
-use Rattle.ttp_world.specs.Medl.{is_wide, member_bytes}
-use Rattle.ttp_world.specs.Reception.{expected_header, expected_length}
-use Rattle.medium.specs.declared.arrival.Arrival.{Arrival}
+use Rattle.ttp_world.specs.Medl.{member_bytes}
 use Rattle.medium.specs.declared.arrival.Arrival.TheVariants as arrival
 use Rattle.medium.specs.Shows.{IsPartOf}
 use Rattle.controller.specs.Hearing.{IsFormOf}
-use Rattle.controller.specs.KnownFrame.{KnownView, BytesAre, IsKnownOf, IsSameState, found_by}
+use Rattle.controller.specs.KnownFrame.{KnownView, IsKnownOf, IsSameState}
 
 -- what is judged by the form of the list is what bytes are to a receiver of that C-state
 pub judged-found : (list : Medl) (bytes : List ℕ) (form : Expect) (place : Place) (c : CState) (found : FrameMatch)

@@ -10,3 +10,4 @@ pub mod Plants
 pub mod Sets
 pub mod Standing
 pub mod Stints
+pub mod Words

@@ -1,31 +1,20 @@
 -- Clocks stay near 0: what a slot's jumps, errors and drifts add up to.
-use Rattle.std.proofs.Common.{◌≡◌, ℕ, ◌+◌, ◌^◌, ◌<◌, ◌≤◌, ℤ, pos, ◌+ℤ◌, [], length, Some, unsigned_abs, w64}
-use Rattle.std.proofs.Common.{to_z, of_z, ap, sym, ◌∙◌, subst, arith}
-use Rattle.std.specs.Prelude.{slice_get, All}
-use Rattle.std.proofs.lemmas.Int.{ints, to_z-of_z, fits_signed_from_abs}
-use Rattle.std.proofs.lemmas.List.Elements.{All-get_or}
+use Rattle.controller.proofs.Words.{◌≡◌, ℕ, ◌+◌, ◌^◌, ◌<◌, ◌≤◌, ℤ, pos, ◌+ℤ◌, [], length, Some, unsigned_abs, w64, to_z}
+use Rattle.controller.proofs.Words.{of_z, ap, sym, ◌∙◌, subst, arith, slice_get, All, ints, to_z-of_z, All-get_or}
+use Rattle.controller.proofs.Words.{Incidents, Medl, Channel, Script, SLOT_LIMIT, Signal, Bits, heard, IsValid}
+use Rattle.controller.proofs.Words.{reading_error, Arrival, Carried, Shows, ArrivalFits, IsBegun, offset_of_arrival}
+use Rattle.controller.proofs.Words.{view_clock, turn_jump, IsPlannedFrom, most_ahead, most_ahead_in, IsEnded}
+use Rattle.controller.proofs.Words.{IsControllerOf, IsFromWithin, IsIncidentsOf, IsSameNode, StandsFor, Ended}
+use Rattle.controller.proofs.Words.{ControllerView}
+use Rattle.std.proofs.lemmas.Int.{fits_signed_from_abs}
 use Rattle.std.proofs.lemmas.Option.{get_or_from_slice_get}
-use Rattle.ttp_world.specs.declared.events.Incidents.{Incidents}
-use Rattle.ttp_world.specs.declared.medl.Medl.{Medl}
-use Rattle.ttp_world.specs.declared.script.Channel.{Channel}
 use Rattle.ttp_world.specs.declared.script.Channel.TheVariants as channel
-use Rattle.ttp_world.specs.declared.script.Script.{Script}
-use Rattle.ttp_world.specs.declared.script.TheConstants.{SLOT_LIMIT, DRIFT_LIMIT}
-use Rattle.ttp_world.specs.Medium.{Signal, Bits, heard}
-use Rattle.ttp_world.specs.Medl.{IsValid}
-use Rattle.ttp_world.specs.Script.{AreBounded, IsWithinSpan, drift_of, reading_error}
-use Rattle.medium.specs.declared.arrival.Arrival.{Arrival}
+use Rattle.ttp_world.specs.declared.script.TheConstants.{DRIFT_LIMIT}
+use Rattle.ttp_world.specs.Script.{AreBounded, IsWithinSpan, drift_of}
 use Rattle.medium.specs.declared.arrival.Arrival.TheVariants as arrival
-use Rattle.medium.specs.Carried.{Carried}
-use Rattle.medium.specs.Shows.{Shows}
 use Rattle.medium.specs.StandsFor as medium
-use Rattle.controller.specs.Limits.{ArrivalFits, IsBegun, IsPlanned, JumpFits, StaysNear, offset_of_arrival}
-use Rattle.controller.specs.Limits.{view_clock, turn_jump}
-use Rattle.controller.specs.Passes.{IsPlannedFrom}
-use Rattle.controller.specs.PlantWithin.{most_ahead, most_ahead_in, most_error, most_jump, IsEnded, IsControllerOf}
-use Rattle.controller.specs.PlantWithin.{IsFromWithin, IsIncidentsOf}
-use Rattle.controller.specs.StandsFor.{IsSameNode, StandsFor}
-use Rattle.controller.specs.ControllerView.{Ended, ControllerView}
+use Rattle.controller.specs.Limits.{IsPlanned, JumpFits, StaysNear}
+use Rattle.controller.specs.PlantWithin.{most_error, most_jump}
 use Rattle.ttp_world.proofs.SmallTests.{span-abs}
 
 -- and stays the same as 64 bits

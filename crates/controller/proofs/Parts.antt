@@ -1,10 +1,11 @@
 -- A pass over a part of a cluster's nodes: each element is written once.
-use Rattle.std.proofs.Common.{◌≡◌, ◌≢◌, ℕ, zero, suc, ◌+◌, ◌-◌, ◌<◌, ◌≤◌, List, [], ◌∷◌, ◌++◌, length, get_or, set}
-use Rattle.std.proofs.Common.{Some, refl, sym, ap, ◌∙◌, subst, ⊎_elim, below_more, arith}
-use Rattle.std.specs.Prelude.{slice_get}
+use Rattle.controller.proofs.Words.{◌≡◌, ◌≢◌, ℕ, zero, suc, ◌+◌, ◌-◌, ◌<◌, ◌≤◌, List, [], ◌∷◌, ◌++◌, length, get_or}
+use Rattle.controller.proofs.Words.{set, Some, refl, sym, ap, ◌∙◌, subst, arith, slice_get, slice_get_within, same_Some}
+use Rattle.controller.proofs.Words.{none-some}
+use Rattle.std.proofs.Common.{⊎_elim, below_more}
 use Rattle.std.proofs.lemmas.Bool.{cases_lt}
 use Rattle.std.proofs.lemmas.List.{length-set}
-use Rattle.std.proofs.lemmas.Option.{slice_get_within, slice_get-get_or, same_Some, none-some}
+use Rattle.std.proofs.lemmas.Option.{slice_get-get_or}
 use Rattle.controller.specs.Parts.{EachFrom}
 use Rattle.ttp_world.proofs.ListFacts.{slice_get-set_same}
 

@@ -1,35 +1,19 @@
 -- What is chosen for a node to send is as long as its frame wants it.
-use Rattle.std.proofs.Common.{◌≡◌, ℕ, ◌<◌, ◌≤◌, ℤ, Bool, true, false, cond, List, [], length, refl, ap, sym, ◌∙◌}
-use Rattle.std.proofs.Common.{◌+◌, arith}
-use Rattle.std.specs.Prelude.{All}
-use Rattle.std.proofs.lemmas.List.Elements.{All-get_or}
-use Rattle.std.proofs.lemmas.Option.{slice_get_within}
-use Rattle.ttp_world.specs.declared.medl.Medl.{Medl}
-use Rattle.ttp_world.specs.declared.node.Act.{Act}
-use Rattle.ttp_world.specs.declared.node.Act.TheVariants.{Send}
-use Rattle.ttp_world.specs.declared.node.Chosen.{Chosen}
-use Rattle.ttp_world.specs.declared.script.Script.{Script}
-use Rattle.ttp_world.specs.Act.{act, coming_place}
-use Rattle.ttp_world.specs.Conduct.{carries_payload}
-use Rattle.ttp_world.specs.Diary.{Diary, History, Surroundings, diary_of}
-use Rattle.ttp_world.specs.Medium.{surroundings_of}
-use Rattle.ttp_world.specs.Medl.{IsValid, plan_at}
-use Rattle.ttp_world.specs.Outgoing.{nothing_chosen}
-use Rattle.ttp_world.specs.Past.{NodePast, past_of}
-use Rattle.ttp_world.specs.Script.{is_on, is_armed}
-use Rattle.ttp_world.specs.World.{BegunNode, BegunSlot, node_of, slot_after, chosen_of, sends_payload, is_loaded}
-use Rattle.ttp_world.proofs.Slots.{node_of-slot_after}
+use Rattle.controller.proofs.Words.{◌≡◌, ℕ, ◌<◌, ◌≤◌, ℤ, Bool, true, false, cond, List, [], length, refl, ap, sym, ◌∙◌}
+use Rattle.controller.proofs.Words.{◌+◌, arith, All, All-get_or, slice_get_within, Medl, Act, Send, Chosen, Script, act}
+use Rattle.controller.proofs.Words.{coming_place, carries_payload, Diary, History, Surroundings, diary_of}
+use Rattle.controller.proofs.Words.{surroundings_of, IsValid, plan_at, nothing_chosen, NodePast, past_of, is_on}
+use Rattle.controller.proofs.Words.{is_armed, BegunNode, node_of, slot_after, chosen_of, node_of-slot_after, Seat}
+use Rattle.controller.proofs.Words.{intent_by, loaded_length, view_intent, turn_intent, kept, HasBegun, HaveBegun}
+use Rattle.controller.proofs.Words.{IsPayloadBefore, IsPayloadFor, payload_handed, PlantStandsFor, IsSameNode, Stands}
+use Rattle.controller.proofs.Words.{view_past, payload_planned, Begun, ControllerView}
+use Rattle.ttp_world.specs.World.{BegunSlot, sends_payload, is_loaded}
 use Rattle.controller.specs.declared.controller.Intent.{Intent}
 use Rattle.controller.specs.declared.controller.Intent.TheVariants as intent
-use Rattle.controller.specs.declared.seat.Seat.{Seat}
-use Rattle.controller.specs.Limits.{intent_by, loaded_length, view_intent, turn_intent}
-use Rattle.controller.specs.Kept.{kept}
-use Rattle.controller.specs.Passes.{AreChosen, ArePayloadsFor, HasBegun, HaveBegun, IsPayloadBefore, IsPayloadFor}
-use Rattle.controller.specs.Passes.{intent_before, payload_handed}
-use Rattle.controller.specs.PlantStands.{MayStep, PlantStandsFor}
+use Rattle.controller.specs.Passes.{AreChosen, ArePayloadsFor}
+use Rattle.controller.specs.Passes.{intent_before}
+use Rattle.controller.specs.PlantStands.{MayStep}
 use Rattle.controller.specs.PlantView.{PlantView}
-use Rattle.controller.specs.StandsFor.{IsSameNode, Stands, view_past, payload_planned}
-use Rattle.controller.specs.ControllerView.{Begun, ControllerView}
 use Rattle.controller.proofs.Standing.{act_kept-of}
 
 -- the payload that is handed to a node is as long as it asks for, where that which is chosen for a frame that carries

@@ -1,16 +1,11 @@
 -- What a slot makes of a plant, and leaves for the hosts of its nodes.
-use Rattle.std.proofs.Common.{◌≡◌, ℕ, zero, suc, ◌+◌, ◌<◌, List, [], ◌∷◌, length, get_or, Some, refl, sym, ap, ◌∙◌}
-use Rattle.std.proofs.Common.{subst, add-one, arith}
-use Rattle.std.specs.Prelude.{slice_get}
-use Rattle.std.proofs.lemmas.Option.{none-some, same_Some}
-use Rattle.ttp_world.specs.declared.medl.Medl.{Medl}
-use Rattle.ttp_world.specs.declared.node.Chosen.{Chosen}
-use Rattle.ttp_world.specs.declared.script.Script.{Script}
-use Rattle.ttp_world.specs.Diary.{History}
-use Rattle.controller.specs.declared.seat.Seat.{Seat}
-use Rattle.controller.specs.Passes.{AreLeft, HaveEnded, IsLeft}
-use Rattle.controller.specs.PlantStands.{IsStep, PlantStandsFor, no_outcome, outcomes_of, plant_of}
-use Rattle.controller.specs.PlantWithin.{AreSeats, IsEnded, most_ahead}
+use Rattle.controller.proofs.Words.{◌≡◌, ℕ, zero, suc, ◌+◌, ◌<◌, List, [], ◌∷◌, length, get_or, Some, refl, sym, ap}
+use Rattle.controller.proofs.Words.{◌∙◌, subst, arith, slice_get, none-some, same_Some, Medl, Chosen, Script, History}
+use Rattle.controller.proofs.Words.{Seat, IsLeft, PlantStandsFor, no_outcome, outcomes_of, plant_of, AreSeats, IsEnded}
+use Rattle.controller.proofs.Words.{most_ahead}
+use Rattle.std.proofs.Common.{add-one}
+use Rattle.controller.specs.Passes.{AreLeft, HaveEnded}
+use Rattle.controller.specs.PlantStands.{IsStep}
 use Rattle.controller.proofs.Parts.{each-of}
 
 -- each place of a list has something

@@ -1,24 +1,19 @@
 -- Sets of a list's nodes: they have room in its frames, and those on which a node joins are such.
-use Rattle.std.proofs.Common.{ℕ, ◌<◌, Bool, true, false, ◌∷◌, [], List, length, subst, sym, arith, ◌≡◌, refl, IfSome}
-use Rattle.std.proofs.Common.{◌&&◌, ◌∙◌}
-use Rattle.std.specs.Int.{bit_at}
+use Rattle.controller.proofs.Words.{ℕ, ◌<◌, Bool, true, false, ◌∷◌, [], List, length, subst, sym, arith, ◌≡◌, refl}
+use Rattle.controller.proofs.Words.{IfSome, ◌&&◌, ◌∙◌, bit_at, ◌==◌, and_parts, nat_tests, Medl, Ack, carried}
+use Rattle.controller.proofs.Words.{is_joinable_state, IsValid, is_wide, member_width, AreNodes, nodes-most}
 use Rattle.std.specs.List.{list_all}
-use Rattle.std.specs.Prelude.{◌==◌, nat_lt}
-use Rattle.std.proofs.lemmas.Bool.{and_parts, ltb-true}
-use Rattle.std.proofs.lemmas.Bool.Decides.{nat_tests}
+use Rattle.std.specs.Prelude.{nat_lt}
+use Rattle.std.proofs.lemmas.Bool.{ltb-true}
 use Rattle.ttp_base.proofs.NodeLists.{filter-below, with_node-nil}
 use Rattle.ttp_base.proofs.NodeSets.{has_node-sieve, same_sieve}
 use Rattle.ttp_base.proofs.SetWords.{HasWord, HasWord-filter, HasWord-only, HasWord-with, HasWord-without}
 use Rattle.ttp_base.proofs.SetWords.{set_bits-small}
 use Rattle.ttp_base.specs.NodeSet.{most_nodes, has_node, with_node, without_node, members_in}
-use Rattle.ttp_world.specs.declared.medl.Medl.{Medl}
-use Rattle.ttp_world.specs.declared.node.Ack.{Ack}
 use Rattle.ttp_world.specs.declared.node.Ack.TheVariants as ack
-use Rattle.ttp_world.specs.Fitting.{carried, is_joinable_state}
-use Rattle.ttp_world.specs.Medl.{IsValid, is_wide, node_limit, member_width}
-use Rattle.ttp_world.specs.Membership.{AreNodes}
+use Rattle.ttp_world.specs.Medl.{node_limit}
 use Rattle.ttp_world.specs.Reception.{Candidates, candidate_sets, candidates}
-use Rattle.ttp_world.proofs.Lists.{nodes-most, node_limit-most}
+use Rattle.ttp_world.proofs.Lists.{node_limit-most}
 use Rattle.ttp_frame.specs.Shape.{HaveRoom}
 use Rattle.controller.specs.Within.{IsCStateWithin}
 

@@ -1,46 +1,26 @@
 -- What a controller stands for at each turn of a slot: what it keeps is all that the rules ask of its node's past.
-use Rattle.std.proofs.Common.{◌≡◌, ◌≢◌, ℕ, zero, ◌+◌, ◌≤◌, min, ℤ, ◌+ℤ◌, Bool, true, false, cond, ◌&&◌, List, [], ◌∷◌}
-use Rattle.std.proofs.Common.{length, take, refl, ap, sym, ◌∙◌, arith, ◌<◌, Some, None, Option, subst, suc, is_some}
-use Rattle.std.proofs.Common.{◌++◌}
-use Rattle.std.specs.Prelude.{nat_le}
-use Rattle.std.proofs.lemmas.Bool.Decides.{nat_tests}
-use Rattle.std.proofs.lemmas.List.{length-take, take-take}
-use Rattle.ttp_world.specs.declared.medl.Medl.{Medl}
-use Rattle.ttp_world.specs.declared.node.Act.{Act}
-use Rattle.ttp_world.specs.declared.node.Act.TheVariants.{Start, Listen, Send, Off}
-use Rattle.ttp_world.specs.declared.node.Chosen.{Chosen}
-use Rattle.ttp_world.specs.declared.node.Delivered.{Delivered}
-use Rattle.ttp_world.specs.declared.node.Entry.{Entry}
+use Rattle.controller.proofs.Words.{◌≡◌, ◌≢◌, ℕ, zero, ◌+◌, ◌≤◌, min, ℤ, ◌+ℤ◌, Bool, true, false, cond, ◌&&◌, List, []}
+use Rattle.controller.proofs.Words.{◌∷◌, length, take, refl, ap, sym, ◌∙◌, arith, ◌<◌, Some, None, Option, subst, suc}
+use Rattle.controller.proofs.Words.{is_some, ◌++◌, nat_le, nat_tests, length-take, Medl, Act, Start, Listen, Send, Off}
+use Rattle.controller.proofs.Words.{Chosen, Delivered, Entry, Phase, act, phase_act, coming_place, past_after}
+use Rattle.controller.proofs.Words.{notes_after, correction_after, place_after, slot_change, join_deviation}
+use Rattle.controller.proofs.Words.{node_frames, new_entry, delivery, carries_payload, Place, SlotSurroundings, Diary}
+use Rattle.controller.proofs.Words.{Surroundings, IsValid, status_words, NodePast, past_of, Hearing, jump_taken}
+use Rattle.controller.proofs.Words.{nodes-most, kept_notes, Arrival, Outcome, EndsAs, hearing_of, is_silent_arrival}
+use Rattle.controller.proofs.Words.{kept, intent_by, message_carried, IsPossible, IsPlannedWithin, message_planned}
+use Rattle.controller.proofs.Words.{payload_planned, Begins, Plans, frames_planned, most_slots, Ends, Turn, Ended}
+use Rattle.controller.proofs.Words.{Begun, Planned, ControllerView}
+use Rattle.std.proofs.lemmas.List.{take-take}
 use Rattle.ttp_world.specs.declared.node.Entry.TheVariants as entry
-use Rattle.ttp_world.specs.declared.node.Phase.{Phase}
 use Rattle.ttp_world.specs.declared.node.Phase.TheVariants as phase
-use Rattle.ttp_world.specs.Act.{act, phase_act, coming_place}
-use Rattle.ttp_world.specs.After.{past_after, silent_slots_after, notes_after, is_active_entry, correction_after}
-use Rattle.ttp_world.specs.After.{place_after}
-use Rattle.ttp_world.specs.Clock.{notes_in, begins_round, slot_change, join_deviation}
-use Rattle.ttp_world.specs.Conduct.{node_frames, new_entry, delivery, carries_payload}
-use Rattle.ttp_world.specs.Diary.{Place, SlotSurroundings, Diary, Surroundings, may_follow}
-use Rattle.ttp_world.specs.Medl.{may_start, IsValid}
-use Rattle.ttp_world.specs.Messages.{status_words}
-use Rattle.ttp_world.specs.Past.{NodePast, past_of}
-use Rattle.ttp_world.specs.Reception.{Hearing}
-use Rattle.ttp_world.specs.World.{jump_taken}
+use Rattle.ttp_world.specs.After.{silent_slots_after, is_active_entry}
+use Rattle.ttp_world.specs.Clock.{notes_in, begins_round}
+use Rattle.ttp_world.specs.Diary.{may_follow}
+use Rattle.ttp_world.specs.Medl.{may_start}
 use Rattle.ttp_world.proofs.Entries.{new_entry-follows}
-use Rattle.ttp_world.proofs.Lists.{nodes-most}
 use Rattle.ttp_world.proofs.Pasts.{past_of-cons}
 use Rattle.cold_start.specs.Listening.{most_silent}
-use Rattle.fta_sync.specs.StandsFor.{kept_notes}
-use Rattle.medium.specs.declared.arrival.Arrival.{Arrival}
 use Rattle.controller.specs.declared.controller.Intent.TheVariants as intent
-use Rattle.controller.specs.declared.controller.Outcome.{Outcome}
-use Rattle.controller.specs.Ending.{EndsAs}
-use Rattle.controller.specs.Hearing.{hearing_of, is_silent_arrival}
-use Rattle.controller.specs.Kept.{kept}
-use Rattle.controller.specs.Limits.{intent_by, message_carried}
-use Rattle.controller.specs.ControllerWithin.{IsPossible, IsPlannedWithin}
-use Rattle.controller.specs.StandsFor.{message_planned, payload_planned, Begins, Plans, frames_planned, most_slots}
-use Rattle.controller.specs.StandsFor.{Ends}
-use Rattle.controller.specs.ControllerView.{Turn, Ended, Begun, Planned, ControllerView}
 use Rattle.controller.proofs.Heard.{silence-shown}
 use Rattle.controller.proofs.Stints.{limit_of-within, correction_after-take}
 

@@ -1,34 +1,24 @@
 -- What an entry makes of an active node's past: it stays within the numbers of the list.
-use Rattle.std.proofs.Common.{◌≡◌, ◌≢◌, ℕ, ◌+◌, ◌*◌, ◌<◌, ◌≤◌, ℤ, pos, Bool, true, false, cond, List, []}
-use Rattle.std.proofs.Common.{◌∷◌, ◌++◌, length, take, Option, Some, None, refl, sym, subst, ◌∙◌, ap, arith}
+use Rattle.controller.proofs.Words.{◌≡◌, ◌≢◌, ℕ, ◌+◌, ◌*◌, ◌<◌, ◌≤◌, ℤ, pos, Bool, true, false, cond, List, [], ◌∷◌}
+use Rattle.controller.proofs.Words.{◌++◌, length, take, Option, Some, None, refl, sym, subst, ◌∙◌, ap, arith, All}
+use Rattle.controller.proofs.Words.{IfSome, nat_tests, ints, length-take, Medl, Ack, Entry, Verdict, is_correct}
+use Rattle.controller.proofs.Words.{past_after, correction_after, is_corrected, Place, Diary, SlotSurroundings}
+use Rattle.controller.proofs.Words.{phase_after, IsValid, plan_at, AreNodes, NodePast, nodes-most, IsMoveOf, kept_notes}
+use Rattle.controller.proofs.Words.{kept, IsAckWithin, IsNearEnough, IsWithin, IsEntryWithin}
 use Rattle.std.specs.Option.{option_to_list}
-use Rattle.std.specs.Prelude.{All, IfSome}
-use Rattle.std.proofs.lemmas.Bool.Decides.{nat_tests}
-use Rattle.std.proofs.lemmas.Int.{ints}
-use Rattle.std.proofs.lemmas.List.{length-take}
 use Rattle.std.proofs.lemmas.List.Elements.{All-nil, All-cons, All-take}
-use Rattle.ttp_world.specs.declared.medl.Medl.{Medl}
-use Rattle.ttp_world.specs.declared.node.Ack.{Ack}
 use Rattle.ttp_world.specs.declared.node.Ack.TheVariants as ack
-use Rattle.ttp_world.specs.declared.node.Entry.{Entry}
 use Rattle.ttp_world.specs.declared.node.Entry.TheVariants as entry
-use Rattle.ttp_world.specs.declared.node.Verdict.{Verdict}
 use Rattle.ttp_world.specs.declared.node.Verdict.TheVariants as verdict
-use Rattle.ttp_world.specs.Acknowledgement.{is_correct}
-use Rattle.ttp_world.specs.After.{ack_answered, past_after, members_after, correction_after}
-use Rattle.ttp_world.specs.Clock.{is_corrected}
+use Rattle.ttp_world.specs.After.{ack_answered, members_after}
 use Rattle.ttp_world.specs.Counts.{is_rejection}
-use Rattle.ttp_world.specs.Diary.{Place, next_place, Diary, SlotSurroundings, phase_after}
-use Rattle.ttp_world.specs.Medl.{IsValid, plan_at}
-use Rattle.ttp_world.specs.Membership.{AreNodes}
-use Rattle.ttp_world.specs.Past.{NodePast, limit_of}
-use Rattle.ttp_world.proofs.Lists.{IsPlaceOf, IsPlaceOf-next, nodes-most}
+use Rattle.ttp_world.specs.Diary.{next_place}
+use Rattle.ttp_world.specs.Past.{limit_of}
+use Rattle.ttp_world.proofs.Lists.{IsPlaceOf, IsPlaceOf-next}
 use Rattle.ttp_world.proofs.MemberSets.{members_after-Judged}
-use Rattle.ack_check.specs.Moves.{moved_members, IsDoubtElsewhere, IsMoveOf}
+use Rattle.ack_check.specs.Moves.{moved_members, IsDoubtElsewhere}
 use Rattle.ack_check.specs.declared.moves.AckMove.{AckMove}
-use Rattle.fta_sync.specs.StandsFor.{kept_notes}
-use Rattle.controller.specs.Kept.{kept}
-use Rattle.controller.specs.Within.{slots_to_own, IsAckWithin, IsNearEnough, IsWithin, IsEntryWithin, IsJudgedWithin}
+use Rattle.controller.specs.Within.{slots_to_own, IsJudgedWithin}
 use Rattle.ttp_world.proofs.Averages.{fta-take}
 use Rattle.ttp_world.proofs.WorldFacts.{AreNodes-filter, AreNodes-nil}
 use Rattle.ttp_world.proofs.ListFacts.{IfSome-cond}

@@ -1,4 +1,4 @@
-use Rattle.std.proofs.Common.{refl, sym, ◌∙◌}
+use Rattle.controller.proofs.Words.{refl, sym, ◌∙◌}
 use Rattle.controller.proofs.Heard.{listening-none}
 use Rattle.controller.proofs.ending.ending_of.Goals as goal
 

@@ -1,4 +1,4 @@
-use Rattle.std.proofs.Common.{◌∙◌}
+use Rattle.controller.proofs.Words.{◌∙◌}
 use Rattle.controller.proofs.ending.judged.Goals as goal
 
 pub returns-clause-ends : goal.returns-clause-ends

@@ -1,7 +1,5 @@
 -- A join tells how late the frame is, by the node that sent it.
-use Rattle.std.proofs.Common.{◌≡◌, w64, FitsSigned, rules}
-use Rattle.std.proofs.lemmas.Int.{to_z-of_z}
-use Rattle.ttp_world.specs.Conduct.{channel_join}
+use Rattle.controller.proofs.Words.{◌≡◌, w64, FitsSigned, rules, to_z-of_z, channel_join}
 use Rattle.controller.proofs.Heard.{of_bits}
 use Rattle.controller.proofs.hearing.channel_join.Goals as goal
 

@@ -1,5 +1,5 @@
 -- The candidates have room, as sets of nodes of the list.
-use Rattle.std.proofs.Common.{◌<◌, length, rules, arith}
+use Rattle.controller.proofs.Words.{◌<◌, length, rules, arith}
 use Rattle.controller.proofs.Sets.{candidates-room}
 use Rattle.controller.proofs.hearing.expected_of.Goals as goal
 

@@ -1,7 +1,5 @@
 -- Channel B is judged where channel A is not seen as the first candidate.
-use Rattle.std.proofs.Common.{sym, ◌∙◌, w64, rules}
-use Rattle.std.proofs.lemmas.Int.{to_z-of_z}
-use Rattle.controller.specs.Hearing.{awaited_meant, hearing_of}
+use Rattle.controller.proofs.Words.{sym, ◌∙◌, w64, rules, to_z-of_z, awaited_meant, hearing_of}
 use Rattle.controller.proofs.Heard.{IsJudgement-first}
 use Rattle.controller.proofs.hearing.judged_by.Goals as goal
 

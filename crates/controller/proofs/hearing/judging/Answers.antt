@@ -1,5 +1,5 @@
 -- The receiver's parts are those of the node's past.
-use Rattle.controller.specs.Hearing.{hearing_of}
+use Rattle.controller.proofs.Words.{hearing_of}
 use Rattle.controller.proofs.Heard.{IsJudgement-received}
 use Rattle.controller.proofs.hearing.judging.Goals as goal
 

@@ -1,5 +1,5 @@
 -- A join on channel A comes before one on B.
-use Rattle.std.proofs.Common.{sym, ◌∙◌, rules}
+use Rattle.controller.proofs.Words.{sym, ◌∙◌, rules}
 use Rattle.controller.proofs.hearing.listening_entry.Goals as goal
 
 pub returns-in-Some : goal.returns-in-Some

@@ -1,9 +1,6 @@
-use Rattle.std.proofs.Common.{◌∙◌}
+use Rattle.controller.proofs.Words.{◌∙◌, is_wide, expected_header, expected_length, found_by}
 use Rattle.ttp_world.specs.Diary.{cstate_at}
-use Rattle.ttp_world.specs.Medl.{is_wide}
-use Rattle.ttp_world.specs.Reception.{expected_header, expected_length}
 use Rattle.ttp_frame.proofs.FrameLaws.{Match-fits, Invalid-formed}
-use Rattle.controller.specs.KnownFrame.{found_by}
 use Rattle.controller.proofs.hearing.match_with.Goals as goal
 
 pub returns-clause-fits : goal.returns-clause-fits

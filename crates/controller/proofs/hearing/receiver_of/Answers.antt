@@ -1,6 +1,5 @@
 -- The node's past is within the list.
-use Rattle.std.proofs.Common.{refl, sym, subst, ◌∙◌, rules}
-use Rattle.controller.specs.Within.{IsAckWithin}
+use Rattle.controller.proofs.Words.{refl, sym, subst, ◌∙◌, rules, IsAckWithin}
 use Rattle.controller.proofs.hearing.receiver_of.Goals as goal
 
 pub returns-clause-receiver : goal.returns-clause-receiver

@@ -1,5 +1,4 @@
-use Rattle.std.proofs.Common.{sym, ◌∙◌}
-use Rattle.std.proofs.lemmas.Bool.{and_parts, eqb-true}
+use Rattle.controller.proofs.Words.{sym, ◌∙◌, and_parts, eqb-true}
 use Rattle.controller.proofs.known_frames.is_known.Goals as goal
 
 pub returns-then-is_judged : goal.returns-then-is_judged

@@ -1,6 +1,4 @@
-use Rattle.std.proofs.Common.{◌+◌, subst, arith}
-use Rattle.ttp_world.specs.Diary.{Surroundings, diary_of}
-use Rattle.controller.specs.StandsFor.{StandsFor}
+use Rattle.controller.proofs.Words.{◌+◌, subst, arith, Surroundings, diary_of, StandsFor}
 use Rattle.earlier_slots.proofs.SameWorlds.{surroundings_of-same}
 use Rattle.controller.proofs.laws.plants_of_scripts_that_agree.Goals as goal
 

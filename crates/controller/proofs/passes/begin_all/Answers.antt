@@ -1,5 +1,4 @@
-use Rattle.std.proofs.Common.{◌+◌, arith}
-use Rattle.ttp_world.specs.World.{chosen_of}
+use Rattle.controller.proofs.Words.{◌+◌, arith, chosen_of}
 use Rattle.controller.proofs.Parts.{ArePassed-none, ArePassed-more, ArePassed-coming, each-new}
 use Rattle.controller.proofs.passes.begin_all.Goals as goal
 

@@ -1,8 +1,6 @@
-use Rattle.std.proofs.Common.{◌+◌}
-use Rattle.ttp_world.specs.declared.node.Chosen.{Chosen}
-use Rattle.controller.specs.Limits.{IsBegun}
-use Rattle.controller.specs.Passes.{BeginsSlot, IsPayloadBefore, IsPayloadFor}
-use Rattle.controller.specs.PlantWithin.{IsIncidentsOf, IsControllerOf, most_ahead_in}
+use Rattle.controller.proofs.Words.{◌+◌, Chosen, IsBegun, IsPayloadBefore, IsPayloadFor, IsIncidentsOf, IsControllerOf}
+use Rattle.controller.proofs.Words.{most_ahead_in}
+use Rattle.controller.specs.Passes.{BeginsSlot}
 use Rattle.controller.proofs.Parts.{ArePassed}
 use Rattle.controller.proofs.passes.begin_all.Given as goal
 

@@ -1,7 +1,4 @@
-use Rattle.std.proofs.Common.{sym, ◌∙◌, ap}
-use Rattle.ttp_world.specs.Act.{act}
-use Rattle.ttp_world.specs.Script.{is_on, is_armed, jump_of}
-use Rattle.controller.specs.Limits.{intent_by}
+use Rattle.controller.proofs.Words.{sym, ◌∙◌, ap, act, is_on, is_armed, jump_of, intent_by}
 use Rattle.controller.proofs.InSlot.{begun-node}
 use Rattle.controller.proofs.Near.{jump_same, jump_fits, begun-controller}
 use Rattle.controller.proofs.Payloads.{payload-begun}

@@ -1,13 +1,7 @@
-use Rattle.std.proofs.Common.{◌≡◌, ℕ, length, get_or, sym, subst, arith}
-use Rattle.std.specs.List.{flat_map}
+use Rattle.controller.proofs.Words.{◌≡◌, ℕ, length, get_or, sym, subst, arith, flat_map, below, Incidents}
+use Rattle.controller.proofs.Words.{nothing_chosen, slot_after, frames_of, Chosen, Carries, IsPayloadFor, SendsOne}
+use Rattle.controller.proofs.Words.{IsIncidentsOf}
 use Rattle.std.proofs.lemmas.List.{get_or_read}
-use Rattle.ttp_base.specs.NodeSet.{below}
-use Rattle.ttp_world.specs.declared.events.Incidents.{Incidents}
-use Rattle.ttp_world.specs.Outgoing.{nothing_chosen}
-use Rattle.ttp_world.specs.World.{slot_after, frames_of}
-use Rattle.ttp_world.specs.declared.node.Chosen.{Chosen}
-use Rattle.controller.specs.Passes.{Carries, IsPayloadFor, SendsOne}
-use Rattle.controller.specs.PlantWithin.{IsIncidentsOf}
 use Rattle.controller.proofs.InSlot.{AreSent-none, AreSent-more, AreSent-slot, AreSent-near}
 use Rattle.controller.proofs.Near.{planned-controller}
 use Rattle.controller.proofs.Parts.{ArePassed-coming, each-of, all-new}

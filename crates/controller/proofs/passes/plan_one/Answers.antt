@@ -1,6 +1,4 @@
-use Rattle.std.proofs.Common.{length, ap, ◌∙◌}
-use Rattle.controller.specs.Limits.{view_intent}
-use Rattle.controller.specs.Passes.{payload_handed}
+use Rattle.controller.proofs.Words.{length, ap, ◌∙◌, view_intent, payload_handed}
 use Rattle.controller.proofs.InSlot.{planned-node}
 use Rattle.controller.proofs.Payloads.{length-payload_handed}
 use Rattle.controller.proofs.passes.plan_one.Goals as goal

@@ -1,5 +1,4 @@
-use Rattle.std.proofs.Common.{w64, refl, ◌∙◌}
-use Rattle.std.proofs.lemmas.Int.{to_z-of_z}
+use Rattle.controller.proofs.Words.{w64, refl, ◌∙◌, to_z-of_z}
 use Rattle.controller.proofs.InSlot.{clock-node, sends-nothing}
 use Rattle.controller.proofs.passes.send_frame.Goals as goal
 

@@ -1,5 +1,4 @@
-use Rattle.std.proofs.Common.{refl, sym, ◌∙◌}
-use Rattle.controller.specs.Passes.{payload_handed}
+use Rattle.controller.proofs.Words.{refl, sym, ◌∙◌, payload_handed}
 use Rattle.controller.proofs.InSlot.{planned-node, sends-nothing}
 use Rattle.controller.proofs.passes.send_one.Goals as goal
 

@@ -1,5 +1,4 @@
-use Rattle.std.proofs.Common.{sym, subst, arith}
-use Rattle.controller.specs.KnownFrames.{AreKnownOf}
+use Rattle.controller.proofs.Words.{sym, subst, arith, AreKnownOf}
 use Rattle.controller.proofs.Parts.{ArePassed-none, ArePassed-more, ArePassed-coming, each-new}
 use Rattle.controller.proofs.passes.take_all.Goals as goal
 

@@ -1,7 +1,5 @@
-use Rattle.std.proofs.Common.{◌+◌}
-use Rattle.controller.specs.KnownFrames.{AreKnownOf}
+use Rattle.controller.proofs.Words.{◌+◌, AreKnownOf, IsEnded, IsControllerOf, most_ahead}
 use Rattle.controller.specs.Passes.{EndsSlot}
-use Rattle.controller.specs.PlantWithin.{IsEnded, IsControllerOf, most_ahead}
 use Rattle.controller.proofs.Parts.{ArePassed}
 use Rattle.controller.proofs.passes.take_all.Given as goal
 

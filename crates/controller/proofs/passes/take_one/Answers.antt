@@ -1,4 +1,4 @@
-use Rattle.std.proofs.Common.{arith}
+use Rattle.controller.proofs.Words.{arith}
 use Rattle.ttp_world.specs.declared.script.Channel.TheVariants as channel
 use Rattle.controller.proofs.InSlot.{ended-node}
 use Rattle.controller.proofs.KnownFrames.{part-known}

@@ -1,4 +1,4 @@
-use Rattle.std.proofs.Common.{sym, arith}
+use Rattle.controller.proofs.Words.{sym, arith}
 use Rattle.controller.proofs.Plants.{is-step}
 use Rattle.controller.proofs.plant.step.Goals as goal
 

@@ -1,5 +1,4 @@
-use Rattle.std.proofs.Common.{Some, length, refl, sym, ap, ◌∙◌, arith}
-use Rattle.std.proofs.lemmas.Option.{slice_get_read}
+use Rattle.controller.proofs.Words.{Some, length, refl, sym, ap, ◌∙◌, arith, slice_get_read}
 use Rattle.controller.proofs.Parts.{ArePassed-none, ArePassed-more, ArePassed-coming, all-copied}
 use Rattle.controller.proofs.seat.copy_seats.Goals as goal
 

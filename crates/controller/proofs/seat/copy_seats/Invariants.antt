@@ -1,5 +1,4 @@
-use Rattle.std.proofs.Common.{◌≡◌, Some}
-use Rattle.std.specs.Prelude.{slice_get}
+use Rattle.controller.proofs.Words.{◌≡◌, Some, slice_get}
 use Rattle.controller.proofs.Parts.{ArePassed}
 use Rattle.controller.proofs.seat.copy_seats.Given as goal
 

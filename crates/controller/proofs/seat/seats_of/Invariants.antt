@@ -1,6 +1,6 @@
-use Rattle.std.proofs.Common.{◌≡◌, length, replicate}
-use Rattle.controller.specs.PlantStands.{AllStandAtFirst, no_outcome, outcomes_of}
-use Rattle.controller.specs.PlantWithin.{AreSeats, IsEnded, most_ahead}
+use Rattle.controller.proofs.Words.{◌≡◌, length, no_outcome, outcomes_of, AreSeats, IsEnded, most_ahead}
+use Rattle.std.proofs.Common.{replicate}
+use Rattle.controller.specs.PlantStands.{AllStandAtFirst}
 use Rattle.controller.proofs.seat.seats_of.Given as goal
 
 abbrev pub invariant-loop-k : goal.invariant-loop-k

@@ -1,5 +1,4 @@
-use Rattle.std.proofs.Common.{rules}
-use Rattle.ttp_world.specs.Act.{coming_place}
+use Rattle.controller.proofs.Words.{rules, coming_place}
 use Rattle.controller.proofs.Endings.{sends-own, loaded_length-own}
 use Rattle.controller.proofs.sending.frame_of.Goals as goal
 

@@ -1,4 +1,4 @@
-use Rattle.std.proofs.Common.{arith}
+use Rattle.controller.proofs.Words.{arith}
 use Rattle.controller.proofs.Flags.{added}
 use Rattle.controller.proofs.status.flags_of.Goals as goal
 

@@ -1,9 +1,5 @@
-use Rattle.std.proofs.Common.{w64, rules, sym, ap, subst, ◌∙◌}
-use Rattle.std.proofs.lemmas.Int.{to_z-of_z}
-use Rattle.ttp_world.specs.Act.{act}
-use Rattle.ttp_world.specs.World.{jump_taken}
-use Rattle.controller.specs.Limits.{intent_by}
-use Rattle.controller.specs.ControllerWithin.{IsControllerWithin}
+use Rattle.controller.proofs.Words.{w64, rules, sym, ap, subst, ◌∙◌, to_z-of_z, act, jump_taken, intent_by}
+use Rattle.controller.proofs.Words.{IsControllerWithin}
 use Rattle.controller.proofs.Standing.{Begins-turn}
 use Rattle.controller.proofs.controller.Controller.begin.Goals as goal
 

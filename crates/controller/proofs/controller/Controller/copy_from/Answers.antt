@@ -1,6 +1,4 @@
-use Rattle.std.proofs.Common.{ap, sym, ◌∙◌, subst}
-use Rattle.ttp_world.specs.Past.{NodePast}
-use Rattle.controller.specs.ControllerWithin.{IsControllerWithin}
+use Rattle.controller.proofs.Words.{ap, sym, ◌∙◌, subst, NodePast, IsControllerWithin}
 use Rattle.controller.proofs.controller.Controller.copy_from.Goals as goal
 
 pub invariant_of-self : goal.invariant_of-self

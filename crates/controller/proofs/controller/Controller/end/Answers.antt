@@ -1,12 +1,6 @@
-use Rattle.std.proofs.Common.{◌≡◌, w64, rules, ◌+◌, ◌≤◌, ◌+ℤ◌, sym, ap, subst, refl, ◌∙◌, unsigned_abs, arith}
-use Rattle.std.proofs.lemmas.Int.{to_z-of_z}
-use Rattle.ttp_world.specs.After.{past_after}
-use Rattle.ttp_world.specs.Diary.{SlotSurroundings}
-use Rattle.ttp_world.specs.Messages.{status_words}
-use Rattle.controller.specs.Kept.{kept}
-use Rattle.controller.specs.Limits.{offset_of_arrival, turn_intent}
-use Rattle.controller.specs.ControllerWithin.{IsTurnWithin}
-use Rattle.controller.specs.Within.{IsWithin, IsEntryWithin}
+use Rattle.controller.proofs.Words.{◌≡◌, w64, rules, ◌+◌, ◌≤◌, ◌+ℤ◌, sym, ap, subst, refl, ◌∙◌, unsigned_abs, arith}
+use Rattle.controller.proofs.Words.{to_z-of_z, past_after, SlotSurroundings, status_words, kept, offset_of_arrival}
+use Rattle.controller.proofs.Words.{turn_intent, IsTurnWithin, IsWithin, IsEntryWithin}
 use Rattle.controller.proofs.Endings.{IsEnded, ended-by, furthest, past_after-near}
 use Rattle.controller.proofs.Standing.{Ends-controller}
 use Rattle.controller.proofs.controller.Controller.end.Goals as goal

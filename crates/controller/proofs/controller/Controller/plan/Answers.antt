@@ -1,7 +1,5 @@
-use Rattle.std.proofs.Common.{[], w64, rules, refl, sym, ap, ◌∙◌, subst}
-use Rattle.std.proofs.lemmas.Int.{to_z-of_z}
-use Rattle.controller.specs.Limits.{message_carried, turn_intent}
-use Rattle.controller.specs.ControllerWithin.{IsBegunWithin, IsTurnWithin}
+use Rattle.controller.proofs.Words.{[], w64, rules, refl, sym, ap, ◌∙◌, subst, to_z-of_z, message_carried, turn_intent}
+use Rattle.controller.proofs.Words.{IsBegunWithin, IsTurnWithin}
 use Rattle.controller.proofs.Standing.{IsFrameOf, Plans-turn, message_carried-planned}
 use Rattle.controller.proofs.controller.Controller.plan.Goals as goal
 

@@ -1,8 +1,5 @@
-use Rattle.std.proofs.Common.{[], w64, rules, sym, ◌∙◌, subst}
-use Rattle.std.specs.Prelude.{None}
-use Rattle.std.proofs.lemmas.Int.{to_z-of_z}
-use Rattle.controller.specs.Limits.{message_carried, turn_intent}
-use Rattle.controller.specs.ControllerWithin.{IsBegunWithin, IsTurnWithin}
+use Rattle.controller.proofs.Words.{[], w64, rules, sym, ◌∙◌, subst, None, to_z-of_z, message_carried, turn_intent}
+use Rattle.controller.proofs.Words.{IsBegunWithin, IsTurnWithin}
 use Rattle.controller.proofs.Standing.{Plans-turn, message_carried-planned, nothing-sent}
 use Rattle.controller.proofs.controller.Controller.plan_nothing.Goals as goal
 

@@ -1,5 +1,4 @@
-use Rattle.std.proofs.Common.{w64, rules}
-use Rattle.std.proofs.lemmas.Int.{to_z-of_z}
+use Rattle.controller.proofs.Words.{w64, rules, to_z-of_z}
 use Rattle.controller.proofs.controller.Controller.take_known.Goals as goal
 
 pub returns-in-Planned-clause-ends : goal.returns-in-Planned-clause-ends

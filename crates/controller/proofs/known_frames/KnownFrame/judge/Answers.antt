@@ -1,5 +1,4 @@
-use Rattle.std.proofs.Common.{ap, ◌∙◌}
-use Rattle.controller.specs.KnownFrame.{found_by}
+use Rattle.controller.proofs.Words.{ap, ◌∙◌, found_by}
 use Rattle.controller.proofs.KnownFrames.{same_found}
 use Rattle.controller.proofs.known_frames.KnownFrame.judge.Goals as goal
 

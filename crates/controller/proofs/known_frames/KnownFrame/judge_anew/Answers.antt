@@ -1,5 +1,4 @@
-use Rattle.std.proofs.Common.{◌≡◌, ap, sym, subst, ◌∙◌}
-use Rattle.controller.specs.KnownFrame.{found_by}
+use Rattle.controller.proofs.Words.{◌≡◌, ap, sym, subst, ◌∙◌, found_by}
 use Rattle.controller.proofs.KnownFrames.{judged-found}
 use Rattle.controller.proofs.known_frames.KnownFrame.judge_anew.Goals as goal
 

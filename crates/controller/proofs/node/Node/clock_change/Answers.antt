@@ -1,7 +1,6 @@
-use Rattle.std.proofs.Common.{◌≢◌, ap, sym, subst, ◌∙◌, w64, FitsSigned, rules, arith}
-use Rattle.std.proofs.lemmas.Int.{ints, to_z-of_z}
+use Rattle.controller.proofs.Words.{◌≢◌, ap, sym, subst, ◌∙◌, w64, FitsSigned, rules, arith, ints, to_z-of_z}
+use Rattle.controller.proofs.Words.{correction_after}
 use Rattle.ttp_world.specs.declared.node.Entry.TheVariants as entry
-use Rattle.ttp_world.specs.After.{correction_after}
 use Rattle.controller.specs.Within.{AreChangesWithin}
 use Rattle.controller.proofs.Endings.{slot_change-on}
 use Rattle.controller.proofs.node.Node.clock_change.Goals as goal

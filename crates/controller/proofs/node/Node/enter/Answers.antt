@@ -1,8 +1,5 @@
-use Rattle.std.proofs.Common.{◌≡◌, ◌+ℤ◌, ap, sym, subst, ◌∙◌, w64, to_z, of_z, arith, rules}
-use Rattle.std.proofs.lemmas.Int.{ints}
-use Rattle.ttp_world.specs.After.{notes_after, place_after}
-use Rattle.fta_sync.specs.StandsFor.{IsDeviation}
-use Rattle.controller.specs.Within.{IsWithin}
+use Rattle.controller.proofs.Words.{◌≡◌, ◌+ℤ◌, ap, sym, subst, ◌∙◌, w64, to_z, of_z, arith, rules, ints, notes_after}
+use Rattle.controller.proofs.Words.{place_after, IsDeviation, IsWithin}
 use Rattle.controller.proofs.Stints.{correction_after-take, kept_after-within}
 use Rattle.controller.proofs.node.Node.enter.Goals as goal
 

@@ -1,6 +1,4 @@
-use Rattle.std.proofs.Common.{ap, rules}
-use Rattle.std.proofs.Math.Bool.{or-false}
-use Rattle.ack_check.specs.Moves.{IsMoveOf}
+use Rattle.controller.proofs.Words.{ap, rules, or-false, IsMoveOf}
 use Rattle.controller.proofs.Stints.{moved_members-after}
 use Rattle.controller.proofs.node.Node.judge.Goals as goal
 

@@ -1,4 +1,4 @@
-use Rattle.std.proofs.Common.{refl, ap, arith}
+use Rattle.controller.proofs.Words.{refl, ap, arith}
 use Rattle.controller.proofs.Stints.{idle}
 use Rattle.controller.proofs.node.Node.new.Goals as goal
 

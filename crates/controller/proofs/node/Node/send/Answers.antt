@@ -1,6 +1,4 @@
-use Rattle.std.proofs.Common.{rules}
-use Rattle.std.proofs.Math.Bool.{or-false}
-use Rattle.ttp_world.proofs.Lists.{nodes-most}
+use Rattle.controller.proofs.Words.{rules, or-false, nodes-most}
 use Rattle.ttp_world.proofs.MemberSets.{members_after-Sent}
 use Rattle.controller.proofs.node.Node.send.Goals as goal
 

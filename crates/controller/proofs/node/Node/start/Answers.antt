@@ -1,5 +1,4 @@
-use Rattle.std.proofs.Common.{rules}
-use Rattle.ttp_world.proofs.Lists.{nodes-most}
+use Rattle.controller.proofs.Words.{rules, nodes-most}
 use Rattle.ttp_world.proofs.MemberSets.{members_after-Started}
 use Rattle.controller.proofs.node.Node.start.Goals as goal
 

@@ -1,4 +1,4 @@
-use Rattle.ttp_world.specs.Diary.{joined_place}
+use Rattle.controller.proofs.Words.{joined_place}
 use Rattle.controller.proofs.node.stint.next_clock.Goals as goal
 
 pub returns : goal.returns

@@ -1,8 +1,5 @@
-use Rattle.std.proofs.Common.{length, ap, sym, ◌∙◌, subst, arith}
-use Rattle.std.specs.Prelude.{slice_get}
+use Rattle.controller.proofs.Words.{length, ap, sym, ◌∙◌, subst, arith, slice_get, Medl, plant_of}
 use Rattle.std.proofs.lemmas.List.{with_items_is}
-use Rattle.ttp_world.specs.declared.medl.Medl.{Medl}
-use Rattle.controller.specs.PlantStands.{plant_of}
 use Rattle.controller.specs.PlantWithin.{IsPlantWithin}
 use Rattle.controller.proofs.Parts.{each-of}
 use Rattle.controller.proofs.plant.Plant.copy_from.Goals as goal

@@ -1,9 +1,5 @@
-use Rattle.std.proofs.Common.{ap, ◌∙◌, sym, arith}
-use Rattle.std.specs.Prelude.{unsigned_abs}
-use Rattle.ttp_world.specs.Diary.{diary_of}
-use Rattle.ttp_world.specs.Medium.{surroundings_of}
-use Rattle.ttp_world.specs.Past.{past_of, state_of}
-use Rattle.controller.specs.ControllerView.{Ended}
+use Rattle.controller.proofs.Words.{ap, ◌∙◌, sym, arith, unsigned_abs, diary_of, surroundings_of, past_of, Ended}
+use Rattle.ttp_world.specs.Past.{state_of}
 use Rattle.controller.proofs.Near.{ended-clock}
 use Rattle.controller.proofs.Parts.{each-of}
 use Rattle.controller.proofs.plant.Plant.node.Goals as goal

@@ -1,7 +1,5 @@
-use Rattle.std.proofs.Common.{◌≡◌, length, Some, ap, refl, subst, arith}
-use Rattle.std.specs.Prelude.{slice_get}
-use Rattle.std.proofs.lemmas.Option.{slice_get_read}
-use Rattle.controller.specs.PlantWithin.{IsControllerOf, IsEnded, most_ahead}
+use Rattle.controller.proofs.Words.{◌≡◌, length, Some, ap, refl, subst, arith, slice_get, slice_get_read}
+use Rattle.controller.proofs.Words.{IsControllerOf, IsEnded, most_ahead}
 use Rattle.controller.proofs.Parts.{each-of}
 use Rattle.controller.proofs.plant.Plant.seat.Goals as goal
 

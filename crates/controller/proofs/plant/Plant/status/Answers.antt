@@ -1,5 +1,4 @@
-use Rattle.std.proofs.Common.{ap, sym}
-use Rattle.controller.specs.declared.controller.Outcome.{Outcome}
+use Rattle.controller.proofs.Words.{ap, sym, Outcome}
 use Rattle.controller.proofs.Plants.{outcome_there}
 use Rattle.controller.proofs.plant.Plant.status.Goals as goal
 
