@@ -1,25 +1,21 @@
 -- Clocks and bits of a script that keeps the rules on them.
-use Rattle.std.proofs.Common.{◌≡◌, ℕ, ◌<◌, ◌≤ℤ◌, Bool, true, false, cond, not, List, [], ◌∷◌, length, Option, Some}
-use Rattle.std.proofs.Common.{None, inl, inr, refl, sym, arith}
-use Rattle.std.specs.Prelude.{int_le, is_some, find}
-use Rattle.std.specs.List.{AllByRecursion, list_any, filter_map}
-use Rattle.std.proofs.lemmas.Bool.{not-false, and_parts, false_from_ne_true, both_ways, or_cases, or_left, or_right}
-use Rattle.std.proofs.lemmas.Bool.{not-true}
-use Rattle.std.proofs.lemmas.Option.{none-some}
-use Rattle.ttp_base.specs.NodeSet.{below}
+use Rattle.fault_plan.proofs.Words.{◌≡◌, ℕ, ◌<◌, Bool, true, false, cond, not, List, [], ◌∷◌, length, Option, Some}
+use Rattle.fault_plan.proofs.Words.{None, inl, inr, refl, sym, arith, is_some, AllByRecursion, list_any, not-false}
+use Rattle.fault_plan.proofs.Words.{and_parts, false_from_ne_true, both_ways, or_cases, not-true, none-some, below}
+use Rattle.fault_plan.proofs.Words.{Medl, Channel, Script, clocks_broken, window_broken, outside_broken, has_jump}
+use Rattle.fault_plan.proofs.Words.{flipped_bits, IsWithinBounds}
+use Rattle.std.proofs.Common.{◌≤ℤ◌}
+use Rattle.std.specs.Prelude.{int_le, find}
+use Rattle.std.specs.List.{filter_map}
+use Rattle.std.proofs.lemmas.Bool.{or_left, or_right}
 use Rattle.ttp_base.proofs.Below.{each-below}
-use Rattle.ttp_world.specs.declared.medl.Medl.{Medl}
-use Rattle.ttp_world.specs.declared.script.Channel.{Channel}
 use Rattle.ttp_world.specs.declared.script.Event.{Event}
 use Rattle.ttp_world.specs.declared.script.Event.TheVariants as event
-use Rattle.ttp_world.specs.declared.script.Script.{Script}
-use Rattle.ttp_world.specs.Hypothesis.{drifts_hold, errors_hold_in, clocks_broken, window_broken, needed, outside_slot}
-use Rattle.ttp_world.specs.Hypothesis.{outside_broken, is_allowed_jump, is_within_bound}
+use Rattle.ttp_world.specs.Hypothesis.{drifts_hold, errors_hold_in, needed, outside_slot}
+use Rattle.ttp_world.specs.Hypothesis.{is_allowed_jump, is_within_bound}
 use Rattle.ttp_world.specs.Hypothesis.{is_jump_before}
-use Rattle.ttp_world.specs.Script.{arms, is_armed, flipped_bit, jump_in, has_jump, drift_of, reading_error}
-use Rattle.ttp_world.specs.Script.{flipped_bits}
+use Rattle.ttp_world.specs.Script.{arms, is_armed, flipped_bit, jump_in, drift_of, reading_error}
 use Rattle.ttp_world.proofs.Jumps.{each-none, allowed-jump, no_jump-sum}
-use Rattle.fault_plan.specs.Kept.{IsWithinBounds}
 use Rattle.fault_plan.proofs.Sieves.{none-found}
 use Rattle.ttp_world.proofs.SmallTests.{le_of_test}
 

@@ -1,18 +1,13 @@
 -- How much a node of a good plan has seen since its own slot.
-use Rattle.std.proofs.Common.{◌≡◌, ℕ, suc, ◌+◌, ◌-◌, ◌*◌, ◌<◌, ◌≤◌, Bool, true, false, length, Some, ◌⊎◌, refl, ap, sym}
-use Rattle.std.proofs.Common.{subst, ◌∙◌, inl, inr, arith}
-use Rattle.std.specs.Prelude.{if◌then◌else◌}
-use Rattle.std.specs.List.{filter}
-use Rattle.std.proofs.lemmas.Bool.{cases_lt, cases_eq, eqb-true, both_ways, and_parts, and_from, false_from_ne_true}
-use Rattle.ttp_base.specs.NodeSet.{below}
-use Rattle.std.proofs.lemmas.Option.{same_Some}
-use Rattle.fault_plan.specs.Plan.{Change, Incident, Plan, sender, incident_at, enters}
-use Rattle.fault_plan.specs.Fates.{Fate, Absent, Sound, Falling, Fallen, Listening, fate_of, is_good_slot}
-use Rattle.fault_plan.specs.Fates.{is_first_slot, is_shown_in, is_lasting_after, is_steady_after, lasting_nodes}
-use Rattle.fault_plan.specs.Fates.{steady_nodes, tally, is_measured}
-use Rattle.fault_plan.specs.GoodPlan.{IsGoodPlan}
-use Rattle.fault_plan.specs.Ledger.{ledger_of}
-use Rattle.fault_plan.specs.Told.{IsLossOf, IsTold}
+use Rattle.fault_plan.proofs.Words.{◌≡◌, ℕ, suc, ◌+◌, ◌-◌, ◌*◌, ◌<◌, ◌≤◌, Bool, true, false, length, Some, ◌⊎◌, refl}
+use Rattle.fault_plan.proofs.Words.{ap, sym, subst, ◌∙◌, inl, inr, arith, if◌then◌else◌, filter, cases_lt, cases_eq}
+use Rattle.fault_plan.proofs.Words.{eqb-true, both_ways, and_parts, and_from, false_from_ne_true, below, same_Some}
+use Rattle.fault_plan.proofs.Words.{Change, Incident, Plan, sender, incident_at, enters, Fate, Absent, Sound, Falling}
+use Rattle.fault_plan.proofs.Words.{Fallen, Listening, fate_of, is_good_slot, is_first_slot, is_shown_in}
+use Rattle.fault_plan.proofs.Words.{is_lasting_after, is_steady_after, steady_nodes, tally, IsGoodPlan, ledger_of}
+use Rattle.fault_plan.proofs.Words.{IsLossOf, IsTold}
+use Rattle.fault_plan.specs.Fates.{lasting_nodes}
+use Rattle.fault_plan.specs.Fates.{is_measured}
 use Rattle.fault_plan.proofs.FateTells.{fate-told}
 use Rattle.fault_plan.proofs.Ledgers.{ledger-told}
 use Rattle.fault_plan.proofs.Persists.{lasting-before}

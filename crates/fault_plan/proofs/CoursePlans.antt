@@ -1,24 +1,17 @@
 -- The plan of a run's course is good, and the script keeps to it, where it does so slot by slot.
-use Rattle.std.proofs.Common.{Bool, List, None, Option, Some, [], ap, arith, cond, false, length, map, option_map, refl}
-use Rattle.std.proofs.Common.{suc, sym, true, ℕ, ◌*◌, ◌+◌, ◌-◌, ◌<◌, ◌∙◌, ◌≡◌, ◌≢◌, ◌≤◌}
-use Rattle.std.proofs.lemmas.Bool.{eqb-false, eqb-true}
-use Rattle.std.proofs.lemmas.Option.{none-some}
-use Rattle.std.specs.List.{Contains, filter}
-use Rattle.std.specs.Prelude.{is_some, ◌==◌}
-use Rattle.ttp_base.proofs.NodeSets.{has_node-sieve}
-use Rattle.ttp_base.specs.NodeSet.{has_node}
+use Rattle.fault_plan.proofs.Words.{Bool, List, None, Option, Some, [], ap, arith, cond, false, length, map, refl, suc}
+use Rattle.fault_plan.proofs.Words.{sym, true, ℕ, ◌*◌, ◌+◌, ◌-◌, ◌<◌, ◌∙◌, ◌≡◌, ◌≢◌, ◌≤◌, eqb-false, eqb-true}
+use Rattle.fault_plan.proofs.Words.{none-some, Contains, filter, is_some, ◌==◌, has_node-sieve, has_node, ClusterStart}
+use Rattle.fault_plan.proofs.Words.{FaultyNode, expected_sender, loses, plan_at, two_rounds, flipped_bits, has_jump}
+use Rattle.fault_plan.proofs.Words.{is_ever_on, is_on, on_slot, Medl, Channel, Script, is_sound_after, steady_nodes}
+use Rattle.fault_plan.proofs.Words.{IsGoodPlan, FollowsPlan, IsHeardByPlan, IsWithinBounds, Incident, Plan, Return}
+use Rattle.fault_plan.proofs.Words.{incident_at, planned_incident, sender}
+use Rattle.std.proofs.Common.{option_map}
 use Rattle.ttp_world.proofs.Lists.{nodes-most}
-use Rattle.ttp_world.specs.Hypothesis.{ClusterStart, FaultyNode, expected_sender, loses, nodes_of}
-use Rattle.ttp_world.specs.Medl.{may_start, plan_at}
-use Rattle.ttp_world.specs.Returning.{two_rounds}
-use Rattle.ttp_world.specs.Script.{flipped_bits, has_jump, is_ever_on, is_on, on_slot}
-use Rattle.ttp_world.specs.declared.medl.Medl.{Medl}
-use Rattle.ttp_world.specs.declared.script.Channel.{Channel}
-use Rattle.ttp_world.specs.declared.script.Script.{Script}
-use Rattle.fault_plan.specs.Fates.{is_sound_after, steady_nodes}
-use Rattle.fault_plan.specs.GoodPlan.{IsGoodPlan, IsLossAfter, IsReturn}
-use Rattle.fault_plan.specs.Kept.{FollowsPlan, IsHeardByPlan, IsOffered, IsWithinBounds}
-use Rattle.fault_plan.specs.Plan.{Incident, Plan, Return, incident_at, planned_incident, sender}
+use Rattle.ttp_world.specs.Hypothesis.{nodes_of}
+use Rattle.ttp_world.specs.Medl.{may_start}
+use Rattle.fault_plan.specs.GoodPlan.{IsLossAfter, IsReturn}
+use Rattle.fault_plan.specs.Kept.{IsOffered}
 use Rattle.fault_plan.proofs.Courses.{AreOnBy, IsCourse}
 use Rattle.fault_plan.proofs.Hearing.{come-later, on-ever, receiving-is, sending-is, unless-jumping, fallen-none}
 use Rattle.fault_plan.proofs.Hearing.{sender-less, was-sound, incident-made, incident-origin, sender-same}

@@ -1,12 +1,8 @@
 -- The course of a run's faults: who is faulty at the beginning of each slot, and who became so before it.
-use Rattle.std.proofs.Common.{List, [], false, length, suc, true, ℕ, ◌++◌, ◌+◌, ◌<◌, ◌≡◌}
-use Rattle.ttp_world.specs.Hypothesis.{ClusterStart, FaultyNode, is_breaking, jumpers_in, loss_in, nodes_made}
-use Rattle.ttp_world.specs.Medl.{IsValid}
-use Rattle.ttp_world.specs.Script.{is_ever_on, is_on}
+use Rattle.fault_plan.proofs.Words.{List, [], false, length, suc, true, ℕ, ◌++◌, ◌+◌, ◌<◌, ◌≡◌, ClusterStart}
+use Rattle.fault_plan.proofs.Words.{FaultyNode, is_breaking, jumpers_in, loss_in, nodes_made, IsValid, is_ever_on}
+use Rattle.fault_plan.proofs.Words.{is_on, Medl, Script, two_rounds}
 use Rattle.ttp_world.specs.Starts.{StartsAlone}
-use Rattle.ttp_world.specs.declared.medl.Medl.{Medl}
-use Rattle.ttp_world.specs.declared.script.Script.{Script}
-use Rattle.ttp_world.specs.Returning.{two_rounds}
 use Rattle.fault_plan.proofs.Spaced.{IsSpaced, all_in}
 
 -- all nodes that are ever on are on by a slot

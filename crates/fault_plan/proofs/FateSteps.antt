@@ -1,11 +1,9 @@
 -- What a slot makes of a fate.
-use Rattle.std.proofs.Common.{◌≡◌, ℕ, Bool, true, false, cond, not, ◌&&◌, ◌||◌, Option, Some, None, refl, ap, sym, ◌∙◌}
-use Rattle.std.proofs.lemmas.Bool.{both_ways, and_parts}
-use Rattle.std.specs.Prelude.{◌==◌}
-use Rattle.fault_plan.specs.Plan.{Change, Incident, Plan, sender, incident_at, is_armed_by, enters}
-use Rattle.fault_plan.specs.Fates.{Fate, Absent, Sound, Falling, Fallen, Listening, armed_in, entered_in, struck}
-use Rattle.fault_plan.specs.Fates.{turned, next_fate, is_sound, is_lost, lost_since}
-use Rattle.ttp_world.proofs.SmallTests.{and-true}
+use Rattle.fault_plan.proofs.Words.{◌≡◌, ℕ, Bool, true, false, cond, not, ◌&&◌, ◌||◌, Option, Some, None, refl, ap, sym}
+use Rattle.fault_plan.proofs.Words.{◌∙◌, both_ways, and_parts, ◌==◌, Change, Incident, Plan, sender, incident_at}
+use Rattle.fault_plan.proofs.Words.{is_armed_by, enters, Fate, Absent, Sound, Falling, Fallen, Listening, struck}
+use Rattle.fault_plan.proofs.Words.{turned, next_fate, is_sound, is_lost, lost_since, and-true}
+use Rattle.fault_plan.specs.Fates.{armed_in, entered_in}
 
 -- an incident is that of a node
 abbrev pub strikes : Option Incident → ℕ → Bool

@@ -1,18 +1,12 @@
 -- What the fates of a good plan tell.
-use Rattle.std.proofs.Common.{◌≡◌, ◌≢◌, ℕ, zero, suc, ◌+◌, ◌*◌, ◌<◌, ◌≤◌, Bool, true, false, cond, Option, Some, None}
-use Rattle.std.proofs.Common.{refl, ap, sym, subst, ◌∙◌, inl, inr, arith}
-use Rattle.std.specs.Prelude.{◌==◌}
-use Rattle.std.proofs.lemmas.Bool.{cases_lt, cases_eq, eqb-true, eqb-false, both_ways, ltb-true, le-ltb}
-use Rattle.std.proofs.lemmas.Bool.{false_from_ne_true}
-use Rattle.std.specs.List.{Contains}
-use Rattle.std.proofs.lemmas.Option.{same_Some}
-use Rattle.std.proofs.Math.Nat.{eq-or-lt_of_le}
-use Rattle.ttp_base.specs.NodeSet.{has_node}
-use Rattle.fault_plan.specs.Plan.{Change, Sending, Incident, Return, Plan, sender, incident_at, is_armed_by, enters}
-use Rattle.fault_plan.specs.Fates.{Fate, Absent, Sound, Falling, Fallen, Listening, fate_at_begin, struck, turned}
-use Rattle.fault_plan.specs.Fates.{fate_of, is_lost, lost_since, may_stay}
-use Rattle.fault_plan.specs.GoodPlan.{IsGoodPlan}
-use Rattle.fault_plan.specs.Told.{IsFallen, IsListening, IsLossOf, IsTold}
+use Rattle.fault_plan.proofs.Words.{◌≡◌, ◌≢◌, ℕ, zero, suc, ◌+◌, ◌*◌, ◌<◌, ◌≤◌, Bool, true, false, cond, Option, Some}
+use Rattle.fault_plan.proofs.Words.{None, refl, ap, sym, subst, ◌∙◌, inl, inr, arith, ◌==◌, cases_lt, cases_eq}
+use Rattle.fault_plan.proofs.Words.{eqb-true, eqb-false, both_ways, ltb-true, le-ltb, false_from_ne_true, Contains}
+use Rattle.fault_plan.proofs.Words.{same_Some, eq-or-lt_of_le, has_node, Change, Sending, Incident, Return, Plan}
+use Rattle.fault_plan.proofs.Words.{sender, incident_at, is_armed_by, enters, Fate, Absent, Sound, Falling, Fallen}
+use Rattle.fault_plan.proofs.Words.{Listening, fate_at_begin, struck, turned, fate_of, is_lost, lost_since, may_stay}
+use Rattle.fault_plan.proofs.Words.{IsGoodPlan, IsLossOf, IsTold}
+use Rattle.fault_plan.specs.Told.{IsFallen, IsListening}
 use Rattle.fault_plan.proofs.FateSteps.{next-same, next-entered, next-armed}
 use Rattle.fault_plan.proofs.Returns.{armed-is, enters-by, armed-lost, armed-quiet, armed-late, enters-late}
 use Rattle.fault_plan.proofs.Tests.{never-found}

@@ -1,19 +1,10 @@
 -- The fates of the plan of the single-fault hypothesis: lost are those that the hypothesis holds for faulty.
-use Rattle.std.proofs.Common.{Bool, List, [], ap, arith, cond, false, length, not, refl, subst, suc, sym, true, zero, ℕ}
-use Rattle.std.proofs.Common.{◌&&◌, ◌+◌, ◌<◌, ◌||◌, ◌∙◌, ◌≡◌, ◌≤◌}
-use Rattle.std.specs.List.{filter}
-use Rattle.ttp_base.proofs.NodeSets.{has_node-sieve}
-use Rattle.ttp_base.specs.NodeSet.{below, has_node}
-use Rattle.ttp_world.proofs.SmallTests.{and-true}
-use Rattle.ttp_world.proofs.WorldFacts.{has_node-append}
-use Rattle.ttp_world.specs.Hypothesis.{ClusterStart, faulty_nodes_before, has_four_steady, numbers_of}
-use Rattle.ttp_world.specs.Script.{flipped_bits, is_ever_on}
-use Rattle.ttp_world.specs.declared.medl.Medl.{Medl}
-use Rattle.ttp_world.specs.declared.script.Channel.{Channel}
-use Rattle.ttp_world.specs.declared.script.Script.{Script}
-use Rattle.fault_plan.specs.Fates.{Absent, Fate, Sound, fate_at_begin, fate_of, is_lost, is_sound, next_fate}
-use Rattle.fault_plan.specs.Kept.{IsWithinBounds}
-use Rattle.fault_plan.specs.Plan.{Plan, plan_of}
+use Rattle.fault_plan.proofs.Words.{Bool, List, [], ap, arith, cond, false, length, not, refl, subst, suc, sym, true}
+use Rattle.fault_plan.proofs.Words.{zero, ℕ, ◌&&◌, ◌+◌, ◌<◌, ◌||◌, ◌∙◌, ◌≡◌, ◌≤◌, filter, has_node-sieve, below}
+use Rattle.fault_plan.proofs.Words.{has_node, and-true, has_node-append, ClusterStart, faulty_nodes_before}
+use Rattle.fault_plan.proofs.Words.{has_four_steady, numbers_of, flipped_bits, is_ever_on, Medl, Channel, Script}
+use Rattle.fault_plan.proofs.Words.{Absent, Fate, Sound, fate_at_begin, fate_of, is_lost, is_sound, next_fate}
+use Rattle.fault_plan.proofs.Words.{IsWithinBounds, Plan, plan_of}
 use Rattle.fault_plan.proofs.Courses.{IsCourse, made_of}
 use Rattle.fault_plan.proofs.FateSteps.{lost-next, sound-next}
 use Rattle.fault_plan.proofs.Incidents.{all-early, strikes-slot}

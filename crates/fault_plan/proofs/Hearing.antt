@@ -1,22 +1,18 @@
 -- A slot of a run's course: whom it makes faulty, and who hears whom in it.
-use Rattle.std.proofs.Common.{Bool, List, None, Option, Some, [], ap, arith, cond, false, inl, inr, length, mod-lt}
-use Rattle.std.proofs.Common.{refl, subst, sym, true, ℕ, ◌%◌, ◌++◌, ◌+◌, ◌-◌, ◌<◌, ◌||◌, ◌∙◌, ◌∷◌, ◌≡◌, ◌≢◌, ◌≤◌}
-use Rattle.std.proofs.lemmas.Bool.{and_from, and_parts, both_ways, cases_lt, eq-eqb, eqb-false, eqb-true}
-use Rattle.std.proofs.lemmas.Bool.{false_from_ne_true, le-leb, le-ltb, leb-true, lt-ltb, ne_eqb, not-true}
-use Rattle.std.proofs.lemmas.Bool.{not_from_false, or_cases, or_from, or_parts}
-use Rattle.std.proofs.lemmas.Option.{none-some, same_Some}
-use Rattle.std.specs.Prelude.{is_some, nat_lt, ◌==◌}
-use Rattle.ttp_base.proofs.NodeSets.{has_node-sieve}
-use Rattle.ttp_base.specs.NodeSet.{has_node}
-use Rattle.ttp_world.proofs.Filters.{each-sieve}
-use Rattle.ttp_world.proofs.WorldFacts.{has_node-append}
-use Rattle.ttp_world.specs.Hypothesis.{Breaks, ClusterStart, FaultyNode, Harmless, Loss, Makes, expected_sender}
-use Rattle.ttp_world.specs.Hypothesis.{is_breaking, is_other, jumpers_in, jumps_now, loses, loss_in, nodes_made}
-use Rattle.ttp_world.specs.Hypothesis.{others_in, sender_loss}
-use Rattle.ttp_world.specs.Script.{has_come, has_jump, is_ever_on, is_on, on_slot}
-use Rattle.ttp_world.specs.declared.medl.Medl.{Medl}
-use Rattle.ttp_world.specs.declared.script.Script.{Script}
-use Rattle.fault_plan.specs.Plan.{Incident, Jumping, Receiving, Sending, change_of, planned_incident}
+use Rattle.fault_plan.proofs.Words.{Bool, List, None, Option, Some, [], ap, arith, cond, false, inl, inr, length}
+use Rattle.fault_plan.proofs.Words.{mod-lt, refl, subst, sym, true, ℕ, ◌%◌, ◌++◌, ◌+◌, ◌-◌, ◌<◌, ◌||◌, ◌∙◌, ◌∷◌, ◌≡◌}
+use Rattle.fault_plan.proofs.Words.{◌≢◌, ◌≤◌, and_from, and_parts, both_ways, cases_lt, eq-eqb, eqb-false, eqb-true}
+use Rattle.fault_plan.proofs.Words.{false_from_ne_true, le-leb, le-ltb, leb-true, lt-ltb, ne_eqb, not-true}
+use Rattle.fault_plan.proofs.Words.{not_from_false, or_cases, or_parts, none-some, same_Some, is_some, nat_lt, ◌==◌}
+use Rattle.fault_plan.proofs.Words.{has_node-sieve, has_node, each-sieve, has_node-append, Breaks, ClusterStart}
+use Rattle.fault_plan.proofs.Words.{FaultyNode, Harmless, Loss, Makes, expected_sender, is_breaking, is_other}
+use Rattle.fault_plan.proofs.Words.{jumpers_in, loses, loss_in, nodes_made, others_in, sender_loss, has_jump}
+use Rattle.fault_plan.proofs.Words.{is_ever_on, is_on, on_slot, Medl, Script, Incident, Jumping, Receiving, Sending}
+use Rattle.fault_plan.proofs.Words.{planned_incident}
+use Rattle.std.proofs.lemmas.Bool.{or_from}
+use Rattle.ttp_world.specs.Hypothesis.{jumps_now}
+use Rattle.ttp_world.specs.Script.{has_come}
+use Rattle.fault_plan.specs.Plan.{change_of}
 use Rattle.fault_plan.proofs.Courses.{IsCourse, made_of}
 use Rattle.fault_plan.proofs.Incidents.{incident_among, incident_made, incident-slot, makes-slot}
 use Rattle.fault_plan.proofs.Losses.{IsMadeBy, each-member, loser-tells, made-by, one-member}

@@ -1,23 +1,17 @@
 -- The incidents of a plan of a run's faults: each slot's is the node that it makes faulty.
-use Rattle.std.proofs.Common.{◌≡◌, ◌≢◌, ℕ, zero, suc, ◌+◌, ◌-◌, ◌<◌, ◌≤◌, Bool, true, false, cond, List, [], ◌∷◌, map}
-use Rattle.std.proofs.Common.{Option, Some, None, refl, ap, sym, ◌∙◌, inl, inr, arith, subst, ◌++◌, ◌⊎◌}
-use Rattle.std.specs.Prelude.{◌==◌, find}
-use Rattle.std.specs.List.{AllByRecursion}
+use Rattle.fault_plan.proofs.Words.{◌≡◌, ◌≢◌, ℕ, zero, suc, ◌+◌, ◌-◌, ◌<◌, ◌≤◌, Bool, true, false, cond, List, [], ◌∷◌}
+use Rattle.fault_plan.proofs.Words.{map, Option, Some, None, refl, ap, sym, ◌∙◌, inl, inr, arith, subst, ◌++◌, ◌⊎◌}
+use Rattle.fault_plan.proofs.Words.{◌==◌, AllByRecursion, cases_eq, eq-eqb, eqb-true, ne_eqb, none-some, same_Some}
+use Rattle.fault_plan.proofs.Words.{eq-or-lt_of_le, has_node, Medl, Script, ClusterStart, FaultyNode, Incident}
+use Rattle.fault_plan.proofs.Words.{planned_incident, two_rounds}
+use Rattle.std.specs.Prelude.{find}
 use Rattle.std.specs.Option.{option_or}
-use Rattle.std.proofs.lemmas.Bool.{cases_eq, eq-eqb, eqb-true, ne_eqb}
 use Rattle.std.proofs.lemmas.List.{map-append}
 use Rattle.std.proofs.lemmas.List.Folds.{find-append}
-use Rattle.std.proofs.lemmas.Option.{none-some, same_Some}
-use Rattle.std.proofs.Math.Nat.{eq-or-lt_of_le}
-use Rattle.ttp_base.specs.NodeSet.{has_node}
-use Rattle.ttp_world.specs.declared.medl.Medl.{Medl}
-use Rattle.ttp_world.specs.declared.script.Script.{Script}
-use Rattle.ttp_world.specs.Hypothesis.{ClusterStart, FaultyNode}
-use Rattle.fault_plan.specs.Plan.{Incident, is_in_slot, planned_incident}
+use Rattle.fault_plan.specs.Plan.{is_in_slot}
 use Rattle.fault_plan.proofs.Spaced.{IsSpaced, all_in, IsOneMade, one-made, spaced-later}
 use Rattle.fault_plan.proofs.Courses.{IsCourse, made_of}
 use Rattle.fault_plan.proofs.FateSteps.{strikes}
-use Rattle.ttp_world.specs.Returning.{two_rounds}
 use Rattle.fault_plan.proofs.Tests.{never-found, or-false}
 
 abbrev pub planned_incidents : Medl → Script → ClusterStart → List FaultyNode → List Incident

@@ -1,22 +1,16 @@
 -- The plan of a script that keeps the single-fault hypothesis is good, and the script keeps to it.
-use Rattle.std.proofs.Common.{◌≡◌, ℕ, zero, suc, ◌+◌, ◌-◌, ◌<◌, ◌≤◌, true, false, not, ◌&&◌, ◌||◌, List, [], ◌∷◌, ◌++◌}
-use Rattle.std.proofs.Common.{length, Some, refl, ap, sym, subst, ◌∙◌, inl, inr, arith}
-use Rattle.std.specs.Prelude.{◌==◌}
-use Rattle.std.specs.List.{AllByRecursion, filter}
-use Rattle.std.proofs.lemmas.Bool.{leb-true, not-false, or_parts, eqb-false, ne_eqb, eq-eqb}
-use Rattle.ttp_base.specs.NodeSet.{has_node, below}
-use Rattle.ttp_base.proofs.NodeSets.{has_node-sieve, same_sieve}
-use Rattle.ttp_world.specs.declared.medl.Medl.{Medl}
-use Rattle.ttp_world.specs.declared.script.Script.{Script}
-use Rattle.ttp_world.specs.Hypothesis.{ClusterStart, FaultyNode, numbers_of, faulty_nodes_before, faulty_nodes_after}
-use Rattle.ttp_world.specs.Hypothesis.{started_faulty_nodes, start_of, is_steady, breaks_in, has_four_steady}
-use Rattle.ttp_world.specs.Hypothesis.{lacks_steady_after, keeps}
-use Rattle.ttp_world.specs.Medl.{IsValid, plan_at}
-use Rattle.ttp_world.specs.Script.{is_on}
+use Rattle.fault_plan.proofs.Words.{◌≡◌, ℕ, zero, suc, ◌+◌, ◌-◌, ◌<◌, ◌≤◌, true, false, not, ◌&&◌, ◌||◌, List, [], ◌∷◌}
+use Rattle.fault_plan.proofs.Words.{◌++◌, length, Some, refl, ap, sym, subst, ◌∙◌, inl, inr, arith, ◌==◌}
+use Rattle.fault_plan.proofs.Words.{AllByRecursion, filter, leb-true, not-false, or_parts, eqb-false, ne_eqb, eq-eqb}
+use Rattle.fault_plan.proofs.Words.{has_node, below, has_node-sieve, same_sieve, Medl, Script, ClusterStart, FaultyNode}
+use Rattle.fault_plan.proofs.Words.{numbers_of, faulty_nodes_before, start_of, has_four_steady, keeps, IsValid, plan_at}
+use Rattle.fault_plan.proofs.Words.{is_on, plan_of, Plan, fate_of, is_sound_after, is_steady_after, steady_nodes}
+use Rattle.fault_plan.proofs.Words.{lost_since, FollowsPlan, and-true, two_rounds}
+use Rattle.ttp_world.specs.Hypothesis.{faulty_nodes_after}
+use Rattle.ttp_world.specs.Hypothesis.{started_faulty_nodes, is_steady, breaks_in}
+use Rattle.ttp_world.specs.Hypothesis.{lacks_steady_after}
 use Rattle.ttp_world.proofs.Starts.{alone-start, on-start}
-use Rattle.fault_plan.specs.Plan.{plan_of, Plan}
-use Rattle.fault_plan.specs.Fates.{fate_of, is_sound_after, is_steady_after, steady_nodes, lost_since}
-use Rattle.fault_plan.specs.Kept.{IsPlanOfFaults, FollowsPlan, KeepsByPlan}
+use Rattle.fault_plan.specs.Kept.{IsPlanOfFaults, KeepsByPlan}
 use Rattle.fault_plan.proofs.Bounds.{none-armed, none-flipped, within-bounds}
 use Rattle.fault_plan.proofs.FateSteps.{since-kept, since-now}
 use Rattle.fault_plan.proofs.FaultySets.{IsSingleFault, faulty_before, fates-known, made_in}
@@ -27,8 +21,6 @@ use Rattle.fault_plan.proofs.Returns.{none-among}
 use Rattle.fault_plan.proofs.Rules.{RulesHold, rules-hold}
 use Rattle.fault_plan.proofs.Sieves.{none-found}
 use Rattle.fault_plan.proofs.Spaced.{all_in, spaced-all}
-use Rattle.ttp_world.proofs.SmallTests.{and-true}
-use Rattle.ttp_world.specs.Returning.{two_rounds}
 use Rattle.fault_plan.proofs.CoursePlans.{enough, follows-by, good-by, on-always, start-heard}
 use Rattle.ttp_world.specs.declared.keep.Keep.TheVariants as keep
 

@@ -1,14 +1,9 @@
 -- What the ledgers of a good plan tell.
-use Rattle.std.proofs.Common.{◌≡◌, ◌≢◌, ℕ, zero, suc, ◌+◌, ◌-◌, ◌<◌, ◌≤◌, Bool, true, false, cond, refl, ap, sym, ◌∙◌}
-use Rattle.std.proofs.Common.{inl, inr, arith}
-use Rattle.std.specs.Prelude.{◌==◌, if◌then◌else◌}
-use Rattle.std.proofs.lemmas.Bool.{cases_lt, eqb-true, eqb-false, both_ways}
-use Rattle.std.proofs.Math.Nat.{eq-or-lt_of_le}
-use Rattle.fault_plan.specs.Plan.{Plan, sender, enters}
-use Rattle.fault_plan.specs.Fates.{is_good_slot, is_first_slot, tally}
-use Rattle.fault_plan.specs.GoodPlan.{IsGoodPlan}
-use Rattle.fault_plan.specs.Ledger.{Ledger, opened, with_slot, ledger_of}
-use Rattle.fault_plan.specs.Told.{IsLedgerOf}
+use Rattle.fault_plan.proofs.Words.{◌≡◌, ◌≢◌, ℕ, zero, suc, ◌+◌, ◌-◌, ◌<◌, ◌≤◌, Bool, true, false, cond, refl, ap, sym}
+use Rattle.fault_plan.proofs.Words.{◌∙◌, inl, inr, arith, ◌==◌, if◌then◌else◌, cases_lt, eqb-true, eqb-false, both_ways}
+use Rattle.fault_plan.proofs.Words.{eq-or-lt_of_le, Plan, sender, enters, is_good_slot, is_first_slot, tally}
+use Rattle.fault_plan.proofs.Words.{IsGoodPlan, opened, with_slot, ledger_of, IsLedgerOf}
+use Rattle.fault_plan.specs.Ledger.{Ledger}
 use Rattle.fault_plan.proofs.Turns.{next_turn}
 
 none-counted : (p : ℕ → Bool) (slot : ℕ) → 0 ≡ tally p (suc slot) (slot - slot)

@@ -22,3 +22,4 @@ pub mod Members
 pub mod Counts
 pub mod SlotKinds
 pub mod Places
+pub mod Words

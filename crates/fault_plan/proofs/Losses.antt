@@ -1,19 +1,13 @@
 -- What the loss of a slot tells of the other nodes.
-use Rattle.std.proofs.Common.{◌≡◌, ℕ, ◌<◌, Bool, true, false, cond, not, ◌||◌, List, [], ◌∷◌, length, ◌⊎◌, refl, ap}
-use Rattle.std.proofs.Common.{sym, subst, ◌∙◌, inl, inr, arith}
-use Rattle.std.specs.Prelude.{◌==◌, if◌then◌else◌}
-use Rattle.std.specs.List.{AllByRecursion, filter}
-use Rattle.std.proofs.lemmas.Bool.{eqb-true, both_ways, or_parts, and_parts, not-false, eq-eqb, and_from}
-use Rattle.ttp_base.specs.NodeSet.{has_node}
-use Rattle.ttp_base.proofs.NodeSets.{has_node-sieve, has_node-filter}
-use Rattle.ttp_world.specs.declared.medl.Medl.{Medl}
-use Rattle.ttp_world.specs.declared.script.Script.{Script}
-use Rattle.ttp_world.specs.Hypothesis.{Loss, Harmless, Makes, Breaks, is_breaking, loss_among, loses, is_other}
-use Rattle.ttp_world.specs.Hypothesis.{others_in, receivers_loss, sender_loss}
-use Rattle.ttp_world.specs.Script.{is_ever_on}
-use Rattle.ttp_world.proofs.Filters.{each-sieve}
+use Rattle.fault_plan.proofs.Words.{◌≡◌, ℕ, ◌<◌, Bool, true, false, cond, not, ◌||◌, List, [], ◌∷◌, length, ◌⊎◌, refl}
+use Rattle.fault_plan.proofs.Words.{ap, sym, subst, ◌∙◌, inl, inr, arith, ◌==◌, if◌then◌else◌, AllByRecursion, filter}
+use Rattle.fault_plan.proofs.Words.{eqb-true, both_ways, or_parts, and_parts, not-false, eq-eqb, and_from, has_node}
+use Rattle.fault_plan.proofs.Words.{has_node-sieve, Medl, Script, Loss, Harmless, Makes, Breaks, is_breaking, loses}
+use Rattle.fault_plan.proofs.Words.{is_other, others_in, sender_loss, is_ever_on, each-sieve, sender}
+use Rattle.ttp_base.proofs.NodeSets.{has_node-filter}
+use Rattle.ttp_world.specs.Hypothesis.{loss_among}
+use Rattle.ttp_world.specs.Hypothesis.{receivers_loss}
 use Rattle.ttp_world.proofs.ListFacts.{few-left}
-use Rattle.fault_plan.specs.Plan.{sender}
 
 -- a node of a list, of which each has a property, has it
 member-step : (P : ℕ → Type 0) (x r : ℕ) (rest b : Bool) → (x == r) ≡ b → P x → (rest ≡ true → P r) → (b || rest) ≡ true

@@ -1,19 +1,16 @@
 -- Who is a member by a good plan.
-use Rattle.std.proofs.Common.{◌≡◌, ◌≢◌, ℕ, zero, suc, ◌+◌, ◌%◌, ◌<◌, ◌≤◌, Bool, true, false, cond, not, ◌&&◌, ◌||◌}
-use Rattle.std.proofs.Common.{refl, ap, sym, subst, ◌∙◌, inl, inr, mod-lt, arith, List, [], ◌∷◌, Option, Some, None}
-use Rattle.std.specs.Prelude.{◌==◌}
-use Rattle.std.proofs.lemmas.Bool.{cases_eq, eq-eqb, ne_eqb}
-use Rattle.std.proofs.Math.Nat.{mod-eq_of_lt}
-use Rattle.ttp_base.specs.NodeSet.{most_nodes, below, has_node, with_node, without_node}
+use Rattle.fault_plan.proofs.Words.{◌≡◌, ◌≢◌, ℕ, zero, suc, ◌+◌, ◌%◌, ◌<◌, ◌≤◌, Bool, true, false, cond, not, ◌&&◌}
+use Rattle.fault_plan.proofs.Words.{◌||◌, refl, ap, sym, subst, ◌∙◌, inl, inr, mod-lt, arith, List, [], ◌∷◌, Option}
+use Rattle.fault_plan.proofs.Words.{Some, None, ◌==◌, cases_eq, eq-eqb, ne_eqb, mod-eq_of_lt, below, has_node, filter}
+use Rattle.fault_plan.proofs.Words.{has_node-sieve, same_sieve, Change, Receiving, Incident, Plan, sender, incident_at}
+use Rattle.fault_plan.proofs.Words.{is_armed_by, enters, Fate, Absent, Sound, Falling, Fallen, Listening, fate_at_begin}
+use Rattle.fault_plan.proofs.Words.{struck, turned, fate_of, is_sound, is_sound_after, is_good_slot, is_first_slot}
+use Rattle.fault_plan.proofs.Words.{IsGoodPlan, opened, with_slot, ledger_of, IsLossOf, IsTold, IsLedgerOf}
+use Rattle.ttp_base.specs.NodeSet.{most_nodes, with_node, without_node}
 use Rattle.ttp_base.proofs.NodeLists.{filter-none, with_node-filter, without_node-filter, with_node-nil}
-use Rattle.std.specs.List.{filter}
-use Rattle.ttp_base.proofs.NodeSets.{has_node-sieve, same_sieve, has_node-with, has_node-without}
-use Rattle.fault_plan.specs.Plan.{Change, Receiving, Incident, Plan, sender, incident_at, is_armed_by, enters}
-use Rattle.fault_plan.specs.Fates.{Fate, Absent, Sound, Falling, Fallen, Listening, fate_at_begin, struck, turned}
-use Rattle.fault_plan.specs.Fates.{fate_of, is_sound, is_sound_after, is_good_slot, is_first_slot}
-use Rattle.fault_plan.specs.GoodPlan.{IsGoodPlan}
-use Rattle.fault_plan.specs.Ledger.{opened, with_slot, planned_members, ledger_of}
-use Rattle.fault_plan.specs.Told.{IsLossOf, IsFalling, IsTold, IsLedgerOf, IsSenderLost}
+use Rattle.ttp_base.proofs.NodeSets.{has_node-with, has_node-without}
+use Rattle.fault_plan.specs.Ledger.{planned_members}
+use Rattle.fault_plan.specs.Told.{IsFalling, IsSenderLost}
 use Rattle.fault_plan.proofs.FateSteps.{strikes, next-same, next-entered, next-armed, sound-fate}
 use Rattle.fault_plan.proofs.FateTells.{fate-told, none-first, armed-fallen}
 use Rattle.fault_plan.proofs.Ledgers.{ledger-told}

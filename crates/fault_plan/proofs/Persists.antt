@@ -1,23 +1,17 @@
 -- Fates of a good plan from slot to slot: who is sound was so before, back to its entry, and stays so where no incident
 -- strikes it.
-use Rattle.std.proofs.Common.{◌≡◌, ℕ, zero, suc, ◌+◌, ◌<◌, ◌≤◌, Bool, true, false, cond, not, ◌&&◌, Option, Some, None}
-use Rattle.std.proofs.Common.{refl, ap, sym, subst, ◌∙◌, inl, inr, arith, []}
-use Rattle.std.specs.Prelude.{◌==◌}
-use Rattle.std.proofs.lemmas.Bool.{and_parts, and_from, not_from_false, not-true, eqb-true, eq-eqb, both_ways}
-use Rattle.std.proofs.lemmas.Bool.{false_from_ne_true, le-leb, lt-ltb}
-use Rattle.std.proofs.Math.Nat.{eq-or-lt_of_le}
-use Rattle.ttp_base.specs.NodeSet.{has_node}
-use Rattle.fault_plan.specs.Plan.{Incident, Plan, incident_at, is_armed_by, enters, sender}
-use Rattle.fault_plan.specs.Fates.{Fate, Absent, Sound, Falling, Fallen, Listening, fate_at_begin, struck, fate_of}
-use Rattle.fault_plan.specs.Fates.{is_sound, is_sound_after, is_lost, is_absent, is_entry_near}
-use Rattle.fault_plan.specs.Fates.{is_lasting_after}
-use Rattle.fault_plan.specs.GoodPlan.{IsGoodPlan}
+use Rattle.fault_plan.proofs.Words.{◌≡◌, ℕ, zero, suc, ◌+◌, ◌<◌, ◌≤◌, Bool, true, false, cond, not, ◌&&◌, Option, Some}
+use Rattle.fault_plan.proofs.Words.{None, refl, ap, sym, subst, ◌∙◌, inl, inr, arith, [], ◌==◌, and_parts, and_from}
+use Rattle.fault_plan.proofs.Words.{not_from_false, not-true, eqb-true, eq-eqb, both_ways, false_from_ne_true, le-leb}
+use Rattle.fault_plan.proofs.Words.{lt-ltb, eq-or-lt_of_le, has_node, Incident, Plan, incident_at, is_armed_by, enters}
+use Rattle.fault_plan.proofs.Words.{sender, Fate, Absent, Sound, Falling, Fallen, Listening, fate_at_begin, struck}
+use Rattle.fault_plan.proofs.Words.{fate_of, is_sound, is_sound_after, is_lost, is_lasting_after, IsGoodPlan, and-true}
+use Rattle.fault_plan.specs.Fates.{is_absent, is_entry_near}
 use Rattle.fault_plan.proofs.FateTells.{none-first}
 use Rattle.fault_plan.proofs.FateSteps.{strikes, turned-same, next-same, next-entered, next-armed, sound-next}
 use Rattle.fault_plan.proofs.FateSteps.{sound-from}
 use Rattle.fault_plan.proofs.Returns.{entry-is, entry-from, armed-lost, armed-late, enters-late, armed-quiet, of-any}
 use Rattle.fault_plan.proofs.Returns.{none-enters}
-use Rattle.ttp_world.proofs.SmallTests.{and-true}
 
 pub lost-unsound : (fate : Fate) → is_lost fate ≡ true → is_sound fate ≡ false
 lost-unsound Absent lost = refl

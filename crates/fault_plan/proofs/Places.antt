@@ -1,13 +1,8 @@
 -- At the place of a slot it is the turn of the slot's node.
-use Rattle.std.proofs.Common.{◌≡◌, ◌≢◌, ℕ, zero, suc, ◌+◌, ◌*◌, ◌/◌, ◌%◌, ◌<◌, ◌≤◌, Bool, true, false, cond, length}
-use Rattle.std.proofs.Common.{refl, ap, sym, ◌∙◌, mod-lt, arith}
-use Rattle.std.specs.Prelude.{◌==◌}
-use Rattle.std.proofs.Math.Nat.{mod-add-div', mod-eq_of_lt}
-use Rattle.std.proofs.lemmas.Bool.{eqb-true, eqb-false}
-use Rattle.std.proofs.lemmas.Nat.{mod-mul-add}
-use Rattle.ttp_world.specs.declared.medl.Medl.{Medl}
+use Rattle.fault_plan.proofs.Words.{◌≡◌, ◌≢◌, ℕ, zero, suc, ◌+◌, ◌*◌, ◌/◌, ◌%◌, ◌<◌, ◌≤◌, Bool, true, false, cond}
+use Rattle.fault_plan.proofs.Words.{length, refl, ap, sym, ◌∙◌, mod-lt, arith, ◌==◌, mod-add-div', mod-eq_of_lt}
+use Rattle.fault_plan.proofs.Words.{eqb-true, eqb-false, mod-mul-add, Medl, Plan, sender}
 use Rattle.ttp_world.specs.Diary.{Place, next_place}
-use Rattle.fault_plan.specs.Plan.{Plan, sender}
 use Rattle.fault_plan.specs.Places.{planned_place}
 
 -- the remainder of the next number

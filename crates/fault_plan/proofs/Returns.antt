@@ -1,18 +1,12 @@
 -- The returns of a good plan: no loss comes near one, and a node listens from its arm slot until it enters.
-use Rattle.std.proofs.Common.{◌≡◌, ◌≢◌, ℕ, zero, suc, ◌+◌, ◌*◌, ◌<◌, ◌≤◌, Bool, true, false, ◌&&◌, List, [], Option}
-use Rattle.std.proofs.Common.{cond, Some, None, ◌⊎◌, refl, ap, sym, ◌∙◌, inl, inr, arith, length}
-use Rattle.std.specs.Prelude.{◌==◌, nat_lt}
-use Rattle.std.specs.List.{Contains, list_any}
-use Rattle.std.proofs.lemmas.Bool.{and_parts, and_from, eqb-true, eq-eqb, ltb-true, lt-ltb, false_from_ne_true}
-use Rattle.std.proofs.lemmas.Bool.{both_ways}
+use Rattle.fault_plan.proofs.Words.{◌≡◌, ◌≢◌, ℕ, zero, suc, ◌+◌, ◌*◌, ◌<◌, ◌≤◌, Bool, true, false, ◌&&◌, List, []}
+use Rattle.fault_plan.proofs.Words.{Option, cond, Some, None, ◌⊎◌, refl, ap, sym, ◌∙◌, inl, inr, arith, length, ◌==◌}
+use Rattle.fault_plan.proofs.Words.{nat_lt, Contains, list_any, and_parts, and_from, eqb-true, eq-eqb, ltb-true, lt-ltb}
+use Rattle.fault_plan.proofs.Words.{false_from_ne_true, both_ways, eq-or-lt_of_le, has_node, Incident, Return, Plan}
+use Rattle.fault_plan.proofs.Words.{sender, incident_at, is_armed_by, enters, Fate, Absent, Sound, Falling, Listening}
+use Rattle.fault_plan.proofs.Words.{fate_at_begin, struck, next_fate, fate_of, is_good_slot, is_lost, IsGoodPlan}
 use Rattle.std.proofs.lemmas.List.Folds.{Any-from_list_any, list_any_at}
-use Rattle.std.proofs.Math.Nat.{eq-or-lt_of_le}
-use Rattle.ttp_base.specs.NodeSet.{has_node}
-use Rattle.fault_plan.specs.Plan.{Incident, Return, Plan, sender, incident_at, is_armed_there, enters_there}
-use Rattle.fault_plan.specs.Plan.{is_armed_by, enters}
-use Rattle.fault_plan.specs.Fates.{Fate, Absent, Sound, Falling, Listening, fate_at_begin, struck, next_fate, fate_of}
-use Rattle.fault_plan.specs.Fates.{is_good_slot, is_lost}
-use Rattle.fault_plan.specs.GoodPlan.{IsGoodPlan}
+use Rattle.fault_plan.specs.Plan.{is_armed_there, enters_there}
 use Rattle.fault_plan.proofs.FateSteps.{turned-same, next-same, next-armed, next-listening}
 use Rattle.fault_plan.proofs.Tests.{never-found}
 

@@ -1,11 +1,10 @@
 -- The rules, one by one, of a script that keeps the hypothesis.
-use Rattle.std.proofs.Common.{◌≡◌, ℕ, Option, Some, None, refl}
+use Rattle.fault_plan.proofs.Words.{◌≡◌, ℕ, Option, Some, None, refl, Medl, Script, ClusterStart, clocks_broken}
+use Rattle.fault_plan.proofs.Words.{window_broken, outside_broken, start_of, keeps}
 use Rattle.ttp_world.specs.declared.keep.Keep.{Keep}
 use Rattle.ttp_world.specs.declared.keep.Keep.TheVariants as keep
-use Rattle.ttp_world.specs.declared.medl.Medl.{Medl}
-use Rattle.ttp_world.specs.declared.script.Script.{Script}
-use Rattle.ttp_world.specs.Hypothesis.{ClusterStart, clocks_broken, window_broken, outside_broken, loss_broken}
-use Rattle.ttp_world.specs.Hypothesis.{distance_broken, sync_broken, start_of, started_keep, unless, keeps}
+use Rattle.ttp_world.specs.Hypothesis.{loss_broken}
+use Rattle.ttp_world.specs.Hypothesis.{distance_broken, sync_broken, started_keep, unless}
 
 pub record RulesHold (list : Medl) (script : Script) (slot : ℕ) : Type 0 where
   pub clocks : clocks_broken list script ≡ None

@@ -1,9 +1,7 @@
 -- Where none of a range is found, none passes.
-use Rattle.std.proofs.Common.{◌≡◌, ℕ, zero, suc, ◌+◌, ◌<◌, ◌≤◌, Bool, true, false, cond, Some, None, refl, ap, sym, ◌∙◌}
-use Rattle.std.proofs.Common.{inl, inr, arith}
+use Rattle.fault_plan.proofs.Words.{◌≡◌, ℕ, zero, suc, ◌+◌, ◌<◌, ◌≤◌, Bool, true, false, cond, Some, None, refl, ap}
+use Rattle.fault_plan.proofs.Words.{sym, ◌∙◌, inl, inr, arith, cases_eq, none-some}
 use Rattle.std.specs.List.{find, range_with_len}
-use Rattle.std.proofs.lemmas.Bool.{cases_eq}
-use Rattle.std.proofs.lemmas.Option.{none-some}
 
 none-step : (p : ℕ → Bool) (a k n : ℕ) (b : Bool) → p a ≡ b → cond b (Some a) (find p (range_with_len (a + 1) n)) ≡ None
     → (p a ≡ false) × (find p (range_with_len (a + 1) n) ≡ None)

@@ -1,14 +1,8 @@
 -- A slot of the plan of the single-fault hypothesis: who hears its frame, and who is sound before it.
-use Rattle.std.proofs.Common.{ap, arith, false, length, refl, subst, suc, sym, true, ℕ, ◌+◌, ◌<◌, ◌∙◌, ◌≡◌}
-use Rattle.std.proofs.lemmas.Bool.{and_from, and_parts, not-true, not_from_false, or_parts}
-use Rattle.ttp_base.specs.NodeSet.{has_node}
-use Rattle.ttp_world.specs.Hypothesis.{ClusterStart, expected_sender, loses}
-use Rattle.ttp_world.specs.Script.{is_ever_on}
-use Rattle.ttp_world.specs.declared.medl.Medl.{Medl}
-use Rattle.ttp_world.specs.declared.script.Script.{Script}
-use Rattle.fault_plan.specs.Fates.{is_sound_after}
-use Rattle.fault_plan.specs.Kept.{IsHeardByPlan}
-use Rattle.fault_plan.specs.Plan.{Plan, plan_of, sender}
+use Rattle.fault_plan.proofs.Words.{ap, arith, false, length, refl, subst, suc, sym, true, ℕ, ◌+◌, ◌<◌, ◌∙◌, ◌≡◌}
+use Rattle.fault_plan.proofs.Words.{and_from, and_parts, not-true, not_from_false, or_parts, has_node, ClusterStart}
+use Rattle.fault_plan.proofs.Words.{expected_sender, loses, is_ever_on, Medl, Script, is_sound_after, IsHeardByPlan}
+use Rattle.fault_plan.proofs.Words.{Plan, plan_of, sender}
 use Rattle.fault_plan.proofs.FaultySets.{IsSingleFault, fates-known, faulty-next, faulty_before}
 use Rattle.fault_plan.proofs.Hearing.{IsClear, clear-still, clear-after, clear-loses, sender-less, deaf-in, jumps-in}
 use Rattle.fault_plan.proofs.Hearing.{sender-same, unheard-in}

@@ -1,19 +1,15 @@
 -- What the kind of a slot of a good plan tells.
-use Rattle.std.proofs.Common.{◌≡◌, ◌≢◌, ℕ, suc, ◌+◌, ◌≤◌, Bool, true, false, cond, Option, Some, None, refl, ap, sym}
-use Rattle.std.proofs.Common.{subst, ◌∙◌, arith, ◌⊎◌, inl, inr}
-use Rattle.std.specs.Prelude.{◌==◌, nat_lt}
-use Rattle.std.proofs.lemmas.Bool.{eqb-true, eqb-false, eq-eqb, ne_eqb, both_ways, lt-ltb, le-ltb, false_from_ne_true}
-use Rattle.std.proofs.lemmas.Option.{none-some}
-use Rattle.fault_plan.specs.Plan.{Change, Sending, Receiving, Jumping, Incident, Plan, sender, incident_at, is_armed_by}
-use Rattle.fault_plan.specs.Plan.{enters}
-use Rattle.fault_plan.specs.Fates.{Fate, Absent, Sound, Falling, Fallen, Listening, struck, shown_in, turned, fate_of}
-use Rattle.fault_plan.specs.Fates.{is_sound, is_sound_after, is_shown_in, is_good_slot, is_first_slot, may_stay}
-use Rattle.fault_plan.specs.Fates.{lost_since}
-use Rattle.fault_plan.specs.GoodPlan.{IsGoodPlan}
+use Rattle.fault_plan.proofs.Words.{◌≡◌, ◌≢◌, ℕ, suc, ◌+◌, ◌≤◌, Bool, true, false, cond, Option, Some, None, refl, ap}
+use Rattle.fault_plan.proofs.Words.{sym, subst, ◌∙◌, arith, ◌⊎◌, inl, inr, ◌==◌, nat_lt, eqb-true, eqb-false, eq-eqb}
+use Rattle.fault_plan.proofs.Words.{ne_eqb, both_ways, lt-ltb, le-ltb, false_from_ne_true, none-some, Change, Sending}
+use Rattle.fault_plan.proofs.Words.{Receiving, Jumping, Incident, Plan, sender, incident_at, is_armed_by, enters, Fate}
+use Rattle.fault_plan.proofs.Words.{Absent, Sound, Falling, Fallen, Listening, struck, turned, fate_of, is_sound}
+use Rattle.fault_plan.proofs.Words.{is_sound_after, is_shown_in, is_good_slot, is_first_slot, may_stay, lost_since}
+use Rattle.fault_plan.proofs.Words.{IsGoodPlan, IsTold}
+use Rattle.fault_plan.specs.Fates.{shown_in}
 use Rattle.fault_plan.specs.SlotKind.{SlotKind, Good, Idle, Lost, Shown, Last, kind_if_lost, kind_by_fate, slot_kind}
 use Rattle.fault_plan.specs.SlotKind.{is_good_kind, is_first_kind, IsIdle, IsGoodAfter, IsLostAfter, IsShownAfter}
 use Rattle.fault_plan.specs.SlotKind.{IsKindAfter}
-use Rattle.fault_plan.specs.Told.{IsTold}
 use Rattle.fault_plan.proofs.FateSteps.{strikes, next-same, next-armed}
 use Rattle.fault_plan.proofs.FateTells.{fate-told, loss-sending, none-stays, one-stays, over, armed-fallen}
 use Rattle.fault_plan.proofs.Persists.{sound-on}

@@ -1,12 +1,11 @@
 -- The faulty nodes of a script that keeps the rule on distances.
-use Rattle.std.proofs.Common.{◌≡◌, ℕ, ◌+◌, ◌<◌, ◌≤◌, Bool, true, false, cond, List, [], ◌∷◌, ◌++◌, map, reverse, Option}
-use Rattle.std.proofs.Common.{Some, None, ◌⊎◌, refl, ap, sym, subst, ◌∙◌, inl, inr, arith}
-use Rattle.std.specs.Prelude.{nat_lt}
-use Rattle.std.specs.List.{AllByRecursion}
+use Rattle.fault_plan.proofs.Words.{◌≡◌, ℕ, ◌+◌, ◌<◌, ◌≤◌, Bool, true, false, cond, List, [], ◌∷◌, ◌++◌, map, Option}
+use Rattle.fault_plan.proofs.Words.{Some, None, ◌⊎◌, refl, ap, sym, subst, ◌∙◌, inl, inr, arith, nat_lt, AllByRecursion}
+use Rattle.fault_plan.proofs.Words.{none-some, FaultyNode, numbers_of}
+use Rattle.std.proofs.Common.{reverse}
 use Rattle.std.proofs.lemmas.Bool.{ltb-false}
 use Rattle.std.proofs.lemmas.Grind.{reverse_onto}
-use Rattle.std.proofs.lemmas.Option.{none-some}
-use Rattle.ttp_world.specs.Hypothesis.{FaultyNode, numbers_of, first_too_early}
+use Rattle.ttp_world.specs.Hypothesis.{first_too_early}
 
 -- Faulty nodes, the newest first, that became faulty some way apart, and none before a slot.
 

@@ -1,5 +1,5 @@
 -- Tests that are joined with a known one, and incidents that are never found.
-use Rattle.std.proofs.Common.{◌≡◌, Bool, true, false, ◌||◌, Option, Some, None, refl}
+use Rattle.fault_plan.proofs.Words.{◌≡◌, Bool, true, false, ◌||◌, Option, Some, None, refl}
 
 pub or-false : (b : Bool) → b ≡ (b || false)
 or-false true = refl

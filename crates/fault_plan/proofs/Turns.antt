@@ -1,9 +1,7 @@
 -- Whose slot it is: each node has one slot in a round.
-use Rattle.std.proofs.Common.{◌≡◌, ℕ, ◌+◌, ◌-◌, ◌*◌, ◌/◌, ◌%◌, ◌<◌, ◌≤◌, ap, ◌∙◌, inl, inr, mod-lt, arith}
-use Rattle.std.proofs.Math.Nat.{mod-add-div', mul-le-mul_right}
-use Rattle.std.proofs.lemmas.Bool.{cases_lt}
-use Rattle.std.proofs.lemmas.Nat.{mod-mul-add}
-use Rattle.fault_plan.specs.Plan.{Plan, sender}
+use Rattle.fault_plan.proofs.Words.{◌≡◌, ℕ, ◌+◌, ◌-◌, ◌*◌, ◌/◌, ◌%◌, ◌<◌, ◌≤◌, ap, ◌∙◌, inl, inr, mod-lt, arith}
+use Rattle.fault_plan.proofs.Words.{mod-add-div', cases_lt, mod-mul-add, Plan, sender}
+use Rattle.std.proofs.Math.Nat.{mul-le-mul_right}
 
 -- the first turn of k among those from a on
 own_turn : (n a k : ℕ) → 0 < n → k < n → (u : ℕ) × ((a ≤ u) × (u < a + n) × (u % n ≡ k))

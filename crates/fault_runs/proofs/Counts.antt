@@ -1,16 +1,12 @@
 -- Counts, one run more at a time.
-use Rattle.std.proofs.Common.{◌≡◌, ℕ, ◌+◌, Bool, true, false, cond, List, [], ◌∷◌, ◌++◌}
-use Rattle.std.proofs.Common.{refl, ap, sym, ◌∙◌, length-append, append-nil, arith}
-use Rattle.std.specs.Prelude.{filter, count_by, is_some, if◌then◌else◌}
-use Rattle.std.proofs.lemmas.List.{map-append}
+use Rattle.fault_runs.proofs.Words.{◌≡◌, ℕ, ◌+◌, Bool, true, false, cond, List, [], ◌∷◌, ◌++◌, refl, ap, sym, ◌∙◌}
+use Rattle.fault_runs.proofs.Words.{length-append, append-nil, arith, filter, if◌then◌else◌, map-append, Medl, Cost}
+use Rattle.fault_runs.proofs.Words.{Counts, AreAtMost, Summary, is_same_cost}
+use Rattle.std.specs.Prelude.{count_by, is_some}
 use Rattle.std.proofs.lemmas.List.Elements.{filter-append}
 use Rattle.std.proofs.lemmas.List.Sums.{sum_by-append}
 use Rattle.std.specs.Prelude.{sum_by}
-use Rattle.ttp_world.specs.declared.medl.Medl.{Medl}
-use Rattle.campaign.specs.declared.cost.Cost.{Cost}
-use Rattle.campaign.specs.declared.cost.Counts.{Counts}
-use Rattle.fault_runs.specs.Runs.{AreAtMost}
-use Rattle.campaign.specs.Lines.{Summary, is_same_cost, has_hurt, is_torn, is_dead, counts_of, costs_of}
+use Rattle.campaign.specs.Lines.{has_hurt, is_torn, is_dead, counts_of, costs_of}
 
 count-next : {X : Type 0} (p : X → Bool) (xs : List X) (x : X)
     → count_by p (xs ++ x ∷ []) ≡ count_by p xs + (if p x then 1 else 0)

@@ -1,13 +1,11 @@
 -- Texts that are written one after another, and how they end where they are not written whole.
-use Rattle.std.proofs.Common.{◌≡◌, ℕ, List, [], ◌∷◌, ◌++◌, refl, ap, sym, ◌∙◌, append_assoc, append-nil}
-use Rattle.std.proofs.Common.{Result, Ok, Err}
-use Rattle.std.specs.Prelude.{IfErr}
-use Rattle.ttp_base.specs.Outside.{Output, WroteLines, CutShort}
-use Rattle.ttp_base.specs.Text.{Lines}
-use Rattle.ttp_base.proofs.Outputs.{Wrote-none, Wrote-join, CutShort-after, CutShort-more}
-use Rattle.fault_runs.specs.declared.put.CampaignFault.{CampaignFault}
+use Rattle.fault_runs.proofs.Words.{◌≡◌, ℕ, List, [], ◌∷◌, ◌++◌, refl, ap, sym, ◌∙◌, append_assoc, append-nil, Result}
+use Rattle.fault_runs.proofs.Words.{Ok, Err, IfErr, Output, WroteLines, Lines, Wrote-none, Wrote-join, CampaignFault}
+use Rattle.fault_runs.proofs.Words.{WroteFewer, LeftBy, LeftFewerBy}
+use Rattle.ttp_base.specs.Outside.{CutShort}
+use Rattle.ttp_base.proofs.Outputs.{CutShort-after, CutShort-more}
 use Rattle.fault_runs.specs.declared.put.CampaignFault.TheVariants as fault
-use Rattle.fault_runs.specs.Ends.{WroteFront, WroteFewer, LeftBy, LeftFewerBy}
+use Rattle.fault_runs.specs.Ends.{WroteFront}
 
 -- nothing was written
 pub front-none : (o : Output) (lines : Lines) → WroteFront o o lines

@@ -5,3 +5,4 @@ pub mod Endings
 pub mod Results
 pub mod Wholes
 pub mod Tries
+pub mod Words

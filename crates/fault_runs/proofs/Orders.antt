@@ -1,22 +1,16 @@
 -- Those who were hurt are told in the order of the nodes.
-use Rattle.std.proofs.Common.{◌≡◌, ℕ, ◌<◌, ◌≤◌, Bool, true, false, ◌&&◌, ◌||◌, ltb, List, [], ◌∷◌, length, inl, inr}
-use Rattle.std.proofs.Common.{refl, ap, sym, subst, ◌∙◌, arith}
-use Rattle.std.specs.Prelude.{◌==◌, filter}
+use Rattle.fault_runs.proofs.Words.{◌≡◌, ℕ, ◌<◌, ◌≤◌, Bool, true, false, ◌&&◌, List, [], ◌∷◌, length, inl, inr, refl}
+use Rattle.fault_runs.proofs.Words.{ap, sym, subst, ◌∙◌, arith, filter, below, Medl, Script, History, IsValid}
+use Rattle.fault_runs.proofs.Words.{nodes-most, Cost, summary, zeros_world}
+use Rattle.std.proofs.Common.{◌||◌, ltb}
+use Rattle.std.specs.Prelude.{◌==◌}
 use Rattle.std.specs.List.{AllByRecursion}
 use Rattle.std.proofs.lemmas.Bool.{and_right, cases_lt, lt-ltb, le-ltb, ne_eqb}
-use Rattle.ttp_base.specs.NodeSet.{most_nodes, below, has_node}
+use Rattle.ttp_base.specs.NodeSet.{most_nodes, has_node}
 use Rattle.ttp_base.proofs.Below.{below-lt}
 use Rattle.ttp_base.proofs.NodeLists.{filter-below}
 use Rattle.ttp_base.proofs.NodeSets.{has_node-filter, has_node-sieve, same_sieve}
-use Rattle.ttp_world.specs.declared.medl.Medl.{Medl}
-use Rattle.ttp_world.specs.declared.script.Script.{Script}
-use Rattle.ttp_world.specs.Diary.{History}
-use Rattle.ttp_world.specs.Medl.{IsValid}
-use Rattle.ttp_world.proofs.Lists.{nodes-most}
-use Rattle.campaign.specs.declared.cost.Cost.{Cost}
 use Rattle.campaign.specs.Cost.{is_hurt, hurt_nodes}
-use Rattle.campaign.specs.Lines.{summary}
-use Rattle.campaign.specs.ZerosWorld.{zeros_world}
 use Rattle.campaign_text.specs.Listing.{in_order}
 
 none-past : (n j : ℕ) (ks : List ℕ) → AllByRecursion (λ k. k < n) ks → n ≤ j → has_node ks j ≡ false

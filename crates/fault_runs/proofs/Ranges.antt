@@ -1,30 +1,23 @@
 -- The faults of a range of slots, slot by slot.
-use Rattle.std.proofs.Common.{◌≡◌, ℕ, zero, suc, ◌+◌, ◌*◌, ◌-◌, ◌<◌, ◌≤◌, Bool, true, false, cond, ◌&&◌}
-use Rattle.std.proofs.Common.{List, [], ◌∷◌, ◌++◌}
-use Rattle.std.proofs.Common.{length, get_or, refl, ap, sym, subst, ◌∙◌, arith}
-use Rattle.std.specs.Prelude.{All, map, filter, flat_map, nat_le}
+use Rattle.fault_runs.proofs.Words.{◌≡◌, ℕ, ◌+◌, ◌*◌, ◌<◌, ◌≤◌, Bool, true, false, cond, ◌&&◌, List, [], ◌∷◌, ◌++◌}
+use Rattle.fault_runs.proofs.Words.{length, get_or, refl, ap, sym, subst, ◌∙◌, arith, map, filter, nat_le, IsValid}
+use Rattle.fault_runs.proofs.Words.{list_any, length-append, inl, inr, get_or-map, length-map, below, Medl, Entry}
+use Rattle.fault_runs.proofs.Words.{Script, History, faults_in, row_of, zeros_world, tried_in, tried_before, entries_of}
+use Rattle.std.proofs.Common.{zero, suc, ◌-◌}
+use Rattle.std.specs.Prelude.{All, flat_map}
 use Rattle.std.proofs.lemmas.List.Elements.{All-nil}
-use Rattle.ttp_world.specs.Medl.{IsValid}
 use Rattle.single_faults.specs.Tried.{MayStand}
 use Rattle.single_faults.proofs.Stand.{faults_in-stand}
-use Rattle.std.specs.List.{list_any}
 use Rattle.std.proofs.lemmas.List.FromFn.{length-map-range_with_len, length-range_with_len}
-use Rattle.std.proofs.Common.{length-append, inl, inr}
 use Rattle.std.proofs.lemmas.Bool.{cases_eq}
-use Rattle.std.proofs.lemmas.List.{ext_get_or, get_or-map, length-map}
-use Rattle.ttp_base.specs.NodeSet.{below}
-use Rattle.ttp_world.specs.declared.medl.Medl.{Medl}
-use Rattle.ttp_world.specs.declared.node.Entry.{Entry}
+use Rattle.std.proofs.lemmas.List.{ext_get_or}
 use Rattle.ttp_world.specs.declared.node.Entry.TheVariants as entry
 use Rattle.ttp_world.specs.declared.node.NodeState.{NodeState}
 use Rattle.ttp_world.specs.declared.script.Event.TheVariants as event
-use Rattle.ttp_world.specs.declared.script.Script.{Script}
-use Rattle.ttp_world.specs.Diary.{History, entry_of}
+use Rattle.ttp_world.specs.Diary.{entry_of}
 use Rattle.ttp_world.specs.Medium.{is_sending}
-use Rattle.campaign.specs.Tried.{losses_from, losses_of, jump_sizes, jumps_of, faults_of, faults_in}
-use Rattle.campaign.specs.Tried.{is_hearing, is_timed, faults_from, row_of}
-use Rattle.campaign.specs.ZerosWorld.{zeros_world}
-use Rattle.fault_runs.specs.Runs.{tried_in, tried_before, entries_of}
+use Rattle.campaign.specs.Tried.{losses_from, losses_of, jump_sizes, jumps_of, faults_of}
+use Rattle.campaign.specs.Tried.{is_hearing, is_timed, faults_from}
 use Rattle.seen_costs.specs.States.{off_state, AreShown}
 use Rattle.seen_costs.proofs.Rows.{length-zeros, next_row, zeros-next}
 

@@ -1,7 +1,7 @@
 -- What holds of one result by another.
-use Rattle.std.proofs.Common.{Result, Ok, Err}
+use Rattle.fault_runs.proofs.Words.{Result, Ok, Err, OnOk, IfErr}
 use Rattle.std.proofs.lemmas.Bool.{false≢true}
-use Rattle.std.specs.Prelude.{OnOk, IfErr, IsOk}
+use Rattle.std.specs.Prelude.{IsOk}
 
 -- what holds where one is good holds where another is that is never good without it
 pub ok-through : {T E U F : Type 0} (P : Type 0) (r : Result T E) (f : Result U F) → OnOk r (IsOk f) → OnOk f P

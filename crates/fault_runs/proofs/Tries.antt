@@ -1,14 +1,7 @@
 -- What is told of the runs of some faults.
-use Rattle.std.proofs.Common.{◌≡◌, ℕ, List, ◌++◌, take, drop, ap, sym, ◌∙◌}
-use Rattle.std.proofs.lemmas.List.{map-append, take-append-drop}
+use Rattle.fault_runs.proofs.Words.{◌≡◌, ℕ, List, ◌++◌, take, drop, ap, sym, ◌∙◌, map-append, take-append-drop, map}
+use Rattle.fault_runs.proofs.Words.{Medl, Event, Script, Tried, fault_lines, tried_of, tried_lines}
 use Rattle.std.proofs.lemmas.Simd.{map-map}
-use Rattle.std.specs.Prelude.{map}
-use Rattle.ttp_world.specs.declared.medl.Medl.{Medl}
-use Rattle.ttp_world.specs.declared.script.Event.{Event}
-use Rattle.ttp_world.specs.declared.script.Script.{Script}
-use Rattle.fault_runs.specs.declared.tried.Tried.{Tried}
-use Rattle.fault_runs.specs.Runs.{fault_lines}
-use Rattle.fault_runs.specs.Tries.{tried_of, tried_lines}
 
 -- that of two parts of them, one after the other, is that of all
 pub halves_tried : (list : Medl) (script : Script) (faults front back : List Event) (n : ℕ) (one other : List Tried)

@@ -1,17 +1,9 @@
 -- The parts of a campaign, one after another: the lines before those of faults, those of faults, and those of counts.
-use Rattle.std.proofs.Common.{ℕ, List, [], ◌∷◌, ◌++◌, subst}
-use Rattle.std.specs.Prelude.{map, codes}
-use Rattle.ttp_base.specs.Outside.{Output, WroteLines}
-use Rattle.ttp_base.specs.Text.{Lines}
-use Rattle.ttp_base.proofs.Outputs.{Wrote-join}
-use Rattle.ttp_world.specs.declared.medl.Medl.{Medl}
-use Rattle.ttp_world.specs.declared.script.Event.{Event}
-use Rattle.ttp_world.specs.declared.script.Script.{Script}
-use Rattle.campaign.specs.Lines.{summary, summary_with, lines_with, campaign_lines, head_line, own_line}
-use Rattle.campaign.specs.Lines.{counts_line, kept_counts, broken_counts}
-use Rattle.fault_runs.specs.declared.put.CampaignFault.{CampaignFault}
-use Rattle.fault_runs.specs.Ends.{WroteFewer, LeftBy, LeftFewerBy}
-use Rattle.fault_runs.specs.Runs.{front_lines, fault_lines, end_lines, tried_before}
+use Rattle.fault_runs.proofs.Words.{ℕ, List, [], ◌∷◌, ◌++◌, subst, map, codes, Output, WroteLines, Lines, Wrote-join}
+use Rattle.fault_runs.proofs.Words.{Medl, Event, Script, summary, summary_with, campaign_lines, head_line, own_line}
+use Rattle.fault_runs.proofs.Words.{counts_line, kept_counts, broken_counts, CampaignFault, WroteFewer, LeftBy}
+use Rattle.fault_runs.proofs.Words.{LeftFewerBy, front_lines, fault_lines, end_lines, tried_before}
+use Rattle.campaign.specs.Lines.{lines_with}
 use Rattle.fault_runs.proofs.Endings.{fewer-none, fewer-after, fewer-more, more-is_fewer}
 use Rattle.fault_runs.proofs.Ranges.{tried-whole}
 

@@ -1,11 +1,7 @@
 -- What is asked of an arm line, told by any set that has the same nodes.
-use Rattle.std.proofs.Common.{◌≡◌, ℕ, ◌<◌, not, ◌&&◌, List, ap}
-use Rattle.ttp_base.specs.NodeSet.{most_nodes}
+use Rattle.hypothesis.proofs.Words.{◌≡◌, ℕ, ◌<◌, not, ◌&&◌, List, ap, most_nodes, Script, is_deaf, is_on, HaveSameNodes}
 use Rattle.ttp_world.specs.declared.script.Channel.TheVariants as channel
-use Rattle.ttp_world.specs.declared.script.Script.{Script}
-use Rattle.ttp_world.specs.Returning.{is_deaf_on, is_deaf}
-use Rattle.ttp_world.specs.Script.{is_on}
-use Rattle.hypothesis.specs.Standing.{HaveSameNodes}
+use Rattle.ttp_world.specs.Returning.{is_deaf_on}
 
 pub deaf-same : (script : Script) (s t : List ℕ) (slot k : ℕ) → k < most_nodes → HaveSameNodes s t
     → is_deaf script s slot k ≡ is_deaf script t slot k

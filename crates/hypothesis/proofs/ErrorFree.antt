@@ -1,9 +1,8 @@
 -- Scripts without reading errors.
-use Rattle.std.proofs.Common.{◌≡◌, ℕ, pos, Bool, true, false, List, [], ◌∷◌, None, refl, ap, ◌∙◌, arith}
-use Rattle.std.specs.List.{list_any, filter_map, cons_option}
-use Rattle.ttp_world.specs.declared.script.Event.{Event}
+use Rattle.hypothesis.proofs.Words.{◌≡◌, ℕ, pos, Bool, true, false, List, [], ◌∷◌, None, refl, ap, ◌∙◌, arith, list_any}
+use Rattle.hypothesis.proofs.Words.{filter_map, Event, is_error}
+use Rattle.std.specs.List.{cons_option}
 use Rattle.ttp_world.specs.Script.{sum_ℤ, error_in}
-use Rattle.hypothesis.specs.Errors.{is_error}
 
 no_error : (k slot : ℕ) (e : Event) → is_error e ≡ false → error_in k slot e ≡ None
 no_error k slot e none = grind arith

@@ -1,15 +1,10 @@
 -- Where nothing but arm lines stands outside the hypothesis, each jump goes far, so that a slot's sum of jumps tells
 -- whether there is one.
-use Rattle.std.proofs.Common.{◌≡◌, ◌≢◌, ℕ, pos, ◌≤ℤ◌, true, List, [], ◌∷◌, Option, None, refl, ◌∙◌}
-use Rattle.std.proofs.Common.{arith}
-use Rattle.std.specs.List.{AllByRecursion, filter_map}
-use Rattle.ttp_world.specs.declared.medl.Medl.{Medl}
-use Rattle.ttp_world.specs.declared.script.Event.{Event}
+use Rattle.hypothesis.proofs.Words.{◌≡◌, ◌≢◌, ℕ, pos, ◌≤ℤ◌, true, List, [], ◌∷◌, Option, None, refl, ◌∙◌, arith}
+use Rattle.hypothesis.proofs.Words.{filter_map, Medl, Event, Script, least_of, outside_slot, outside_broken}
+use Rattle.hypothesis.proofs.Words.{is_allowed_jump, disturbed_slot, disturbance_broken, jump_of, has_jump}
+use Rattle.std.specs.List.{AllByRecursion}
 use Rattle.ttp_world.specs.declared.script.Event.TheVariants as event
-use Rattle.ttp_world.specs.declared.script.Script.{Script}
-use Rattle.ttp_world.specs.Hypothesis.{least_of, outside_slot, outside_broken, is_allowed_jump}
-use Rattle.ttp_world.specs.Returning.{disturbed_slot, disturbance_broken}
-use Rattle.ttp_world.specs.Script.{jump_of, has_jump}
 use Rattle.ttp_world.proofs.Jumps.{each-none, undisturbed-jump}
 
 pub far_jump-sum : (list : Medl) (script : Script) (k slot : ℕ) → pos 1 ≤ℤ list.window

@@ -1,14 +1,10 @@
 -- Faults that come too early, slot by slot.
-use Rattle.std.proofs.Common.{◌≡◌, ℕ, zero, suc, ◌+◌, ◌<◌, ◌≤◌, min, List, [], ◌∷◌, ◌++◌, length, map, reverse}
-use Rattle.std.proofs.Common.{replicate, Option, Some, refl, ap, sym, ◌∙◌, inl, inr, arith}
-use Rattle.std.specs.Prelude.{nat_lt}
-use Rattle.std.proofs.lemmas.Bool.{cases_lt, cond_both, lt-ltb}
+use Rattle.hypothesis.proofs.Words.{◌≡◌, ℕ, zero, suc, ◌+◌, ◌<◌, ◌≤◌, min, List, [], ◌∷◌, ◌++◌, length, map, reverse}
+use Rattle.hypothesis.proofs.Words.{replicate, Option, Some, refl, ap, sym, ◌∙◌, inl, inr, arith, nat_lt, cases_lt}
+use Rattle.hypothesis.proofs.Words.{cond_both, lt-ltb, option_or, Script, FaultyNode, first_too_early, Course, all_in}
+use Rattle.hypothesis.proofs.Words.{earliest_after, fault_slots_before}
 use Rattle.std.proofs.lemmas.List.{map-append, reverse-append, replicate_more, append-nil}
 use Rattle.std.proofs.lemmas.Grind.{reverse_onto}
-use Rattle.std.specs.Option.{option_or}
-use Rattle.ttp_world.specs.declared.script.Script.{Script}
-use Rattle.ttp_world.specs.Hypothesis.{FaultyNode, first_too_early}
-use Rattle.hypothesis.specs.Walks.{Course, all_in, earliest_after, fault_slots_before}
 use Rattle.hypothesis.proofs.Firsts.{or-head}
 
 pub first_too_early-append : (gap earliest : ℕ) (xs ys : List ℕ) → first_too_early gap earliest (xs ++ ys)

@@ -1,15 +1,10 @@
 -- The first jumps of nodes, one event more.
-use Rattle.std.proofs.Common.{◌≡◌, ◌≢◌, ℕ, ◌+◌, ◌<◌, ◌≤◌, ℤ, false, ◌&&◌, ◌||◌, List, length, get_or, take}
-use Rattle.std.proofs.Common.{set, refl, ap, sym, ◌∙◌, inl, inr, arith}
-use Rattle.std.specs.Prelude.{◌==◌, nat_lt}
-use Rattle.std.proofs.lemmas.Bool.{cases_eq, eq-eqb, ne_eqb}
-use Rattle.std.proofs.lemmas.Bool.Decides.{nat_tests}
-use Rattle.std.proofs.lemmas.List.{get_or-set_same, get_or-set_other}
+use Rattle.hypothesis.proofs.Words.{◌≡◌, ◌≢◌, ℕ, ◌+◌, ◌<◌, ◌≤◌, ℤ, false, ◌&&◌, ◌||◌, List, length, get_or, take, set}
+use Rattle.hypothesis.proofs.Words.{refl, ap, sym, ◌∙◌, inl, inr, arith, ◌==◌, nat_lt, cases_eq, ne_eqb, nat_tests}
+use Rattle.hypothesis.proofs.Words.{get_or-set_same, get_or-set_other, Event, is_jump_before, AreFirstJumps}
+use Rattle.std.proofs.lemmas.Bool.{eq-eqb}
 use Rattle.std.proofs.lemmas.List.Folds.{list_any_more}
-use Rattle.ttp_world.specs.declared.script.Event.{Event}
 use Rattle.ttp_world.specs.declared.script.Event.TheVariants as event
-use Rattle.ttp_world.specs.Hypothesis.{is_jump_before}
-use Rattle.hypothesis.specs.Jumps.{AreFirstJumps}
 use Rattle.ttp_world.proofs.MemberSets.{or-false}
 
 earlier : (new old slot : ℕ) → new < old → (nat_lt old slot || nat_lt new slot) ≡ nat_lt new slot

@@ -1,9 +1,8 @@
 -- The first that is found in two lists, one after the other.
-use Rattle.std.proofs.Common.{◌≡◌, ℕ, zero, suc, ◌+◌, ◌-◌, ◌<◌, ◌≤◌, max, Bool, true, false, cond, not, Option, Some}
-use Rattle.std.proofs.Common.{None, is_some, refl, ap, sym, ◌∙◌, inl, inr, arith}
-use Rattle.std.specs.List.{find, range_with_len}
-use Rattle.std.proofs.lemmas.Bool.{cases_lt, lt-ltb, le-ltb}
-use Rattle.std.specs.Option.{option_or}
+use Rattle.hypothesis.proofs.Words.{◌≡◌, ℕ, zero, suc, ◌+◌, ◌-◌, ◌<◌, ◌≤◌, max, Bool, true, false, cond, not, Option}
+use Rattle.hypothesis.proofs.Words.{Some, None, is_some, refl, ap, sym, ◌∙◌, inl, inr, arith, range_with_len, cases_lt}
+use Rattle.hypothesis.proofs.Words.{lt-ltb, le-ltb, option_or}
+use Rattle.std.specs.List.{find}
 use Rattle.hypothesis.specs.Walks.{first_lack}
 
 pub or-head : (b : Bool) (k : ℕ) (rest first second : Option ℕ) → rest ≡ option_or first second

@@ -1,27 +1,18 @@
 -- What is kept of what happens to the nodes.
-use Rattle.std.proofs.Common.{◌≡◌, ℕ, ◌+◌, ◌<◌, ◌≤◌, max, pos, Bool, true, false, not, ◌&&◌, ◌||◌, List, [], ◌∷◌, None, refl}
-use Rattle.std.proofs.Common.{ap, sym, ◌∙◌, inl, inr, arith}
-use Rattle.std.specs.Prelude.{is_some, filter, cond, length, ◌++◌, ◌==◌, nat_lt}
-use Rattle.std.proofs.Math.Bool.{and-false}
-use Rattle.std.specs.List.{list_any}
-use Rattle.std.proofs.lemmas.Bool.{cases_lt, ne_eqb, lt-ltb, or_parts}
-use Rattle.ttp_base.specs.NodeSet.{below, has_node}
+use Rattle.hypothesis.proofs.Words.{◌≡◌, ℕ, ◌+◌, ◌<◌, ◌≤◌, max, pos, Bool, true, false, not, ◌&&◌, ◌||◌, List, [], ◌∷◌}
+use Rattle.hypothesis.proofs.Words.{None, refl, ap, sym, ◌∙◌, inl, inr, arith, is_some, cond, length, ◌++◌, ◌==◌}
+use Rattle.hypothesis.proofs.Words.{nat_lt, and-false, list_any, cases_lt, ne_eqb, lt-ltb, below, has_node, same_sieve}
+use Rattle.hypothesis.proofs.Words.{filter-filter, Medl, Event, Script, ClusterStart, FaultyNode, Harmless, numbers_of}
+use Rattle.hypothesis.proofs.Words.{loss_in, jumpers_in, loses, expected_sender, is_other, others_in, is_breaking}
+use Rattle.hypothesis.proofs.Words.{jumps_now, IsValid, disturbance_broken, has_jump, jump_of, jump_in, is_on}
+use Rattle.hypothesis.proofs.Words.{is_ever_on, incidents_of, is_jump_within, IsOfKinds, may_lose, HaveSameNodes}
+use Rattle.hypothesis.proofs.Words.{AreFaultsIn}
+use Rattle.std.specs.Prelude.{filter}
+use Rattle.std.proofs.lemmas.Bool.{or_parts}
 use Rattle.ttp_base.proofs.NodeLists.{filter-none}
-use Rattle.ttp_base.proofs.NodeSets.{same_sieve, filter-filter}
-use Rattle.ttp_world.specs.declared.medl.Medl.{Medl}
-use Rattle.ttp_world.specs.declared.script.Event.{Event}
 use Rattle.ttp_world.specs.declared.script.Event.TheVariants as event
-use Rattle.ttp_world.specs.declared.script.Script.{Script}
-use Rattle.ttp_world.specs.Hypothesis.{ClusterStart, FaultyNode, Harmless, numbers_of, loss_in, jumpers_in, loses}
-use Rattle.ttp_world.specs.Hypothesis.{expected_sender, is_other, others_in, loss_among, is_breaking, jumps_now}
-use Rattle.ttp_world.specs.Medl.{IsValid}
-use Rattle.ttp_world.specs.Returning.{disturbance_broken}
-use Rattle.ttp_world.specs.Script.{has_jump, jump_of, jump_in, is_on, is_ever_on, incidents_of}
+use Rattle.ttp_world.specs.Hypothesis.{loss_among}
 use Rattle.hypothesis.specs.declared.incidents.Kinds.{Kinds}
-use Rattle.hypothesis.specs.Jumps.{is_jump_within}
-use Rattle.hypothesis.specs.SlotIncidents.{IsOfKinds, may_lose}
-use Rattle.hypothesis.specs.Standing.{HaveSameNodes}
-use Rattle.hypothesis.specs.Walks.{AreFaultsIn}
 use Rattle.hypothesis.proofs.FarJumps.{far_jump-sum}
 
 -- what stands from a slot on, and so in it, is so in each later slot before another

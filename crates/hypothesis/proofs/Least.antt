@@ -1,7 +1,6 @@
 -- The least of some numbers, found one after another.
-use Rattle.std.proofs.Common.{◌≡◌, ℕ, suc, ◌+◌, ◌-◌, ◌<◌, List, ◌∷◌, Option, Some, None, refl, ap, ◌∙◌, arith}
-use Rattle.std.specs.List.{filter_map, range_with_len}
-use Rattle.ttp_world.specs.Hypothesis.{lesser, least_of}
+use Rattle.hypothesis.proofs.Words.{◌≡◌, ℕ, suc, ◌+◌, ◌-◌, ◌<◌, List, ◌∷◌, Option, Some, None, refl, ap, ◌∙◌, arith}
+use Rattle.hypothesis.proofs.Words.{filter_map, range_with_len, lesser, least_of}
 
 -- the lesser of two numbers of which each may be there
 abbrev pub lesser_of : Option ℕ → Option ℕ → Option ℕ

@@ -13,3 +13,4 @@ pub mod LongFaulty
 pub mod ArmLines
 pub mod ErrorFree
 pub mod Kept
+pub mod Words

@@ -1,20 +1,14 @@
 -- Where no node becomes faulty near a slot, the nodes that are faulty in it have been so for two rounds.
-use Rattle.std.proofs.Common.{◌≡◌, ℕ, zero, suc, ◌+◌, ◌<◌, ◌≤◌, Bool, true, false, not, ◌&&◌, ◌||◌, List, []}
-use Rattle.std.proofs.Common.{◌∷◌, length, ◌⊎◌, inl, inr, refl, ap, sym, ◌∙◌, arith}
-use Rattle.std.specs.Prelude.{◌==◌, nat_lt, nat_le}
-use Rattle.std.specs.List.{list_any, filter}
-use Rattle.std.proofs.lemmas.Bool.{cases_eq, both_ways, cond_both, not-false, not-true}
-use Rattle.std.proofs.lemmas.Bool.Decides.{nat_tests}
+use Rattle.hypothesis.proofs.Words.{◌≡◌, ℕ, zero, suc, ◌+◌, ◌<◌, ◌≤◌, Bool, true, false, not, ◌&&◌, ◌||◌, List, [], ◌∷◌}
+use Rattle.hypothesis.proofs.Words.{length, ◌⊎◌, inl, inr, refl, ap, sym, ◌∙◌, arith, ◌==◌, nat_lt, nat_le, list_any}
+use Rattle.hypothesis.proofs.Words.{cases_eq, cond_both, nat_tests, has_node, Medl, Script, ClusterStart, FaultyNode}
+use Rattle.hypothesis.proofs.Words.{numbers_of, slots_before, faulty_since, faulty_at, four_rounds, is_near_fault}
+use Rattle.hypothesis.proofs.Words.{is_apart, is_long_faulty, all_in, joined_in, or-true, and-true}
+use Rattle.std.specs.List.{filter}
+use Rattle.std.proofs.lemmas.Bool.{both_ways, not-false, not-true}
 use Rattle.std.proofs.lemmas.List.Folds.{list_any-append}
-use Rattle.ttp_base.specs.NodeSet.{has_node}
-use Rattle.ttp_world.specs.declared.medl.Medl.{Medl}
-use Rattle.ttp_world.specs.declared.script.Script.{Script}
-use Rattle.ttp_world.specs.Hypothesis.{ClusterStart, FaultyNode, numbers_of}
-use Rattle.ttp_world.specs.Returning.{slots_before, faulty_since, is_forgiven, faulty_at, joinings}
-use Rattle.ttp_world.specs.Returning.{two_rounds, four_rounds, is_near_fault, is_apart, is_long_faulty}
-use Rattle.hypothesis.specs.Walks.{all_in, joined_in}
-use Rattle.std.proofs.Math.Bool.{or-true}
-use Rattle.ttp_base.proofs.NodeSets.{and-true}
+use Rattle.ttp_world.specs.Returning.{is_forgiven, joinings}
+use Rattle.ttp_world.specs.Returning.{two_rounds}
 use Rattle.ttp_world.proofs.SmallTests.{or_parts}
 
 -- a slot of one of these

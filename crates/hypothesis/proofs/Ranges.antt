@@ -1,13 +1,10 @@
 -- Tests of the numbers below a number, and the first that passes.
-use Rattle.std.proofs.Common.{◌≡◌, ℕ, zero, suc, ◌+◌, ◌-◌, ◌<◌, ◌≤◌, Bool, true, false, [], ◌∷◌, length, Some}
-use Rattle.std.proofs.Common.{None, get_or, refl, ap, sym, subst, ◌∙◌, inl, inr, arith}
-use Rattle.std.proofs.Math.Bool.{and-false}
-use Rattle.std.proofs.lemmas.Bool.{cases_eq}
-use Rattle.std.proofs.lemmas.List.{length-append}
+use Rattle.hypothesis.proofs.Words.{◌≡◌, ℕ, zero, suc, ◌+◌, ◌-◌, ◌<◌, ◌≤◌, Bool, true, false, [], ◌∷◌, length, Some}
+use Rattle.hypothesis.proofs.Words.{None, get_or, refl, ap, sym, subst, ◌∙◌, inl, inr, arith, and-false, cases_eq}
+use Rattle.hypothesis.proofs.Words.{length-append, length-range_with_len, range_with_len, below}
 use Rattle.std.proofs.lemmas.List.Elements.{All-filter, filter-append}
-use Rattle.std.proofs.lemmas.List.FromFn.{length-range_with_len, get_or-range_with_len}
-use Rattle.std.specs.List.{All, filter, list_all, find, range_with_len}
-use Rattle.ttp_base.specs.NodeSet.{below}
+use Rattle.std.proofs.lemmas.List.FromFn.{get_or-range_with_len}
+use Rattle.std.specs.List.{All, filter, list_all, find}
 use Rattle.ttp_base.proofs.Below.{below-next}
 use Rattle.ttp_world.proofs.RangeFacts.{none-range}
 

@@ -1,29 +1,26 @@
 -- What a slot makes of the faulty nodes is told by any set that has the same nodes.
-use Rattle.std.proofs.Common.{◌≡◌, ℕ, ◌+◌, ◌<◌, ◌≤◌, not, ◌&&◌, List, [], ◌∷◌, ◌++◌, length, refl, ap, sym, ◌∙◌, arith}
-use Rattle.std.proofs.Common.{◌≢◌, zero, suc, ◌-◌, ◌%◌, get_or, set, subst, inl, inr, filter}
-use Rattle.std.specs.Prelude.{◌==◌, map, nat_lt, if◌then◌else◌}
+use Rattle.hypothesis.proofs.Words.{◌≡◌, ℕ, ◌+◌, ◌<◌, ◌≤◌, not, ◌&&◌, List, [], ◌∷◌, ◌++◌, length, refl, ap, sym, ◌∙◌}
+use Rattle.hypothesis.proofs.Words.{arith, ◌≢◌, zero, suc, ◌-◌, ◌%◌, get_or, set, subst, inl, inr, ◌==◌, map, nat_lt}
+use Rattle.hypothesis.proofs.Words.{if◌then◌else◌, length-append, length-set, get_or-set_same, get_or-set_other}
+use Rattle.hypothesis.proofs.Words.{length-range_with_len, most_nodes, has_node, below, same_sieve, Medl, Script}
+use Rattle.hypothesis.proofs.Words.{ClusterStart, FaultyNode, Harmless, numbers_of, nodes_made, is_other, others_in}
+use Rattle.hypothesis.proofs.Words.{loss_in, expected_sender, jumps_now, jumpers_in, is_steady, is_on, is_ever_on}
+use Rattle.hypothesis.proofs.Words.{has_jump, is_armed, HaveSameNodes, back_course, AreFaultsIn, cases_eq, slots_before}
+use Rattle.hypothesis.proofs.Words.{faulty_since, faulty_then, faulty_at, four_rounds, AreNewest}
+use Rattle.std.proofs.Common.{filter}
 use Rattle.std.specs.List.{filter}
-use Rattle.std.proofs.lemmas.List.{append_assoc, length-append, length-set, get_or-set_same, get_or-set_other}
-use Rattle.std.proofs.lemmas.List.FromFn.{length-range_with_len}
-use Rattle.ttp_base.specs.NodeSet.{most_nodes, has_node, below}
-use Rattle.ttp_base.proofs.NodeSets.{same_sieve}
-use Rattle.ttp_world.specs.declared.medl.Medl.{Medl}
-use Rattle.ttp_world.specs.declared.script.Script.{Script}
-use Rattle.ttp_world.specs.Hypothesis.{ClusterStart, FaultyNode, Loss, Harmless, numbers_of, nodes_made}
-use Rattle.ttp_world.specs.Hypothesis.{faulty_nodes_in, is_other, others_in, sender_loss, loss_in, expected_sender}
-use Rattle.ttp_world.specs.Hypothesis.{jumps_now, jumpers_in, is_steady}
+use Rattle.std.proofs.lemmas.List.{append_assoc}
+use Rattle.ttp_world.specs.Hypothesis.{Loss}
+use Rattle.ttp_world.specs.Hypothesis.{faulty_nodes_in, sender_loss}
 use Rattle.ttp_world.specs.Medl.{plan_at}
-use Rattle.ttp_world.specs.Script.{is_on, is_ever_on, has_jump, is_armed}
-use Rattle.hypothesis.specs.Standing.{HaveSameNodes}
-use Rattle.hypothesis.specs.Walks.{made_in, back_course, AreFaultsIn, AreFaultsOf}
+use Rattle.hypothesis.specs.Walks.{made_in, AreFaultsOf}
 use Rattle.ttp_world.proofs.WorldFacts.{has_node-append}
 use Rattle.ttp_world.proofs.ListFacts.{few-left as few_left}
-use Rattle.std.proofs.lemmas.Bool.{cases_eq}
-use Rattle.ttp_world.specs.Returning.{no_slot, slots_before, faulty_since, faulty_then, faulty_at, four_rounds}
+use Rattle.ttp_world.specs.Returning.{no_slot}
 use Rattle.hypothesis.specs.declared.newest.FaultySlot.{FaultySlot}
 use Rattle.hypothesis.specs.declared.newest.NewestSlots.{NewestSlots}
 use Rattle.hypothesis.specs.declared.walk.SlotFaults.{SlotFaults}
-use Rattle.hypothesis.specs.FaultySlots.{kept_slots, IsFaultySlot, AreNewest}
+use Rattle.hypothesis.specs.FaultySlots.{kept_slots, IsFaultySlot}
 
 pub same_jumpers : (list : Medl) (script : Script) (s t : List ℕ) (slot : ℕ) → length list.slots ≤ most_nodes
     → HaveSameNodes s t → jumpers_in list script s slot ≡ jumpers_in list script t slot

@@ -1,13 +1,12 @@
 -- A start lies after the first slot.
-use Rattle.std.proofs.Common.{◌≡◌, ℕ, ◌+◌, ◌*◌, ◌<◌, Bool, true, false, List, [], ◌∷◌, length, Option, Some, None}
-use Rattle.std.proofs.Common.{option_map, refl, arith}
-use Rattle.std.specs.Prelude.{IfSome, if◌then◌else◌}
-use Rattle.std.specs.List.{filter, filter_map}
-use Rattle.ttp_world.specs.declared.medl.Medl.{Medl}
-use Rattle.ttp_world.specs.declared.script.Script.{Script}
-use Rattle.ttp_world.specs.Hypothesis.{lesser, least_of, nodes_of, start_slot, only_starter, starts_in, are_all_on}
+use Rattle.hypothesis.proofs.Words.{◌≡◌, ℕ, ◌+◌, ◌*◌, ◌<◌, Bool, true, false, List, [], ◌∷◌, length, Option, Some, None}
+use Rattle.hypothesis.proofs.Words.{refl, arith, IfSome, if◌then◌else◌, filter_map, Medl, Script, lesser, least_of}
+use Rattle.hypothesis.proofs.Words.{nodes_of, start_slot, starts_in, IsValid}
+use Rattle.std.proofs.Common.{option_map}
+use Rattle.std.specs.List.{filter}
+use Rattle.ttp_world.specs.Hypothesis.{only_starter, are_all_on}
 use Rattle.ttp_world.specs.Hypothesis.{start_in, start_of}
-use Rattle.ttp_world.specs.Medl.{may_start, IsValid}
+use Rattle.ttp_world.specs.Medl.{may_start}
 use Rattle.ttp_world.specs.Script.{on_slot}
 
 abbrev IsLater : Option ℕ → Type 0

@@ -1,7 +1,6 @@
 -- Faulty nodes that stay so.
-use Rattle.std.proofs.Common.{◌≡◌, ℕ, Bool, true, false, cond, List, [], ◌∷◌, refl, ap}
+use Rattle.hypothesis.proofs.Words.{◌≡◌, ℕ, Bool, true, false, cond, List, [], ◌∷◌, refl, ap, FaultyNode, numbers_of}
 use Rattle.std.specs.List.{filter}
-use Rattle.ttp_world.specs.Hypothesis.{FaultyNode, numbers_of}
 
 numbers-step : (b : Bool) (f : FaultyNode) (kept : List FaultyNode) (ks : List ℕ) → numbers_of kept ≡ ks
     → numbers_of (cond b (f ∷ kept) kept) ≡ cond b (f.node ∷ ks) ks

@@ -1,9 +1,7 @@
 -- The nodes of two sets.
-use Rattle.std.proofs.Common.{◌≡◌, ℕ, ◌+◌, ◌<◌, Bool, true, false, ◌&&◌, ◌||◌, List, refl, ap, sym, ◌∙◌, ltb, arith}
-use Rattle.std.specs.Prelude.{◌==◌}
-use Rattle.std.proofs.Math.Bool.{and-false}
-use Rattle.std.proofs.lemmas.Bool.{eqb-true}
-use Rattle.ttp_base.specs.NodeSet.{most_nodes, has_node, with_node}
+use Rattle.hypothesis.proofs.Words.{◌≡◌, ℕ, ◌+◌, ◌<◌, Bool, true, false, ◌&&◌, ◌||◌, List, refl, ap, sym, ◌∙◌, arith}
+use Rattle.hypothesis.proofs.Words.{◌==◌, and-false, eqb-true, most_nodes, has_node, with_node}
+use Rattle.std.proofs.Common.{ltb}
 use Rattle.ttp_base.proofs.NodeSets.{has_node-with}
 
 -- the second set, and of the first the nodes below a number

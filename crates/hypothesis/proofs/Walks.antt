@@ -1,19 +1,17 @@
 -- What a walk over the whole run says of the rules on faults.
-use Rattle.std.proofs.Common.{◌≡◌, ℕ, ◌+◌, ◌-◌, ◌<◌, max, min, true, Some, None, map, reverse, ap, sym, ◌∙◌}
-use Rattle.std.proofs.Common.{arith}
-use Rattle.std.specs.Prelude.{find, if◌then◌else◌}
-use Rattle.ttp_base.specs.NodeSet.{below}
+use Rattle.hypothesis.proofs.Words.{◌≡◌, ℕ, ◌+◌, ◌-◌, ◌<◌, max, min, true, Some, None, map, reverse, ap, sym, ◌∙◌}
+use Rattle.hypothesis.proofs.Words.{arith, if◌then◌else◌, below, Medl, Script, ClusterStart, first_too_early, Course}
+use Rattle.hypothesis.proofs.Words.{keep_course, back_course, HasWalked, has_four_in, lacks_four_in}
+use Rattle.std.specs.Prelude.{find}
 use Rattle.ttp_world.specs.declared.keep.Back.{Back}
 use Rattle.ttp_world.specs.declared.keep.Back.TheVariants as back
 use Rattle.ttp_world.specs.declared.keep.Keep.TheVariants as keep
-use Rattle.ttp_world.specs.declared.medl.Medl.{Medl}
-use Rattle.ttp_world.specs.declared.script.Script.{Script}
-use Rattle.ttp_world.specs.Hypothesis.{ClusterStart, breaks_in, distance_broken, sync_broken}
-use Rattle.ttp_world.specs.Hypothesis.{first_too_early, slots_since_start, unless, started_keep}
+use Rattle.ttp_world.specs.Hypothesis.{breaks_in, distance_broken, sync_broken}
+use Rattle.ttp_world.specs.Hypothesis.{slots_since_start, unless, started_keep}
 use Rattle.ttp_world.specs.Returning.{breaks_back_in, back_distance_broken, back_sync_broken}
 use Rattle.ttp_world.specs.Returning.{arms_broken, unless_back, started_back}
 use Rattle.hypothesis.specs.declared.walk.Walk.{Walk}
-use Rattle.hypothesis.specs.Walks.{Course, keep_course, back_course, HasWalked, two_rounds, has_four_in, lacks_four_in}
+use Rattle.hypothesis.specs.Walks.{two_rounds}
 use Rattle.hypothesis.proofs.Firsts.{lack-since}
 use Rattle.hypothesis.proofs.Ranges.{none-below, first-below}
 

@@ -1,16 +1,10 @@
 -- The returns of the plan are the arm lines.
-use Rattle.std.proofs.Common.{◌≡◌, ℕ, zero, suc, ◌+◌, ◌-◌, Bool, true, false, ◌&&◌, ◌||◌, List, [], ◌∷◌, refl, ap, sym}
-use Rattle.std.proofs.Common.{subst, ◌∙◌, inl, inr, arith}
-use Rattle.std.specs.Prelude.{◌==◌}
-use Rattle.std.specs.List.{AllByRecursion, Contains, list_any, filter_map}
-use Rattle.std.proofs.lemmas.Bool.{and_parts, and_from, eqb-true, eq-eqb, ne_eqb, cases_eq, both_ways}
-use Rattle.ttp_world.specs.declared.medl.Medl.{Medl}
-use Rattle.ttp_world.specs.declared.script.Event.{Event}
-use Rattle.ttp_world.specs.declared.script.Script.{Script}
-use Rattle.ttp_world.specs.Hypothesis.{ClusterStart}
-use Rattle.ttp_world.specs.Script.{arms, is_armed}
-use Rattle.fault_plan.specs.Plan.{Return, is_armed_there, is_armed_by}
-use Rattle.rejoin.specs.BackPlan.{entry_slot, return_of, back_plan_of}
+use Rattle.rejoin.proofs.Words.{◌≡◌, ℕ, zero, suc, ◌+◌, ◌-◌, Bool, true, false, ◌&&◌, ◌||◌, List, [], ◌∷◌, refl, ap}
+use Rattle.rejoin.proofs.Words.{sym, subst, ◌∙◌, inl, inr, arith, ◌==◌, AllByRecursion, Contains, list_any, filter_map}
+use Rattle.rejoin.proofs.Words.{and_parts, and_from, eqb-true, eq-eqb, ne_eqb, cases_eq, both_ways, Medl, Event, Script}
+use Rattle.rejoin.proofs.Words.{ClusterStart, arms, is_armed, Return, is_armed_there, is_armed_by, entry_slot}
+use Rattle.rejoin.proofs.Words.{back_plan_of}
+use Rattle.rejoin.specs.BackPlan.{return_of}
 use Rattle.ttp_world.specs.declared.script.Event.TheVariants as event
 
 abbrev returns_in : Medl → Script → ClusterStart → List Event → List Return

@@ -1,20 +1,15 @@
 -- What is known of an armed node, one by one.
-use Rattle.std.proofs.Common.{◌≡◌, ℕ, zero, suc, ◌+◌, ◌-◌, ◌<◌, ◌≤◌, Bool, true, false, not, ◌&&◌, ◌||◌, List, [], ◌∷◌}
-use Rattle.std.proofs.Common.{length, refl, ap, subst, ◌∙◌, inl, inr, arith}
-use Rattle.std.specs.Prelude.{◌==◌, nat_le}
-use Rattle.std.specs.List.{AllByRecursion, list_any}
-use Rattle.std.proofs.lemmas.Bool.{and_parts, and_from, eqb-true, not-true, both_ways, lt-ltb, cases_lt, and_right}
-use Rattle.std.proofs.lemmas.Bool.{or_right, false_from_ne_true, cases_eq}
-use Rattle.ttp_base.specs.NodeSet.{has_node}
-use Rattle.ttp_world.specs.declared.medl.Medl.{Medl}
+use Rattle.rejoin.proofs.Words.{◌≡◌, ℕ, zero, suc, ◌+◌, ◌-◌, ◌<◌, ◌≤◌, Bool, true, false, not, ◌&&◌, ◌||◌, List, []}
+use Rattle.rejoin.proofs.Words.{◌∷◌, length, refl, ap, subst, ◌∙◌, inl, inr, arith, ◌==◌, nat_le, AllByRecursion}
+use Rattle.rejoin.proofs.Words.{list_any, and_parts, and_from, eqb-true, not-true, both_ways, lt-ltb, cases_lt}
+use Rattle.rejoin.proofs.Words.{and_right, or_right, false_from_ne_true, cases_eq, has_node, Medl, Script, ClusterStart}
+use Rattle.rejoin.proofs.Words.{FaultyNode, numbers_of, two_rounds, four_rounds, faulty_at, slots_before, joinings}
+use Rattle.rejoin.proofs.Words.{is_arm_line, is_line_of, is_forgiven, arms, is_armed, IsValidScript, all_in}
 use Rattle.ttp_world.specs.declared.script.Event.TheVariants as event
-use Rattle.ttp_world.specs.declared.script.Script.{Script}
-use Rattle.ttp_world.specs.Hypothesis.{ClusterStart, FaultyNode, numbers_of}
-use Rattle.ttp_world.specs.Returning.{two_rounds, four_rounds, faulty_at, slots_before, joinings, is_long_faulty}
-use Rattle.ttp_world.specs.Returning.{is_near_fault, is_apart, is_arm_line, is_only_arm, is_line_of, is_heard}
-use Rattle.ttp_world.specs.Returning.{is_offered, is_forgiven}
-use Rattle.ttp_world.specs.Script.{arms, is_armed, IsValidEvent, IsValidScript}
-use Rattle.fault_plan.proofs.Spaced.{all_in}
+use Rattle.ttp_world.specs.Returning.{is_long_faulty}
+use Rattle.ttp_world.specs.Returning.{is_near_fault, is_apart, is_only_arm, is_heard}
+use Rattle.ttp_world.specs.Returning.{is_offered}
+use Rattle.ttp_world.specs.Script.{IsValidEvent}
 use Rattle.rejoin.proofs.EventLines.{arm-near, same-arm, arm-line}
 use Rattle.rejoin.proofs.Lists.{any-none, one-of-both}
 use Rattle.rejoin.proofs.Runs.{IsBackRun, joined-at}

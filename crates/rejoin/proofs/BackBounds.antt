@@ -1,20 +1,15 @@
 -- Clocks and bits of a script that keeps the rules on them, where nodes may be armed.
-use Rattle.std.proofs.Common.{◌≡◌, ℕ, ◌*◌, ◌≤◌, ℤ, pos, negsuc, ◌+ℤ◌, ◌*ℤ◌, ◌≤ℤ◌, List, [], ◌∷◌, length, None, refl}
-use Rattle.std.proofs.Common.{sym, mul-le-mul_left, arith}
+use Rattle.rejoin.proofs.Words.{◌≡◌, ℕ, ◌*◌, ◌≤◌, ℤ, List, [], ◌∷◌, length, None, refl, sym, arith, AllByRecursion}
+use Rattle.rejoin.proofs.Words.{filter_map, none-some, Medl, Channel, Event, Script, clocks_broken, IsValid}
+use Rattle.rejoin.proofs.Words.{back_window_broken, disturbance_broken, flipped_bits, IsWithinBounds}
+use Rattle.std.proofs.Common.{pos, negsuc, ◌+ℤ◌, ◌*ℤ◌, ◌≤ℤ◌}
+use Rattle.std.proofs.Common.{mul-le-mul_left}
 use Rattle.std.specs.Prelude.{int_le}
-use Rattle.std.specs.List.{AllByRecursion, filter_map}
 use Rattle.std.proofs.lemmas.Int.{ints}
-use Rattle.std.proofs.lemmas.Option.{none-some}
-use Rattle.ttp_world.specs.declared.medl.Medl.{Medl}
-use Rattle.ttp_world.specs.declared.script.Channel.{Channel}
-use Rattle.ttp_world.specs.declared.script.Event.{Event}
-use Rattle.ttp_world.specs.declared.script.Script.{Script}
-use Rattle.ttp_world.specs.Hypothesis.{clocks_broken, needed}
-use Rattle.ttp_world.specs.Medl.{IsValid}
-use Rattle.ttp_world.specs.Returning.{needed_back, back_window_broken, disturbed_slot, disturbance_broken}
-use Rattle.ttp_world.specs.Script.{flipped_bit, flipped_bits}
+use Rattle.ttp_world.specs.Hypothesis.{needed}
+use Rattle.ttp_world.specs.Returning.{needed_back, disturbed_slot}
+use Rattle.ttp_world.specs.Script.{flipped_bit}
 use Rattle.ttp_world.proofs.Jumps.{each-none, undisturbed-jump}
-use Rattle.fault_plan.specs.Kept.{IsWithinBounds}
 use Rattle.fault_plan.proofs.Bounds.{bounds-of, wide}
 use Rattle.ttp_world.proofs.SmallTests.{le_of_test}
 use Rattle.ttp_world.specs.declared.script.Event.TheVariants as event

@@ -1,27 +1,20 @@
 -- The plan of a run whose armed nodes return is good.
-use Rattle.std.proofs.Common.{◌≡◌, ◌≢◌, ℕ, zero, suc, ◌+◌, ◌-◌, ◌*◌, ◌<◌, ◌≤◌, Bool, true, false, cond, not, ◌||◌, ◌∷◌}
-use Rattle.std.proofs.Common.{length, Some, ◌⊎◌, refl, ap, sym, subst, ◌∙◌, inl, inr, arith}
-use Rattle.std.specs.List.{Contains, filter, range_with_len}
-use Rattle.std.proofs.lemmas.Bool.{and_parts, and_from, both_ways, cases_lt, eqb-true, eqb-false, not-true}
-use Rattle.std.proofs.lemmas.Bool.{not_from_false, false_from_ne_true, leb-true, ltb-true}
-use Rattle.std.proofs.lemmas.Option.{none-some}
-use Rattle.ttp_base.specs.NodeSet.{has_node}
-use Rattle.ttp_base.proofs.NodeSets.{has_node-sieve}
-use Rattle.ttp_world.specs.declared.medl.Medl.{Medl}
-use Rattle.ttp_world.specs.declared.script.Script.{Script}
-use Rattle.ttp_world.specs.Hypothesis.{ClusterStart, is_steady, expected_sender}
+use Rattle.rejoin.proofs.Words.{◌≡◌, ◌≢◌, ℕ, zero, suc, ◌+◌, ◌-◌, ◌*◌, ◌<◌, ◌≤◌, Bool, true, false, cond, not, ◌||◌}
+use Rattle.rejoin.proofs.Words.{◌∷◌, length, Some, ◌⊎◌, refl, ap, sym, subst, ◌∙◌, inl, inr, arith, Contains, filter}
+use Rattle.rejoin.proofs.Words.{range_with_len, and_parts, and_from, both_ways, cases_lt, eqb-true, eqb-false, not-true}
+use Rattle.rejoin.proofs.Words.{not_from_false, false_from_ne_true, leb-true, ltb-true, none-some, has_node}
+use Rattle.rejoin.proofs.Words.{has_node-sieve, Medl, Script, ClusterStart, is_steady, expected_sender, two_rounds}
+use Rattle.rejoin.proofs.Words.{four_rounds, slots_before, is_forgiven, offers_place, Incident, Return, sender}
+use Rattle.rejoin.proofs.Words.{incident_at, enters, Fate, Absent, Sound, Listening, fate_of, is_sound_after}
+use Rattle.rejoin.proofs.Words.{lost_since, is_good_slot, on-ever, sender-same, sender-less, incident-made, any-of}
+use Rattle.rejoin.proofs.Words.{entry_slot, back_plan_of}
 use Rattle.ttp_world.specs.Medl.{plan_at}
-use Rattle.ttp_world.specs.Returning.{two_rounds, four_rounds, slots_before, is_forgiven, offers_place}
-use Rattle.fault_plan.specs.Plan.{Incident, Return, sender, incident_at, enters}
-use Rattle.fault_plan.specs.Fates.{Fate, Absent, Sound, Falling, Fallen, Listening, fate_of, is_sound_after, is_lost}
-use Rattle.fault_plan.specs.Fates.{lost_since, is_good_slot, is_entry_near, is_new_after, is_steady_after}
+use Rattle.fault_plan.specs.Fates.{Falling, Fallen, is_lost}
+use Rattle.fault_plan.specs.Fates.{is_entry_near, is_new_after, is_steady_after}
 use Rattle.fault_plan.specs.GoodPlan.{IsReturn, IsGoodPlan}
-use Rattle.fault_plan.proofs.Hearing.{on-ever, sender-same, sender-less, incident-made}
 use Rattle.fault_plan.proofs.Incidents.{found-within}
-use Rattle.fault_plan.proofs.Returns.{any-of}
 use Rattle.fault_plan.proofs.CoursePlans.{good-by}
 use Rattle.rejoin.proofs.BackSlots.{sound-earlier}
-use Rattle.rejoin.specs.BackPlan.{entry_slot, back_plan_of}
 use Rattle.rejoin.proofs.ArmLines.{return_at}
 use Rattle.rejoin.proofs.Arms.{IsArmedIn, arm-faulty, arm-quiet, arm-only, armed-after}
 use Rattle.rejoin.proofs.Entries.{entry-of}

@@ -1,21 +1,13 @@
 -- Who hears whom in a slot of a run whose armed nodes return.
-use Rattle.std.proofs.Common.{◌≡◌, ◌≢◌, ℕ, zero, suc, ◌+◌, ◌-◌, ◌<◌, ◌≤◌, Bool, true, false, cond, not, ◌&&◌, ◌||◌, ◌∷◌}
-use Rattle.std.proofs.Common.{length, Option, Some, None, refl, ap, sym, ◌∙◌, inl, inr, arith}
-use Rattle.std.specs.Prelude.{◌==◌, find, min}
-use Rattle.std.specs.List.{list_any, filter, range_with_len}
-use Rattle.std.proofs.lemmas.Bool.{and_parts, and_from, or_from, or_left, both_ways, eq-eqb, eqb-false, ne_eqb}
-use Rattle.std.proofs.lemmas.Bool.{not-true, or_parts, or_cases, cases_lt, not_from_false, false_from_ne_true, leb-true}
-use Rattle.std.proofs.lemmas.Bool.{cases_eq}
-use Rattle.ttp_base.specs.NodeSet.{below}
-use Rattle.ttp_world.specs.declared.medl.Medl.{Medl}
-use Rattle.ttp_world.specs.declared.script.Channel.{Channel}
-use Rattle.ttp_world.specs.declared.script.Fault.{Fault}
-use Rattle.ttp_world.specs.declared.script.Script.{Script}
-use Rattle.ttp_world.specs.Hypothesis.{ClusterStart, nodes_of, is_covered, loses, expected_sender, is_steady}
-use Rattle.ttp_world.specs.Returning.{four_rounds, is_deaf, is_deaf_on, is_missed_in, is_sound}
-use Rattle.ttp_world.specs.Script.{has_send_fault, has_receive_fault}
-use Rattle.fault_plan.proofs.Hearing.{IsClear, clear-loses, on-now}
-use Rattle.fault_plan.proofs.Sieves.{none-found}
+use Rattle.rejoin.proofs.Words.{◌≡◌, ◌≢◌, ℕ, zero, suc, ◌+◌, ◌-◌, ◌<◌, ◌≤◌, Bool, true, false, cond, not, ◌&&◌, ◌||◌}
+use Rattle.rejoin.proofs.Words.{◌∷◌, length, Option, Some, None, refl, ap, sym, ◌∙◌, inl, inr, arith, ◌==◌, find, min}
+use Rattle.rejoin.proofs.Words.{list_any, filter, range_with_len, and_parts, and_from, or_from, or_left, both_ways}
+use Rattle.rejoin.proofs.Words.{eq-eqb, eqb-false, ne_eqb, not-true, or_parts, or_cases, cases_lt, not_from_false}
+use Rattle.rejoin.proofs.Words.{false_from_ne_true, leb-true, cases_eq, below, Medl, Channel, Fault, Script}
+use Rattle.rejoin.proofs.Words.{ClusterStart, loses, expected_sender, is_steady, four_rounds, has_send_fault}
+use Rattle.rejoin.proofs.Words.{has_receive_fault, IsClear, clear-loses, on-now, none-found}
+use Rattle.ttp_world.specs.Hypothesis.{nodes_of, is_covered}
+use Rattle.ttp_world.specs.Returning.{is_deaf, is_deaf_on, is_missed_in, is_sound}
 use Rattle.rejoin.proofs.Arms.{arm-only}
 use Rattle.rejoin.proofs.Entries.{first-found}
 use Rattle.rejoin.proofs.EventLines.{alone-sends, alone-hears}

@@ -1,11 +1,9 @@
 -- The rules, one by one, of a script whose armed nodes are owed their places.
-use Rattle.std.proofs.Common.{◌≡◌, ℕ, Option, Some, None, refl}
+use Rattle.rejoin.proofs.Words.{◌≡◌, ℕ, Option, Some, None, refl, Medl, Script, ClusterStart, clocks_broken, start_of}
+use Rattle.rejoin.proofs.Words.{back_window_broken, disturbance_broken, returns}
 use Rattle.ttp_world.specs.declared.keep.Back.{Back}
-use Rattle.ttp_world.specs.declared.medl.Medl.{Medl}
-use Rattle.ttp_world.specs.declared.script.Script.{Script}
-use Rattle.ttp_world.specs.Hypothesis.{ClusterStart, clocks_broken, start_of}
-use Rattle.ttp_world.specs.Returning.{back_window_broken, disturbance_broken, back_loss_broken, back_distance_broken}
-use Rattle.ttp_world.specs.Returning.{back_sync_broken, arms_broken, unless_back, started_back, returns}
+use Rattle.ttp_world.specs.Returning.{back_loss_broken, back_distance_broken}
+use Rattle.ttp_world.specs.Returning.{back_sync_broken, arms_broken, unless_back, started_back}
 use Rattle.ttp_world.specs.declared.keep.Back.TheVariants as back
 
 pub record BackRulesHold (list : Medl) (script : Script) (slot : ℕ) : Type 0 where

@@ -1,19 +1,14 @@
 -- A slot of the plan: who hears its frame, and who is sound before it.
-use Rattle.std.proofs.Common.{◌≡◌, ◌≢◌, ℕ, suc, ◌+◌, ◌<◌, ◌≤◌, true, false, length, Some, refl, ap, subst, ◌∙◌, inl}
-use Rattle.std.proofs.Common.{inr, arith}
-use Rattle.std.proofs.lemmas.Bool.{both_ways, cases_lt}
-use Rattle.ttp_base.specs.NodeSet.{has_node}
-use Rattle.ttp_world.specs.declared.medl.Medl.{Medl}
-use Rattle.ttp_world.specs.declared.script.Script.{Script}
-use Rattle.ttp_world.specs.Hypothesis.{ClusterStart, loses, expected_sender}
-use Rattle.ttp_world.specs.Returning.{four_rounds}
-use Rattle.ttp_world.specs.Script.{is_ever_on, has_jump}
-use Rattle.fault_plan.specs.Plan.{Incident, Plan, sender, incident_at, Sending}
-use Rattle.fault_plan.specs.Fates.{fate_of, is_sound_after, is_good_slot, Fate, Listening, is_sound}
+use Rattle.rejoin.proofs.Words.{◌≡◌, ◌≢◌, ℕ, suc, ◌+◌, ◌<◌, ◌≤◌, true, false, length, Some, refl, ap, subst, ◌∙◌, inl}
+use Rattle.rejoin.proofs.Words.{inr, arith, both_ways, cases_lt, has_node, Medl, Script, ClusterStart, loses}
+use Rattle.rejoin.proofs.Words.{expected_sender, four_rounds, is_ever_on, has_jump, Incident, Plan, sender, incident_at}
+use Rattle.rejoin.proofs.Words.{fate_of, is_sound_after, is_good_slot, Fate, Listening, clear-loses, incident-made}
+use Rattle.rejoin.proofs.Words.{sender-less, sender-same, back_plan_of}
+use Rattle.fault_plan.specs.Plan.{Sending}
+use Rattle.fault_plan.specs.Fates.{is_sound}
 use Rattle.fault_plan.specs.Kept.{IsHeardByPlan}
-use Rattle.fault_plan.proofs.Hearing.{clear-loses, IsMadeIn, clear-still, deaf-in, incident-made, jumps-in, sender-less}
-use Rattle.fault_plan.proofs.Hearing.{sender-same, unheard-in}
-use Rattle.rejoin.specs.BackPlan.{back_plan_of}
+use Rattle.fault_plan.proofs.Hearing.{IsMadeIn, clear-still, deaf-in, jumps-in}
+use Rattle.fault_plan.proofs.Hearing.{unheard-in}
 use Rattle.rejoin.proofs.Arms.{arm-quiet, arm-stays}
 use Rattle.rejoin.proofs.BackHearing.{near-hears, near-heard, near-same}
 use Rattle.rejoin.proofs.Entries.{entry-of}

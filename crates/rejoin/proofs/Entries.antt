@@ -1,16 +1,10 @@
 -- The slot in which an armed node enters.
-use Rattle.std.proofs.Common.{◌≡◌, ℕ, zero, suc, ◌+◌, ◌-◌, ◌<◌, ◌≤◌, Bool, true, false, cond, ◌||◌, Option, Some, None}
-use Rattle.std.proofs.Common.{refl, ap, sym, ◌∙◌, inl, inr, arith}
-use Rattle.std.specs.Prelude.{min, unwrap_or, find}
-use Rattle.std.specs.List.{list_any, range_with_len}
-use Rattle.std.proofs.lemmas.Bool.{both_ways, or_cases, ltb-true, cases_eq}
-use Rattle.std.proofs.lemmas.Option.{none-some, same_Some}
-use Rattle.ttp_world.specs.declared.medl.Medl.{Medl}
-use Rattle.ttp_world.specs.declared.script.Script.{Script}
-use Rattle.ttp_world.specs.Hypothesis.{ClusterStart}
-use Rattle.ttp_world.specs.Returning.{two_rounds, offers_place}
-use Rattle.fault_plan.proofs.Sieves.{none-found}
-use Rattle.rejoin.specs.BackPlan.{entry_slot}
+use Rattle.rejoin.proofs.Words.{◌≡◌, ℕ, zero, suc, ◌+◌, ◌-◌, ◌<◌, ◌≤◌, Bool, true, false, cond, ◌||◌, Option, Some}
+use Rattle.rejoin.proofs.Words.{None, refl, ap, sym, ◌∙◌, inl, inr, arith, min, find, list_any, range_with_len}
+use Rattle.rejoin.proofs.Words.{both_ways, or_cases, ltb-true, cases_eq, none-some, Medl, Script, ClusterStart}
+use Rattle.rejoin.proofs.Words.{two_rounds, offers_place, none-found, entry_slot}
+use Rattle.std.specs.Prelude.{unwrap_or}
+use Rattle.std.proofs.lemmas.Option.{same_Some}
 use Rattle.rejoin.proofs.Arms.{IsArmedIn}
 
 -- the first of a range that passes

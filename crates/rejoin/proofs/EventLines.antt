@@ -1,18 +1,13 @@
 -- What lines of a script tell of a node and a slot.
-use Rattle.std.proofs.Common.{◌≡◌, ℕ, ◌+◌, ◌<◌, ◌≤◌, Bool, true, false, cond, ◌&&◌, ℤ, Some, None, refl, ap, sym, ◌∙◌}
-use Rattle.std.proofs.Common.{arith}
-use Rattle.std.specs.Prelude.{◌==◌, nat_le, nat_lt, is_some}
-use Rattle.std.specs.List.{Contains, list_any}
-use Rattle.std.proofs.lemmas.Bool.{and_parts, and_from, both_ways, eqb-true, leb-true, le-leb, lt-ltb}
-use Rattle.ttp_world.specs.declared.medl.Medl.{Medl}
-use Rattle.ttp_world.specs.declared.script.Channel.{Channel}
-use Rattle.ttp_world.specs.declared.script.Event.{Event}
-use Rattle.ttp_world.specs.declared.script.Fault.{Fault}
-use Rattle.ttp_world.specs.declared.script.Script.{Script}
-use Rattle.ttp_world.specs.Returning.{four_rounds, touches, is_line_of, is_arm_line}
-use Rattle.ttp_world.specs.Script.{covers, arms, is_armed, is_send_fault, is_receive_fault, has_send_fault}
-use Rattle.ttp_world.specs.Script.{has_receive_fault, jump_in, has_jump}
-use Rattle.fault_plan.proofs.Returns.{any-of}
+use Rattle.rejoin.proofs.Words.{◌≡◌, ℕ, ◌+◌, ◌<◌, ◌≤◌, Bool, true, false, cond, ◌&&◌, ℤ, Some, None, refl, ap, sym, ◌∙◌}
+use Rattle.rejoin.proofs.Words.{arith, ◌==◌, nat_le, Contains, list_any, and_parts, and_from, both_ways, eqb-true}
+use Rattle.rejoin.proofs.Words.{leb-true, lt-ltb, Medl, Channel, Event, Fault, Script, four_rounds, is_line_of}
+use Rattle.rejoin.proofs.Words.{is_arm_line, arms, is_armed, has_send_fault, has_receive_fault, has_jump, any-of}
+use Rattle.std.specs.Prelude.{nat_lt, is_some}
+use Rattle.std.proofs.lemmas.Bool.{le-leb}
+use Rattle.ttp_world.specs.Returning.{touches}
+use Rattle.ttp_world.specs.Script.{covers, is_send_fault, is_receive_fault}
+use Rattle.ttp_world.specs.Script.{jump_in}
 use Rattle.rejoin.proofs.Lists.{none-stricter}
 use Rattle.ttp_world.specs.declared.script.Event.TheVariants as event
 

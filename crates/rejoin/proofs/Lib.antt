@@ -16,3 +16,4 @@ pub mod BackGood
 pub mod BackBounds
 pub mod ReturnsByPlan
 pub mod Returned
+pub mod Words

@@ -1,11 +1,8 @@
 -- What tests of lists tell.
-use Rattle.std.proofs.Common.{◌≡◌, ℕ, ◌+◌, ◌<◌, ◌≤◌, Bool, true, false, cond, ◌||◌, List, [], ◌∷◌, refl, ap, ◌∙◌, ◌⊎◌}
-use Rattle.std.proofs.Common.{inl, inr, arith}
+use Rattle.rejoin.proofs.Words.{◌≡◌, ℕ, ◌+◌, ◌<◌, ◌≤◌, Bool, true, false, cond, ◌||◌, List, [], ◌∷◌, refl, ap, ◌∙◌, ◌⊎◌}
+use Rattle.rejoin.proofs.Words.{inl, inr, arith, AllByRecursion, list_any, or_parts, both_ways, or_cases, below}
 use Rattle.std.specs.Prelude.{count_by}
-use Rattle.std.specs.List.{AllByRecursion, list_any}
-use Rattle.std.proofs.lemmas.Bool.{or_parts, both_ways, or_cases}
 use Rattle.std.proofs.lemmas.List.Sums.{sum_by-cons}
-use Rattle.ttp_base.specs.NodeSet.{below}
 use Rattle.ttp_base.proofs.NodeSets.{has_node-below}
 use Rattle.fault_plan.proofs.Losses.{each-member}
 

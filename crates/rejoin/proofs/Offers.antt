@@ -1,27 +1,20 @@
 -- An armed node enters by the first frame of a sound node that carries a place.
-use Rattle.std.proofs.Common.{◌≡◌, ◌≢◌, ℕ, zero, suc, ◌+◌, ◌-◌, ◌*◌, ◌/◌, ◌%◌, ◌<◌, ◌≤◌, Bool, true, false, cond}
-use Rattle.std.proofs.Common.{length, refl, ap, sym, subst, ◌∙◌, inl, inr, mod-lt, arith}
-use Rattle.std.specs.Prelude.{◌==◌}
-use Rattle.std.specs.List.{Contains}
-use Rattle.std.proofs.lemmas.Bool.{and_parts, and_from, both_ways, ne_eqb, eqb-true, eqb-false, false_from_ne_true}
-use Rattle.std.proofs.lemmas.Bool.{not_from_false, cases_lt}
+use Rattle.rejoin.proofs.Words.{◌≡◌, ◌≢◌, ℕ, zero, suc, ◌+◌, ◌-◌, ◌*◌, ◌<◌, ◌≤◌, Bool, true, false, cond, length, refl}
+use Rattle.rejoin.proofs.Words.{ap, sym, subst, ◌∙◌, inl, inr, arith, ◌==◌, Contains, and_parts, and_from, both_ways}
+use Rattle.rejoin.proofs.Words.{ne_eqb, eqb-true, eqb-false, false_from_ne_true, not_from_false, cases_lt, has_node}
+use Rattle.rejoin.proofs.Words.{Medl, Script, ClusterStart, expected_sender, two_rounds, is_on, Return, Plan}
+use Rattle.rejoin.proofs.Words.{is_sound_after, is_good_slot, on-now, sender-less, sender-same, entry_slot}
+use Rattle.rejoin.proofs.Words.{back_plan_of}
+use Rattle.std.proofs.Common.{◌/◌, ◌%◌}
+use Rattle.std.proofs.Common.{mod-lt}
 use Rattle.std.proofs.Math.Nat.{mod-add-div', mod-add-mod, mod-eq_of_lt, div-eq_of_lt}
 use Rattle.std.proofs.lemmas.Nat.{div-mul-add}
-use Rattle.ttp_base.specs.NodeSet.{has_node}
-use Rattle.ttp_world.specs.declared.medl.Medl.{Medl}
-use Rattle.ttp_world.specs.declared.script.Script.{Script}
 use Rattle.ttp_world.specs.Diary.{Place, next_place}
-use Rattle.ttp_world.specs.Hypothesis.{ClusterStart, expected_sender}
 use Rattle.ttp_world.specs.Medl.{kind_at}
-use Rattle.ttp_world.specs.Returning.{two_rounds, round_of, carries_place}
-use Rattle.ttp_world.specs.Script.{is_on}
-use Rattle.fault_plan.specs.Plan.{Return, Plan}
-use Rattle.fault_plan.specs.Fates.{is_sound_after, is_good_slot}
+use Rattle.ttp_world.specs.Returning.{round_of, carries_place}
 use Rattle.fault_plan.specs.Kept.{kind_in, IsOffered}
 use Rattle.fault_plan.specs.Places.{planned_place}
 use Rattle.fault_plan.proofs.Places.{place-sender}
-use Rattle.fault_plan.proofs.Hearing.{on-now, sender-less, sender-same}
-use Rattle.rejoin.specs.BackPlan.{entry_slot, back_plan_of}
 use Rattle.rejoin.proofs.Arms.{arm-only, arm-stays}
 use Rattle.rejoin.proofs.Entries.{IsEntryOf, entry-of}
 use Rattle.rejoin.proofs.Runs.{IsBackRun}

@@ -1,15 +1,10 @@
 -- A script whose armed nodes get their places again, by its plan.
-use Rattle.std.proofs.Common.{◌≡◌, ℕ, suc, ◌+◌, ◌-◌, ◌<◌, ◌≤◌, length, ◌∙◌, arith}
-use Rattle.ttp_world.specs.declared.medl.Medl.{Medl}
-use Rattle.ttp_world.specs.declared.script.Script.{Script}
+use Rattle.rejoin.proofs.Words.{◌≡◌, ℕ, suc, ◌+◌, ◌-◌, ◌<◌, ◌≤◌, length, ◌∙◌, arith, Medl, Script, IsValid, returns}
+use Rattle.rejoin.proofs.Words.{IsValidScript, back_plan_of, ReturnsByPlan}
 use Rattle.ttp_world.specs.BackSafety.{IsBackSafe}
 use Rattle.ttp_world.specs.Legal.{IsLegal}
-use Rattle.ttp_world.specs.Medl.{IsValid}
-use Rattle.ttp_world.specs.Returning.{returns}
-use Rattle.ttp_world.specs.Script.{IsValidScript}
 use Rattle.ttp_world.specs.World.{Numbers, world}
 use Rattle.ttp_world.proofs.Worlds.{length-world}
-use Rattle.rejoin.specs.BackPlan.{back_plan_of, ReturnsByPlan}
 use Rattle.rejoin.proofs.ReturnsByPlan.{returned-by_plan}
 use Rattle.safety_laws.specs.PlannedRun.{IsBegun, StandsBack}
 use Rattle.safety_laws.specs.ByPlan.{IsByPlan}

@@ -1,25 +1,17 @@
 -- The plan of a run whose armed nodes return is that of its faulty nodes and its arm lines.
-use Rattle.std.proofs.Common.{◌≡◌, ◌≢◌, ℕ, zero, suc, ◌+◌, ◌-◌, ◌<◌, ◌≤◌, true, false, not, ◌&&◌, ◌||◌, List, [], ◌∷◌}
-use Rattle.std.proofs.Common.{◌++◌, length, Some, ◌⊎◌, refl, ap, sym, subst, ◌∙◌, inl, inr, arith}
-use Rattle.std.specs.List.{AllByRecursion}
-use Rattle.std.proofs.lemmas.Bool.{and_parts, and_from, or_left, or_right, both_ways, cases_lt, cases_eq, eq-eqb}
-use Rattle.std.proofs.lemmas.Bool.{false_from_ne_true, not-true}
-use Rattle.ttp_base.specs.NodeSet.{has_node}
-use Rattle.ttp_world.specs.declared.medl.Medl.{Medl}
-use Rattle.ttp_world.specs.declared.script.Script.{Script}
+use Rattle.rejoin.proofs.Words.{◌≡◌, ◌≢◌, ℕ, zero, suc, ◌+◌, ◌-◌, ◌<◌, ◌≤◌, true, false, not, ◌&&◌, ◌||◌, List, [], ◌∷◌}
+use Rattle.rejoin.proofs.Words.{◌++◌, length, Some, ◌⊎◌, refl, ap, sym, subst, ◌∙◌, inl, inr, arith, AllByRecursion}
+use Rattle.rejoin.proofs.Words.{and_parts, and_from, or_left, or_right, both_ways, cases_lt, cases_eq, eq-eqb}
+use Rattle.rejoin.proofs.Words.{false_from_ne_true, not-true, has_node, Medl, Script, ClusterStart, FaultyNode}
+use Rattle.rejoin.proofs.Words.{numbers_of, start_of, four_rounds, slots_before, faulty_since, is_forgiven, is_armed}
+use Rattle.rejoin.proofs.Words.{is_on, fate_of, is_sound_after, lost_since, Plan, on-ever, made-was, incident_made}
+use Rattle.rejoin.proofs.Words.{incident-slot, all_in, back_plan_of}
 use Rattle.ttp_world.specs.BackSafety.{is_armed_among}
-use Rattle.ttp_world.specs.Hypothesis.{ClusterStart, FaultyNode, numbers_of, start_of}
-use Rattle.ttp_world.specs.Returning.{four_rounds, slots_before, faulty_since, is_forgiven, started_since}
+use Rattle.ttp_world.specs.Returning.{started_since}
 use Rattle.ttp_world.specs.Returning.{is_back_correct_after}
-use Rattle.ttp_world.specs.Script.{is_armed, is_on}
 use Rattle.ttp_world.proofs.Filters.{each-filter}
-use Rattle.fault_plan.specs.Fates.{fate_of, is_sound, is_sound_after, lost_since}
-use Rattle.fault_plan.specs.Plan.{Plan}
+use Rattle.fault_plan.specs.Fates.{is_sound}
 use Rattle.fault_plan.specs.Returned.{IsSoundAgain, IsPlanOfReturns}
-use Rattle.fault_plan.proofs.Hearing.{on-ever, made-was}
-use Rattle.fault_plan.proofs.Incidents.{incident_made, incident-slot}
-use Rattle.fault_plan.proofs.Spaced.{all_in}
-use Rattle.rejoin.specs.BackPlan.{back_plan_of}
 use Rattle.rejoin.proofs.Arms.{IsArmedIn, armed-in, arm-quiet, arm-only, arm-stays, armed-after}
 use Rattle.rejoin.proofs.Entries.{entry-of}
 use Rattle.rejoin.proofs.Runs.{IsBackRun}

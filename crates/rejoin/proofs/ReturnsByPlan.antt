@@ -1,19 +1,14 @@
 -- A script whose test says that its armed nodes are owed their places follows its plan.
-use Rattle.std.proofs.Common.{◌≡◌, ℕ, suc, ◌+◌, ◌-◌, ◌<◌, ◌≤◌, false, length, refl, sym, inr, arith}
-use Rattle.std.proofs.lemmas.Bool.{not-false, false_from_ne_true}
-use Rattle.ttp_world.specs.declared.medl.Medl.{Medl}
-use Rattle.ttp_world.specs.declared.script.Script.{Script}
-use Rattle.ttp_world.specs.Hypothesis.{ClusterStart}
-use Rattle.ttp_world.specs.Medl.{IsValid}
-use Rattle.ttp_world.specs.Returning.{two_rounds, slots_before, joinings, breaks_back_in, has_four_before}
-use Rattle.ttp_world.specs.Returning.{lacks_four_after, breaks_arm_in, returns}
-use Rattle.ttp_world.specs.Script.{is_armed, IsValidScript, arms}
+use Rattle.rejoin.proofs.Words.{◌≡◌, ℕ, suc, ◌+◌, ◌-◌, ◌<◌, ◌≤◌, false, length, refl, sym, inr, arith, not-false}
+use Rattle.rejoin.proofs.Words.{false_from_ne_true, Medl, Script, ClusterStart, IsValid, two_rounds, slots_before}
+use Rattle.rejoin.proofs.Words.{joinings, has_four_before, breaks_arm_in, returns, is_armed, IsValidScript, arms}
+use Rattle.rejoin.proofs.Words.{none-found, back_plan_of, ReturnsByPlan}
+use Rattle.ttp_world.specs.Returning.{breaks_back_in}
+use Rattle.ttp_world.specs.Returning.{lacks_four_after}
 use Rattle.ttp_world.proofs.Starts.{alone-start, on-start}
 use Rattle.fault_plan.specs.Kept.{FollowsPlan}
-use Rattle.fault_plan.proofs.Sieves.{none-found}
 use Rattle.fault_plan.proofs.Spaced.{spaced-all}
 use Rattle.fault_plan.proofs.CoursePlans.{enough, follows-by, start-heard}
-use Rattle.rejoin.specs.BackPlan.{back_plan_of, ReturnsByPlan}
 use Rattle.rejoin.proofs.ArmLines.{armed-same}
 use Rattle.rejoin.proofs.Arms.{armed-in}
 use Rattle.rejoin.proofs.BackBounds.{back-bounds, back-flipped, back-window}

@@ -1,18 +1,11 @@
 -- What the rules say of a run whose armed nodes are owed their places.
-use Rattle.std.proofs.Common.{◌≡◌, ℕ, zero, suc, ◌<◌, ◌≤◌, true, false, [], length, ◌⊎◌, ap, sym, subst, ◌∙◌, inl, inr}
-use Rattle.std.proofs.Common.{arith}
-use Rattle.std.specs.List.{AllByRecursion}
-use Rattle.std.proofs.lemmas.Bool.{not-false}
+use Rattle.rejoin.proofs.Words.{◌≡◌, ℕ, zero, suc, ◌<◌, ◌≤◌, true, false, [], length, ◌⊎◌, ap, sym, subst, ◌∙◌, inl}
+use Rattle.rejoin.proofs.Words.{inr, arith, AllByRecursion, not-false, Medl, Channel, Script, ClusterStart, FaultyNode}
+use Rattle.rejoin.proofs.Words.{slots_before, joinings, has_four_before, breaks_arm_in, is_armed, flipped_bits}
+use Rattle.rejoin.proofs.Words.{IsValidScript, IsWithinBounds, all_in}
 use Rattle.std.proofs.Math.Nat.{eq-or-lt_of_le}
-use Rattle.ttp_world.specs.declared.medl.Medl.{Medl}
-use Rattle.ttp_world.specs.declared.script.Channel.{Channel}
-use Rattle.ttp_world.specs.declared.script.Script.{Script}
-use Rattle.ttp_world.specs.Hypothesis.{ClusterStart, FaultyNode}
-use Rattle.ttp_world.specs.Returning.{slots_before, joinings, has_four_before, may_return, fails_if_armed}
-use Rattle.ttp_world.specs.Returning.{breaks_arm_in}
-use Rattle.ttp_world.specs.Script.{is_armed, flipped_bits, IsValidScript}
-use Rattle.fault_plan.specs.Kept.{IsWithinBounds}
-use Rattle.fault_plan.proofs.Spaced.{all_in, each-split as any-append}
+use Rattle.ttp_world.specs.Returning.{may_return, fails_if_armed}
+use Rattle.fault_plan.proofs.Spaced.{each-split as any-append}
 use Rattle.fault_plan.proofs.Courses.{IsCourse}
 use Rattle.rejoin.proofs.Lists.{none-below}
 use Rattle.rejoin.proofs.Walk.{at, made}

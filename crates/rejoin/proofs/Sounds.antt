@@ -1,24 +1,16 @@
 -- Who is sound after a slot: a node that is not faulty, or one that was armed less than four rounds ago.
-use Rattle.std.proofs.Common.{◌≡◌, ◌≢◌, ℕ, zero, suc, ◌+◌, ◌-◌, ◌<◌, ◌≤◌, Bool, true, false, cond, length, Some, ◌⊎◌}
-use Rattle.std.proofs.Common.{refl, ap, sym, ◌∙◌, inl, inr, arith}
-use Rattle.std.specs.Prelude.{◌==◌}
-use Rattle.std.proofs.lemmas.Bool.{and_parts, or_parts, or_cases, both_ways, cases_lt, false_from_ne_true}
-use Rattle.std.proofs.lemmas.Bool.{true_from_ne_false, or_right}
-use Rattle.std.proofs.lemmas.Option.{none-some}
-use Rattle.ttp_base.specs.NodeSet.{has_node}
-use Rattle.ttp_base.proofs.NodeSets.{has_node-sieve}
-use Rattle.ttp_world.specs.declared.medl.Medl.{Medl}
-use Rattle.ttp_world.specs.declared.script.Script.{Script}
-use Rattle.ttp_world.specs.Hypothesis.{ClusterStart}
-use Rattle.ttp_world.specs.Returning.{four_rounds}
-use Rattle.ttp_world.specs.Script.{is_ever_on}
-use Rattle.fault_plan.specs.Plan.{incident_at, is_armed_by, enters, sender}
-use Rattle.fault_plan.specs.Fates.{Fate, Absent, Sound, Listening, fate_of, fate_at_begin, next_fate, is_sound}
-use Rattle.fault_plan.specs.Fates.{is_sound_after, lost_since, turned}
-use Rattle.fault_plan.proofs.FateSteps.{strikes, sound-fate, next-same, struck-missed}
-use Rattle.fault_plan.proofs.Hearing.{IsClear, clear-after, made-was}
-use Rattle.fault_plan.proofs.Incidents.{strikes-slot}
-use Rattle.rejoin.specs.BackPlan.{entry_slot, back_plan_of}
+use Rattle.rejoin.proofs.Words.{◌≡◌, ◌≢◌, ℕ, zero, suc, ◌+◌, ◌-◌, ◌<◌, ◌≤◌, Bool, true, false, cond, length, Some, ◌⊎◌}
+use Rattle.rejoin.proofs.Words.{refl, ap, sym, ◌∙◌, inl, inr, arith, ◌==◌, and_parts, or_parts, or_cases, both_ways}
+use Rattle.rejoin.proofs.Words.{cases_lt, false_from_ne_true, or_right, none-some, has_node, has_node-sieve, Medl}
+use Rattle.rejoin.proofs.Words.{Script, ClusterStart, four_rounds, is_ever_on, incident_at, is_armed_by, enters, sender}
+use Rattle.rejoin.proofs.Words.{Fate, Absent, Sound, Listening, fate_of, fate_at_begin, next_fate, is_sound_after}
+use Rattle.rejoin.proofs.Words.{lost_since, strikes, sound-fate, IsClear, made-was, strikes-slot, entry_slot}
+use Rattle.rejoin.proofs.Words.{back_plan_of}
+use Rattle.std.proofs.lemmas.Bool.{true_from_ne_false}
+use Rattle.fault_plan.specs.Fates.{is_sound}
+use Rattle.fault_plan.specs.Fates.{turned}
+use Rattle.fault_plan.proofs.FateSteps.{next-same, struck-missed}
+use Rattle.fault_plan.proofs.Hearing.{clear-after}
 use Rattle.rejoin.proofs.Arms.{IsArmedIn, arm-faulty}
 use Rattle.rejoin.proofs.Runs.{IsBackRun}
 use Rattle.rejoin.proofs.Standing.{Standing, Clear, LostSince, ArmedSince, standing, entry-by, armed-by-line}

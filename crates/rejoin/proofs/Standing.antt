@@ -1,27 +1,21 @@
 -- How a node stands after each slot: it is sound, lost since a slot, or armed less than four rounds ago.
-use Rattle.std.proofs.Common.{◌≡◌, ℕ, zero, suc, ◌+◌, ◌-◌, ◌<◌, ◌≤◌, Bool, true, false, cond, not, ◌&&◌, List, [], ◌∷◌}
-use Rattle.std.proofs.Common.{◌++◌, length, Some, None, refl, ap, sym, subst, ◌∙◌, inl, inr, arith}
-use Rattle.std.specs.Prelude.{◌==◌, nat_le}
-use Rattle.std.specs.List.{AllByRecursion, list_any, filter, Contains}
-use Rattle.std.proofs.lemmas.Bool.{and_parts, and_from, and_left, and_right, or_from, or_left, or_right, both_ways}
-use Rattle.std.proofs.lemmas.Bool.{cases_lt, cases_eq, false_from_ne_true, eqb-true, not_from_false, leb-true}
-use Rattle.ttp_base.specs.NodeSet.{has_node}
-use Rattle.ttp_base.proofs.NodeSets.{has_node-sieve}
-use Rattle.ttp_world.specs.declared.medl.Medl.{Medl}
-use Rattle.ttp_world.specs.declared.script.Script.{Script}
-use Rattle.ttp_world.specs.Hypothesis.{ClusterStart, FaultyNode, numbers_of}
-use Rattle.ttp_world.specs.Returning.{two_rounds, four_rounds, slots_before, faulty_at, faulty_since, is_forgiven}
-use Rattle.ttp_world.specs.Script.{is_armed, is_ever_on}
-use Rattle.fault_plan.specs.Plan.{Return, Plan, incident_at, is_armed_by, is_armed_there, enters, enters_there}
-use Rattle.fault_plan.specs.Fates.{Fate, Absent, Sound, Listening, fate_of, fate_at_begin, next_fate, is_sound}
-use Rattle.fault_plan.specs.Fates.{lost_since, is_sound_after}
-use Rattle.fault_plan.proofs.FateSteps.{strikes, sound-fate, sound-next, since-kept, since-now, next-entered}
+use Rattle.rejoin.proofs.Words.{◌≡◌, ℕ, zero, suc, ◌+◌, ◌-◌, ◌<◌, ◌≤◌, Bool, true, false, cond, not, ◌&&◌, List, []}
+use Rattle.rejoin.proofs.Words.{◌∷◌, ◌++◌, length, Some, None, refl, ap, sym, subst, ◌∙◌, inl, inr, arith, ◌==◌, nat_le}
+use Rattle.rejoin.proofs.Words.{AllByRecursion, list_any, filter, Contains, and_parts, and_from, and_right, or_from}
+use Rattle.rejoin.proofs.Words.{or_left, or_right, both_ways, cases_lt, cases_eq, false_from_ne_true, eqb-true}
+use Rattle.rejoin.proofs.Words.{not_from_false, leb-true, has_node, has_node-sieve, Medl, Script, ClusterStart}
+use Rattle.rejoin.proofs.Words.{FaultyNode, numbers_of, two_rounds, four_rounds, slots_before, faulty_at, faulty_since}
+use Rattle.rejoin.proofs.Words.{is_forgiven, is_armed, is_ever_on, Return, Plan, incident_at, is_armed_by}
+use Rattle.rejoin.proofs.Words.{is_armed_there, enters, Fate, Absent, Sound, Listening, fate_of, fate_at_begin}
+use Rattle.rejoin.proofs.Words.{next_fate, lost_since, is_sound_after, strikes, sound-fate, incident_made}
+use Rattle.rejoin.proofs.Words.{incident-slot, strikes-slot, any-of, all_in, made-was, entry_slot, back_plan_of}
+use Rattle.std.proofs.lemmas.Bool.{and_left}
+use Rattle.fault_plan.specs.Plan.{enters_there}
+use Rattle.fault_plan.specs.Fates.{is_sound}
+use Rattle.fault_plan.proofs.FateSteps.{sound-next, since-kept, since-now, next-entered}
 use Rattle.fault_plan.proofs.FateSteps.{next-armed, next-listening}
-use Rattle.fault_plan.proofs.Incidents.{incident_made, incident-slot, strikes-slot, made-early}
-use Rattle.fault_plan.proofs.Returns.{any-of, enters-by}
-use Rattle.fault_plan.proofs.Spaced.{all_in}
-use Rattle.fault_plan.proofs.Hearing.{made-was}
-use Rattle.rejoin.specs.BackPlan.{entry_slot, back_plan_of}
+use Rattle.fault_plan.proofs.Incidents.{made-early}
+use Rattle.fault_plan.proofs.Returns.{enters-by}
 use Rattle.rejoin.proofs.ArmLines.{armed-same, return_at, return-of, among-line, each-at}
 use Rattle.rejoin.proofs.Arms.{IsArmedIn, armed-in, arm-faulty, arm-quiet, arm-only, arm-stays, armed-after}
 use Rattle.rejoin.proofs.Entries.{entry-of}

@@ -1,16 +1,10 @@
 -- The slots of a run in which faulty nodes may be forgiven: who is faulty in them.
-use Rattle.std.proofs.Common.{◌≡◌, ℕ, zero, suc, ◌+◌, ◌-◌, ◌<◌, Bool, true, false, cond, not, ◌&&◌, ◌||◌, List, [], ◌∷◌}
-use Rattle.std.proofs.Common.{get_or, refl, ap, sym, ◌∙◌, arith}
-use Rattle.std.specs.Prelude.{◌==◌}
-use Rattle.std.specs.List.{filter}
-use Rattle.std.proofs.lemmas.Bool.{eqb-true, and_right}
-use Rattle.ttp_base.specs.NodeSet.{has_node}
-use Rattle.ttp_world.specs.declared.medl.Medl.{Medl}
-use Rattle.ttp_world.specs.declared.script.Script.{Script}
-use Rattle.ttp_world.specs.Hypothesis.{ClusterStart, FaultyNode, numbers_of}
-use Rattle.ttp_world.specs.Returning.{no_slot, faulty_since, four_rounds, is_forgiven, faulty_slot, slots_before}
-use Rattle.ttp_world.specs.Returning.{faulty_at}
-use Rattle.ttp_world.specs.Script.{is_armed}
+use Rattle.rejoin.proofs.Words.{◌≡◌, ℕ, zero, suc, ◌+◌, ◌-◌, ◌<◌, Bool, true, false, cond, not, ◌&&◌, ◌||◌, List, []}
+use Rattle.rejoin.proofs.Words.{◌∷◌, refl, ap, sym, ◌∙◌, arith, ◌==◌, filter, eqb-true, and_right, has_node, Medl}
+use Rattle.rejoin.proofs.Words.{Script, ClusterStart, FaultyNode, numbers_of, faulty_since, four_rounds, is_forgiven}
+use Rattle.rejoin.proofs.Words.{slots_before, faulty_at, is_armed}
+use Rattle.std.proofs.Common.{get_or}
+use Rattle.ttp_world.specs.Returning.{no_slot, faulty_slot}
 use Rattle.fault_plan.proofs.Spaced.{numbers-next}
 use Rattle.ttp_world.proofs.WorldFacts.{get-none, has_node-append}
 use Rattle.fault_plan.proofs.Courses.{made_of}

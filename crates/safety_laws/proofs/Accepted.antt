@@ -1,39 +1,23 @@
 -- Which frames sound nodes accept: that of each good slot, and no other.
-use Rattle.std.proofs.Common.{◌≡◌, ◌≢◌, ℕ, zero, suc, ◌+◌, ◌<◌, ◌≤◌, Bool, true, false, ◌&&◌, List, [], ◌∷◌, length}
-use Rattle.std.proofs.Common.{refl, ap, sym, subst, ◌∙◌, inl, inr, arith}
-use Rattle.std.specs.Prelude.{◌==◌}
+use Rattle.safety_laws.proofs.Words.{◌≡◌, ◌≢◌, ℕ, zero, suc, ◌+◌, ◌<◌, ◌≤◌, Bool, true, false, ◌&&◌, List, [], ◌∷◌}
+use Rattle.safety_laws.proofs.Words.{length, refl, ap, sym, subst, ◌∙◌, inl, inr, arith, ◌==◌, cases_eq, eq-eqb, ne_eqb}
+use Rattle.safety_laws.proofs.Words.{false≢true, Medl, Entry, Script, History, entry_of, diary_of, continues_stint}
+use Rattle.safety_laws.proofs.Words.{place_of, ClusterStart, IsLegal, delivered_of, new_messages, SlotNumbers, Numbers}
+use Rattle.safety_laws.proofs.Words.{slot_after, messages_chosen, row_in, world, node_past, legal-older, row_of_world}
+use Rattle.safety_laws.proofs.Words.{length-world, IsIn, Plan, sender, enters, is_sound_after, is_good_slot, Fate}
+use Rattle.safety_laws.proofs.Words.{IsSoundIn, StartedByPlan, NotesNothing, NotedInSlot, IsBegun, IsTurn}
+use Rattle.safety_laws.proofs.Words.{message_given, AcceptsAlikeSince, StandsAlikeSince, planned_place, none-enters}
+use Rattle.safety_laws.proofs.Words.{IsSoundAt, IsByFate, IsByPlan, sound-fate}
 use Rattle.std.proofs.Math.Bool.{and-false, and-true}
-use Rattle.std.proofs.lemmas.Bool.{cases_eq, eq-eqb, ne_eqb, false≢true}
-use Rattle.ttp_world.specs.declared.medl.Medl.{Medl}
-use Rattle.ttp_world.specs.declared.node.Entry.{Entry}
 use Rattle.ttp_world.specs.declared.node.Entry.TheVariants as entry
-use Rattle.ttp_world.specs.declared.script.Script.{Script}
-use Rattle.ttp_world.specs.Diary.{History, entry_of, diary_of, continues_stint, place_of}
-use Rattle.ttp_world.specs.Hypothesis.{ClusterStart}
-use Rattle.ttp_world.specs.Legal.{IsLegal}
-use Rattle.ttp_world.specs.Messages.{delivered_of, new_messages}
-use Rattle.ttp_world.specs.World.{SlotNumbers, Numbers, slot_after, messages_chosen, row_in, world, node_past}
-use Rattle.ttp_world.proofs.LegalShapes.{legal-older}
-use Rattle.ttp_world.proofs.Worlds.{row_of_world, length-world}
-use Rattle.precision.specs.Together.{IsIn}
-use Rattle.fault_plan.specs.Plan.{Plan, sender, enters}
-use Rattle.fault_plan.specs.Fates.{is_sound_after, is_good_slot, Fate}
 use Rattle.fault_plan.proofs.Persists.{sound-earlier}
-use Rattle.safety_laws.specs.NotedByPlan.{IsSoundIn, StartedByPlan, NotesNothing, NotedInSlot}
-use Rattle.safety_laws.specs.PlannedRun.{IsBegun}
-use Rattle.safety_laws.specs.PlanTurn.{IsTurn}
-use Rattle.safety_laws.specs.SameFrames.{accepts, sends_frame, message_given, AcceptsAlike, AcceptsAlikeSince}
-use Rattle.safety_laws.specs.SameFrames.{begins_at_zero, StandsAlikeSince}
+use Rattle.safety_laws.specs.SameFrames.{accepts, sends_frame, AcceptsAlike}
+use Rattle.safety_laws.specs.SameFrames.{begins_at_zero}
 use Rattle.safety_laws.proofs.Receivers.{sound-judge, judges-good}
 use Rattle.safety_laws.proofs.Delivered.{is_judgement, delivers-unjudged, messages-alike, messages-other, messages-own}
 use Rattle.safety_laws.proofs.Delivered.{given-good}
 use Rattle.safety_laws.proofs.WorldSteps.{in-row, stayed-before, own-sent, notes-other, started-by_plan}
 use Rattle.safety_laws.proofs.Together.{KeepsClocks, turn-next, run-by_plan}
-use Rattle.fault_plan.specs.Places.{planned_place}
-use Rattle.fault_plan.proofs.Returns.{none-enters}
-use Rattle.safety_laws.specs.ByFate.{IsSoundAt, IsByFate}
-use Rattle.safety_laws.specs.ByPlan.{IsByPlan}
-use Rattle.fault_plan.proofs.FateSteps.{sound-fate}
 use Rattle.precision.proofs.Frames.{told_goes as tells-on}
 use Rattle.safety_laws.proofs.RoundNotes.{goes-silent as nothing-on}
 

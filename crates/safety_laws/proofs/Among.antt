@@ -1,39 +1,21 @@
 -- What a history tells after a turn of a plan, of sound nodes and of lost ones.
-use Rattle.std.proofs.Common.{◌≡◌, ◌≢◌, ℕ, suc, ◌+◌, ◌-◌, ◌*◌, ◌<◌, ◌≤◌}
-use Rattle.std.proofs.Common.{Bool, true, false, not, ◌&&◌, List, []}
-use Rattle.std.proofs.Common.{◌∷◌, length, Some, refl, ap, sym, subst, ◌∙◌, ◌⊎◌, inl, inr, arith}
-use Rattle.std.specs.List.{AllByRecursion, list_all}
-use Rattle.std.proofs.lemmas.Bool.{false≢true, not_from_false, and_from}
-use Rattle.std.proofs.lemmas.Option.{same_Some}
-use Rattle.std.proofs.lemmas.Slice.Eq.{bytes_eq-Decides}
-use Rattle.ttp_base.specs.NodeSet.{most_nodes, has_node}
-use Rattle.ttp_world.specs.declared.medl.Medl.{Medl}
-use Rattle.ttp_world.specs.declared.node.Ack.{Ack}
+use Rattle.safety_laws.proofs.Words.{◌≡◌, ◌≢◌, ℕ, suc, ◌+◌, ◌-◌, ◌*◌, ◌<◌, ◌≤◌, Bool, true, false, not, ◌&&◌, List, []}
+use Rattle.safety_laws.proofs.Words.{◌∷◌, length, Some, refl, ap, sym, subst, ◌∙◌, ◌⊎◌, inl, inr, arith, AllByRecursion}
+use Rattle.safety_laws.proofs.Words.{list_all, false≢true, not_from_false, and_from, same_Some, bytes_eq-Decides}
+use Rattle.safety_laws.proofs.Words.{most_nodes, has_node, Medl, Ack, Phase, Script, is_doubt, History, ClusterStart}
+use Rattle.safety_laws.proofs.Words.{is_left_phase, newest_slot, is_settled, has_left, are_same_members, is_in_among}
+use Rattle.safety_laws.proofs.Words.{is_out_among, node_past, nodes-most, Change, Sending, Plan, Fate, Absent, Sound}
+use Rattle.safety_laws.proofs.Words.{Falling, Fallen, Listening, fate_of, is_sound_after, lost_since, IsGoodPlan}
+use Rattle.safety_laws.proofs.Words.{planned_members, ledger_of, ledger-told, fallen-member, held_with, IsSoundAt}
+use Rattle.safety_laws.proofs.Words.{IsFallenAt, IsByFate, sound-fate}
 use Rattle.ttp_world.specs.declared.node.Ack.TheVariants as ack
-use Rattle.ttp_world.specs.declared.node.Phase.{Phase}
 use Rattle.ttp_world.specs.declared.node.Phase.TheVariants as phase
-use Rattle.ttp_world.specs.declared.script.Script.{Script}
-use Rattle.ttp_world.specs.Acknowledgement.{is_doubt}
-use Rattle.ttp_world.specs.Diary.{History}
-use Rattle.ttp_world.specs.Hypothesis.{ClusterStart}
-use Rattle.ttp_world.specs.Messages.{is_left_phase}
-use Rattle.ttp_world.specs.Safety.{newest_slot, is_settled, has_left, members_of_node, are_same_members, agree_among}
-use Rattle.ttp_world.specs.Safety.{is_in_among, is_out_among}
-use Rattle.ttp_world.specs.World.{node_past}
-use Rattle.ttp_world.proofs.Lists.{nodes-most}
-use Rattle.fault_plan.specs.Plan.{Change, Sending, Plan}
-use Rattle.fault_plan.specs.Fates.{Fate, Absent, Sound, Falling, Fallen, Listening, fate_of, is_sound_after, lost_since}
-use Rattle.fault_plan.specs.GoodPlan.{IsGoodPlan}
-use Rattle.fault_plan.specs.Ledger.{planned_members, ledger_of}
+use Rattle.ttp_world.specs.Safety.{members_of_node, agree_among}
 use Rattle.fault_plan.proofs.FateTells.{loss-node}
-use Rattle.fault_plan.proofs.Ledgers.{ledger-told}
-use Rattle.fault_plan.proofs.Members.{sound-member, fallen-member}
-use Rattle.safety_laws.specs.Groups.{held_with}
-use Rattle.safety_laws.specs.ByFate.{IsSoundAt, IsFallenAt, IsByFate}
+use Rattle.fault_plan.proofs.Members.{sound-member}
 use Rattle.safety_laws.specs.PlannedRun.{StandsAt}
 use Rattle.safety_laws.proofs.GroupSets.{has_node-with_member, has_node-with_other}
 use Rattle.safety_laws.proofs.PlanSteps.{told-falling, told-fallen}
-use Rattle.fault_plan.proofs.FateSteps.{sound-fate}
 
 -- Tests of lists.
 

@@ -2,21 +2,15 @@
 --
 -- The clocks are those after slot m of a round. The first is counted less its jump, and its notes are those of the
 -- round.
-use Rattle.std.proofs.Common.{◌≡◌, ℕ, suc, ◌<◌, ◌≤◌, ℤ, pos, neg_ℤ, ◌+ℤ◌, ◌-ℤ◌, ◌*ℤ◌, ◌≤ℤ◌}
-use Rattle.std.proofs.Common.{true, false, cond, ◌⊎◌, inl, inr, List, [], ◌++◌, length, refl, ap, sym, subst, ◌∙◌}
-use Rattle.std.proofs.Common.{arith}
-use Rattle.std.specs.Prelude.{◌==◌, All}
-use Rattle.std.proofs.lemmas.Bool.{ne_eqb, eq-eqb, cases_lt}
-use Rattle.std.proofs.lemmas.List.{append-nil}
-use Rattle.std.proofs.lemmas.Int.{ints}
-use Rattle.std.proofs.lemmas.List.Elements.{All-append, All-weaker}
-use Rattle.ttp_world.specs.declared.medl.Medl.{Medl}
+use Rattle.safety_laws.proofs.Words.{◌≡◌, ℕ, suc, ◌<◌, ◌≤◌, ℤ, pos, neg_ℤ, ◌+ℤ◌, ◌-ℤ◌, ◌*ℤ◌, ◌≤ℤ◌, true, false, cond}
+use Rattle.safety_laws.proofs.Words.{◌⊎◌, inl, inr, List, [], ◌++◌, length, refl, ap, sym, subst, ◌∙◌, arith, ◌==◌, All}
+use Rattle.safety_laws.proofs.Words.{ne_eqb, eq-eqb, cases_lt, append-nil, ints, All-append, Medl, needed, IsUpTo}
+use Rattle.safety_laws.proofs.Words.{AreNear, drift_in, correction, product_up}
+use Rattle.std.proofs.lemmas.List.Elements.{All-weaker}
 use Rattle.ttp_world.specs.Clock.{fta}
-use Rattle.ttp_world.specs.Hypothesis.{needed}
 use Rattle.ttp_world.proofs.Averages.{fta-between}
-use Rattle.precision.proofs.Averages.{IsUpTo, AreNear, fta-near}
-use Rattle.precision.proofs.Rounds.{drift_in, correction, product_more, product_upto, wider_of as wider-still}
-use Rattle.precision.proofs.Rounds.{product_up}
+use Rattle.precision.proofs.Averages.{fta-near}
+use Rattle.precision.proofs.Rounds.{product_more, product_upto, wider_of as wider-still}
 use Rattle.ttp_world.proofs.SmallTests.{plus_none}
 
 -- how far a frame that is noted in a round can lie from another clock after slot m, by the clock and the note together

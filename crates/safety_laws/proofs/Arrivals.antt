@@ -1,23 +1,11 @@
 -- What the sender of a turn does by its fate, and what comes to each other node.
-use Rattle.std.proofs.Common.{◌≡◌, ℕ, suc, ◌<◌, true, false, List, [], length, refl, ap, sym, subst, ◌∙◌, ◌⊎◌, inl, inr}
-use Rattle.std.proofs.Common.{arith}
-use Rattle.ttp_base.specs.NodeSet.{with_node}
-use Rattle.ttp_world.specs.declared.medl.Medl.{Medl}
+use Rattle.safety_laws.proofs.Words.{◌≡◌, ℕ, suc, ◌<◌, true, false, List, [], length, refl, ap, sym, subst, ◌∙◌, ◌⊎◌}
+use Rattle.safety_laws.proofs.Words.{inl, inr, arith, with_node, Medl, Script, next_place, ClusterStart, loses}
+use Rattle.safety_laws.proofs.Words.{is_within_window, SlotNumbers, Numbers, node_past, slot_after, deviation_in, world}
+use Rattle.safety_laws.proofs.Words.{Change, Plan, sender, is_armed_by, Fate, Absent, Sound, Falling, Fallen, Listening}
+use Rattle.safety_laws.proofs.Words.{fate_of, is_lost, planned_members, planned_place, held_with, frames_made}
+use Rattle.safety_laws.proofs.Words.{next_past, HearsMembers, IsByFate, IsFallingAt, IsFallenAt, IsTurn}
 use Rattle.ttp_world.specs.declared.node.Phase.TheVariants as phase
-use Rattle.ttp_world.specs.declared.script.Script.{Script}
-use Rattle.ttp_world.specs.Diary.{next_place}
-use Rattle.ttp_world.specs.Hypothesis.{ClusterStart, loses}
-use Rattle.ttp_world.specs.Reception.{is_within_window}
-use Rattle.ttp_world.specs.World.{SlotNumbers, Numbers, node_past, slot_after, deviation_in, world}
-use Rattle.fault_plan.specs.Plan.{Change, Plan, sender, is_armed_by}
-use Rattle.fault_plan.specs.Fates.{Fate, Absent, Sound, Falling, Fallen, Listening, fate_of, is_lost}
-use Rattle.fault_plan.specs.Ledger.{planned_members}
-use Rattle.fault_plan.specs.Places.{planned_place}
-use Rattle.safety_laws.specs.Groups.{held_with}
-use Rattle.safety_laws.specs.NodeSlot.{frames_made, next_past}
-use Rattle.safety_laws.specs.Turns.{HearsMembers}
-use Rattle.safety_laws.specs.ByFate.{IsByFate, IsFallingAt, IsFallenAt}
-use Rattle.safety_laws.specs.PlanTurn.{IsTurn}
 use Rattle.safety_laws.proofs.Idle.{idle-off, idle-left}
 use Rattle.safety_laws.proofs.Listening.{frames_made-listening}
 use Rattle.safety_laws.proofs.OneSender.{members-alone}

@@ -1,20 +1,10 @@
 -- The sound nodes of a plan begin together at the start, and in each slot since they are at its place.
-use Rattle.std.proofs.Common.{◌≡◌, ◌≢◌, ℕ, zero, suc, ◌+◌, ℤ, List, [], ◌∷◌, length}
-use Rattle.std.proofs.Common.{inl, inr, refl, ap, sym, subst, ◌∙◌, arith}
-use Rattle.std.proofs.lemmas.Bool.{cases_eq}
-use Rattle.ttp_world.specs.declared.medl.Medl.{Medl}
-use Rattle.ttp_world.specs.declared.node.Entry.{Entry}
+use Rattle.safety_laws.proofs.Words.{◌≡◌, ◌≢◌, ℕ, zero, suc, ◌+◌, ℤ, List, [], ◌∷◌, length, inl, inr, refl, ap, sym}
+use Rattle.safety_laws.proofs.Words.{subst, ◌∙◌, arith, cases_eq, Medl, Entry, Script, cold_start_cstate, History}
+use Rattle.safety_laws.proofs.Words.{entry_of, diary_of, start_place, stint_place, ClusterStart, BeginsOn}
+use Rattle.safety_laws.proofs.Words.{BeganTogether, measured, Plan, is_sound_after, FollowsPlan, StartedByPlan}
+use Rattle.safety_laws.proofs.Words.{NotedByPlan}
 use Rattle.ttp_world.specs.declared.node.Entry.TheVariants as entry
-use Rattle.ttp_world.specs.declared.script.Script.{Script}
-use Rattle.ttp_world.specs.Conduct.{cold_start_cstate}
-use Rattle.ttp_world.specs.Diary.{History, entry_of, diary_of, start_place, stint_place}
-use Rattle.ttp_world.specs.Hypothesis.{ClusterStart}
-use Rattle.precision.specs.Together.{BeginsOn, BeganTogether}
-use Rattle.precision.specs.Together.{measured}
-use Rattle.fault_plan.specs.Plan.{Plan}
-use Rattle.fault_plan.specs.Fates.{is_sound_after}
-use Rattle.fault_plan.specs.Kept.{FollowsPlan}
-use Rattle.safety_laws.specs.NotedByPlan.{StartedByPlan, NotedByPlan}
 use Rattle.safety_laws.proofs.RoundNotes.{Counted, counted-start, counted-next}
 
 -- The start.

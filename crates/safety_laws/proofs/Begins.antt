@@ -1,48 +1,28 @@
 -- Whether a node has left since it was armed last, after one slot more.
-use Rattle.std.proofs.Common.{◌≡◌, ◌≢◌, ℕ, ◌+◌, ◌<◌, ◌≤◌, Bool, true, false, not, ◌&&◌, ◌||◌, [], ◌∷◌, length, refl, ap}
-use Rattle.std.proofs.Common.{sym, subst, ◌∙◌, ◌⊎◌, inl, inr, arith, cond, zero, suc, ◌-◌, List, ◌++◌, take, Option}
-use Rattle.std.proofs.Common.{Some, None}
-use Rattle.std.specs.Prelude.{◌==◌, reverse, find}
-use Rattle.std.proofs.lemmas.Bool.{cases_eq, eq-eqb, false≢true, both_ways, and_parts}
-use Rattle.ttp_base.specs.NodeSet.{has_node, below}
-use Rattle.ttp_world.specs.declared.medl.Medl.{Medl}
-use Rattle.ttp_world.specs.declared.node.Ack.{Ack}
+use Rattle.safety_laws.proofs.Words.{◌≡◌, ◌≢◌, ℕ, ◌+◌, ◌<◌, ◌≤◌, Bool, true, false, not, ◌&&◌, ◌||◌, [], ◌∷◌, length}
+use Rattle.safety_laws.proofs.Words.{refl, ap, sym, subst, ◌∙◌, ◌⊎◌, inl, inr, arith, cond, zero, suc, ◌-◌, List, ◌++◌}
+use Rattle.safety_laws.proofs.Words.{Option, Some, None, ◌==◌, cases_eq, eq-eqb, false≢true, both_ways, and_parts}
+use Rattle.safety_laws.proofs.Words.{has_node, below, Medl, Ack, Entry, Phase, Script, is_open, has_sent_since_begin}
+use Rattle.safety_laws.proofs.Words.{has_sent_in_stint, has_left_since_arm, is_left_after, Diary, phase_after, entry_of}
+use Rattle.safety_laws.proofs.Words.{diary_of, is_active, begins_stint, start_place, History, ClusterStart, is_sending}
+use Rattle.safety_laws.proofs.Words.{is_left_phase, NodePast, has_ever_sent, is_on, is_armed, SlotNumbers, Numbers}
+use Rattle.safety_laws.proofs.Words.{node_past, slot_after, messages_chosen, row_in, world, deviation_in, length-world}
+use Rattle.safety_laws.proofs.Words.{Plan, sender, Fate, Absent, Sound, Listening, fate_of, is_sound_after, is_absent}
+use Rattle.safety_laws.proofs.Words.{opened, ledger_of, absent-always, HoldsGroup, IsStartHeard, starter_standing}
+use Rattle.safety_laws.proofs.Words.{joined_on_start, StandsBy, joined_standing, doubts, is_there, IsCounted, IsSoundAt}
+use Rattle.safety_laws.proofs.Words.{IsByFate, IsBegun, HoldsAfter, sound-fate, list_any, range_with_len, same_Some}
+use Rattle.std.proofs.Common.{take}
+use Rattle.std.specs.Prelude.{reverse, find}
 use Rattle.ttp_world.specs.declared.node.Ack.TheVariants as ack
-use Rattle.ttp_world.specs.declared.node.Entry.{Entry}
 use Rattle.ttp_world.specs.declared.node.Entry.TheVariants as entry
-use Rattle.ttp_world.specs.declared.node.Phase.{Phase}
 use Rattle.ttp_world.specs.declared.node.Phase.TheVariants as phase
-use Rattle.ttp_world.specs.declared.script.Script.{Script}
-use Rattle.ttp_world.specs.Acknowledgement.{is_open}
-use Rattle.ttp_world.specs.BackSafety.{has_sent_since_begin, has_sent_in_stint, has_left_since_arm, newest_arm}
-use Rattle.ttp_world.specs.BackSafety.{since_slot, is_left_after}
-use Rattle.ttp_world.specs.Diary.{Diary, phase_after, entry_of, diary_of, is_active, begins_stint, start_place, History}
-use Rattle.ttp_world.specs.Hypothesis.{ClusterStart}
-use Rattle.ttp_world.specs.Medium.{is_sending}
-use Rattle.ttp_world.specs.Messages.{is_left_phase}
-use Rattle.ttp_world.specs.Past.{NodePast}
-use Rattle.ttp_world.specs.Safety.{has_ever_sent}
-use Rattle.ttp_world.specs.Script.{is_on, is_armed}
-use Rattle.ttp_world.specs.World.{SlotNumbers, Numbers, node_past, slot_after, messages_chosen, row_in, world}
-use Rattle.ttp_world.specs.World.{deviation_in}
-use Rattle.ttp_world.proofs.Worlds.{length-world}
-use Rattle.fault_plan.specs.Plan.{Plan, sender}
-use Rattle.fault_plan.specs.Fates.{Fate, Absent, Sound, Listening, fate_of, is_sound_after, is_absent}
-use Rattle.fault_plan.specs.Ledger.{opened, ledger_of}
+use Rattle.ttp_world.specs.BackSafety.{newest_arm}
+use Rattle.ttp_world.specs.BackSafety.{since_slot}
 use Rattle.fault_plan.proofs.Members.{first-sender}
-use Rattle.fault_plan.proofs.Persists.{absent-always, sound-first}
-use Rattle.safety_laws.specs.Groups.{HoldsGroup}
-use Rattle.safety_laws.specs.Start.{IsStartHeard, starter_standing, joined_on_start}
-use Rattle.safety_laws.specs.Standing.{StandsBy, joined_standing}
-use Rattle.safety_laws.specs.ByFate.{doubts, is_there, IsCounted, IsSoundAt, IsByFate}
-use Rattle.safety_laws.specs.PlannedRun.{IsBegun}
-use Rattle.safety_laws.specs.PlanTurn.{HoldsAfter}
+use Rattle.fault_plan.proofs.Persists.{sound-first}
 use Rattle.safety_laws.proofs.StartSlot.{first_due, starter-stands, joiner-stands, off-stays, has-begun}
 use Rattle.safety_laws.proofs.Waiting.{WaitAll, WaitAll-world}
-use Rattle.fault_plan.proofs.FateSteps.{sound-fate}
-use Rattle.std.specs.List.{list_any, range_with_len}
 use Rattle.std.proofs.lemmas.List.{length-map, reverse-append}
-use Rattle.std.proofs.lemmas.Option.{same_Some}
 
 -- The newest arm line.
 

@@ -1,29 +1,18 @@
 -- The sound nodes' clocks at the beginning of a slot, and what they measure of each other in it.
-use Rattle.std.proofs.Common.{◌≡◌, ℕ, zero, suc, ◌+◌, ◌<◌, ℤ, neg_ℤ, ◌-ℤ◌, ◌≤ℤ◌, Bool, true, false, ◌&&◌, length, inl}
-use Rattle.std.proofs.Common.{inr, refl, ap, sym, ◌∙◌, arith}
-use Rattle.std.specs.Prelude.{int_le}
-use Rattle.std.proofs.lemmas.Bool.{and_parts, and_from, both_ways, false≢true}
-use Rattle.std.proofs.lemmas.Int.{ints}
-use Rattle.ttp_world.specs.declared.medl.Medl.{Medl}
-use Rattle.ttp_world.specs.declared.script.Script.{Script}
-use Rattle.ttp_world.specs.Diary.{History, next_place, Place}
-use Rattle.ttp_world.specs.Hypothesis.{ClusterStart, needed}
-use Rattle.ttp_world.specs.Reception.{is_within_window}
+use Rattle.safety_laws.proofs.Words.{◌≡◌, ℕ, zero, suc, ◌+◌, ◌<◌, ℤ, neg_ℤ, ◌-ℤ◌, ◌≤ℤ◌, Bool, true, false, ◌&&◌, length}
+use Rattle.safety_laws.proofs.Words.{inl, inr, refl, ap, sym, ◌∙◌, arith, int_le, and_parts, and_from, both_ways}
+use Rattle.safety_laws.proofs.Words.{false≢true, ints, Medl, Script, History, next_place, Place, ClusterStart, needed}
+use Rattle.safety_laws.proofs.Words.{is_within_window, spread, clock_at, measured, IsUpTo, Plan, sender, enters}
+use Rattle.safety_laws.proofs.Words.{fate_of, is_sound_after, sound-from, none-enters, NoneEnters, IsNewest, IsSoundIn}
+use Rattle.safety_laws.proofs.Words.{GoesOnByPlan, IsTight}
 use Rattle.ttp_world.specs.Returning.{needed_back}
-use Rattle.precision.specs.Spread.{spread, spread_rejoining, needed_rejoining}
-use Rattle.precision.specs.Together.{clock_at, measured}
+use Rattle.precision.specs.Spread.{spread_rejoining, needed_rejoining}
 use Rattle.precision.specs.Company.{IsCompanyRun, IsSettled, slots_over, HoldsCompanyClocksWithin}
 use Rattle.precision.specs.Company.{HoldsSettledClocksWithin, HoldsCompanyDeviationsWithin}
 use Rattle.precision.specs.Company.{HoldsSettledDeviationsWithin}
-use Rattle.precision.proofs.Averages.{IsUpTo}
 use Rattle.precision.proofs.Limits.{needed_window}
 use Rattle.precision.proofs.Runs.{company_clocks, settled_clocks, company_deviations, settled_deviations}
-use Rattle.fault_plan.specs.Plan.{Plan, sender, enters}
-use Rattle.fault_plan.specs.Fates.{fate_of, is_sound_after}
-use Rattle.fault_plan.proofs.FateSteps.{sound-from}
-use Rattle.fault_plan.proofs.Returns.{enters-late, none-enters}
-use Rattle.safety_laws.specs.Entries.{NoneEnters, IsNewest}
-use Rattle.safety_laws.specs.NotedByPlan.{IsSoundIn, GoesOnByPlan, IsTight}
+use Rattle.fault_plan.proofs.Returns.{enters-late}
 use Rattle.safety_laws.proofs.Company.{sound-calm, ran-company, company-in}
 use Rattle.safety_laws.proofs.RoundNotes.{tight-stays, place-slot}
 use Rattle.safety_laws.proofs.BeganTogether.{number-of, counted-run}

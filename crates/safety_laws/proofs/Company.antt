@@ -1,34 +1,23 @@
 -- A group that ran as a company did so without some of its nodes.
-use Rattle.std.proofs.Common.{◌≡◌, ℕ, zero, suc, ◌+◌, ◌-◌, ◌*◌, ◌<◌, ◌≤◌, Bool, true, false, List, [], ◌∷◌, length, ◌⊎◌}
-use Rattle.std.proofs.Common.{inl, inr, pos, refl, ap, sym, subst, ◌∙◌, arith}
-use Rattle.std.specs.Prelude.{◌==◌, IsTrue}
-use Rattle.std.specs.List.{list_any}
-use Rattle.std.proofs.lemmas.Bool.{eqb-true, eq-eqb, both_ways, false_from_ne_true}
+use Rattle.safety_laws.proofs.Words.{◌≡◌, ℕ, zero, suc, ◌+◌, ◌-◌, ◌*◌, ◌<◌, ◌≤◌, Bool, true, false, List, [], ◌∷◌}
+use Rattle.safety_laws.proofs.Words.{length, ◌⊎◌, inl, inr, pos, refl, ap, sym, subst, ◌∙◌, arith, ◌==◌, IsTrue}
+use Rattle.safety_laws.proofs.Words.{list_any, eqb-true, eq-eqb, both_ways, false_from_ne_true, Medl, Entry, Script}
+use Rattle.safety_laws.proofs.Words.{stint_notes, History, entry_of, diary_of, next_place, place_of, ClusterStart}
+use Rattle.safety_laws.proofs.Words.{jump_of, BeginsOn, IsIn, BeganTogether, continued_active, Return, Plan, sender}
+use Rattle.safety_laws.proofs.Words.{is_armed_by, enters, is_sound, fate_of, is_sound_after, is_good_slot, is_measured}
+use Rattle.safety_laws.proofs.Words.{tally, IsGoodPlan, FollowsPlan, planned_place, four-measured, sound-from}
+use Rattle.safety_laws.proofs.Words.{enters-by, entry-is, entry-good, entry-from, armed-lost, sender-stays, NoneEnters}
+use Rattle.safety_laws.proofs.Words.{IsNewest, IsSoundIn, NotedInSlot, NotedByPlan}
 use Rattle.std.proofs.Math.Nat.{eq-or-lt_of_le}
-use Rattle.ttp_world.specs.declared.medl.Medl.{Medl}
-use Rattle.ttp_world.specs.declared.node.Entry.{Entry}
-use Rattle.ttp_world.specs.declared.script.Script.{Script}
-use Rattle.ttp_world.specs.Clock.{notes_of, stint_notes}
-use Rattle.ttp_world.specs.Diary.{History, entry_of, diary_of, next_place, place_of, ends_round}
-use Rattle.ttp_world.specs.Hypothesis.{ClusterStart}
-use Rattle.ttp_world.specs.Script.{jump_of}
-use Rattle.precision.specs.Together.{BeginsOn, NotedAlike, Nothing, OneFrame, EndsLaterRound, IsIn, BeganTogether}
+use Rattle.ttp_world.specs.Clock.{notes_of}
+use Rattle.ttp_world.specs.Diary.{ends_round}
+use Rattle.precision.specs.Together.{NotedAlike, Nothing, OneFrame, EndsLaterRound}
 use Rattle.precision.specs.Company.{AreCalm, IsCalmIn, IsNotedOf, StayedInCompany, GrewTogether, RanAsCompany}
-use Rattle.precision.proofs.Entries.{continued_active, place_of-active, notes_of-active}
-use Rattle.fault_plan.specs.Plan.{Return, Plan, sender, is_armed_by, enters}
-use Rattle.fault_plan.specs.Fates.{is_sound, fate_of, is_sound_after, is_good_slot, is_measured, tally}
-use Rattle.fault_plan.specs.GoodPlan.{IsGoodPlan}
-use Rattle.fault_plan.specs.Kept.{FollowsPlan}
-use Rattle.fault_plan.specs.Places.{planned_place}
-use Rattle.fault_plan.proofs.Counts.{four-measured}
-use Rattle.fault_plan.proofs.FateSteps.{sound-from}
+use Rattle.precision.proofs.Entries.{place_of-active, notes_of-active}
 use Rattle.fault_plan.proofs.FateTells.{armed-fallen}
 use Rattle.fault_plan.proofs.Persists.{lost-unsound}
-use Rattle.fault_plan.proofs.Returns.{any-of, of-any, armed-by, enters-by, entry-is, entry-good, entry-from, armed-lost}
+use Rattle.fault_plan.proofs.Returns.{any-of, of-any, armed-by}
 use Rattle.fault_plan.proofs.Returns.{Itself, Before, After, entry-beside}
-use Rattle.fault_plan.proofs.SlotKinds.{sender-stays}
-use Rattle.safety_laws.specs.Entries.{NoneEnters, IsNewest}
-use Rattle.safety_laws.specs.NotedByPlan.{IsSoundIn, NotedInSlot, NotedByPlan}
 use Rattle.safety_laws.proofs.RoundNotes.{none-silent, place-slot, sender-in, sound-goes, Counted}
 use Rattle.safety_laws.proofs.BeganTogether.{began, number-of, counted-run}
 

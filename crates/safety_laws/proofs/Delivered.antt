@@ -1,32 +1,23 @@
 -- What sound nodes deliver in a turn: of the frame of a good slot all others the same, and of no other slot anything.
-use Rattle.std.proofs.Common.{◌≡◌, ◌≢◌, ℕ, suc, ◌<◌, Bool, true, false, cond, List, [], length, Some, None, ◌∷◌, ◌&&◌}
-use Rattle.std.proofs.Common.{refl, ap, sym, subst, ◌∙◌, inl, inr, get_or, Option, arith}
-use Rattle.std.proofs.lemmas.Bool.{cases_eq, ne_eqb, false≢true, eq-eqb}
-use Rattle.ttp_world.specs.declared.medl.Medl.{Medl}
-use Rattle.ttp_world.specs.declared.node.Entry.{Entry}
+use Rattle.safety_laws.proofs.Words.{◌≡◌, ◌≢◌, ℕ, suc, ◌<◌, Bool, true, false, cond, List, [], length, Some, None, ◌∷◌}
+use Rattle.safety_laws.proofs.Words.{◌&&◌, refl, ap, sym, subst, ◌∙◌, inl, inr, get_or, Option, arith, cases_eq, ne_eqb}
+use Rattle.safety_laws.proofs.Words.{false≢true, eq-eqb, Medl, Entry, Script, carries_payload, own_frame, payload_taken}
+use Rattle.safety_laws.proofs.Words.{delivery, message_sent, History, entry_of, Place, next_place, ClusterStart, loses}
+use Rattle.safety_laws.proofs.Words.{delivered_of, new_messages, message_of, NodePast, Hearing, expected_of}
+use Rattle.safety_laws.proofs.Words.{expected_header, expected_length, BegunNode, BegunSlot, SlotNumbers, Numbers}
+use Rattle.safety_laws.proofs.Words.{slot_after, frames_in, hearing_in, messages_chosen, world, legal-shapes}
+use Rattle.safety_laws.proofs.Words.{node_of-slot_after, row_of_world, length-world, Plan, sender, is_good_slot, Sound}
+use Rattle.safety_laws.proofs.Words.{fate_of, planned_place, place-sender, payload_of_frame, delivery_at, entry_made}
+use Rattle.safety_laws.proofs.Words.{NodeSlot, IsSoundIn, NotesNothing, IsTurn, get_or-map, get_or-map-range_with_len}
+use Rattle.safety_laws.proofs.Words.{Chosen, frame, member_width, nothing_chosen, message_chosen, message_given}
 use Rattle.ttp_world.specs.declared.node.Entry.TheVariants as entry
-use Rattle.ttp_world.specs.declared.script.Script.{Script}
-use Rattle.ttp_world.specs.Conduct.{carries_payload, own_frame, payload_taken, delivery, message_sent, own_cstate}
-use Rattle.ttp_world.specs.Diary.{History, entry_of, Place, next_place}
-use Rattle.ttp_world.specs.Hypothesis.{ClusterStart, loses}
+use Rattle.ttp_world.specs.Conduct.{own_cstate}
 use Rattle.ttp_world.specs.declared.node.Delivered.{Delivered}
-use Rattle.ttp_world.specs.Messages.{messages_of, delivered_of, new_messages, message_of}
-use Rattle.ttp_world.specs.Past.{NodePast}
-use Rattle.ttp_world.specs.Reception.{Hearing, expected_of, expected_header, expected_length}
-use Rattle.ttp_world.specs.World.{BegunNode, BegunSlot, SlotNumbers, Numbers, node_of, slot_after, frames_in}
-use Rattle.ttp_world.specs.World.{hearing_in, delivered_in, messages_chosen, world}
+use Rattle.ttp_world.specs.Messages.{messages_of}
+use Rattle.ttp_world.specs.World.{node_of}
+use Rattle.ttp_world.specs.World.{delivered_in}
 use Rattle.ttp_world.proofs.Carried.{delivered_of-told}
-use Rattle.ttp_world.proofs.LegalShapes.{legal-shapes}
-use Rattle.ttp_world.proofs.Slots.{node_of-slot_after}
-use Rattle.ttp_world.proofs.Worlds.{row_of_world, length-world}
-use Rattle.fault_plan.specs.Plan.{Plan, sender}
-use Rattle.fault_plan.specs.Fates.{is_good_slot, Sound, fate_of}
-use Rattle.fault_plan.specs.Places.{planned_place}
-use Rattle.fault_plan.proofs.Places.{place-sender}
-use Rattle.safety_laws.specs.Deliveries.{payload_of_frame, delivery_at}
-use Rattle.safety_laws.specs.NodeSlot.{entry_made, NodeSlot, coming_place}
-use Rattle.safety_laws.specs.NotedByPlan.{IsSoundIn, NotesNothing}
-use Rattle.safety_laws.specs.PlanTurn.{IsTurn}
+use Rattle.safety_laws.specs.NodeSlot.{coming_place}
 use Rattle.safety_laws.proofs.Deliveries.{delivers-correct}
 use Rattle.safety_laws.proofs.NodeSlots.{entry_of-made}
 use Rattle.safety_laws.proofs.OneSender.{comes-alone}
@@ -34,15 +25,9 @@ use Rattle.safety_laws.proofs.Arrivals.{sound-alone, sound-owner}
 use Rattle.safety_laws.proofs.Receivers.{sound-judge, judges-good}
 use Rattle.safety_laws.proofs.PlanTurns.{slot_of, slot_number, good_plan, IsSoundOwner, MaySend, sound-sends}
 use Rattle.safety_laws.proofs.WorldSteps.{stayed-before, own-sent, notes-other, sender-before}
-use Rattle.std.proofs.Math.ListN.{get_or-map}
-use Rattle.std.proofs.lemmas.List.FromFn.{get_or-map-range_with_len}
-use Rattle.ttp_world.specs.declared.node.Chosen.{Chosen}
 use Rattle.ttp_world.specs.Fitting.{payload_in}
-use Rattle.ttp_world.specs.Frame.{frame}
-use Rattle.ttp_world.specs.Medl.{member_width}
-use Rattle.ttp_world.specs.Outgoing.{nothing_chosen, message_chosen}
 use Rattle.ttp_frame.proofs.Undisturbed.{payload_in-frame}
-use Rattle.safety_laws.specs.SameFrames.{payload_of_number, message_given}
+use Rattle.safety_laws.specs.SameFrames.{payload_of_number}
 use Rattle.safety_laws.proofs.OwnSlots.{act_made-sends, sent-own}
 use Rattle.safety_laws.proofs.Payloads.{HasPayload-world}
 

@@ -1,21 +1,15 @@
 -- What an active node delivers of a frame that it judged correct.
-use Rattle.std.proofs.Common.{◌≡◌, ℕ, ℤ, false, cond, List, Some, None, refl, ap, sym, ◌∙◌}
-use Rattle.std.specs.Prelude.{IsTrue}
-use Rattle.ttp_world.specs.declared.medl.Medl.{Medl}
-use Rattle.ttp_world.specs.declared.node.Ack.{Ack}
+use Rattle.safety_laws.proofs.Words.{◌≡◌, ℕ, ℤ, false, cond, List, Some, None, refl, ap, sym, ◌∙◌, IsTrue, Medl, Ack}
+use Rattle.safety_laws.proofs.Words.{ChannelView, carries_payload, verdict_entry, payload_taken, delivery, SentFrame}
+use Rattle.safety_laws.proofs.Words.{Signal, Silence, Noise, Bits, Expected, Hearing, expected_of, view_of_bits}
+use Rattle.safety_laws.proofs.Words.{view_of, verdict_of_view, payload_of_frame, delivery_at, is_frameless, HearsFrame}
+use Rattle.safety_laws.proofs.Words.{OnBoth, OnA, OnB, NodeSlot, entry_made, owner_of, IsJudging}
 use Rattle.ttp_world.specs.declared.node.Ack.TheVariants as ack
-use Rattle.ttp_world.specs.declared.node.ChannelView.{ChannelView}
 use Rattle.ttp_world.specs.declared.node.ChannelView.TheVariants as view
 use Rattle.ttp_world.specs.declared.node.Entry.TheVariants as entry
 use Rattle.ttp_world.specs.declared.node.Verdict.TheVariants as verdict
-use Rattle.ttp_world.specs.Conduct.{carries_payload, verdict_entry, payload_taken, delivery}
-use Rattle.ttp_world.specs.Medium.{SentFrame, Signal, Silence, Noise, Bits}
-use Rattle.ttp_world.specs.Reception.{Expected, Hearing, expected_of, view_of_bits}
-use Rattle.ttp_world.specs.Reception.{view_of, verdict_of_view, payload_heard, is_first_view}
-use Rattle.safety_laws.specs.Deliveries.{payload_of_frame, delivery_at}
-use Rattle.safety_laws.specs.Heard.{is_frameless, HearsFrame, OnBoth, OnA, OnB}
-use Rattle.safety_laws.specs.NodeSlot.{NodeSlot, entry_made, coming_place, owner_of}
-use Rattle.safety_laws.specs.Turns.{IsJudging}
+use Rattle.ttp_world.specs.Reception.{payload_heard, is_first_view}
+use Rattle.safety_laws.specs.NodeSlot.{coming_place}
 use Rattle.safety_laws.proofs.Judging.{judging_entry-frame}
 use Rattle.safety_laws.proofs.Verdicts.{entry_made-judging}
 

@@ -1,18 +1,9 @@
 -- The list of the worked slots is valid, and what its nodes are and hear in a slot, by what was worked out.
-use Rattle.std.proofs.Common.{◌≡◌, ◌≢◌, ℕ, ◌<◌, List, length, refl, sym, subst, arith}
-use Rattle.std.specs.Prelude.{IsTrue}
-use Rattle.std.proofs.lemmas.Int.{ints}
+use Rattle.safety_laws.proofs.Words.{◌≡◌, ◌≢◌, ℕ, ◌<◌, List, length, refl, sym, subst, arith, IsTrue, ints, Script}
+use Rattle.safety_laws.proofs.Words.{Bits, IsValid, AreNodes, expected_length, is_within_window, OnBoth, owner_of}
+use Rattle.safety_laws.proofs.Words.{slot_frame, IsAboutListed, IsJudging, HearsMembers, IsAtOwnSlot, four_nodes, at}
 use Rattle.ttp_world.specs.declared.node.Phase.TheVariants as phase
-use Rattle.ttp_world.specs.declared.script.Script.{Script}
-use Rattle.ttp_world.specs.Medium.{Bits}
-use Rattle.ttp_world.specs.Medl.{IsValid}
-use Rattle.ttp_world.specs.Membership.{AreNodes}
-use Rattle.ttp_world.specs.Reception.{expected_length, is_within_window}
-use Rattle.safety_laws.specs.Heard.{OnBoth}
-use Rattle.safety_laws.specs.NodeSlot.{coming_place, owner_of}
-use Rattle.safety_laws.specs.SlotFrames.{slot_frame}
-use Rattle.safety_laws.specs.Turns.{IsAboutListed, IsJudging, HearsMembers, IsAtOwnSlot}
-use Rattle.safety_laws.specs.WorkedSlots.{four_nodes, at}
+use Rattle.safety_laws.specs.NodeSlot.{coming_place}
 
 pub four_nodes-valid : IsValid four_nodes
 four_nodes-valid = record {

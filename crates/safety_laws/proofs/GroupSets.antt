@@ -1,22 +1,12 @@
 -- Sets of a list's nodes: putting in and taking out gives such sets, and their members tell them apart.
-use Rattle.std.proofs.Common.{◌≡◌, ◌≢◌, ℕ, ◌<◌, Bool, true, false, not, ◌&&◌, ◌||◌, List, length, refl, ap, sym, ◌∙◌}
-use Rattle.std.proofs.Common.{inl, inr, arith, subst}
-use Rattle.std.specs.Prelude.{◌==◌}
-use Rattle.std.proofs.lemmas.Bool.{cases_eq, eq-eqb, ne_eqb, false≢true}
-use Rattle.std.proofs.Math.Bool.{or-true}
-use Rattle.ttp_base.specs.NodeSet.{most_nodes, has_node, with_node, without_node}
+use Rattle.safety_laws.proofs.Words.{◌≡◌, ◌≢◌, ℕ, ◌<◌, Bool, true, false, not, ◌&&◌, ◌||◌, List, length, refl, ap, sym}
+use Rattle.safety_laws.proofs.Words.{◌∙◌, inl, inr, arith, subst, ◌==◌, cases_eq, eq-eqb, ne_eqb, false≢true, or-true}
+use Rattle.safety_laws.proofs.Words.{most_nodes, has_node, with_node, without_node, Medl, IsValid, AreNodes, nodes-most}
+use Rattle.safety_laws.proofs.Words.{Ack, candidates, AreCandidates, IsAboutListed, AreNodes-filter}
 use Rattle.ttp_base.proofs.NodeSets.{has_node-with, has_node-without, same_sieve}
-use Rattle.ttp_world.specs.declared.medl.Medl.{Medl}
-use Rattle.ttp_world.specs.Medl.{IsValid}
-use Rattle.ttp_world.specs.Membership.{AreNodes}
-use Rattle.ttp_world.proofs.Lists.{nodes-most}
 use Rattle.ttp_base.proofs.NodeLists.{with_node-filter, without_node-filter}
-use Rattle.ttp_world.specs.declared.node.Ack.{Ack}
 use Rattle.ttp_world.specs.declared.node.Ack.TheVariants as ack
-use Rattle.ttp_world.specs.Reception.{candidates, candidate_sets}
-use Rattle.safety_laws.specs.SlotFrames.{AreCandidates}
-use Rattle.safety_laws.specs.Turns.{IsAboutListed}
-use Rattle.ttp_world.proofs.WorldFacts.{AreNodes-filter}
+use Rattle.ttp_world.specs.Reception.{candidate_sets}
 
 pub AreNodes-with : (list : Medl) (members : List ℕ) (k : ℕ) → IsValid list → AreNodes list members
     → k < length list.slots → AreNodes list (with_node members k)

@@ -1,29 +1,15 @@
 -- A node that holds a group goes on doing so, with the slot's owner put in or taken out.
-use Rattle.std.proofs.Common.{◌≡◌, ◌≢◌, ℕ, ◌<◌, ℤ, Bool, true, false, List, length, Option, Some, refl, ap, sym, ◌∙◌}
-use Rattle.std.proofs.Common.{◌⊎◌, inl, inr, subst, arith}
-use Rattle.std.specs.Prelude.{IsTrue}
-use Rattle.std.specs.Str.{bytes_eq}
-use Rattle.std.proofs.lemmas.Bool.{false≢true}
-use Rattle.std.proofs.lemmas.Option.{same_Some}
-use Rattle.std.proofs.lemmas.Slice.Eq.{bytes_eq-Decides}
-use Rattle.ttp_base.specs.NodeSet.{most_nodes, has_node, with_node, without_node}
-use Rattle.ttp_world.specs.declared.node.Ack.{Ack}
+use Rattle.safety_laws.proofs.Words.{◌≡◌, ◌≢◌, ℕ, ◌<◌, ℤ, Bool, true, false, List, length, Option, Some, refl, ap, sym}
+use Rattle.safety_laws.proofs.Words.{◌∙◌, ◌⊎◌, inl, inr, subst, arith, IsTrue, bytes_eq, false≢true, same_Some}
+use Rattle.safety_laws.proofs.Words.{bytes_eq-Decides, most_nodes, has_node, with_node, without_node, Ack, Verdict}
+use Rattle.safety_laws.proofs.Words.{is_open, settled_members, judged_members, ack_answered, AreNodes, is_accepted}
+use Rattle.safety_laws.proofs.Words.{IsValid, Medl, NodePast, Candidates, candidates, nodes-most, held_with, IsNotAbout}
+use Rattle.safety_laws.proofs.Words.{HoldsGroup, NodeSlot, next_past, owner_of, candidates_of, StandsBy, IsJudgedAs}
+use Rattle.safety_laws.proofs.Words.{sent_standing, IsAboutListed, IsJudging, HearsMembers, IsAtOwnSlot}
 use Rattle.ttp_world.specs.declared.node.Ack.TheVariants as ack
 use Rattle.ttp_world.specs.declared.node.Entry.TheVariants as entry
-use Rattle.ttp_world.specs.declared.node.Verdict.{Verdict}
 use Rattle.ttp_world.specs.declared.node.Verdict.TheVariants as verdict
-use Rattle.ttp_world.specs.Acknowledgement.{is_open}
-use Rattle.ttp_world.specs.After.{settled_members, judged_members, ack_answered}
-use Rattle.ttp_world.specs.Membership.{AreNodes, is_accepted}
-use Rattle.ttp_world.specs.Medl.{IsValid}
-use Rattle.ttp_world.specs.declared.medl.Medl.{Medl}
-use Rattle.ttp_world.specs.Past.{NodePast}
-use Rattle.ttp_world.specs.Reception.{Candidates, candidates}
-use Rattle.ttp_world.proofs.Lists.{nodes-most}
-use Rattle.safety_laws.specs.Groups.{held_with, IsAboutOther, IsNotAbout, HoldsGroup}
-use Rattle.safety_laws.specs.NodeSlot.{NodeSlot, next_past, owner_of, candidates_of}
-use Rattle.safety_laws.specs.Standing.{StandsBy, IsJudgedAs, sent_standing}
-use Rattle.safety_laws.specs.Turns.{IsAboutListed, IsJudging, HearsMembers, IsAtOwnSlot}
+use Rattle.safety_laws.specs.Groups.{IsAboutOther}
 use Rattle.safety_laws.proofs.GroupSets.{has_node-with_other, has_node-without_other, has_node-with_member}
 use Rattle.safety_laws.proofs.GroupSets.{has_node-without_none, with-member, without-with, with-without}
 use Rattle.safety_laws.proofs.GroupSets.{without-with_other, with-with, AreNodes-with, AreNodes-without}

@@ -1,19 +1,16 @@
 -- What a node hears of one frame, and of none, by the faults of its sender and its own.
-use Rattle.std.proofs.Common.{◌≡◌, ℕ, Bool, true, false, cond, not, ◌&&◌, ◌||◌, List, [], ◌∷◌, refl, ap, sym, ◌∙◌}
-use Rattle.std.specs.Prelude.{IsTrue}
-use Rattle.std.proofs.lemmas.Bool.{and_parts, false≢true}
+use Rattle.safety_laws.proofs.Words.{◌≡◌, ℕ, Bool, true, false, cond, not, ◌&&◌, ◌||◌, List, [], ◌∷◌, refl, ap, sym}
+use Rattle.safety_laws.proofs.Words.{◌∙◌, IsTrue, and_parts, false≢true, Script, loses, SentFrame, Signal, Silence}
+use Rattle.safety_laws.proofs.Words.{Noise, Bits, Hearing, flipped_bits, BegunSlot, hearing_in, is_frameless}
+use Rattle.safety_laws.proofs.Words.{HearsFrame, OnBoth, OnA, OnB, HearsNoFrame, HearsSilence}
 use Rattle.ttp_world.specs.declared.script.Channel.{Channel}
 use Rattle.ttp_world.specs.declared.script.Channel.TheVariants as channel
 use Rattle.ttp_world.specs.declared.script.Fault.TheVariants as fault
-use Rattle.ttp_world.specs.declared.script.Script.{Script}
-use Rattle.ttp_world.specs.Hypothesis.{is_covered, loses}
-use Rattle.ttp_world.specs.Medium.{SentFrame, Signal, Silence, Noise, Bits, combined_signal, signal_of, with_noise}
+use Rattle.ttp_world.specs.Hypothesis.{is_covered}
+use Rattle.ttp_world.specs.Medium.{combined_signal, signal_of, with_noise}
 use Rattle.ttp_world.specs.Medium.{flip_bits, heard}
-use Rattle.ttp_world.specs.Reception.{Hearing}
-use Rattle.ttp_world.specs.Script.{has_send_fault, has_receive_fault, flipped_bits}
-use Rattle.ttp_world.specs.World.{BegunSlot, hearing_in}
-use Rattle.safety_laws.specs.Heard.{is_frameless, IsUnflipped, signal_as_sent, HearsFrame, OnBoth, OnA, OnB}
-use Rattle.safety_laws.specs.Heard.{HearsNoFrame, HearsSilence}
+use Rattle.ttp_world.specs.Script.{has_send_fault, has_receive_fault}
+use Rattle.safety_laws.specs.Heard.{IsUnflipped, signal_as_sent}
 
 -- One channel.
 

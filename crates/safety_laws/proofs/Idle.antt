@@ -1,14 +1,8 @@
 -- Nodes that send nothing: one that judges, one that is off, and one that has left.
-use Rattle.std.proofs.Common.{◌≡◌, false, cond, [], ap, ◌∙◌}
-use Rattle.ttp_world.specs.declared.node.Act.{Act}
-use Rattle.ttp_world.specs.declared.node.Act.TheVariants.{Off, Gone, Listen}
-use Rattle.ttp_world.specs.declared.node.Phase.{Phase}
+use Rattle.safety_laws.proofs.Words.{◌≡◌, false, cond, [], ap, ◌∙◌, Act, Off, Gone, Listen, Phase, phase_act}
+use Rattle.safety_laws.proofs.Words.{node_frames, new_entry, phase_after, NodeSlot, act_made, frames_made, next_past}
+use Rattle.safety_laws.proofs.Words.{IsJudging}
 use Rattle.ttp_world.specs.declared.node.Phase.TheVariants as phase
-use Rattle.ttp_world.specs.Act.{phase_act}
-use Rattle.ttp_world.specs.Conduct.{node_frames, new_entry}
-use Rattle.ttp_world.specs.Diary.{phase_after}
-use Rattle.safety_laws.specs.NodeSlot.{NodeSlot, act_made, frames_made, next_past}
-use Rattle.safety_laws.specs.Turns.{IsJudging}
 use Rattle.safety_laws.proofs.Verdicts.{act-judging}
 
 pub frames_made-judging : (x : NodeSlot) → IsJudging x → frames_made x ≡ []

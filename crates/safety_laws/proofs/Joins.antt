@@ -1,32 +1,24 @@
 -- On which frames a listening node joins, and what it makes of what it hears.
-use Rattle.std.proofs.Common.{◌≡◌, ℕ, ◌<◌, Bool, true, false, cond, not, ◌&&◌, ◌||◌, List, [], ◌∷◌, length, Option}
-use Rattle.std.proofs.Common.{Some, None, refl, ap, sym, ◌∙◌, subst, unwrap_or, arith, ℤ}
-use Rattle.std.specs.Prelude.{IsTrue, nat_lt, ◌==◌, filter}
-use Rattle.std.specs.List.{list_all, AllByRecursion}
+use Rattle.safety_laws.proofs.Words.{◌≡◌, ℕ, ◌<◌, Bool, true, false, cond, not, ◌&&◌, ◌||◌, List, [], ◌∷◌, length}
+use Rattle.safety_laws.proofs.Words.{Option, Some, None, refl, ap, sym, ◌∙◌, subst, unwrap_or, arith, ℤ, IsTrue, nat_lt}
+use Rattle.safety_laws.proofs.Words.{◌==◌, list_all, AllByRecursion, or-true, and_from, eq-eqb, eqb-true, lt-ltb, below}
+use Rattle.safety_laws.proofs.Words.{has_node, with_node-nil, Medl, CState, Entry, cold_start_cstate, cold_start_frame}
+use Rattle.safety_laws.proofs.Words.{listening_entry, Place, start_place, time_limit, cstate_at, cold_start_header}
+use Rattle.safety_laws.proofs.Words.{is_explicit, frame, SentFrame, Signal, Silence, Noise, Bits, is_wide, member_width}
+use Rattle.safety_laws.proofs.Words.{may_start, IsValid, AreNodes, Hearing, expected_header, nodes-most}
+use Rattle.safety_laws.proofs.Words.{HavePlaces-AreNodes, is_formed-frame, is_frameless, HearsFrame, OnBoth, OnA, OnB}
+use Rattle.safety_laws.proofs.Words.{HearsNoFrame, IsSlotFrame}
+use Rattle.std.specs.Prelude.{filter}
 use Rattle.std.specs.Option.{option_or}
-use Rattle.std.proofs.Math.Bool.{or-true}
-use Rattle.std.proofs.lemmas.Bool.{and_from, eq-eqb, eqb-true, lt-ltb}
-use Rattle.ttp_base.specs.NodeSet.{below, has_node}
-use Rattle.ttp_base.proofs.NodeLists.{with_node-nil, filter-none}
-use Rattle.ttp_world.specs.declared.medl.Medl.{Medl}
-use Rattle.ttp_world.specs.declared.node.CState.{CState}
-use Rattle.ttp_world.specs.declared.node.Entry.{Entry}
+use Rattle.ttp_base.proofs.NodeLists.{filter-none}
 use Rattle.ttp_world.specs.declared.node.Entry.TheVariants as entry
-use Rattle.ttp_world.specs.Conduct.{cold_start_cstate, cold_start_frame, join_entry, channel_join, listening_entry}
-use Rattle.ttp_world.specs.Diary.{Place, start_place, time_limit, cstate_at}
+use Rattle.ttp_world.specs.Conduct.{join_entry, channel_join}
 use Rattle.ttp_world.specs.Fitting.{header_in, carried, is_joinable_state, is_cold_start, is_listed_explicit}
 use Rattle.ttp_world.specs.Fitting.{joinable_cstate, joinable}
-use Rattle.ttp_world.specs.Frame.{cold_start_header, is_explicit, frame}
-use Rattle.ttp_world.specs.Medium.{SentFrame, Signal, Silence, Noise, Bits}
-use Rattle.ttp_world.specs.Medl.{is_wide, member_width, may_start, IsValid}
-use Rattle.ttp_world.specs.Membership.{AreNodes}
-use Rattle.ttp_world.specs.Reception.{Hearing, expected_header}
 use Rattle.ttp_world.proofs.Filters.{each-sieve}
-use Rattle.ttp_world.proofs.Lists.{nodes-most, IsPlaceOf}
+use Rattle.ttp_world.proofs.Lists.{IsPlaceOf}
 use Rattle.ttp_frame.proofs.FlippedFrames.{joinable-implicit}
-use Rattle.ttp_frame.proofs.Undisturbed.{FitsBytes, HavePlaces-AreNodes, carried-frame, is_formed-frame}
-use Rattle.safety_laws.specs.Heard.{is_frameless, HearsFrame, OnBoth, OnA, OnB, HearsNoFrame}
-use Rattle.safety_laws.specs.SlotFrames.{IsSlotFrame}
+use Rattle.ttp_frame.proofs.Undisturbed.{FitsBytes, carried-frame}
 use Rattle.safety_laws.proofs.GroupSets.{AreNodes-with}
 use Rattle.safety_laws.proofs.Views.{is_expected_form-own}
 

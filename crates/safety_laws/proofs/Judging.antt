@@ -1,23 +1,16 @@
 -- How an active node judges a slot in which one frame comes to it, or none.
-use Rattle.std.proofs.Common.{◌≡◌, ℕ, ℤ, pos, Bool, true, false, cond, ◌&&◌, List, Some, refl, ap, ◌∙◌}
-use Rattle.std.proofs.Common.{◌⊎◌, inl, inr}
-use Rattle.std.specs.Prelude.{IsTrue}
-use Rattle.std.proofs.lemmas.Bool.{cond_both}
-use Rattle.ttp_world.specs.declared.medl.Medl.{Medl}
-use Rattle.ttp_world.specs.declared.node.Ack.{Ack}
-use Rattle.ttp_world.specs.declared.node.ChannelView.{ChannelView}
+use Rattle.safety_laws.proofs.Words.{◌≡◌, ℕ, ℤ, pos, Bool, true, false, cond, ◌&&◌, List, Some, refl, ap, ◌∙◌, ◌⊎◌, inl}
+use Rattle.safety_laws.proofs.Words.{inr, IsTrue, cond_both, Medl, Ack, ChannelView, Entry, verdict_entry}
+use Rattle.safety_laws.proofs.Words.{judging_entry, SentFrame, Signal, Silence, Noise, Bits, NodePast, Hearing}
+use Rattle.safety_laws.proofs.Words.{Expected, expected_of, is_within_window, is_expected_form, fits_members}
+use Rattle.safety_laws.proofs.Words.{fits_second, view_of_bits, view_of, verdict_of_view, is_frameless, HearsFrame}
+use Rattle.safety_laws.proofs.Words.{OnBoth, OnA, OnB, HearsNoFrame, HearsSilence}
 use Rattle.ttp_world.specs.declared.node.ChannelView.TheVariants as view
-use Rattle.ttp_world.specs.declared.node.Entry.{Entry}
 use Rattle.ttp_world.specs.declared.node.Entry.TheVariants as entry
 use Rattle.ttp_world.specs.declared.node.Verdict.TheVariants as verdict
 use Rattle.ttp_world.specs.Act.{coming_place}
-use Rattle.ttp_world.specs.Conduct.{verdict_entry, judging_entry}
-use Rattle.ttp_world.specs.Medium.{SentFrame, Signal, Silence, Noise, Bits}
-use Rattle.ttp_world.specs.Past.{NodePast}
-use Rattle.ttp_world.specs.Reception.{Hearing, Expected, expected_of, is_within_window, is_expected_form, fits_members}
-use Rattle.ttp_world.specs.Reception.{fits_second, view_of_bits, view_of, better_view, verdict_of, verdict_of_view}
+use Rattle.ttp_world.specs.Reception.{better_view, verdict_of}
 use Rattle.ttp_world.specs.Reception.{is_taken_from_a, heard_deviation, entry_deviation}
-use Rattle.safety_laws.specs.Heard.{is_frameless, HearsFrame, OnBoth, OnA, OnB, HearsNoFrame, HearsSilence}
 
 -- Views.
 

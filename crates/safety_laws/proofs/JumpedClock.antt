@@ -1,32 +1,17 @@
 -- What the fate of a node tells whose clock has jumped.
-use Rattle.std.proofs.Common.{◌≡◌, ℕ, zero, suc, ◌+◌, ◌<◌, ◌≤◌, ℤ, pos, ◌+ℤ◌, ◌-ℤ◌, ◌*ℤ◌, ◌≤ℤ◌, true, cond, inl, inr}
-use Rattle.std.proofs.Common.{List, [], ◌∷◌, length, refl, ap, sym, subst, ◌∙◌, arith, ◌≢◌, Bool, false, Option, Some}
-use Rattle.std.proofs.Common.{None, mod-lt}
-use Rattle.std.specs.Prelude.{◌==◌}
-use Rattle.std.proofs.lemmas.Bool.{cases_lt, ne_eqb}
-use Rattle.std.proofs.lemmas.Int.{ints}
-use Rattle.std.proofs.lemmas.List.Elements.{All-nil}
-use Rattle.ttp_world.specs.declared.medl.Medl.{Medl}
-use Rattle.ttp_world.specs.declared.node.Entry.{Entry}
-use Rattle.ttp_world.specs.declared.script.Script.{Script}
-use Rattle.ttp_world.specs.Clock.{notes_in}
-use Rattle.ttp_world.specs.Diary.{History, entry_of, diary_of, continues_stint, next_place, stint_place}
-use Rattle.ttp_world.specs.Hypothesis.{ClusterStart, needed, drift_share}
-use Rattle.ttp_world.specs.Medl.{IsValid}
-use Rattle.ttp_world.specs.Script.{drift_of, jump_of}
-use Rattle.precision.specs.Spread.{spread}
-use Rattle.precision.specs.Together.{clock_at}
-use Rattle.precision.proofs.Averages.{IsUpTo, AreNear}
-use Rattle.precision.proofs.ClockBounds.{drift_within}
-use Rattle.precision.proofs.Entries.{place_continued, clock_at-still}
-use Rattle.precision.proofs.Rounds.{drift_in, correction, product_up}
-use Rattle.precision.proofs.Runs.{clock_after, round_notes}
-use Rattle.fault_plan.specs.Plan.{Jumping, Plan, sender, Change, Incident, incident_at, is_armed_by, enters}
-use Rattle.fault_plan.specs.Fates.{Falling, fate_of, is_sound_after, Fate, Sound, Fallen, Listening, armed_in}
-use Rattle.fault_plan.specs.Fates.{entered_in, struck, changed, turned}
-use Rattle.fault_plan.specs.Kept.{FollowsWithin}
-use Rattle.fault_plan.specs.Places.{planned_place}
-use Rattle.safety_laws.specs.NotedByPlan.{IsSoundIn, NotesNothing, GoesOnByPlan, IsTight}
+use Rattle.safety_laws.proofs.Words.{◌≡◌, ℕ, zero, suc, ◌+◌, ◌<◌, ◌≤◌, ℤ, pos, ◌+ℤ◌, ◌-ℤ◌, ◌*ℤ◌, ◌≤ℤ◌, true, cond, inl}
+use Rattle.safety_laws.proofs.Words.{inr, List, [], ◌∷◌, length, refl, ap, sym, subst, ◌∙◌, arith, ◌≢◌, Bool, false}
+use Rattle.safety_laws.proofs.Words.{Option, Some, None, mod-lt, ◌==◌, cases_lt, ne_eqb, ints, All-nil, Medl, Entry}
+use Rattle.safety_laws.proofs.Words.{Script, notes_in, History, entry_of, diary_of, continues_stint, next_place}
+use Rattle.safety_laws.proofs.Words.{stint_place, ClusterStart, needed, drift_share, IsValid, drift_of, jump_of, spread}
+use Rattle.safety_laws.proofs.Words.{clock_at, IsUpTo, AreNear, drift_within, place_continued, clock_at-still, drift_in}
+use Rattle.safety_laws.proofs.Words.{correction, product_up, clock_after, round_notes, Jumping, Plan, sender, Change}
+use Rattle.safety_laws.proofs.Words.{Incident, incident_at, is_armed_by, enters, Falling, fate_of, is_sound_after, Fate}
+use Rattle.safety_laws.proofs.Words.{Sound, Fallen, Listening, struck, turned, FollowsWithin, planned_place, IsSoundIn}
+use Rattle.safety_laws.proofs.Words.{NotesNothing, GoesOnByPlan, IsTight, IsGoodPlan, IsLossOf, IsTold, fate-told}
+use Rattle.safety_laws.proofs.Words.{entry-is, HasJumped}
+use Rattle.fault_plan.specs.Fates.{armed_in}
+use Rattle.fault_plan.specs.Fates.{entered_in, changed}
 use Rattle.safety_laws.proofs.Apart.{noted_width, Apart, Fresh, Before, apart-next, same-near}
 use Rattle.safety_laws.proofs.Bounds.{tight-clocks}
 use Rattle.safety_laws.proofs.NearNotes.{clock_moved, clock-next, notes-next, NextSlot, index-of, near-new, sound-moved}
@@ -35,11 +20,6 @@ use Rattle.safety_laws.proofs.RoundKnown.{NotesKnown, notes-known, sound-clock}
 use Rattle.safety_laws.proofs.RoundNotes.{none-silent, goes-silent, sender-in, place-slot, sound-goes, sound-back}
 use Rattle.safety_laws.proofs.RoundNotes.{tight-stays, tight-back}
 use Rattle.safety_laws.proofs.BeganTogether.{number-of, counted-run}
-use Rattle.fault_plan.specs.GoodPlan.{IsGoodPlan}
-use Rattle.fault_plan.specs.Told.{IsLossOf, IsTold}
-use Rattle.fault_plan.proofs.FateTells.{fate-told}
-use Rattle.fault_plan.proofs.Returns.{entry-is}
-use Rattle.safety_laws.specs.Jumps.{HasJumped}
 
 -- The slot before.
 

@@ -1,30 +1,12 @@
 -- A script that keeps the single-fault hypothesis, by its plan.
-use Rattle.std.proofs.Common.{◌≡◌, ℕ, suc, ◌+◌, ◌-◌, ◌<◌, ◌≤◌, ◌≤ℤ◌, ◌-ℤ◌, true, length, refl, ap, sym, subst, ◌∙◌}
-use Rattle.std.proofs.Common.{neg_ℤ, arith}
-use Rattle.std.proofs.lemmas.Bool.{false≢true}
+use Rattle.safety_laws.proofs.Words.{◌≡◌, ℕ, suc, ◌+◌, ◌-◌, ◌<◌, ◌≤◌, ◌≤ℤ◌, ◌-ℤ◌, true, length, refl, ap, sym, subst}
+use Rattle.safety_laws.proofs.Words.{◌∙◌, neg_ℤ, arith, false≢true, Medl, Script, diary_of, place_of, needed}
+use Rattle.safety_laws.proofs.Words.{is_correct_after, IsLegal, IsValid, newest_slot, IsSafe, IsValidScript, Numbers}
+use Rattle.safety_laws.proofs.Words.{node_past, world, length-world, spread, IsIn, clock_at, measured, is_sound_after}
+use Rattle.safety_laws.proofs.Words.{KeepsByPlan, Plan, plan_of, kept-plan, IsSoundIn, GoesOnByPlan, IsTight, IsSoundAt}
+use Rattle.safety_laws.proofs.Words.{FaultyLeave, IsBegun, StandsAfter, IsByPlan, AcceptsAlikeSince, StandsAlikeSince}
 use Rattle.ttp_world.specs.declared.keep.Keep.TheVariants as keep
-use Rattle.ttp_world.specs.declared.medl.Medl.{Medl}
-use Rattle.ttp_world.specs.declared.script.Script.{Script}
-use Rattle.ttp_world.specs.Diary.{diary_of, place_of}
-use Rattle.ttp_world.specs.Hypothesis.{keeps, needed, is_correct_after}
-use Rattle.ttp_world.specs.Legal.{IsLegal}
-use Rattle.ttp_world.specs.Medl.{IsValid}
-use Rattle.ttp_world.specs.Safety.{newest_slot, IsSafe}
-use Rattle.ttp_world.specs.Script.{IsValidScript}
-use Rattle.ttp_world.specs.World.{Numbers, node_past, world}
-use Rattle.ttp_world.proofs.Worlds.{length-world}
-use Rattle.precision.specs.Spread.{spread}
-use Rattle.precision.specs.Together.{IsIn, clock_at, measured}
-use Rattle.fault_plan.specs.Fates.{is_sound_after}
-use Rattle.fault_plan.specs.Kept.{KeepsByPlan}
-use Rattle.fault_plan.specs.Plan.{Plan, plan_of}
-use Rattle.fault_plan.proofs.KeptPlan.{kept-plan}
-use Rattle.safety_laws.specs.NotedByPlan.{IsSoundIn, GoesOnByPlan, IsTight}
-use Rattle.safety_laws.specs.ByFate.{IsSoundAt}
-use Rattle.safety_laws.specs.Gone.{FaultyLeave}
-use Rattle.safety_laws.specs.PlannedRun.{IsBegun, StandsAfter}
-use Rattle.safety_laws.specs.ByPlan.{IsByPlan}
-use Rattle.safety_laws.specs.SameFrames.{AcceptsAlikeSince, StandsAlikeSince}
+use Rattle.ttp_world.specs.Hypothesis.{keeps}
 use Rattle.safety_laws.proofs.Bounds.{tight-clocks, tight-deviations}
 use Rattle.safety_laws.proofs.SafeByFate.{safe-after, faulty-leave, correct-sound as correct-at}
 use Rattle.safety_laws.proofs.Accepted.{alike-run, stands-run}

@@ -45,3 +45,4 @@ pub mod Together
 pub mod Delivered
 pub mod Accepted
 pub mod Kept
+pub mod Words

@@ -1,24 +1,17 @@
 -- A node that listens in a turn: it does not start, and what a slot in which it does not join makes of it.
-use Rattle.std.proofs.Common.{◌≡◌, ℕ, suc, ◌+◌, ◌-◌, ◌*◌, ◌<◌, ◌≤◌, Bool, true, false, cond, length, ap, sym, ◌∙◌, inl}
-use Rattle.std.proofs.Common.{inr, arith, ◌≢◌, zero, Some, None, refl, subst, ◌⊎◌}
-use Rattle.std.proofs.lemmas.Bool.{cases_lt, both_ways, and_parts}
+use Rattle.safety_laws.proofs.Words.{◌≡◌, ℕ, suc, ◌+◌, ◌-◌, ◌*◌, ◌<◌, ◌≤◌, Bool, true, false, cond, length, ap, sym}
+use Rattle.safety_laws.proofs.Words.{◌∙◌, inl, inr, arith, ◌≢◌, zero, Some, None, refl, subst, ◌⊎◌, cases_lt, both_ways}
+use Rattle.safety_laws.proofs.Words.{and_parts, Plan, Change, Return, sender, incident_at, is_armed_by, enters}
+use Rattle.safety_laws.proofs.Words.{is_good_slot, Fate, Absent, Sound, Falling, Fallen, Listening, fate_of, is_lost}
+use Rattle.safety_laws.proofs.Words.{lost_since, may_stay, tally, is_measured, IsListening, NodeSlot, next_past}
+use Rattle.safety_laws.proofs.Words.{HasWaited, IsListeningAt, has_node, IsGoodPlan, IsLossOf, IsTold, four-measured}
+use Rattle.safety_laws.proofs.Words.{next-entered, fate-told, enters-by}
 use Rattle.ttp_world.specs.declared.node.Phase.TheVariants as phase
-use Rattle.fault_plan.specs.Plan.{Plan, Change, Return, sender, incident_at, is_armed_by, enters}
-use Rattle.fault_plan.specs.Fates.{is_good_slot, Fate, Absent, Sound, Falling, Fallen, Listening, fate_of, is_lost}
-use Rattle.fault_plan.specs.Fates.{lost_since, may_stay, tally, is_measured}
-use Rattle.safety_laws.specs.Listening.{IsListening}
-use Rattle.safety_laws.specs.NodeSlot.{NodeSlot, next_past}
-use Rattle.safety_laws.specs.Standing.{HasWaited}
-use Rattle.safety_laws.specs.ByFate.{IsListeningAt}
 use Rattle.safety_laws.proofs.Listening.{listens-armed, listens-early}
 use Rattle.std.specs.List.{Contains}
-use Rattle.ttp_base.specs.NodeSet.{has_node}
-use Rattle.fault_plan.specs.GoodPlan.{IsGoodPlan}
-use Rattle.fault_plan.specs.Told.{IsLossOf, IsListening as IsListeningTold, IsTold}
-use Rattle.fault_plan.proofs.Counts.{four-measured}
-use Rattle.fault_plan.proofs.FateSteps.{next-entered}
-use Rattle.fault_plan.proofs.FateTells.{fate-told, over}
-use Rattle.fault_plan.proofs.Returns.{armed-is, enters-by, quiet-within, listens-until}
+use Rattle.fault_plan.specs.Told.{IsListening as IsListeningTold}
+use Rattle.fault_plan.proofs.FateTells.{over}
+use Rattle.fault_plan.proofs.Returns.{armed-is, quiet-within, listens-until}
 
 -- it listens in the turn after some, and was armed in it or before: how many silent slots it counted by then
 pub record ListensSince (plan : Plan) (turn since : ℕ) (x : NodeSlot) : Type 0 where

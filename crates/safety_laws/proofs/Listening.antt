@@ -1,35 +1,19 @@
 -- A listening node in a slot: it waits, or joins, and sends nothing.
-use Rattle.std.proofs.Common.{◌≡◌, ℕ, ◌+◌, ◌*◌, ◌<◌, true, false, cond, ◌&&◌, ◌||◌, List, [], ◌∷◌, ◌++◌}
-use Rattle.std.proofs.Common.{length, refl, ap, sym, ◌∙◌, subst, ℤ}
-use Rattle.std.specs.Prelude.{◌==◌}
-use Rattle.std.proofs.Math.Bool.{or-true}
-use Rattle.std.proofs.lemmas.Bool.{and_right, lt-leb}
-use Rattle.std.proofs.lemmas.List.{append-nil}
-use Rattle.ttp_world.specs.declared.medl.Medl.{Medl}
-use Rattle.ttp_world.specs.declared.node.Act.{Act}
-use Rattle.ttp_world.specs.declared.node.Act.TheVariants.{Gone, Listen, Start}
-use Rattle.ttp_world.specs.declared.node.Chosen.{Chosen}
-use Rattle.ttp_world.specs.declared.node.Entry.{Entry}
+use Rattle.safety_laws.proofs.Words.{◌≡◌, ℕ, ◌+◌, ◌*◌, ◌<◌, true, false, cond, ◌&&◌, ◌||◌, List, [], ◌∷◌, ◌++◌, length}
+use Rattle.safety_laws.proofs.Words.{refl, ap, sym, ◌∙◌, subst, ℤ, ◌==◌, or-true, and_right, lt-leb, append-nil, Medl}
+use Rattle.safety_laws.proofs.Words.{Act, Gone, Listen, Start, Chosen, Entry, Phase, Script, phase_act, past_after}
+use Rattle.safety_laws.proofs.Words.{notes_in, node_frames, new_entry, listening_entry, Diary, History}
+use Rattle.safety_laws.proofs.Words.{SlotSurroundings, Place, diary_of, cstate_at, SentFrame, Signal, surroundings_of}
+use Rattle.safety_laws.proofs.Words.{may_start, AreNodes, NodePast, Hearing, node_past, slot_after, HearsFrame, OnBoth}
+use Rattle.safety_laws.proofs.Words.{OnA, OnB, HearsNoFrame, HearsSilence, IsListening, HearsPlace, HearsNoPlace}
+use Rattle.safety_laws.proofs.Words.{NodeSlot, node_slot, frames_made, entry_made, next_past, StandsBy, joined_on}
+use Rattle.safety_laws.proofs.Words.{joined_standing, HasWaited}
 use Rattle.ttp_world.specs.declared.node.Entry.TheVariants as entry
-use Rattle.ttp_world.specs.declared.node.Phase.{Phase}
 use Rattle.ttp_world.specs.declared.node.Phase.TheVariants as phase
-use Rattle.ttp_world.specs.declared.script.Script.{Script}
-use Rattle.ttp_world.specs.Act.{phase_act}
-use Rattle.ttp_world.specs.After.{past_after}
-use Rattle.ttp_world.specs.Clock.{notes_in}
-use Rattle.ttp_world.specs.Conduct.{node_frames, new_entry, listening_entry}
-use Rattle.ttp_world.specs.Diary.{Diary, History, Surroundings, SlotSurroundings, Place, phase_of, diary_of, cstate_at}
-use Rattle.ttp_world.specs.Medium.{SentFrame, Signal, is_silence, surroundings_of}
-use Rattle.ttp_world.specs.Medl.{may_start}
-use Rattle.ttp_world.specs.Membership.{AreNodes}
-use Rattle.ttp_world.specs.Past.{NodePast, limit_of, silent_slots_of}
-use Rattle.ttp_world.specs.Reception.{Hearing}
-use Rattle.ttp_world.specs.World.{node_past, slot_after}
+use Rattle.ttp_world.specs.Diary.{Surroundings, phase_of}
+use Rattle.ttp_world.specs.Medium.{is_silence}
+use Rattle.ttp_world.specs.Past.{limit_of, silent_slots_of}
 use Rattle.ttp_world.proofs.Silences.{is_silent_to-row_in}
-use Rattle.safety_laws.specs.Heard.{HearsFrame, OnBoth, OnA, OnB, HearsNoFrame, HearsSilence}
-use Rattle.safety_laws.specs.Listening.{IsListening, HearsPlace, HearsNoPlace}
-use Rattle.safety_laws.specs.NodeSlot.{NodeSlot, node_slot, frames_made, entry_made, next_past}
-use Rattle.safety_laws.specs.Standing.{StandsBy, joined_on, joined_standing, HasWaited}
 use Rattle.safety_laws.proofs.Joins.{listening_entry-joins, listening_entry-waits, listening_entry-passes}
 
 -- Who listens: a node that has left and is armed, and a listening node that has not waited for as long as it is to.

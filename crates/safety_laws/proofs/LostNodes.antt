@@ -1,36 +1,23 @@
 -- What a verdict makes of a node's counts, by its ledger.
-use Rattle.std.proofs.Common.{◌≡◌, ◌≢◌, ℕ, suc, ◌+◌, ◌*◌, ◌<◌, ◌≤◌, ℤ, pos, false, length, refl, ap, sym, subst, ◌∙◌}
-use Rattle.std.proofs.Common.{◌⊎◌, inl, inr, arith, Bool, true, List, cond}
-use Rattle.std.proofs.lemmas.Bool.{false_from_ne_true, false≢true}
-use Rattle.ttp_base.specs.NodeSet.{has_node, with_node, without_node}
+use Rattle.safety_laws.proofs.Words.{◌≡◌, ◌≢◌, ℕ, suc, ◌+◌, ◌*◌, ◌<◌, ◌≤◌, ℤ, pos, false, length, refl, ap, sym, subst}
+use Rattle.safety_laws.proofs.Words.{◌∙◌, ◌⊎◌, inl, inr, arith, Bool, true, List, cond, false_from_ne_true, false≢true}
+use Rattle.safety_laws.proofs.Words.{has_node, with_node, without_node, Verdict, is_correct, is_open, judged_members}
+use Rattle.safety_laws.proofs.Words.{next_place, Change, Receiving, Jumping, Plan, sender, enters, IsGoodPlan}
+use Rattle.safety_laws.proofs.Words.{ledger-told, IsUnanswered, HearsNoAnswer, IsNotAbout, HoldsGroup, HearsNoFrame}
+use Rattle.safety_laws.proofs.Words.{NodeSlot, next_past, owner_of, IsJudgedAs, IsJudging, HearsOutside, IsSoundAt}
+use Rattle.safety_laws.proofs.Words.{IsFallingAt, IsFallenAt, IsCounted, doubts, Ack, is_accepted, Fallen, fate_of}
+use Rattle.safety_laws.proofs.Words.{is_good_slot, is_first_slot, Ledger, with_slot, planned_members, ledger_of}
+use Rattle.safety_laws.proofs.Words.{NodePast}
 use Rattle.ttp_world.specs.declared.node.Phase.TheVariants as phase
-use Rattle.ttp_world.specs.declared.node.Verdict.{Verdict}
 use Rattle.ttp_world.specs.declared.node.Verdict.TheVariants as verdict
-use Rattle.ttp_world.specs.Acknowledgement.{is_correct, is_open}
-use Rattle.ttp_world.specs.After.{judged_members}
-use Rattle.ttp_world.specs.Diary.{next_place}
-use Rattle.fault_plan.specs.Plan.{Change, Receiving, Jumping, Plan, sender, enters}
-use Rattle.fault_plan.specs.GoodPlan.{IsGoodPlan}
-use Rattle.fault_plan.proofs.Ledgers.{ledger-told}
-use Rattle.safety_laws.specs.Groups.{IsUnanswered, HearsNoAnswer, IsNotAbout, HoldsGroup}
-use Rattle.safety_laws.specs.Heard.{HearsNoFrame}
-use Rattle.safety_laws.specs.NodeSlot.{NodeSlot, next_past, owner_of}
-use Rattle.safety_laws.specs.Standing.{IsJudgedAs}
-use Rattle.safety_laws.specs.Turns.{IsJudging, HearsOutside}
-use Rattle.safety_laws.specs.ByFate.{IsSoundAt, IsFallingAt, IsFallenAt, IsCounted, doubts}
 use Rattle.safety_laws.proofs.GroupSets.{has_node-taken_out}
 use Rattle.safety_laws.proofs.Unanswered.{stays-judged, stays-unanswered, not_held-judging}
 use Rattle.safety_laws.proofs.Verdicts.{judged-outside, judged-none, judged-whatever}
-use Rattle.ttp_world.specs.declared.node.Ack.{Ack}
 use Rattle.ttp_world.specs.declared.node.Ack.TheVariants as ack
 use Rattle.ttp_world.specs.Counts.{is_rejection}
-use Rattle.ttp_world.specs.Membership.{is_accepted}
-use Rattle.fault_plan.specs.Fates.{Fallen, fate_of, is_good_slot, is_first_slot}
-use Rattle.fault_plan.specs.Ledger.{Ledger, with_slot, planned_members, ledger_of}
 use Rattle.safety_laws.proofs.Groups.{holds-correct, holds-wrong, holds-tentative}
 use Rattle.safety_laws.proofs.PlanSteps.{members-good, members-wrong, ledger-other, fallen-stays, doubt-apart}
 use Rattle.safety_laws.proofs.PlanSteps.{staying-unarmed, doubted-stays}
-use Rattle.ttp_world.specs.Past.{NodePast}
 
 -- what a verdict makes of the counts
 pub record IsCountedOn (past next : NodePast) (v : Verdict) : Type 0 where

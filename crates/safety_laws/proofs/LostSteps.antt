@@ -1,28 +1,14 @@
 -- A node whose clock has jumped, before its first own slot: no frame comes to it inside its window.
-use Rattle.std.proofs.Common.{◌≡◌, ◌≢◌, ℕ, suc, ◌+◌, ◌<◌, Bool, true, false, length, refl, ap, sym, subst, ◌∙◌, ◌⊎◌}
-use Rattle.std.proofs.Common.{inl, inr, mod-lt, arith}
-use Rattle.std.proofs.lemmas.Bool.{cases_lt, lt-ltb, false_from_ne_true}
-use Rattle.ttp_base.specs.NodeSet.{with_node}
-use Rattle.ttp_world.specs.declared.medl.Medl.{Medl}
+use Rattle.safety_laws.proofs.Words.{◌≡◌, ◌≢◌, ℕ, suc, ◌+◌, ◌<◌, Bool, true, false, length, refl, ap, sym, subst, ◌∙◌}
+use Rattle.safety_laws.proofs.Words.{◌⊎◌, inl, inr, mod-lt, arith, cases_lt, lt-ltb, false_from_ne_true, with_node}
+use Rattle.safety_laws.proofs.Words.{Medl, Script, ClusterStart, loses, is_within_window, SlotNumbers, Numbers}
+use Rattle.safety_laws.proofs.Words.{slot_after, deviation_in, world, Change, Sending, Receiving, Jumping, Plan, sender}
+use Rattle.safety_laws.proofs.Words.{is_armed_by, incident_at, Fate, Absent, Sound, Falling, Fallen, Listening, fate_of}
+use Rattle.safety_laws.proofs.Words.{is_lost, may_stay, is_sound, planned_members, planned_place, loss-sending}
+use Rattle.safety_laws.proofs.Words.{one-stays, fallen-member, sender-lost, turns_apart, HearsNoAnswer, Lacks, HasThird}
+use Rattle.safety_laws.proofs.Words.{Outside, NoFrame, next_past, owner_of, HearsMembers, nodes-most, IsFallingAt}
+use Rattle.safety_laws.proofs.Words.{IsFallenAt, IsTurn, sound-fate, strikes}
 use Rattle.ttp_world.specs.declared.node.Phase.TheVariants as phase
-use Rattle.ttp_world.specs.declared.script.Script.{Script}
-use Rattle.ttp_world.specs.Hypothesis.{ClusterStart, loses}
-use Rattle.ttp_world.specs.Reception.{is_within_window}
-use Rattle.ttp_world.specs.World.{SlotNumbers, Numbers, slot_after, deviation_in, world}
-use Rattle.fault_plan.specs.Plan.{Change, Sending, Receiving, Jumping, Plan, sender, is_armed_by, incident_at}
-use Rattle.fault_plan.specs.Fates.{Fate, Absent, Sound, Falling, Fallen, Listening, fate_of, is_lost, may_stay}
-use Rattle.fault_plan.specs.Fates.{is_sound}
-use Rattle.fault_plan.specs.Ledger.{planned_members}
-use Rattle.fault_plan.specs.Places.{planned_place}
-use Rattle.fault_plan.proofs.FateTells.{loss-sending, one-stays}
-use Rattle.fault_plan.proofs.Members.{fallen-member, sender-lost}
-use Rattle.fault_plan.proofs.Turns.{turns_apart}
-use Rattle.safety_laws.specs.Groups.{HearsNoAnswer, Lacks, HasThird, Outside, NoFrame}
-use Rattle.safety_laws.specs.NodeSlot.{next_past, owner_of}
-use Rattle.safety_laws.specs.Turns.{HearsMembers}
-use Rattle.ttp_world.proofs.Lists.{nodes-most}
-use Rattle.safety_laws.specs.ByFate.{IsFallingAt, IsFallenAt}
-use Rattle.safety_laws.specs.PlanTurn.{IsTurn}
 use Rattle.safety_laws.proofs.GroupSets.{has_node-with_other, has_node-with_member}
 use Rattle.safety_laws.proofs.Idle.{idle-left}
 use Rattle.safety_laws.proofs.OneSender.{outside-alone, none-alone, silent-none_sends}
@@ -37,7 +23,6 @@ use Rattle.safety_laws.proofs.PlanSteps.{struck-shown}
 use Rattle.safety_laws.proofs.Receivers.{sound-judge}
 use Rattle.safety_laws.proofs.PlanTurns.{SendsNone, slot_of, slot_number, owner-is, judges, armed-planned}
 use Rattle.safety_laws.proofs.PlanTurns.{unarmed-falling, less-planned, within-plan, e-node, good_plan}
-use Rattle.fault_plan.proofs.FateSteps.{sound-fate, strikes}
 use Rattle.safety_laws.proofs.Listeners.{IsAwaited, awaited-armed, awaited-listening, fate-awaited}
 use Rattle.fault_plan.proofs.SlotKinds.{sender-stays as sender-unentered}
 

@@ -1,34 +1,20 @@
 -- What sound nodes noted in a round lies near 0, and tells where frames were that lay near each sound node's clock.
-use Rattle.std.proofs.Common.{◌≡◌, ℕ, suc, ◌+◌, ◌*◌, ◌<◌, ℤ, pos, ◌+ℤ◌, ◌-ℤ◌, ◌*ℤ◌, ◌≤ℤ◌, Bool, true}
-use Rattle.std.proofs.Common.{false, cond, List, [], ◌∷◌, ◌++◌, length, Some, None, refl, ap, sym, subst, ◌∙◌, arith}
-use Rattle.std.specs.Prelude.{◌==◌, All}
-use Rattle.std.specs.Option.{option_to_list}
-use Rattle.std.proofs.lemmas.Int.{ints}
-use Rattle.std.proofs.lemmas.List.Elements.{All-nil, All-cons}
-use Rattle.ttp_world.specs.declared.medl.Medl.{Medl}
-use Rattle.ttp_world.specs.declared.node.Entry.{Entry}
+use Rattle.safety_laws.proofs.Words.{◌≡◌, ℕ, suc, ◌+◌, ◌*◌, ◌<◌, ℤ, pos, ◌+ℤ◌, ◌-ℤ◌, ◌*ℤ◌, ◌≤ℤ◌, Bool, true, false}
+use Rattle.safety_laws.proofs.Words.{cond, List, [], ◌∷◌, ◌++◌, length, Some, None, refl, ap, sym, subst, ◌∙◌, arith}
+use Rattle.safety_laws.proofs.Words.{◌==◌, All, option_to_list, ints, All-nil, Medl, Entry, Script, notes_in, History}
+use Rattle.safety_laws.proofs.Words.{entry_of, diary_of, continues_stint, Place, stint_place, ClusterStart, needed}
+use Rattle.safety_laws.proofs.Words.{drift_share, surroundings_in, surroundings_of, plan_at, IsValid, drift_of}
+use Rattle.safety_laws.proofs.Words.{reading_error, jump_of, spread, TellsOf, measured, clock_at, IsUpTo, AreNear}
+use Rattle.safety_laws.proofs.Words.{drift_within, error_within, continued_active, notes_anew, notes_more}
+use Rattle.safety_laws.proofs.Words.{first_slot_first, later_slot_later, clock_at-still, frame_of, frame_of-node}
+use Rattle.safety_laws.proofs.Words.{drift_in, correction, product_up, clock_after, round_notes, Plan, sender}
+use Rattle.safety_laws.proofs.Words.{is_good_slot, FollowsPlan, planned_place, IsSoundIn, NotedInSlot, GoesOnByPlan}
+use Rattle.safety_laws.proofs.Words.{IsTight}
+use Rattle.std.proofs.lemmas.List.Elements.{All-cons}
 use Rattle.ttp_world.specs.declared.node.Entry.TheVariants as entry
-use Rattle.ttp_world.specs.declared.script.Script.{Script}
-use Rattle.ttp_world.specs.Clock.{notes_in}
-use Rattle.ttp_world.specs.Diary.{History, entry_of, diary_of, continues_stint, Place, stint_place}
-use Rattle.ttp_world.specs.Hypothesis.{ClusterStart, needed, drift_share}
-use Rattle.ttp_world.specs.Medium.{surroundings_in, surroundings_of}
-use Rattle.ttp_world.specs.Medl.{plan_at, IsValid}
-use Rattle.ttp_world.specs.Script.{drift_of, reading_error, jump_of}
-use Rattle.precision.specs.Spread.{spread}
-use Rattle.precision.specs.Together.{TellsOf, measured, clock_at}
-use Rattle.precision.proofs.Averages.{IsUpTo, AreNear}
-use Rattle.precision.proofs.ClockBounds.{drift_within, error_within}
-use Rattle.precision.proofs.Entries.{continued_active, notes_anew, notes_more, first_slot_first, later_slot_later}
-use Rattle.precision.proofs.Entries.{offset_corrected, clock_at-still}
-use Rattle.precision.proofs.Frames.{frame_of, frame_of-node, joins_nothing}
-use Rattle.precision.proofs.Rounds.{drift_in, correction, product_up, product_once as once}
-use Rattle.precision.proofs.Runs.{clock_after, round_notes}
-use Rattle.fault_plan.specs.Plan.{Plan, sender}
-use Rattle.fault_plan.specs.Fates.{is_good_slot}
-use Rattle.fault_plan.specs.Kept.{FollowsPlan}
-use Rattle.fault_plan.specs.Places.{planned_place}
-use Rattle.safety_laws.specs.NotedByPlan.{IsSoundIn, NotedInSlot, GoesOnByPlan, IsTight}
+use Rattle.precision.proofs.Entries.{offset_corrected}
+use Rattle.precision.proofs.Frames.{joins_nothing}
+use Rattle.precision.proofs.Rounds.{product_once as once}
 use Rattle.safety_laws.proofs.Apart.{noted_width}
 use Rattle.safety_laws.proofs.Bounds.{tight-clocks, tight-deviations}
 use Rattle.safety_laws.proofs.RoundNotes.{none-silent, sender-in, place-slot, index-next, tight-stays}

@@ -1,17 +1,10 @@
 -- A world's node in the slot after a history: its entry, its next past and what it sends are those of the node's slot.
-use Rattle.std.proofs.Common.{◌≡◌, ℕ, ◌<◌, List, length, ap, ◌∙◌}
-use Rattle.ttp_world.specs.declared.medl.Medl.{Medl}
-use Rattle.ttp_world.specs.declared.node.Chosen.{Chosen}
-use Rattle.ttp_world.specs.declared.node.Entry.{Entry}
-use Rattle.ttp_world.specs.declared.script.Script.{Script}
-use Rattle.ttp_world.specs.After.{past_after}
-use Rattle.ttp_world.specs.Conduct.{node_frames}
-use Rattle.ttp_world.specs.Diary.{History, entry_of}
-use Rattle.ttp_world.specs.Medium.{surroundings_in}
-use Rattle.ttp_world.specs.World.{BegunNode, node_past, slot_after, chosen_of, frames_of, row_in, step}
+use Rattle.safety_laws.proofs.Words.{◌≡◌, ℕ, ◌<◌, List, length, ap, ◌∙◌, Medl, Chosen, Entry, Script, past_after}
+use Rattle.safety_laws.proofs.Words.{node_frames, History, entry_of, surroundings_in, BegunNode, node_past, slot_after}
+use Rattle.safety_laws.proofs.Words.{chosen_of, frames_of, row_in, step, node_of-slot_after, node_slot, frames_made}
+use Rattle.safety_laws.proofs.Words.{entry_made, next_past}
 use Rattle.ttp_world.proofs.NextPasts.{node_past-next}
-use Rattle.ttp_world.proofs.Slots.{node_of-slot_after, entry_of-row_after}
-use Rattle.safety_laws.specs.NodeSlot.{node_slot, frames_made, entry_made, next_past}
+use Rattle.ttp_world.proofs.Slots.{entry_of-row_after}
 
 module _ (list : Medl) (script : Script) (history : History) (chosen : List Chosen) (k : ℕ)
     (node : k < length list.slots) where

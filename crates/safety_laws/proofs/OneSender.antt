@@ -1,27 +1,13 @@
 -- What comes to each node in a slot after a history in which one node alone sends, or none.
-use Rattle.std.proofs.Common.{◌≡◌, ℕ, suc, ◌+◌, ◌%◌, ◌<◌, true, false, List, [], ◌∷◌, length, ap, ◌∙◌, subst, arith}
-use Rattle.std.proofs.Common.{mod-lt}
-use Rattle.std.specs.Prelude.{◌==◌}
-use Rattle.std.proofs.lemmas.Bool.{cond_both}
-use Rattle.ttp_base.specs.NodeSet.{has_node, with_node}
-use Rattle.ttp_world.specs.declared.medl.Medl.{Medl}
-use Rattle.ttp_world.specs.declared.node.Chosen.{Chosen}
-use Rattle.ttp_world.specs.declared.script.Script.{Script}
-use Rattle.ttp_world.specs.Conduct.{own_frame}
-use Rattle.ttp_world.specs.Diary.{History, Place, time_limit, next_place}
-use Rattle.ttp_world.specs.Frame.{is_explicit}
-use Rattle.ttp_world.specs.Hypothesis.{loses}
-use Rattle.ttp_world.specs.Medl.{IsValid}
-use Rattle.ttp_world.specs.Reception.{is_within_window, expected_header}
-use Rattle.ttp_world.specs.World.{Numbers, slot_after, frames_in, deviation_in, world}
-use Rattle.ttp_world.proofs.Lists.{nodes-most}
-use Rattle.ttp_world.proofs.Worlds.{coming_place-world}
-use Rattle.safety_laws.specs.Heard.{HearsFrame, HearsNoFrame, HearsSilence}
-use Rattle.safety_laws.specs.Listening.{HearsPlace, HearsNoPlace}
-use Rattle.safety_laws.specs.NodeSlot.{NodeSlot, node_slot, coming_place}
-use Rattle.safety_laws.specs.Senders.{SendsAlone, NoneSends}
-use Rattle.safety_laws.specs.SlotFrames.{IsSlotFrame}
-use Rattle.safety_laws.specs.Turns.{HearsMembers, HearsOutside}
+use Rattle.safety_laws.proofs.Words.{◌≡◌, ℕ, suc, ◌+◌, ◌<◌, true, false, List, [], ◌∷◌, length, ap, ◌∙◌, subst, arith}
+use Rattle.safety_laws.proofs.Words.{mod-lt, ◌==◌, cond_both, has_node, with_node, Medl, Chosen, Script, own_frame}
+use Rattle.safety_laws.proofs.Words.{History, Place, time_limit, next_place, is_explicit, loses, IsValid}
+use Rattle.safety_laws.proofs.Words.{is_within_window, expected_header, Numbers, slot_after, frames_in, deviation_in}
+use Rattle.safety_laws.proofs.Words.{world, nodes-most, coming_place-world, HearsFrame, HearsNoFrame, HearsSilence}
+use Rattle.safety_laws.proofs.Words.{HearsPlace, HearsNoPlace, NodeSlot, node_slot, SendsAlone, NoneSends, IsSlotFrame}
+use Rattle.safety_laws.proofs.Words.{HearsMembers, HearsOutside}
+use Rattle.std.proofs.Common.{◌%◌}
+use Rattle.safety_laws.specs.NodeSlot.{coming_place}
 use Rattle.safety_laws.proofs.Hearing.{HearsFrame-kept, HearsNoFrame-lost, HearsSilence-none}
 use Rattle.safety_laws.proofs.Joins.{joinable-explicit, joinable-without}
 use Rattle.safety_laws.proofs.GroupSets.{has_node-put_in}

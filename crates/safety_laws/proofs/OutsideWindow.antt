@@ -1,38 +1,22 @@
 -- A node whose clock has jumped is outside the window at each sound node, and each of them outside its own.
-use Rattle.std.proofs.Common.{◌≡◌, ℕ, zero, suc, ◌+◌, ◌-◌, ◌<◌, ◌≤◌, ℤ, pos, neg_ℤ, ◌+ℤ◌, ◌-ℤ◌, ◌*ℤ◌, ◌≤ℤ◌, Bool, true}
-use Rattle.std.proofs.Common.{false, cond, ◌&&◌, inl, inr, ◌⊎◌, List, [], ◌∷◌, length, refl, ap, sym, subst, ◌∙◌, arith}
-use Rattle.std.specs.Prelude.{◌==◌, int_le, nat_le}
-use Rattle.std.proofs.lemmas.Bool.{or_cases, false≢true}
-use Rattle.std.proofs.lemmas.Int.{ints}
-use Rattle.ttp_world.specs.declared.medl.Medl.{Medl}
-use Rattle.ttp_world.specs.declared.node.Act.{Act}
-use Rattle.ttp_world.specs.declared.node.Act.TheVariants.{Retry, Leave, Send, Judge}
-use Rattle.ttp_world.specs.declared.node.Entry.{Entry}
+use Rattle.safety_laws.proofs.Words.{◌≡◌, ℕ, zero, suc, ◌+◌, ◌-◌, ◌<◌, ◌≤◌, ℤ, pos, neg_ℤ, ◌+ℤ◌, ◌-ℤ◌, ◌*ℤ◌, ◌≤ℤ◌, Bool}
+use Rattle.safety_laws.proofs.Words.{true, false, cond, ◌&&◌, inl, inr, ◌⊎◌, List, [], ◌∷◌, length, refl, ap, sym}
+use Rattle.safety_laws.proofs.Words.{subst, ◌∙◌, arith, ◌==◌, int_le, nat_le, false≢true, ints, Medl, Act, Retry, Leave}
+use Rattle.safety_laws.proofs.Words.{Send, Judge, Entry, Phase, Script, is_open, own_act, phase_act, History, entry_of}
+use Rattle.safety_laws.proofs.Words.{continues_stint, phase_after, ClusterStart, needed, drift_share, IsValid, NodePast}
+use Rattle.safety_laws.proofs.Words.{is_within_window, reading_error, jump_of, is_on, is_armed, node_past, clock_at}
+use Rattle.safety_laws.proofs.Words.{measured, IsUpTo, error_within, clock_at-still, frame_of, frame_of-node, drift_in}
+use Rattle.safety_laws.proofs.Words.{clock_after, Jumping, Plan, sender, is_sound_after, HasJumped, IsSoundIn}
+use Rattle.safety_laws.proofs.Words.{NotedByPlan, GoesOnByPlan}
+use Rattle.std.proofs.lemmas.Bool.{or_cases}
 use Rattle.ttp_world.specs.declared.node.Entry.TheVariants as entry
-use Rattle.ttp_world.specs.declared.node.Phase.{Phase}
 use Rattle.ttp_world.specs.declared.node.Phase.TheVariants as phase
 use Rattle.ttp_world.specs.declared.node.Reason.TheVariants as reason
-use Rattle.ttp_world.specs.declared.script.Script.{Script}
-use Rattle.ttp_world.specs.Acknowledgement.{is_open}
-use Rattle.ttp_world.specs.Act.{active_act, own_act, coming_place, phase_act}
-use Rattle.ttp_world.specs.Diary.{History, entry_of, continues_stint, phase_after}
-use Rattle.ttp_world.specs.Hypothesis.{ClusterStart, needed, drift_share, is_far_jump}
-use Rattle.ttp_world.specs.Medl.{IsValid}
-use Rattle.ttp_world.specs.Past.{NodePast}
-use Rattle.ttp_world.specs.Reception.{is_within_window}
-use Rattle.ttp_world.specs.Script.{reading_error, has_jump, jump_of, is_on, is_armed}
-use Rattle.ttp_world.specs.World.{jump_taken, node_past}
-use Rattle.precision.specs.Together.{clock_at, measured}
-use Rattle.precision.proofs.Averages.{IsUpTo}
-use Rattle.precision.proofs.ClockBounds.{error_within}
-use Rattle.precision.proofs.Entries.{clock_at-still}
-use Rattle.precision.proofs.Frames.{frame_of, frame_of-node}
-use Rattle.precision.proofs.Rounds.{drift_in, product_four}
-use Rattle.precision.proofs.Runs.{clock_after}
-use Rattle.fault_plan.specs.Plan.{Jumping, Plan, sender}
-use Rattle.fault_plan.specs.Fates.{is_sound_after}
-use Rattle.safety_laws.specs.Jumps.{HasJumped}
-use Rattle.safety_laws.specs.NotedByPlan.{IsSoundIn, NotedByPlan, GoesOnByPlan}
+use Rattle.ttp_world.specs.Act.{active_act, coming_place}
+use Rattle.ttp_world.specs.Hypothesis.{is_far_jump}
+use Rattle.ttp_world.specs.Script.{has_jump}
+use Rattle.ttp_world.specs.World.{jump_taken}
+use Rattle.precision.proofs.Rounds.{product_four}
 use Rattle.safety_laws.proofs.Apart.{jump_width, apart-upto}
 use Rattle.safety_laws.proofs.JumpedClock.{JumpsAfter, jumped_in, stays-apart, IsJumpTold, jump-told, jumped-back}
 use Rattle.safety_laws.proofs.JumpedClock.{sound-till, jump-tight}

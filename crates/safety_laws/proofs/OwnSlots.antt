@@ -1,32 +1,20 @@
 -- An active node in its own slot: it sends, or leaves, or withdraws its cold start.
-use Rattle.std.proofs.Common.{◌≡◌, ℕ, ◌<◌, ◌≤◌, Bool, true, false, cond, not, List, [], ◌∷◌, length, refl, ap, sym, ◌∙◌}
-use Rattle.std.proofs.Common.{subst}
-use Rattle.std.specs.Prelude.{◌==◌, nat_le}
-use Rattle.std.proofs.lemmas.Bool.{eq-eqb, eqb-true, le-leb, lt-leb}
-use Rattle.ttp_base.specs.NodeSet.{with_node}
-use Rattle.ttp_world.specs.declared.node.Ack.{Ack}
+use Rattle.safety_laws.proofs.Words.{◌≡◌, ℕ, ◌<◌, ◌≤◌, Bool, true, false, cond, not, List, [], ◌∷◌, length, refl, ap}
+use Rattle.safety_laws.proofs.Words.{sym, ◌∙◌, subst, ◌==◌, nat_le, eq-eqb, eqb-true, le-leb, lt-leb, with_node, Ack}
+use Rattle.safety_laws.proofs.Words.{Act, Retry, Leave, Send, Judge, Entry, Phase, is_open, phase_act, own_act}
+use Rattle.safety_laws.proofs.Words.{past_after, message_sent, own_frame, node_frames, new_entry, phase_after, NodePast}
+use Rattle.safety_laws.proofs.Words.{expected_length, nodes-most, NodeSlot, act_made, frames_made, entry_made}
+use Rattle.safety_laws.proofs.Words.{next_past, IsSlotFrame, StandsBy, HasJustLeft, sent_standing, IsAtOwnSlot}
+use Rattle.safety_laws.proofs.Words.{HasPayload}
 use Rattle.ttp_world.specs.declared.node.Ack.TheVariants as ack
-use Rattle.ttp_world.specs.declared.node.Act.{Act}
-use Rattle.ttp_world.specs.declared.node.Act.TheVariants.{Retry, Leave, Send, Judge}
-use Rattle.ttp_world.specs.declared.node.Entry.{Entry}
 use Rattle.ttp_world.specs.declared.node.Entry.TheVariants as entry
-use Rattle.ttp_world.specs.declared.node.Phase.{Phase}
 use Rattle.ttp_world.specs.declared.node.Phase.TheVariants as phase
 use Rattle.ttp_world.specs.declared.node.Reason.{Reason}
 use Rattle.ttp_world.specs.declared.node.Reason.TheVariants as reason
-use Rattle.ttp_world.specs.Acknowledgement.{is_open}
-use Rattle.ttp_world.specs.Act.{phase_act, unacknowledged_act, own_act}
-use Rattle.ttp_world.specs.After.{past_after}
-use Rattle.ttp_world.specs.Conduct.{payload_sent, message_sent, own_frame, node_frames, new_entry}
-use Rattle.ttp_world.specs.Diary.{phase_after}
-use Rattle.ttp_world.specs.Past.{NodePast}
-use Rattle.ttp_world.specs.Reception.{expected_length}
-use Rattle.ttp_world.proofs.Lists.{nodes-most}
+use Rattle.ttp_world.specs.Act.{unacknowledged_act}
+use Rattle.ttp_world.specs.Conduct.{payload_sent}
 use Rattle.ttp_world.proofs.MemberSets.{members_after-Sent}
-use Rattle.safety_laws.specs.NodeSlot.{NodeSlot, act_made, frames_made, entry_made, next_past, coming_place}
-use Rattle.safety_laws.specs.SlotFrames.{IsSlotFrame}
-use Rattle.safety_laws.specs.Standing.{StandsBy, HasJustLeft, sent_standing}
-use Rattle.safety_laws.specs.Turns.{IsAtOwnSlot, HasPayload}
+use Rattle.safety_laws.specs.NodeSlot.{coming_place}
 use Rattle.safety_laws.proofs.GroupSets.{AreNodes-with}
 
 -- What the node does, by its past alone.

@@ -1,27 +1,15 @@
 -- In a run of legal numbers each frame carries as much payload as the list gives it.
-use Rattle.std.proofs.Common.{◌≡◌, ℕ, ◌<◌, true, cond, List, ◌∷◌, length, get_or, Option, Some, None}
-use Rattle.std.proofs.Common.{ap, sym, ◌∙◌, arith}
-use Rattle.std.proofs.lemmas.List.FromFn.{get_or-map-range_with_len}
-use Rattle.std.proofs.Math.ListN.{get_or-map}
-use Rattle.ttp_world.specs.declared.medl.Medl.{Medl}
-use Rattle.ttp_world.specs.declared.node.Act.{Act}
-use Rattle.ttp_world.specs.declared.node.Act.TheVariants.{Send}
-use Rattle.ttp_world.specs.declared.node.Chosen.{Chosen}
+use Rattle.safety_laws.proofs.Words.{◌≡◌, ℕ, ◌<◌, true, cond, List, ◌∷◌, length, get_or, Option, Some, None, ap, sym}
+use Rattle.safety_laws.proofs.Words.{◌∙◌, arith, get_or-map-range_with_len, get_or-map, Medl, Act, Send, Chosen, Script}
+use Rattle.safety_laws.proofs.Words.{new_entry, Place, entry_of, IsLegal, plan_at, kind_at, message_of, nothing_chosen}
+use Rattle.safety_laws.proofs.Words.{message_chosen, IsValidScript, SlotNumbers, Numbers, messages_chosen, world}
+use Rattle.safety_laws.proofs.Words.{legal-shapes, row_of_world, NodeSlot, node_slot, act_made, owner_of, HasPayload}
 use Rattle.ttp_world.specs.declared.node.Entry.TheVariants as entry
-use Rattle.ttp_world.specs.declared.script.Script.{Script}
-use Rattle.ttp_world.specs.Conduct.{new_entry}
-use Rattle.ttp_world.specs.Diary.{Place, entry_of}
-use Rattle.ttp_world.specs.Legal.{is_legal_message, IsLegal}
-use Rattle.ttp_world.specs.Medl.{is_bare, plan_at, kind_at}
-use Rattle.ttp_world.specs.Messages.{message_of}
-use Rattle.ttp_world.specs.Outgoing.{nothing_chosen, message_chosen}
-use Rattle.ttp_world.specs.Script.{IsValidScript}
-use Rattle.ttp_world.specs.World.{SlotNumbers, Numbers, messages_chosen, world}
+use Rattle.ttp_world.specs.Legal.{is_legal_message}
+use Rattle.ttp_world.specs.Medl.{is_bare}
 use Rattle.ttp_world.proofs.HostMessages.{legal-size}
-use Rattle.ttp_world.proofs.LegalShapes.{legal-shapes, legal-message}
-use Rattle.ttp_world.proofs.Worlds.{row_of_world}
-use Rattle.safety_laws.specs.NodeSlot.{NodeSlot, node_slot, act_made, coming_place, owner_of}
-use Rattle.safety_laws.specs.Turns.{HasPayload}
+use Rattle.ttp_world.proofs.LegalShapes.{legal-message}
+use Rattle.safety_laws.specs.NodeSlot.{coming_place}
 use Rattle.safety_laws.proofs.NodeSlots.{entry_of-made}
 use Rattle.ttp_world.proofs.DeliveredSizes.{carried_size as size_carried}
 

@@ -1,21 +1,18 @@
 -- What one turn more makes of a plan's members, ledgers and fates.
-use Rattle.std.proofs.Common.{◌≡◌, ◌≢◌, ℕ, suc, ◌+◌, ◌<◌, ◌≤◌, Bool, true, false, cond, Option, Some, None, refl, ap}
-use Rattle.std.proofs.Common.{sym, subst, ◌∙◌, inl, inr, arith}
-use Rattle.std.specs.Prelude.{◌==◌}
-use Rattle.std.proofs.lemmas.Bool.{eq-eqb, eqb-true, ne_eqb, both_ways, false_from_ne_true, lt-ltb}
-use Rattle.ttp_base.specs.NodeSet.{with_node, without_node}
-use Rattle.fault_plan.specs.Plan.{Change, Receiving, Incident, Plan, sender, incident_at, is_armed_by, enters}
-use Rattle.fault_plan.specs.Fates.{Fate, Absent, Sound, Falling, Fallen, Listening, struck, shown_in, turned, fate_of}
-use Rattle.fault_plan.specs.Fates.{is_sound, is_sound_after, is_lost, is_good_slot, is_first_slot, is_shown_in}
-use Rattle.fault_plan.specs.Fates.{may_stay}
-use Rattle.fault_plan.specs.GoodPlan.{IsGoodPlan}
-use Rattle.fault_plan.specs.Ledger.{opened, with_slot, planned_members, ledger_of}
-use Rattle.fault_plan.specs.Told.{IsFalling, IsFallen, IsTold}
-use Rattle.fault_plan.proofs.FateSteps.{strikes, next-same, sound-from, struck-missed as missed-same}
-use Rattle.fault_plan.proofs.FateTells.{fate-told}
-use Rattle.fault_plan.proofs.Ledgers.{ledger-told}
-use Rattle.fault_plan.proofs.Returns.{armed-quiet, entry-quiet, armed-lost, entry-from}
-use Rattle.fault_plan.proofs.Turns.{next_turn, turns_apart}
+use Rattle.safety_laws.proofs.Words.{◌≡◌, ◌≢◌, ℕ, suc, ◌+◌, ◌<◌, ◌≤◌, Bool, true, false, cond, Option, Some, None, refl}
+use Rattle.safety_laws.proofs.Words.{ap, sym, subst, ◌∙◌, inl, inr, arith, ◌==◌, eq-eqb, eqb-true, ne_eqb, both_ways}
+use Rattle.safety_laws.proofs.Words.{false_from_ne_true, lt-ltb, with_node, without_node, Change, Receiving, Incident}
+use Rattle.safety_laws.proofs.Words.{Plan, sender, incident_at, is_armed_by, enters, Fate, Absent, Sound, Falling}
+use Rattle.safety_laws.proofs.Words.{Fallen, Listening, struck, turned, fate_of, is_sound, is_sound_after, is_lost}
+use Rattle.safety_laws.proofs.Words.{is_good_slot, is_first_slot, may_stay, IsGoodPlan, opened, with_slot}
+use Rattle.safety_laws.proofs.Words.{planned_members, ledger_of, IsFalling, IsTold, strikes, sound-from, fate-told}
+use Rattle.safety_laws.proofs.Words.{ledger-told, armed-lost, entry-from, turns_apart}
+use Rattle.fault_plan.specs.Fates.{shown_in}
+use Rattle.fault_plan.specs.Fates.{is_shown_in}
+use Rattle.fault_plan.specs.Told.{IsFallen}
+use Rattle.fault_plan.proofs.FateSteps.{next-same, struck-missed as missed-same}
+use Rattle.fault_plan.proofs.Returns.{armed-quiet, entry-quiet}
+use Rattle.fault_plan.proofs.Turns.{next_turn}
 use Rattle.safety_laws.proofs.Listeners.{awaited-armed, gone-awaited}
 use Rattle.fault_plan.proofs.SlotKinds.{sender-stays as sender-unentered}
 

@@ -1,29 +1,18 @@
 -- A node in its own slot: a sound one sends, a lost one sends in its first and has left after its second.
-use Rattle.std.proofs.Common.{◌≡◌, ◌≢◌, ℕ, suc, ◌+◌, ◌<◌, true, false, [], length, refl, ap, sym, subst, ◌∙◌, inl, inr}
-use Rattle.std.proofs.Common.{mod-lt, Bool, arith, ◌-◌, ◌≤◌, List, ◌⊎◌}
-use Rattle.std.proofs.lemmas.Bool.{cases_eq, not-true, false≢true, false_from_ne_true, cases_lt}
-use Rattle.ttp_base.specs.NodeSet.{has_node, with_node}
-use Rattle.ttp_world.specs.declared.medl.Medl.{Medl}
+use Rattle.safety_laws.proofs.Words.{◌≡◌, ◌≢◌, ℕ, suc, ◌+◌, ◌<◌, true, false, [], length, refl, ap, sym, subst, ◌∙◌}
+use Rattle.safety_laws.proofs.Words.{inl, inr, mod-lt, Bool, arith, ◌-◌, ◌≤◌, List, ◌⊎◌, cases_eq, false≢true}
+use Rattle.safety_laws.proofs.Words.{false_from_ne_true, cases_lt, has_node, with_node, Medl, Script, Place, next_place}
+use Rattle.safety_laws.proofs.Words.{ClusterStart, is_on, is_armed, SlotNumbers, Numbers, node_past, messages_chosen}
+use Rattle.safety_laws.proofs.Words.{world, length-world, Change, Plan, sender, is_armed_by, Fate, Absent, Sound}
+use Rattle.safety_laws.proofs.Words.{Falling, Fallen, Listening, fate_of, is_absent, is_lost, may_stay, is_good_slot}
+use Rattle.safety_laws.proofs.Words.{IsGoodPlan, planned_place, absent-always, place-sender, IsListening, next_past}
+use Rattle.safety_laws.proofs.Words.{NodeSlot, node_slot, frames_made, owner_of, SendsAlone, NoneSends, IsJudging}
+use Rattle.safety_laws.proofs.Words.{IsAtOwnSlot, IsSoundAt, IsListeningAt, IsByFate, doubts, IsCounted, IsFallingAt}
+use Rattle.safety_laws.proofs.Words.{IsFallenAt, IsTurn, Ack, is_open, message_sent, Ledger, planned_members, ledger_of}
+use Rattle.safety_laws.proofs.Words.{IsFalling, IsUnanswered, HoldsGroup, StandsBy, sent_standing}
+use Rattle.std.proofs.lemmas.Bool.{not-true}
 use Rattle.ttp_world.specs.declared.node.Phase.TheVariants as phase
-use Rattle.ttp_world.specs.declared.script.Script.{Script}
-use Rattle.ttp_world.specs.Diary.{Place, next_place}
-use Rattle.ttp_world.specs.Hypothesis.{ClusterStart}
-use Rattle.ttp_world.specs.Script.{is_on, is_armed}
-use Rattle.ttp_world.specs.World.{SlotNumbers, Numbers, node_past, messages_chosen, world}
-use Rattle.ttp_world.proofs.Worlds.{length-world}
-use Rattle.fault_plan.specs.Plan.{Change, Plan, sender, is_armed_by}
-use Rattle.fault_plan.specs.Fates.{Fate, Absent, Sound, Falling, Fallen, Listening, fate_of, is_absent, is_lost}
-use Rattle.fault_plan.specs.Fates.{may_stay, is_good_slot}
-use Rattle.fault_plan.specs.GoodPlan.{IsGoodPlan}
-use Rattle.fault_plan.specs.Places.{planned_place}
-use Rattle.fault_plan.proofs.Persists.{absent-always}
-use Rattle.fault_plan.proofs.Places.{place-sender}
-use Rattle.safety_laws.specs.Listening.{IsListening}
-use Rattle.safety_laws.specs.NodeSlot.{next_past, NodeSlot, node_slot, frames_made, owner_of, coming_place}
-use Rattle.safety_laws.specs.Senders.{SendsAlone, NoneSends}
-use Rattle.safety_laws.specs.Turns.{IsJudging, IsAtOwnSlot}
-use Rattle.safety_laws.specs.ByFate.{IsSoundAt, IsListeningAt, IsByFate, doubts, IsCounted, IsFallingAt, IsFallenAt}
-use Rattle.safety_laws.specs.PlanTurn.{IsTurn}
+use Rattle.safety_laws.specs.NodeSlot.{coming_place}
 use Rattle.safety_laws.proofs.Idle.{frames_made-judging, idle-off, idle-left}
 use Rattle.safety_laws.proofs.Listening.{frames_made-listening, left-world}
 use Rattle.safety_laws.proofs.OwnSlots.{act_made-sends, sent-own, left-unacknowledged, left-clique}
@@ -31,16 +20,9 @@ use Rattle.safety_laws.proofs.Payloads.{HasPayload-world}
 use Rattle.safety_laws.proofs.WorldTurns.{IsJudging-world, IsAtOwnSlot-world}
 use Rattle.safety_laws.proofs.Listeners.{awaited-listening, good-lately, ListensSince, listens-before, listens-first}
 use Rattle.safety_laws.proofs.PlanSteps.{staying-unarmed, members-good, ledger-own, round-turn}
-use Rattle.ttp_world.specs.declared.node.Ack.{Ack}
 use Rattle.ttp_world.specs.declared.node.Ack.TheVariants as ack
 use Rattle.ttp_world.specs.declared.node.Entry.TheVariants as entry
-use Rattle.ttp_world.specs.Acknowledgement.{is_open}
-use Rattle.ttp_world.specs.Conduct.{message_sent}
-use Rattle.fault_plan.specs.Ledger.{Ledger, planned_members, ledger_of}
-use Rattle.fault_plan.specs.Told.{IsFalling}
 use Rattle.fault_plan.proofs.Counts.{bad-own, bad-first, seen-round, four-lasting}
-use Rattle.safety_laws.specs.Groups.{IsUnanswered, HoldsGroup}
-use Rattle.safety_laws.specs.Standing.{StandsBy, sent_standing}
 use Rattle.safety_laws.proofs.Groups.{holds-sent}
 
 -- its own frame is acknowledged, and it accepted more frames than it rejected

@@ -1,30 +1,15 @@
 -- A sound node in another's slot, by the fate of the slot's sender: it is what the plan says after it.
-use Rattle.std.proofs.Common.{◌≡◌, ◌≢◌, ℕ, suc, ◌+◌, ◌<◌, pos, Bool, true, false, List, length, refl, ap, sym, subst}
-use Rattle.std.proofs.Common.{◌∙◌, ◌⊎◌, inl, inr, mod-lt, arith}
-use Rattle.std.proofs.lemmas.Bool.{cases_eq, false≢true}
-use Rattle.ttp_base.specs.NodeSet.{has_node, with_node}
-use Rattle.ttp_world.specs.declared.medl.Medl.{Medl}
-use Rattle.ttp_world.specs.declared.node.Ack.{Ack}
+use Rattle.safety_laws.proofs.Words.{◌≡◌, ◌≢◌, ℕ, suc, ◌+◌, ◌<◌, pos, Bool, true, false, List, length, refl, ap, sym}
+use Rattle.safety_laws.proofs.Words.{subst, ◌∙◌, ◌⊎◌, inl, inr, mod-lt, arith, cases_eq, false≢true, has_node}
+use Rattle.safety_laws.proofs.Words.{with_node, Medl, Ack, Script, next_place, ClusterStart, loses, is_within_window}
+use Rattle.safety_laws.proofs.Words.{SlotNumbers, Numbers, slot_after, deviation_in, world, Receiving, Jumping, Plan}
+use Rattle.safety_laws.proofs.Words.{sender, Sound, Falling, Fallen, fate_of, is_sound_after, may_stay, is_good_slot}
+use Rattle.safety_laws.proofs.Words.{is_first_slot, planned_members, ledger_of, one-stays, sender-lost, HearsNoFrame}
+use Rattle.safety_laws.proofs.Words.{HearsSilence, NodeSlot, next_past, IsJudgedAs, HearsMembers, HearsOutside}
+use Rattle.safety_laws.proofs.Words.{IsSoundAt, IsFallingAt, IsTurn}
 use Rattle.ttp_world.specs.declared.node.Ack.TheVariants as ack
 use Rattle.ttp_world.specs.declared.node.Verdict.TheVariants as verdict
-use Rattle.ttp_world.specs.declared.script.Script.{Script}
-use Rattle.ttp_world.specs.Diary.{next_place}
-use Rattle.ttp_world.specs.Hypothesis.{ClusterStart, loses}
-use Rattle.ttp_world.specs.Reception.{is_within_window}
-use Rattle.ttp_world.specs.World.{SlotNumbers, Numbers, slot_after, deviation_in, world}
-use Rattle.fault_plan.specs.Plan.{Receiving, Jumping, Plan, sender}
-use Rattle.fault_plan.specs.Fates.{Sound, Falling, Fallen, fate_of, is_sound_after, may_stay, is_good_slot}
-use Rattle.fault_plan.specs.Fates.{is_first_slot}
 use Rattle.fault_plan.specs.Kept.{IsHeardByPlan}
-use Rattle.fault_plan.specs.Ledger.{planned_members, ledger_of}
-use Rattle.fault_plan.proofs.FateTells.{one-stays}
-use Rattle.fault_plan.proofs.Members.{sender-lost}
-use Rattle.safety_laws.specs.Heard.{HearsNoFrame, HearsSilence}
-use Rattle.safety_laws.specs.NodeSlot.{NodeSlot, next_past}
-use Rattle.safety_laws.specs.Standing.{IsJudgedAs}
-use Rattle.safety_laws.specs.Turns.{HearsMembers, HearsOutside}
-use Rattle.safety_laws.specs.ByFate.{IsSoundAt, IsFallingAt}
-use Rattle.safety_laws.specs.PlanTurn.{IsTurn}
 use Rattle.safety_laws.proofs.Groups.{correct-group, incorrect-group, lacked-group}
 use Rattle.safety_laws.proofs.GroupSets.{has_node-with_other}
 use Rattle.safety_laws.proofs.OneSender.{members-alone, outside-alone, none-alone, silent-none_sends}

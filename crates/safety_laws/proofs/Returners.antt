@@ -1,34 +1,18 @@
 -- A node that listens in a turn: it waits, or it enters by the frame of a sound node and is sound.
-use Rattle.std.proofs.Common.{◌≡◌, ℕ, suc, ◌+◌, ◌<◌, Bool, true, false, List, length, refl, ap, sym, subst, ◌∙◌, arith}
-use Rattle.std.proofs.Common.{inl, inr}
-use Rattle.std.proofs.lemmas.Bool.{both_ways, false≢true, lt-ltb}
-use Rattle.ttp_base.specs.NodeSet.{with_node}
-use Rattle.ttp_world.specs.declared.medl.Kind.{Kind}
+use Rattle.safety_laws.proofs.Words.{◌≡◌, ℕ, suc, ◌+◌, ◌<◌, Bool, true, false, List, length, refl, ap, sym, subst, ◌∙◌}
+use Rattle.safety_laws.proofs.Words.{arith, inl, inr, both_ways, false≢true, lt-ltb, with_node, Kind, Medl, Script}
+use Rattle.safety_laws.proofs.Words.{is_open, Place, next_place, header_of, is_explicit, ClusterStart, loses, NodePast}
+use Rattle.safety_laws.proofs.Words.{expected_header, SlotNumbers, Numbers, messages_chosen, world, node_past, Plan}
+use Rattle.safety_laws.proofs.Words.{sender, enters, is_armed_by, Fate, Absent, Sound, Falling, Fallen, Listening}
+use Rattle.safety_laws.proofs.Words.{fate_of, is_sound, is_good_slot, may_stay, is_lost, Ledger, opened}
+use Rattle.safety_laws.proofs.Words.{planned_members, planned_place, strikes, next-entered, sound-fate, entry-is}
+use Rattle.safety_laws.proofs.Words.{entry-good, armed-lost, entry-from, HearsPlace, next_past, StandsBy, joined_on}
+use Rattle.safety_laws.proofs.Words.{joined_standing, doubts, IsCounted, IsListeningAt, IsByFate, IsTurn, nat_lt}
 use Rattle.ttp_world.specs.declared.medl.Kind.TheVariants as kind
-use Rattle.ttp_world.specs.declared.medl.Medl.{Medl}
 use Rattle.ttp_world.specs.declared.node.Ack.TheVariants as ack
-use Rattle.ttp_world.specs.declared.script.Script.{Script}
-use Rattle.ttp_world.specs.Acknowledgement.{is_open}
-use Rattle.ttp_world.specs.Diary.{Place, next_place}
-use Rattle.ttp_world.specs.Frame.{header_of, is_explicit}
-use Rattle.ttp_world.specs.Hypothesis.{ClusterStart, loses}
-use Rattle.ttp_world.specs.Past.{NodePast}
-use Rattle.ttp_world.specs.Reception.{expected_header}
 use Rattle.ttp_world.specs.Returning.{carries_place}
-use Rattle.ttp_world.specs.World.{SlotNumbers, Numbers, messages_chosen, world, node_past}
-use Rattle.fault_plan.specs.Plan.{Plan, sender, enters, is_armed_by}
-use Rattle.fault_plan.specs.Fates.{Fate, Absent, Sound, Falling, Fallen, Listening, fate_of, is_sound, is_good_slot}
-use Rattle.fault_plan.specs.Fates.{may_stay, is_lost}
 use Rattle.fault_plan.specs.Kept.{kind_in}
-use Rattle.fault_plan.specs.Ledger.{Ledger, opened, planned_members}
-use Rattle.fault_plan.specs.Places.{planned_place}
-use Rattle.fault_plan.proofs.FateSteps.{strikes, next-entered, sound-fate}
-use Rattle.fault_plan.proofs.Returns.{entry-is, entry-good, armed-lost, entry-from}
-use Rattle.safety_laws.specs.Listening.{HearsPlace}
-use Rattle.safety_laws.specs.NodeSlot.{next_past, coming_place}
-use Rattle.safety_laws.specs.Standing.{StandsBy, joined_on, joined_standing}
-use Rattle.safety_laws.specs.ByFate.{doubts, IsCounted, IsListeningAt, IsByFate}
-use Rattle.safety_laws.specs.PlanTurn.{IsTurn}
+use Rattle.safety_laws.specs.NodeSlot.{coming_place}
 use Rattle.safety_laws.proofs.Listening.{around-silent, frame-silent, waited-none, waited-passing, joined-place}
 use Rattle.safety_laws.proofs.OneSender.{silent-none_sends, place-alone, no_place-alone}
 use Rattle.safety_laws.proofs.Arrivals.{sound-owner, sound-alone, sound-members, silent-absent, silent-listening}
@@ -39,7 +23,6 @@ use Rattle.safety_laws.proofs.PlanSteps.{members-good, ledger-entered, sound-sta
 use Rattle.safety_laws.proofs.Hearing.{frameless-silent}
 use Rattle.safety_laws.proofs.PlanTurns.{NextByFate, NextSound, SendsNone, SendsOne, slot_of, slot_number, within-plan}
 use Rattle.safety_laws.proofs.PlanTurns.{armed-planned, listens-still, listens-now, less-planned, good_plan}
-use Rattle.std.specs.Prelude.{nat_lt}
 use Rattle.ttp_world.specs.declared.node.Phase.TheVariants as phase
 use Rattle.safety_laws.proofs.Groups.{holds-by}
 

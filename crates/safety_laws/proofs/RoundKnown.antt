@@ -1,23 +1,9 @@
 -- All notes of a tight round that began after the start: they lie near 0, and tell of frames near each sound node's clock.
-use Rattle.std.proofs.Common.{◌≡◌, ℕ, zero, suc, ◌<◌, ◌≤◌, ℤ, ◌+ℤ◌, ◌-ℤ◌, Bool, true, false, cond}
-use Rattle.std.proofs.Common.{List, [], ◌∷◌, ◌++◌, length}
-use Rattle.std.proofs.Common.{refl, ap, sym, subst, ◌∙◌, arith}
-use Rattle.std.specs.Prelude.{◌==◌, All}
-use Rattle.std.proofs.lemmas.List.Elements.{All-nil, All-append}
-use Rattle.ttp_world.specs.declared.medl.Medl.{Medl}
-use Rattle.ttp_world.specs.declared.node.Entry.{Entry}
-use Rattle.ttp_world.specs.declared.script.Script.{Script}
-use Rattle.ttp_world.specs.Clock.{notes_in}
-use Rattle.ttp_world.specs.Diary.{History, entry_of, continues_stint}
-use Rattle.ttp_world.specs.Hypothesis.{ClusterStart, needed}
-use Rattle.ttp_world.specs.Medl.{IsValid}
-use Rattle.precision.proofs.Averages.{IsUpTo, AreNear}
-use Rattle.precision.proofs.Rounds.{correction}
-use Rattle.precision.proofs.Runs.{clock_after, round_notes}
-use Rattle.fault_plan.specs.Plan.{Plan, sender}
-use Rattle.fault_plan.specs.Kept.{FollowsWithin}
-use Rattle.fault_plan.specs.Places.{planned_place}
-use Rattle.safety_laws.specs.NotedByPlan.{IsSoundIn, NotedByPlan, IsTight}
+use Rattle.safety_laws.proofs.Words.{◌≡◌, ℕ, zero, suc, ◌<◌, ◌≤◌, ℤ, ◌+ℤ◌, ◌-ℤ◌, Bool, true, false, cond, List, [], ◌∷◌}
+use Rattle.safety_laws.proofs.Words.{◌++◌, length, refl, ap, sym, subst, ◌∙◌, arith, ◌==◌, All, All-nil, All-append}
+use Rattle.safety_laws.proofs.Words.{Medl, Entry, Script, notes_in, History, entry_of, continues_stint, ClusterStart}
+use Rattle.safety_laws.proofs.Words.{needed, IsValid, IsUpTo, AreNear, correction, clock_after, round_notes, Plan}
+use Rattle.safety_laws.proofs.Words.{sender, FollowsWithin, planned_place, IsSoundIn, NotedByPlan, IsTight}
 use Rattle.safety_laws.proofs.Apart.{noted_width, near-later, uncorrected-in, same-near}
 use Rattle.safety_laws.proofs.NearNotes.{clock_moved, clock-next, notes-next, NextSlot, index-of, small-new, near-new}
 use Rattle.safety_laws.proofs.NearNotes.{sound-moved}

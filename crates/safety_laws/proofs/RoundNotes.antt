@@ -1,29 +1,15 @@
 -- What a sound node notes in a slot of a plan, and how many deviations it has noted in a round.
-use Rattle.std.proofs.Common.{◌≡◌, ℕ, suc, ◌+◌, ◌<◌, ◌≤◌, ℤ, Bool, true, false, cond, ◌&&◌, List, [], ◌∷◌}
-use Rattle.std.proofs.Common.{length, Some, None, refl, ap, sym, subst, ◌∙◌, mod-lt, arith}
-use Rattle.std.specs.Prelude.{◌==◌}
-use Rattle.std.specs.Option.{option_to_list}
-use Rattle.std.proofs.lemmas.Bool.{false_from_ne_true}
+use Rattle.safety_laws.proofs.Words.{◌≡◌, ℕ, suc, ◌+◌, ◌<◌, ◌≤◌, ℤ, Bool, true, false, cond, ◌&&◌, List, [], ◌∷◌}
+use Rattle.safety_laws.proofs.Words.{length, Some, None, refl, ap, sym, subst, ◌∙◌, mod-lt, arith, ◌==◌, option_to_list}
+use Rattle.safety_laws.proofs.Words.{false_from_ne_true, has_node, Medl, Entry, Script, notes_in, stint_notes, History}
+use Rattle.safety_laws.proofs.Words.{entry_of, diary_of, continues_stint, Place, next_place, stint_place, ClusterStart}
+use Rattle.safety_laws.proofs.Words.{plan_at, TellsOf, place_continued, notes_anew, notes_more, first_slot_first}
+use Rattle.safety_laws.proofs.Words.{later_slot_later, Plan, sender, enters, fate_of, is_good_slot, is_measured, tally}
+use Rattle.safety_laws.proofs.Words.{FollowsPlan, planned_place, sound-from, place-sender, IsSoundIn, NotesNothing}
+use Rattle.safety_laws.proofs.Words.{NotedInSlot, IsTight}
 use Rattle.std.proofs.lemmas.List.{length-append}
-use Rattle.ttp_base.specs.NodeSet.{has_node}
-use Rattle.ttp_world.specs.declared.medl.Medl.{Medl}
-use Rattle.ttp_world.specs.declared.node.Entry.{Entry}
 use Rattle.ttp_world.specs.declared.node.Entry.TheVariants as entry
-use Rattle.ttp_world.specs.declared.script.Script.{Script}
-use Rattle.ttp_world.specs.Clock.{notes_in, stint_notes}
-use Rattle.ttp_world.specs.Diary.{History, entry_of, diary_of, continues_stint, Place, next_place, stint_place}
-use Rattle.ttp_world.specs.Hypothesis.{ClusterStart}
-use Rattle.ttp_world.specs.Medl.{plan_at}
-use Rattle.precision.specs.Together.{TellsOf}
 use Rattle.precision.proofs.Frames.{begun_place, told_goes as goes-telling}
-use Rattle.precision.proofs.Entries.{place_continued, notes_anew, notes_more, first_slot_first, later_slot_later}
-use Rattle.fault_plan.specs.Plan.{Plan, sender, enters}
-use Rattle.fault_plan.specs.Fates.{fate_of, is_good_slot, is_measured, tally}
-use Rattle.fault_plan.specs.Kept.{FollowsPlan}
-use Rattle.fault_plan.specs.Places.{planned_place}
-use Rattle.fault_plan.proofs.FateSteps.{sound-from}
-use Rattle.fault_plan.proofs.Places.{place-sender}
-use Rattle.safety_laws.specs.NotedByPlan.{IsSoundIn, NotesNothing, NotedInSlot, IsTight}
 
 -- One entry.
 

@@ -1,39 +1,24 @@
 -- The tests of safety with armed nodes follow from what each node is by its fate.
-use Rattle.std.proofs.Common.{◌≡◌, ℕ, suc, ◌+◌, ◌-◌, ◌<◌, Bool, true, false, not, ◌&&◌, ◌||◌, List}
-use Rattle.std.proofs.Common.{length, Some}
-use Rattle.std.proofs.Common.{refl, ap, sym, subst, ◌∙◌, inl, inr, arith}
-use Rattle.std.specs.Prelude.{nat_le}
-use Rattle.std.specs.List.{AllByRecursion}
-use Rattle.std.proofs.lemmas.Bool.{or_left, or_right, and_from, and_parts, leb-true, both_ways, not_from_false}
-use Rattle.ttp_base.proofs.Below.{below-lt}
-use Rattle.ttp_world.specs.declared.medl.Medl.{Medl}
-use Rattle.ttp_world.specs.declared.node.Ack.{Ack}
+use Rattle.safety_laws.proofs.Words.{◌≡◌, ℕ, suc, ◌+◌, ◌-◌, ◌<◌, Bool, true, false, not, ◌&&◌, ◌||◌, List, length, Some}
+use Rattle.safety_laws.proofs.Words.{refl, ap, sym, subst, ◌∙◌, inl, inr, arith, nat_le, AllByRecursion, or_right}
+use Rattle.safety_laws.proofs.Words.{and_from, and_parts, leb-true, both_ways, not_from_false, below-lt, Medl, Ack}
+use Rattle.safety_laws.proofs.Words.{Phase, Script, is_doubt, has_sent_in_stint, has_left_since_arm, History, diary_of}
+use Rattle.safety_laws.proofs.Words.{is_active_phase, is_active, ClusterStart, FaultyNode, nodes_of, newest_slot}
+use Rattle.safety_laws.proofs.Words.{is_settled, are_same_members, has_left, is_in_among, is_out_among, is_armed}
+use Rattle.safety_laws.proofs.Words.{node_past, each-filter, Plan, enters, fate_of, lost_since, ledger_of, ledger-told}
+use Rattle.safety_laws.proofs.Words.{IsSoundAt, is_there, sound-fate}
+use Rattle.std.proofs.lemmas.Bool.{or_left}
 use Rattle.ttp_world.specs.declared.node.Ack.TheVariants as ack
-use Rattle.ttp_world.specs.declared.node.Phase.{Phase}
-use Rattle.ttp_world.specs.declared.script.Script.{Script}
-use Rattle.ttp_world.specs.Acknowledgement.{is_doubt}
-use Rattle.ttp_world.specs.BackSafety.{back_correct_nodes, back_settled_nodes, has_sent_in_stint, back_senders}
-use Rattle.ttp_world.specs.BackSafety.{is_armed_among, has_left_since_arm, back_members_agree, back_senders_are_members}
+use Rattle.ttp_world.specs.BackSafety.{back_correct_nodes, back_settled_nodes, back_senders}
+use Rattle.ttp_world.specs.BackSafety.{is_armed_among, back_members_agree, back_senders_are_members}
 use Rattle.ttp_world.specs.BackSafety.{none_has_left_since_arm, is_back_gone, back_faulty_are_gone, has_returned}
 use Rattle.ttp_world.specs.BackSafety.{is_due, armed_have_returned, IsBackSafe}
-use Rattle.ttp_world.specs.Diary.{History, diary_of, is_active_phase, is_active}
-use Rattle.ttp_world.specs.Hypothesis.{ClusterStart, FaultyNode, nodes_of}
 use Rattle.ttp_world.specs.Returning.{two_rounds, four_rounds, back_faulty_after, is_back_correct_after}
-use Rattle.ttp_world.specs.Safety.{newest_slot, is_settled, are_same_members, has_left, is_in_among, is_out_among}
-use Rattle.ttp_world.specs.Script.{is_armed}
-use Rattle.ttp_world.specs.World.{node_past}
-use Rattle.ttp_world.proofs.Filters.{each-filter}
-use Rattle.fault_plan.specs.Plan.{Plan, enters}
-use Rattle.fault_plan.specs.Fates.{fate_of, lost_since}
-use Rattle.fault_plan.specs.Ledger.{ledger_of}
 use Rattle.fault_plan.specs.Returned.{IsSoundAgain}
-use Rattle.fault_plan.proofs.Ledgers.{ledger-told}
-use Rattle.safety_laws.specs.ByFate.{IsSoundAt, is_there}
 use Rattle.safety_laws.specs.PlannedRun.{StandsBack}
 use Rattle.safety_laws.proofs.Among.{all-by, each-of, newest, IsSoundNode, at-sound, same-settled, agree-settled}
 use Rattle.safety_laws.proofs.Among.{in-sound, gone-lost}
 use Rattle.safety_laws.proofs.PlanSteps.{told-fallen}
-use Rattle.fault_plan.proofs.FateSteps.{sound-fate}
 
 module _ (list : Medl) (script : Script) (start : ClusterStart) (plan : Plan) (turn : ℕ) (history : History)
     (is : StandsBack list script start plan turn history) where

@@ -1,27 +1,14 @@
 -- The tests of safety follow from what each node is by its fate.
-use Rattle.std.proofs.Common.{◌≡◌, ℕ, suc, ◌+◌, ◌-◌, ◌*◌, ◌<◌, ◌≤◌, Bool, true, false, not, ◌&&◌, ◌||◌, length, Some}
-use Rattle.std.proofs.Common.{refl, ap, sym, subst, ◌∙◌, arith}
-use Rattle.std.specs.Prelude.{nat_le}
-use Rattle.std.specs.List.{AllByRecursion}
-use Rattle.std.proofs.lemmas.Bool.{or_right, leb-true}
-use Rattle.ttp_base.proofs.Below.{below-lt}
-use Rattle.ttp_world.specs.declared.medl.Medl.{Medl}
-use Rattle.ttp_world.specs.declared.node.Phase.{Phase}
-use Rattle.ttp_world.specs.declared.script.Script.{Script}
-use Rattle.ttp_world.specs.Diary.{History, diary_of}
-use Rattle.ttp_world.specs.Hypothesis.{ClusterStart, FaultyNode, nodes_of, faulty_nodes_after, is_correct_after}
-use Rattle.ttp_world.specs.Messages.{is_left_phase}
-use Rattle.ttp_world.specs.Safety.{newest_slot, correct_nodes, is_settled, settled_nodes, has_ever_sent, has_left}
-use Rattle.ttp_world.specs.Safety.{is_in_among, correct_senders, is_out, is_gone, members_agree, senders_are_members}
-use Rattle.ttp_world.specs.Safety.{none_has_left, faulty_are_gone, IsSafe}
-use Rattle.ttp_world.specs.World.{node_past}
-use Rattle.ttp_world.proofs.Filters.{each-filter}
-use Rattle.fault_plan.specs.Plan.{Plan}
-use Rattle.fault_plan.specs.Fates.{fate_of, lost_since}
-use Rattle.fault_plan.proofs.Returns.{none-enters}
-use Rattle.safety_laws.specs.ByFate.{IsSoundAt}
-use Rattle.safety_laws.specs.Gone.{FaultyLeave}
-use Rattle.safety_laws.specs.PlannedRun.{StandsAfter}
+use Rattle.safety_laws.proofs.Words.{◌≡◌, ℕ, suc, ◌+◌, ◌-◌, ◌*◌, ◌<◌, ◌≤◌, Bool, true, false, not, ◌&&◌, ◌||◌, length}
+use Rattle.safety_laws.proofs.Words.{Some, refl, ap, sym, subst, ◌∙◌, arith, nat_le, AllByRecursion, or_right, leb-true}
+use Rattle.safety_laws.proofs.Words.{below-lt, Medl, Phase, Script, History, diary_of, ClusterStart, FaultyNode}
+use Rattle.safety_laws.proofs.Words.{nodes_of, is_correct_after, is_left_phase, newest_slot, is_settled, has_ever_sent}
+use Rattle.safety_laws.proofs.Words.{has_left, is_in_among, IsSafe, node_past, each-filter, Plan, fate_of, lost_since}
+use Rattle.safety_laws.proofs.Words.{none-enters, IsSoundAt, FaultyLeave, StandsAfter}
+use Rattle.ttp_world.specs.Hypothesis.{faulty_nodes_after}
+use Rattle.ttp_world.specs.Safety.{correct_nodes, settled_nodes}
+use Rattle.ttp_world.specs.Safety.{correct_senders, is_out, is_gone, members_agree, senders_are_members}
+use Rattle.ttp_world.specs.Safety.{none_has_left, faulty_are_gone}
 use Rattle.safety_laws.proofs.Among.{all-by, each-of, newest, IsSoundNode, at-sound, agree-settled, in-sound}
 use Rattle.safety_laws.proofs.Among.{gone-lost}
 

@@ -1,11 +1,8 @@
 -- The frames of a slot in which one node alone sends, or none.
-use Rattle.std.proofs.Common.{◌≡◌, ◌≢◌, ℕ, zero, suc, ◌+◌, ◌<◌, ◌≤◌, List, [], ◌++◌, length, refl, ap, ◌∙◌}
-use Rattle.std.proofs.Common.{inl, inr, arith}
-use Rattle.std.specs.List.{flat_map, range_with_len}
-use Rattle.std.proofs.lemmas.Bool.{cases_eq}
-use Rattle.std.proofs.lemmas.List.{append-nil}
-use Rattle.ttp_world.specs.declared.node.Chosen.{Chosen}
-use Rattle.ttp_world.specs.World.{BegunSlot, frames_of, frames_in}
+use Rattle.safety_laws.proofs.Words.{◌≡◌, ◌≢◌, ℕ, zero, suc, ◌+◌, ◌<◌, ◌≤◌, List, [], ◌++◌, length, refl, ap, ◌∙◌, inl}
+use Rattle.safety_laws.proofs.Words.{inr, arith, range_with_len, cases_eq, append-nil, Chosen, BegunSlot, frames_of}
+use Rattle.safety_laws.proofs.Words.{frames_in}
+use Rattle.std.specs.List.{flat_map}
 
 flat_map-none : {X : Type 0} (f : ℕ → List X) (a n : ℕ) → ((k : ℕ) → a ≤ k → k < a + n → f k ≡ [])
     → flat_map f (range_with_len a n) ≡ []

@@ -1,20 +1,10 @@
 -- A sound node that is not the sender of a turn, and is not lost in it, is sound as the plan says after it.
-use Rattle.std.proofs.Common.{◌≡◌, ◌≢◌, ℕ, suc, ◌<◌, Bool, true, false, length, refl, ap, sym, subst}
-use Rattle.std.proofs.Common.{◌∙◌, inl, inr, arith}
-use Rattle.ttp_world.specs.declared.medl.Medl.{Medl}
-use Rattle.ttp_world.specs.declared.script.Script.{Script}
-use Rattle.ttp_world.specs.Hypothesis.{ClusterStart, loses}
-use Rattle.ttp_world.specs.World.{SlotNumbers, Numbers}
-use Rattle.fault_plan.specs.Plan.{Change, Sending, Receiving, Jumping, Plan, sender, incident_at}
-use Rattle.fault_plan.specs.Fates.{Fate, Absent, Sound, Falling, Fallen, Listening, fate_of, is_sound}
-use Rattle.fault_plan.specs.Fates.{is_sound_after}
-use Rattle.fault_plan.specs.Fates.{is_good_slot, is_first_slot}
-use Rattle.fault_plan.specs.Told.{IsFalling}
-use Rattle.fault_plan.proofs.FateSteps.{strikes}
-use Rattle.fault_plan.proofs.FateTells.{loss-sending}
-use Rattle.safety_laws.specs.NodeSlot.{next_past}
-use Rattle.safety_laws.specs.ByFate.{IsFallingAt, IsFallenAt}
-use Rattle.safety_laws.specs.PlanTurn.{IsTurn}
+use Rattle.safety_laws.proofs.Words.{◌≡◌, ◌≢◌, ℕ, suc, ◌<◌, Bool, true, false, length, refl, ap, sym, subst, ◌∙◌, inl}
+use Rattle.safety_laws.proofs.Words.{inr, arith, Medl, Script, ClusterStart, loses, SlotNumbers, Numbers, Change}
+use Rattle.safety_laws.proofs.Words.{Sending, Receiving, Jumping, Plan, sender, incident_at, Fate, Absent, Sound}
+use Rattle.safety_laws.proofs.Words.{Falling, Fallen, Listening, fate_of, is_sound, is_sound_after, is_good_slot}
+use Rattle.safety_laws.proofs.Words.{is_first_slot, IsFalling, strikes, loss-sending, next_past, IsFallingAt}
+use Rattle.safety_laws.proofs.Words.{IsFallenAt, IsTurn}
 use Rattle.safety_laws.proofs.Arrivals.{sound-alone, silent-absent, silent-listening, silent-fallen, falling-acts}
 use Rattle.safety_laws.proofs.PlanSteps.{IsStruck, struck-known, sound-stays, wrong-slot}
 use Rattle.safety_laws.proofs.PlanSteps.{falling-shown, struck-shown, first-shown, told-falling}

@@ -1,39 +1,21 @@
 -- The slot of the start: one node starts, and every other that is on joins on its frame.
-use Rattle.std.proofs.Common.{◌≡◌, ◌≢◌, ℕ, ◌+◌, ◌-◌, ◌*◌, ◌<◌, ◌≤◌, Bool, true, false, cond, ◌&&◌, ◌||◌, List, []}
-use Rattle.std.proofs.Common.{◌∷◌, length, Option, Some, None, option_map, refl, ap, sym, ◌∙◌, subst, inl, inr}
-use Rattle.std.proofs.Common.{◌⊎◌, arith}
-use Rattle.std.specs.Prelude.{nat_le, if◌then◌else◌}
-use Rattle.std.proofs.lemmas.Bool.{cases_eq, eq-eqb, false≢true, le-leb}
-use Rattle.std.proofs.lemmas.Option.{same_Some}
-use Rattle.ttp_base.proofs.NodeLists.{with_node-nil}
-use Rattle.ttp_world.specs.declared.medl.Medl.{Medl}
+use Rattle.safety_laws.proofs.Words.{◌≡◌, ◌≢◌, ℕ, ◌+◌, ◌-◌, ◌*◌, ◌<◌, ◌≤◌, Bool, true, false, cond, ◌&&◌, ◌||◌, List}
+use Rattle.safety_laws.proofs.Words.{[], ◌∷◌, length, Option, Some, None, option_map, refl, ap, sym, ◌∙◌, subst, inl}
+use Rattle.safety_laws.proofs.Words.{inr, ◌⊎◌, arith, nat_le, if◌then◌else◌, cases_eq, eq-eqb, false≢true, le-leb}
+use Rattle.safety_laws.proofs.Words.{same_Some, with_node-nil, Medl, Act, Listen, Start, Chosen, Entry, Phase, Script}
+use Rattle.safety_laws.proofs.Words.{act, phase_act, past_after, cold_start_frame, node_frames, new_entry, History}
+use Rattle.safety_laws.proofs.Words.{SlotSurroundings, phase_after, start_place, ClusterStart, start_slot, loses}
+use Rattle.safety_laws.proofs.Words.{may_start, IsValid, AreNodes, NodePast, on_slot, is_on, is_armed, flipped_bits}
+use Rattle.safety_laws.proofs.Words.{node_past, slot_after, chosen_of, frames_in, deviation_in, step, nodes-most}
+use Rattle.safety_laws.proofs.Words.{HearsFrame, node_slot, entry_made, StandsBy, joined_standing, IsStartHeard}
+use Rattle.safety_laws.proofs.Words.{slots_since, slots_on, waiting_phase, Waits, starter_standing, joined_on_start}
+use Rattle.safety_laws.proofs.Words.{HoldsGroup}
 use Rattle.ttp_world.specs.declared.node.Ack.TheVariants as ack
-use Rattle.ttp_world.specs.declared.node.Act.{Act}
-use Rattle.ttp_world.specs.declared.node.Act.TheVariants.{Listen, Start}
-use Rattle.ttp_world.specs.declared.node.Chosen.{Chosen}
-use Rattle.ttp_world.specs.declared.node.Entry.{Entry}
 use Rattle.ttp_world.specs.declared.node.Entry.TheVariants as entry
-use Rattle.ttp_world.specs.declared.node.Phase.{Phase}
 use Rattle.ttp_world.specs.declared.node.Phase.TheVariants as phase
-use Rattle.ttp_world.specs.declared.script.Script.{Script}
-use Rattle.ttp_world.specs.Act.{act, phase_act}
-use Rattle.ttp_world.specs.After.{past_after}
-use Rattle.ttp_world.specs.Conduct.{cold_start_frame, node_frames, new_entry}
-use Rattle.ttp_world.specs.Diary.{History, SlotSurroundings, phase_after, start_place}
-use Rattle.ttp_world.specs.Hypothesis.{ClusterStart, start_slot, loses}
-use Rattle.ttp_world.specs.Medl.{may_start, IsValid}
-use Rattle.ttp_world.specs.Membership.{AreNodes}
-use Rattle.ttp_world.specs.Past.{NodePast}
-use Rattle.ttp_world.specs.Script.{on_slot, is_on, is_armed, flipped_bits}
-use Rattle.ttp_world.specs.World.{node_past, slot_after, chosen_of, frames_in, deviation_in, step}
 use Rattle.ttp_world.specs.Starts.{StartsAlone}
-use Rattle.ttp_world.proofs.Lists.{nodes-most}
 use Rattle.ttp_world.proofs.MemberSets.{members_after-Started}
-use Rattle.safety_laws.specs.Heard.{HearsFrame}
-use Rattle.safety_laws.specs.NodeSlot.{node_slot, entry_made}
-use Rattle.safety_laws.specs.Standing.{Standing, StandsBy, joined_standing}
-use Rattle.safety_laws.specs.Start.{IsStartHeard, slots_since, slots_on, waiting_phase, Waits}
-use Rattle.safety_laws.specs.Start.{starter_standing, joined_on_start}
+use Rattle.safety_laws.specs.Standing.{Standing}
 use Rattle.safety_laws.specs.Start.{HasBegun}
 use Rattle.safety_laws.proofs.Hearing.{HearsFrame-kept}
 use Rattle.safety_laws.proofs.Joins.{AreNodes-only, joinable-cold_start}
@@ -42,7 +24,6 @@ use Rattle.safety_laws.proofs.NodeSlots.{node_past-step, frames_of-made}
 use Rattle.safety_laws.proofs.Senders.{frames_in-one}
 use Rattle.safety_laws.proofs.Waiting.{act-waiting, is_start_due-early, waiting_act, node_frames-waiting, phase_of_some}
 use Rattle.safety_laws.proofs.Waiting.{WaitAll}
-use Rattle.safety_laws.specs.Groups.{HoldsGroup}
 use Rattle.safety_laws.proofs.Groups.{holds-by}
 
 -- The starter.

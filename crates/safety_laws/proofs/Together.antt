@@ -1,20 +1,10 @@
 -- Members and clocks together: after each slot of a run from the start on, where what the nodes noted keeps their
 -- clocks together.
-use Rattle.std.proofs.Common.{◌≡◌, ℕ, zero, suc, ◌+◌, ◌<◌, [], ◌∷◌, length, inl, inr, arith}
-use Rattle.ttp_world.specs.declared.medl.Medl.{Medl}
-use Rattle.ttp_world.specs.declared.script.Script.{Script}
-use Rattle.ttp_world.specs.Hypothesis.{ClusterStart}
-use Rattle.ttp_world.specs.Legal.{IsLegal}
-use Rattle.ttp_world.specs.Medl.{IsValid}
-use Rattle.ttp_world.specs.World.{SlotNumbers, Numbers, slot_after, world}
-use Rattle.ttp_world.proofs.LegalShapes.{legal-older}
-use Rattle.fault_plan.specs.Kept.{FollowsWithin}
-use Rattle.fault_plan.specs.Plan.{Plan}
-use Rattle.safety_laws.specs.NotedByPlan.{NotedByPlan, GoesOnByPlan}
+use Rattle.safety_laws.proofs.Words.{◌≡◌, ℕ, zero, suc, ◌+◌, ◌<◌, [], ◌∷◌, length, inl, inr, arith, Medl, Script}
+use Rattle.safety_laws.proofs.Words.{ClusterStart, IsLegal, IsValid, SlotNumbers, Numbers, slot_after, world}
+use Rattle.safety_laws.proofs.Words.{legal-older, FollowsWithin, Plan, NotedByPlan, GoesOnByPlan, IsBegun, IsTurn}
+use Rattle.safety_laws.proofs.Words.{IsByPlan}
 use Rattle.safety_laws.specs.ClocksHold.{ClocksHold}
-use Rattle.safety_laws.specs.PlannedRun.{IsBegun}
-use Rattle.safety_laws.specs.PlanTurn.{IsTurn}
-use Rattle.safety_laws.specs.ByPlan.{IsByPlan}
 use Rattle.safety_laws.proofs.Bounds.{sound-inside}
 use Rattle.safety_laws.proofs.OutsideWindow.{jumped-outside}
 use Rattle.safety_laws.proofs.Begins.{holds-begun}

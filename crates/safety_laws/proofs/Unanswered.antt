@@ -1,24 +1,16 @@
 -- A node whose frame is not acknowledged stays so while no frame has it among its members, or each has one that it
 -- lacks; and another's slot brings no node but its owner into what a node holds.
-use Rattle.std.proofs.Common.{◌≡◌, ◌≢◌, ℕ, ◌<◌, ℤ, pos, Bool, true, false, cond, List, length, refl, ap, sym, ◌∙◌, ◌⊎◌}
-use Rattle.std.proofs.Common.{inl, inr, subst, arith}
-use Rattle.std.proofs.lemmas.Bool.{false≢true}
-use Rattle.ttp_base.specs.NodeSet.{most_nodes, has_node, with_node}
-use Rattle.ttp_world.specs.declared.node.Ack.{Ack}
+use Rattle.safety_laws.proofs.Words.{◌≡◌, ◌≢◌, ℕ, ◌<◌, ℤ, pos, Bool, true, false, cond, List, length, refl, ap, sym}
+use Rattle.safety_laws.proofs.Words.{◌∙◌, ◌⊎◌, inl, inr, subst, arith, false≢true, most_nodes, has_node, with_node, Ack}
+use Rattle.safety_laws.proofs.Words.{Verdict, is_correct, settled_members, judged_members, ack_answered, candidates}
+use Rattle.safety_laws.proofs.Words.{verdict_of_view, nodes-most, IsUnanswered, HearsNoAnswer, Lacks, HasThird, Outside}
+use Rattle.safety_laws.proofs.Words.{NoFrame, NodeSlot, next_past, owner_of, candidates_of, is_second, HasJustLeft}
+use Rattle.safety_laws.proofs.Words.{IsJudgedAs, IsJudging, HearsMembers}
 use Rattle.ttp_world.specs.declared.node.Ack.TheVariants as ack
 use Rattle.ttp_world.specs.declared.node.ChannelView.TheVariants as view
 use Rattle.ttp_world.specs.declared.node.Reason.TheVariants as reason
-use Rattle.ttp_world.specs.declared.node.Verdict.{Verdict}
 use Rattle.ttp_world.specs.declared.node.Verdict.TheVariants as verdict
-use Rattle.ttp_world.specs.Acknowledgement.{is_correct}
-use Rattle.ttp_world.specs.After.{settled_members, judged_members, ack_answered}
-use Rattle.ttp_world.specs.Reception.{candidates, verdict_of_view}
-use Rattle.ttp_world.proofs.Lists.{nodes-most}
-use Rattle.safety_laws.specs.Groups.{IsUnanswered, HearsNoAnswer, Lacks, HasThird, Outside, NoFrame, StaysUnanswered}
-use Rattle.safety_laws.specs.NodeSlot.{NodeSlot, next_past, owner_of, candidates_of}
-use Rattle.safety_laws.specs.SlotFrames.{is_second}
-use Rattle.safety_laws.specs.Standing.{HasJustLeft, IsJudgedAs}
-use Rattle.safety_laws.specs.Turns.{IsJudging, HearsMembers}
+use Rattle.safety_laws.specs.Groups.{StaysUnanswered}
 use Rattle.safety_laws.proofs.GroupSets.{has_node-with_other, has_node-without_other, has_node-without_none}
 use Rattle.safety_laws.proofs.GroupSets.{has_node-put_in}
 use Rattle.safety_laws.proofs.Verdicts.{view-later, entry-by_view, judged-outside, judged-none, judged-by_verdict}

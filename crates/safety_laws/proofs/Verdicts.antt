@@ -1,33 +1,20 @@
 -- What an active node holds after another's slot, by what comes to it.
-use Rattle.std.proofs.Common.{◌≡◌, ◌≢◌, ℕ, ◌<◌, ℤ, pos, false, cond, List, Option, Some, None, refl, ap, sym, ◌∙◌, ◌⊎◌}
-use Rattle.std.proofs.Common.{inl, inr, subst, length, arith}
-use Rattle.std.specs.Str.{bytes_eq}
-use Rattle.std.proofs.lemmas.Bool.{ne_eqb, false_from_ne_true}
-use Rattle.std.proofs.lemmas.Slice.Eq.{bytes_eq-Decides}
-use Rattle.ttp_base.specs.NodeSet.{with_node, without_node}
-use Rattle.ttp_world.specs.declared.node.Ack.{Ack}
+use Rattle.safety_laws.proofs.Words.{◌≡◌, ◌≢◌, ℕ, ◌<◌, ℤ, pos, false, cond, List, Option, Some, None, refl, ap, sym}
+use Rattle.safety_laws.proofs.Words.{◌∙◌, ◌⊎◌, inl, inr, subst, length, arith, bytes_eq, ne_eqb, false_from_ne_true}
+use Rattle.safety_laws.proofs.Words.{bytes_eq-Decides, with_node, without_node, Ack, Act, Judge, ChannelView, Entry}
+use Rattle.safety_laws.proofs.Words.{Phase, Verdict, phase_act, own_act, past_after, verdict_entry, judging_entry}
+use Rattle.safety_laws.proofs.Words.{new_entry, Candidates, candidates, verdict_of_view, expected_of, nodes-most}
+use Rattle.safety_laws.proofs.Words.{HearsNoFrame, HearsSilence, NodeSlot, act_made, entry_made, next_past, owner_of}
+use Rattle.safety_laws.proofs.Words.{candidates_of, is_second, view_of_members, StandsBy, HasJustLeft, IsJudgedAs}
+use Rattle.safety_laws.proofs.Words.{IsAboutListed, IsJudging, HearsMembers, HearsOutside}
 use Rattle.ttp_world.specs.declared.node.Ack.TheVariants as ack
-use Rattle.ttp_world.specs.declared.node.Act.{Act}
-use Rattle.ttp_world.specs.declared.node.Act.TheVariants.{Judge}
-use Rattle.ttp_world.specs.declared.node.ChannelView.{ChannelView}
 use Rattle.ttp_world.specs.declared.node.ChannelView.TheVariants as view
-use Rattle.ttp_world.specs.declared.node.Entry.{Entry}
 use Rattle.ttp_world.specs.declared.node.Entry.TheVariants as entry
-use Rattle.ttp_world.specs.declared.node.Phase.{Phase}
 use Rattle.ttp_world.specs.declared.node.Reason.TheVariants as reason
-use Rattle.ttp_world.specs.declared.node.Verdict.{Verdict}
 use Rattle.ttp_world.specs.declared.node.Verdict.TheVariants as verdict
-use Rattle.ttp_world.specs.Act.{phase_act, own_act}
-use Rattle.ttp_world.specs.After.{past_after}
-use Rattle.ttp_world.specs.Conduct.{verdict_entry, judging_entry, new_entry}
-use Rattle.ttp_world.specs.Reception.{Candidates, candidates, verdict_of_view, expected_of}
-use Rattle.ttp_world.proofs.Lists.{nodes-most}
 use Rattle.ttp_world.proofs.MemberSets.{members_after-Judged}
-use Rattle.safety_laws.specs.Heard.{HearsNoFrame, HearsSilence}
-use Rattle.safety_laws.specs.NodeSlot.{NodeSlot, act_made, entry_made, next_past, coming_place, owner_of, candidates_of}
-use Rattle.safety_laws.specs.SlotFrames.{is_second, view_of_members}
-use Rattle.safety_laws.specs.Standing.{StandsBy, HasJustLeft, judged_standing, IsJudgedAs}
-use Rattle.safety_laws.specs.Turns.{IsAboutListed, IsJudging, HearsMembers, HearsOutside}
+use Rattle.safety_laws.specs.NodeSlot.{coming_place}
+use Rattle.safety_laws.specs.Standing.{judged_standing}
 use Rattle.safety_laws.proofs.Judging.{judging_entry-frame, judging_entry-none, judging_entry-silence}
 use Rattle.safety_laws.proofs.GroupSets.{AreCandidates-node, put_in≢taken_out}
 use Rattle.safety_laws.proofs.Views.{view_of_bits-members, view_of_bits-outside}

@@ -1,29 +1,20 @@
 -- At one place an undisturbed frame inside the window is seen by its members alone.
-use Rattle.std.proofs.Common.{◌≡◌, ◌≢◌, ℕ, ℤ, Bool, true, false, cond, ◌&&◌, List, [], Option, Some, None}
-use Rattle.std.proofs.Common.{refl, ap, sym, ◌∙◌, unwrap_or, option_map, arith, neg_ℤ, ◌≤ℤ◌}
-use Rattle.std.specs.Prelude.{◌↔◌, IfSome, IsTrue, int_le}
+use Rattle.safety_laws.proofs.Words.{◌≡◌, ◌≢◌, ℕ, ℤ, Bool, true, false, cond, ◌&&◌, List, [], Option, Some, None, refl}
+use Rattle.safety_laws.proofs.Words.{ap, sym, ◌∙◌, unwrap_or, option_map, arith, neg_ℤ, ◌≤ℤ◌, IfSome, IsTrue, int_le}
+use Rattle.safety_laws.proofs.Words.{bytes_eq, and_from, ints, bytes_eq-Decides, Kind, Medl, ChannelView, CState}
+use Rattle.safety_laws.proofs.Words.{cold_start_cstate, cold_start_frame, Place, cstate_at, header_of}
+use Rattle.safety_laws.proofs.Words.{cold_start_header, is_wide, member_width, kind_at, IsValid, AreNodes, Candidates}
+use Rattle.safety_laws.proofs.Words.{Expected, expected_header, expected_length, is_within_window, is_expected_form}
+use Rattle.safety_laws.proofs.Words.{fits_members, fits_second, view_of_bits, HavePlaces-AreNodes, is_formed-frame}
+use Rattle.safety_laws.proofs.Words.{slot_frame, IsSlotFrame, AreCandidates, is_second, view_of_members}
+use Rattle.std.specs.Prelude.{◌↔◌}
 use Rattle.std.specs.Bool.{Decides}
-use Rattle.std.specs.Str.{bytes_eq}
-use Rattle.std.proofs.lemmas.Bool.{and_from}
 use Rattle.std.proofs.lemmas.Bool.Decides.{same_from_decides}
-use Rattle.std.proofs.lemmas.Int.{ints}
-use Rattle.std.proofs.lemmas.Slice.Eq.{bytes_eq-Decides}
-use Rattle.ttp_world.specs.declared.medl.Kind.{Kind}
 use Rattle.ttp_world.specs.declared.medl.Kind.TheVariants as kind
-use Rattle.ttp_world.specs.declared.medl.Medl.{Medl}
-use Rattle.ttp_world.specs.declared.node.ChannelView.{ChannelView}
 use Rattle.ttp_world.specs.declared.node.ChannelView.TheVariants as view
-use Rattle.ttp_world.specs.declared.node.CState.{CState}
-use Rattle.ttp_world.specs.Conduct.{cold_start_cstate, cold_start_frame}
-use Rattle.ttp_world.specs.Diary.{Place, cstate_at}
 use Rattle.ttp_world.specs.Fitting.{fits, is_formed}
-use Rattle.ttp_world.specs.Frame.{header_of, cold_start_header}
-use Rattle.ttp_world.specs.Medl.{is_wide, member_width, kind_at, IsValid}
-use Rattle.ttp_world.specs.Membership.{AreNodes}
-use Rattle.ttp_world.specs.Reception.{Candidates, Expected, expected_header, expected_length, is_within_window}
-use Rattle.ttp_world.specs.Reception.{is_expected_form, fits_members, fits_second, view_of_frame, view_of_bits}
-use Rattle.ttp_frame.proofs.Undisturbed.{HavePlaces-AreNodes, is_formed-frame, is_formed-other, fits-same_place}
-use Rattle.safety_laws.specs.SlotFrames.{slot_frame, IsSlotFrame, AreCandidates, is_second, view_of_members}
+use Rattle.ttp_world.specs.Reception.{view_of_frame}
+use Rattle.ttp_frame.proofs.Undisturbed.{is_formed-other, fits-same_place}
 use Rattle.ttp_world.proofs.SmallTests.{near_of_test as within-bounds}
 
 -- C-states of one place are the same exactly where their members are

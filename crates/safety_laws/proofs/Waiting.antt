@@ -1,32 +1,18 @@
 -- Until some node's limit is reached, each node is off or listens in silence.
-use Rattle.std.proofs.Common.{◌≡◌, ◌≢◌, ℕ, suc, ◌+◌, ◌*◌, ◌<◌, ◌≤◌, Bool, true, false, cond, ◌&&◌, List, []}
-use Rattle.std.proofs.Common.{◌∷◌, length, Option, Some, None, option_map, refl, ap, sym, ◌∙◌, subst, arith}
-use Rattle.std.specs.Prelude.{◌==◌, nat_le, if◌then◌else◌}
-use Rattle.std.proofs.lemmas.Bool.{eqb-false, ne_eqb, lt-leb, le-leb, leb-true, leb-false}
-use Rattle.ttp_world.specs.declared.medl.Medl.{Medl}
-use Rattle.ttp_world.specs.declared.node.Act.{Act}
-use Rattle.ttp_world.specs.declared.node.Act.TheVariants.{Off, Listen, Start}
-use Rattle.ttp_world.specs.declared.node.Chosen.{Chosen}
-use Rattle.ttp_world.specs.declared.node.Entry.{Entry}
+use Rattle.safety_laws.proofs.Words.{◌≡◌, ◌≢◌, ℕ, suc, ◌+◌, ◌*◌, ◌<◌, ◌≤◌, Bool, true, false, cond, ◌&&◌, List, [], ◌∷◌}
+use Rattle.safety_laws.proofs.Words.{length, Option, Some, None, option_map, refl, ap, sym, ◌∙◌, subst, arith, ◌==◌}
+use Rattle.safety_laws.proofs.Words.{nat_le, if◌then◌else◌, ne_eqb, lt-leb, le-leb, leb-true, Medl, Act, Off, Listen}
+use Rattle.safety_laws.proofs.Words.{Start, Chosen, Entry, Phase, Script, act, phase_act, past_after, node_frames}
+use Rattle.safety_laws.proofs.Words.{new_entry, History, start_slot, may_start, IsValid, NodePast, on_slot, is_on}
+use Rattle.safety_laws.proofs.Words.{is_armed, Numbers, node_past, slot_after, chosen_of, frames_in, step, world}
+use Rattle.safety_laws.proofs.Words.{messages_chosen, length-world, is_frameless, HearsSilence, NodeSlot, node_slot}
+use Rattle.safety_laws.proofs.Words.{act_made, entry_made, next_past, HasWaited, slots_since, slots_on, waiting_phase}
+use Rattle.safety_laws.proofs.Words.{Waits}
+use Rattle.std.proofs.lemmas.Bool.{eqb-false, leb-false}
 use Rattle.ttp_world.specs.declared.node.Entry.TheVariants as entry
-use Rattle.ttp_world.specs.declared.node.Phase.{Phase}
 use Rattle.ttp_world.specs.declared.node.Phase.TheVariants as phase
-use Rattle.ttp_world.specs.declared.script.Script.{Script}
-use Rattle.ttp_world.specs.Act.{act, phase_act, is_start_due}
-use Rattle.ttp_world.specs.After.{past_after}
-use Rattle.ttp_world.specs.Conduct.{node_frames, new_entry}
-use Rattle.ttp_world.specs.Diary.{History}
-use Rattle.ttp_world.specs.Hypothesis.{start_slot}
-use Rattle.ttp_world.specs.Medl.{may_start, IsValid}
-use Rattle.ttp_world.specs.Past.{NodePast}
-use Rattle.ttp_world.specs.Script.{on_slot, has_come, is_on, is_armed}
-use Rattle.ttp_world.specs.World.{Numbers, node_past, slot_after, chosen_of, frames_in, step, world}
-use Rattle.ttp_world.specs.World.{messages_chosen}
-use Rattle.ttp_world.proofs.Worlds.{length-world}
-use Rattle.safety_laws.specs.Heard.{is_frameless, HearsSilence}
-use Rattle.safety_laws.specs.NodeSlot.{NodeSlot, node_slot, act_made, entry_made, next_past}
-use Rattle.safety_laws.specs.Standing.{HasWaited}
-use Rattle.safety_laws.specs.Start.{slots_since, slots_on, waiting_phase, Waits}
+use Rattle.ttp_world.specs.Act.{is_start_due}
+use Rattle.ttp_world.specs.Script.{has_come}
 use Rattle.safety_laws.proofs.Hearing.{HearsSilence-none}
 use Rattle.safety_laws.proofs.Listening.{around-silent, silence-silent, waited-none}
 use Rattle.safety_laws.proofs.NodeSlots.{node_past-step, frames_of-made}

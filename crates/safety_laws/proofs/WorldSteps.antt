@@ -1,24 +1,18 @@
 -- After one turn more a sound node has sent only where it has had a slot.
-use Rattle.std.proofs.Common.{◌≡◌, ◌≢◌, ℕ, suc, ◌<◌, Bool, true, false, ◌∷◌, length, refl, ap, sym, subst, ◌∙◌, inl}
-use Rattle.std.proofs.Common.{inr, ◌≤◌, not, ◌&&◌, ◌||◌, List, arith, ◌+◌, cond, [], Option}
-use Rattle.std.proofs.lemmas.Bool.{cases_eq, both_ways, and_from, and_parts, and_right, false≢true, false_from_ne_true}
-use Rattle.ttp_world.specs.declared.medl.Medl.{Medl}
-use Rattle.ttp_world.specs.declared.node.Entry.{Entry}
-use Rattle.ttp_world.specs.declared.node.Phase.{Phase}
-use Rattle.ttp_world.specs.declared.script.Script.{Script}
-use Rattle.ttp_world.specs.BackSafety.{is_left_after, has_left_since_arm, has_sent_since_begin, has_sent_in_stint}
-use Rattle.ttp_world.specs.Hypothesis.{ClusterStart}
-use Rattle.ttp_world.specs.Messages.{is_left_phase}
-use Rattle.ttp_world.specs.Past.{NodePast}
-use Rattle.ttp_world.specs.Script.{is_armed}
-use Rattle.ttp_world.specs.World.{SlotNumbers, Numbers, messages_chosen, world, slot_after, row_in}
-use Rattle.fault_plan.specs.Plan.{Change, Plan, sender, incident_at, is_armed_by, enters}
-use Rattle.fault_plan.specs.Fates.{Fate, Absent, Sound, Falling, Fallen, Listening, fate_of, is_sound, is_lost}
-use Rattle.fault_plan.specs.Fates.{is_sound_after, is_good_slot, is_first_slot}
-use Rattle.fault_plan.proofs.FateSteps.{strikes, sound-from, sound-fate}
-use Rattle.safety_laws.specs.NodeSlot.{next_past, NodeSlot, entry_made}
-use Rattle.safety_laws.specs.ByFate.{is_there, IsByFate, IsSoundAt}
-use Rattle.safety_laws.specs.PlanTurn.{HoldsAfter, IsTurn}
+use Rattle.safety_laws.proofs.Words.{◌≡◌, ◌≢◌, ℕ, suc, ◌<◌, Bool, true, false, ◌∷◌, length, refl, ap, sym, subst, ◌∙◌}
+use Rattle.safety_laws.proofs.Words.{inl, inr, ◌≤◌, not, ◌&&◌, ◌||◌, List, arith, ◌+◌, cond, [], Option, cases_eq}
+use Rattle.safety_laws.proofs.Words.{both_ways, and_from, and_parts, and_right, false≢true, false_from_ne_true, Medl}
+use Rattle.safety_laws.proofs.Words.{Entry, Phase, Script, is_left_after, has_left_since_arm, has_sent_since_begin}
+use Rattle.safety_laws.proofs.Words.{has_sent_in_stint, ClusterStart, is_left_phase, NodePast, is_armed, SlotNumbers}
+use Rattle.safety_laws.proofs.Words.{Numbers, messages_chosen, world, slot_after, row_in, Change, Plan, sender}
+use Rattle.safety_laws.proofs.Words.{incident_at, is_armed_by, enters, Fate, Absent, Sound, Falling, Fallen, Listening}
+use Rattle.safety_laws.proofs.Words.{fate_of, is_sound, is_lost, is_sound_after, is_good_slot, is_first_slot, strikes}
+use Rattle.safety_laws.proofs.Words.{sound-from, sound-fate, next_past, NodeSlot, entry_made, is_there, IsByFate}
+use Rattle.safety_laws.proofs.Words.{IsSoundAt, HoldsAfter, IsTurn, Diary, entry_of, diary_of, is_active_phase}
+use Rattle.safety_laws.proofs.Words.{is_active, begins_stint, is_sending, has_ever_sent, Ledger, ledger_of, with_slot}
+use Rattle.safety_laws.proofs.Words.{IsJudging, is_correct, row_of_world, length-world, BeginsOn, TellsOf}
+use Rattle.safety_laws.proofs.Words.{planned_place, entry-good, none-enters, sender-stays, IsSoundIn, StartedByPlan}
+use Rattle.safety_laws.proofs.Words.{NotesNothing, NotedInSlot, IsBegun}
 use Rattle.safety_laws.proofs.Idle.{idle-off}
 use Rattle.safety_laws.proofs.NodeSlots.{entry_of-made, node_past-step}
 use Rattle.safety_laws.proofs.Returners.{listening-next, armed-next, entered-joins}
@@ -30,24 +24,11 @@ use Rattle.safety_laws.proofs.PlanTurns.{armed-planned, good_plan}
 use Rattle.safety_laws.proofs.PlanSteps.{struck-known, absent-stays, fallen-stays, sound-stays, falling-stays}
 use Rattle.safety_laws.proofs.PlanSteps.{falling-shown, struck-falls, struck-shown, ledger-other, ledger-own}
 use Rattle.safety_laws.proofs.SoundSteps.{sound-next}
-use Rattle.ttp_world.specs.Diary.{Diary, entry_of, diary_of, is_active_phase, is_active, begins_stint}
-use Rattle.ttp_world.specs.Medium.{is_sending}
-use Rattle.ttp_world.specs.Safety.{has_ever_sent}
-use Rattle.fault_plan.specs.Ledger.{Ledger, ledger_of, with_slot}
-use Rattle.safety_laws.specs.Turns.{IsJudging}
 use Rattle.safety_laws.proofs.Verdicts.{judged-whatever}
 use Rattle.safety_laws.proofs.Receivers.{sound-judge, judges-good}
 use Rattle.safety_laws.proofs.LostNodes.{IsSoundJudge}
 use Rattle.ttp_world.specs.declared.node.Entry.TheVariants as entry
 use Rattle.ttp_world.specs.declared.node.Phase.TheVariants as phase
-use Rattle.ttp_world.specs.Acknowledgement.{is_correct}
-use Rattle.ttp_world.proofs.Worlds.{row_of_world, length-world}
-use Rattle.precision.specs.Together.{BeginsOn, TellsOf}
-use Rattle.fault_plan.specs.Places.{planned_place}
-use Rattle.fault_plan.proofs.Returns.{entry-good, none-enters}
-use Rattle.fault_plan.proofs.SlotKinds.{sender-stays}
-use Rattle.safety_laws.specs.NotedByPlan.{IsSoundIn, StartedByPlan, NotesNothing, NotedInSlot}
-use Rattle.safety_laws.specs.PlannedRun.{IsBegun}
 use Rattle.safety_laws.proofs.OwnSlots.{sent-own}
 
 -- a node that judges sends nothing, and its stint goes on

@@ -1,29 +1,20 @@
 -- An active node of a world is judging in the slot after it, or in its own.
-use Rattle.std.proofs.Common.{◌≡◌, ◌≢◌, ℕ, ◌<◌, Bool, true, false, List, [], ◌∷◌, length, Option}
-use Rattle.std.proofs.Common.{Some, None, IfSome}
-use Rattle.std.specs.Prelude.{if◌then◌else◌}
-use Rattle.std.specs.List.{AllByRecursion, list_any}
-use Rattle.ttp_world.specs.declared.medl.Medl.{Medl}
-use Rattle.ttp_world.specs.declared.node.Ack.{Ack}
+use Rattle.safety_laws.proofs.Words.{◌≡◌, ◌≢◌, ℕ, ◌<◌, Bool, true, false, List, [], ◌∷◌, length, Option, Some, None}
+use Rattle.safety_laws.proofs.Words.{IfSome, if◌then◌else◌, AllByRecursion, list_any, Medl, Ack, Chosen, Entry, Script}
+use Rattle.safety_laws.proofs.Words.{Diary, History, diary_of, is_active, IsValid, AreNodes, Numbers, node_past, world}
+use Rattle.safety_laws.proofs.Words.{coming_place-world, node_slot, owner_of, IsAboutListed, IsJudging, IsAtOwnSlot}
+use Rattle.safety_laws.proofs.Words.{AreNodes-filter}
 use Rattle.ttp_world.specs.declared.node.Ack.TheVariants as ack
-use Rattle.ttp_world.specs.declared.node.Chosen.{Chosen}
-use Rattle.ttp_world.specs.declared.node.Entry.{Entry}
 use Rattle.ttp_world.specs.declared.node.Entry.TheVariants as entry
 use Rattle.ttp_world.specs.declared.node.Phase.TheVariants as phase
 use Rattle.ttp_world.specs.declared.node.Verdict.TheVariants as verdict
-use Rattle.ttp_world.specs.declared.script.Script.{Script}
 use Rattle.ttp_world.specs.Acknowledgement.{is_sent_or_joined, is_judged_correct, since_sent_or_joined, newest_doubted}
 use Rattle.ttp_world.specs.Acknowledgement.{newest_sent_or_joined, first_or_doubt, ack_since, ack_of}
-use Rattle.ttp_world.specs.Diary.{Diary, History, diary_of, is_active}
-use Rattle.ttp_world.specs.Medl.{IsValid}
-use Rattle.ttp_world.specs.Membership.{AreNodes, is_good, members_of}
-use Rattle.ttp_world.specs.World.{Numbers, node_past, world}
+use Rattle.ttp_world.specs.Membership.{is_good, members_of}
 use Rattle.ttp_world.proofs.Pasts.{elim_both}
 use Rattle.ttp_world.proofs.Places.{IsOfList, AreOfList, entry_of-of_list}
-use Rattle.ttp_world.proofs.Worlds.{world-of_list, coming_place-world}
-use Rattle.safety_laws.specs.NodeSlot.{node_slot, owner_of}
-use Rattle.safety_laws.specs.Turns.{IsAboutListed, IsJudging, IsAtOwnSlot}
-use Rattle.ttp_world.proofs.WorldFacts.{AreNodes-filter, AreNodes-nil}
+use Rattle.ttp_world.proofs.Worlds.{world-of_list}
+use Rattle.ttp_world.proofs.WorldFacts.{AreNodes-nil}
 
 -- Its members are nodes of the list.
 

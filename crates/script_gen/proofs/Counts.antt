@@ -1,15 +1,11 @@
 -- How many numbers of a range are left where some are taken out.
-use Rattle.std.proofs.Common.{◌≡◌, ℕ, zero, suc, ◌+◌, ◌≤◌, Bool, true, false, cond, not, ◌&&◌, ◌||◌, List, []}
-use Rattle.std.proofs.Common.{◌∷◌, length, map, refl, ap, sym, ◌∙◌, inl, inr, arith}
-use Rattle.std.specs.Prelude.{◌==◌, count_by, slice_get, unwrap_or}
-use Rattle.std.specs.List.{filter, range_with_len}
-use Rattle.std.proofs.lemmas.Bool.{cases_eq, eq-eqb, ne_eqb}
+use Rattle.script_gen.proofs.Words.{◌≡◌, ℕ, zero, suc, ◌+◌, ◌≤◌, Bool, true, false, cond, not, ◌&&◌, ◌||◌, List, []}
+use Rattle.script_gen.proofs.Words.{◌∷◌, length, map, refl, ap, sym, ◌∙◌, inl, inr, arith, ◌==◌, count_by, slice_get}
+use Rattle.script_gen.proofs.Words.{unwrap_or, filter, range_with_len, cases_eq, eq-eqb, ne_eqb, unwrap_or-slice_get}
+use Rattle.script_gen.proofs.Words.{below, has_node, same_sieve}
 use Rattle.std.proofs.lemmas.List.Folds.{fold-map}
 use Rattle.std.proofs.lemmas.List.FromFn.{fill_by_all, length-range_with_len}
 use Rattle.std.proofs.lemmas.List.Sums.{length-filter}
-use Rattle.std.proofs.lemmas.Option.{unwrap_or-slice_get}
-use Rattle.ttp_base.specs.NodeSet.{below, has_node}
-use Rattle.ttp_base.proofs.NodeSets.{same_sieve}
 use Rattle.ttp_world.proofs.SmallTests.{and-true}
 
 agree-from : (p q : ℕ → Bool) (a n : ℕ) → ((k : ℕ) → a ≤ k → p k ≡ q k)

@@ -1,8 +1,9 @@
 -- One draw more.
-use Rattle.std.proofs.Common.{◌≡◌, ℕ, ◌+◌, ◌*◌, ◌/◌, ◌%◌, ◌^◌, ap, sym, ◌∙◌, add-one}
+use Rattle.script_gen.proofs.Words.{◌≡◌, ℕ, ◌+◌, ◌*◌, ◌/◌, ◌%◌, ap, sym, ◌∙◌, add-one, drawn}
+use Rattle.std.proofs.Common.{◌^◌}
 use Rattle.std.proofs.Math.Nat.{mod-add-mod}
 use Rattle.script_gen.specs.declared.draws.TheConstants.{MULTIPLIER, INCREMENT}
-use Rattle.script_gen.specs.Draws.{next_state, state_after, drawn}
+use Rattle.script_gen.specs.Draws.{next_state, state_after}
 
 -- the product is brought below 2^64 before the sum is
 pub state-next : (number count state next : ℕ) → state ≡ state_after number count

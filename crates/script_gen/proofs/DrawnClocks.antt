@@ -1,29 +1,18 @@
 -- Drifts and reading errors lie within the list's bounds.
-use Rattle.std.proofs.Common.{◌≡◌, ℕ, ◌+◌, ◌-◌, ◌*◌, ◌%◌, ◌<◌, ℤ, pos, negsuc, neg_ℤ, ◌+ℤ◌, ◌≤ℤ◌}
-use Rattle.std.proofs.Common.{true, not, cond, ◌&&◌, [], ◌∷◌, ◌++◌, length, get_or, Some, None}
-use Rattle.std.proofs.Common.{refl, ap, sym, ◌∙◌, mod-lt, arith}
-use Rattle.std.specs.Prelude.{nat_le}
-use Rattle.std.specs.List.{cons_option, filter_map, find}
-use Rattle.std.proofs.lemmas.Bool.{eq-eqb, ne_eqb, le-leb}
-use Rattle.std.proofs.lemmas.Int.{ints}
+use Rattle.script_gen.proofs.Words.{◌≡◌, ℕ, ◌+◌, ◌-◌, ◌*◌, ◌%◌, ◌<◌, ℤ, pos, neg_ℤ, ◌≤ℤ◌, true, not, cond, ◌&&◌, []}
+use Rattle.script_gen.proofs.Words.{◌∷◌, ◌++◌, length, get_or, Some, None, refl, ap, sym, ◌∙◌, mod-lt, arith, nat_le}
+use Rattle.script_gen.proofs.Words.{cons_option, filter_map, find, eq-eqb, ne_eqb, le-leb, ints, filter_map-append}
+use Rattle.script_gen.proofs.Words.{below, all-below, Medl, Event, Script, covers, IsValid, drawn, spread_over}
+use Rattle.script_gen.proofs.Words.{drift_by, error_by, error_events, fault_events, host_events, each-append}
+use Rattle.std.proofs.Common.{negsuc, ◌+ℤ◌}
 use Rattle.std.proofs.lemmas.List.Concat.{flat_map_single}
-use Rattle.std.proofs.lemmas.List.Elements.{filter_map-append}
 use Rattle.std.proofs.lemmas.List.FromFn.{get_or-map-range_with_len}
-use Rattle.ttp_base.specs.NodeSet.{below}
-use Rattle.ttp_base.proofs.Below.{all-below}
-use Rattle.ttp_world.specs.declared.medl.Medl.{Medl}
-use Rattle.ttp_world.specs.declared.script.Event.{Event}
-use Rattle.ttp_world.specs.declared.script.Script.{Script}
-use Rattle.ttp_world.specs.Events.{covers, error_in, sum_ℤ}
+use Rattle.ttp_world.specs.Events.{error_in, sum_ℤ}
 use Rattle.ttp_world.specs.Hypothesis.{is_within_bound, drifts_hold, errors_hold_in, clocks_broken}
-use Rattle.ttp_world.specs.Medl.{IsValid}
 use Rattle.ttp_world.specs.Script.{drift_of, reading_error}
-use Rattle.script_gen.specs.Draws.{drawn}
-use Rattle.script_gen.specs.Generator.{spread_over, drift_by, error_by, error_events, fault_events}
-use Rattle.script_gen.specs.Generator.{host_events}
 use Rattle.script_gen.proofs.Parts.{IsGenerated, each-fault, each-host}
 use Rattle.script_gen.proofs.Ranges.{filter_map-flat_map, flat_map-one}
-use Rattle.ttp_world.proofs.LineLists.{each-append, filter_map-none as nothing-each}
+use Rattle.ttp_world.proofs.LineLists.{filter_map-none as nothing-each}
 use Rattle.ttp_world.proofs.SmallTests.{test_of_both as test-within, plus_none as plus-zero}
 use Rattle.ttp_world.proofs.RangeFacts.{none-range as find-none}
 

@@ -1,25 +1,19 @@
 -- Who loses a frame in a script of the generator: in the slot of a fault all others or one node, by what was drawn.
-use Rattle.std.proofs.Common.{◌≡◌, ℕ, ◌+◌, ◌-◌, ◌*◌, ◌<◌, ◌≤◌, ℤ, Bool, true, false, cond, not, ◌&&◌, ◌||◌, List, []}
-use Rattle.std.proofs.Common.{◌∷◌, length, None, refl, ap, ◌∙◌, inl, inr, arith}
-use Rattle.std.specs.Prelude.{◌==◌, is_some, nat_le, nat_lt}
-use Rattle.std.specs.List.{filter_map, list_any}
-use Rattle.std.proofs.Math.Nat.{mul-le-mul_right}
-use Rattle.std.proofs.lemmas.Bool.{and_parts, and_right, cases_lt, eq-eqb, false≢true, false_from_ne_true, le-leb}
-use Rattle.std.proofs.lemmas.Bool.{leb-true, lt-ltb}
-use Rattle.ttp_world.specs.declared.medl.Medl.{Medl}
+use Rattle.script_gen.proofs.Words.{◌≡◌, ℕ, ◌+◌, ◌-◌, ◌*◌, ◌<◌, ◌≤◌, ℤ, Bool, true, false, cond, not, ◌&&◌, ◌||◌, List}
+use Rattle.script_gen.proofs.Words.{[], ◌∷◌, length, None, refl, ap, ◌∙◌, inl, inr, arith, ◌==◌, is_some, nat_le}
+use Rattle.script_gen.proofs.Words.{nat_lt, filter_map, list_any, mul-le-mul_right, and_parts, and_right, cases_lt}
+use Rattle.script_gen.proofs.Words.{eq-eqb, false≢true, le-leb, leb-true, lt-ltb, Medl, Event, Script, covers, least_of}
+use Rattle.script_gen.proofs.Words.{loses, most_faults, fault_slot, both_channels, fault_within, all_events}
+use Rattle.std.proofs.lemmas.Bool.{false_from_ne_true}
 use Rattle.ttp_world.specs.declared.script.Channel.{Channel}
 use Rattle.ttp_world.specs.declared.script.Channel.TheVariants as channel
-use Rattle.ttp_world.specs.declared.script.Event.{Event}
 use Rattle.ttp_world.specs.declared.script.Event.TheVariants as event
 use Rattle.ttp_world.specs.declared.script.Fault.{Fault}
 use Rattle.ttp_world.specs.declared.script.Fault.TheVariants as fault
-use Rattle.ttp_world.specs.declared.script.Script.{Script}
 use Rattle.ttp_world.specs.declared.script.Source.{Source}
-use Rattle.ttp_world.specs.Events.{covers, is_among, is_send_fault, is_receive_fault, jump_in}
-use Rattle.ttp_world.specs.Hypothesis.{outside_slot, outside_broken, least_of, is_covered, loses}
+use Rattle.ttp_world.specs.Events.{is_among, is_send_fault, is_receive_fault, jump_in}
+use Rattle.ttp_world.specs.Hypothesis.{outside_slot, outside_broken, is_covered}
 use Rattle.ttp_world.specs.Script.{has_jump}
-use Rattle.script_gen.specs.Generator.{most_faults, fault_slot, both_channels, fault_within}
-use Rattle.script_gen.specs.Generator.{all_events}
 use Rattle.script_gen.proofs.Parts.{IsGenerated, OfHosts, sender_at, receiver_at, is_even, each-event}
 use Rattle.script_gen.proofs.Parts.{any-fault}
 use Rattle.script_gen.proofs.Ranges.{any-each, any-none, any-one}

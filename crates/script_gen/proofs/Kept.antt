@@ -1,24 +1,17 @@
 -- A script of the generator keeps the single-fault hypothesis.
-use Rattle.std.proofs.Common.{◌≡◌, ℕ, zero, suc, ◌+◌, ◌-◌, ◌*◌, ◌≤◌, Bool, true, false, cond, not, ◌&&◌, []}
-use Rattle.std.proofs.Common.{◌∷◌, ◌++◌, length, map, reverse, Option, Some, None, refl, ap, sym, subst}
-use Rattle.std.proofs.Common.{◌∙◌, add-one, arith}
-use Rattle.std.specs.Prelude.{count_by, is_some, IsSome}
-use Rattle.std.specs.List.{filter, find, range_with_len}
-use Rattle.std.proofs.lemmas.Bool.{false≢true, le-leb, le-ltb}
+use Rattle.script_gen.proofs.Words.{◌≡◌, ℕ, zero, suc, ◌+◌, ◌-◌, ◌*◌, ◌≤◌, Bool, true, false, cond, not, ◌&&◌, [], ◌∷◌}
+use Rattle.script_gen.proofs.Words.{◌++◌, length, map, Option, Some, None, refl, ap, sym, subst, ◌∙◌, add-one, arith}
+use Rattle.script_gen.proofs.Words.{count_by, is_some, filter, find, range_with_len, false≢true, le-leb, le-ltb, below}
+use Rattle.script_gen.proofs.Words.{has_node, map-next, same_sieve, Medl, Script, FaultyNode, nodes_of, numbers_of}
+use Rattle.script_gen.proofs.Words.{faulty_nodes_before, breaks_in, keeps, IsValid, no_plan, plan_at, is_ever_on}
+use Rattle.script_gen.proofs.Words.{first_starter, starter_of, first_start, fault_slot, generated}
+use Rattle.std.proofs.Common.{reverse}
+use Rattle.std.specs.Prelude.{IsSome}
 use Rattle.std.proofs.lemmas.Grind.{reverse_onto}
-use Rattle.ttp_base.specs.NodeSet.{below, has_node}
-use Rattle.ttp_base.proofs.Below.{map-next}
-use Rattle.ttp_base.proofs.NodeSets.{same_sieve}
 use Rattle.ttp_world.specs.declared.keep.Keep.TheVariants as keep
-use Rattle.ttp_world.specs.declared.medl.Medl.{Medl}
-use Rattle.ttp_world.specs.declared.script.Script.{Script}
-use Rattle.ttp_world.specs.Hypothesis.{FaultyNode, nodes_of, numbers_of, faulty_nodes_before, breaks_in}
 use Rattle.ttp_world.specs.Hypothesis.{loss_broken, first_too_early, distance_broken, is_steady}
 use Rattle.ttp_world.specs.Hypothesis.{has_four_steady, lacks_steady_after, slots_since_start, sync_broken, unless}
-use Rattle.ttp_world.specs.Hypothesis.{window_broken, started_keep, keeps}
-use Rattle.ttp_world.specs.Medl.{IsValid, no_plan, plan_at}
-use Rattle.ttp_world.specs.Script.{is_ever_on}
-use Rattle.script_gen.specs.Generator.{first_starter, starter_of, first_start, fault_slot, generated}
+use Rattle.ttp_world.specs.Hypothesis.{window_broken, started_keep}
 use Rattle.script_gen.proofs.DrawnClocks.{clocks-hold}
 use Rattle.script_gen.proofs.Counts.{without-some, count-places}
 use Rattle.script_gen.proofs.FaultEvents.{faults-apart, outside-holds}

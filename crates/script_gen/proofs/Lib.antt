@@ -10,3 +10,4 @@ pub mod Starter
 pub mod FaultEvents
 pub mod Struck
 pub mod Kept
+pub mod Words

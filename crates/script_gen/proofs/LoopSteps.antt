@@ -1,19 +1,12 @@
 -- One node, one fault and one slot more, as loops add them to the events before.
-use Rattle.std.proofs.Common.{◌≡◌, ℕ, ◌+◌, ◌-◌, ◌*◌, ◌%◌, ◌<◌, ◌≤◌, ℤ, cond, List, [], ◌∷◌, ◌++◌, length, map, ap}
-use Rattle.std.proofs.Common.{sym, ◌∙◌, append_assoc, replicate, Option, Some}
-use Rattle.std.specs.List.{flat_map}
-use Rattle.std.proofs.lemmas.Bool.{lt-ltb, le-ltb}
-use Rattle.std.proofs.lemmas.List.{append-nil}
-use Rattle.ttp_base.specs.NodeSet.{below}
-use Rattle.ttp_base.proofs.Below.{map-next, flat_map-next}
-use Rattle.ttp_world.specs.declared.medl.Medl.{Medl}
-use Rattle.ttp_world.specs.declared.script.Event.{Event}
+use Rattle.script_gen.proofs.Words.{◌≡◌, ℕ, ◌+◌, ◌-◌, ◌*◌, ◌%◌, ◌<◌, ◌≤◌, ℤ, cond, List, [], ◌∷◌, ◌++◌, length, map, ap}
+use Rattle.script_gen.proofs.Words.{sym, ◌∙◌, replicate, Option, Some, flat_map, lt-ltb, le-ltb, append-nil, below}
+use Rattle.script_gen.proofs.Words.{map-next, Medl, Event, Script, drawn, spread_over, drift_by, error_by, fault_slot}
+use Rattle.script_gen.proofs.Words.{fault_by, fault_within, write_by, reads_by, host_events_in, error_events}
+use Rattle.script_gen.proofs.Words.{fault_events, host_events, all_events, generated}
+use Rattle.std.proofs.Common.{append_assoc}
+use Rattle.ttp_base.proofs.Below.{flat_map-next}
 use Rattle.ttp_world.specs.declared.script.Event.TheVariants as event
-use Rattle.ttp_world.specs.declared.script.Script.{Script}
-use Rattle.script_gen.specs.Draws.{drawn}
-use Rattle.script_gen.specs.Generator.{spread_over, drift_by, error_by, fault_slot, fault_by, fault_within, write_by}
-use Rattle.script_gen.specs.Generator.{reads_by, host_events_in, error_events, fault_events, host_events, all_events}
-use Rattle.script_gen.specs.Generator.{generated}
 
 pub drifts-next : (list : Medl) (number node count : ℕ) (old new : List ℤ) (value : ℤ)
     → new ≡ old ++ value ∷ [] → old ≡ map (drift_by list number) (below node)

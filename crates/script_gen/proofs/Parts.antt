@@ -1,25 +1,16 @@
 -- A script of the generator, part by part.
-use Rattle.std.proofs.Common.{◌≡◌, ℕ, ◌+◌, ◌*◌, ◌%◌, ◌<◌, Bool, true, false, cond, ◌&&◌, ◌||◌, [], ◌∷◌}
-use Rattle.std.proofs.Common.{◌++◌, length, map, replicate, Some, refl, ap, ◌∙◌}
-use Rattle.std.specs.Prelude.{◌==◌, nat_le, nat_lt}
-use Rattle.std.specs.List.{AllByRecursion, list_any}
-use Rattle.std.proofs.lemmas.Bool.{cond_both, ltb-true, and_parts}
-use Rattle.std.proofs.lemmas.List.Folds.{list_any-append}
-use Rattle.ttp_base.specs.NodeSet.{below}
-use Rattle.ttp_base.proofs.Below.{map_each-below}
-use Rattle.ttp_world.specs.declared.medl.Medl.{Medl}
-use Rattle.ttp_world.specs.declared.script.Event.{Event}
+use Rattle.script_gen.proofs.Words.{◌≡◌, ℕ, ◌+◌, ◌*◌, ◌%◌, ◌<◌, Bool, true, false, cond, ◌&&◌, ◌||◌, [], ◌∷◌, ◌++◌}
+use Rattle.script_gen.proofs.Words.{length, map, replicate, Some, refl, ap, ◌∙◌, ◌==◌, nat_le, nat_lt, AllByRecursion}
+use Rattle.script_gen.proofs.Words.{list_any, and_parts, list_any-append, below, map_each-below, Medl, Event, Script}
+use Rattle.script_gen.proofs.Words.{plan_at, drawn, starter_of, drift_by, error_by, most_faults, fault_slot}
+use Rattle.script_gen.proofs.Words.{both_channels, fault_by, fault_within, has_payload, write_by, reads_by}
+use Rattle.script_gen.proofs.Words.{host_events_in, error_events, fault_events, host_events, all_events, generated}
+use Rattle.script_gen.proofs.Words.{each-append}
+use Rattle.std.proofs.lemmas.Bool.{cond_both, ltb-true}
 use Rattle.ttp_world.specs.declared.script.Event.TheVariants as event
 use Rattle.ttp_world.specs.declared.script.Fault.TheVariants as fault
-use Rattle.ttp_world.specs.declared.script.Script.{Script}
 use Rattle.ttp_world.specs.declared.script.Source.TheVariants as source
-use Rattle.ttp_world.specs.Medl.{plan_at}
-use Rattle.script_gen.specs.Draws.{drawn}
-use Rattle.script_gen.specs.Generator.{starter_of, drift_by, error_by, most_faults, fault_slot, both_channels, fault_by}
-use Rattle.script_gen.specs.Generator.{fault_within, has_payload, write_by, reads_by, host_events_in, error_events}
-use Rattle.script_gen.specs.Generator.{fault_events, host_events, all_events, generated}
 use Rattle.script_gen.proofs.Ranges.{each-flat_map, any-each, any-flat_map}
-use Rattle.ttp_world.proofs.LineLists.{each-append}
 
 -- a script is the one that a number gives
 pub record IsGenerated (list : Medl) (number : ℕ) (script : Script) : Type 0 where

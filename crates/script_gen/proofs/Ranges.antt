@@ -1,15 +1,10 @@
 -- Tests and lists over the numbers of a range, of which one alone tells something.
-use Rattle.std.proofs.Common.{◌≡◌, ℕ, zero, suc, ◌+◌, ◌*◌, ◌<◌, ◌≤◌, Bool, true, false, cond, ◌||◌, List, [], ◌∷◌, ◌++◌}
-use Rattle.std.proofs.Common.{length, Option, refl, ap, ◌∙◌, inl, inr, arith, length-append}
-use Rattle.std.specs.List.{AllByRecursion, filter, filter_map, flat_map, list_any, range_with_len}
-use Rattle.std.proofs.lemmas.Bool.{cases_eq}
-use Rattle.std.proofs.lemmas.List.{append-nil}
-use Rattle.std.proofs.lemmas.List.Elements.{filter_map-append}
-use Rattle.std.proofs.lemmas.List.Folds.{list_any-append}
-use Rattle.ttp_base.specs.NodeSet.{below}
+use Rattle.script_gen.proofs.Words.{◌≡◌, ℕ, zero, suc, ◌+◌, ◌*◌, ◌<◌, ◌≤◌, Bool, true, false, cond, ◌||◌, List, [], ◌∷◌}
+use Rattle.script_gen.proofs.Words.{◌++◌, length, Option, refl, ap, ◌∙◌, inl, inr, arith, length-append, AllByRecursion}
+use Rattle.script_gen.proofs.Words.{filter, filter_map, flat_map, list_any, range_with_len, cases_eq, append-nil}
+use Rattle.script_gen.proofs.Words.{filter_map-append, list_any-append, below, each-append}
 use Rattle.ttp_base.proofs.Below.{below-lt}
 use Rattle.ttp_world.proofs.MemberSets.{or-false}
-use Rattle.ttp_world.proofs.LineLists.{each-append}
 use Rattle.ttp_world.proofs.RangeFacts.{none-passes as any-past}
 
 -- Facts of all elements.

@@ -1,23 +1,21 @@
 -- The start of a script of the generator: all nodes are on, and the least that may start does.
-use Rattle.std.proofs.Common.{◌≡◌, ℕ, zero, suc, ◌+◌, ◌*◌, ◌<◌, ◌≤◌, Bool, true, false, cond, not, ◌||◌, List, [], ◌∷◌}
-use Rattle.std.proofs.Common.{length, replicate, get_or, unwrap_or, Option, Some, None, refl, ap, sym, subst, ◌∙◌, inl}
-use Rattle.std.proofs.Common.{inr, option_map, zero-add, arith}
-use Rattle.std.specs.Prelude.{IfSome, nat_lt, slice_get}
-use Rattle.std.specs.List.{filter, filter_map, cons_option, position_or_len, range_with_len}
+use Rattle.script_gen.proofs.Words.{◌≡◌, ℕ, zero, suc, ◌+◌, ◌*◌, ◌<◌, ◌≤◌, Bool, true, false, cond, not, ◌||◌, List, []}
+use Rattle.script_gen.proofs.Words.{◌∷◌, length, replicate, get_or, unwrap_or, Option, Some, None, refl, ap, sym, subst}
+use Rattle.script_gen.proofs.Words.{◌∙◌, inl, inr, arith, nat_lt, slice_get, filter, filter_map, cons_option}
+use Rattle.script_gen.proofs.Words.{range_with_len, cases_eq, eq-eqb, ne_eqb, le-leb, le-ltb, lt-ltb}
+use Rattle.script_gen.proofs.Words.{unwrap_or-slice_get, all-below, Medl, Script, least_of, nodes_of, no_plan}
+use Rattle.script_gen.proofs.Words.{may_start, is_ever_on, is_on, first_starter, starter_of, first_start}
+use Rattle.std.proofs.Common.{option_map, zero-add}
+use Rattle.std.specs.Prelude.{IfSome}
+use Rattle.std.specs.List.{position_or_len}
 use Rattle.std.proofs.lemmas.List.Sums.{position_or_len_is}
-use Rattle.std.proofs.lemmas.Bool.{cases_eq, eq-eqb, ne_eqb, le-leb, le-ltb, lt-ltb, or_right}
+use Rattle.std.proofs.lemmas.Bool.{or_right}
 use Rattle.std.proofs.lemmas.List.{get_or-replicate}
 use Rattle.std.proofs.lemmas.List.Quantifiers.{position-Some}
-use Rattle.std.proofs.lemmas.Option.{unwrap_or-slice_get}
-use Rattle.ttp_base.proofs.Below.{all-below}
-use Rattle.ttp_world.specs.declared.medl.Medl.{Medl}
 use Rattle.ttp_world.specs.declared.medl.SlotPlan.{SlotPlan}
-use Rattle.ttp_world.specs.declared.script.Script.{Script}
-use Rattle.ttp_world.specs.Hypothesis.{ClusterStart, lesser, least_of, start_slot, is_exactly, starts_in, are_all_on}
-use Rattle.ttp_world.specs.Hypothesis.{only_starter, start_in, start_of, nodes_of}
-use Rattle.ttp_world.specs.Medl.{no_plan, may_start}
-use Rattle.ttp_world.specs.Script.{on_slot, is_ever_on, is_on, has_come}
-use Rattle.script_gen.specs.Generator.{first_starter, starter_of, first_start}
+use Rattle.ttp_world.specs.Hypothesis.{ClusterStart, lesser, start_slot, is_exactly, starts_in, are_all_on}
+use Rattle.ttp_world.specs.Hypothesis.{only_starter, start_in, start_of}
+use Rattle.ttp_world.specs.Script.{on_slot, has_come}
 use Rattle.script_gen.proofs.Parts.{IsGenerated}
 use Rattle.script_gen.proofs.Ranges.{filter-only}
 

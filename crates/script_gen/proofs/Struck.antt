@@ -1,23 +1,18 @@
 -- The nodes that the faults of a generated script make faulty, one after another.
-use Rattle.std.proofs.Common.{◌≡◌, ℕ, zero, suc, ◌+◌, ◌-◌, ◌*◌, ◌%◌, ◌<◌, ◌≤◌, Bool, true, false, cond, not}
-use Rattle.std.proofs.Common.{◌&&◌, ◌||◌, List, [], ◌∷◌, ◌++◌, length, map, refl, ap, sym}
-use Rattle.std.proofs.Common.{◌≢◌, ◌∙◌, inl, inr, mod-lt, arith}
-use Rattle.std.specs.Prelude.{◌==◌, is_some, nat_lt}
-use Rattle.std.specs.List.{filter}
+use Rattle.script_gen.proofs.Words.{◌≡◌, ℕ, zero, suc, ◌+◌, ◌-◌, ◌*◌, ◌%◌, ◌<◌, ◌≤◌, Bool, true, false, cond, not, ◌&&◌}
+use Rattle.script_gen.proofs.Words.{◌||◌, List, [], ◌∷◌, ◌++◌, length, map, refl, ap, sym, ◌≢◌, ◌∙◌, inl, inr, mod-lt}
+use Rattle.script_gen.proofs.Words.{arith, ◌==◌, is_some, nat_lt, filter, and_right, cases_eq, cases_lt, eq-eqb, le-ltb}
+use Rattle.script_gen.proofs.Words.{ne_eqb, false≢true, below, has_node, same_sieve, Medl, Script, FaultyNode, nodes_of}
+use Rattle.script_gen.proofs.Words.{numbers_of, loses, faulty_nodes_before, breaks_in, IsValid, is_ever_on, is_on}
+use Rattle.script_gen.proofs.Words.{starter_of, first_start, most_faults, fault_slot}
 use Rattle.std.proofs.Math.Nat.{add-mul-mod_self_right}
-use Rattle.std.proofs.lemmas.Bool.{and_from, and_right, cases_Bool, cases_eq, cases_lt, eq-eqb, le-ltb, ne_eqb}
-use Rattle.std.proofs.lemmas.Bool.{false≢true, or_from}
-use Rattle.ttp_base.specs.NodeSet.{below, has_node}
-use Rattle.ttp_base.proofs.NodeSets.{filter-filter, same_sieve}
-use Rattle.ttp_world.specs.declared.medl.Medl.{Medl}
-use Rattle.ttp_world.specs.declared.script.Script.{Script}
-use Rattle.ttp_world.specs.Hypothesis.{FaultyNode, Loss, Harmless, Makes, Breaks, nodes_of, numbers_of}
-use Rattle.ttp_world.specs.Hypothesis.{expected_sender, loses, is_other, others_in, loss_among, receivers_loss}
+use Rattle.std.proofs.lemmas.Bool.{and_from, cases_Bool}
+use Rattle.std.proofs.lemmas.Bool.{or_from}
+use Rattle.ttp_base.proofs.NodeSets.{filter-filter}
+use Rattle.ttp_world.specs.Hypothesis.{Loss, Harmless, Makes, Breaks}
+use Rattle.ttp_world.specs.Hypothesis.{expected_sender, is_other, others_in, loss_among, receivers_loss}
 use Rattle.ttp_world.specs.Hypothesis.{sender_loss, jumps_now, jumpers_in, loss_in, nodes_made, faulty_nodes_in}
-use Rattle.ttp_world.specs.Hypothesis.{faulty_nodes_before, is_breaking, breaks_in}
-use Rattle.ttp_world.specs.Medl.{IsValid}
-use Rattle.ttp_world.specs.Script.{is_ever_on, is_on}
-use Rattle.script_gen.specs.Generator.{starter_of, first_start, most_faults, fault_slot}
+use Rattle.ttp_world.specs.Hypothesis.{is_breaking}
 use Rattle.script_gen.proofs.Counts.{without-some, length-all}
 use Rattle.script_gen.proofs.FaultEvents.{faults-apart, no-jumps, none-loses, who-loses}
 use Rattle.script_gen.proofs.Parts.{IsGenerated, sender_at, receiver_at, is_even}

@@ -1,7 +1,7 @@
 -- Nodes that are some slots apart, but less than a round, are not one.
-use Rattle.std.proofs.Common.{◌≡◌, ◌≢◌, ℕ, ◌+◌, ◌*◌, ◌/◌, ◌%◌, ◌<◌, ◌≤◌, inl, inr, arith}
-use Rattle.std.proofs.Math.Nat.{mod-add-div', mul-le-mul_right}
-use Rattle.std.proofs.lemmas.Bool.{cases_lt}
+use Rattle.script_gen.proofs.Words.{◌≡◌, ◌≢◌, ℕ, ◌+◌, ◌*◌, ◌/◌, ◌%◌, ◌<◌, ◌≤◌, inl, inr, arith, mul-le-mul_right}
+use Rattle.script_gen.proofs.Words.{cases_lt}
+use Rattle.std.proofs.Math.Nat.{mod-add-div'}
 
 pub turns-differ : (n a b : ℕ) → a < b → b < a + n → a % n ≢ b % n
 turns-differ n a b less near same =

@@ -1,33 +1,25 @@
 -- A script of the generator is valid.
-use Rattle.std.proofs.Common.{◌≡◌, ℕ, ◌+◌, ◌*◌, ◌/◌, ◌%◌, ◌<◌, ◌≤◌, ℤ, pos, neg_ℤ, ◌≤ℤ◌, Bool}
-use Rattle.std.proofs.Common.{true, false, cond, ◌&&◌, List, [], ◌∷◌, ◌++◌, length, replicate, get_or, Some}
-use Rattle.std.proofs.Common.{None, refl, ap, ◌∙◌, inl, inr, mod-lt, length-append, arith}
-use Rattle.std.specs.Prelude.{◌==◌, All, nat_le, nat_lt}
-use Rattle.std.specs.List.{AllByRecursion, filter_map, flat_map}
-use Rattle.std.proofs.lemmas.Bool.{leb-true, lt-leb, le-leb, ne_eqb, eq-eqb, cases_lt}
-use Rattle.std.proofs.lemmas.Int.{ints}
-use Rattle.std.proofs.lemmas.List.{length-replicate, append-nil}
-use Rattle.std.proofs.lemmas.List.Elements.{All-from_recursion, All-replicate, filter_map-append}
+use Rattle.script_gen.proofs.Words.{◌≡◌, ℕ, ◌+◌, ◌*◌, ◌/◌, ◌%◌, ◌<◌, ◌≤◌, ℤ, pos, neg_ℤ, ◌≤ℤ◌, Bool, true, false, cond}
+use Rattle.script_gen.proofs.Words.{◌&&◌, List, [], ◌∷◌, ◌++◌, length, replicate, get_or, Some, None, refl, ap, ◌∙◌}
+use Rattle.script_gen.proofs.Words.{inl, inr, mod-lt, length-append, arith, ◌==◌, All, nat_le, nat_lt, AllByRecursion}
+use Rattle.script_gen.proofs.Words.{filter_map, flat_map, leb-true, le-leb, ne_eqb, eq-eqb, cases_lt, ints, append-nil}
+use Rattle.script_gen.proofs.Words.{filter_map-append, below, map_each-below, Medl, Event, Script, EVENT_LIMIT}
+use Rattle.script_gen.proofs.Words.{IsBounded, IsValid, plan_at, IsValidScript, drawn, drift_by, error_by, most_faults}
+use Rattle.script_gen.proofs.Words.{fault_slot, fault_by, fault_within, has_payload, write_by, reads_by, host_events_in}
+use Rattle.script_gen.proofs.Words.{error_events, fault_events, host_events, all_events, generated}
+use Rattle.std.proofs.lemmas.Bool.{lt-leb}
+use Rattle.std.proofs.lemmas.List.{length-replicate}
+use Rattle.std.proofs.lemmas.List.Elements.{All-from_recursion, All-replicate}
 use Rattle.std.proofs.lemmas.List.FromFn.{length-map-range_with_len}
 use Rattle.std.proofs.lemmas.List.Sums.{count_by-le-length}
-use Rattle.ttp_base.specs.NodeSet.{below}
-use Rattle.ttp_base.proofs.Below.{map_each-below}
-use Rattle.ttp_world.specs.declared.medl.Medl.{Medl}
-use Rattle.ttp_world.specs.declared.script.Event.{Event}
 use Rattle.ttp_world.specs.declared.script.Event.TheVariants as event
-use Rattle.ttp_world.specs.declared.script.Script.{Script}
 use Rattle.ttp_world.specs.declared.script.Source.TheVariants as source
-use Rattle.ttp_world.specs.declared.script.TheConstants.{SLOT_LIMIT, EVENT_LIMIT, DRIFT_LIMIT}
+use Rattle.ttp_world.specs.declared.script.TheConstants.{SLOT_LIMIT, DRIFT_LIMIT}
 use Rattle.ttp_world.specs.declared.script.TheConstants.{ERROR_LIMIT}
-use Rattle.ttp_world.specs.Events.{IsWithinSpan, IsBounded}
-use Rattle.ttp_world.specs.Medl.{IsValid, plan_at}
+use Rattle.ttp_world.specs.Events.{IsWithinSpan}
 use Rattle.ttp_world.specs.Script.{write_in, is_host_event, payload_of_host, writes_in, messages_written}
-use Rattle.ttp_world.specs.Script.{IsValidEvent, IsValidScript, IsWithinRun}
+use Rattle.ttp_world.specs.Script.{IsValidEvent, IsWithinRun}
 use Rattle.ttp_world.proofs.Lists.{nodes-most}
-use Rattle.script_gen.specs.Draws.{drawn}
-use Rattle.script_gen.specs.Generator.{drift_by, error_by, most_faults, fault_slot, fault_by, fault_within}
-use Rattle.script_gen.specs.Generator.{has_payload, write_by, reads_by, host_events_in, error_events, fault_events}
-use Rattle.script_gen.specs.Generator.{host_events, all_events, generated}
 use Rattle.script_gen.proofs.DrawnClocks.{spread-within}
 use Rattle.script_gen.proofs.Parts.{IsGenerated, generated-is, each-fault, each-event}
 use Rattle.script_gen.proofs.Turns.{turns-differ}

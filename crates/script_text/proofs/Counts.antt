@@ -1,8 +1,8 @@
 -- Counts of writes, one for each node and slot.
-use Rattle.std.proofs.Common.{◌≡◌, ◌≢◌, ℕ, ◌+◌, ◌*◌, ◌<◌, ◌==◌, ◌&&◌, Bool, true, false, List, length, get_or, set}
-use Rattle.std.proofs.Common.{get_or-set_same, get_or-set_other, arith, refl, ◌∙◌}
-use Rattle.std.specs.Prelude.{if◌then◌else◌}
-use Rattle.std.proofs.lemmas.Bool.Decides.{nat_tests}
+use Rattle.script_text.proofs.Words.{◌≡◌, ℕ, ◌+◌, ◌*◌, ◌<◌, ◌==◌, ◌&&◌, Bool, true, false, List, length, get_or, set}
+use Rattle.script_text.proofs.Words.{get_or-set_same, arith, refl, ◌∙◌, if◌then◌else◌, nat_tests}
+use Rattle.std.proofs.Common.{◌≢◌}
+use Rattle.std.proofs.Common.{get_or-set_other}
 use Rattle.std.proofs.lemmas.Nat.{same_from_place}
 
 -- one more at the place of a node and a slot

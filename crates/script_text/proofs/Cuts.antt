@@ -1,17 +1,17 @@
 -- A text cut at its first line feed, and a line at its first word.
-use Rattle.std.proofs.Common.{◌≡◌, ℕ, zero, suc, ◌+◌, ◌<◌, ◌≤◌, ◌==◌, Bool, true, false, cond, List, [], ◌∷◌}
-use Rattle.std.proofs.Common.{length, take, drop, get_or, map, Option, Some, None, filter, arith, refl, ap, sym, ◌∙◌}
-use Rattle.std.specs.List.{slice_split, position, position_or_len, list_all}
-use Rattle.std.proofs.lemmas.Bool.Decides.{nat_tests}
-use Rattle.std.proofs.lemmas.List.{length-map, length-take, get_or-take, take_all}
+use Rattle.script_text.proofs.Words.{◌≡◌, ℕ, zero, suc, ◌+◌, ◌<◌, ◌≤◌, ◌==◌, Bool, true, false, cond, List, [], ◌∷◌}
+use Rattle.script_text.proofs.Words.{length, take, drop, get_or, map, Option, Some, None, filter, arith, refl, ap, sym}
+use Rattle.script_text.proofs.Words.{◌∙◌, slice_split, list_all, nat_tests, length-take, get_or-take}
+use Rattle.script_text.proofs.Words.{AllPass-from_list_all, is_line_feed, is_blank, is_part, has_bytes, without_return}
+use Rattle.script_text.proofs.Words.{without_empty_end, lines_of, words_of}
+use Rattle.std.specs.List.{position, position_or_len}
+use Rattle.std.proofs.lemmas.List.{length-map, take_all}
 use Rattle.std.proofs.lemmas.List.Splits.{slice_split_first, length-slice_split, slice_split-cons_yes}
 use Rattle.std.proofs.lemmas.List.Quantifiers.{position-Some}
-use Rattle.std.proofs.lemmas.List.Sums.{position_or_len_is, AllPass-from_list_all}
+use Rattle.std.proofs.lemmas.List.Sums.{position_or_len_is}
 use Rattle.std.proofs.Math.ListN.{drop_of_length-le}
 use Rattle.std.proofs.Math.Seq.{drop-cons}
 use Rattle.memchr.specs.Find.{IsFirstByte, is_byte}
-use Rattle.script_text.specs.Lines.{is_line_feed, is_blank, is_part, has_bytes}
-use Rattle.script_text.specs.Lines.{without_return, without_empty_end, lines_of, words_of}
 
 position_or_len-is : {X : Type 0} (p : X → Bool) (xs : List X) (i : ℕ) → position p xs ≡ Some i
     → (position_or_len p xs ≡ i) × (position_or_len p xs < length xs)

@@ -1,12 +1,10 @@
 -- The number that decimal digits write, one digit after another.
-use Rattle.std.proofs.Common.{◌≡◌, true, ℕ, ◌+◌, ◌-◌, ◌*◌, ◌^◌, ◌<◌, ◌≤◌, List}
-use Rattle.std.proofs.Common.{length, get_or, take, arith, ap, ◌∙◌, lit<}
-use Rattle.std.specs.Char.{is_ascii_digit, digit_value}
+use Rattle.script_text.proofs.Words.{◌≡◌, true, ℕ, ◌+◌, ◌-◌, ◌*◌, ◌^◌, ◌<◌, ◌≤◌, List, length, get_or, take, arith, ap}
+use Rattle.script_text.proofs.Words.{◌∙◌, is_ascii_digit, digit_value, nat_tests, number_in}
+use Rattle.std.proofs.Common.{lit<}
 use Rattle.std.proofs.Math.Nat.{pow-le-pow_right}
 use Rattle.std.proofs.lemmas.Grind.{pow_more}
-use Rattle.std.proofs.lemmas.Bool.Decides.{nat_tests}
 use Rattle.std.proofs.lemmas.Int.Digits.{digits_value_more}
-use Rattle.script_text.specs.Numbers.{number_in}
 
 digit_value-of_digit : (b : ℕ) → is_ascii_digit b ≡ true → digit_value b ≡ b - 48
 digit_value-of_digit b digit = grind (arith, nat_tests)

@@ -1,16 +1,14 @@
 -- Messages of hexadecimal digits, two for each byte.
-use Rattle.std.proofs.Common.{◌≡◌, ℕ, ◌+◌, ◌-◌, ◌*◌, ◌<◌, ◌≤◌, Bool, true, false, ◌&&◌, List, [], ◌∷◌, ◌++◌}
-use Rattle.std.proofs.Common.{length, get_or, take, drop, map, arith, refl, ap, sym, ◌∙◌, zero-add}
-use Rattle.std.specs.Char.{digit_value}
-use Rattle.std.specs.List.{list_all, range_with_len}
+use Rattle.script_text.proofs.Words.{◌≡◌, ℕ, ◌+◌, ◌-◌, ◌*◌, ◌<◌, ◌≤◌, Bool, true, false, ◌&&◌, List, [], ◌∷◌, ◌++◌}
+use Rattle.script_text.proofs.Words.{length, get_or, take, drop, map, arith, refl, ap, sym, ◌∙◌, digit_value, list_all}
+use Rattle.script_text.proofs.Words.{nat_tests, common_steps, get_or-take, length-take, get_or-map-range_with_len}
+use Rattle.script_text.proofs.Words.{is_part, is_hex, hex_bytes_in}
+use Rattle.std.proofs.Common.{zero-add}
+use Rattle.std.specs.List.{range_with_len}
 use Rattle.std.proofs.lemmas.Bool.{lt-ltb, le-ltb}
-use Rattle.std.proofs.lemmas.Bool.Decides.{nat_tests}
-use Rattle.std.proofs.lemmas.Grind.{common_steps}
-use Rattle.std.proofs.lemmas.List.{append_assoc, get_or-take, length-take}
-use Rattle.std.proofs.lemmas.List.FromFn.{get_or-map-range_with_len}
+use Rattle.std.proofs.lemmas.List.{append_assoc}
 use Rattle.script_text.specs.declared.hex.TheConstants.{DIGITS}
-use Rattle.script_text.specs.Lines.{is_part}
-use Rattle.script_text.specs.Numbers.{is_hex_digit, is_hex, hex_bytes_in}
+use Rattle.script_text.specs.Numbers.{is_hex_digit}
 use Rattle.ttp_world.proofs.ListFacts.{next_pair}
 
 -- each entry of the table is computed

@@ -1,31 +1,22 @@
 -- What is kept of the lines that were read, beside what those lines state.
-use Rattle.std.proofs.Common.{◌≡◌, Bool, true, false, ℕ, ◌+◌, ◌<◌, ◌≤◌, ◌==◌, ◌&&◌, nat_le, nat_lt, ℤ}
-use Rattle.std.proofs.Common.{List, [], ◌∷◌, ◌++◌, length, get_or, set, lit≤, count_by, cond}
-use Rattle.std.proofs.Common.{Option, Some, None, is_some, unwrap_or, Ok, Err}
-use Rattle.std.proofs.Common.{get_or-set_same, get_or-set_other, arith, refl, ap, sym, ◌∙◌}
-use Rattle.std.specs.Prelude.{if◌then◌else◌}
-use Rattle.std.specs.Option.{option_or}
-use Rattle.std.proofs.lemmas.Grind.{common_steps}
-use Rattle.std.proofs.lemmas.Bool.Decides.{nat_tests}
-use Rattle.std.proofs.lemmas.List.{append-nil}
+use Rattle.script_text.proofs.Words.{◌≡◌, Bool, true, false, ℕ, ◌+◌, ◌<◌, ◌≤◌, ◌==◌, ◌&&◌, nat_le, ℤ, List, [], ◌∷◌}
+use Rattle.script_text.proofs.Words.{◌++◌, length, get_or, set, lit≤, count_by, cond, Option, Some, None, is_some}
+use Rattle.script_text.proofs.Words.{unwrap_or, Ok, Err, get_or-set_same, arith, refl, ap, sym, ◌∙◌, if◌then◌else◌}
+use Rattle.script_text.proofs.Words.{option_or, common_steps, nat_tests, append-nil, first_fault, Medl, Event}
+use Rattle.script_text.proofs.Words.{LineFault, Keyword, SoFar, Statement, says_slots, says_on, says_drift, says_event}
+use Rattle.script_text.proofs.Words.{word_at, value_in, hex_bytes_in, number_at, is_spelled, statement_of, slots_of}
+use Rattle.script_text.proofs.Words.{is_write_at, when, keyword_faults, statement_faults, stated_faults, is_after_slots}
+use Rattle.script_text.proofs.Words.{form_faults, StandsFor, is_event_form, is_uncounted}
+use Rattle.std.proofs.Common.{nat_lt}
+use Rattle.std.proofs.Common.{get_or-set_other}
 use Rattle.std.proofs.lemmas.List.Sums.{sum_by-cons}
-use Rattle.ttp_base.specs.Faults.{first_fault}
-use Rattle.ttp_world.specs.declared.medl.Medl.{Medl}
-use Rattle.ttp_world.specs.declared.script.Event.{Event}
 use Rattle.ttp_world.specs.declared.script.Event.TheVariants as event
-use Rattle.script_text.specs.declared.error.LineFault.{LineFault}
 use Rattle.script_text.specs.declared.error.LineFault.TheVariants as faults
 use Rattle.script_text.specs.declared.error.Refusal.TheVariants as refusals
-use Rattle.script_text.specs.declared.keyword.Keyword.{Keyword}
 use Rattle.script_text.specs.declared.keyword.Keyword.TheVariants as keyword
-use Rattle.script_text.specs.declared.so_far.SoFar.{SoFar}
-use Rattle.script_text.specs.Statement.{Statement, says_slots, says_on, says_drift, says_event}
-use Rattle.script_text.specs.Lines.{word_at}
-use Rattle.script_text.specs.Numbers.{value_in, hex_bytes_in}
-use Rattle.script_text.specs.Statement.{number_at, word_count, is_spelled, statement_of}
-use Rattle.script_text.specs.Faults.{slots_of, is_write_at, when, keyword_faults, statement_faults}
-use Rattle.script_text.specs.Faults.{further_faults, stated_faults, is_after_slots, form_faults}
-use Rattle.script_text.specs.SoFar.{StandsFor, writes_at, CountsMore, is_event_form, is_uncounted}
+use Rattle.script_text.specs.Statement.{word_count}
+use Rattle.script_text.specs.Faults.{further_faults}
+use Rattle.script_text.specs.SoFar.{writes_at, CountsMore}
 use Rattle.script_text.specs.SoFar.{ReadsEvent, TakesStated, RefusesStated}
 
 -- The faults of a line in turn: its spelling, its place after `slots`, and what it states.

@@ -12,3 +12,4 @@ pub mod ValidEvents
 pub mod Valid
 pub mod RightFiles
 pub mod WordCuts
+pub mod Words

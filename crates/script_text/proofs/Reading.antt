@@ -1,25 +1,15 @@
 -- A file that is read line by line.
-use Rattle.std.proofs.Common.{◌≡◌, ◌⊎◌, ℕ, ◌+◌, ◌*◌, ◌<◌, ◌≤◌, List, [], ◌∷◌, ◌++◌, length}
-use Rattle.std.proofs.Common.{Some, Result, Err, arith, refl, ap, sym, ◌∙◌, add-one, suc, subst, inl, inr}
-use Rattle.std.specs.Prelude.{All}
-use Rattle.ttp_base.specs.Faults.{first_fault}
-use Rattle.ttp_world.specs.declared.medl.Medl.{Medl}
-use Rattle.ttp_world.specs.declared.script.Script.{Script}
-use Rattle.ttp_world.specs.declared.script.TheConstants.{EVENT_LIMIT}
-use Rattle.ttp_world.specs.Medl.{IsValid}
-use Rattle.ttp_world.specs.Script.{IsBounded}
-use Rattle.script_text.specs.declared.error.LineFault.{LineFault}
+use Rattle.script_text.proofs.Words.{◌≡◌, ◌⊎◌, ℕ, ◌+◌, ◌*◌, ◌<◌, ◌≤◌, List, [], ◌∷◌, ◌++◌, length, Some, Result, Err}
+use Rattle.script_text.proofs.Words.{arith, refl, ap, sym, ◌∙◌, suc, inl, inr, All, first_fault, Medl, Script}
+use Rattle.script_text.proofs.Words.{EVENT_LIMIT, IsValid, IsBounded, LineFault, ScriptError, SoFar, lines_of, words_of}
+use Rattle.script_text.proofs.Words.{Statement, events_of, line_faults, statements_after, errors_at, file_faults}
+use Rattle.script_text.proofs.Words.{end_faults, statements_of, stated_script, script_or_fault, lines_script, script_of}
+use Rattle.script_text.proofs.Words.{StandsFor, HasNodes}
+use Rattle.std.proofs.Common.{add-one, subst}
 use Rattle.script_text.specs.declared.error.Refusal.{Refusal}
 use Rattle.script_text.specs.declared.error.Refusal.TheVariants as refusals
-use Rattle.script_text.specs.declared.error.ScriptError.{ScriptError}
 use Rattle.script_text.specs.declared.error.ScriptError.TheVariants as errors
-use Rattle.script_text.specs.declared.so_far.SoFar.{SoFar}
-use Rattle.script_text.specs.Lines.{lines_of, words_of}
-use Rattle.script_text.specs.Statement.{Statement}
-use Rattle.script_text.specs.Faults.{events_of, line_faults, statements_after}
-use Rattle.script_text.specs.ScriptFile.{errors_at, file_faults, end_faults, statements_of}
-use Rattle.script_text.specs.ScriptFile.{stated_script, script_or_fault, lines_script, script_of}
-use Rattle.script_text.specs.SoFar.{StandsFor, HasNodes, TakesLine, RefusesLine, error_at}
+use Rattle.script_text.specs.SoFar.{TakesLine, RefusesLine, error_at}
 use Rattle.script_text.proofs.Sizes.{size_of, size-lines_of}
 use Rattle.script_text.proofs.Valid.{AreValid, AreValid-none}
 use Rattle.script_text.proofs.RightFiles.{line_right, events_bounded}

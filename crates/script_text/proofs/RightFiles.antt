@@ -1,42 +1,30 @@
 -- A file without a fault: what its lines state is a valid script, and has no more events than fit into its bytes.
-use Rattle.std.proofs.Common.{◌≡◌, ◌⊎◌, ℕ, ◌+◌, ◌*◌, ◌≤◌, ◌==◌, ◌&&◌, ℤ, pos, Bool, true, false, cond}
-use Rattle.std.proofs.Common.{List, [], ◌∷◌, ◌++◌, length, length-append, get_or, Option, Some, None, is_some}
-use Rattle.std.proofs.Common.{unwrap_or}
-use Rattle.std.proofs.Common.{option_to_list, Result, Ok, Err, arith, refl, ap, sym, ◌∙◌, suc, lit≤, inl, inr}
-use Rattle.std.specs.Prelude.{if◌then◌else◌, All, IfSome, IfOk, count_by}
+use Rattle.script_text.proofs.Words.{◌≡◌, ◌⊎◌, ℕ, ◌+◌, ◌*◌, ◌≤◌, ◌==◌, ◌&&◌, ℤ, pos, Bool, true, false, cond, List, []}
+use Rattle.script_text.proofs.Words.{◌∷◌, ◌++◌, length, get_or, Option, Some, None, is_some, unwrap_or, Result, Ok, Err}
+use Rattle.script_text.proofs.Words.{arith, refl, ap, sym, ◌∙◌, suc, lit≤, inl, inr, if◌then◌else◌, All, IfSome}
+use Rattle.script_text.proofs.Words.{count_by, common_steps, append-nil, length-map-range_with_len, below, Medl, Event}
+use Rattle.script_text.proofs.Words.{Script, SLOT_LIMIT, DRIFT_LIMIT, EVENT_LIMIT, IsValid, IsWithinSpan, IsBounded}
+use Rattle.script_text.proofs.Words.{LineFault, ScriptError, Keyword, lines_of, words_of, word_at, Statement}
+use Rattle.script_text.proofs.Words.{says_slots, says_on, says_drift, says_event, keyword_of, is_spelled, statement_of}
+use Rattle.script_text.proofs.Words.{slots_of, on_of, drift_of, events_of, is_write_at, is_after_slots, stated_faults}
+use Rattle.script_text.proofs.Words.{form_faults, keyword_faults, line_faults, statements_after, errors_at, end_faults}
+use Rattle.script_text.proofs.Words.{file_faults, statements_of, stated_script, script_or_fault, lines_script}
+use Rattle.script_text.proofs.Words.{script_of, is_event_form}
+use Rattle.std.proofs.Common.{length-append}
+use Rattle.std.proofs.Common.{option_to_list}
+use Rattle.std.specs.Prelude.{IfOk}
 use Rattle.std.specs.List.{filter_map, cons_option}
-use Rattle.std.proofs.lemmas.Grind.{common_steps}
-use Rattle.std.proofs.lemmas.List.{append-nil}
 use Rattle.std.proofs.lemmas.List.Elements.{All-map, filter_map-append}
-use Rattle.std.proofs.lemmas.List.FromFn.{length-map-range_with_len}
 use Rattle.std.proofs.lemmas.List.Sums.{sum_by-append}
-use Rattle.ttp_base.specs.NodeSet.{below}
-use Rattle.ttp_world.specs.declared.medl.Medl.{Medl}
-use Rattle.ttp_world.specs.declared.script.Event.{Event}
 use Rattle.ttp_world.specs.declared.script.Event.TheVariants as event
-use Rattle.ttp_world.specs.declared.script.Script.{Script}
-use Rattle.ttp_world.specs.declared.script.TheConstants.{SLOT_LIMIT, DRIFT_LIMIT}
 use Rattle.ttp_world.specs.declared.script.TheConstants.{HOST_EVENT_LIMIT}
-use Rattle.ttp_world.specs.declared.script.TheConstants.{EVENT_LIMIT}
-use Rattle.ttp_world.specs.Medl.{IsValid}
-use Rattle.ttp_world.specs.Script.{IsValidScript, IsWithinSpan, IsWithinRun, IsBounded}
+use Rattle.ttp_world.specs.Script.{IsValidScript, IsWithinRun}
 use Rattle.ttp_world.specs.Script.{HostWrite, is_host_event, write_in, payload_of_host}
-use Rattle.script_text.specs.declared.error.LineFault.{LineFault}
-use Rattle.script_text.specs.declared.error.ScriptError.{ScriptError}
 use Rattle.script_text.specs.declared.error.ScriptError.TheVariants as errors
-use Rattle.script_text.specs.declared.keyword.Keyword.{Keyword}
 use Rattle.script_text.specs.declared.keyword.Keyword.TheVariants as keyword
-use Rattle.script_text.specs.Lines.{lines_of, words_of, word_at, says_nothing}
-use Rattle.script_text.specs.Statement.{Statement, says_slots, says_on, says_drift, says_event, keyword_of, is_spelled}
-use Rattle.script_text.specs.Statement.{statement_of}
-use Rattle.script_text.specs.Faults.{slots_of, on_of, drift_of, events_of, event_said}
-use Rattle.script_text.specs.Faults.{is_write_at}
-use Rattle.script_text.specs.Faults.{is_after_slots}
-use Rattle.script_text.specs.Faults.{stated_faults, form_faults, keyword_faults, line_faults}
-use Rattle.script_text.specs.Faults.{keyword_statements, statements_after}
-use Rattle.script_text.specs.ScriptFile.{errors_at, end_faults, file_faults, statements_of}
-use Rattle.script_text.specs.ScriptFile.{stated_script, script_or_fault, lines_script, script_of}
-use Rattle.script_text.specs.SoFar.{is_event_form}
+use Rattle.script_text.specs.Lines.{says_nothing}
+use Rattle.script_text.specs.Faults.{event_said}
+use Rattle.script_text.specs.Faults.{keyword_statements}
 use Rattle.script_text.proofs.Valid.{AreValid, AreValid-none, AreValid-form}
 use Rattle.script_text.proofs.ValidEvents.{within_span}
 use Rattle.script_text.proofs.Kept.{count_one}

@@ -1,20 +1,14 @@
 -- How many bytes lines and words take, each with the byte that ends it.
-use Rattle.std.proofs.Common.{◌≡◌, ℕ, ◌+◌, ◌*◌, ◌≤◌, Bool, true, false, cond, List, [], ◌∷◌, length, map}
-use Rattle.std.proofs.Common.{filter, codes, Some, arith, refl, ap, lit≤}
-use Rattle.std.specs.Prelude.{All}
-use Rattle.std.specs.List.{slice_split, onto_first}
+use Rattle.script_text.proofs.Words.{◌≡◌, ℕ, ◌+◌, ◌*◌, ◌≤◌, Bool, true, false, cond, List, [], ◌∷◌, length, map, filter}
+use Rattle.script_text.proofs.Words.{Some, arith, refl, ap, lit≤, All, slice_split, common_steps, nat_tests}
+use Rattle.script_text.proofs.Words.{bytes_eq-Decides, Keyword, is_line_feed, is_blank, has_bytes, without_return}
+use Rattle.script_text.proofs.Words.{without_empty_end, lines_of, words_of, word_at, is_text, keyword_of, is_spelled}
+use Rattle.script_text.proofs.Words.{is_event_form}
+use Rattle.std.proofs.Common.{codes}
+use Rattle.std.specs.List.{onto_first}
 use Rattle.std.proofs.Math.Nat.{le_refl}
-use Rattle.std.proofs.lemmas.Grind.{common_steps}
-use Rattle.std.proofs.lemmas.Bool.Decides.{nat_tests}
 use Rattle.std.proofs.lemmas.List.Elements.{filter_passes, All-head, All-tail}
-use Rattle.std.proofs.lemmas.Slice.Eq.{bytes_eq-Decides}
-use Rattle.script_text.specs.declared.keyword.Keyword.{Keyword}
 use Rattle.script_text.specs.declared.keyword.Keyword.TheVariants as keyword
-use Rattle.script_text.specs.Lines.{is_line_feed, is_blank, has_bytes, without_return, without_empty_end, lines_of}
-use Rattle.script_text.specs.Lines.{words_of, word_at}
-use Rattle.script_text.specs.Numbers.{is_text}
-use Rattle.script_text.specs.Statement.{keyword_of, is_spelled}
-use Rattle.script_text.specs.SoFar.{is_event_form}
 
 -- a line of this form says what a host does
 abbrev pub is_host_form : Keyword → Bool

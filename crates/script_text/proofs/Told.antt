@@ -1,17 +1,9 @@
 -- The script of what is kept, which is that of what the lines state.
-use Rattle.std.proofs.Common.{◌≡◌, ℕ, ℤ, pos, List, length, map, get_or}
-use Rattle.std.proofs.Common.{Option, Some, None, Ok, unwrap_or, arith, refl, sym, ◌∙◌}
-use Rattle.std.proofs.lemmas.List.{ext_get_or}
-use Rattle.std.proofs.lemmas.List.FromFn.{length-map-range_with_len, get_or-map-range_with_len}
+use Rattle.script_text.proofs.Words.{◌≡◌, ℕ, ℤ, pos, List, length, map, get_or, Option, Some, None, Ok, unwrap_or}
+use Rattle.script_text.proofs.Words.{arith, refl, sym, ◌∙◌, ext_get_or, length-map-range_with_len}
+use Rattle.script_text.proofs.Words.{get_or-map-range_with_len, below, Medl, Event, SoFar, Statement, on_of, drift_of}
+use Rattle.script_text.proofs.Words.{end_faults, stated_script, script_or_fault, StandsFor, HasNodes}
 use Rattle.std.proofs.lemmas.Simd.{map-map}
-use Rattle.ttp_base.specs.NodeSet.{below}
-use Rattle.ttp_world.specs.declared.medl.Medl.{Medl}
-use Rattle.ttp_world.specs.declared.script.Event.{Event}
-use Rattle.script_text.specs.declared.so_far.SoFar.{SoFar}
-use Rattle.script_text.specs.Statement.{Statement}
-use Rattle.script_text.specs.Faults.{on_of, drift_of}
-use Rattle.script_text.specs.ScriptFile.{end_faults, stated_script, script_or_fault}
-use Rattle.script_text.specs.SoFar.{StandsFor, HasNodes}
 
 -- what is kept of each node is what the lines say of it
 each_said : {X : Type 0} (said : ℕ → Option X) (kept : List (Option X)) (n : ℕ)

@@ -1,37 +1,21 @@
 -- What lines without a fault state is valid, with each statement more.
-use Rattle.std.proofs.Common.{◌≡◌, ℕ, ◌+◌, ◌<◌, ◌≤◌, ◌==◌, ◌&&◌, Bool, true, false}
-use Rattle.std.proofs.Common.{List, [], ◌∷◌, ◌++◌, Option, Some, None, is_some}
-use Rattle.std.proofs.Common.{unwrap_or}
-use Rattle.std.proofs.Common.{arith, refl, ap, ◌∙◌}
-use Rattle.std.specs.Prelude.{if◌then◌else◌, All, IfSome, count_by}
-use Rattle.std.specs.Option.{option_or}
-use Rattle.std.proofs.lemmas.Bool.{leb-true, leb-false}
-use Rattle.std.proofs.lemmas.Bool.Decides.{nat_tests}
-use Rattle.std.proofs.lemmas.Grind.{common_steps}
-use Rattle.std.proofs.lemmas.List.{append-nil}
+use Rattle.script_text.proofs.Words.{◌≡◌, ℕ, ◌+◌, ◌<◌, ◌≤◌, ◌==◌, ◌&&◌, Bool, true, false, List, [], ◌∷◌, ◌++◌, Option}
+use Rattle.script_text.proofs.Words.{Some, None, is_some, unwrap_or, arith, refl, ap, ◌∙◌, if◌then◌else◌, All, IfSome}
+use Rattle.script_text.proofs.Words.{count_by, option_or, leb-true, nat_tests, common_steps, append-nil, Medl, Script}
+use Rattle.script_text.proofs.Words.{SLOT_LIMIT, DRIFT_LIMIT, IsValid, IsValidEvent, IsWithinSpan, LineFault, Keyword}
+use Rattle.script_text.proofs.Words.{word_at, value_in, hex_bytes_in, Statement, says_slots, says_event, statement_of}
+use Rattle.script_text.proofs.Words.{number_at, slots_of, on_of, drift_of, events_of, has_payload, is_write_at, when}
+use Rattle.script_text.proofs.Words.{event_has_nodes, event_is_in_range, is_after_slots, statement_faults}
+use Rattle.script_text.proofs.Words.{stated_faults, is_event_form, is_uncounted}
+use Rattle.std.proofs.lemmas.Bool.{leb-false}
 use Rattle.std.proofs.lemmas.List.Elements.{All-nil, All-cons, All-append}
-use Rattle.ttp_world.specs.declared.medl.Medl.{Medl}
 use Rattle.ttp_world.specs.declared.script.Event.TheVariants as event
-use Rattle.ttp_world.specs.declared.script.Script.{Script}
-use Rattle.ttp_world.specs.declared.script.TheConstants.{SLOT_LIMIT, DRIFT_LIMIT}
-use Rattle.ttp_world.specs.Medl.{IsValid}
-use Rattle.ttp_world.specs.Script.{IsValidEvent, IsWithinSpan}
-use Rattle.script_text.specs.declared.error.LineFault.{LineFault}
 use Rattle.script_text.specs.declared.error.LineFault.TheVariants as faults
-use Rattle.script_text.specs.declared.keyword.Keyword.{Keyword}
 use Rattle.script_text.specs.declared.keyword.Keyword.TheVariants as keyword
-use Rattle.script_text.specs.Lines.{word_at}
-use Rattle.script_text.specs.Numbers.{value_in, hex_bytes_in}
-use Rattle.script_text.specs.Statement.{Statement, says_slots, says_event}
-use Rattle.script_text.specs.Statement.{statement_of, number_at}
-use Rattle.script_text.specs.Faults.{slots_of, run_slots, on_of, drift_of, events_of, has_nodes}
-use Rattle.script_text.specs.Faults.{has_payload, is_in_range}
-use Rattle.script_text.specs.Faults.{is_repeat, is_write, is_write_at, fills_buffers, when}
-use Rattle.script_text.specs.Faults.{event_has_nodes, event_is_in_range}
-use Rattle.script_text.specs.Faults.{is_after_slots}
-use Rattle.script_text.specs.Faults.{statement_faults, stated_faults}
+use Rattle.script_text.specs.Faults.{run_slots, has_nodes}
+use Rattle.script_text.specs.Faults.{is_in_range}
+use Rattle.script_text.specs.Faults.{is_repeat, is_write, fills_buffers}
 use Rattle.script_text.specs.Faults.{unless}
-use Rattle.script_text.specs.SoFar.{is_event_form, is_uncounted}
 use Rattle.script_text.proofs.ValidEvents.{within_span, stated_valid}
 use Rattle.script_text.proofs.Kept.{event_stated, event_form, not_write, count_one, count_none}
 

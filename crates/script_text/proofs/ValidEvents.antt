@@ -1,29 +1,21 @@
 -- An event that a line without a fault says is valid.
-use Rattle.std.proofs.Common.{◌≡◌, ℕ, ◌*◌, ◌==◌, not, ℤ, nat_abs, true}
-use Rattle.std.proofs.Common.{List, length, nat_le}
-use Rattle.std.proofs.Common.{arith}
-use Rattle.std.proofs.lemmas.Bool.{leb-true, and_parts}
-use Rattle.std.proofs.lemmas.Bool.Decides.{nat_tests}
-use Rattle.std.proofs.lemmas.Grind.{common_steps}
+use Rattle.script_text.proofs.Words.{◌≡◌, ℕ, ◌*◌, ◌==◌, ℤ, true, List, length, nat_le, arith, leb-true, nat_tests}
+use Rattle.script_text.proofs.Words.{common_steps, Medl, Event, Script, IsValidEvent, IsWithinSpan, Keyword, word_at}
+use Rattle.script_text.proofs.Words.{hex_bytes_in, says_event, statement_of, has_payload, event_has_nodes}
+use Rattle.script_text.proofs.Words.{event_is_in_range}
+use Rattle.std.proofs.Common.{not, nat_abs}
+use Rattle.std.proofs.lemmas.Bool.{and_parts}
 use Rattle.std.proofs.lemmas.Int.{ints}
-use Rattle.ttp_world.specs.declared.medl.Medl.{Medl}
-use Rattle.ttp_world.specs.declared.script.Event.{Event}
 use Rattle.ttp_world.specs.declared.script.Event.TheVariants as event
-use Rattle.ttp_world.specs.declared.script.Script.{Script}
 use Rattle.ttp_world.specs.declared.script.TheConstants.{ERROR_LIMIT, JUMP_LIMIT}
 use Rattle.ttp_world.specs.declared.script.Source.{Source}
 use Rattle.ttp_world.specs.declared.script.Source.TheVariants as source
 use Rattle.ttp_world.specs.declared.script.TheConstants.{FIRST_FLIPPED_BIT, LAST_FLIPPED_BIT}
-use Rattle.ttp_world.specs.Script.{IsSpan, IsValidEvent, IsWithinSpan}
+use Rattle.ttp_world.specs.Script.{IsSpan}
 use Rattle.ttp_world.specs.Script.{IsSource}
-use Rattle.script_text.specs.declared.keyword.Keyword.{Keyword}
 use Rattle.script_text.specs.declared.keyword.Keyword.TheVariants as keyword
-use Rattle.script_text.specs.Lines.{word_at}
-use Rattle.script_text.specs.Numbers.{hex_bytes_in}
-use Rattle.script_text.specs.Statement.{says_event}
-use Rattle.script_text.specs.Statement.{statement_of}
-use Rattle.script_text.specs.Faults.{has_payload, is_node, is_read_node, payload_size, sends_payload}
-use Rattle.script_text.specs.Faults.{event_has_nodes, event_is_in_range, is_slot, is_span, is_within}
+use Rattle.script_text.specs.Faults.{is_node, is_read_node, payload_size, sends_payload}
+use Rattle.script_text.specs.Faults.{is_slot, is_span, is_within}
 use Rattle.script_text.specs.Faults.{is_flipped_bit}
 use Rattle.script_text.proofs.HexDigits.{length-hex_bytes_in}
 

@@ -1,15 +1,8 @@
 -- A text that begins with some lines, line by line.
-use Rattle.std.proofs.Common.{◌≡◌, ℕ, zero, suc, ◌+◌, ◌-◌, ◌<◌, List, [], ◌∷◌, ◌++◌, Some, None, ap, sym, ◌∙◌}
-use Rattle.std.proofs.Common.{arith, append_assoc}
-use Rattle.std.specs.Prelude.{map}
-use Rattle.std.specs.List.{concat}
+use Rattle.trace_check.proofs.Words.{◌≡◌, ℕ, zero, suc, ◌+◌, ◌-◌, ◌<◌, List, [], ◌∷◌, ◌++◌, Some, None, ap, sym, ◌∙◌}
+use Rattle.trace_check.proofs.Words.{arith, append_assoc, map, concat, concat-append, map-range_with_len_more, below}
+use Rattle.trace_check.proofs.Words.{Lines, after_label, Begins, Departs}
 use Rattle.std.proofs.lemmas.List.{append-nil}
-use Rattle.std.proofs.lemmas.List.Folds.{concat-append}
-use Rattle.std.proofs.lemmas.List.FromFn.{map-range_with_len_more}
-use Rattle.ttp_base.specs.NodeSet.{below}
-use Rattle.ttp_base.specs.Text.{Lines}
-use Rattle.line_text.specs.Labels.{after_label}
-use Rattle.trace_check.specs.Following.{Begins, Departs}
 use Rattle.trace_check.proofs.Labels.{no_line}
 use Rattle.line_text.proofs.LabelTexts.{label-takes as behind-line}
 

@@ -1,23 +1,11 @@
 -- How many lines a trace has: as many for all legal numbers.
-use Rattle.std.proofs.Common.{◌≡◌, ℕ, zero, suc, ◌+◌, ◌≤◌, Bool, true, false, List, [], ◌∷◌, ◌++◌, length, refl, ap, sym, ◌∙◌, arith}
-use Rattle.std.proofs.Common.{length-append}
-use Rattle.std.specs.Prelude.{map}
-use Rattle.std.proofs.lemmas.List.{length-map}
-use Rattle.std.proofs.lemmas.List.FromFn.{length-map-range_with_len}
-use Rattle.ttp_base.specs.NodeSet.{below}
-use Rattle.ttp_world.specs.declared.medl.Medl.{Medl}
-use Rattle.ttp_world.specs.declared.node.Entry.{Entry}
-use Rattle.ttp_world.specs.declared.script.Script.{Script}
-use Rattle.ttp_world.specs.Diary.{History}
-use Rattle.ttp_world.specs.Legal.{read_messages, IsLegal, IsLegalRun}
-use Rattle.ttp_world.specs.declared.host_lines.HostRead.{HostRead}
-use Rattle.ttp_world.specs.Returning.{has_arm}
-use Rattle.ttp_world.specs.Script.{HostWrite, writes_in, reads_in}
-use Rattle.ttp_world.specs.Trace.{node_line_of, more_write_lines, write_lines, read_line, read_lines, slot_lines}
-use Rattle.ttp_world.specs.Trace.{history_lines, back_lines_if, test_lines, trace_lines}
-use Rattle.ttp_world.specs.World.{SlotNumbers, Numbers, world}
-use Rattle.ttp_world.proofs.LegalShapes.{legal-shapes, legal-older}
-use Rattle.ttp_world.proofs.Worlds.{row_of_world, length-world}
+use Rattle.trace_check.proofs.Words.{◌≡◌, ℕ, zero, suc, ◌+◌, ◌≤◌, Bool, true, false, List, [], ◌∷◌, ◌++◌, length, refl}
+use Rattle.trace_check.proofs.Words.{ap, sym, ◌∙◌, arith, length-append, map, length-map, length-map-range_with_len}
+use Rattle.trace_check.proofs.Words.{below, Medl, Entry, Script, History, read_messages, IsLegal, IsLegalRun, HostRead}
+use Rattle.trace_check.proofs.Words.{has_arm, HostWrite, writes_in, reads_in, node_line_of, more_write_lines}
+use Rattle.trace_check.proofs.Words.{write_lines, read_line, read_lines, slot_lines, history_lines, back_lines_if}
+use Rattle.trace_check.proofs.Words.{test_lines, trace_lines, SlotNumbers, Numbers, world, legal-shapes, legal-older}
+use Rattle.trace_check.proofs.Words.{row_of_world, length-world}
 
 -- as many as the nodes, and what hosts write and read in the slot
 abbrev pub lines_in : Medl → Script → ℕ → ℕ

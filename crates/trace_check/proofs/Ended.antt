@@ -1,30 +1,13 @@
 -- What is known of a plant that is past a slot, and of the rings as they were before it.
-use Rattle.std.proofs.Common.{◌≡◌, ℕ, ◌+◌, ◌<◌, Bool, cond, List, [], ◌∷◌, ◌++◌, length}
-use Rattle.std.proofs.Common.{Option, Some, None, ap, sym, ◌∙◌, subst, arith, length-append}
-use Rattle.std.specs.Prelude.{is_some}
-use Rattle.std.proofs.lemmas.Bool.{eq-eqb, ne_eqb}
+use Rattle.trace_check.proofs.Words.{◌≡◌, ℕ, ◌+◌, ◌<◌, Bool, cond, List, [], ◌∷◌, ◌++◌, length, Option, Some, None, ap}
+use Rattle.trace_check.proofs.Words.{sym, ◌∙◌, subst, arith, length-append, is_some, eq-eqb, ne_eqb, Medl, Chosen}
+use Rattle.trace_check.proofs.Words.{Delivered, Entry, NodeState, Script, History, IsValid, delivered_of, in_messages}
+use Rattle.trace_check.proofs.Words.{new_messages, newest_number, status_words, state_of, node_past, row_in, slot_after}
+use Rattle.trace_check.proofs.Words.{delivered_of-row_in, in_messages-some, IsLeft, ShowsNode, outcome_at, PlantView}
+use Rattle.trace_check.proofs.Words.{Incoming, HasEnded, IsPast, row_after}
 use Rattle.std.proofs.lemmas.List.{append-nil}
-use Rattle.ttp_world.specs.declared.medl.Medl.{Medl}
-use Rattle.ttp_world.specs.declared.node.Chosen.{Chosen}
-use Rattle.ttp_world.specs.declared.node.Delivered.{Delivered}
-use Rattle.ttp_world.specs.declared.node.Entry.{Entry}
-use Rattle.ttp_world.specs.declared.node.NodeState.{NodeState}
-use Rattle.ttp_world.specs.declared.script.Script.{Script}
-use Rattle.ttp_world.specs.Diary.{History}
-use Rattle.ttp_world.specs.Medl.{IsValid}
-use Rattle.ttp_world.specs.Messages.{delivered_of, in_messages, new_messages, newest_number}
-use Rattle.ttp_world.specs.Messages.{status_words}
-use Rattle.ttp_world.specs.Past.{state_of}
-use Rattle.ttp_world.specs.World.{node_past, row_in, slot_after}
-use Rattle.ttp_world.proofs.Carried.{delivered_of-row_in}
-use Rattle.ttp_world.proofs.HostPayloads.{in_messages-some}
-use Rattle.controller.specs.Passes.{IsLeft}
-use Rattle.controller.specs.PlantStands.{ShowsNode, outcome_at}
-use Rattle.controller.specs.PlantView.{PlantView}
 use Rattle.line_text.specs.LineParts.{HasDigits}
 use Rattle.line_text.proofs.MemberDigits.{state_of-digits}
-use Rattle.trace_check.specs.declared.incoming.Incoming.{Incoming}
-use Rattle.trace_check.specs.Following.{HasEnded, IsPast, row_after}
 
 -- all histories that a plant stands for have as many slots
 pub ended-slot : (plant : PlantView) (incoming other : Incoming) (list : Medl) (slot : ℕ) (script : Script)

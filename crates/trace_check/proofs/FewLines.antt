@@ -1,26 +1,17 @@
 -- A trace has fewer lines than 2^32, and whole lines as many line feeds as they are.
-use Rattle.std.proofs.Common.{◌≡◌, ℕ, zero, suc, ◌+◌, ◌-◌, ◌*◌, ◌<◌, ◌≤◌, ◌^◌, Bool, true, false, cond, List, [], ◌∷◌, ◌++◌}
-use Rattle.std.proofs.Common.{Option, Some, None, length, take, refl, ap, ◌∙◌, arith, length-append}
-use Rattle.std.specs.Prelude.{◌==◌, count_by}
-use Rattle.std.specs.List.{concat, filter_map, cons_option}
-use Rattle.std.proofs.lemmas.Bool.{eqb-true, false≢true}
-use Rattle.std.proofs.lemmas.List.{length-take}
+use Rattle.trace_check.proofs.Words.{◌≡◌, ℕ, zero, suc, ◌+◌, ◌-◌, ◌*◌, ◌<◌, ◌≤◌, ◌^◌, Bool, true, false, cond, List, []}
+use Rattle.trace_check.proofs.Words.{◌∷◌, ◌++◌, Option, Some, None, length, take, refl, ap, ◌∙◌, arith, length-append}
+use Rattle.trace_check.proofs.Words.{◌==◌, count_by, concat, filter_map, cons_option, false≢true, length-take}
+use Rattle.trace_check.proofs.Words.{take-append_seam, Lines, is_line, Medl, Script, IsValid, IsValidScript}
+use Rattle.trace_check.proofs.Words.{trace_lines, nodes-most, trace_lines-each, IsFirstWrong, IsTraceAnd, IsAmissAt}
+use Rattle.trace_check.proofs.Words.{AreLines, AreLines-take}
+use Rattle.std.proofs.lemmas.Bool.{eqb-true}
 use Rattle.std.proofs.lemmas.List.Sums.{sum_by-append}
-use Rattle.std.proofs.Math.Seq.{take-append_seam}
-use Rattle.ttp_base.specs.Text.{Lines, is_newline, is_line}
-use Rattle.ttp_world.specs.declared.medl.Medl.{Medl}
+use Rattle.ttp_base.specs.Text.{is_newline}
 use Rattle.ttp_world.specs.declared.script.Event.{Event}
 use Rattle.ttp_world.specs.declared.script.Event.TheVariants as event
-use Rattle.ttp_world.specs.declared.script.Script.{Script}
-use Rattle.ttp_world.specs.Medl.{IsValid}
-use Rattle.ttp_world.specs.Script.{IsValidScript, is_host_event, write_in, read_in}
-use Rattle.ttp_world.specs.Trace.{trace_lines}
-use Rattle.ttp_world.proofs.Lists.{nodes-most}
-use Rattle.ttp_world.proofs.TraceLines.{trace_lines-each}
-use Rattle.trace_check.specs.Answer.{IsFirstWrong}
-use Rattle.trace_check.specs.Following.{IsTraceAnd, IsAmissAt}
+use Rattle.ttp_world.specs.Script.{is_host_event, write_in, read_in}
 use Rattle.trace_check.proofs.Counts.{lines_of_slots, lines_in_all, length-test_lines, length-trace_lines}
-use Rattle.line_text.proofs.Cuts.{AreLines, AreLines-take}
 use Rattle.trace_check.proofs.Outcomes.{amiss-first_wrong, more-first_wrong}
 
 -- Counting.

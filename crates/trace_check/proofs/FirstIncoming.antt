@@ -1,21 +1,12 @@
 -- The rings that hosts read before the first slot: each has nothing but the zeros.
-use Rattle.std.proofs.Common.{◌≡◌, ℕ, zero, suc, ◌+◌, ◌*◌, ◌<◌, [], ◌++◌, length, get_or, replicate, Some}
-use Rattle.std.proofs.Common.{inl, inr, ap, sym, ◌∙◌, arith, length-append}
-use Rattle.std.specs.Prelude.{slice_get}
-use Rattle.std.proofs.Math.ListN.{get_or-append}
-use Rattle.std.proofs.Math.Nat.{mul_comm, mul-suc}
-use Rattle.std.proofs.lemmas.Bool.{cases_eq}
-use Rattle.std.proofs.lemmas.List.{get_or-append-add, get_or-replicate, length-replicate}
-use Rattle.std.proofs.lemmas.List.FromFn.{get_or-map-range_with_len, length-map-range_with_len}
-use Rattle.std.proofs.lemmas.Nat.{mul-add-lt}
-use Rattle.std.proofs.lemmas.Option.{same_Some, slice_get-get_or}
-use Rattle.ttp_world.specs.declared.medl.Medl.{Medl}
-use Rattle.ttp_world.specs.declared.node.Chosen.{Chosen}
-use Rattle.ttp_world.specs.declared.node.StatusWords.{StatusWords}
-use Rattle.ttp_world.specs.declared.script.Script.{Script}
-use Rattle.ttp_world.specs.Outgoing.{nothing_chosen}
-use Rattle.trace_check.specs.declared.incoming.Incoming.{Incoming}
-use Rattle.trace_check.specs.Incoming.{IsNewest, TellsRings, first_payloads, zeros_chosen, zeros_of_all}
+use Rattle.trace_check.proofs.Words.{◌≡◌, ℕ, zero, suc, ◌+◌, ◌*◌, ◌<◌, [], ◌++◌, length, get_or, replicate, Some, inl}
+use Rattle.trace_check.proofs.Words.{inr, ap, sym, ◌∙◌, arith, length-append, slice_get, get_or-append, mul_comm}
+use Rattle.trace_check.proofs.Words.{cases_eq, get_or-append-add, length-replicate, get_or-map-range_with_len}
+use Rattle.trace_check.proofs.Words.{length-map-range_with_len, mul-add-lt, same_Some, slice_get-get_or, Medl, Chosen}
+use Rattle.trace_check.proofs.Words.{StatusWords, Script, nothing_chosen, Incoming, IsNewest, TellsRings}
+use Rattle.trace_check.proofs.Words.{first_payloads, zeros_chosen, zeros_of_all}
+use Rattle.std.proofs.Math.Nat.{mul-suc}
+use Rattle.std.proofs.lemmas.List.{get_or-replicate}
 
 module _ (list : Medl) where
   abbrev n : ℕ

@@ -1,20 +1,12 @@
 -- What nodes send where their hosts have written nothing.
-use Rattle.std.proofs.Common.{◌≡◌, ℕ, ◌+◌, List, [], ◌∷◌, ◌++◌, length, get_or, Option, Some, ap, sym, ◌∙◌}
-use Rattle.std.proofs.Common.{arith}
-use Rattle.std.specs.Prelude.{map, slice_get, unwrap_or, replicate}
-use Rattle.std.proofs.lemmas.List.FromFn.{get_or-map-range_with_len, length-map-range_with_len, map-range_with_len_more}
-use Rattle.ttp_base.specs.NodeSet.{below}
-use Rattle.ttp_world.specs.declared.medl.Medl.{Medl}
+use Rattle.trace_check.proofs.Words.{◌≡◌, ℕ, ◌+◌, List, [], ◌∷◌, ◌++◌, length, get_or, Option, Some, ap, sym, ◌∙◌}
+use Rattle.trace_check.proofs.Words.{arith, map, slice_get, replicate, get_or-map-range_with_len}
+use Rattle.trace_check.proofs.Words.{length-map-range_with_len, map-range_with_len_more, below, Medl, Chosen, Script}
+use Rattle.trace_check.proofs.Words.{nothing_chosen, chosen_of, Outgoing, zeros_chosen, HoldsNewest}
+use Rattle.std.specs.Prelude.{unwrap_or}
 use Rattle.ttp_world.specs.declared.medl.SlotPlan.{SlotPlan}
-use Rattle.ttp_world.specs.declared.node.Chosen.{Chosen}
-use Rattle.ttp_world.specs.declared.script.Script.{Script}
 use Rattle.ttp_world.specs.Medl.{no_plan}
-use Rattle.ttp_world.specs.Outgoing.{nothing_chosen}
-use Rattle.ttp_world.specs.World.{chosen_of}
 use Rattle.ttp_world.proofs.Rings.{out_messages-first}
-use Rattle.trace_check.specs.declared.outgoing.Outgoing.{Outgoing}
-use Rattle.trace_check.specs.Incoming.{zeros_chosen}
-use Rattle.trace_check.specs.Outgoing.{HoldsNewest}
 
 abbrev pub first_number : ℕ → ℕ
 first_number k = 0

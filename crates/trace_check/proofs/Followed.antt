@@ -1,14 +1,8 @@
 -- A follower after some slots whose lines a text has.
-use Rattle.std.proofs.Common.{◌≡◌, ℕ, ◌+◌, List, [], ◌∷◌, ◌++◌, length, Some, refl, ap, sym, ◌∙◌, append-nil, arith}
-use Rattle.ttp_world.specs.declared.medl.Medl.{Medl}
-use Rattle.ttp_world.specs.declared.script.Script.{Script}
-use Rattle.ttp_world.specs.Legal.{IsLegal}
-use Rattle.ttp_world.specs.Trace.{trace_head}
-use Rattle.ttp_world.specs.World.{Numbers}
-use Rattle.ttp_world.proofs.LegalRuns.{legal-none}
-use Rattle.line_text.specs.Labels.{after_label}
-use Rattle.trace_check.specs.declared.follow.Follower.{Follower}
-use Rattle.trace_check.specs.Following.{Begins, StandsFor, StandsAt, GoesOnTo}
+use Rattle.trace_check.proofs.Words.{◌≡◌, ℕ, ◌+◌, List, [], ◌∷◌, ◌++◌, length, Some, refl, ap, sym, ◌∙◌, arith, Medl}
+use Rattle.trace_check.proofs.Words.{Script, IsLegal, trace_head, Numbers, legal-none, after_label, Follower, Begins}
+use Rattle.trace_check.proofs.Words.{StandsFor, StandsAt, GoesOnTo}
+use Rattle.std.proofs.Common.{append-nil}
 use Rattle.trace_check.proofs.Wholes.{lines_so_far, goes_on-begins}
 use Rattle.line_text.proofs.LabelTexts.{label-takes as behind-line}
 

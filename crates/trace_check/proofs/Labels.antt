@@ -1,9 +1,8 @@
 -- What is left of a text behind a line that is due, and what `?` hands on where there is none.
-use Rattle.std.proofs.Common.{◌≡◌, List, ◌++◌, ℕ, None, Result, Ok, Err, subst, sym, ap, ◌∙◌}
+use Rattle.trace_check.proofs.Words.{◌≡◌, List, ◌++◌, ℕ, None, subst, sym, ap, ◌∙◌, none-some, after_label}
+use Rattle.std.proofs.Common.{Result, Ok, Err}
 use Rattle.std.specs.Prelude.{IfErr}
 use Rattle.std.specs.Result.{IsErrAnd}
-use Rattle.std.proofs.lemmas.Option.{none-some}
-use Rattle.line_text.specs.Labels.{after_label}
 use Rattle.line_text.proofs.LabelTexts.{label-again}
 
 pub passed_up : {T E : Type 0} (r : Result T E) (e : E) (P : E → Type 0) → IsErrAnd r (λ y. y ≡ e) → P e → IfErr r P

@@ -1,16 +1,13 @@
 -- The lines of the tests at the front of a text.
-use Rattle.std.proofs.Common.{◌≡◌, ◌∙◌, Bool, true, false, List, ℕ, [], ◌∷◌, ◌++◌, Some, None, refl, ap, sym, append-nil, append_assoc}
-use Rattle.std.specs.List.{concat}
-use Rattle.ttp_base.specs.Text.{Lines}
+use Rattle.trace_check.proofs.Words.{◌≡◌, ◌∙◌, Bool, true, false, List, ℕ, [], ◌∷◌, ◌++◌, Some, None, refl, ap, sym}
+use Rattle.trace_check.proofs.Words.{append_assoc, concat, Lines, Medl, Script, has_arm, back_lines_if, test_lines}
+use Rattle.trace_check.proofs.Words.{after_label, Begins, Departs}
+use Rattle.std.proofs.Common.{append-nil}
 use Rattle.ttp_world.specs.declared.keep.Back.{Back}
 use Rattle.ttp_world.specs.declared.keep.Keep.{Keep}
-use Rattle.ttp_world.specs.declared.medl.Medl.{Medl}
-use Rattle.ttp_world.specs.declared.script.Script.{Script}
 use Rattle.ttp_world.specs.Hypothesis.{keeps}
-use Rattle.ttp_world.specs.Returning.{has_arm, returns}
-use Rattle.ttp_world.specs.Trace.{keep_line, back_line, back_lines, back_lines_if, test_lines}
-use Rattle.line_text.specs.Labels.{after_label}
-use Rattle.trace_check.specs.Following.{Begins, Departs}
+use Rattle.ttp_world.specs.Returning.{returns}
+use Rattle.ttp_world.specs.Trace.{keep_line, back_line, back_lines}
 use Rattle.trace_check.proofs.Labels.{no_line}
 use Rattle.line_text.proofs.LabelTexts.{label-takes as behind-line}
 

@@ -25,3 +25,4 @@ pub mod NodesDepart
 pub mod ReadsDepart
 pub mod SlotFollowed
 pub mod LastLines
+pub mod Words

@@ -1,18 +1,12 @@
 -- A node's line after a slot tells of the messages that were chosen in the slot only the number of its own.
-use Rattle.std.proofs.Common.{◌≡◌, ℕ, ◌<◌, List, ◌∷◌, length, Option, Some, None, option_map, refl, ap, sym, ◌∙◌}
-use Rattle.std.proofs.lemmas.Option.{none-some, same_Some}
-use Rattle.ttp_world.specs.declared.medl.Medl.{Medl}
-use Rattle.ttp_world.specs.declared.node.Delivered.{Delivered}
-use Rattle.ttp_world.specs.declared.node.Entry.{Entry}
+use Rattle.trace_check.proofs.Words.{◌≡◌, ℕ, ◌<◌, List, ◌∷◌, length, Option, Some, None, option_map, refl, ap, sym, ◌∙◌}
+use Rattle.trace_check.proofs.Words.{none-some, same_Some, Medl, Delivered, Entry, Script, History, entry_of}
+use Rattle.trace_check.proofs.Words.{message_of, delivered_of, in_messages, newest_number, state_of, member_digits}
+use Rattle.trace_check.proofs.Words.{number_delivered, message_shown, node_line_of, node_past, AreRuns}
 use Rattle.ttp_world.specs.declared.node.Entry.TheVariants as entry
-use Rattle.ttp_world.specs.declared.script.Script.{Script}
-use Rattle.ttp_world.specs.Diary.{History, entry_of}
-use Rattle.ttp_world.specs.Messages.{message_of, delivered_of, in_messages, newest_number}
-use Rattle.ttp_world.specs.Past.{NodePast, state_of}
-use Rattle.ttp_world.specs.Trace.{member_digits, node_line, number_delivered, message_shown, node_line_of}
-use Rattle.ttp_world.specs.World.{node_past}
+use Rattle.ttp_world.specs.Past.{NodePast}
+use Rattle.ttp_world.specs.Trace.{node_line}
 use Rattle.frame_fates.specs.Alike.{unnumbered, unnumbered_past, sender_delivered}
-use Rattle.frame_fates.specs.Runs.{AreRuns}
 use Rattle.frame_fates.proofs.RunsAlike.{runs-pasts, runs-deliveries, runs-received}
 
 -- Entries with one number are one, if they are alike.

@@ -1,42 +1,21 @@
 -- Where a text departs from a node's line, it does so for each number that is legal there.
-use Rattle.std.proofs.Common.{◌≡◌, ℕ, zero, suc, ◌<◌, ◌^◌, Bool, true, false, List, [], ◌∷◌, ◌++◌}
-use Rattle.std.proofs.Common.{length, get_or, take, Option, Some, None, IsTrue, if◌then◌else◌, ap, sym, ◌∙◌, subst}
-use Rattle.std.proofs.Common.{arith, append_assoc}
-use Rattle.std.specs.Prelude.{map, nat_le}
-use Rattle.std.specs.List.{AllByRecursion, concat}
-use Rattle.std.proofs.Math.ListN.{get_or-append}
-use Rattle.std.proofs.Math.Seq.{get_or-append_seam}
-use Rattle.std.proofs.lemmas.Bool.{and_parts, leb-true}
+use Rattle.trace_check.proofs.Words.{◌≡◌, ℕ, zero, suc, ◌<◌, ◌^◌, Bool, true, false, List, [], ◌∷◌, ◌++◌, length}
+use Rattle.trace_check.proofs.Words.{get_or, take, Option, Some, None, IsTrue, if◌then◌else◌, ap, sym, ◌∙◌, subst}
+use Rattle.trace_check.proofs.Words.{arith, append_assoc, map, nat_le, AllByRecursion, concat, get_or-append}
+use Rattle.trace_check.proofs.Words.{get_or-append_seam, and_parts, leb-true, concat-append, get_or-map-range_with_len}
+use Rattle.trace_check.proofs.Words.{length-map-range_with_len, none-some, below, Lines, is_line, lines_of, Medl, Entry}
+use Rattle.trace_check.proofs.Words.{Script, History, entry_of, is_legal_message, IsValid, message_of, newest_number}
+use Rattle.trace_check.proofs.Words.{out_messages, state_of, IsValidScript, history_lines, test_lines, member_digits}
+use Rattle.trace_check.proofs.Words.{message_shown, node_line_of, read_lines, write_lines, Numbers, SlotNumbers}
+use Rattle.trace_check.proofs.Words.{node_past, world, few_messages, trace_lines-each, row_of_world, numeral_in}
+use Rattle.trace_check.proofs.Words.{message_digits, lines_of_slot, number_in, number_taken, oldest_number, AreLines}
+use Rattle.trace_check.proofs.Words.{lines_of-behind}
 use Rattle.std.proofs.lemmas.List.{append-nil}
-use Rattle.std.proofs.lemmas.List.Folds.{concat-append}
-use Rattle.std.proofs.lemmas.List.FromFn.{get_or-map-range_with_len, length-map-range_with_len}
-use Rattle.std.proofs.lemmas.Option.{none-some}
-use Rattle.ttp_base.specs.NodeSet.{below}
-use Rattle.ttp_base.specs.Text.{Lines, is_line, lines_of}
-use Rattle.ttp_world.specs.declared.medl.Medl.{Medl}
-use Rattle.ttp_world.specs.declared.node.Entry.{Entry}
 use Rattle.ttp_world.specs.declared.node.Entry.TheVariants as entry
-use Rattle.ttp_world.specs.declared.script.Script.{Script}
-use Rattle.ttp_world.specs.Diary.{History, entry_of}
-use Rattle.ttp_world.specs.Legal.{is_legal_message}
-use Rattle.ttp_world.specs.Medl.{IsValid}
-use Rattle.ttp_world.specs.Messages.{message_of, newest_number}
-use Rattle.ttp_world.specs.Outgoing.{out_messages}
-use Rattle.ttp_world.specs.Past.{state_of}
-use Rattle.ttp_world.specs.Script.{IsValidScript}
-use Rattle.ttp_world.specs.Trace.{history_lines, test_lines, member_digits, message_shown, node_line_of, number_or_dash}
-use Rattle.ttp_world.specs.Trace.{read_lines, write_lines}
-use Rattle.ttp_world.specs.World.{Numbers, SlotNumbers, node_past, world}
-use Rattle.ttp_world.proofs.HostMessages.{few_messages}
+use Rattle.ttp_world.specs.Trace.{number_or_dash}
 use Rattle.ttp_world.proofs.LineWords.{node_line-words}
-use Rattle.ttp_world.proofs.TraceLines.{trace_lines-each}
-use Rattle.ttp_world.proofs.Worlds.{row_of_world}
-use Rattle.line_text.specs.Numerals.{numeral_in}
-use Rattle.line_text.specs.Numerals.{message_digits}
 use Rattle.line_text.proofs.WrittenNumbers.{numeral-again}
-use Rattle.trace_check.specs.Following.{lines_of_slot}
-use Rattle.trace_check.specs.Outgoing.{number_in, number_named, number_taken, oldest_number}
-use Rattle.line_text.proofs.Cuts.{AreLines, lines_of-behind}
+use Rattle.trace_check.specs.Outgoing.{number_named}
 use Rattle.ttp_world.proofs.LineLists.{each-append as both_parts}
 
 -- The lines of a slot are lines.

@@ -1,26 +1,15 @@
 -- One read of a slot after others: which number is legal, and what the floors then tell.
-use Rattle.std.proofs.Common.{◌≡◌, ℕ, ◌+◌, ◌*◌, ◌<◌, ◌≤◌, ◌↔◌, Bool, true, false, ◌&&◌, ◌||◌, not, List, [], ◌∷◌, ◌++◌}
-use Rattle.std.proofs.Common.{length, get_or, set, Some, None, inl, inr, refl, ap, sym, ◌∙◌, subst, arith}
-use Rattle.std.specs.Prelude.{nat_le}
-use Rattle.std.specs.List.{AllByRecursion, list_all}
-use Rattle.std.proofs.Math.Nat.{mul_comm}
-use Rattle.std.proofs.lemmas.Bool.{and_parts, cases_eq, eq-eqb, false≢true, le-leb, leb-true}
-use Rattle.std.proofs.lemmas.List.{get_or-set_other, get_or-set_same}
-use Rattle.std.proofs.lemmas.Nat.{mul-add-lt, same_from_place}
-use Rattle.std.proofs.lemmas.Option.{none-some}
-use Rattle.ttp_world.specs.declared.host_lines.HostRead.{HostRead}
-use Rattle.ttp_world.specs.declared.medl.Medl.{Medl}
-use Rattle.ttp_world.specs.declared.node.Chosen.{Chosen}
-use Rattle.ttp_world.specs.declared.script.Script.{Script}
-use Rattle.ttp_world.specs.declared.script.Source.{Source}
+use Rattle.trace_check.proofs.Words.{◌≡◌, ℕ, ◌+◌, ◌*◌, ◌<◌, ◌≤◌, Bool, true, false, ◌&&◌, List, [], ◌∷◌, ◌++◌, length}
+use Rattle.trace_check.proofs.Words.{get_or, set, Some, None, inl, inr, refl, ap, sym, ◌∙◌, subst, arith, nat_le}
+use Rattle.trace_check.proofs.Words.{AllByRecursion, list_all, mul_comm, and_parts, cases_eq, eq-eqb, false≢true}
+use Rattle.trace_check.proofs.Words.{le-leb, leb-true, get_or-set_other, get_or-set_same, mul-add-lt, same_from_place}
+use Rattle.trace_check.proofs.Words.{none-some, HostRead, Medl, Chosen, Script, Source, History, ReadMessage}
+use Rattle.trace_check.proofs.Words.{is_not_older, newest_read, Incoming, KnowsReads, MayRead, ReadsNone, ReadsOne}
+use Rattle.trace_check.proofs.Words.{behind_new_read, behind_read, line_of_read, row_after, HasPlaces, IsRing, floor_of}
+use Rattle.trace_check.proofs.Words.{floor_place, newest_before}
+use Rattle.std.proofs.Common.{◌↔◌, ◌||◌, not}
 use Rattle.ttp_world.specs.declared.script.Source.TheVariants as source
-use Rattle.ttp_world.specs.Diary.{History}
-use Rattle.ttp_world.specs.Legal.{ReadMessage, is_not_older, is_same_ring, is_same_source}
-use Rattle.ttp_world.proofs.Rings.{newest_read}
-use Rattle.trace_check.specs.declared.incoming.Incoming.{Incoming}
-use Rattle.trace_check.specs.Following.{KnowsReads, MayRead, ReadsNone, ReadsOne, behind_new_read, behind_read}
-use Rattle.trace_check.specs.Following.{line_of_read, row_after}
-use Rattle.trace_check.specs.Incoming.{HasPlaces, IsRing, floor_of, floor_place, newest_before}
+use Rattle.ttp_world.specs.Legal.{is_same_ring, is_same_source}
 use Rattle.trace_check.proofs.Labels.{no_line}
 use Rattle.trace_check.proofs.Rings.{after-few, new_read-none, new_read-some}
 use Rattle.line_text.proofs.LabelTexts.{label-takes as behind-line}

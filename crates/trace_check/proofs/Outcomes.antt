@@ -1,23 +1,17 @@
 -- A text is the trace of a run, or has one first wrong line.
-use Rattle.std.proofs.Common.{◌≡◌, ℕ, ◌+◌, ◌-◌, ◌<◌, ◌≤◌, List, [], ◌∷◌, ◌++◌, length, get_or, take, ap}
-use Rattle.std.proofs.Common.{sym, subst, ◌∙◌, inl, inr, arith, append-nil, length-append}
-use Rattle.std.specs.List.{concat}
+use Rattle.trace_check.proofs.Words.{◌≡◌, ℕ, ◌+◌, ◌-◌, ◌<◌, ◌≤◌, List, [], ◌∷◌, ◌++◌, length, get_or, take, ap, sym}
+use Rattle.trace_check.proofs.Words.{subst, ◌∙◌, inl, inr, arith, length-append, concat, length-take, take-append_seam}
+use Rattle.trace_check.proofs.Words.{get_or-append_seam, Lines, lines_of, lines_of-concat, Medl, Script, IsLegalRun}
+use Rattle.trace_check.proofs.Words.{trace_lines, Numbers, trace_lines-each, IsFirstWrong, IsTraceAnd, IsAmissAt}
+use Rattle.trace_check.proofs.Words.{AreLines-take, lines_of-behind}
+use Rattle.std.proofs.Common.{append-nil}
 use Rattle.std.proofs.lemmas.Bool.{cases_lt}
-use Rattle.std.proofs.lemmas.List.{take-take, length-take, get_or-take}
-use Rattle.std.proofs.Math.Seq.{take-length, take-append_seam, get_or-append_seam}
-use Rattle.ttp_base.specs.Text.{Lines, lines_of}
-use Rattle.ttp_base.proofs.Lines.{lines_of-concat}
-use Rattle.ttp_world.specs.declared.medl.Medl.{Medl}
-use Rattle.ttp_world.specs.declared.script.Script.{Script}
-use Rattle.ttp_world.specs.Legal.{IsLegalRun}
-use Rattle.ttp_world.specs.Trace.{trace_lines}
-use Rattle.ttp_world.specs.World.{Numbers}
-use Rattle.ttp_world.proofs.TraceLines.{trace_lines-each}
-use Rattle.trace_check.specs.Answer.{BeginsAsTrace, IsFirstWrong}
-use Rattle.trace_check.specs.Following.{IsTraceAnd, IsAmissAt}
+use Rattle.std.proofs.lemmas.List.{take-take, get_or-take}
+use Rattle.std.proofs.Math.Seq.{take-length}
+use Rattle.trace_check.specs.Answer.{BeginsAsTrace}
 use Rattle.trace_check.proofs.Counts.{lines_in_all, length-trace_lines}
 use Rattle.trace_check.proofs.OwnNumbers.{IsTrace}
-use Rattle.line_text.proofs.Cuts.{AreLines-take, lines_of-behind, concat-lines_of}
+use Rattle.line_text.proofs.Cuts.{concat-lines_of}
 
 -- Beginnings.
 

@@ -1,21 +1,12 @@
 -- A text that is the trace of a run by some legal numbers is so by those that its own lines name.
-use Rattle.std.proofs.Common.{◌≡◌, ◌∙◌, ℕ, zero, suc, true, List, length, refl, ap}
-use Rattle.std.specs.Prelude.{map}
-use Rattle.std.specs.List.{concat}
+use Rattle.trace_check.proofs.Words.{◌≡◌, ◌∙◌, ℕ, zero, suc, true, List, length, refl, ap, map, concat, and_parts}
+use Rattle.trace_check.proofs.Words.{Lines, lines_of, lines_of-concat, Medl, Script, IsLegalRun, IsValid, IsValidScript}
+use Rattle.trace_check.proofs.Words.{trace_lines, words_of, Numbers, trace_lines-each}
 use Rattle.std.specs.Str.{bytes_eq}
-use Rattle.std.proofs.lemmas.Bool.{and_parts, and_from}
+use Rattle.std.proofs.lemmas.Bool.{and_from}
 use Rattle.std.proofs.lemmas.Slice.Eq.{bytes_eq-Decides}
-use Rattle.ttp_base.specs.Text.{Lines, lines_of}
-use Rattle.ttp_base.proofs.Lines.{lines_of-concat}
-use Rattle.ttp_world.specs.declared.medl.Medl.{Medl}
-use Rattle.ttp_world.specs.declared.script.Script.{Script}
-use Rattle.ttp_world.specs.Legal.{is_legal, IsLegalRun}
-use Rattle.ttp_world.specs.Medl.{IsValid}
-use Rattle.ttp_world.specs.Script.{IsValidScript}
-use Rattle.ttp_world.specs.Trace.{trace_lines}
-use Rattle.ttp_world.specs.TraceNumbers.{words_of, numbers_below, numbers_in}
-use Rattle.ttp_world.specs.World.{Numbers}
-use Rattle.ttp_world.proofs.TraceLines.{trace_lines-each}
+use Rattle.ttp_world.specs.Legal.{is_legal}
+use Rattle.ttp_world.specs.TraceNumbers.{numbers_below, numbers_in}
 use Rattle.ttp_world.proofs.TraceNumbers.{numbers_in-trace}
 use Rattle.trace_check.specs.Answer.{is_trace, is_trace_by}
 

@@ -1,24 +1,14 @@
 -- Where a text departs from the line of a read, it does so for each number that is legal there.
-use Rattle.std.proofs.Common.{◌≡◌, ℕ, suc, ◌<◌, ◌≤◌, ◌^◌, Bool, true, List, [], ◌∷◌, ◌++◌, length}
-use Rattle.std.proofs.Common.{Some, refl, ap, sym, ◌∙◌, arith, append_assoc}
-use Rattle.std.specs.Prelude.{map, reverse, slice_get}
-use Rattle.std.specs.List.{AllByRecursion, list_all}
-use Rattle.std.proofs.lemmas.Bool.{and_parts}
+use Rattle.trace_check.proofs.Words.{◌≡◌, ℕ, suc, ◌<◌, ◌≤◌, ◌^◌, Bool, true, List, [], ◌∷◌, ◌++◌, length, Some, refl}
+use Rattle.trace_check.proofs.Words.{ap, sym, ◌∙◌, arith, append_assoc, map, reverse, slice_get, AllByRecursion}
+use Rattle.trace_check.proofs.Words.{list_all, and_parts, same_Some, Lines, HostRead, Medl, Chosen, Script, History}
+use Rattle.trace_check.proofs.Words.{ReadMessage, is_legal_read, is_not_older, never_fall, read_messages, read_line}
+use Rattle.trace_check.proofs.Words.{words_of, MayRead, row_after}
 use Rattle.std.proofs.lemmas.List.{reverse-append}
 use Rattle.std.proofs.lemmas.List.Folds.{list_all-append}
-use Rattle.std.proofs.lemmas.Option.{same_Some}
-use Rattle.ttp_base.specs.Text.{Lines}
-use Rattle.ttp_world.specs.declared.host_lines.HostRead.{HostRead}
-use Rattle.ttp_world.specs.declared.medl.Medl.{Medl}
-use Rattle.ttp_world.specs.declared.node.Chosen.{Chosen}
-use Rattle.ttp_world.specs.declared.script.Script.{Script}
-use Rattle.ttp_world.specs.Diary.{History}
-use Rattle.ttp_world.specs.Legal.{ReadMessage, is_legal_read, is_not_older, never_fall, read_messages}
-use Rattle.ttp_world.specs.Trace.{read_line}
-use Rattle.ttp_world.specs.TraceNumbers.{number_named, word_in, words_of}
+use Rattle.ttp_world.specs.TraceNumbers.{number_named, word_in}
 use Rattle.ttp_world.proofs.LineWords.{read_line-words}
 use Rattle.ttp_world.proofs.NumberWords.{number_named-decimal}
-use Rattle.trace_check.specs.Following.{MayRead, row_after}
 use Rattle.ttp_world.proofs.LegalShapes.{never_fall-older as falls-next}
 
 -- The newest messages for the reads that are left.

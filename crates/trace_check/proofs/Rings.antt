@@ -1,32 +1,16 @@
 -- What hosts can read of the rings, by what is known of them before a slot and by what the slot brings.
-use Rattle.std.proofs.Common.{◌≡◌, ℕ, ◌+◌, ◌*◌, ◌<◌, ◌≤◌, Bool, List, [], ◌∷◌, ◌++◌, length, get_or, Some, None}
-use Rattle.std.proofs.Common.{if◌then◌else◌, ap, sym, ◌∙◌, subst, arith, length-append}
-use Rattle.std.specs.Prelude.{slice_get}
-use Rattle.std.proofs.Math.ListN.{get_or-append}
-use Rattle.std.proofs.Math.Seq.{get_or-append_seam}
-use Rattle.std.proofs.lemmas.Bool.{le-ltb, lt-ltb}
-use Rattle.std.proofs.lemmas.Option.{same_Some}
-use Rattle.ttp_world.specs.declared.host_lines.HostRead.{HostRead}
-use Rattle.ttp_world.specs.declared.medl.Medl.{Medl}
-use Rattle.ttp_world.specs.declared.node.Chosen.{Chosen}
-use Rattle.ttp_world.specs.declared.node.Delivered.{Delivered}
-use Rattle.ttp_world.specs.declared.node.Entry.{Entry}
-use Rattle.ttp_world.specs.declared.node.StatusWords.{StatusWords}
-use Rattle.ttp_world.specs.declared.script.Script.{Script}
-use Rattle.ttp_world.specs.declared.script.Source.{Source}
+use Rattle.trace_check.proofs.Words.{◌≡◌, ℕ, ◌+◌, ◌*◌, ◌<◌, ◌≤◌, Bool, List, [], ◌∷◌, ◌++◌, length, get_or, Some, None}
+use Rattle.trace_check.proofs.Words.{if◌then◌else◌, ap, sym, ◌∙◌, subst, arith, length-append, slice_get, get_or-append}
+use Rattle.trace_check.proofs.Words.{get_or-append_seam, le-ltb, lt-ltb, same_Some, HostRead, Medl, Chosen, Delivered}
+use Rattle.trace_check.proofs.Words.{Entry, StatusWords, Script, Source, History, delivered_of, in_messages}
+use Rattle.trace_check.proofs.Words.{new_messages, newest_number, ring_messages, status_messages, in_messages-some}
+use Rattle.trace_check.proofs.Words.{outcome_at, PlantView, Incoming, HasEnded, behind_new_read, behind_read}
+use Rattle.trace_check.proofs.Words.{line_of_read, row_after, IsNewest, IsRing, TellsRings, newest_before}
+use Rattle.trace_check.proofs.Words.{newest_message, in_messages-few}
 use Rattle.ttp_world.specs.declared.script.Source.TheVariants as source
-use Rattle.ttp_world.specs.Diary.{History}
-use Rattle.ttp_world.specs.Messages.{delivered_of, in_messages, new_messages, newest_number, ring_messages}
-use Rattle.ttp_world.specs.Messages.{status_messages}
-use Rattle.ttp_world.proofs.HostPayloads.{in_messages-some}
-use Rattle.controller.specs.PlantStands.{outcome_at}
-use Rattle.controller.specs.PlantView.{PlantView}
 use Rattle.line_text.specs.HostLines.{message_line}
-use Rattle.trace_check.specs.declared.incoming.Incoming.{Incoming}
-use Rattle.trace_check.specs.Following.{HasEnded, behind_new_read, behind_read, line_of_read, row_after}
-use Rattle.trace_check.specs.Incoming.{IsNewest, IsRing, TellsRings, newest_before, newest_message}
 use Rattle.trace_check.proofs.Ended.{delivered-number, delivered-own, ended-status}
-use Rattle.ttp_world.proofs.LegalNumbers.{in_messages-few, new_messages-few, status_messages-count}
+use Rattle.ttp_world.proofs.LegalNumbers.{new_messages-few, status_messages-count}
 
 pub newest-status : (list : Medl) (script : Script) (history : History) (read : HostRead) (slot : ℕ)
     → read.source ≡ source.Status → slot ≡ length history → slot ≡ newest_before list script history read

@@ -1,26 +1,13 @@
 -- The rings once a slot's messages are there, node by node.
-use Rattle.std.proofs.Common.{◌≡◌, ℕ, zero, suc, ◌+◌, ◌*◌, ◌<◌, ◌≤◌, Bool, List, [], ◌∷◌, ◌++◌, length, get_or, set}
-use Rattle.std.proofs.Common.{Some, None, if◌then◌else◌, inl, inr, refl, ap, sym, ◌∙◌, subst, arith}
-use Rattle.std.proofs.Common.{length-append}
-use Rattle.std.specs.Prelude.{is_some, nat_lt, slice_get}
-use Rattle.std.proofs.Math.Seq.{get_or-append_seam}
-use Rattle.std.proofs.lemmas.Bool.{cases_eq, cases_order, le-ltb, lt-ltb}
-use Rattle.std.proofs.lemmas.Nat.{mul-add-lt, same_from_place}
-use Rattle.std.proofs.lemmas.Option.{same_Some, slice_get-get_or}
-use Rattle.ttp_world.specs.declared.medl.Medl.{Medl}
-use Rattle.ttp_world.specs.declared.node.Chosen.{Chosen}
-use Rattle.ttp_world.specs.declared.node.Delivered.{Delivered}
-use Rattle.ttp_world.specs.declared.node.Entry.{Entry}
-use Rattle.ttp_world.specs.declared.node.StatusWords.{StatusWords}
-use Rattle.ttp_world.specs.declared.script.Script.{Script}
+use Rattle.trace_check.proofs.Words.{◌≡◌, ℕ, zero, suc, ◌+◌, ◌*◌, ◌<◌, ◌≤◌, Bool, List, [], ◌∷◌, ◌++◌, length, get_or}
+use Rattle.trace_check.proofs.Words.{set, Some, None, if◌then◌else◌, inl, inr, refl, ap, sym, ◌∙◌, subst, arith}
+use Rattle.trace_check.proofs.Words.{length-append, is_some, nat_lt, slice_get, get_or-append_seam, cases_eq}
+use Rattle.trace_check.proofs.Words.{cases_order, le-ltb, lt-ltb, mul-add-lt, same_from_place, same_Some}
+use Rattle.trace_check.proofs.Words.{slice_get-get_or, Medl, Chosen, Delivered, Entry, StatusWords, Script, History}
+use Rattle.trace_check.proofs.Words.{delivered_of, in_messages, newest_number, ring_messages, status_messages}
+use Rattle.trace_check.proofs.Words.{status_words, nothing_chosen, node_past, Incoming, HasPlaces, IsNewest, TellsRings}
+use Rattle.trace_check.proofs.Words.{newest_message}
 use Rattle.ttp_world.specs.declared.script.Source.TheVariants as source
-use Rattle.ttp_world.specs.Diary.{History}
-use Rattle.ttp_world.specs.Messages.{delivered_of, in_messages, newest_number, ring_messages, status_messages}
-use Rattle.ttp_world.specs.Messages.{status_words}
-use Rattle.ttp_world.specs.Outgoing.{nothing_chosen}
-use Rattle.ttp_world.specs.World.{node_past}
-use Rattle.trace_check.specs.declared.incoming.Incoming.{Incoming}
-use Rattle.trace_check.specs.Incoming.{HasPlaces, IsNewest, TellsRings, newest_message}
 use Rattle.trace_check.proofs.Ended.{delivered-none, delivered-number, delivered-other, delivered-own}
 use Rattle.ttp_world.proofs.ListFacts.{slice_get-set_same as set_same}
 

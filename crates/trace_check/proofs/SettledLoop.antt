@@ -1,23 +1,9 @@
 -- What the loop over nodes keeps by which a slot's messages come to the hosts.
-use Rattle.std.proofs.Common.{◌≡◌, ℕ, ◌+◌, ◌*◌, ◌<◌, ◌^◌, List, length, get_or, set, Some, None, refl, ap, sym, ◌∙◌}
-use Rattle.std.proofs.Common.{arith}
-use Rattle.std.specs.Prelude.{slice_get}
-use Rattle.std.proofs.lemmas.List.{length-set}
-use Rattle.std.proofs.lemmas.Option.{slice_get-get_or}
-use Rattle.ttp_world.specs.declared.medl.Medl.{Medl}
-use Rattle.ttp_world.specs.declared.node.Chosen.{Chosen}
-use Rattle.ttp_world.specs.declared.node.Delivered.{Delivered}
-use Rattle.ttp_world.specs.declared.node.StatusWords.{StatusWords}
-use Rattle.ttp_world.specs.declared.script.Script.{Script}
-use Rattle.ttp_world.specs.Diary.{History}
-use Rattle.ttp_world.specs.Outgoing.{nothing_chosen}
-use Rattle.controller.specs.PlantStands.{outcome_at}
-use Rattle.controller.specs.PlantView.{PlantView}
-use Rattle.trace_check.specs.declared.incoming.Incoming.{Incoming}
-use Rattle.trace_check.specs.Following.{HasEnded, IsPast, row_after}
-use Rattle.trace_check.specs.Incoming.{HasPlaces}
+use Rattle.trace_check.proofs.Words.{◌≡◌, ℕ, ◌+◌, ◌*◌, ◌<◌, ◌^◌, List, length, get_or, set, Some, None, refl, ap, sym}
+use Rattle.trace_check.proofs.Words.{◌∙◌, arith, slice_get, length-set, slice_get-get_or, Medl, Chosen, Delivered}
+use Rattle.trace_check.proofs.Words.{StatusWords, Script, History, nothing_chosen, outcome_at, PlantView, Incoming}
+use Rattle.trace_check.proofs.Words.{HasEnded, IsPast, row_after, HasPlaces, in_messages-few}
 use Rattle.trace_check.proofs.Ended.{ended-delivered, ended-status}
-use Rattle.ttp_world.proofs.LegalNumbers.{in_messages-few}
 use Rattle.trace_check.proofs.Settled.{TellsPayloads, TellsStatuses, settled-none, settled-some, settled-status}
 use Rattle.trace_check.proofs.Settled.{unsettled-number}
 use Rattle.trace_check.proofs.Shown.{place_within}

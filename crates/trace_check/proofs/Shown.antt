@@ -1,28 +1,13 @@
 -- The message that a node's line names, by what the node did and what it delivered.
-use Rattle.std.proofs.Common.{◌≡◌, ℕ, ◌+◌, ◌*◌, ◌<◌, ◌^◌, List, ◌∷◌, length, Option, Some, None, IfSome, refl, ap}
-use Rattle.std.proofs.Common.{sym, ◌∙◌, subst, arith}
-use Rattle.std.specs.Prelude.{map, option_map, slice_get}
-use Rattle.std.proofs.lemmas.Nat.{mul-add-lt}
-use Rattle.ttp_base.specs.NodeSet.{below}
-use Rattle.ttp_base.specs.Text.{Lines}
-use Rattle.ttp_world.specs.declared.medl.Medl.{Medl}
-use Rattle.ttp_world.specs.declared.node.Chosen.{Chosen}
-use Rattle.ttp_world.specs.declared.node.Delivered.{Delivered}
-use Rattle.ttp_world.specs.declared.node.NodeState.{NodeState}
-use Rattle.ttp_world.specs.declared.script.Script.{Script}
-use Rattle.ttp_world.specs.Diary.{History}
-use Rattle.ttp_world.specs.Messages.{delivered_of}
-use Rattle.ttp_world.specs.Trace.{message_shown, node_line_of, number_delivered}
-use Rattle.controller.specs.PlantStands.{ShowsNode, outcome_at}
-use Rattle.controller.specs.PlantView.{PlantView}
+use Rattle.trace_check.proofs.Words.{◌≡◌, ℕ, ◌+◌, ◌*◌, ◌<◌, ◌^◌, List, ◌∷◌, length, Option, Some, None, IfSome, refl}
+use Rattle.trace_check.proofs.Words.{ap, sym, ◌∙◌, subst, arith, map, option_map, slice_get, mul-add-lt, below, Lines}
+use Rattle.trace_check.proofs.Words.{Medl, Chosen, Delivered, NodeState, Script, History, delivered_of, message_shown}
+use Rattle.trace_check.proofs.Words.{node_line_of, number_delivered, ShowsNode, outcome_at, PlantView, after_label}
+use Rattle.trace_check.proofs.Words.{Incoming, Begins, Departs, HasEnded, IsPast, node_lines, row_after, HasPlaces}
+use Rattle.trace_check.proofs.Words.{in_messages-few}
 use Rattle.line_text.specs.LineParts.{listed_line}
-use Rattle.line_text.specs.Labels.{after_label}
-use Rattle.trace_check.specs.declared.incoming.Incoming.{Incoming}
-use Rattle.trace_check.specs.Following.{Begins, Departs, HasEnded, IsPast, node_lines, row_after}
-use Rattle.trace_check.specs.Incoming.{HasPlaces}
 use Rattle.trace_check.proofs.Begun.{begins-behind, departs-behind, next-below, split-below}
 use Rattle.trace_check.proofs.Ended.{delivered-number, ended-delivered, ended-slot, ended-state}
-use Rattle.ttp_world.proofs.LegalNumbers.{in_messages-few}
 
 pub place_within : (incoming : Incoming) (list : Medl) (k p : ℕ) → HasPlaces incoming list → k < length list.slots
     → p < length list.slots → k * incoming.nodes + p < length incoming.payloads.items

@@ -1,44 +1,27 @@
 -- A slot in which each frame carries a legal message: its row, its numbers and its lines.
-use Rattle.std.proofs.Common.{◌≡◌, ℕ, ◌<◌, Bool, true, false, ◌&&◌, List, [], ◌∷◌, ◌++◌, length, get_or}
-use Rattle.std.proofs.Common.{Option, Some, None, IfSome, IsTrue, if◌then◌else◌, refl, ap, sym, ◌∙◌, subst, arith}
-use Rattle.std.proofs.Common.{append_assoc, append-nil, length-append, take}
-use Rattle.std.proofs.Math.Seq.{take-append_seam}
-use Rattle.std.specs.Prelude.{map, reverse}
-use Rattle.std.specs.List.{concat, list_all}
-use Rattle.std.proofs.lemmas.Bool.{cond_both, eq-eqb, le-leb}
-use Rattle.std.proofs.lemmas.Grind.{reverse_onto}
-use Rattle.std.proofs.lemmas.List.Folds.{concat-append}
-use Rattle.ttp_base.specs.NodeSet.{below}
-use Rattle.ttp_base.specs.Text.{Lines}
+use Rattle.trace_check.proofs.Words.{◌≡◌, ℕ, ◌<◌, Bool, true, false, ◌&&◌, List, [], ◌∷◌, ◌++◌, length, get_or, Option}
+use Rattle.trace_check.proofs.Words.{Some, None, IfSome, IsTrue, if◌then◌else◌, refl, ap, sym, ◌∙◌, subst, arith}
+use Rattle.trace_check.proofs.Words.{append_assoc, length-append, take, take-append_seam, map, reverse, concat}
+use Rattle.trace_check.proofs.Words.{list_all, cond_both, eq-eqb, le-leb, reverse_onto, concat-append, below, Lines}
+use Rattle.trace_check.proofs.Words.{Medl, Chosen, Delivered, Entry, Script, History, entry_of, IsLegal, ReadMessage}
+use Rattle.trace_check.proofs.Words.{is_legal_message, is_legal_read, never_fall, read_messages, IsValid, message_of}
+use Rattle.trace_check.proofs.Words.{newest_number, message_chosen, out_messages, IsValidScript, reads_in, read_line}
+use Rattle.trace_check.proofs.Words.{read_lines, slot_lines, write_lines, Numbers, SlotNumbers, chosen_of, is_loaded}
+use Rattle.trace_check.proofs.Words.{slot_after, world, delivered_of-row_in, message_of-row_in, length-world}
+use Rattle.trace_check.proofs.Words.{row_of_world, AreChosen, IsLeft, outcome_at, PlantView, Incoming, Begins}
+use Rattle.trace_check.proofs.Words.{DepartsAfter, HasEnded, MayReadAll, ReadsOn, lines_of_slot, node_lines, row_after}
+use Rattle.trace_check.proofs.Words.{TellsRings, number_taken, oldest_number}
+use Rattle.std.proofs.Common.{append-nil}
 use Rattle.ttp_base.proofs.Below.{all-below}
-use Rattle.ttp_world.specs.declared.medl.Medl.{Medl}
-use Rattle.ttp_world.specs.declared.node.Chosen.{Chosen}
-use Rattle.ttp_world.specs.declared.node.Delivered.{Delivered}
-use Rattle.ttp_world.specs.declared.node.Entry.{Entry}
-use Rattle.ttp_world.specs.declared.script.Script.{Script}
-use Rattle.ttp_world.specs.Diary.{History, entry_of}
-use Rattle.ttp_world.specs.Legal.{IsLegal, ReadMessage, are_legal_messages, are_legal_reads}
-use Rattle.ttp_world.specs.Legal.{is_legal_message, is_legal_read, is_legal_slot, never_fall}
-use Rattle.ttp_world.specs.Legal.{read_messages}
-use Rattle.ttp_world.specs.Medl.{IsValid}
-use Rattle.ttp_world.specs.Messages.{message_of, newest_number}
-use Rattle.ttp_world.specs.Outgoing.{message_chosen, out_messages}
-use Rattle.ttp_world.specs.Script.{IsValidScript, reads_in}
-use Rattle.ttp_world.specs.Trace.{read_line, read_lines, slot_lines, write_lines}
-use Rattle.ttp_world.specs.World.{Numbers, SlotNumbers, chosen_of, is_loaded, slot_after, world}
-use Rattle.ttp_world.proofs.Carried.{AreOfHosts, delivered_of-row_in, message_of-row_in}
+use Rattle.ttp_world.specs.Legal.{are_legal_messages, are_legal_reads}
+use Rattle.ttp_world.specs.Legal.{is_legal_slot}
+use Rattle.ttp_world.proofs.Carried.{AreOfHosts}
 use Rattle.ttp_world.proofs.HostMessages.{legal-size}
 use Rattle.ttp_world.proofs.Places.{delivered_of-sender, entry_of-row_after-of_list}
 use Rattle.ttp_world.proofs.Rings.{newest_written}
 use Rattle.ttp_world.proofs.Slots.{length-row_in}
-use Rattle.ttp_world.proofs.Worlds.{length-world, row_of_world, row_of_world-told, world-of_list}
-use Rattle.controller.specs.Passes.{AreChosen, IsLeft}
-use Rattle.controller.specs.PlantStands.{IsStep, outcome_at}
-use Rattle.controller.specs.PlantView.{PlantView}
-use Rattle.trace_check.specs.declared.incoming.Incoming.{Incoming}
-use Rattle.trace_check.specs.Following.{Begins, DepartsAfter, HasEnded, MayReadAll, ReadsOn, lines_of_slot, node_lines, row_after}
-use Rattle.trace_check.specs.Incoming.{TellsRings}
-use Rattle.trace_check.specs.Outgoing.{number_taken, oldest_number}
+use Rattle.ttp_world.proofs.Worlds.{row_of_world-told, world-of_list}
+use Rattle.controller.specs.PlantStands.{IsStep}
 use Rattle.ttp_world.proofs.LegalSlots.{legal-after}
 use Rattle.ttp_world.proofs.LegalRuns.{are_same_numbers-refl as same_refl}
 

@@ -1,54 +1,32 @@
 -- A follower in a slot, whose messages are those that the text names.
-use Rattle.std.proofs.Common.{◌≡◌, ℕ, ◌+◌, ◌<◌, List, [], ◌∷◌, length, get_or, Option, Some, IsTrue, refl, ap, sym, ◌∙◌, subst}
-use Rattle.std.proofs.Common.{arith}
-use Rattle.std.proofs.Common.{◌++◌, ◌≤◌, ◌&&◌, Bool, None, append_assoc, drop, if◌then◌else◌, length-append, take}
-use Rattle.std.specs.Prelude.{map, nat_le, reverse}
-use Rattle.std.specs.List.{AllByRecursion, concat, list_all}
+use Rattle.trace_check.proofs.Words.{◌≡◌, ℕ, ◌+◌, ◌<◌, List, [], ◌∷◌, length, get_or, Option, Some, IsTrue, refl, ap}
+use Rattle.trace_check.proofs.Words.{sym, ◌∙◌, subst, arith, ◌++◌, ◌≤◌, ◌&&◌, Bool, None, append_assoc, drop}
+use Rattle.trace_check.proofs.Words.{if◌then◌else◌, length-append, take, map, nat_le, reverse, AllByRecursion, concat}
+use Rattle.trace_check.proofs.Words.{list_all, get_or-append_seam, take-append_seam, and_parts, le-leb, leb-true}
+use Rattle.trace_check.proofs.Words.{length-map, map-append, take-append-drop, same_Some, get_or-map-range_with_len}
+use Rattle.trace_check.proofs.Words.{length-map-range_with_len, below, Lines, HostRead, lines_of, Medl, Chosen, Entry}
+use Rattle.trace_check.proofs.Words.{Script, History, entry_of, IsLegal, ReadMessage, is_legal_message, is_legal_read}
+use Rattle.trace_check.proofs.Words.{never_fall, read_messages, IsValid, message_of, message_chosen, nothing_chosen}
+use Rattle.trace_check.proofs.Words.{IsValidScript, reads_in, node_line_of, read_line, read_lines, write_lines, Numbers}
+use Rattle.trace_check.proofs.Words.{SlotNumbers, chosen_of, is_loaded, row_in, slot_after, world, message_of-row_in}
+use Rattle.trace_check.proofs.Words.{legal-AreNumbersOfAll, legal-shapes, newest_read, length-world, row_of_world}
+use Rattle.trace_check.proofs.Words.{AreRuns, AreChosen, PlantView, Follower, Incoming, Outgoing, Begins, Departs}
+use Rattle.trace_check.proofs.Words.{DepartsAfter, GoesOnTo, HasEnded, IsPast, MayReadAll, ReadsAmiss, ReadsOn}
+use Rattle.trace_check.proofs.Words.{StandsAt, StandsFor, line_of_read, lines_of_slot, node_lines, row_after}
+use Rattle.trace_check.proofs.Words.{AreFloorsWithin, TellsRings, floor_of, floor_place, newest_before, Chooses}
+use Rattle.trace_check.proofs.Words.{HasChosen, HoldsNewest, number_in, AreLines, AreLines-take}
 use Rattle.std.proofs.Math.ListN.{get_or-map}
-use Rattle.std.proofs.Math.Seq.{get_or-append_seam, take-append_seam}
-use Rattle.std.proofs.lemmas.Bool.{and_parts, le-leb, leb-true}
-use Rattle.std.proofs.lemmas.List.{length-map, map-append, take-append-drop}
-use Rattle.std.proofs.lemmas.Option.{same_Some}
-use Rattle.std.proofs.lemmas.List.FromFn.{get_or-map-range_with_len, length-map-range_with_len}
-use Rattle.ttp_base.specs.NodeSet.{below}
-use Rattle.ttp_base.specs.Text.{Lines}
-use Rattle.ttp_world.specs.declared.host_lines.HostRead.{HostRead}
-use Rattle.ttp_base.specs.Text.{lines_of}
-use Rattle.ttp_world.specs.declared.medl.Medl.{Medl}
-use Rattle.ttp_world.specs.declared.node.Chosen.{Chosen}
-use Rattle.ttp_world.specs.declared.node.Entry.{Entry}
 use Rattle.ttp_world.specs.declared.node.Entry.TheVariants as entry
-use Rattle.ttp_world.specs.declared.script.Script.{Script}
 use Rattle.ttp_world.specs.declared.script.TheConstants.{SLOT_LIMIT}
-use Rattle.ttp_world.specs.Diary.{History, entry_of}
-use Rattle.ttp_world.specs.Legal.{IsLegal, ReadMessage, all_reads, is_legal_message, is_legal_read, never_fall, read_messages}
-use Rattle.ttp_world.specs.Medl.{IsValid}
-use Rattle.ttp_world.specs.Messages.{message_of}
-use Rattle.ttp_world.specs.Outgoing.{message_chosen, nothing_chosen}
-use Rattle.ttp_world.specs.Script.{IsValidScript, reads_in}
-use Rattle.ttp_world.specs.Trace.{node_line_of, read_line, read_lines, write_lines}
-use Rattle.ttp_world.specs.World.{Numbers, SlotNumbers, chosen_of, is_loaded, messages_chosen, row_in, slot_after, world}
-use Rattle.ttp_world.proofs.Carried.{message_of-row_in, row_in-same}
-use Rattle.ttp_world.proofs.LegalNumbers.{legal-AreNumbersOfAll}
-use Rattle.ttp_world.proofs.LegalShapes.{legal-message, legal-reads, legal-shapes, reads-never_fall}
-use Rattle.ttp_world.proofs.Rings.{newest_read}
-use Rattle.ttp_world.proofs.Worlds.{length-world, row_of_world}
-use Rattle.frame_fates.specs.Runs.{AreRuns}
+use Rattle.ttp_world.specs.Legal.{all_reads}
+use Rattle.ttp_world.specs.World.{messages_chosen}
+use Rattle.ttp_world.proofs.Carried.{row_in-same}
+use Rattle.ttp_world.proofs.LegalShapes.{legal-message, legal-reads, reads-never_fall}
 use Rattle.frame_fates.proofs.NamedRuns.{legal-names, named-run}
-use Rattle.controller.specs.Passes.{AreChosen}
 use Rattle.controller.specs.PlantStands.{MayStep, PlantStandsFor, Steps}
-use Rattle.controller.specs.PlantView.{PlantView}
 use Rattle.controller.proofs.Payloads.{chosen-step}
-use Rattle.trace_check.specs.declared.follow.Follower.{Follower}
-use Rattle.trace_check.specs.declared.incoming.Incoming.{Incoming}
-use Rattle.trace_check.specs.declared.outgoing.Outgoing.{Outgoing}
-use Rattle.trace_check.specs.Following.{Begins, Departs, DepartsAfter, GoesOnTo, HasEnded, IsPast, MayReadAll}
-use Rattle.trace_check.specs.Following.{ReadsAmiss, ReadsOn, StandsAt, StandsFor, line_of_read, lines_of_slot}
-use Rattle.trace_check.specs.Following.{node_lines, row_after}
-use Rattle.trace_check.specs.Incoming.{AreFloorsWithin, TellsRings, floor_of, floor_place, newest_before}
-use Rattle.trace_check.specs.Outgoing.{Chooses, HasChosen, HoldsNewest, number_in, number_named}
+use Rattle.trace_check.specs.Outgoing.{number_named}
 use Rattle.trace_check.proofs.Counts.{length-read_messages}
-use Rattle.line_text.proofs.Cuts.{AreLines, AreLines-take}
 use Rattle.trace_check.proofs.NodesAlike.{node_line-same}
 use Rattle.trace_check.proofs.NodesDepart.{legal-small, line-behind, line-names, node-at, node-is_line, same_message}
 use Rattle.trace_check.proofs.NodesDepart.{slot-lines, taken-named}

@@ -1,28 +1,15 @@
 -- The reads of a slot, one after another.
-use Rattle.std.proofs.Common.{◌≡◌, ℕ, zero, suc, ◌+◌, ◌*◌, List, [], ◌∷◌, ◌++◌, length, Some, refl, ap, sym, ◌∙◌}
-use Rattle.std.proofs.Common.{subst, arith, append_assoc, append-nil, length-append}
-use Rattle.std.specs.Prelude.{map, reverse, slice_get}
-use Rattle.std.specs.List.{AllByRecursion}
-use Rattle.std.proofs.lemmas.Grind.{reverse_onto}
-use Rattle.std.proofs.lemmas.List.{map-append}
-use Rattle.std.proofs.lemmas.Option.{none-some, same_Some, slice_get_within}
-use Rattle.ttp_base.specs.Text.{Lines}
-use Rattle.ttp_world.specs.declared.host_lines.HostRead.{HostRead}
-use Rattle.ttp_world.specs.declared.medl.Medl.{Medl}
-use Rattle.ttp_world.specs.declared.node.Chosen.{Chosen}
-use Rattle.ttp_world.specs.declared.script.Script.{Script}
-use Rattle.ttp_world.specs.declared.script.Source.{Source}
+use Rattle.trace_check.proofs.Words.{◌≡◌, ℕ, zero, suc, ◌+◌, ◌*◌, List, [], ◌∷◌, ◌++◌, length, Some, refl, ap, sym, ◌∙◌}
+use Rattle.trace_check.proofs.Words.{subst, arith, append_assoc, length-append, map, reverse, slice_get, AllByRecursion}
+use Rattle.trace_check.proofs.Words.{reverse_onto, map-append, none-some, same_Some, slice_get_within, Lines, HostRead}
+use Rattle.trace_check.proofs.Words.{Medl, Chosen, Script, Source, History, ReadMessage, read_messages, IsValidScript}
+use Rattle.trace_check.proofs.Words.{reads_in, newest_read, PlantView, Incoming, Begins, HasEnded, IsPast, KnowsReads}
+use Rattle.trace_check.proofs.Words.{MayRead, MayReadAll, ReadsAmiss, ReadsNone, ReadsOn, ReadsOne, line_of_read}
+use Rattle.trace_check.proofs.Words.{row_after, AreFloorsWithin, HasPlaces, IsRing, TellsRings}
+use Rattle.std.proofs.Common.{append-nil}
 use Rattle.ttp_world.specs.declared.script.Source.TheVariants as source
-use Rattle.ttp_world.specs.Diary.{History}
-use Rattle.ttp_world.specs.Legal.{ReadMessage, read_messages}
-use Rattle.ttp_world.specs.Script.{IsValidScript, reads_in}
 use Rattle.ttp_world.proofs.HostPayloads.{IsReadOf, reads_of_valid}
-use Rattle.ttp_world.proofs.Rings.{newest_read}
-use Rattle.controller.specs.PlantView.{PlantView}
-use Rattle.trace_check.specs.declared.incoming.Incoming.{Incoming}
-use Rattle.trace_check.specs.Following.{Begins, HasEnded, IsPast, KnowsReads, MayRead, MayReadAll, ReadsAmiss, ReadsNone}
-use Rattle.trace_check.specs.Following.{ReadsOn, ReadsOne, line_of_read, row_after}
-use Rattle.trace_check.specs.Incoming.{AreFloorsWithin, HasPlaces, HaveSameMessages, IsRing, TellsRings}
+use Rattle.trace_check.specs.Incoming.{HaveSameMessages}
 use Rattle.trace_check.proofs.Begun.{begins-more}
 
 -- Each read of a valid script is of a ring.

@@ -1,25 +1,17 @@
 -- The message that a node is to send: the one that its line names, if its host may have it sent.
-use Rattle.std.proofs.Common.{◌≡◌, ℕ, zero, suc, ◌+◌, ◌-◌, ◌<◌, ◌≤◌, Bool, true, false, ◌&&◌, List, [], ◌∷◌}
-use Rattle.std.proofs.Common.{length, get_or, set, drop, Option, Some, None, inl, inr, refl, ap, sym, ◌∙◌, arith}
-use Rattle.std.proofs.Common.{length-append, if◌then◌else◌}
-use Rattle.std.specs.Prelude.{◌==◌, is_some, nat_le, nat_lt, option_map, slice_get}
-use Rattle.std.proofs.lemmas.Bool.{and_parts, cond_both, cases_eq, cases_order, eq-eqb, ne_eqb, le-leb, leb-true}
-use Rattle.std.proofs.lemmas.Bool.{le-ltb, lt-ltb, true≢false}
-use Rattle.std.proofs.lemmas.List.{drop-drop, get_or-append_right, get_or-drop, get_or_read, get_or-set_other}
-use Rattle.std.proofs.lemmas.List.{get_or-set_same, length-set}
-use Rattle.std.proofs.lemmas.Option.{none-some, get_or_from_slice_get, slice_get_within}
-use Rattle.ttp_base.specs.Text.{Lines, lines_of}
-use Rattle.ttp_world.specs.declared.medl.Medl.{Medl}
-use Rattle.ttp_world.specs.declared.node.Chosen.{Chosen}
-use Rattle.ttp_world.specs.declared.script.Script.{Script}
+use Rattle.trace_check.proofs.Words.{◌≡◌, ℕ, zero, suc, ◌+◌, ◌-◌, ◌<◌, ◌≤◌, Bool, true, false, ◌&&◌, List, [], ◌∷◌}
+use Rattle.trace_check.proofs.Words.{length, get_or, set, drop, Option, Some, None, inl, inr, refl, ap, sym, ◌∙◌, arith}
+use Rattle.trace_check.proofs.Words.{length-append, if◌then◌else◌, ◌==◌, is_some, nat_le, nat_lt, option_map, slice_get}
+use Rattle.trace_check.proofs.Words.{and_parts, cond_both, cases_eq, cases_order, eq-eqb, ne_eqb, le-leb, leb-true}
+use Rattle.trace_check.proofs.Words.{le-ltb, lt-ltb, get_or-set_other, get_or-set_same, length-set, none-some}
+use Rattle.trace_check.proofs.Words.{get_or_from_slice_get, slice_get_within, Lines, lines_of, Medl, Chosen, Script}
+use Rattle.trace_check.proofs.Words.{newest_number, messages_before, out_messages, message_chosen, nothing_chosen}
+use Rattle.trace_check.proofs.Words.{messages_written, chosen_of, some_message, Outgoing, Chooses, HoldsNewest}
+use Rattle.trace_check.proofs.Words.{oldest_number, number_taken, number_in}
+use Rattle.std.proofs.lemmas.Bool.{true≢false}
+use Rattle.std.proofs.lemmas.List.{drop-drop, get_or-append_right, get_or-drop, get_or_read}
 use Rattle.ttp_world.specs.Legal.{is_between}
-use Rattle.ttp_world.specs.Messages.{newest_number}
-use Rattle.ttp_world.specs.Outgoing.{messages_before, out_messages, message_chosen, nothing_chosen}
-use Rattle.ttp_world.specs.Script.{messages_written}
-use Rattle.ttp_world.specs.World.{chosen_of}
-use Rattle.ttp_world.proofs.HostMessages.{some_message}
-use Rattle.trace_check.specs.declared.outgoing.Outgoing.{Outgoing}
-use Rattle.trace_check.specs.Outgoing.{Chooses, HoldsNewest, number_named, oldest_number, number_taken, number_in}
+use Rattle.trace_check.specs.Outgoing.{number_named}
 
 pub past_end : {X : Type 0} (xs : List X) (n : ℕ) → slice_get xs n ≡ None → length xs ≤ n
 past_end [] n is = omega arith

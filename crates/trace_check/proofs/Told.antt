@@ -1,23 +1,12 @@
 -- The lines of a slot, and of first slots, tell the legal numbers that they have.
-use Rattle.std.proofs.Common.{◌≡◌, ℕ, ◌<◌, ◌≤◌, List, [], ◌∷◌, ◌++◌, length, take, drop, refl, ap, sym}
-use Rattle.std.proofs.Common.{subst, ◌∙◌, arith}
-use Rattle.std.specs.Prelude.{map}
-use Rattle.std.proofs.Math.Seq.{take-append_seam, drop-append_seam}
-use Rattle.ttp_base.specs.Text.{Lines}
-use Rattle.ttp_world.specs.declared.medl.Medl.{Medl}
-use Rattle.ttp_world.specs.declared.script.Script.{Script}
-use Rattle.ttp_world.specs.Legal.{IsLegal}
-use Rattle.ttp_world.specs.Medl.{IsValid}
-use Rattle.ttp_world.specs.Script.{IsValidScript}
-use Rattle.ttp_world.specs.Trace.{slot_lines, history_lines}
-use Rattle.ttp_world.specs.TraceNumbers.{words_of, slot_numbers}
-use Rattle.ttp_world.specs.World.{SlotNumbers, Numbers, world}
-use Rattle.ttp_world.proofs.LegalNumbers.{legal-AreNumbersOfAll}
-use Rattle.ttp_world.proofs.LegalShapes.{legal-older}
-use Rattle.ttp_world.proofs.Lists.{nodes-most}
+use Rattle.trace_check.proofs.Words.{◌≡◌, ℕ, ◌<◌, ◌≤◌, List, [], ◌∷◌, ◌++◌, length, take, drop, refl, ap, sym, subst}
+use Rattle.trace_check.proofs.Words.{◌∙◌, arith, map, take-append_seam, Lines, Medl, Script, IsLegal, IsValid}
+use Rattle.trace_check.proofs.Words.{IsValidScript, slot_lines, history_lines, words_of, SlotNumbers, Numbers, world}
+use Rattle.trace_check.proofs.Words.{legal-AreNumbersOfAll, legal-older, nodes-most, row_of_world, length-world}
+use Rattle.std.proofs.Math.Seq.{drop-append_seam}
+use Rattle.ttp_world.specs.TraceNumbers.{slot_numbers}
 use Rattle.ttp_world.proofs.RunNumbers.{AreNumbersOf}
 use Rattle.ttp_world.proofs.SlotNumbers.{slot_numbers-between}
-use Rattle.ttp_world.proofs.Worlds.{row_of_world, length-world}
 use Rattle.trace_check.proofs.Counts.{length-history_lines, lines_of_slots}
 
 -- the lines of the slot after some numbers, where these are that slot's

@@ -1,22 +1,16 @@
 -- A slot of a run within the trace of the whole: where a text goes on or departs in the slot, it does in the trace.
-use Rattle.std.proofs.Common.{◌≡◌, ℕ, zero, suc, ◌+◌, ◌-◌, ◌<◌, ◌≤◌, List, [], ◌∷◌, ◌++◌, length, take, drop, get_or, refl}
-use Rattle.std.proofs.Common.{ap, sym, subst, ◌∙◌, arith, append-nil, append_assoc, length-append}
-use Rattle.std.specs.List.{concat}
-use Rattle.std.proofs.lemmas.List.{take-append-le, length-drop, get_or-append-add}
-use Rattle.std.proofs.lemmas.List.Folds.{concat-append}
-use Rattle.std.proofs.Math.ListN.{get_or-append}
-use Rattle.std.proofs.Math.Seq.{take-append-add, take-append_seam, get_or-append_seam}
-use Rattle.ttp_base.specs.Text.{Lines}
-use Rattle.ttp_world.specs.declared.medl.Medl.{Medl}
-use Rattle.ttp_world.specs.declared.script.Script.{Script}
-use Rattle.ttp_world.specs.Legal.{IsLegal, IsLegalRun}
-use Rattle.ttp_world.specs.Medl.{IsValid}
-use Rattle.ttp_world.specs.Script.{IsValidScript}
-use Rattle.ttp_world.specs.Trace.{trace_head, history_lines, test_lines, trace_lines}
-use Rattle.ttp_world.specs.World.{SlotNumbers, Numbers, world}
-use Rattle.ttp_world.proofs.LegalRuns.{LegalWhole, legal-none, legal-whole}
-use Rattle.ttp_world.proofs.LegalShapes.{legal-older}
-use Rattle.trace_check.specs.Following.{Begins, Departs, GoesOn, DepartsAfter, IsTraceAnd, IsAmissAt, lines_of_slot}
+use Rattle.trace_check.proofs.Words.{◌≡◌, ℕ, zero, suc, ◌+◌, ◌-◌, ◌<◌, ◌≤◌, List, [], ◌∷◌, ◌++◌, length, take, drop}
+use Rattle.trace_check.proofs.Words.{get_or, refl, ap, sym, subst, ◌∙◌, arith, append_assoc, length-append, concat}
+use Rattle.trace_check.proofs.Words.{get_or-append-add, concat-append, get_or-append, take-append_seam}
+use Rattle.trace_check.proofs.Words.{get_or-append_seam, Lines, Medl, Script, IsLegal, IsLegalRun, IsValid}
+use Rattle.trace_check.proofs.Words.{IsValidScript, trace_head, history_lines, test_lines, trace_lines, SlotNumbers}
+use Rattle.trace_check.proofs.Words.{Numbers, world, legal-none, legal-older, Begins, Departs, DepartsAfter, IsTraceAnd}
+use Rattle.trace_check.proofs.Words.{IsAmissAt, lines_of_slot}
+use Rattle.std.proofs.Common.{append-nil}
+use Rattle.std.proofs.lemmas.List.{take-append-le, length-drop}
+use Rattle.std.proofs.Math.Seq.{take-append-add}
+use Rattle.ttp_world.proofs.LegalRuns.{LegalWhole, legal-whole}
+use Rattle.trace_check.specs.Following.{GoesOn}
 use Rattle.trace_check.proofs.Counts.{lines_of_slots, lines_in, length-history_lines, length-legal_slot}
 use Rattle.trace_check.proofs.Told.{front-same, rest-same, one_run}
 

@@ -1,12 +1,9 @@
 -- What one node's host writes in a slot, found among all that hosts write there.
-use Rattle.std.proofs.Common.{◌≡◌, ℕ, ◌+◌, ◌<◌, List, [], ◌∷◌, ◌++◌, length, take, drop, get_or}
-use Rattle.std.proofs.Common.{Option, Some, None, Bool, cond, refl, ap, sym, ◌∙◌, subst, append_assoc}
-use Rattle.std.specs.Prelude.{slice_get}
-use Rattle.std.specs.List.{filter_map, cons_option}
-use Rattle.std.proofs.lemmas.Bool.{eq-eqb, ne_eqb}
-use Rattle.std.proofs.lemmas.List.{append-nil, take_more, take-append-drop}
-use Rattle.std.proofs.lemmas.List.Elements.{filter_map-append}
-use Rattle.ttp_world.specs.Script.{HostWrite, payload_of_host}
+use Rattle.trace_check.proofs.Words.{◌≡◌, ℕ, ◌+◌, ◌<◌, List, [], ◌∷◌, ◌++◌, length, take, drop, get_or, Option, Some}
+use Rattle.trace_check.proofs.Words.{None, Bool, cond, refl, ap, sym, ◌∙◌, subst, append_assoc, slice_get, filter_map}
+use Rattle.trace_check.proofs.Words.{cons_option, eq-eqb, ne_eqb, take-append-drop, filter_map-append, HostWrite}
+use Rattle.trace_check.proofs.Words.{payload_of_host}
+use Rattle.std.proofs.lemmas.List.{append-nil, take_more}
 
 -- what is made of the first elements and of one more
 

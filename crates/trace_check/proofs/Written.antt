@@ -1,32 +1,18 @@
 -- What the writes of a slot make of the messages that nodes are to send, write by write, and their lines.
-use Rattle.std.proofs.Common.{◌≡◌, ℕ, suc, ◌+◌, ◌-◌, ◌^◌, ◌<◌, ◌≤◌, Bool, true, false, cond, List, [], ◌∷◌, ◌++◌}
-use Rattle.std.proofs.Common.{length, get_or, set, Some, None, IsTrue, inl, inr, refl, ap, sym, ◌∙◌, subst, arith}
-use Rattle.std.proofs.Common.{length-append, add-one, count_by}
-use Rattle.std.specs.Prelude.{◌==◌, nat_le}
-use Rattle.std.specs.List.{cons_option}
-use Rattle.std.proofs.lemmas.Bool.{and_parts, cases_eq, eq-eqb, leb-true, ne_eqb}
-use Rattle.std.proofs.lemmas.List.{append-nil, get_or-append-add, get_or-set_other, get_or-set_same, length-set}
-use Rattle.std.proofs.lemmas.List.Elements.{filter_map-append}
+use Rattle.trace_check.proofs.Words.{◌≡◌, ℕ, suc, ◌+◌, ◌-◌, ◌^◌, ◌<◌, ◌≤◌, Bool, true, false, cond, List, [], ◌∷◌, ◌++◌}
+use Rattle.trace_check.proofs.Words.{length, get_or, set, Some, None, IsTrue, inl, inr, refl, ap, sym, ◌∙◌, subst}
+use Rattle.trace_check.proofs.Words.{arith, length-append, add-one, count_by, ◌==◌, nat_le, cons_option, and_parts}
+use Rattle.trace_check.proofs.Words.{cases_eq, eq-eqb, leb-true, ne_eqb, get_or-append-add, get_or-set_other}
+use Rattle.trace_check.proofs.Words.{get_or-set_same, length-set, filter_map-append, get_or-append, get_or-append_seam}
+use Rattle.trace_check.proofs.Words.{Lines, Medl, Chosen, Script, is_legal_message, IsValid, newest_number}
+use Rattle.trace_check.proofs.Words.{messages_before, out_messages, message_chosen, nothing_chosen, HostWrite}
+use Rattle.trace_check.proofs.Words.{IsValidScript, messages_written, payload_of_host, writes_in, more_write_lines}
+use Rattle.trace_check.proofs.Words.{write_lines, chosen_of, few_messages, some_message, after_label, Outgoing, Begins}
+use Rattle.trace_check.proofs.Words.{Departs, Chooses, HasChosen, HoldsNewest, oldest_number}
+use Rattle.std.proofs.lemmas.List.{append-nil}
 use Rattle.std.proofs.lemmas.List.Sums.{sum_by-cons}
-use Rattle.std.proofs.Math.ListN.{get_or-append}
-use Rattle.std.proofs.Math.Seq.{get_or-append_seam}
-use Rattle.ttp_base.specs.Text.{Lines}
-use Rattle.ttp_world.specs.declared.medl.Medl.{Medl}
-use Rattle.ttp_world.specs.declared.node.Chosen.{Chosen}
-use Rattle.ttp_world.specs.declared.script.Script.{Script}
-use Rattle.ttp_world.specs.Legal.{is_legal_message}
-use Rattle.ttp_world.specs.Medl.{IsValid}
-use Rattle.ttp_world.specs.Messages.{newest_number}
-use Rattle.ttp_world.specs.Outgoing.{messages_before, out_messages, message_chosen, nothing_chosen}
-use Rattle.ttp_world.specs.Script.{HostWrite, IsValidScript, messages_written, payload_of_host, writes_in}
-use Rattle.ttp_world.specs.Trace.{more_write_lines, write_line, write_lines}
-use Rattle.ttp_world.specs.World.{chosen_of}
-use Rattle.ttp_world.proofs.HostMessages.{few_messages, some_message}
+use Rattle.ttp_world.specs.Trace.{write_line}
 use Rattle.line_text.specs.HostLines.{written_line}
-use Rattle.line_text.specs.Labels.{after_label}
-use Rattle.trace_check.specs.declared.outgoing.Outgoing.{Outgoing}
-use Rattle.trace_check.specs.Following.{Begins, Departs}
-use Rattle.trace_check.specs.Outgoing.{Chooses, HasChosen, HoldsNewest, oldest_number}
 use Rattle.trace_check.proofs.Begun.{begins-behind, departs-behind}
 use Rattle.trace_check.proofs.Writes.{messages_by}
 

@@ -1,30 +1,15 @@
 -- What a caller of `bench` concludes whose library is sure of its files: a right list and a right script give what is due,
 -- or memory was refused, or the sink cut a text short that it was not sure to take. No count is asked for.
-use Rattle.std.proofs.Common.{◌≡◌, ◌⊎◌, ℕ, ◌<◌, ◌≤◌, true, List, length, refl, ap, sym, subst, ◌∙◌, inl, inr, arith}
-use Rattle.std.specs.List.{concat}
+use Rattle.ttp_top.proofs.Words.{◌≡◌, ◌⊎◌, ℕ, ◌<◌, ◌≤◌, true, List, length, refl, ap, sym, subst, ◌∙◌, inl, inr, arith}
+use Rattle.ttp_top.proofs.Words.{concat, Lines, Medl, Script, IsLegalRun, IsValid, IsValidScript, trace_lines, Numbers}
+use Rattle.ttp_top.proofs.Words.{is_trace, trace-short, Outside, trace_limit, AreRight, Answer, Plan, ttpbench, CutOf}
+use Rattle.ttp_top.proofs.Words.{traces, IsTrace, WroteTraceOf, RunPromise, WroteSuch, CutSuch, TestPromise, OfTrace}
+use Rattle.ttp_top.proofs.Words.{HasJudged, CutVerdict, AreAllTold, TextPromise}
 use Rattle.std.proofs.lemmas.Bool.{true≢false}
 use Rattle.ttp_base.specs.Outside.{count_end}
-use Rattle.ttp_base.specs.Text.{Lines}
-use Rattle.ttp_world.specs.declared.medl.Medl.{Medl}
-use Rattle.ttp_world.specs.declared.script.Script.{Script}
-use Rattle.ttp_world.specs.Legal.{IsLegalRun}
-use Rattle.ttp_world.specs.Medl.{IsValid}
-use Rattle.ttp_world.specs.Script.{IsValidScript}
-use Rattle.ttp_world.specs.Trace.{trace_lines}
-use Rattle.ttp_world.specs.World.{Numbers}
-use Rattle.trace_check.specs.Answer.{is_trace}
 use Rattle.trace_check.proofs.OwnNumbers.{numbers-is_trace}
-use Rattle.trace_size.proofs.TraceLength.{trace-short}
 use Rattle.commands.proofs.Sure.{HoldsSurely, none_rose, surely_told, unless_cut}
-use Rattle.commands.specs.Plan.{Outside}
 use Rattle.commands.specs.Promise.{Promise as CallPromise}
-use Rattle.commands.specs.Read.{trace_limit}
-use Rattle.commands.specs.Right.{AreRight}
-use Rattle.ttp_top.specs.Calls.Answer.{Answer, Plan, ttpbench, CutOf}
-use Rattle.ttp_top.specs.Calls.Texts.{traces, IsTrace}
-use Rattle.ttp_top.specs.Scripts.Promise.{WroteTraceOf, RunPromise}
-use Rattle.ttp_top.specs.Tests.Promise.{WroteSuch, CutSuch, TestPromise}
-use Rattle.ttp_top.specs.Traces.Promise.{OfTrace, HasJudged, CutVerdict, AreAllTold, TextPromise}
 
 -- no trace is longer than the file of one may be
 pub trace_within : (list : Medl) (script : Script) (lines : Lines) → IsTrace list script lines

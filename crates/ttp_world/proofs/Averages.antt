@@ -1,11 +1,11 @@
 -- The fault-tolerant average: the last four notes settle it, and it lies between two numbers where all notes do.
-use Rattle.std.proofs.Common.{◌≡◌, ◌<◌, ℤ, pos, negsuc, ◌*ℤ◌, ◌+ℤ◌, ◌≤ℤ◌, false, cond, List, [], ◌∷◌, length, take}
-use Rattle.std.proofs.Common.{drop, refl, sym, ap, arith}
-use Rattle.std.specs.Prelude.{All, int_le, int_div, int_rem, nat_lt, unsigned_abs}
-use Rattle.std.proofs.lemmas.Bool.{cond_both}
-use Rattle.std.proofs.lemmas.Int.{ints, quot-rem, rem_below}
-use Rattle.std.proofs.lemmas.List.Elements.{All-nil, All-cons, All-head, All-tail, All-take}
-use Rattle.ttp_world.specs.Clock.{insert_sorted, sorted, middle_half, fta}
+use Rattle.ttp_world.proofs.Words.{◌≡◌, ◌<◌, ℤ, pos, ◌+ℤ◌, ◌≤ℤ◌, false, cond, List, [], ◌∷◌, length, take, drop, refl}
+use Rattle.ttp_world.proofs.Words.{sym, ap, arith, int_le, nat_lt, unsigned_abs, cond_both, ints, All-nil, All-cons}
+use Rattle.ttp_world.proofs.Words.{All-head, All-tail, All-take, fta}
+use Rattle.std.proofs.Common.{negsuc, ◌*ℤ◌}
+use Rattle.std.specs.Prelude.{All, int_div, int_rem}
+use Rattle.std.proofs.lemmas.Int.{quot-rem, rem_below}
+use Rattle.ttp_world.specs.Clock.{insert_sorted, sorted, middle_half}
 use Rattle.ttp_world.specs.Script.{sum_ℤ}
 
 pub fta-take : (notes : List ℤ) → fta (take 4 notes) ≡ fta notes

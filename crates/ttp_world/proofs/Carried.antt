@@ -1,32 +1,16 @@
 -- The messages that frames carry: which ones the entries of a row tell, and that no other choice matters.
-use Rattle.std.proofs.Common.{◌≡◌, ℕ, ◌<◌, ℤ, Bool, true, false, List, [], ◌∷◌, length, Option, Some, None, IfSome}
-use Rattle.std.proofs.Common.{if◌then◌else◌, refl, ap, sym, ◌∙◌, arith}
-use Rattle.std.specs.Prelude.{map}
+use Rattle.ttp_world.proofs.Words.{◌≡◌, ℕ, ◌<◌, ℤ, Bool, true, false, List, [], ◌∷◌, length, Option, Some, None, IfSome}
+use Rattle.ttp_world.proofs.Words.{if◌then◌else◌, refl, ap, sym, ◌∙◌, arith, map, true≢false, get_or-map-range_with_len}
+use Rattle.ttp_world.proofs.Words.{map_agree-below, flat_map_agree-below, Medl, Act, Off, Gone, Listen, Start, Retry}
+use Rattle.ttp_world.proofs.Words.{Leave, Send, Judge, Chosen, CState, Entry, Script, coming_place, carries_payload}
+use Rattle.ttp_world.proofs.Words.{own_cstate, node_frames, new_entry, History, entry_of, joinable, header_of, frame}
+use Rattle.ttp_world.proofs.Words.{member_width, kind_at, SentFrame, message_of, messages_of, delivered_of}
+use Rattle.ttp_world.proofs.Words.{nothing_chosen, message_chosen, NodePast, Hearing, BegunSlot, slot_after, node_of}
+use Rattle.ttp_world.proofs.Words.{is_loaded, chosen_of, frames_of, frames_in, hearing_in, entry_in, row_in}
+use Rattle.ttp_world.proofs.Words.{delivered_in, messages_chosen}
 use Rattle.std.proofs.Math.ListN.{get_or-map}
-use Rattle.std.proofs.lemmas.Bool.{true≢false}
-use Rattle.std.proofs.lemmas.List.FromFn.{get_or-map-range_with_len}
-use Rattle.ttp_base.proofs.Below.{map_agree-below, flat_map_agree-below}
-use Rattle.ttp_world.specs.declared.medl.Medl.{Medl}
-use Rattle.ttp_world.specs.declared.node.Act.{Act}
-use Rattle.ttp_world.specs.declared.node.Act.TheVariants.{Off, Gone, Listen, Start, Retry, Leave, Send, Judge}
-use Rattle.ttp_world.specs.declared.node.Chosen.{Chosen}
-use Rattle.ttp_world.specs.declared.node.CState.{CState}
-use Rattle.ttp_world.specs.declared.node.Entry.{Entry}
 use Rattle.ttp_world.specs.declared.node.Entry.TheVariants as entry
-use Rattle.ttp_world.specs.declared.script.Script.{Script}
-use Rattle.ttp_world.specs.Act.{coming_place}
-use Rattle.ttp_world.specs.Conduct.{carries_payload, own_cstate, node_frames, new_entry}
-use Rattle.ttp_world.specs.Diary.{History, entry_of}
-use Rattle.ttp_world.specs.Fitting.{joinable}
-use Rattle.ttp_world.specs.Frame.{header_of, frame}
-use Rattle.ttp_world.specs.Medl.{member_width, kind_at}
-use Rattle.ttp_world.specs.Medium.{SentFrame}
-use Rattle.ttp_world.specs.Messages.{message_of, messages_of, delivered_of}
-use Rattle.ttp_world.specs.Outgoing.{nothing_chosen, message_chosen}
-use Rattle.ttp_world.specs.Past.{NodePast}
-use Rattle.ttp_world.specs.Reception.{Hearing}
-use Rattle.ttp_world.specs.World.{BegunSlot, slot_after, node_of, sends_payload, is_loaded, chosen_of, frames_of}
-use Rattle.ttp_world.specs.World.{frames_in, hearing_in, entry_in, row_in, delivered_in, messages_chosen}
+use Rattle.ttp_world.specs.World.{sends_payload}
 use Rattle.ttp_world.proofs.EntriesMade.{listening_entry-holds, judging_entry-holds}
 use Rattle.ttp_world.proofs.Slots.{entry_of-row_in}
 

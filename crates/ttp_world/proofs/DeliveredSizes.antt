@@ -1,36 +1,23 @@
 -- What a node delivers is as long as the list gives its sender.
-use Rattle.std.proofs.Common.{◌≡◌, ℕ, ◌+◌, ◌≤◌, ℤ, Bool, true, false, cond, ◌&&◌, not, List, length, drop, Option}
-use Rattle.std.proofs.Common.{Some, None, IfSome, refl, sym, ap, subst, ◌∙◌, arith, ◌<◌}
-use Rattle.std.specs.Prelude.{◌==◌}
-use Rattle.std.proofs.lemmas.Bool.{cond_both, and_parts, eqb-true, true≢false}
-use Rattle.std.proofs.lemmas.Bool.Decides.{nat_tests}
-use Rattle.std.proofs.lemmas.List.{length-take, length-drop}
-use Rattle.ttp_world.specs.declared.medl.Medl.{Medl}
-use Rattle.ttp_world.specs.declared.node.Ack.{Ack}
+use Rattle.ttp_world.proofs.Words.{◌≡◌, ℕ, ◌+◌, ◌≤◌, ℤ, Bool, true, false, cond, ◌&&◌, not, List, length, drop, Option}
+use Rattle.ttp_world.proofs.Words.{Some, None, IfSome, refl, sym, ap, subst, ◌∙◌, arith, ◌<◌, ◌==◌, cond_both}
+use Rattle.ttp_world.proofs.Words.{and_parts, eqb-true, true≢false, nat_tests, length-take, Medl, Ack, Act, Off, Gone}
+use Rattle.ttp_world.proofs.Words.{Listen, Start, Retry, Leave, Send, Judge, ChannelView, Chosen, CState, Delivered}
+use Rattle.ttp_world.proofs.Words.{Entry, Verdict, Script, coming_place, carries_payload, delivery, new_entry}
+use Rattle.ttp_world.proofs.Words.{payload_taken, verdict_entry, History, Place, entry_of, carried_length, joinable}
+use Rattle.ttp_world.proofs.Words.{Signal, Silence, Noise, Bits, is_bare, kind_at, member_width, payload_length}
+use Rattle.ttp_world.proofs.Words.{plan_at, NodePast, Expected, Hearing, expected_header, expected_length, expected_of}
+use Rattle.ttp_world.proofs.Words.{is_first_view, payload_heard, verdict_of_view, view_of, chosen_of, delivered_in}
+use Rattle.ttp_world.proofs.Words.{frames_in, hearing_in, node_of, row_in, slot_after}
+use Rattle.std.proofs.lemmas.List.{length-drop}
 use Rattle.ttp_world.specs.declared.node.Ack.TheVariants as ack
-use Rattle.ttp_world.specs.declared.node.Act.{Act}
-use Rattle.ttp_world.specs.declared.node.Act.TheVariants.{Off, Gone, Listen, Start, Retry, Leave, Send, Judge}
-use Rattle.ttp_world.specs.declared.node.ChannelView.{ChannelView}
 use Rattle.ttp_world.specs.declared.node.ChannelView.TheVariants as view
-use Rattle.ttp_world.specs.declared.node.Chosen.{Chosen}
-use Rattle.ttp_world.specs.declared.node.CState.{CState}
-use Rattle.ttp_world.specs.declared.node.Delivered.{Delivered}
-use Rattle.ttp_world.specs.declared.node.Entry.{Entry}
 use Rattle.ttp_world.specs.declared.node.Entry.TheVariants as entry
-use Rattle.ttp_world.specs.declared.node.Verdict.{Verdict}
 use Rattle.ttp_world.specs.declared.node.Verdict.TheVariants as verdict
-use Rattle.ttp_world.specs.declared.script.Script.{Script}
-use Rattle.ttp_world.specs.Act.{coming_place}
-use Rattle.ttp_world.specs.Conduct.{carries_payload, delivery, new_entry, payload_taken, verdict_entry}
-use Rattle.ttp_world.specs.Diary.{History, Place, entry_of}
-use Rattle.ttp_world.specs.Fitting.{carried_length, is_formed, joinable, payload_in}
-use Rattle.ttp_world.specs.Medium.{Signal, Silence, Noise, Bits}
-use Rattle.ttp_world.specs.Medl.{is_bare, kind_at, member_width, payload_length, plan_at}
-use Rattle.ttp_world.specs.Past.{NodePast}
-use Rattle.ttp_world.specs.Reception.{Expected, Hearing, better_view, expected_header, expected_length, expected_of}
-use Rattle.ttp_world.specs.Reception.{is_expected_form, is_first_view, is_taken_from_a, is_within_window, payload_heard}
-use Rattle.ttp_world.specs.Reception.{verdict_of, verdict_of_view, view_of, view_of_frame}
-use Rattle.ttp_world.specs.World.{chosen_of, delivered_in, frames_in, hearing_in, node_of, row_in, slot_after}
+use Rattle.ttp_world.specs.Fitting.{is_formed, payload_in}
+use Rattle.ttp_world.specs.Reception.{better_view}
+use Rattle.ttp_world.specs.Reception.{is_expected_form, is_taken_from_a, is_within_window}
+use Rattle.ttp_world.specs.Reception.{verdict_of, view_of_frame}
 use Rattle.ttp_world.proofs.EntriesMade.{listening_entry-holds}
 use Rattle.ttp_world.proofs.Slots.{entry_of-row_in}
 

@@ -1,21 +1,12 @@
 -- The entry that a node makes by what it does may follow its diary: only an active node sends its frame or judges.
-use Rattle.std.proofs.Common.{◌≡◌, ℕ, ℤ, Bool, true, false, not, ◌||◌, Option, Some, None, IfSome, refl}
-use Rattle.std.proofs.Math.Bool.{or-true}
-use Rattle.std.proofs.lemmas.Bool.{cond_both}
-use Rattle.ttp_world.specs.declared.medl.Medl.{Medl}
-use Rattle.ttp_world.specs.declared.node.Chosen.{Chosen}
-use Rattle.ttp_world.specs.declared.node.CState.{CState}
-use Rattle.ttp_world.specs.declared.node.Entry.{Entry}
+use Rattle.ttp_world.proofs.Words.{◌≡◌, ℕ, ℤ, Bool, true, false, not, ◌||◌, Option, Some, None, IfSome, refl, or-true}
+use Rattle.ttp_world.proofs.Words.{cond_both, Medl, Chosen, CState, Entry, Off, Gone, Listen, Start, listening_entry}
+use Rattle.ttp_world.proofs.Words.{new_entry, Diary, Surroundings, may_follow, joinable, NodePast, past_of, Hearing}
 use Rattle.ttp_world.specs.declared.node.Entry.TheVariants as entry
 use Rattle.ttp_world.specs.declared.node.Phase.{Phase}
 use Rattle.ttp_world.specs.declared.node.Phase.TheVariants as phase
-use Rattle.ttp_world.specs.declared.node.Act.TheVariants.{Off, Gone, Listen, Start}
 use Rattle.ttp_world.specs.Act.{act, phase_act, is_start_due}
-use Rattle.ttp_world.specs.Conduct.{listening_entry, new_entry}
-use Rattle.ttp_world.specs.Diary.{Diary, Surroundings, phase_of, is_active_phase, continues_stint, may_follow}
-use Rattle.ttp_world.specs.Fitting.{joinable}
-use Rattle.ttp_world.specs.Past.{NodePast, past_of}
-use Rattle.ttp_world.specs.Reception.{Hearing}
+use Rattle.ttp_world.specs.Diary.{phase_of, is_active_phase, continues_stint}
 use Rattle.ttp_world.proofs.EntriesMade.{listening_entry-holds}
 
 -- an entry may follow where the node was active, or not

@@ -1,24 +1,13 @@
 -- What the entry that a node makes in a slot says, whatever the node does.
-use Rattle.std.proofs.Common.{ℕ, ℤ, Bool, List, Option, Some, None, IfSome, unwrap_or, cond}
-use Rattle.std.specs.Option.{option_or}
-use Rattle.ttp_world.specs.declared.medl.Medl.{Medl}
-use Rattle.ttp_world.specs.declared.node.Act.{Act}
-use Rattle.ttp_world.specs.declared.node.Act.TheVariants.{Off, Gone, Listen, Start, Retry, Leave, Send, Judge}
-use Rattle.ttp_world.specs.declared.node.Chosen.{Chosen}
-use Rattle.ttp_world.specs.declared.node.CState.{CState}
-use Rattle.ttp_world.specs.declared.node.Entry.{Entry}
+use Rattle.ttp_world.proofs.Words.{ℕ, ℤ, Bool, List, Option, Some, None, IfSome, unwrap_or, cond, option_or, Medl, Act}
+use Rattle.ttp_world.proofs.Words.{Off, Gone, Listen, Start, Retry, Leave, Send, Judge, Chosen, CState, Entry, Reason}
+use Rattle.ttp_world.proofs.Words.{Verdict, coming_place, carries_payload, listening_entry, verdict_entry, new_entry}
+use Rattle.ttp_world.proofs.Words.{joinable, Signal, Silence, Noise, Bits, NodePast, Hearing}
 use Rattle.ttp_world.specs.declared.node.Entry.TheVariants as entry
-use Rattle.ttp_world.specs.declared.node.Reason.{Reason}
 use Rattle.ttp_world.specs.declared.node.Reason.TheVariants as reason
-use Rattle.ttp_world.specs.declared.node.Verdict.{Verdict}
 use Rattle.ttp_world.specs.declared.node.Verdict.TheVariants as verdict
-use Rattle.ttp_world.specs.Act.{coming_place}
-use Rattle.ttp_world.specs.Conduct.{carries_payload, join_entry, channel_join, listening_entry}
-use Rattle.ttp_world.specs.Conduct.{verdict_entry, judging_entry, new_entry}
-use Rattle.ttp_world.specs.Fitting.{joinable}
-use Rattle.ttp_world.specs.Medium.{Signal, Silence, Noise, Bits}
-use Rattle.ttp_world.specs.Past.{NodePast}
-use Rattle.ttp_world.specs.Reception.{Hearing}
+use Rattle.ttp_world.specs.Conduct.{join_entry, channel_join}
+use Rattle.ttp_world.specs.Conduct.{judging_entry}
 
 -- What is so of a node's own entries, of a join on each C-state that can be joined, and of each judgement of the coming
 -- slot's node, is so of the entry that the node makes.

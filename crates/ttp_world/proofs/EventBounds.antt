@@ -1,14 +1,11 @@
 -- How large the sums of events are.
-use Rattle.std.proofs.Common.{ℕ, ◌+◌, ◌*◌, ℤ, Bool, true, false, cond, ◌&&◌, List, [], ◌∷◌, length, Option, Some, None}
-use Rattle.std.proofs.Common.{IfSome, arith}
-use Rattle.std.specs.Prelude.{◌==◌}
-use Rattle.std.specs.List.{All, filter_map, cons_option}
-use Rattle.std.proofs.lemmas.List.Elements.{All-head, All-tail}
-use Rattle.ttp_world.specs.declared.script.Event.{Event}
+use Rattle.ttp_world.proofs.Words.{ℕ, ◌+◌, ◌*◌, ℤ, Bool, true, false, cond, ◌&&◌, List, [], ◌∷◌, length, Option, Some}
+use Rattle.ttp_world.proofs.Words.{None, IfSome, arith, ◌==◌, cons_option, All-head, All-tail, Event, ERROR_LIMIT}
+use Rattle.ttp_world.proofs.Words.{JUMP_LIMIT, covers, error_in, incidents_in, IsBounded, AreBounded, AreFew}
+use Rattle.std.specs.List.{All, filter_map}
 use Rattle.ttp_world.specs.declared.script.Event.TheVariants as event
-use Rattle.ttp_world.specs.declared.script.TheConstants.{EVENT_LIMIT, ERROR_LIMIT, JUMP_LIMIT}
-use Rattle.ttp_world.specs.Events.{covers, sum_ℤ, error_in, jump_in, incidents_in, IsWithinSpan, IsBounded, AreBounded}
-use Rattle.ttp_world.specs.Index.{AreFew}
+use Rattle.ttp_world.specs.declared.script.TheConstants.{EVENT_LIMIT}
+use Rattle.ttp_world.specs.Events.{sum_ℤ, jump_in, IsWithinSpan}
 use Rattle.ttp_world.proofs.WeightBounds.{within-wider, within-added, within-none}
 
 -- numbers of which each lies within a bound

@@ -1,7 +1,6 @@
 -- What a filter keeps passes its test.
-use Rattle.std.proofs.Common.{◌≡◌, ℕ, ◌<◌, Bool, true, false, cond, List, [], ◌∷◌, refl}
-use Rattle.std.specs.List.{AllByRecursion, filter}
-use Rattle.ttp_base.specs.NodeSet.{below}
+use Rattle.ttp_world.proofs.Words.{◌≡◌, ℕ, ◌<◌, Bool, true, false, cond, List, [], ◌∷◌, refl, AllByRecursion, filter}
+use Rattle.ttp_world.proofs.Words.{below}
 use Rattle.ttp_base.proofs.Below.{below-lt}
 
 kept : {X : Type 0} (P : X → Type 0) (p : X → Bool) (x : X) (xs : List X) (b : Bool) → p x ≡ b → P x

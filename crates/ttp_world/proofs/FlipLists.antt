@@ -1,19 +1,12 @@
 -- What the flips of a key say: the bits that events flip in a node's frame of a slot.
-use Rattle.std.proofs.Common.{◌≡◌, ℕ, ◌<◌, Bool, true, false, cond, ◌&&◌, List, [], ◌∷◌, Some, None, refl, ap, ◌∙◌}
-use Rattle.std.proofs.Common.{arith}
-use Rattle.std.specs.Prelude.{◌==◌, map}
-use Rattle.std.specs.List.{All, filter, filter_map, cons_option}
-use Rattle.std.proofs.lemmas.Bool.Decides.{nat_tests}
-use Rattle.std.proofs.lemmas.List.Elements.{All-head, All-tail}
+use Rattle.ttp_world.proofs.Words.{◌≡◌, ℕ, ◌<◌, Bool, true, false, cond, ◌&&◌, List, [], ◌∷◌, Some, None, refl, ap, ◌∙◌}
+use Rattle.ttp_world.proofs.Words.{arith, ◌==◌, map, filter, cons_option, nat_tests, All-head, All-tail, NODE_KEYS}
+use Rattle.ttp_world.proofs.Words.{Channel, Event, Keyed, flipped_bit, bits_on, keyed_flip, HasFlipKey, key_of, has_key}
+use Rattle.ttp_world.proofs.Words.{values_of}
+use Rattle.std.specs.List.{All, filter_map}
 use Rattle.ttp_world.specs.declared.events.FlippedBit.{FlippedBit}
-use Rattle.ttp_world.specs.declared.index.TheConstants.{NODE_KEYS}
-use Rattle.ttp_world.specs.declared.script.Channel.{Channel}
-use Rattle.ttp_world.specs.declared.script.Event.{Event}
 use Rattle.ttp_world.specs.declared.script.Event.TheVariants as event
-use Rattle.ttp_world.specs.declared.sorted.Keyed.{Keyed}
-use Rattle.ttp_world.specs.Events.{is_among, flipped_bit, bit_on, bits_on}
-use Rattle.ttp_world.specs.Flips.{keyed_flip, HasFlipKey}
-use Rattle.ttp_world.specs.Sorted.{key_of, has_key, values_of}
+use Rattle.ttp_world.specs.Events.{is_among, bit_on}
 
 abbrev KeyedFlip : Type 0
 KeyedFlip = Keyed FlippedBit

@@ -1,48 +1,32 @@
 -- What nodes send and hear is bytes, where the payloads are, and so is what they deliver.
-use Rattle.std.proofs.Common.{◌≡◌, ℕ, zero, suc, ◌+◌, ◌-◌, ◌/◌, ◌%◌, ◌<◌, Bool, true, cond, List, [], ◌∷◌, ◌++◌}
-use Rattle.std.proofs.Common.{All, length}
-use Rattle.std.proofs.Common.{get_or, Option, Some, None, IfSome, refl, sym, subst, arith, drop}
-use Rattle.std.specs.Prelude.{◌&&◌, nat_lt, map}
-use Rattle.std.specs.List.{flat_map, list_all}
-use Rattle.std.proofs.lemmas.Bool.{cond_both, ltb-true}
-use Rattle.std.proofs.lemmas.List.Concat.{flat_map-cons}
-use Rattle.std.proofs.lemmas.List.Elements.{All-nil, All-cons, All-append, All-head, All-tail, All-take, All-drop}
+use Rattle.ttp_world.proofs.Words.{◌≡◌, ℕ, zero, suc, ◌+◌, ◌-◌, ◌/◌, ◌%◌, ◌<◌, Bool, true, cond, List, [], ◌∷◌, ◌++◌}
+use Rattle.ttp_world.proofs.Words.{length, get_or, Option, Some, None, IfSome, refl, sym, subst, arith, drop, ◌&&◌}
+use Rattle.ttp_world.proofs.Words.{nat_lt, map, list_all, cond_both, ltb-true, flat_map-cons, All-nil, All-cons}
+use Rattle.ttp_world.proofs.Words.{All-append, All-head, All-tail, All-take, below, set_bits, each-below, Kind, Medl}
+use Rattle.ttp_world.proofs.Words.{Act, Start, Send, Chosen, CState, Delivered, Entry, Channel, Script, is_correct}
+use Rattle.ttp_world.proofs.Words.{coming_place, carries_payload, own_cstate, node_frames, payload_taken, delivery}
+use Rattle.ttp_world.proofs.Words.{History, Place, entry_of, carried_length, frame, header_of, SentFrame, Signal}
+use Rattle.ttp_world.proofs.Words.{Silence, Noise, Bits, remains, remaining_frames, combined_signal, with_noise, heard}
+use Rattle.ttp_world.proofs.Words.{member_width, kind_at, message_of, messages_of, delivered_of, nothing_chosen}
+use Rattle.ttp_world.proofs.Words.{out_messages, message_chosen, NodePast, Expected, Hearing, view_of, is_first_view}
+use Rattle.ttp_world.proofs.Words.{expected_header, expected_length, expected_of, payload_heard, has_send_fault}
+use Rattle.ttp_world.proofs.Words.{has_receive_fault, BegunSlot, slot_after, node_of, chosen_of, frames_of, frames_in}
+use Rattle.ttp_world.proofs.Words.{hearing_in}
+use Rattle.std.proofs.Common.{All}
+use Rattle.std.specs.List.{flat_map}
+use Rattle.std.proofs.lemmas.List.Elements.{All-drop}
 use Rattle.std.proofs.lemmas.List.Elements.{All-filter}
-use Rattle.ttp_base.specs.NodeSet.{below, set_bits}
-use Rattle.ttp_base.proofs.Below.{each-below}
-use Rattle.ttp_world.specs.declared.medl.Kind.{Kind}
 use Rattle.ttp_world.specs.declared.medl.Kind.TheVariants as kind
-use Rattle.ttp_world.specs.declared.medl.Medl.{Medl}
-use Rattle.ttp_world.specs.declared.node.Act.{Act}
-use Rattle.ttp_world.specs.declared.node.Act.TheVariants.{Start, Send}
-use Rattle.ttp_world.specs.declared.node.Chosen.{Chosen}
-use Rattle.ttp_world.specs.declared.node.CState.{CState}
-use Rattle.ttp_world.specs.declared.node.Delivered.{Delivered}
-use Rattle.ttp_world.specs.declared.node.Entry.{Entry}
 use Rattle.ttp_world.specs.declared.node.Entry.TheVariants as entry
-use Rattle.ttp_world.specs.declared.script.Channel.{Channel}
 use Rattle.ttp_world.specs.declared.script.Channel.TheVariants as channel
 use Rattle.ttp_world.specs.declared.script.Fault.TheVariants as fault
-use Rattle.ttp_world.specs.declared.script.Script.{Script}
-use Rattle.ttp_world.specs.Acknowledgement.{is_correct}
-use Rattle.ttp_world.specs.Act.{coming_place}
 use Rattle.ttp_world.specs.CheckWord.{check_word}
-use Rattle.ttp_world.specs.Conduct.{carries_payload, payload_sent, cold_start_cstate, own_cstate, node_frames}
-use Rattle.ttp_world.specs.Conduct.{payload_taken, delivery}
-use Rattle.ttp_world.specs.Diary.{History, Place, entry_of}
-use Rattle.ttp_world.specs.Fitting.{carried_length}
-use Rattle.ttp_world.specs.Frame.{big_endian, cstate_bytes, is_explicit, body, checked, word_bytes, frame, header_of}
+use Rattle.ttp_world.specs.Conduct.{payload_sent, cold_start_cstate}
+use Rattle.ttp_world.specs.Frame.{big_endian, cstate_bytes, is_explicit, body, checked, word_bytes}
 use Rattle.ttp_world.specs.Frame.{cold_start_header}
-use Rattle.ttp_world.specs.Medium.{SentFrame, Signal, Silence, Noise, Bits, flip_in_byte, flip_bit, flip_bits, remains}
-use Rattle.ttp_world.specs.Medium.{remaining_frames, combined_signal, channel_signal, with_noise, heard}
-use Rattle.ttp_world.specs.Medl.{member_width, kind_at}
-use Rattle.ttp_world.specs.Messages.{message_of, messages_of, delivered_of}
-use Rattle.ttp_world.specs.Outgoing.{nothing_chosen, out_messages, message_chosen}
-use Rattle.ttp_world.specs.Past.{NodePast}
-use Rattle.ttp_world.specs.Reception.{Expected, Hearing, view_of, is_first_view, expected_header, expected_length}
-use Rattle.ttp_world.specs.Reception.{expected_of, payload_heard}
-use Rattle.ttp_world.specs.Script.{flipped_bits, has_send_fault, has_receive_fault}
-use Rattle.ttp_world.specs.World.{BegunSlot, slot_after, node_of, chosen_of, frames_of, frames_in, hearing_in}
+use Rattle.ttp_world.specs.Medium.{flip_in_byte, flip_bit, flip_bits}
+use Rattle.ttp_world.specs.Medium.{channel_signal}
+use Rattle.ttp_world.specs.Script.{flipped_bits}
 
 abbrev pub IsByte : ℕ → Type 0
 IsByte b = b < 256

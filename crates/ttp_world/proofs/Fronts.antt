@@ -1,5 +1,5 @@
 -- The front of a list.
-use Rattle.std.proofs.Common.{◌≡◌, ℕ, List, ◌++◌, length, take, ap, sym, ◌∙◌}
+use Rattle.ttp_world.proofs.Words.{◌≡◌, ℕ, List, ◌++◌, length, take, ap, sym, ◌∙◌}
 use Rattle.std.proofs.Math.Seq.{take-append_seam}
 
 -- all of a list that stands in front

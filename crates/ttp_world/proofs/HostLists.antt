@@ -1,16 +1,14 @@
 -- What hosts do in a slot, of what lies at its key.
-use Rattle.std.proofs.Common.{◌≡◌, ℕ, suc, ◌+◌, Bool, true, false, cond, List, [], ◌∷◌, ◌++◌, length, Option, Some}
-use Rattle.std.proofs.Common.{None, refl, ap, sym, ◌∙◌, append_assoc, add-zero, length-append, arith}
-use Rattle.std.specs.Prelude.{◌==◌, map, slice_get, option_and_then}
-use Rattle.std.specs.List.{filter, filter_map, cons_option}
+use Rattle.ttp_world.proofs.Words.{◌≡◌, ℕ, suc, ◌+◌, Bool, true, false, cond, List, [], ◌∷◌, ◌++◌, length, Option, Some}
+use Rattle.ttp_world.proofs.Words.{None, refl, ap, sym, ◌∙◌, append_assoc, length-append, arith, ◌==◌, map}
+use Rattle.ttp_world.proofs.Words.{option_and_then, filter, cons_option, Event, Script, Keyed, keyed_read, keyed_writes}
+use Rattle.ttp_world.proofs.Words.{HostWrite, write_in, read_in, write_of, write_at, writes_in, has_key, values_of}
+use Rattle.std.proofs.Common.{add-zero}
+use Rattle.std.specs.Prelude.{slice_get}
+use Rattle.std.specs.List.{filter_map}
 use Rattle.ttp_world.specs.declared.host_lines.HostRead.{HostRead}
-use Rattle.ttp_world.specs.declared.script.Event.{Event}
 use Rattle.ttp_world.specs.declared.script.Event.TheVariants as event
-use Rattle.ttp_world.specs.declared.script.Script.{Script}
-use Rattle.ttp_world.specs.declared.sorted.Keyed.{Keyed}
-use Rattle.ttp_world.specs.HostLines.{keyed_read, keyed_write, keyed_writes}
-use Rattle.ttp_world.specs.Script.{HostWrite, write_in, read_in, write_of, write_at, writes_in}
-use Rattle.ttp_world.specs.Sorted.{has_key, values_of}
+use Rattle.ttp_world.specs.HostLines.{keyed_write}
 
 -- Reads.
 

@@ -1,22 +1,16 @@
 -- What hosts write: each message is as long as the list gives its node, and there are not many.
-use Rattle.std.proofs.Common.{◌≡◌, ℕ, zero, suc, ◌+◌, ◌*◌, ◌<◌, ◌≤◌, true, List, [], ◌∷◌, length, get_or, All}
-use Rattle.std.proofs.Common.{Option, Some, None, IfSome, refl, ap, subst, ◌∙◌, arith, length-append}
-use Rattle.std.specs.Prelude.{◌==◌, nat_le, slice_get, option_and_then}
-use Rattle.std.specs.List.{filter_map, cons_option}
-use Rattle.std.proofs.lemmas.Bool.{and_parts, cond_both, eqb-true, leb-true}
-use Rattle.std.proofs.lemmas.List.{length-replicate}
-use Rattle.std.proofs.lemmas.List.Elements.{All-nil, All-cons, All-append, All-head, All-tail}
-use Rattle.std.proofs.lemmas.Option.{none-some, same_Some}
-use Rattle.ttp_world.specs.declared.medl.Medl.{Medl}
-use Rattle.ttp_world.specs.declared.script.Event.{Event}
+use Rattle.ttp_world.proofs.Words.{◌≡◌, ℕ, zero, suc, ◌+◌, ◌*◌, ◌<◌, ◌≤◌, true, List, [], ◌∷◌, length, get_or, Option}
+use Rattle.ttp_world.proofs.Words.{Some, None, IfSome, refl, ap, subst, ◌∙◌, arith, length-append, ◌==◌, nat_le}
+use Rattle.ttp_world.proofs.Words.{option_and_then, cons_option, and_parts, cond_both, eqb-true, leb-true}
+use Rattle.ttp_world.proofs.Words.{length-replicate, All-nil, All-cons, All-append, All-head, All-tail, none-some}
+use Rattle.ttp_world.proofs.Words.{same_Some, Medl, Event, Script, is_legal_message, plan_at, IsValid, newest_number}
+use Rattle.ttp_world.proofs.Words.{messages_before, out_messages, zeros_of, HostWrite, IsValidEvent, IsValidScript}
+use Rattle.ttp_world.proofs.Words.{messages_written, write_at, write_in, write_of, writes_in}
+use Rattle.std.proofs.Common.{All}
+use Rattle.std.specs.Prelude.{slice_get}
+use Rattle.std.specs.List.{filter_map}
 use Rattle.ttp_world.specs.declared.script.Event.TheVariants as event
-use Rattle.ttp_world.specs.declared.script.Script.{Script}
-use Rattle.ttp_world.specs.Legal.{is_legal_message}
-use Rattle.ttp_world.specs.Medl.{plan_at, IsValid}
-use Rattle.ttp_world.specs.Messages.{newest_number}
-use Rattle.ttp_world.specs.Outgoing.{messages_before, out_messages, zeros_of}
-use Rattle.ttp_world.specs.Script.{HostWrite, IsValidEvent, IsValidScript, messages_written, payload_of_host, write_at}
-use Rattle.ttp_world.specs.Script.{write_in, write_of, writes_in}
+use Rattle.ttp_world.specs.Script.{payload_of_host}
 
 -- A valid write of a script.
 

@@ -1,31 +1,22 @@
 -- Each message that a host reads is one of its source: four words of a status, and else bytes, as many as the list
 -- gives the node that sent them.
-use Rattle.std.proofs.Common.{◌≡◌, ℕ, suc, ◌<◌, ◌≤◌, true, List, [], ◌∷◌, ◌++◌, All, length, get_or}
-use Rattle.std.proofs.Common.{Option, Some, None, IfSome, refl, sym, ap, subst, ◌∙◌, arith, length-append, is_some}
-use Rattle.std.specs.Prelude.{◌==◌, nat_le, map, replicate}
-use Rattle.std.specs.List.{AllByRecursion, list_all}
-use Rattle.std.proofs.lemmas.Bool.{and_parts, cond_both, eqb-true, leb-true}
-use Rattle.std.proofs.lemmas.List.{length-replicate}
-use Rattle.std.proofs.lemmas.List.Elements.{All-nil, All-cons, All-append, All-head, All-tail, All-replicate}
+use Rattle.ttp_world.proofs.Words.{◌≡◌, ℕ, suc, ◌<◌, ◌≤◌, true, List, [], ◌∷◌, ◌++◌, length, get_or, Option, Some, None}
+use Rattle.ttp_world.proofs.Words.{IfSome, refl, sym, ap, subst, ◌∙◌, arith, length-append, is_some, ◌==◌, nat_le, map}
+use Rattle.ttp_world.proofs.Words.{replicate, AllByRecursion, list_all, and_parts, cond_both, eqb-true, leb-true}
+use Rattle.ttp_world.proofs.Words.{length-replicate, All-nil, All-cons, All-append, All-head, All-tail, Medl, Chosen}
+use Rattle.ttp_world.proofs.Words.{Delivered, Event, Script, Source, History, entry_of, IsLegal, ReadMessage}
+use Rattle.ttp_world.proofs.Words.{is_legal_read, read_messages, plan_at, message_of, delivered_of, in_messages}
+use Rattle.ttp_world.proofs.Words.{new_messages, newest_number, ring_messages, status_messages, status_words, zeros_of}
+use Rattle.ttp_world.proofs.Words.{messages_before, IsValidEvent, IsValidScript, messages_written, read_in, reads_in}
+use Rattle.ttp_world.proofs.Words.{Numbers, SlotNumbers, delivered_in, frames_in, messages_chosen, slot_after, world}
+use Rattle.ttp_world.proofs.Words.{node_past}
+use Rattle.std.proofs.Common.{All}
+use Rattle.std.proofs.lemmas.List.Elements.{All-replicate}
 use Rattle.std.proofs.lemmas.List.Elements.{recursion_from_All}
 use Rattle.ttp_world.specs.declared.host_lines.HostRead.{HostRead}
-use Rattle.ttp_world.specs.declared.medl.Medl.{Medl}
-use Rattle.ttp_world.specs.declared.node.Chosen.{Chosen}
-use Rattle.ttp_world.specs.declared.node.Delivered.{Delivered}
-use Rattle.ttp_world.specs.declared.script.Event.{Event}
 use Rattle.ttp_world.specs.declared.script.Event.TheVariants as event
-use Rattle.ttp_world.specs.declared.script.Script.{Script}
-use Rattle.ttp_world.specs.declared.script.Source.{Source}
 use Rattle.ttp_world.specs.declared.script.Source.TheVariants as source
-use Rattle.ttp_world.specs.Diary.{History, entry_of}
-use Rattle.ttp_world.specs.Legal.{IsLegal, ReadMessage, is_legal_read, read_messages}
-use Rattle.ttp_world.specs.Medl.{plan_at}
-use Rattle.ttp_world.specs.Messages.{message_of, delivered_of, in_messages, new_messages, newest_number, ring_messages}
-use Rattle.ttp_world.specs.Messages.{status_messages, status_words}
-use Rattle.ttp_world.specs.Outgoing.{zeros_of, messages_before}
-use Rattle.ttp_world.specs.Script.{IsValidEvent, IsValidScript, messages_written, read_in, reads_in, IsSource}
-use Rattle.ttp_world.specs.World.{Numbers, SlotNumbers, delivered_in, frames_in, messages_chosen, slot_after, world}
-use Rattle.ttp_world.specs.World.{node_past}
+use Rattle.ttp_world.specs.Script.{IsSource}
 use Rattle.ttp_world.proofs.Carried.{delivered_of-told}
 use Rattle.ttp_world.proofs.DeliveredSizes.{HasSendersSize, delivered-size}
 use Rattle.ttp_world.proofs.FrameBytes.{AreBytes, BringsBytes, IsByte, delivered-bytes}

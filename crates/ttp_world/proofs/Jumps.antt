@@ -1,15 +1,11 @@
 -- The events of a script that has nothing outside the hypothesis: their jumps are allowed ones, and add up to nothing
 -- where there is none.
-use Rattle.std.proofs.Common.{◌≡◌, ℕ, ℤ, pos, true, false, List, [], ◌∷◌, Option, Some, None, inl, inr, refl, sym}
-use Rattle.std.proofs.Common.{arith}
-use Rattle.std.specs.Prelude.{is_some}
-use Rattle.std.specs.List.{AllByRecursion, list_any, filter_map}
-use Rattle.std.proofs.lemmas.Bool.{both_ways, or_cases}
-use Rattle.std.proofs.lemmas.Option.{none-some}
-use Rattle.ttp_world.specs.declared.medl.Medl.{Medl}
-use Rattle.ttp_world.specs.declared.script.Event.{Event}
-use Rattle.ttp_world.specs.declared.script.Script.{Script}
-use Rattle.ttp_world.specs.Hypothesis.{lesser, least_of, outside_slot, outside_broken, is_allowed_jump}
+use Rattle.ttp_world.proofs.Words.{◌≡◌, ℕ, ℤ, pos, true, false, List, [], ◌∷◌, Option, Some, None, inl, inr, refl, sym}
+use Rattle.ttp_world.proofs.Words.{arith, is_some, AllByRecursion, list_any, both_ways, none-some, Medl, Event, Script}
+use Rattle.ttp_world.proofs.Words.{lesser, least_of}
+use Rattle.std.specs.List.{filter_map}
+use Rattle.std.proofs.lemmas.Bool.{or_cases}
+use Rattle.ttp_world.specs.Hypothesis.{outside_slot, outside_broken, is_allowed_jump}
 use Rattle.ttp_world.specs.Returning.{disturbed_slot, disturbance_broken}
 use Rattle.ttp_world.specs.Script.{sum_ℤ, jump_in, jump_of, has_jump}
 

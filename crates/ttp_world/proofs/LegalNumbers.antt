@@ -1,22 +1,13 @@
 -- Legal numbers are those of their run, and a word of a line can hold each.
-use Rattle.std.proofs.Common.{◌≡◌, ℕ, zero, suc, ◌+◌, ◌*◌, ◌<◌, ◌≤◌, ◌^◌, Bool, true, false, List, [], ◌∷◌}
-use Rattle.std.proofs.Common.{cond, is_some, length, Option, Some, None, IfSome, sym, arith, length-append}
-use Rattle.std.specs.Prelude.{◌==◌, nat_le}
-use Rattle.std.specs.List.{AllByRecursion, list_all}
-use Rattle.std.proofs.lemmas.Bool.{and_parts, leb-true}
-use Rattle.ttp_world.specs.declared.medl.Medl.{Medl}
-use Rattle.ttp_world.specs.declared.node.Delivered.{Delivered}
-use Rattle.ttp_world.specs.declared.script.Script.{Script}
-use Rattle.ttp_world.specs.declared.script.Source.{Source}
+use Rattle.ttp_world.proofs.Words.{◌≡◌, ℕ, zero, suc, ◌+◌, ◌*◌, ◌<◌, ◌≤◌, ◌^◌, Bool, true, false, List, [], ◌∷◌, cond}
+use Rattle.ttp_world.proofs.Words.{is_some, length, Option, Some, None, IfSome, sym, arith, length-append, ◌==◌, nat_le}
+use Rattle.ttp_world.proofs.Words.{AllByRecursion, list_all, and_parts, leb-true, Medl, Delivered, Script, Source}
+use Rattle.ttp_world.proofs.Words.{History, entry_of, is_legal_message, read_messages, is_legal_read, IsLegal, IsValid}
+use Rattle.ttp_world.proofs.Words.{message_of, delivered_of, new_messages, in_messages, status_words, status_messages}
+use Rattle.ttp_world.proofs.Words.{ring_messages, newest_number, messages_before, out_messages, messages_written}
+use Rattle.ttp_world.proofs.Words.{reads_in, IsValidScript, SlotNumbers, Numbers, node_past, world}
 use Rattle.ttp_world.specs.declared.script.Source.TheVariants as source
-use Rattle.ttp_world.specs.Diary.{History, entry_of}
-use Rattle.ttp_world.specs.Legal.{is_legal_message, read_messages, is_legal_read, IsLegal}
-use Rattle.ttp_world.specs.Medl.{IsValid}
-use Rattle.ttp_world.specs.Messages.{message_of, delivered_of, new_messages, in_messages, status_words, status_messages}
-use Rattle.ttp_world.specs.Messages.{ring_messages, newest_number}
-use Rattle.ttp_world.specs.Outgoing.{messages_before, out_messages}
-use Rattle.ttp_world.specs.Script.{HostRead, messages_written, reads_in, IsValidScript}
-use Rattle.ttp_world.specs.World.{SlotNumbers, Numbers, node_past, world}
+use Rattle.ttp_world.specs.Script.{HostRead}
 use Rattle.ttp_world.proofs.LegalShapes.{legal-shapes, legal-message, legal-reads, legal-older}
 use Rattle.ttp_world.proofs.RunNumbers.{AreNumbersOf, AreNumbersOfAll}
 use Rattle.ttp_world.proofs.Worlds.{row_of_world, length-world}

@@ -1,22 +1,13 @@
 -- The reads of legal numbers: none got a message past its ring's newest, and none of the same ring falls.
-use Rattle.std.proofs.Common.{◌≡◌, ℕ, ◌≤◌, Bool, true, false, ◌||◌, not, List, [], ◌∷◌, length}
-use Rattle.std.proofs.Common.{refl, ap, sym, subst, arith}
-use Rattle.std.specs.Prelude.{◌==◌, nat_le, reverse}
-use Rattle.std.specs.List.{AllByRecursion, list_all}
-use Rattle.std.proofs.lemmas.Bool.{and_parts, eqb-true, false≢true, le-leb, leb-true}
+use Rattle.ttp_world.proofs.Words.{◌≡◌, ℕ, ◌≤◌, Bool, true, false, ◌||◌, not, List, [], ◌∷◌, length, refl, ap, sym}
+use Rattle.ttp_world.proofs.Words.{subst, arith, ◌==◌, nat_le, reverse, AllByRecursion, list_all, and_parts, eqb-true}
+use Rattle.ttp_world.proofs.Words.{false≢true, le-leb, leb-true, Medl, Entry, Script, Source, History, ReadMessage}
+use Rattle.ttp_world.proofs.Words.{read_messages, is_legal_read, are_legal_slots, is_same_ring, all_reads}
+use Rattle.ttp_world.proofs.Words.{ring_messages, newest_number, reads_in, Numbers, world}
 use Rattle.std.proofs.lemmas.Grind.{reverse_onto}
-use Rattle.ttp_world.specs.declared.medl.Medl.{Medl}
-use Rattle.ttp_world.specs.declared.node.Entry.{Entry}
-use Rattle.ttp_world.specs.declared.script.Script.{Script}
-use Rattle.ttp_world.specs.declared.script.Source.{Source}
 use Rattle.ttp_world.specs.declared.script.Source.TheVariants as source
-use Rattle.ttp_world.specs.Diary.{History}
-use Rattle.ttp_world.specs.Legal.{ReadMessage, read_messages, is_legal_read, are_legal_slots, is_same_source, is_same_ring}
-use Rattle.ttp_world.specs.Legal.{all_reads}
-use Rattle.ttp_world.specs.Messages.{ring_messages, newest_number}
+use Rattle.ttp_world.specs.Legal.{is_same_source}
 use Rattle.ttp_world.specs.declared.host_lines.HostRead.{HostRead}
-use Rattle.ttp_world.specs.Script.{reads_in}
-use Rattle.ttp_world.specs.World.{Numbers, world}
 use Rattle.ttp_world.proofs.LegalShapes.{are_legal_slots-parts}
 use Rattle.ttp_world.proofs.LineLists.{each-append}
 use Rattle.ttp_world.proofs.Rings.{newest_read}

@@ -1,27 +1,17 @@
 -- Any legal beginning of a run can be continued legally: each frame carries its host's newest message, and each read
 -- gets the newest of its ring.
-use Rattle.std.proofs.Common.{◌≡◌, ℕ, zero, suc, ◌+◌, ◌<◌, ◌≤◌, Bool, true, false, ◌&&◌, List, [], ◌∷◌}
-use Rattle.std.proofs.Common.{◌++◌, length, drop, Option, Some, None, if◌then◌else◌, refl, ap, sym, ◌∙◌, subst, arith}
-use Rattle.std.specs.Prelude.{map, reverse}
-use Rattle.std.specs.List.{AllByRecursion, list_all}
-use Rattle.std.proofs.lemmas.Bool.{eq-eqb, le-leb}
-use Rattle.std.proofs.lemmas.List.{length-map}
-use Rattle.std.proofs.lemmas.List.FromFn.{get_or-map-range_with_len}
-use Rattle.ttp_base.specs.NodeSet.{below}
+use Rattle.ttp_world.proofs.Words.{◌≡◌, ℕ, zero, suc, ◌+◌, ◌<◌, ◌≤◌, Bool, true, false, ◌&&◌, List, [], ◌∷◌, ◌++◌}
+use Rattle.ttp_world.proofs.Words.{length, drop, Option, Some, None, if◌then◌else◌, refl, ap, sym, ◌∙◌, subst, arith}
+use Rattle.ttp_world.proofs.Words.{map, reverse, AllByRecursion, list_all, eq-eqb, le-leb, length-map}
+use Rattle.ttp_world.proofs.Words.{get_or-map-range_with_len, below, Medl, Chosen, Entry, Script, History, entry_of}
+use Rattle.ttp_world.proofs.Words.{is_legal_message, are_same_numbers, are_legal_messages, ReadMessage, read_messages}
+use Rattle.ttp_world.proofs.Words.{is_legal_read, are_legal_reads, is_legal_slot, is_same_ring, all_reads, is_not_older}
+use Rattle.ttp_world.proofs.Words.{never_fall, IsLegal, message_of, newest_number, messages_before, out_messages}
+use Rattle.ttp_world.proofs.Words.{nothing_chosen, message_chosen, reads_in, BegunSlot, SlotNumbers, Numbers}
+use Rattle.ttp_world.proofs.Words.{slot_after, is_loaded, chosen_of, row_in, world}
 use Rattle.ttp_base.proofs.Below.{all-below}
-use Rattle.ttp_world.specs.declared.medl.Medl.{Medl}
-use Rattle.ttp_world.specs.declared.node.Chosen.{Chosen}
-use Rattle.ttp_world.specs.declared.node.Entry.{Entry}
-use Rattle.ttp_world.specs.declared.script.Script.{Script}
-use Rattle.ttp_world.specs.Diary.{History, entry_of}
-use Rattle.ttp_world.specs.Legal.{is_between, is_legal_message, are_same_numbers, are_legal_messages, ReadMessage}
-use Rattle.ttp_world.specs.Legal.{read_messages, is_legal_read, are_legal_reads, is_legal_slot}
-use Rattle.ttp_world.specs.Legal.{is_same_ring, all_reads, is_not_older, never_fall, IsLegal}
-use Rattle.ttp_world.specs.Messages.{message_of, newest_number}
-use Rattle.ttp_world.specs.Outgoing.{messages_before, out_messages, nothing_chosen, message_chosen}
-use Rattle.ttp_world.specs.Script.{HostRead, reads_in}
-use Rattle.ttp_world.specs.World.{BegunSlot, SlotNumbers, Numbers, slot_after, is_loaded, chosen_of}
-use Rattle.ttp_world.specs.World.{row_in, world}
+use Rattle.ttp_world.specs.Legal.{is_between}
+use Rattle.ttp_world.specs.Script.{HostRead}
 use Rattle.ttp_world.proofs.Carried.{message_of-row_in, AreOfHosts}
 use Rattle.ttp_world.proofs.LegalReads.{newest_of, AreUpTo, up_to-next, reads-up_to, reverse-all, same_read, not_older_if}
 use Rattle.ttp_world.proofs.LegalShapes.{slots-legal, reads-never_fall}

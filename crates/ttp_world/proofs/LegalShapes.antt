@@ -1,21 +1,12 @@
 -- What legal numbers say of a run: which numbers there are of each slot, and that those of its older slots are legal.
-use Rattle.std.proofs.Common.{◌≡◌, ℕ, ◌<◌, true, ◌&&◌, List, [], ◌∷◌, ◌++◌, length, Option, Some, None, IsTrue}
-use Rattle.std.proofs.Common.{refl, ap, sym, ◌∙◌, arith}
-use Rattle.std.specs.Prelude.{map, reverse}
-use Rattle.std.specs.List.{list_all}
-use Rattle.std.proofs.lemmas.Bool.{and_parts, eqb-true, false≢true}
-use Rattle.std.proofs.lemmas.List.{length-map}
-use Rattle.ttp_base.proofs.Below.{each-below}
-use Rattle.ttp_world.specs.declared.medl.Medl.{Medl}
-use Rattle.ttp_world.specs.declared.node.Entry.{Entry}
-use Rattle.ttp_world.specs.declared.script.Script.{Script}
-use Rattle.ttp_world.specs.Diary.{entry_of}
-use Rattle.ttp_world.specs.Legal.{is_legal_message, is_same_number, are_same_numbers, are_legal_messages, ReadMessage}
-use Rattle.ttp_world.specs.Legal.{read_messages, is_legal_read, are_legal_reads, is_legal_slot, are_legal_slots}
-use Rattle.ttp_world.specs.Legal.{is_not_older, never_fall, all_reads, IsLegal}
-use Rattle.ttp_world.specs.Messages.{message_of}
-use Rattle.ttp_world.specs.Script.{reads_in}
-use Rattle.ttp_world.specs.World.{SlotNumbers, Numbers, slot_after, messages_chosen, world}
+use Rattle.ttp_world.proofs.Words.{◌≡◌, ℕ, ◌<◌, true, ◌&&◌, List, [], ◌∷◌, ◌++◌, length, Option, Some, None, IsTrue}
+use Rattle.ttp_world.proofs.Words.{refl, ap, sym, ◌∙◌, arith, map, reverse, list_all, and_parts, eqb-true, false≢true}
+use Rattle.ttp_world.proofs.Words.{length-map, each-below, Medl, Entry, Script, entry_of, is_legal_message}
+use Rattle.ttp_world.proofs.Words.{are_same_numbers, are_legal_messages, ReadMessage, read_messages, is_legal_read}
+use Rattle.ttp_world.proofs.Words.{are_legal_reads, is_legal_slot, are_legal_slots, is_not_older, never_fall, all_reads}
+use Rattle.ttp_world.proofs.Words.{IsLegal, message_of, reads_in, SlotNumbers, Numbers, slot_after, messages_chosen}
+use Rattle.ttp_world.proofs.Words.{world}
+use Rattle.ttp_world.specs.Legal.{is_same_number}
 use Rattle.ttp_world.proofs.Slots.{length-row_in}
 use Rattle.ttp_world.proofs.Worlds.{row_of_world, length-world}
 

@@ -1,16 +1,10 @@
 -- Numbers of a slot that are legal by themselves are legal after legal ones, where the slot's own reads do not fall.
-use Rattle.std.proofs.Common.{◌≡◌, ℕ, ◌≤◌, true, ◌&&◌, List, [], ◌∷◌, ◌++◌, length, refl, ap, ◌∙◌, subst, arith}
-use Rattle.std.specs.Prelude.{◌==◌, reverse}
-use Rattle.std.specs.List.{list_all}
-use Rattle.std.proofs.lemmas.Bool.{and_parts}
+use Rattle.ttp_world.proofs.Words.{◌≡◌, ℕ, ◌≤◌, true, ◌&&◌, List, [], ◌∷◌, ◌++◌, length, refl, ap, ◌∙◌, subst, arith}
+use Rattle.ttp_world.proofs.Words.{◌==◌, reverse, list_all, and_parts, Medl, Script, ReadMessage, read_messages}
+use Rattle.ttp_world.proofs.Words.{is_legal_read, is_legal_slot, are_legal_slots, is_same_ring, all_reads, is_not_older}
+use Rattle.ttp_world.proofs.Words.{never_fall, IsLegal, reads_in, SlotNumbers, Numbers, world}
 use Rattle.std.proofs.lemmas.List.Folds.{list_all-append}
-use Rattle.ttp_world.specs.declared.medl.Medl.{Medl}
-use Rattle.ttp_world.specs.declared.script.Script.{Script}
 use Rattle.ttp_world.specs.declared.host_lines.HostRead.{HostRead}
-use Rattle.ttp_world.specs.Legal.{ReadMessage, read_messages, is_legal_read, is_legal_slot, are_legal_slots, is_same_ring}
-use Rattle.ttp_world.specs.Legal.{all_reads, is_not_older, never_fall, IsLegal}
-use Rattle.ttp_world.specs.Script.{reads_in}
-use Rattle.ttp_world.specs.World.{SlotNumbers, Numbers, world}
 use Rattle.ttp_world.proofs.LegalReads.{newest_of, AreUpTo, AreFrom, between, reads-up_to, reverse-all, same_read, not_older_if}
 use Rattle.ttp_world.proofs.LegalShapes.{are_legal_slots-parts, slots-legal, reads-never_fall}
 use Rattle.ttp_world.proofs.Worlds.{row_of_world, length-world}

@@ -51,3 +51,4 @@ pub mod ListFacts
 pub mod SmallTests
 pub mod RangeFacts
 pub mod WordList
+pub mod Words

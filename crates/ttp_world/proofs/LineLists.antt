@@ -1,12 +1,9 @@
 -- Lists of lines in which few are asked for.
-use Rattle.std.proofs.Common.{◌≡◌, ◌≢◌, ℕ, zero, suc, ◌+◌, ◌<◌, ◌≤◌, Bool, false, cond, List, [], ◌∷◌, ◌++◌}
-use Rattle.std.proofs.Common.{Option, Some, None, refl, ap, ◌∙◌, arith, append-nil, map, find, filter_map, inl, inr}
-use Rattle.std.specs.List.{AllByRecursion, range_with_len, cons_option}
-use Rattle.std.specs.Option.{option_or}
-use Rattle.std.proofs.lemmas.Bool.{cases_eq}
-use Rattle.std.proofs.lemmas.List.Elements.{filter_map-append}
+use Rattle.ttp_world.proofs.Words.{◌≡◌, ◌≢◌, ℕ, zero, suc, ◌+◌, ◌<◌, ◌≤◌, Bool, false, cond, List, [], ◌∷◌, ◌++◌}
+use Rattle.ttp_world.proofs.Words.{Option, Some, None, refl, ap, ◌∙◌, arith, map, inl, inr, AllByRecursion}
+use Rattle.ttp_world.proofs.Words.{range_with_len, cons_option, option_or, cases_eq, filter_map-append, below}
+use Rattle.std.proofs.Common.{append-nil, find, filter_map}
 use Rattle.std.proofs.lemmas.List.Folds.{find-append}
-use Rattle.ttp_base.specs.NodeSet.{below}
 
 pub each-append : {X : Type 0} (P : X → Type 0) (xs ys : List X) → AllByRecursion P xs → AllByRecursion P ys
     → AllByRecursion P (xs ++ ys)

@@ -1,15 +1,13 @@
 -- Which numbers a line names: those of its own slot, in the line of a node that sends and in that of a read.
-use Rattle.std.proofs.Common.{◌≡◌, ◌≢◌, ℕ, ◌<◌, ◌^◌, Bool, true, false, cond, ◌&&◌, List, Option, Some, None, IfSome}
-use Rattle.std.proofs.Common.{refl, ap, ◌∙◌, codes, decimal, bytes_eq}
+use Rattle.ttp_world.proofs.Words.{◌≡◌, ◌≢◌, ℕ, ◌<◌, ◌^◌, Bool, true, false, cond, ◌&&◌, List, Option, Some, None}
+use Rattle.ttp_world.proofs.Words.{IfSome, refl, ap, ◌∙◌, codes, decimal, bytes_eq, Entry, Reason, Verdict}
+use Rattle.ttp_world.proofs.Words.{verdict_word, reason_word, entry_word, number_or_dash, word_in, number_named}
+use Rattle.ttp_world.proofs.Words.{is_sending_line, number_read}
 use Rattle.std.proofs.lemmas.Bool.{and_right}
-use Rattle.ttp_world.specs.declared.node.Entry.{Entry}
 use Rattle.ttp_world.specs.declared.node.Entry.TheVariants as entry
-use Rattle.ttp_world.specs.declared.node.Reason.{Reason}
 use Rattle.ttp_world.specs.declared.node.Reason.TheVariants as reason
-use Rattle.ttp_world.specs.declared.node.Verdict.{Verdict}
 use Rattle.ttp_world.specs.declared.node.Verdict.TheVariants as verdict
-use Rattle.ttp_world.specs.Trace.{verdict_word, reason_word, entry_word, number_or_dash}
-use Rattle.ttp_world.specs.TraceNumbers.{word_in, number_named, is_sending_line, is_reading_line, number_read}
+use Rattle.ttp_world.specs.TraceNumbers.{is_reading_line}
 use Rattle.ttp_world.proofs.LineWords.{IsNodeLine, IsHostLine}
 use Rattle.ttp_world.proofs.NumberWords.{number_named-decimal, bytes_eq-same, decimal-other}
 

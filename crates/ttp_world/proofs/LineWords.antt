@@ -1,24 +1,12 @@
 -- The words of the lines of a trace.
-use Rattle.std.proofs.Common.{◌≡◌, ℕ, false, List, [], ◌∷◌, ◌++◌, Option, ◌<◌, arith}
-use Rattle.std.proofs.Common.{◌+◌, length, get_or, refl, ap, ◌∙◌, append_assoc, All, codes, decimal}
-use Rattle.std.specs.Prelude.{◌==◌}
-use Rattle.std.specs.Fmt.{signed_decimal}
+use Rattle.ttp_world.proofs.Words.{◌≡◌, ℕ, false, List, [], ◌∷◌, ◌++◌, Option, ◌<◌, arith, ◌+◌, length, get_or, refl}
+use Rattle.ttp_world.proofs.Words.{ap, ◌∙◌, append_assoc, codes, decimal, ◌==◌, signed_decimal, All-nil, All-cons}
+use Rattle.ttp_world.proofs.Words.{set_bits, newline, hex, Medl, NodeState, Script, History, ReadMessage, ring_messages}
+use Rattle.ttp_world.proofs.Words.{messages_before, number_or_dash, entry_word, peer_of, ack_word, node_line}
+use Rattle.ttp_world.proofs.Words.{write_line, source_word, message_hex, read_line, words_of, word_in, has, has-decimal}
+use Rattle.std.proofs.Common.{All}
 use Rattle.std.proofs.lemmas.Bool.{or_parts}
-use Rattle.std.proofs.lemmas.List.Elements.{All-nil, All-cons}
 use Rattle.std.proofs.lemmas.List.Splits.{slice_split_at}
-use Rattle.ttp_base.specs.NodeSet.{set_bits}
-use Rattle.ttp_base.specs.Text.{newline, hex}
-use Rattle.ttp_world.specs.declared.medl.Medl.{Medl}
-use Rattle.ttp_world.specs.declared.node.NodeState.{NodeState}
-use Rattle.ttp_world.specs.declared.script.Script.{Script}
-use Rattle.ttp_world.specs.Diary.{History}
-use Rattle.ttp_world.specs.Legal.{ReadMessage}
-use Rattle.ttp_world.specs.Messages.{ring_messages}
-use Rattle.ttp_world.specs.Outgoing.{messages_before}
-use Rattle.ttp_world.specs.Trace.{number_or_dash, entry_word, peer_of, ack_word, node_line}
-use Rattle.ttp_world.specs.Trace.{write_line, source_word, message_hex, read_line}
-use Rattle.ttp_world.specs.TraceNumbers.{words_of, word_in}
-use Rattle.ttp_base.proofs.Numerals.{has, has-decimal}
 use Rattle.ttp_world.proofs.TraceWords.{has-entry_word, has-number_or_dash, has-source_word}
 
 pub space_is_low : 32 < 45

@@ -1,14 +1,16 @@
 -- Lists: what stands where, and how long they are.
-use Rattle.std.proofs.Common.{◌≡◌, ℕ, ◌-◌, ◌<◌, List, length, set, Some, ap, ◌∙◌, arith, ◌+◌, [], ◌∷◌, ◌++◌, append-nil, Bool, false, cond, true, length-append, zero, suc, get_or, refl, subst, ◌≤◌, Option, None, ℤ, ◌*◌, drop, drop-cons}
+use Rattle.ttp_world.proofs.Words.{◌≡◌, ℕ, ◌-◌, ◌<◌, List, length, set, Some, ap, ◌∙◌, arith, ◌+◌, [], ◌∷◌, ◌++◌, Bool}
+use Rattle.ttp_world.proofs.Words.{false, cond, true, length-append, zero, suc, get_or, refl, subst, ◌≤◌, Option, None}
+use Rattle.ttp_world.proofs.Words.{ℤ, ◌*◌, drop, same_Some, none-some, AllByRecursion, cons_option, filter, IfSome}
+use Rattle.ttp_world.proofs.Words.{below, word_hex}
+use Rattle.std.proofs.Common.{append-nil, drop-cons}
 use Rattle.std.proofs.lemmas.List.{length-set, get_or-set_same}
 use Rattle.std.proofs.lemmas.List.Elements.{filter-append}
-use Rattle.std.proofs.lemmas.Option.{slice_get-get_or, same_Some, none-some}
-use Rattle.std.specs.List.{AllByRecursion, cons_option, filter_map, filter, flat_map}
-use Rattle.std.specs.Prelude.{slice_get, IfSome}
+use Rattle.std.proofs.lemmas.Option.{slice_get-get_or}
+use Rattle.std.specs.List.{filter_map, flat_map}
+use Rattle.std.specs.Prelude.{slice_get}
 use Rattle.ttp_base.proofs.Below.{below-next}
 use Rattle.ttp_base.proofs.Room.{length-hex}
-use Rattle.ttp_base.specs.NodeSet.{below}
-use Rattle.ttp_world.specs.Trace.{word_hex}
 
 pub slice_get-set_same : {X : Type 0} (xs : List X) (i : ℕ) (y : X) → i < length xs → slice_get (set xs i y) i ≡ Some y
 slice_get-set_same xs i y within =

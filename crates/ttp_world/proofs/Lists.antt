@@ -1,17 +1,13 @@
 -- Valid lists: how many nodes they have, and their frames' members.
-use Rattle.std.proofs.Common.{◌≡◌, ℕ, zero, suc, ◌+◌, ◌*◌, ◌%◌, ◌≢◌, ◌<◌, ◌≤◌, Bool, true, false, IsTrue, List, [], ◌∷◌}
-use Rattle.std.proofs.Common.{length, cond, mod-lt, refl, ap, arith}
-use Rattle.std.specs.Prelude.{◌==◌, unwrap_or}
-use Rattle.std.specs.List.{AllByRecursion, list_all, slice_get}
-use Rattle.std.proofs.lemmas.Bool.{cond_both, eqb-false, false≢true}
-use Rattle.ttp_base.specs.NodeSet.{most_nodes}
-use Rattle.ttp_world.specs.declared.medl.Kind.{Kind}
+use Rattle.ttp_world.proofs.Words.{◌≡◌, ℕ, zero, suc, ◌+◌, ◌*◌, ◌%◌, ◌≢◌, ◌<◌, ◌≤◌, Bool, true, false, IsTrue, List, []}
+use Rattle.ttp_world.proofs.Words.{◌∷◌, length, cond, refl, ap, arith, ◌==◌, unwrap_or, AllByRecursion, list_all}
+use Rattle.ttp_world.proofs.Words.{cond_both, false≢true, most_nodes, Kind, Medl, SlotPlan, Place, no_place, next_place}
+use Rattle.ttp_world.proofs.Words.{is_bare, no_plan, plan_at, kind_at, payload_length, IsValid}
+use Rattle.std.proofs.Common.{mod-lt}
+use Rattle.std.specs.List.{slice_get}
+use Rattle.std.proofs.lemmas.Bool.{eqb-false}
 use Rattle.ttp_world.specs.declared.medl.Kind.TheVariants as kind
-use Rattle.ttp_world.specs.declared.medl.Medl.{Medl}
-use Rattle.ttp_world.specs.declared.medl.SlotPlan.{SlotPlan}
-use Rattle.ttp_world.specs.Diary.{Place, no_place, next_place}
-use Rattle.ttp_world.specs.Medl.{is_wide, member_bytes, node_limit, is_bare, IsBareList, no_plan, plan_at, kind_at}
-use Rattle.ttp_world.specs.Medl.{payload_length, IsValid}
+use Rattle.ttp_world.specs.Medl.{is_wide, member_bytes, node_limit, IsBareList}
 
 -- How many nodes.
 

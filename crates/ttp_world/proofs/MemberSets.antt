@@ -1,20 +1,14 @@
 -- The members after an entry, as sets in which nodes are put in and taken out.
-use Rattle.std.proofs.Common.{◌≡◌, ℕ, ◌<◌, ◌≤◌, ℤ, Bool, true, false, cond, not, ◌&&◌, ◌||◌, List, [], length, Option}
-use Rattle.std.proofs.Common.{Some, None, refl, ap, sym, ◌∙◌, inl, inr}
-use Rattle.std.specs.Prelude.{◌==◌, unwrap_or}
-use Rattle.std.specs.List.{filter}
-use Rattle.std.proofs.lemmas.Bool.{cases_eq, eq-eqb, ne_eqb}
-use Rattle.ttp_base.specs.NodeSet.{most_nodes, below, has_node, with_node, without_node}
-use Rattle.ttp_base.proofs.NodeLists.{filter-none, with_node-filter, without_node-filter}
-use Rattle.ttp_base.proofs.NodeSets.{same_sieve}
-use Rattle.ttp_world.specs.declared.medl.Medl.{Medl}
-use Rattle.ttp_world.specs.declared.node.Ack.{Ack}
+use Rattle.ttp_world.proofs.Words.{◌≡◌, ℕ, ◌<◌, ◌≤◌, ℤ, Bool, true, false, cond, not, ◌&&◌, ◌||◌, List, [], length}
+use Rattle.ttp_world.proofs.Words.{Option, Some, None, refl, ap, sym, ◌∙◌, inl, inr, ◌==◌, unwrap_or, filter, cases_eq}
+use Rattle.ttp_world.proofs.Words.{eq-eqb, ne_eqb, most_nodes, below, has_node, filter-none, same_sieve, Medl, Ack}
+use Rattle.ttp_world.proofs.Words.{Verdict, members_after, AreNodes}
+use Rattle.ttp_base.specs.NodeSet.{with_node, without_node}
+use Rattle.ttp_base.proofs.NodeLists.{with_node-filter, without_node-filter}
 use Rattle.ttp_world.specs.declared.node.Ack.TheVariants as ack
 use Rattle.ttp_world.specs.declared.node.Entry.TheVariants as entry
-use Rattle.ttp_world.specs.declared.node.Verdict.{Verdict}
 use Rattle.ttp_world.specs.declared.node.Verdict.TheVariants as verdict
-use Rattle.ttp_world.specs.After.{judged_members, members_after}
-use Rattle.ttp_world.specs.Membership.{AreNodes}
+use Rattle.ttp_world.specs.After.{judged_members}
 
 -- What an opinion makes of what was held before.
 

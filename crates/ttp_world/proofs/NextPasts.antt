@@ -1,14 +1,9 @@
 -- One slot more: the past of each node after it, from its past before.
-use Rattle.std.proofs.Common.{◌≡◌, ℕ, ◌<◌, true, List, ◌∷◌, length, subst, sym}
-use Rattle.ttp_world.specs.declared.medl.Medl.{Medl}
-use Rattle.ttp_world.specs.declared.node.Chosen.{Chosen}
-use Rattle.ttp_world.specs.declared.node.Entry.{Entry}
-use Rattle.ttp_world.specs.declared.script.Script.{Script}
-use Rattle.ttp_world.specs.After.{past_after}
-use Rattle.ttp_world.specs.Diary.{History, diary_of, entry_of, may_follow}
+use Rattle.ttp_world.proofs.Words.{◌≡◌, ℕ, ◌<◌, true, List, ◌∷◌, length, subst, sym, Medl, Chosen, Entry, Script}
+use Rattle.ttp_world.proofs.Words.{past_after, History, diary_of, entry_of, may_follow, is_on, node_past, slot_after}
+use Rattle.ttp_world.proofs.Words.{chosen_of, frames_in, hearing_in, row_in}
 use Rattle.ttp_world.specs.Medium.{surroundings_in, surroundings_of}
-use Rattle.ttp_world.specs.Script.{is_on, is_armed}
-use Rattle.ttp_world.specs.World.{node_past, slot_after, chosen_of, frames_in, hearing_in, row_in}
+use Rattle.ttp_world.specs.Script.{is_armed}
 use Rattle.ttp_world.proofs.Entries.{new_entry-follows}
 use Rattle.ttp_world.proofs.Pasts.{past_of-cons}
 use Rattle.ttp_world.proofs.Slots.{entry_of-row_after}

@@ -1,16 +1,14 @@
 -- Numbers as words: digits alone, and for each number below 2^64 a word of its own.
-use Rattle.std.proofs.Common.{◌≡◌, ◌≢◌, ℕ, zero, suc, ◌+◌, ◌/◌, ◌%◌, ◌<◌, ◌≤◌, ◌^◌, Bool, true, false, cond, ◌&&◌, not}
-use Rattle.std.proofs.Common.{List, [], ◌∷◌, ◌++◌, length, Some, None, refl, ap, ◌∙◌, arith, length-append}
-use Rattle.std.proofs.Common.{bytes_eq, decimal, fold}
-use Rattle.std.specs.Prelude.{◌==◌, nat_lt}
+use Rattle.ttp_world.proofs.Words.{◌≡◌, ◌≢◌, ℕ, zero, suc, ◌+◌, ◌/◌, ◌%◌, ◌<◌, ◌≤◌, ◌^◌, Bool, true, false, cond, ◌&&◌}
+use Rattle.ttp_world.proofs.Words.{not, List, [], ◌∷◌, ◌++◌, length, Some, None, refl, ap, ◌∙◌, arith, length-append}
+use Rattle.ttp_world.proofs.Words.{bytes_eq, decimal, ◌==◌, nat_lt, list_all, both_ways, nat_tests, bytes_eq-Decides}
+use Rattle.ttp_world.proofs.Words.{number_named}
+use Rattle.std.proofs.Common.{fold}
 use Rattle.std.specs.Fmt.{digit_glyph, digits_onto, digits}
-use Rattle.std.specs.List.{list_all}
-use Rattle.std.proofs.lemmas.Bool.{false_from_ne_true, both_ways}
-use Rattle.std.proofs.lemmas.Bool.Decides.{nat_tests}
+use Rattle.std.proofs.lemmas.Bool.{false_from_ne_true}
 use Rattle.std.proofs.lemmas.Fmt.{decimal_by_steps, decimal_injective}
 use Rattle.std.proofs.lemmas.List.Sums.{fold-append}
-use Rattle.std.proofs.lemmas.Slice.Eq.{bytes_eq-Decides}
-use Rattle.ttp_world.specs.TraceNumbers.{is_digit, append_digit, number_named}
+use Rattle.ttp_world.specs.TraceNumbers.{is_digit, append_digit}
 
 -- Digits alone.
 

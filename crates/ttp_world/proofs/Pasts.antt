@@ -1,32 +1,26 @@
 -- The laws of one more entry: what is read of a longer diary, from what is read of it without its newest entry.
-use Rattle.std.proofs.Common.{◌≡◌, ℕ, ◌+◌, ◌<◌, ℤ, pos, ◌+ℤ◌, Bool, true, false, cond, ◌||◌, List, [], ◌∷◌, ◌++◌}
-use Rattle.std.proofs.Common.{length, Option, Some, None, refl, ap, sym, ◌∙◌, arith}
-use Rattle.std.specs.Prelude.{◌==◌, unwrap_or, count_by}
-use Rattle.std.specs.List.{filter, list_any}
-use Rattle.std.proofs.Math.Bool.{or-true}
+use Rattle.ttp_world.proofs.Words.{◌≡◌, ℕ, ◌+◌, ◌<◌, ℤ, pos, ◌+ℤ◌, Bool, true, false, cond, ◌||◌, List, [], ◌∷◌, ◌++◌}
+use Rattle.ttp_world.proofs.Words.{length, Option, Some, None, refl, ap, sym, ◌∙◌, arith, ◌==◌, unwrap_or, count_by}
+use Rattle.ttp_world.proofs.Words.{filter, list_any, or-true, sum_by-cons, below, has_node, same_sieve, has_node-sieve}
+use Rattle.ttp_world.proofs.Words.{Medl, Ack, Entry, Verdict, is_correct, members_after, past_after, fta, Diary}
+use Rattle.ttp_world.proofs.Words.{Surroundings, is_active, Place, may_follow, no_place, next_place, stint_place}
+use Rattle.ttp_world.proofs.Words.{past_of}
 use Rattle.std.proofs.lemmas.Bool.{cond-true}
-use Rattle.std.proofs.lemmas.List.Sums.{sum_by-cons}
-use Rattle.ttp_base.specs.NodeSet.{below, has_node}
-use Rattle.ttp_base.proofs.NodeSets.{same_sieve, has_node-sieve}
-use Rattle.ttp_world.specs.declared.medl.Medl.{Medl}
-use Rattle.ttp_world.specs.declared.node.Ack.{Ack}
 use Rattle.ttp_world.specs.declared.node.Ack.TheVariants as ack
-use Rattle.ttp_world.specs.declared.node.Entry.{Entry}
 use Rattle.ttp_world.specs.declared.node.Entry.TheVariants as entry
-use Rattle.ttp_world.specs.declared.node.Verdict.{Verdict}
 use Rattle.ttp_world.specs.declared.node.Verdict.TheVariants as verdict
-use Rattle.ttp_world.specs.Acknowledgement.{is_correct, is_judged_correct, newest_sent_or_joined, since_sent_or_joined}
+use Rattle.ttp_world.specs.Acknowledgement.{is_judged_correct, newest_sent_or_joined, since_sent_or_joined}
 use Rattle.ttp_world.specs.Acknowledgement.{newest_doubted, first_or_doubt, ack_since, ack_of}
-use Rattle.ttp_world.specs.After.{place_after, opined_members, members_after, accepted_after, rejected_after}
+use Rattle.ttp_world.specs.After.{place_after, opined_members, accepted_after, rejected_after}
 use Rattle.ttp_world.specs.After.{ack_answered, ack_after, cold_start_after, limit_after, silent_slots_after}
-use Rattle.ttp_world.specs.After.{notes_after, offset_after, past_after}
-use Rattle.ttp_world.specs.Clock.{notes_in, begins_round, notes_of, stint_notes, fta, is_corrected, slot_change}
+use Rattle.ttp_world.specs.After.{notes_after, offset_after}
+use Rattle.ttp_world.specs.Clock.{notes_in, begins_round, notes_of, stint_notes, is_corrected, slot_change}
 use Rattle.ttp_world.specs.Clock.{offset_of}
 use Rattle.ttp_world.specs.Counts.{is_rejection, rejected_since, accepted_of, rejected_of}
-use Rattle.ttp_world.specs.Diary.{Diary, Surroundings, SlotSurroundings, phase_after, is_active, begins_stint, Place}
-use Rattle.ttp_world.specs.Diary.{may_follow, no_place, next_place, stint_place, place_of}
+use Rattle.ttp_world.specs.Diary.{SlotSurroundings, phase_after, begins_stint}
+use Rattle.ttp_world.specs.Diary.{place_of}
 use Rattle.ttp_world.specs.Membership.{opinion, is_good, members_of}
-use Rattle.ttp_world.specs.Past.{is_start, cold_start_of, limit_of, silent_slots_of, past_of}
+use Rattle.ttp_world.specs.Past.{is_start, cold_start_of, limit_of, silent_slots_of}
 
 -- A reading that stops where a test holds is one that takes what the test says.
 

@@ -1,27 +1,13 @@
 -- In a history of entries that speak of slots of the list, each node stands in the list's cycle.
-use Rattle.std.proofs.Common.{◌≡◌, ℕ, zero, suc, ◌<◌, ℤ, true, ◌&&◌, List, [], ◌∷◌, length, get_or, Option, Some, None}
-use Rattle.std.proofs.Common.{IfSome, arith}
-use Rattle.std.specs.Prelude.{nat_lt}
-use Rattle.std.specs.List.{AllByRecursion}
-use Rattle.std.proofs.lemmas.Bool.{and_parts, cond_both, ltb-true}
-use Rattle.ttp_world.specs.declared.medl.Medl.{Medl}
-use Rattle.ttp_world.specs.declared.node.Chosen.{Chosen}
-use Rattle.ttp_world.specs.declared.node.CState.{CState}
-use Rattle.ttp_world.specs.declared.node.Delivered.{Delivered}
-use Rattle.ttp_world.specs.declared.node.Entry.{Entry}
+use Rattle.ttp_world.proofs.Words.{◌≡◌, ℕ, zero, suc, ◌<◌, ℤ, true, ◌&&◌, List, [], ◌∷◌, length, get_or, Option, Some}
+use Rattle.ttp_world.proofs.Words.{None, IfSome, arith, nat_lt, AllByRecursion, and_parts, cond_both, ltb-true, Medl}
+use Rattle.ttp_world.proofs.Words.{Chosen, CState, Delivered, Entry, Script, coming_place, is_correct, carries_payload}
+use Rattle.ttp_world.proofs.Words.{delivery, Diary, History, entry_of, diary_of, is_active, Place, no_place, next_place}
+use Rattle.ttp_world.proofs.Words.{stint_place, joinable, member_width, IsValid, messages_of, delivered_of, NodePast}
+use Rattle.ttp_world.proofs.Words.{Hearing, node_past, slot_after, node_of, frames_in, hearing_in, row_in}
 use Rattle.ttp_world.specs.declared.node.Entry.TheVariants as entry
-use Rattle.ttp_world.specs.declared.script.Script.{Script}
-use Rattle.ttp_world.specs.Act.{coming_place}
-use Rattle.ttp_world.specs.Acknowledgement.{is_correct}
-use Rattle.ttp_world.specs.Conduct.{carries_payload, delivery}
-use Rattle.ttp_world.specs.Diary.{Diary, History, entry_of, diary_of, is_active, Place, no_place, next_place}
-use Rattle.ttp_world.specs.Diary.{joined_place, stint_place, place_of}
-use Rattle.ttp_world.specs.Fitting.{is_joinable_state, carried, joinable}
-use Rattle.ttp_world.specs.Medl.{member_width, IsValid}
-use Rattle.ttp_world.specs.Messages.{messages_of, delivered_of}
-use Rattle.ttp_world.specs.Past.{NodePast}
-use Rattle.ttp_world.specs.Reception.{Hearing}
-use Rattle.ttp_world.specs.World.{node_past, slot_after, node_of, frames_in, hearing_in, row_in}
+use Rattle.ttp_world.specs.Diary.{joined_place, place_of}
+use Rattle.ttp_world.specs.Fitting.{is_joinable_state, carried}
 use Rattle.ttp_world.proofs.Lists.{IsPlaceOf, IsPlaceOf-none, IsPlaceOf-next}
 use Rattle.ttp_world.proofs.Pasts.{elim_both}
 use Rattle.ttp_world.proofs.Slots.{length-row_in, entry_of-row_after-holds}

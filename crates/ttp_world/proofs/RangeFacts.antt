@@ -1,7 +1,9 @@
 -- Tests of the numbers of a range.
-use Rattle.std.proofs.Common.{◌≡◌, ◌≢◌, ℕ, zero, suc, ◌+◌, ◌-◌, ◌<◌, ◌≤◌, Bool, true, ◌||◌, ◌⊎◌, ap, ◌∙◌, inl, inr, arith, false, cond, Some, None, refl}
-use Rattle.std.proofs.lemmas.Bool.{or_left, or_right, cases_eq}
-use Rattle.std.specs.List.{list_any, range_with_len, find}
+use Rattle.ttp_world.proofs.Words.{◌≡◌, ◌≢◌, ℕ, zero, suc, ◌+◌, ◌-◌, ◌<◌, ◌≤◌, Bool, true, ◌||◌, ap, ◌∙◌, inl, inr}
+use Rattle.ttp_world.proofs.Words.{arith, false, cond, Some, None, refl, cases_eq, list_any, range_with_len}
+use Rattle.std.proofs.Common.{◌⊎◌}
+use Rattle.std.proofs.lemmas.Bool.{or_left, or_right}
+use Rattle.std.specs.List.{find}
 
 pub any-range : (p : ℕ → Bool) (a n slot : ℕ) → a ≤ slot → slot < a + n → p slot ≡ true
     → list_any p (range_with_len a n) ≡ true

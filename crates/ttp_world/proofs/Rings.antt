@@ -1,18 +1,9 @@
 -- The messages of rings: they only become more, and the first is the zeros.
-use Rattle.std.proofs.Common.{◌≡◌, ℕ, zero, suc, ◌≤◌, List, [], ◌∷◌, ◌++◌, length, get_or, refl, ap, arith}
-use Rattle.std.proofs.Common.{length-append}
-use Rattle.std.specs.Prelude.{is_some}
-use Rattle.ttp_world.specs.declared.medl.Medl.{Medl}
-use Rattle.ttp_world.specs.declared.node.Entry.{Entry}
-use Rattle.ttp_world.specs.declared.script.Script.{Script}
-use Rattle.ttp_world.specs.declared.script.Source.{Source}
+use Rattle.ttp_world.proofs.Words.{◌≡◌, ℕ, zero, suc, ◌≤◌, List, [], ◌∷◌, ◌++◌, length, get_or, refl, ap, arith}
+use Rattle.ttp_world.proofs.Words.{length-append, is_some, Medl, Entry, Script, Source, History, delivered_of}
+use Rattle.ttp_world.proofs.Words.{new_messages, in_messages, status_words, status_messages, ring_messages}
+use Rattle.ttp_world.proofs.Words.{newest_number, zeros_of, messages_before, out_messages, messages_written, node_past}
 use Rattle.ttp_world.specs.declared.script.Source.TheVariants as source
-use Rattle.ttp_world.specs.Diary.{History}
-use Rattle.ttp_world.specs.Messages.{delivered_of, new_messages, in_messages, status_words, status_messages}
-use Rattle.ttp_world.specs.Messages.{ring_messages, newest_number}
-use Rattle.ttp_world.specs.Outgoing.{zeros_of, messages_before, out_messages}
-use Rattle.ttp_world.specs.Script.{messages_written}
-use Rattle.ttp_world.specs.World.{node_past}
 
 newest_number-append : (xs ys : List (List ℕ)) → newest_number xs ≤ newest_number (xs ++ ys)
 newest_number-append xs ys = omega (arith, length-append xs ys)

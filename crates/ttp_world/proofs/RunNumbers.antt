@@ -1,12 +1,6 @@
 -- Message numbers that are those of a run: each that was sent, and one for each read.
-use Rattle.std.proofs.Common.{◌≡◌, ℕ, ◌<◌, ◌^◌, List, [], ◌∷◌, length, IfSome, refl, arith}
-use Rattle.std.specs.List.{AllByRecursion}
-use Rattle.ttp_world.specs.declared.medl.Medl.{Medl}
-use Rattle.ttp_world.specs.declared.node.Entry.{Entry}
-use Rattle.ttp_world.specs.declared.script.Script.{Script}
-use Rattle.ttp_world.specs.Diary.{History, entry_of}
-use Rattle.ttp_world.specs.Messages.{message_of}
-use Rattle.ttp_world.specs.World.{SlotNumbers, Numbers}
+use Rattle.ttp_world.proofs.Words.{◌≡◌, ℕ, ◌<◌, ◌^◌, List, [], ◌∷◌, length, IfSome, refl, arith, AllByRecursion, Medl}
+use Rattle.ttp_world.proofs.Words.{Entry, Script, History, entry_of, message_of, SlotNumbers, Numbers}
 use Rattle.ttp_world.proofs.LegalShapes.{HasShape}
 
 -- the numbers of a slot have the shape that its row gives them, and a word of a line can hold each

@@ -1,32 +1,18 @@
 -- Silence does not depend on what frames hold, so a slot was silent to a node by the entries of those that sent.
-use Rattle.std.proofs.Common.{◌≡◌, ℕ, ℤ, Bool, true, false, cond, ◌&&◌, List, [], ◌∷◌, ◌++◌, length, Option, Some}
-use Rattle.std.proofs.Common.{None, IfSome, refl, ap, sym, ◌∙◌}
-use Rattle.std.specs.Prelude.{map}
-use Rattle.std.specs.List.{filter, flat_map}
-use Rattle.std.proofs.lemmas.List.{map-append}
-use Rattle.ttp_base.specs.NodeSet.{below}
-use Rattle.ttp_base.proofs.Below.{flat_map_agree-below}
-use Rattle.ttp_world.specs.declared.medl.Medl.{Medl}
-use Rattle.ttp_world.specs.declared.node.Act.{Act}
-use Rattle.ttp_world.specs.declared.node.Act.TheVariants.{Off, Gone, Listen, Start, Retry, Leave, Send, Judge}
-use Rattle.ttp_world.specs.declared.node.Chosen.{Chosen}
-use Rattle.ttp_world.specs.declared.node.CState.{CState}
-use Rattle.ttp_world.specs.declared.node.Entry.{Entry}
+use Rattle.ttp_world.proofs.Words.{◌≡◌, ℕ, ℤ, Bool, true, false, cond, ◌&&◌, List, [], ◌∷◌, ◌++◌, length, Option, Some}
+use Rattle.ttp_world.proofs.Words.{None, IfSome, refl, ap, sym, ◌∙◌, map, filter, map-append, below}
+use Rattle.ttp_world.proofs.Words.{flat_map_agree-below, Medl, Act, Off, Gone, Listen, Start, Retry, Leave, Send, Judge}
+use Rattle.ttp_world.proofs.Words.{Chosen, CState, Entry, Channel, Script, node_frames, new_entry, entry_of, joinable}
+use Rattle.ttp_world.proofs.Words.{SentFrame, Signal, Silence, Noise, Bits, remains, remaining_frames, combined_signal}
+use Rattle.ttp_world.proofs.Words.{with_noise, heard, NodePast, Hearing, has_send_fault, has_receive_fault, BegunSlot}
+use Rattle.ttp_world.proofs.Words.{node_of, chosen_of, frames_of, frames_in, hearing_in, row_in}
+use Rattle.std.specs.List.{flat_map}
 use Rattle.ttp_world.specs.declared.node.Entry.TheVariants as entry
-use Rattle.ttp_world.specs.declared.script.Channel.{Channel}
 use Rattle.ttp_world.specs.declared.script.Channel.TheVariants as channel
 use Rattle.ttp_world.specs.declared.script.Fault.TheVariants as fault
-use Rattle.ttp_world.specs.declared.script.Script.{Script}
-use Rattle.ttp_world.specs.Conduct.{node_frames, new_entry}
-use Rattle.ttp_world.specs.Diary.{entry_of}
-use Rattle.ttp_world.specs.Fitting.{joinable}
-use Rattle.ttp_world.specs.Medium.{SentFrame, Signal, Silence, Noise, Bits, is_silence, remains, remaining_frames}
-use Rattle.ttp_world.specs.Medium.{combined_signal, with_noise, heard, is_silent_to, is_sending, sender_only}
+use Rattle.ttp_world.specs.Medium.{is_silence}
+use Rattle.ttp_world.specs.Medium.{is_silent_to, is_sending, sender_only}
 use Rattle.ttp_world.specs.Medium.{senders_in}
-use Rattle.ttp_world.specs.Past.{NodePast}
-use Rattle.ttp_world.specs.Reception.{Hearing}
-use Rattle.ttp_world.specs.Script.{has_send_fault, has_receive_fault}
-use Rattle.ttp_world.specs.World.{BegunSlot, node_of, chosen_of, frames_of, frames_in, hearing_in, row_in}
 use Rattle.ttp_world.proofs.EntriesMade.{listening_entry-holds, judging_entry-holds}
 use Rattle.ttp_world.proofs.Slots.{length-row_in, entry_of-row_in}
 

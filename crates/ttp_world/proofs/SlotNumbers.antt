@@ -1,29 +1,18 @@
 -- The numbers that the lines of a slot name.
-use Rattle.std.proofs.Common.{◌≡◌, ◌≢◌, ℕ, ◌<◌, ◌^◌, Bool, false, cond, List, [], ◌∷◌, ◌++◌}
-use Rattle.std.proofs.Common.{length, Option, Some, None, IfSome, refl, sym, ap, ◌∙◌, arith, map, find, filter_map}
-use Rattle.std.proofs.Common.{option_and_then, count_by, codes, append_assoc}
-use Rattle.std.specs.Prelude.{◌==◌}
-use Rattle.std.specs.List.{AllByRecursion, cons_option}
-use Rattle.std.proofs.lemmas.List.{map-append, length-map}
+use Rattle.ttp_world.proofs.Words.{◌≡◌, ◌≢◌, ℕ, ◌<◌, ◌^◌, Bool, false, cond, List, [], ◌∷◌, ◌++◌, length, Option, Some}
+use Rattle.ttp_world.proofs.Words.{None, IfSome, refl, sym, ap, ◌∙◌, arith, map, option_and_then, count_by, codes}
+use Rattle.ttp_world.proofs.Words.{append_assoc, ◌==◌, AllByRecursion, cons_option, map-append, length-map}
+use Rattle.ttp_world.proofs.Words.{filter_map-append, below, map_agree-below, map_each-below, Medl, Entry, Script}
+use Rattle.ttp_world.proofs.Words.{History, entry_of, ReadMessage, read_messages, message_of, state_of, HostWrite}
+use Rattle.ttp_world.proofs.Words.{writes_in, reads_in, member_digits, message_shown, entry_word, node_line_of}
+use Rattle.ttp_world.proofs.Words.{more_write_lines, write_lines, read_line, read_lines, slot_lines, words_of, word_in}
+use Rattle.ttp_world.proofs.Words.{number_named, is_sending_line, number_read, slot_numbers, SlotNumbers, node_past}
+use Rattle.std.proofs.Common.{find, filter_map}
 use Rattle.std.proofs.Math.ListN.{get_or-map}
-use Rattle.std.proofs.lemmas.List.Elements.{filter_map-append}
 use Rattle.std.proofs.lemmas.List.FromFn.{fill_by_all}
-use Rattle.ttp_base.specs.NodeSet.{below}
-use Rattle.ttp_base.proofs.Below.{map_agree-below, map_each-below}
-use Rattle.ttp_world.specs.declared.medl.Medl.{Medl}
-use Rattle.ttp_world.specs.declared.node.Entry.{Entry}
 use Rattle.ttp_world.specs.declared.node.Entry.TheVariants as entry
-use Rattle.ttp_world.specs.declared.script.Script.{Script}
-use Rattle.ttp_world.specs.Diary.{History, entry_of}
-use Rattle.ttp_world.specs.Legal.{ReadMessage, read_messages}
-use Rattle.ttp_world.specs.Messages.{message_of}
-use Rattle.ttp_world.specs.Past.{state_of}
-use Rattle.ttp_world.specs.Script.{HostWrite, HostRead, writes_in, reads_in}
-use Rattle.ttp_world.specs.Trace.{member_digits, message_shown, entry_word, node_line_of, more_write_lines, write_lines}
-use Rattle.ttp_world.specs.Trace.{read_line, read_lines, slot_lines}
-use Rattle.ttp_world.specs.TraceNumbers.{words_of, word_in, number_named, is_sending_line, number_sent, number_read}
-use Rattle.ttp_world.specs.TraceNumbers.{slot_numbers}
-use Rattle.ttp_world.specs.World.{SlotNumbers, node_past}
+use Rattle.ttp_world.specs.Script.{HostRead}
+use Rattle.ttp_world.specs.TraceNumbers.{number_sent}
 use Rattle.ttp_world.proofs.LineLists.{each-append, map_of_map, find-between, find-below, filter_map-none}
 use Rattle.ttp_world.proofs.LineLists.{filter_map-between}
 use Rattle.ttp_world.proofs.LineNumbers.{IsOther, sending-other, read-other, other_by_slot, sending-host, read-node}

@@ -1,15 +1,9 @@
 -- A slot that has begun, node by node, and its row, entry by entry.
-use Rattle.std.proofs.Common.{◌≡◌, ℕ, ◌<◌, List, length, subst, ap, sym, ◌∙◌, arith}
-use Rattle.std.proofs.lemmas.List.FromFn.{get_or-map-range_with_len, length-map-range_with_len}
-use Rattle.ttp_world.specs.declared.medl.Medl.{Medl}
-use Rattle.ttp_world.specs.declared.node.Chosen.{Chosen}
-use Rattle.ttp_world.specs.declared.node.Entry.{Entry}
+use Rattle.ttp_world.proofs.Words.{◌≡◌, ℕ, ◌<◌, List, length, subst, ap, sym, ◌∙◌, arith, get_or-map-range_with_len}
+use Rattle.ttp_world.proofs.Words.{length-map-range_with_len, Medl, Chosen, Entry, Script, new_entry, History, entry_of}
+use Rattle.ttp_world.proofs.Words.{BegunSlot, slot_after, node_of, chosen_of, frames_in, hearing_in, entry_in, row_in}
 use Rattle.ttp_world.specs.declared.node.Entry.TheVariants as entry
-use Rattle.ttp_world.specs.declared.script.Script.{Script}
-use Rattle.ttp_world.specs.Conduct.{new_entry}
-use Rattle.ttp_world.specs.Diary.{History, entry_of}
-use Rattle.ttp_world.specs.World.{BegunNode, BegunSlot, node_after, slot_after, no_node, node_of, chosen_of, frames_in}
-use Rattle.ttp_world.specs.World.{hearing_in, entry_in, row_in}
+use Rattle.ttp_world.specs.World.{BegunNode, node_after, no_node}
 use Rattle.ttp_world.proofs.EntriesMade.{HoldOfEntries, new_entry-holds}
 
 -- each node of the slot after a history

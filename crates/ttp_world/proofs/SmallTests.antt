@@ -1,10 +1,8 @@
 -- Tests of numbers and of truth values.
-use Rattle.std.proofs.Common.{◌≡◌, ℤ, ◌≤ℤ◌, true, arith, ℕ, suc, false, Bool, ◌&&◌, ap, ◌∙◌, ◌≤◌, neg_ℤ, unsigned_abs, refl, ◌||◌, ◌+◌, ◌*◌, ◌^◌, ◌<◌, List, bytes_eq, pos, ◌+ℤ◌}
-use Rattle.std.proofs.lemmas.Bool.Decides.{nat_tests}
+use Rattle.ttp_world.proofs.Words.{◌≡◌, ℤ, ◌≤ℤ◌, true, arith, ℕ, suc, false, Bool, ◌&&◌, ap, ◌∙◌, ◌≤◌, neg_ℤ}
+use Rattle.ttp_world.proofs.Words.{unsigned_abs, refl, ◌||◌, ◌+◌, ◌*◌, ◌^◌, ◌<◌, List, bytes_eq, pos, ◌+ℤ◌, nat_tests}
+use Rattle.ttp_world.proofs.Words.{ints, bytes_eq-Decides, int_le, ◌==◌}
 use Rattle.std.proofs.lemmas.Grind.{pow_more}
-use Rattle.std.proofs.lemmas.Int.{ints}
-use Rattle.std.proofs.lemmas.Slice.Eq.{bytes_eq-Decides}
-use Rattle.std.specs.Prelude.{int_le, ◌==◌}
 use Rattle.ttp_world.specs.Hypothesis.{is_within_bound}
 use Rattle.ttp_world.specs.Script.{IsWithinSpan}
 

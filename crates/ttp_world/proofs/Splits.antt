@@ -1,13 +1,9 @@
 -- Lists that a place splits by a test.
-use Rattle.std.proofs.Common.{◌≡◌, ℕ, zero, suc, ◌-◌, ◌<◌, ◌≤◌, Bool, true, false, List, [], ◌∷◌, length, get_or, ap}
-use Rattle.std.proofs.Common.{arith}
-use Rattle.std.specs.Prelude.{nat_le, nat_lt}
-use Rattle.std.specs.List.Sorted.{IsNonDecreasingBy}
-use Rattle.std.proofs.lemmas.Bool.{leb-true, leb-false, le-leb, lt-leb}
+use Rattle.ttp_world.proofs.Words.{◌≡◌, ℕ, zero, suc, ◌-◌, ◌<◌, ◌≤◌, Bool, true, false, List, [], ◌∷◌, length, get_or}
+use Rattle.ttp_world.proofs.Words.{ap, arith, nat_le, nat_lt, IsNonDecreasingBy, leb-true, leb-false, le-leb, Step}
+use Rattle.ttp_world.proofs.Words.{first_step, step_is_by, SplitsAt}
+use Rattle.std.proofs.lemmas.Bool.{lt-leb}
 use Rattle.std.proofs.lemmas.List.{get_or_default}
-use Rattle.ttp_world.specs.declared.index.Step.{Step}
-use Rattle.ttp_world.specs.Index.{first_step, step_is_by}
-use Rattle.ttp_world.specs.Sorted.{SplitsAt}
 
 -- without the first element, which passes or fails
 pub splits-head_in : {X : Type 0} (p : X → Bool) (x : X) (xs : List X) (place : ℕ) → SplitsAt p (x ∷ xs) (suc place)

@@ -1,18 +1,13 @@
 -- The start that the hypothesis test knows: one node starts alone, and each node that is ever on is on by then.
-use Rattle.std.proofs.Common.{◌≡◌, ◌≢◌, ℕ, zero, suc, ◌+◌, ◌<◌, ◌≤◌, Bool, true, false, not, ◌||◌}
-use Rattle.std.proofs.Common.{List, [], ◌∷◌, length, Option, Some, None, refl, ap, sym, subst, ◌∙◌, inl, inr, arith}
-use Rattle.std.specs.Prelude.{if◌then◌else◌}
-use Rattle.std.specs.List.{AllByRecursion, filter, filter_map, range_with_len}
-use Rattle.std.proofs.lemmas.Bool.{cases_eq, eqb-true, eq-eqb, ne_eqb, both_ways}
-use Rattle.std.proofs.lemmas.Option.{none-some, same_Some}
-use Rattle.ttp_base.specs.NodeSet.{has_node}
-use Rattle.ttp_base.proofs.Below.{each-below}
-use Rattle.ttp_base.proofs.NodeSets.{has_node-sieve}
-use Rattle.ttp_world.specs.declared.medl.Medl.{Medl}
-use Rattle.ttp_world.specs.declared.script.Script.{Script}
-use Rattle.ttp_world.specs.Hypothesis.{ClusterStart, lesser, least_of, start_slot, is_exactly, starts_in, are_all_on}
+use Rattle.ttp_world.proofs.Words.{◌≡◌, ◌≢◌, ℕ, zero, suc, ◌+◌, ◌<◌, ◌≤◌, Bool, true, false, not, ◌||◌, List, [], ◌∷◌}
+use Rattle.ttp_world.proofs.Words.{length, Option, Some, None, refl, ap, sym, subst, ◌∙◌, inl, inr, arith}
+use Rattle.ttp_world.proofs.Words.{if◌then◌else◌, AllByRecursion, filter, range_with_len, cases_eq, eqb-true, eq-eqb}
+use Rattle.ttp_world.proofs.Words.{ne_eqb, both_ways, none-some, same_Some, has_node, each-below, has_node-sieve, Medl}
+use Rattle.ttp_world.proofs.Words.{Script, ClusterStart, lesser, least_of, is_on}
+use Rattle.std.specs.List.{filter_map}
+use Rattle.ttp_world.specs.Hypothesis.{start_slot, is_exactly, starts_in, are_all_on}
 use Rattle.ttp_world.specs.Hypothesis.{only_starter, start_in, start_of, nodes_of}
-use Rattle.ttp_world.specs.Script.{is_ever_on, is_on}
+use Rattle.ttp_world.specs.Script.{is_ever_on}
 use Rattle.ttp_world.specs.Starts.{StartsAlone}
 use Rattle.ttp_world.proofs.Filters.{each-sieve}
 

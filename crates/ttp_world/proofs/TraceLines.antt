@@ -1,36 +1,19 @@
 -- Each line of a trace is one line: its one line feed is its last byte.
-use Rattle.std.proofs.Common.{◌≡◌, ℕ, ◌+◌, ◌<◌, Bool, true, false, List, [], ◌∷◌, ◌++◌, length, get_or, Option, refl, arith}
-use Rattle.std.proofs.Common.{map, count_by, codes, decimal}
-use Rattle.std.specs.Prelude.{◌==◌}
-use Rattle.std.specs.Fmt.{signed_decimal}
-use Rattle.std.specs.List.{AllByRecursion}
-use Rattle.std.proofs.lemmas.List.Folds.{list_any-append}
-use Rattle.ttp_base.specs.NodeSet.{below, set_bits}
-use Rattle.ttp_base.specs.Text.{newline, is_line, hex}
-use Rattle.ttp_base.proofs.Below.{map_each-below}
+use Rattle.ttp_world.proofs.Words.{◌≡◌, ℕ, ◌+◌, ◌<◌, Bool, true, false, List, [], ◌∷◌, ◌++◌, length, get_or, Option}
+use Rattle.ttp_world.proofs.Words.{refl, arith, map, count_by, codes, decimal, ◌==◌, signed_decimal, AllByRecursion}
+use Rattle.ttp_world.proofs.Words.{list_any-append, below, set_bits, newline, hex, map_each-below, has, has-decimal}
+use Rattle.ttp_world.proofs.Words.{has-hex, Back, Keep, Medl, Entry, NodeState, Script, History, keeps, ReadMessage}
+use Rattle.ttp_world.proofs.Words.{read_messages, ring_messages, messages_before, state_of, has_arm, returns, HostWrite}
+use Rattle.ttp_world.proofs.Words.{writes_in, reads_in, number_or_dash, entry_word, peer_of, ack_word, member_digits}
+use Rattle.ttp_world.proofs.Words.{message_shown, trace_head, node_line, node_line_of, write_line, more_write_lines}
+use Rattle.ttp_world.proofs.Words.{write_lines, source_word, message_hex, read_line, read_lines, keep_line, back_line}
+use Rattle.ttp_world.proofs.Words.{slot_lines, history_lines, back_lines_if, test_lines, trace_lines, SlotNumbers}
+use Rattle.ttp_world.proofs.Words.{Numbers, node_past, world}
+use Rattle.ttp_base.specs.Text.{is_line}
 use Rattle.ttp_base.proofs.Lines.{is_line-append}
-use Rattle.ttp_base.proofs.Numerals.{has, has-decimal, has-signed, has-hex}
-use Rattle.ttp_world.specs.declared.keep.Back.{Back}
+use Rattle.ttp_base.proofs.Numerals.{has-signed}
 use Rattle.ttp_world.specs.declared.keep.Back.TheVariants as back
-use Rattle.ttp_world.specs.declared.keep.Keep.{Keep}
 use Rattle.ttp_world.specs.declared.keep.Keep.TheVariants as keep
-use Rattle.ttp_world.specs.declared.medl.Medl.{Medl}
-use Rattle.ttp_world.specs.declared.node.Entry.{Entry}
-use Rattle.ttp_world.specs.declared.node.NodeState.{NodeState}
-use Rattle.ttp_world.specs.declared.script.Script.{Script}
-use Rattle.ttp_world.specs.Diary.{History}
-use Rattle.ttp_world.specs.Hypothesis.{keeps}
-use Rattle.ttp_world.specs.Legal.{ReadMessage, read_messages}
-use Rattle.ttp_world.specs.Messages.{ring_messages}
-use Rattle.ttp_world.specs.Outgoing.{messages_before}
-use Rattle.ttp_world.specs.Past.{state_of}
-use Rattle.ttp_world.specs.Returning.{has_arm, returns}
-use Rattle.ttp_world.specs.Script.{HostWrite, writes_in, reads_in}
-use Rattle.ttp_world.specs.Trace.{number_or_dash, entry_word, peer_of, ack_word, member_digits, message_shown}
-use Rattle.ttp_world.specs.Trace.{trace_head, node_line, node_line_of, write_line, more_write_lines, write_lines}
-use Rattle.ttp_world.specs.Trace.{source_word, message_hex, read_line, read_lines, keep_line, back_line}
-use Rattle.ttp_world.specs.Trace.{slot_lines, history_lines, back_lines_if, test_lines, trace_lines}
-use Rattle.ttp_world.specs.World.{SlotNumbers, Numbers, node_past, world}
 use Rattle.ttp_world.proofs.LineLists.{each-append}
 use Rattle.ttp_world.proofs.TraceWords.{has-entry_word, has-number_or_dash, has-ack_word, has-source_word}
 use Rattle.ttp_world.proofs.TraceWords.{has-message_hex}

@@ -1,24 +1,12 @@
 -- The numbers that the lines of a trace name are those of its run.
-use Rattle.std.proofs.Common.{◌≡◌, ℕ, suc, ◌<◌, ◌≤◌, ◌^◌, List, [], ◌∷◌, ◌++◌, length, refl, sym, ap, ◌∙◌, arith}
-use Rattle.std.proofs.Common.{Bool, true, false, subst, append_assoc, map, codes}
-use Rattle.std.specs.List.{AllByRecursion}
-use Rattle.std.proofs.lemmas.List.{map-append}
-use Rattle.ttp_world.specs.declared.keep.Back.{Back}
+use Rattle.ttp_world.proofs.Words.{◌≡◌, ℕ, suc, ◌<◌, ◌≤◌, ◌^◌, List, [], ◌∷◌, ◌++◌, length, refl, sym, ap, ◌∙◌, arith}
+use Rattle.ttp_world.proofs.Words.{Bool, true, false, subst, append_assoc, map, codes, AllByRecursion, map-append, Back}
+use Rattle.ttp_world.proofs.Words.{Keep, Medl, Script, History, keeps, IsLegal, IsValid, has_arm, returns}
+use Rattle.ttp_world.proofs.Words.{IsValidScript, slot_lines, history_lines, trace_head, keep_line, back_line}
+use Rattle.ttp_world.proofs.Words.{back_lines_if, test_lines, trace_lines, words_of, slot_numbers, Numbers, world}
 use Rattle.ttp_world.specs.declared.keep.Back.TheVariants as back
-use Rattle.ttp_world.specs.declared.keep.Keep.{Keep}
 use Rattle.ttp_world.specs.declared.keep.Keep.TheVariants as keep
-use Rattle.ttp_world.specs.declared.medl.Medl.{Medl}
-use Rattle.ttp_world.specs.declared.script.Script.{Script}
-use Rattle.ttp_world.specs.Diary.{History}
-use Rattle.ttp_world.specs.Hypothesis.{keeps}
-use Rattle.ttp_world.specs.Legal.{IsLegal}
-use Rattle.ttp_world.specs.Medl.{IsValid}
-use Rattle.ttp_world.specs.Returning.{has_arm, returns}
-use Rattle.ttp_world.specs.Script.{IsValidScript}
-use Rattle.ttp_world.specs.Trace.{slot_lines, history_lines, trace_head, keep_line, back_line, back_lines_if}
-use Rattle.ttp_world.specs.Trace.{test_lines, trace_lines}
-use Rattle.ttp_world.specs.TraceNumbers.{words_of, slot_numbers, numbers_below, numbers_in}
-use Rattle.ttp_world.specs.World.{Numbers, world}
+use Rattle.ttp_world.specs.TraceNumbers.{numbers_below, numbers_in}
 use Rattle.ttp_world.proofs.LineLists.{each-append}
 use Rattle.ttp_world.proofs.LineNumbers.{IsOther}
 use Rattle.ttp_world.proofs.NumberWords.{word-no_number}

@@ -1,22 +1,15 @@
 -- What no word of a trace has: a byte below 45, as a space or a line feed.
-use Rattle.std.proofs.Common.{◌≡◌, ℕ, ◌≤◌, ◌<◌, true, false, List, [], ◌∷◌, Option, Some, None, refl}
-use Rattle.std.proofs.Common.{arith, codes}
-use Rattle.std.specs.Prelude.{◌==◌, nat_le}
-use Rattle.std.specs.List.{list_all}
-use Rattle.std.proofs.lemmas.Bool.{and_parts, leb-true, ne_eqb, or_from}
-use Rattle.ttp_base.proofs.Numerals.{has, has-append, has-decimal, has-hex, has-hex_bytes}
-use Rattle.ttp_world.specs.declared.node.Ack.{Ack}
+use Rattle.ttp_world.proofs.Words.{◌≡◌, ℕ, ◌≤◌, ◌<◌, true, false, List, [], ◌∷◌, Option, Some, None, refl, arith, codes}
+use Rattle.ttp_world.proofs.Words.{◌==◌, nat_le, list_all, and_parts, leb-true, ne_eqb, has, has-decimal, has-hex, Ack}
+use Rattle.ttp_world.proofs.Words.{Entry, Reason, Verdict, Source, number_or_dash, verdict_word, reason_word}
+use Rattle.ttp_world.proofs.Words.{entry_word, ack_word, word_hex, source_word, message_hex}
+use Rattle.std.proofs.lemmas.Bool.{or_from}
+use Rattle.ttp_base.proofs.Numerals.{has-append, has-hex_bytes}
 use Rattle.ttp_world.specs.declared.node.Ack.TheVariants as ack
-use Rattle.ttp_world.specs.declared.node.Entry.{Entry}
 use Rattle.ttp_world.specs.declared.node.Entry.TheVariants as entry
-use Rattle.ttp_world.specs.declared.node.Reason.{Reason}
 use Rattle.ttp_world.specs.declared.node.Reason.TheVariants as reason
-use Rattle.ttp_world.specs.declared.node.Verdict.{Verdict}
 use Rattle.ttp_world.specs.declared.node.Verdict.TheVariants as verdict
-use Rattle.ttp_world.specs.declared.script.Source.{Source}
 use Rattle.ttp_world.specs.declared.script.Source.TheVariants as source
-use Rattle.ttp_world.specs.Trace.{number_or_dash, verdict_word, reason_word, entry_word, ack_word, word_hex}
-use Rattle.ttp_world.specs.Trace.{source_word, message_hex}
 
 -- letters, digits, dashes and colons are bytes from 45 on
 has-letters : (b : ℕ) (word : List ℕ) → b < 45 → list_all (nat_le 45) word ≡ true → has b word ≡ false

@@ -1,14 +1,10 @@
 -- A script in which no host writes or reads: there are no writes and no reads in any slot.
-use Rattle.std.proofs.Common.{◌≡◌, ℕ, ◌+◌, Bool, true, false, cond, Option, None, List, [], ◌∷◌}
-use Rattle.std.proofs.Common.{refl, sym, ◌∙◌, arith}
-use Rattle.std.specs.Prelude.{count_by}
-use Rattle.std.specs.List.{cons_option, filter_map}
-use Rattle.std.proofs.lemmas.Bool.{false≢true}
-use Rattle.std.proofs.lemmas.List.Sums.{sum_by-cons}
-use Rattle.ttp_world.specs.declared.script.Event.{Event}
+use Rattle.ttp_world.proofs.Words.{◌≡◌, ℕ, ◌+◌, Bool, true, false, cond, Option, None, List, [], ◌∷◌, refl, sym, ◌∙◌}
+use Rattle.ttp_world.proofs.Words.{arith, count_by, cons_option, false≢true, sum_by-cons, Event, Script, write_in}
+use Rattle.ttp_world.proofs.Words.{read_in, writes_in, reads_in}
+use Rattle.std.specs.List.{filter_map}
 use Rattle.ttp_world.specs.declared.script.Event.TheVariants as event
-use Rattle.ttp_world.specs.declared.script.Script.{Script}
-use Rattle.ttp_world.specs.Script.{is_host_event, write_in, read_in, writes_in, reads_in}
+use Rattle.ttp_world.specs.Script.{is_host_event}
 
 -- Events that are none of hosts.
 

@@ -1,16 +1,14 @@
 -- How large the weights of events and of their sums are.
-use Rattle.std.proofs.Common.{ℕ, ◌+◌, ◌≤◌, ℤ, pos, neg_ℤ, ◌+ℤ◌, Bool, true, false, ◌&&◌, arith}
-use Rattle.std.proofs.lemmas.Int.{ints}
+use Rattle.ttp_world.proofs.Words.{ℕ, ◌+◌, ◌≤◌, ℤ, pos, neg_ℤ, ◌+ℤ◌, Bool, true, false, ◌&&◌, arith, ints, Event}
+use Rattle.ttp_world.proofs.Words.{ERROR_LIMIT, JUMP_LIMIT, Weights, is_same_fault, IsBounded, one_if, no_weights}
+use Rattle.ttp_world.proofs.Words.{weights_of, added, negated, AreWithin}
 use Rattle.ttp_world.specs.declared.script.Channels.{Channels}
-use Rattle.ttp_world.specs.declared.script.Event.{Event}
 use Rattle.ttp_world.specs.declared.script.Event.TheVariants as event
 use Rattle.ttp_world.specs.declared.script.Fault.TheVariants as fault
-use Rattle.ttp_world.specs.declared.script.TheConstants.{ERROR_LIMIT, JUMP_LIMIT}
 use Rattle.ttp_world.specs.declared.weights.Counts.{Counts}
-use Rattle.ttp_world.specs.declared.weights.Weights.{Weights}
-use Rattle.ttp_world.specs.Events.{is_same_fault, IsWithinSpan, IsBounded}
-use Rattle.ttp_world.specs.Weights.{one_if, no_counts, chosen_counts, added_counts, negated_counts, no_sums, no_weights}
-use Rattle.ttp_world.specs.Weights.{weights_of, added, negated, AreWithinCounts, AreWithinSums, AreWithin}
+use Rattle.ttp_world.specs.Events.{IsWithinSpan}
+use Rattle.ttp_world.specs.Weights.{no_counts, chosen_counts, added_counts, negated_counts, no_sums}
+use Rattle.ttp_world.specs.Weights.{AreWithinCounts, AreWithinSums}
 
 -- One number.
 

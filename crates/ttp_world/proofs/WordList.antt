@@ -1,6 +1,8 @@
 -- The words that an array holds, up to a count.
-use Rattle.std.proofs.Common.{◌≡◌, ℕ, ◌+◌, ◌<◌, ◌≤◌, List, [], ◌∷◌, ◌++◌, length, take, set, map, Bor, arith, ap, ◌∙◌}
-use Rattle.std.proofs.lemmas.List.{map-set, take_more_set, length-map, length-take}
+use Rattle.ttp_world.proofs.Words.{◌≡◌, ℕ, ◌+◌, ◌<◌, ◌≤◌, List, [], ◌∷◌, ◌++◌, length, take, set, map, arith, ap, ◌∙◌}
+use Rattle.ttp_world.proofs.Words.{length-map, length-take}
+use Rattle.std.proofs.Common.{Bor}
+use Rattle.std.proofs.lemmas.List.{map-set, take_more_set}
 
 -- the bytes that references point to
 abbrev pub all_now : List (Bor (List ℕ)) → List (List ℕ)

@@ -1,29 +1,16 @@
 -- What lists, scripts and worlds have at their places.
-use Rattle.std.proofs.Common.{◌≡◌, ℕ, zero, suc, ◌-◌, ◌≤◌, get_or, refl, arith, Some, true, Bool, length, sym, [], ◌∷◌, ◌+◌, ◌||◌, List, ◌++◌}
-use Rattle.std.proofs.lemmas.List.Folds.{list_any-append}
-use Rattle.std.specs.List.{AllByRecursion, filter}
-use Rattle.std.specs.Prelude.{slice_get, unwrap_or, ◌==◌}
-use Rattle.ttp_base.proofs.NodeLists.{filter-none}
-use Rattle.ttp_base.proofs.NodeSets.{same_sieve, has_node-sieve}
-use Rattle.ttp_base.specs.NodeSet.{below, has_node}
+use Rattle.ttp_world.proofs.Words.{◌≡◌, ℕ, zero, suc, ◌-◌, ◌≤◌, get_or, refl, arith, Some, true, Bool, length, sym, []}
+use Rattle.ttp_world.proofs.Words.{◌∷◌, ◌+◌, ◌||◌, List, ◌++◌, list_any-append, AllByRecursion, filter, unwrap_or, ◌==◌}
+use Rattle.ttp_world.proofs.Words.{filter-none, same_sieve, has_node-sieve, below, has_node, is_correct, IsBounded}
+use Rattle.ttp_world.proofs.Words.{ClusterStart, IsValid, no_plan, plan_at, AreNodes, verdict_of_view, IsValidEvent}
+use Rattle.ttp_world.proofs.Words.{Medl, SlotPlan, Ack, ChannelView, Event, Script}
+use Rattle.std.specs.Prelude.{slice_get}
 use Rattle.ttp_world.proofs.ListFacts.{all_there}
-use Rattle.ttp_world.specs.Acknowledgement.{is_correct}
-use Rattle.ttp_world.specs.Events.{IsBounded}
-use Rattle.ttp_world.specs.Hypothesis.{ClusterStart}
-use Rattle.ttp_world.specs.Medl.{IsValid, IsValidSlot, no_plan, plan_at}
-use Rattle.ttp_world.specs.Membership.{AreNodes}
-use Rattle.ttp_world.specs.Reception.{verdict_of_view}
+use Rattle.ttp_world.specs.Medl.{IsValidSlot}
 use Rattle.ttp_world.specs.Returning.{no_slot, slots_before}
-use Rattle.ttp_world.specs.Script.{IsValidEvent}
-use Rattle.ttp_world.specs.declared.medl.Medl.{Medl}
-use Rattle.ttp_world.specs.declared.medl.SlotPlan.{SlotPlan}
-use Rattle.ttp_world.specs.declared.node.Ack.{Ack}
 use Rattle.ttp_world.specs.declared.node.Ack.TheVariants as ack
-use Rattle.ttp_world.specs.declared.node.ChannelView.{ChannelView}
 use Rattle.ttp_world.specs.declared.node.ChannelView.TheVariants as view
-use Rattle.ttp_world.specs.declared.script.Event.{Event}
 use Rattle.ttp_world.specs.declared.script.Event.TheVariants as event
-use Rattle.ttp_world.specs.declared.script.Script.{Script}
 
 pub event-bounded : (list : Medl) (script : Script) (e : Event) → IsValidEvent list script e → IsBounded e
 event-bounded list script (event.Error node value from to) valid = valid.1

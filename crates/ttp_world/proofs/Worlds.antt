@@ -1,15 +1,8 @@
 -- The world that numbers make: how long it is, how wide its rows are, and that its entries speak of the list.
-use Rattle.std.proofs.Common.{◌≡◌, ℕ, zero, suc, ◌<◌, List, [], ◌∷◌, length, drop, refl, ap, sym, ◌∙◌}
-use Rattle.std.specs.Prelude.{map}
-use Rattle.std.specs.List.{AllByRecursion}
-use Rattle.ttp_world.specs.declared.medl.Medl.{Medl}
-use Rattle.ttp_world.specs.declared.node.Chosen.{Chosen}
-use Rattle.ttp_world.specs.declared.node.Entry.{Entry}
-use Rattle.ttp_world.specs.declared.script.Script.{Script}
-use Rattle.ttp_world.specs.Act.{coming_place}
-use Rattle.ttp_world.specs.Medl.{IsValid}
-use Rattle.ttp_world.specs.Messages.{message_of, delivered_of}
-use Rattle.ttp_world.specs.World.{SlotNumbers, Numbers, node_past, slot_after, messages_chosen, row_in, world}
+use Rattle.ttp_world.proofs.Words.{◌≡◌, ℕ, zero, suc, ◌<◌, List, [], ◌∷◌, length, drop, refl, ap, sym, ◌∙◌, map}
+use Rattle.ttp_world.proofs.Words.{AllByRecursion, Medl, Chosen, Entry, Script, coming_place, IsValid, message_of}
+use Rattle.ttp_world.proofs.Words.{delivered_of, SlotNumbers, Numbers, node_past, slot_after, messages_chosen, row_in}
+use Rattle.ttp_world.proofs.Words.{world}
 use Rattle.ttp_world.proofs.Carried.{AreOfHosts, row_in-told}
 use Rattle.ttp_world.proofs.Lists.{IsPlaceOf}
 use Rattle.ttp_world.proofs.Places.{AreOfList, coming_place-of_list, row_after-of_list, entry_of-of_list}

@@ -1,44 +1,31 @@
 -- The clocks of the nodes of a plan that loses none, where one sender may be two-faced: after each slot, and what they
 -- measure in the next.
-use Rattle.std.proofs.Common.{◌≡◌, ℕ, zero, suc, ◌+◌, ◌-◌, ◌<◌, ◌≤◌, ℤ, pos, ◌+ℤ◌, ◌-ℤ◌, ◌≤ℤ◌}
-use Rattle.std.proofs.Common.{Bool, true, false, cond, List, [], ◌∷◌, length, inl, inr, refl, ap, sym}
-use Rattle.std.proofs.Common.{subst, ◌∙◌, arith}
-use Rattle.std.specs.Prelude.{◌==◌}
-use Rattle.std.proofs.lemmas.Bool.{cases_eq, eqb-true}
-use Rattle.std.proofs.lemmas.Int.{ints}
-use Rattle.ttp_base.specs.NodeSet.{has_node}
-use Rattle.ttp_world.specs.declared.medl.Medl.{Medl}
-use Rattle.ttp_world.specs.declared.node.Entry.{Entry}
+use Rattle.two_faced.proofs.Words.{◌≡◌, ℕ, zero, suc, ◌+◌, ◌-◌, ◌<◌, ◌≤◌, ℤ, pos, ◌+ℤ◌, ◌-ℤ◌, ◌≤ℤ◌, Bool, true, false}
+use Rattle.two_faced.proofs.Words.{cond, List, [], ◌∷◌, length, inl, inr, refl, ap, sym, subst, ◌∙◌, arith, ◌==◌}
+use Rattle.two_faced.proofs.Words.{cases_eq, ints, has_node, Medl, Entry, Script, notes_in, History, entry_of}
+use Rattle.two_faced.proofs.Words.{ClusterStart, plan_at, drift_of, jump_of, reading_error, node_past, measured, IsUpTo}
+use Rattle.two_faced.proofs.Words.{clock_at-still, frame_of, frame_of-node, product_up, AreWithin, clock_after, Plan}
+use Rattle.two_faced.proofs.Words.{sender, planned_place, none-enters, IsSoundIn, NotedInSlot, clock_moved, sender-in}
+use Rattle.two_faced.proofs.Words.{bound}
+use Rattle.std.proofs.lemmas.Bool.{eqb-true}
 use Rattle.ttp_world.specs.declared.node.Entry.TheVariants as entry
-use Rattle.ttp_world.specs.declared.script.Script.{Script}
-use Rattle.ttp_world.specs.Clock.{join_deviation, notes_in}
+use Rattle.ttp_world.specs.Clock.{join_deviation}
 use Rattle.ttp_world.specs.Conduct.{cold_start_cstate}
-use Rattle.ttp_world.specs.Diary.{History, entry_of, diary_of, start_place, begins_stint, continues_stint}
+use Rattle.ttp_world.specs.Diary.{diary_of, start_place, begins_stint, continues_stint}
 use Rattle.ttp_world.specs.Diary.{stint_place}
-use Rattle.ttp_world.specs.Hypothesis.{ClusterStart}
 use Rattle.ttp_world.specs.Medium.{surroundings_in, surroundings_of}
-use Rattle.ttp_world.specs.Medl.{plan_at}
 use Rattle.ttp_world.specs.Reception.{is_within_window}
-use Rattle.ttp_world.specs.Script.{drift_of, jump_of, reading_error}
-use Rattle.ttp_world.specs.World.{node_past}
-use Rattle.precision.specs.Together.{measured}
-use Rattle.precision.proofs.Averages.{IsUpTo}
-use Rattle.precision.proofs.Entries.{begun_active, offset_corrected, notes_anew, begun_round_first, clock_at-still}
-use Rattle.precision.proofs.Frames.{frame_of, frame_of-node}
-use Rattle.precision.proofs.Rounds.{product_up, AreWithin, correction, corrected_last, corrected_inside}
+use Rattle.precision.proofs.Entries.{begun_active, offset_corrected, notes_anew, begun_round_first}
+use Rattle.precision.proofs.Rounds.{correction, corrected_last, corrected_inside}
 use Rattle.precision.proofs.Rounds.{product_once as one_drift}
-use Rattle.precision.proofs.Runs.{clock_after, round_notes}
-use Rattle.fault_plan.specs.Plan.{Plan, sender}
+use Rattle.precision.proofs.Runs.{round_notes}
 use Rattle.fault_plan.specs.Fates.{is_measured, tally}
-use Rattle.fault_plan.specs.Places.{planned_place}
 use Rattle.fault_plan.proofs.Counts.{four-measured}
 use Rattle.fault_plan.proofs.Members.{first-sender}
-use Rattle.fault_plan.proofs.Returns.{none-enters}
-use Rattle.safety_laws.specs.NotedByPlan.{IsSoundIn, StartedByPlan, NotedInSlot, NotedByPlan}
-use Rattle.safety_laws.proofs.NearNotes.{clock_moved, clock-next, notes-next, index-of}
-use Rattle.safety_laws.proofs.RoundNotes.{Counted, sound-goes, sender-in, place-slot}
+use Rattle.safety_laws.specs.NotedByPlan.{StartedByPlan, NotedByPlan}
+use Rattle.safety_laws.proofs.NearNotes.{clock-next, notes-next, index-of}
+use Rattle.safety_laws.proofs.RoundNotes.{Counted, sound-goes, place-slot}
 use Rattle.safety_laws.proofs.BeganTogether.{number-of, counted-run}
-use Rattle.two_faced.specs.Errors.{bound}
 use Rattle.two_faced.proofs.PulledNotes.{Locate, AreTurns, test_of}
 use Rattle.two_faced.proofs.FacedRounds.{width, in_round, Round, round_begins, round_goes, round_ends}
 use Rattle.two_faced.proofs.FacedRounds.{round_within, in_round_bound}

@@ -2,15 +2,12 @@
 -- correction at the end of the round, make of them.
 --
 -- The group began in slot s, and t slots are over, of which the last q are those of the round so far.
-use Rattle.std.proofs.Common.{◌≡◌, ℕ, suc, ◌+◌, ◌*◌, ◌<◌, ◌≤◌, ℤ, pos, negsuc, ◌+ℤ◌, ◌-ℤ◌, ◌*ℤ◌, ◌≤ℤ◌, inl, inr}
-use Rattle.std.proofs.Common.{List, [], ◌++◌, length, sym, ◌∙◌, arith}
-use Rattle.std.proofs.lemmas.Int.{ints}
-use Rattle.ttp_world.specs.declared.medl.Medl.{Medl}
-use Rattle.ttp_world.specs.Clock.{fta}
-use Rattle.precision.proofs.Averages.{IsUpTo, fta-few}
-use Rattle.precision.proofs.Rounds.{drift_in, product_more, product_upto, product_up, AreWithin, HaveDrifted}
+use Rattle.two_faced.proofs.Words.{◌≡◌, ℕ, suc, ◌+◌, ◌*◌, ◌<◌, ◌≤◌, ℤ, pos, negsuc, ◌+ℤ◌, ◌-ℤ◌, ◌*ℤ◌, ◌≤ℤ◌, inl, inr}
+use Rattle.two_faced.proofs.Words.{List, [], ◌++◌, length, sym, ◌∙◌, arith, ints, Medl, fta, IsUpTo, drift_in}
+use Rattle.two_faced.proofs.Words.{product_more, product_up, AreWithin, HaveDrifted, bound}
+use Rattle.precision.proofs.Averages.{fta-few}
+use Rattle.precision.proofs.Rounds.{product_upto}
 use Rattle.precision.proofs.Rounds.{few_or_many, early_or_late}
-use Rattle.two_faced.specs.Errors.{bound}
 use Rattle.two_faced.proofs.PulledNotes.{Locate, AreTurns, averages_pull, Locate-append, Locate-moved}
 use Rattle.two_faced.proofs.PulledNotes.{length-noted}
 

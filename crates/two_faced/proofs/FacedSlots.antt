@@ -1,35 +1,22 @@
 -- What the nodes of a plan that loses none note in one slot, where one sender may be two-faced.
-use Rattle.std.proofs.Common.{◌≡◌, ◌≢◌, ℕ, suc, ◌+◌, ◌-◌, ◌*◌, ◌%◌, ◌<◌, ℤ, pos, ◌+ℤ◌, ◌-ℤ◌, ◌≤ℤ◌, Bool, true, false}
-use Rattle.std.proofs.Common.{cond, ◌&&◌, List, [], ◌∷◌, ◌++◌, length, Some, refl, ap, sym, subst, ◌∙◌, arith}
-use Rattle.std.specs.Prelude.{nat_le, ◌==◌}
-use Rattle.std.specs.Int.{int_max}
-use Rattle.std.proofs.lemmas.Bool.{ne_eqb, and_left, and_right}
-use Rattle.std.proofs.lemmas.Int.{ints}
-use Rattle.ttp_base.specs.NodeSet.{has_node}
-use Rattle.ttp_world.specs.declared.medl.Medl.{Medl}
-use Rattle.ttp_world.specs.declared.node.Entry.{Entry}
+use Rattle.two_faced.proofs.Words.{◌≡◌, ◌≢◌, ℕ, suc, ◌+◌, ◌-◌, ◌*◌, ◌<◌, ℤ, pos, ◌+ℤ◌, ◌-ℤ◌, ◌≤ℤ◌, Bool, true, false}
+use Rattle.two_faced.proofs.Words.{cond, ◌&&◌, List, [], ◌∷◌, ◌++◌, length, Some, refl, ap, sym, subst, ◌∙◌, arith}
+use Rattle.two_faced.proofs.Words.{◌==◌, int_max, ne_eqb, ints, has_node, Medl, Entry, Script, notes_in, History}
+use Rattle.two_faced.proofs.Words.{entry_of, ClusterStart, IsValid, plan_at, drift_of, jump_of, reading_error, TellsOf}
+use Rattle.two_faced.proofs.Words.{measured, IsUpTo, clock_at-still, frame_of, frame_of-node, drift_in, product_more}
+use Rattle.two_faced.proofs.Words.{HaveDrifted, clock_after, Plan, sender, is_good_slot, FollowsPlan, planned_place}
+use Rattle.two_faced.proofs.Words.{none-enters, IsSoundIn, NotedInSlot, clock_moved, sender-in, bound, HasFacedClocks}
+use Rattle.std.proofs.Common.{◌%◌}
+use Rattle.std.specs.Prelude.{nat_le}
+use Rattle.std.proofs.lemmas.Bool.{and_left, and_right}
 use Rattle.ttp_world.specs.declared.node.Entry.TheVariants as entry
-use Rattle.ttp_world.specs.declared.script.Script.{Script}
-use Rattle.ttp_world.specs.Clock.{notes_in}
-use Rattle.ttp_world.specs.Diary.{History, Place, entry_of}
-use Rattle.ttp_world.specs.Hypothesis.{ClusterStart, expected_sender}
-use Rattle.ttp_world.specs.Medl.{IsValid, plan_at}
-use Rattle.ttp_world.specs.Script.{drift_of, jump_of, reading_error}
-use Rattle.precision.specs.Together.{IsIn, TellsOf, measured}
-use Rattle.precision.proofs.Averages.{IsUpTo}
-use Rattle.precision.proofs.Entries.{clock_at-still}
-use Rattle.precision.proofs.Frames.{frame_of, frame_of-node}
-use Rattle.precision.proofs.Rounds.{drift_in, product_more, HaveDrifted, wider_of as wider_upto}
-use Rattle.precision.proofs.Runs.{clock_after}
-use Rattle.fault_plan.specs.Plan.{Plan, sender}
-use Rattle.fault_plan.specs.Fates.{is_good_slot}
-use Rattle.fault_plan.specs.Kept.{FollowsPlan}
-use Rattle.fault_plan.specs.Places.{planned_place}
-use Rattle.fault_plan.proofs.Returns.{none-enters}
-use Rattle.safety_laws.specs.NotedByPlan.{IsSoundIn, NotedInSlot}
-use Rattle.safety_laws.proofs.NearNotes.{clock_moved, drift-moves as drift_moves}
-use Rattle.safety_laws.proofs.RoundNotes.{none-silent, sender-in}
-use Rattle.two_faced.specs.Errors.{bound, is_faced_slot, allowed_error, HasFacedClocks}
+use Rattle.ttp_world.specs.Diary.{Place}
+use Rattle.ttp_world.specs.Hypothesis.{expected_sender}
+use Rattle.precision.specs.Together.{IsIn}
+use Rattle.precision.proofs.Rounds.{wider_of as wider_upto}
+use Rattle.safety_laws.proofs.NearNotes.{drift-moves as drift_moves}
+use Rattle.safety_laws.proofs.RoundNotes.{none-silent}
+use Rattle.two_faced.specs.Errors.{is_faced_slot, allowed_error}
 use Rattle.two_faced.proofs.QuietPlan.{sound-always, none-returns}
 use Rattle.two_faced.proofs.PulledNotes.{Locate, AreTurns, AreTurns-later}
 use Rattle.two_faced.proofs.FacedRounds.{width, Round, SlotNotes}

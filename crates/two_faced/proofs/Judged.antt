@@ -1,37 +1,24 @@
 -- A run of a script in which one sender may be two-faced, after each slot from the start on.
-use Rattle.std.proofs.Common.{◌≡◌, ◌≢◌, ℕ, suc, ◌+◌, ◌-◌, ◌<◌, ◌≤◌, ◌-ℤ◌, ◌≤ℤ◌, Bool, true, false, List, [], ◌∷◌}
-use Rattle.std.proofs.Common.{length, refl, ap, sym, ◌∙◌, inl, inr, arith}
-use Rattle.std.proofs.lemmas.Bool.{both_ways, cases_eq}
-use Rattle.ttp_base.specs.NodeSet.{has_node}
-use Rattle.ttp_world.specs.declared.medl.Medl.{Medl}
+use Rattle.two_faced.proofs.Words.{◌≡◌, ◌≢◌, ℕ, suc, ◌+◌, ◌-◌, ◌<◌, ◌≤◌, ◌-ℤ◌, ◌≤ℤ◌, Bool, true, false, List, [], ◌∷◌}
+use Rattle.two_faced.proofs.Words.{length, refl, ap, sym, ◌∙◌, inl, inr, arith, both_ways, cases_eq, has_node, Medl}
+use Rattle.two_faced.proofs.Words.{Entry, Script, History, entry_of, ClusterStart, IsLegal, IsValid, newest_slot}
+use Rattle.two_faced.proofs.Words.{IsValidScript, is_on, Numbers, node_past, world, legal-older, length-world, TellsOf}
+use Rattle.two_faced.proofs.Words.{Plan, sender, Fate, Absent, Sound, Falling, Fallen, fate_of, is_sound, is_lost}
+use Rattle.two_faced.proofs.Words.{is_sound_after, is_good_slot, never-listens, NotedInSlot, bound}
 use Rattle.ttp_world.specs.declared.node.Ack.{Ack}
 use Rattle.ttp_world.specs.declared.node.Ack.TheVariants as ack
-use Rattle.ttp_world.specs.declared.node.Entry.{Entry}
 use Rattle.ttp_world.specs.declared.node.Entry.TheVariants as entry
 use Rattle.ttp_world.specs.declared.node.Phase.TheVariants as phase
-use Rattle.ttp_world.specs.declared.script.Script.{Script}
-use Rattle.ttp_world.specs.Diary.{History, entry_of, phase_after}
-use Rattle.ttp_world.specs.Hypothesis.{ClusterStart}
-use Rattle.ttp_world.specs.Legal.{IsLegal}
+use Rattle.ttp_world.specs.Diary.{phase_after}
 use Rattle.ttp_world.specs.Medium.{is_sending}
-use Rattle.ttp_world.specs.Medl.{IsValid}
-use Rattle.ttp_world.specs.Safety.{newest_slot, members_of_node}
-use Rattle.ttp_world.specs.Script.{IsValidScript, is_on}
-use Rattle.ttp_world.specs.World.{Numbers, node_past, world}
-use Rattle.ttp_world.proofs.LegalShapes.{legal-older}
-use Rattle.ttp_world.proofs.Worlds.{length-world}
-use Rattle.precision.specs.Together.{TellsOf}
-use Rattle.fault_plan.specs.Plan.{Plan, sender}
-use Rattle.fault_plan.specs.Fates.{Fate, Absent, Sound, Falling, Fallen, Listening, fate_of, is_sound, is_lost}
-use Rattle.fault_plan.specs.Fates.{is_sound_after, is_good_slot}
+use Rattle.ttp_world.specs.Safety.{members_of_node}
+use Rattle.fault_plan.specs.Fates.{Listening}
 use Rattle.fault_plan.specs.Ledger.{planned_members}
-use Rattle.fault_plan.proofs.Returns.{never-listens}
 use Rattle.safety_laws.specs.Groups.{held_with}
-use Rattle.safety_laws.specs.NotedByPlan.{NotesNothing, NotedInSlot}
+use Rattle.safety_laws.specs.NotedByPlan.{NotesNothing}
 use Rattle.safety_laws.specs.ByFate.{IsSoundAt, IsByFate}
 use Rattle.safety_laws.specs.ByPlan.{IsByPlan}
 use Rattle.safety_laws.proofs.Together.{KeepsClocks, run-by_plan}
-use Rattle.two_faced.specs.Errors.{bound}
 use Rattle.two_faced.proofs.FacedClocks.{faced-clocks, faced-window}
 use Rattle.two_faced.proofs.QuietPlan.{fate-always, quiet_plan, follows, on-sound, begun, clocks}
 use Rattle.two_faced.proofs.FacedSlots.{IsFacing}

@@ -11,3 +11,4 @@ pub mod SeenAlike
 pub mod SeenWithin
 pub mod ZerosPayloads
 pub mod ZerosRun
+pub mod Words

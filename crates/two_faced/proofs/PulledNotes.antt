@@ -1,16 +1,12 @@
 -- What two nodes note of the frames of a round pulls their clocks together, though one sender is two-faced.
-use Rattle.std.proofs.Common.{◌≡◌, ◌≢◌, ℕ, suc, ◌<◌, ◌≤◌, ℤ, pos, ◌+ℤ◌, ◌-ℤ◌, ◌*ℤ◌, ◌≤ℤ◌, true, false, cond}
-use Rattle.std.proofs.Common.{List, [], ◌∷◌, ◌++◌, length, inl, inr, refl, ap, arith}
-use Rattle.std.specs.Prelude.{nat_lt}
-use Rattle.std.proofs.lemmas.Bool.{cases_eq, and_from}
-use Rattle.std.proofs.lemmas.Int.{ints}
-use Rattle.ttp_world.specs.Clock.{middle_half, fta}
-use Rattle.ttp_world.specs.Hypothesis.{is_within_bound}
+use Rattle.two_faced.proofs.Words.{◌≡◌, ◌≢◌, ℕ, suc, ◌<◌, ◌≤◌, ℤ, pos, ◌+ℤ◌, ◌-ℤ◌, ◌*ℤ◌, ◌≤ℤ◌, true, false, cond, List}
+use Rattle.two_faced.proofs.Words.{[], ◌∷◌, ◌++◌, length, inl, inr, refl, ap, arith, nat_lt, cases_eq, ints, fta}
+use Rattle.two_faced.proofs.Words.{is_within_bound, IsUpTo, AreWithin}
+use Rattle.std.proofs.lemmas.Bool.{and_from}
+use Rattle.ttp_world.specs.Clock.{middle_half}
 use Rattle.fta_sync.specs.Pull.{without, are_near, are_within, pulled}
 use Rattle.fta_sync.proofs.Pull.{pull}
-use Rattle.precision.proofs.Averages.{IsUpTo}
 use Rattle.precision.proofs.ClockBounds.{within_bound}
-use Rattle.precision.proofs.Rounds.{AreWithin}
 
 -- each note but of z's frames tells where its sender's clock was when the round began, within w
 abbrev pub Locate : ℕ → ℤ → (ℕ → ℤ) → ℤ → List ℤ → List ℕ → Type 0

@@ -1,37 +1,38 @@
 -- A plan that loses no node.
-use Rattle.std.proofs.Common.{◌≡◌, ℕ, ◌+◌, ◌<◌, ◌≤◌, true, not, [], length, Some, None, refl, ap, sym, subst, ◌∙◌}
-use Rattle.std.proofs.Common.{arith, pos, false, Bool, List, ◌∷◌, Option, zero, suc, cond}
-use Rattle.std.specs.Prelude.{◌&&◌, int_le, find, ◌+ℤ◌, is_some, ◌==◌}
-use Rattle.std.specs.List.{filter, AllByRecursion, list_any, filter_map, Contains}
-use Rattle.std.proofs.lemmas.Bool.{both_ways, not-false, leb-true}
-use Rattle.std.proofs.lemmas.Option.{none-some}
-use Rattle.ttp_base.specs.NodeSet.{below, has_node}
+use Rattle.two_faced.proofs.Words.{◌≡◌, ℕ, ◌+◌, ◌<◌, ◌≤◌, true, not, [], length, Some, None, refl, ap, sym, subst, ◌∙◌}
+use Rattle.two_faced.proofs.Words.{arith, pos, false, Bool, List, ◌∷◌, Option, zero, suc, cond, ◌&&◌, int_le, ◌+ℤ◌}
+use Rattle.two_faced.proofs.Words.{◌==◌, AllByRecursion, filter_map, both_ways, none-some, below, has_node, Medl}
+use Rattle.two_faced.proofs.Words.{Script, ClusterStart, is_within_bound, drifts_hold, start_of, IsValid, plan_at}
+use Rattle.two_faced.proofs.Words.{IsValidScript, is_on, drift_of, reading_error, jump_of, sole_start, Plan, sender}
+use Rattle.two_faced.proofs.Words.{fate_of, is_sound_after, is_lost, Fate, Absent, Sound, Falling, Fallen, is_sound}
+use Rattle.two_faced.proofs.Words.{FollowsPlan, never-listens, none-enters, bound, HasFacedClocks, errors_allowed_in}
+use Rattle.two_faced.proofs.Words.{clocks_broken, fault_slot, faults_broken}
+use Rattle.std.specs.Prelude.{find, is_some}
+use Rattle.std.specs.List.{filter, list_any, Contains}
+use Rattle.std.proofs.lemmas.Bool.{not-false, leb-true}
 use Rattle.ttp_base.proofs.Below.{each-below}
 use Rattle.ttp_base.proofs.NodeSets.{has_node-sieve, same_sieve}
-use Rattle.ttp_world.specs.declared.medl.Medl.{Medl}
-use Rattle.ttp_world.specs.declared.script.Script.{Script}
-use Rattle.ttp_world.specs.Hypothesis.{ClusterStart, is_within_bound, drifts_hold, start_of, only_starter, is_steady}
+use Rattle.ttp_world.specs.Hypothesis.{only_starter, is_steady}
 use Rattle.ttp_world.specs.Hypothesis.{loses}
-use Rattle.ttp_world.specs.Medl.{IsValid, plan_at, may_start}
-use Rattle.ttp_world.specs.Script.{IsValidScript, is_ever_on, is_on, on_slot, drift_of, reading_error, has_jump}
-use Rattle.ttp_world.specs.Script.{jump_of, flipped_bits, has_send_fault, has_receive_fault, is_send_fault}
+use Rattle.ttp_world.specs.Medl.{may_start}
+use Rattle.ttp_world.specs.Script.{is_ever_on, on_slot, has_jump}
+use Rattle.ttp_world.specs.Script.{flipped_bits, has_send_fault, has_receive_fault, is_send_fault}
 use Rattle.ttp_world.specs.Script.{is_receive_fault, flipped_bit, jump_in, sum_ℤ}
 use Rattle.ttp_world.specs.Starts.{StartsAlone}
 use Rattle.ttp_world.proofs.Lists.{nodes-most}
 use Rattle.ttp_world.proofs.Starts.{found-start, alone-start, on-start}
-use Rattle.hypothesis.specs.SoleStart.{sole_start_in, sole_start}
-use Rattle.fault_plan.specs.Plan.{Plan, sender, plan_of, Return, incident_at, is_in_slot}
-use Rattle.fault_plan.specs.Fates.{fate_of, is_sound_after, is_lost, is_steady_after, steady_nodes, Fate, Absent, Sound}
-use Rattle.fault_plan.specs.Fates.{Falling, Fallen, fate_at_begin, next_fate, turned, struck, is_sound}
+use Rattle.hypothesis.specs.SoleStart.{sole_start_in}
+use Rattle.fault_plan.specs.Plan.{plan_of, Return, incident_at, is_in_slot}
+use Rattle.fault_plan.specs.Fates.{is_steady_after, steady_nodes}
+use Rattle.fault_plan.specs.Fates.{fate_at_begin, next_fate, turned, struck}
 use Rattle.fault_plan.specs.GoodPlan.{IsGoodPlan}
-use Rattle.fault_plan.specs.Kept.{FollowsPlan, IsHeardByPlan}
+use Rattle.fault_plan.specs.Kept.{IsHeardByPlan}
 use Rattle.fault_plan.proofs.Bounds.{both-hold, wide}
 use Rattle.fault_plan.proofs.CoursePlans.{on-always, due-ever}
-use Rattle.fault_plan.proofs.Returns.{none-among, never-listens, none-armed, none-enters}
+use Rattle.fault_plan.proofs.Returns.{none-among, none-armed}
 use Rattle.fault_plan.proofs.Sieves.{none-found}
 use Rattle.safety_laws.specs.PlannedRun.{IsBegun}
-use Rattle.two_faced.specs.Errors.{bound, HasFacedClocks}
-use Rattle.two_faced.specs.Faced.{allowed_error, errors_allowed_in, clocks_broken, fault_slot, faults_broken}
+use Rattle.two_faced.specs.Faced.{allowed_error}
 use Rattle.two_faced.proofs.Rules.{RulesHold}
 use Rattle.fault_plan.proofs.FaultySets.{lost-begin as begin-lost, sound-begin as begin-sound}
 use Rattle.ttp_world.proofs.SmallTests.{le_of_test, and-true}

@@ -1,12 +1,10 @@
 -- The rules, one by one, of a script in which one sender may be two-faced.
-use Rattle.std.proofs.Common.{◌≡◌, ℕ, Bool, true, false, cond, [], Option, Some, None, refl}
-use Rattle.ttp_world.specs.declared.medl.Medl.{Medl}
-use Rattle.ttp_world.specs.declared.script.Script.{Script}
-use Rattle.ttp_world.specs.Hypothesis.{ClusterStart, has_four_steady, start_of}
-use Rattle.hypothesis.specs.SoleStart.{sole_start}
+use Rattle.two_faced.proofs.Words.{◌≡◌, ℕ, Bool, true, false, cond, [], Option, Some, None, refl, Medl, Script}
+use Rattle.two_faced.proofs.Words.{ClusterStart, start_of, sole_start, clocks_broken, faults_broken}
+use Rattle.ttp_world.specs.Hypothesis.{has_four_steady}
 use Rattle.two_faced.specs.declared.faced.Faced.{Faced}
 use Rattle.two_faced.specs.declared.faced.Faced.TheVariants as faced
-use Rattle.two_faced.specs.Faced.{node_broken, clocks_broken, window_broken, faults_broken, started_faced, unless}
+use Rattle.two_faced.specs.Faced.{node_broken, window_broken, started_faced, unless}
 use Rattle.two_faced.specs.Faced.{faced_of}
 
 pub record RulesHold (list : Medl) (script : Script) (z slot : ℕ) : Type 0 where

@@ -1,22 +1,13 @@
 -- What is seen of clocks does not depend on the messages of frames.
-use Rattle.std.proofs.Common.{◌≡◌, ℕ, ◌<◌, ℤ, List, [], ◌∷◌, length, Option, Some, None, refl, ap, sym, ◌∙◌}
-use Rattle.std.proofs.Common.{cond, not, ◌&&◌, arith}
-use Rattle.std.specs.Prelude.{◌==◌}
-use Rattle.std.specs.List.{filter_map, cons_option, AllByRecursion}
-use Rattle.ttp_base.proofs.Below.{below-lt}
-use Rattle.ttp_world.specs.declared.medl.Medl.{Medl}
-use Rattle.ttp_world.specs.declared.script.Script.{Script}
-use Rattle.ttp_world.specs.Diary.{History}
-use Rattle.ttp_world.specs.Hypothesis.{nodes_of}
+use Rattle.two_faced.proofs.Words.{◌≡◌, ℕ, ◌<◌, ℤ, List, [], ◌∷◌, length, Option, Some, None, refl, ap, sym, ◌∙◌, cond}
+use Rattle.two_faced.proofs.Words.{not, ◌&&◌, arith, ◌==◌, filter_map, AllByRecursion, below-lt, Medl, Script, History}
+use Rattle.two_faced.proofs.Words.{nodes_of, IsValidScript, is_on, Numbers, world, length-world, clock_beside}
+use Rattle.two_faced.proofs.Words.{apart_after, widest, with_slot, seen_in, zeros_world}
+use Rattle.std.specs.List.{cons_option}
 use Rattle.ttp_world.specs.Legal.{IsLegalRun}
-use Rattle.ttp_world.specs.Script.{IsValidScript, is_on}
-use Rattle.ttp_world.specs.World.{Numbers, world}
-use Rattle.ttp_world.proofs.Worlds.{length-world}
 use Rattle.frame_fates.specs.Runs.{AreRuns}
 use Rattle.frame_fates.proofs.NamedRuns.{named-run, legal-names}
 use Rattle.frame_fates.proofs.RunsAlike.{older, runs-clocks}
-use Rattle.two_faced.specs.Seen.{clock_beside, apart_after, widest, with_slot, seen_in}
-use Rattle.two_faced.specs.ZerosRun.{zeros_world}
 use Rattle.two_faced.proofs.ZerosRun.{length-zeros_world, zeros-run}
 
 filter_map-agree : (f g : ℕ → Option ℤ) (n : ℕ) (ks : List ℕ) → ((k : ℕ) → k < n → f k ≡ g k)

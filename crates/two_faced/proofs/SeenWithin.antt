@@ -1,24 +1,12 @@
 -- What is seen of clocks in a run of a script in which one sender may be two-faced stays within the bound.
-use Rattle.std.proofs.Common.{◌≡◌, ℕ, ◌*◌, ◌<◌, ◌≤◌, ℤ, pos, negsuc, ◌+ℤ◌, ◌-ℤ◌, ◌*ℤ◌, ◌≤ℤ◌, true, not}
-use Rattle.std.proofs.Common.{[], ◌∷◌, length, ap, ◌∙◌, arith}
-use Rattle.std.specs.Prelude.{◌&&◌, ◌||◌, ◌==◌, nat_lt, int_le}
+use Rattle.two_faced.proofs.Words.{◌≡◌, ℕ, ◌*◌, ◌<◌, ◌≤◌, ℤ, pos, negsuc, ◌+ℤ◌, ◌-ℤ◌, ◌*ℤ◌, ◌≤ℤ◌, true, not, [], ◌∷◌}
+use Rattle.two_faced.proofs.Words.{length, ap, ◌∙◌, arith, ◌&&◌, ◌==◌, nat_lt, int_le, ints, below-lt, Medl, Script}
+use Rattle.two_faced.proofs.Words.{History, nodes_of, IsLegal, IsValid, newest_slot, IsValidScript, is_on, Numbers}
+use Rattle.two_faced.proofs.Words.{node_past, world, legal-older, length-world, bound, Seen, clock_beside, apart_after}
+use Rattle.two_faced.proofs.Words.{seen_in}
+use Rattle.std.specs.Prelude.{◌||◌}
 use Rattle.std.proofs.lemmas.Bool.{cond_both, and_parts, or_parts, ltb-false}
-use Rattle.std.proofs.lemmas.Int.{ints}
-use Rattle.ttp_base.proofs.Below.{below-lt}
-use Rattle.ttp_world.specs.declared.medl.Medl.{Medl}
-use Rattle.ttp_world.specs.declared.script.Script.{Script}
-use Rattle.ttp_world.specs.Diary.{History}
-use Rattle.ttp_world.specs.Hypothesis.{nodes_of}
-use Rattle.ttp_world.specs.Legal.{IsLegal}
-use Rattle.ttp_world.specs.Medl.{IsValid}
-use Rattle.ttp_world.specs.Safety.{newest_slot}
-use Rattle.ttp_world.specs.Script.{IsValidScript, is_on}
-use Rattle.ttp_world.specs.World.{Numbers, node_past, world}
-use Rattle.ttp_world.proofs.LegalShapes.{legal-older}
-use Rattle.ttp_world.proofs.Worlds.{length-world}
-use Rattle.two_faced.specs.Errors.{bound}
-use Rattle.two_faced.specs.declared.seen.Seen.{Seen}
-use Rattle.two_faced.specs.Seen.{clock_beside, apart_after, seen_in, seen_of}
+use Rattle.two_faced.specs.Seen.{seen_of}
 use Rattle.two_faced.proofs.Judged.{runs-clocks}
 use Rattle.two_faced.proofs.Rules.{RulesHold}
 use Rattle.two_faced.proofs.Widest.{widest_within, chosen_within, chosen_where}

@@ -1,12 +1,11 @@
 -- The largest difference between two of some clocks, by the least and the greatest of those so far.
-use Rattle.std.proofs.Common.{◌≡◌, ℕ, ◌≤◌, ◌^◌, ℤ, ◌-ℤ◌, Bool, true, false, not, ◌&&◌, List, ◌∷◌, Option, Some, None}
-use Rattle.std.proofs.Common.{w64, FitsSigned, to_z, of_z, refl, sym, arith}
-use Rattle.std.specs.Prelude.{unsigned_abs, if◌then◌else◌}
-use Rattle.std.specs.List.{filter_map}
-use Rattle.std.proofs.lemmas.Int.{ints, to_z-of_z, fits_signed_from_abs}
+use Rattle.two_faced.proofs.Words.{◌≡◌, ℕ, ◌≤◌, ◌^◌, ℤ, ◌-ℤ◌, Bool, true, false, not, ◌&&◌, List, ◌∷◌, Option, Some}
+use Rattle.two_faced.proofs.Words.{None, w64, FitsSigned, to_z, of_z, refl, sym, arith, unsigned_abs, filter_map, ints}
+use Rattle.two_faced.proofs.Words.{to_z-of_z, greatest, least, widest, IsNearSpan}
+use Rattle.std.specs.Prelude.{if◌then◌else◌}
+use Rattle.std.proofs.lemmas.Int.{fits_signed_from_abs}
 use Rattle.two_faced.specs.declared.seen.Span.{Span}
-use Rattle.two_faced.specs.Seen.{greatest, least, widest}
-use Rattle.two_faced.specs.Spans.{with_clock, IsNearClock, IsNearSpan}
+use Rattle.two_faced.specs.Spans.{with_clock, IsNearClock}
 
 -- that of the clocks so far and of those that are left
 abbrev pub widest_with : Option Span → List ℤ → ℤ

@@ -1,11 +1,8 @@
 -- How far clocks are apart, by how far any two of them are.
-use Rattle.std.proofs.Common.{◌≡◌, ℤ, pos, ◌-ℤ◌, ◌≤ℤ◌, Bool, true, false, cond, List, [], ◌∷◌, Option, Some, None}
-use Rattle.std.proofs.Common.{refl, arith}
-use Rattle.std.specs.Int.{int_min, int_max}
-use Rattle.std.specs.List.{AllByRecursion, filter_map}
-use Rattle.std.proofs.lemmas.Int.{ints}
-use Rattle.std.proofs.lemmas.Option.{none-some}
-use Rattle.two_faced.specs.Seen.{greatest, least, widest}
+use Rattle.two_faced.proofs.Words.{◌≡◌, ℤ, pos, ◌-ℤ◌, ◌≤ℤ◌, Bool, true, false, cond, List, [], ◌∷◌, Option, Some, None}
+use Rattle.two_faced.proofs.Words.{refl, arith, int_max, AllByRecursion, filter_map, ints, none-some, greatest, least}
+use Rattle.two_faced.proofs.Words.{widest}
+use Rattle.std.specs.Int.{int_min}
 
 all-map : {X : Type 0} (P Q : X → Type 0) (xs : List X) → ((x : X) → P x → Q x) → AllByRecursion P xs
     → AllByRecursion Q xs

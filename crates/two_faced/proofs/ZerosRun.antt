@@ -1,12 +1,10 @@
 -- The run in which frames carry zeros: a plant takes it slot by slot, and it is a run of the world.
-use Rattle.std.proofs.Common.{◌≡◌, ℕ, zero, suc, ◌+◌, List, length, refl, ap, sym, subst, ◌∙◌, add-one, arith}
+use Rattle.two_faced.proofs.Words.{◌≡◌, ℕ, zero, suc, ◌+◌, List, length, refl, ap, sym, subst, ◌∙◌, arith, Medl, Script}
+use Rattle.two_faced.proofs.Words.{History, IsValid, plan_at, zeros_chosen, zeros_world}
+use Rattle.std.proofs.Common.{add-one}
 use Rattle.std.proofs.lemmas.List.{length-replicate}
 use Rattle.std.proofs.lemmas.List.FromFn.{get_or-map-range_with_len, length-map-range_with_len}
-use Rattle.ttp_world.specs.declared.medl.Medl.{Medl}
 use Rattle.ttp_world.specs.declared.node.Chosen.{Chosen}
-use Rattle.ttp_world.specs.declared.script.Script.{Script}
-use Rattle.ttp_world.specs.Diary.{History}
-use Rattle.ttp_world.specs.Medl.{IsValid, plan_at}
 use Rattle.ttp_world.specs.Outgoing.{nothing_chosen}
 use Rattle.ttp_world.specs.World.{slot_after, step}
 use Rattle.controller.specs.Passes.{AreChosen}
@@ -14,7 +12,7 @@ use Rattle.controller.specs.PlantStands.{PlantStandsFor, MayStep, Steps}
 use Rattle.controller.specs.PlantView.{PlantView}
 use Rattle.controller.proofs.Payloads.{chosen-step}
 use Rattle.frame_fates.specs.Runs.{HaveSizes, IsRun}
-use Rattle.two_faced.specs.ZerosRun.{zeros_chosen, all_zeros, zeros_world}
+use Rattle.two_faced.specs.ZerosRun.{all_zeros}
 
 pub length-all_zeros : (list : Medl) → length (all_zeros list) ≡ length list.slots
 length-all_zeros list = length-map-range_with_len (zeros_chosen list) 0 (length list.slots)

@@ -1,4 +1,4 @@
-use Rattle.std.proofs.Common.{rules}
+use Rattle.hypothesis.proofs.Words.{rules}
 use Rattle.hypothesis.proofs.FarJumps.{undisturbed}
 use Rattle.hypothesis.proofs.keeps.Goals as goal
 

@@ -1,22 +1,11 @@
 -- The lines on whether a text is a trace.
-use Rattle.std.proofs.Common.{◌≡◌, ℕ, Bool, true, false, List, ◌++◌, refl, sym, subst, inl, inr, arith}
-use Rattle.std.specs.Prelude.{◌==◌, ◌↔◌, codes, decimal, if◌then◌else◌}
-use Rattle.std.proofs.lemmas.List.Folds.{list_any-append}
-use Rattle.ttp_base.specs.Outside.{Output}
-use Rattle.ttp_base.specs.Text.{Lines, newline, is_line}
-use Rattle.ttp_base.proofs.Lines.{is_line-append}
-use Rattle.ttp_base.proofs.Numerals.{has, has-decimal}
-use Rattle.ttp_world.specs.declared.medl.Medl.{Medl}
-use Rattle.ttp_world.specs.declared.script.Script.{Script}
+use Rattle.ttp_top.proofs.Words.{◌≡◌, ℕ, Bool, true, false, List, ◌++◌, refl, sym, subst, inl, inr, arith, ◌==◌, codes}
+use Rattle.ttp_top.proofs.Words.{decimal, if◌then◌else◌, list_any-append, Output, Lines, newline, is_line}
+use Rattle.ttp_top.proofs.Words.{is_line-append, has, has-decimal, Medl, Script, is_trace, IsFirstWrong, AreLines, Says}
+use Rattle.ttp_top.proofs.Words.{line_ending, whole_ending, those, Answer, Ending, ttpbench, differs_line, differences}
+use Rattle.std.specs.Prelude.{◌↔◌}
 use Rattle.trace_check.specs.declared.answer.Outcome.TheVariants as outcome
-use Rattle.trace_check.specs.Answer.{is_trace, IsFirstWrong}
-use Rattle.commands.specs.Lines.{AreLines}
-use Rattle.commands.specs.Outcome.{Says}
-use Rattle.commands.specs.Plan.{line_ending, whole_ending}
-use Rattle.commands.specs.Texts.{those}
-use Rattle.ttp_top.specs.Calls.Answer.{Answer, Ending, ttpbench}
-use Rattle.ttp_top.specs.Calls.Differences.{differs_line, IsDifference}
-use Rattle.ttp_top.specs.Calls.Texts.{differences}
+use Rattle.ttp_top.specs.Calls.Differences.{IsDifference}
 
 -- Each is one line.
 

@@ -1,35 +1,27 @@
 -- What holds of each ending of a form: what its texts are made of, and what its status and the form tell of each other.
-use Rattle.std.proofs.Common.{◌≡◌, ◌≢◌, ℕ, Bool, true, false, ◌&&◌, Option, Some, None, refl, ap, sym, subst, ◌∙◌, arith}
-use Rattle.std.proofs.Common.{List, [], ◌∷◌, inl, inr}
-use Rattle.std.specs.Prelude.{◌==◌, is_some, IsSomeAnd, if◌then◌else◌}
+use Rattle.ttp_top.proofs.Words.{◌≡◌, ◌≢◌, ℕ, Bool, true, false, ◌&&◌, Option, Some, None, refl, ap, sym, subst, ◌∙◌}
+use Rattle.ttp_top.proofs.Words.{arith, List, [], ◌∷◌, inl, inr, ◌==◌, is_some, if◌then◌else◌, Lines, lines_of, Medl}
+use Rattle.ttp_top.proofs.Words.{Script, test_lines, trace_lines-each, slot_table, ClusterView, is_trace, mode_lines}
+use Rattle.ttp_top.proofs.Words.{refused_list, both_plan, trace_plan, AreLines, ends, whole_ending, line_ending, one}
+use Rattle.ttp_top.proofs.Words.{those, IsFinal, SaysLine, list_every, Ending, Plan, ttpbench, same_line, usage_line}
+use Rattle.ttp_top.proofs.Words.{table_ending, trace_ending, keep_ending, verify_ending, precision_ending}
+use Rattle.ttp_top.proofs.Words.{sample_ending, modes_ending, plan_of, fronts, differences, Form, schedule, run, verify}
+use Rattle.ttp_top.proofs.Words.{precision, sample, modes, is_run, runs_cluster}
+use Rattle.std.specs.Prelude.{IsSomeAnd}
 use Rattle.std.proofs.lemmas.Bool.{ne_eqb}
-use Rattle.ttp_base.specs.Text.{Lines, lines_of}
-use Rattle.ttp_world.specs.declared.medl.Medl.{Medl}
-use Rattle.ttp_world.specs.declared.script.Script.{Script}
-use Rattle.ttp_world.specs.Trace.{test_lines}
 use Rattle.ttp_world.specs.TraceNumbers.{numbers_in}
-use Rattle.ttp_world.proofs.TraceLines.{test_lines-each, trace_lines-each}
-use Rattle.medl_text.specs.Schedule.{slot_table}
+use Rattle.ttp_world.proofs.TraceLines.{test_lines-each}
 use Rattle.medl_text.proofs.Lines.{slot_table-each}
-use Rattle.cluster_run.specs.Standing.{ClusterView}
-use Rattle.trace_check.specs.Answer.{is_trace}
-use Rattle.mode_change.specs.ModeText.{mode_lines}
 use Rattle.mode_change.proofs.TextLines.{mode_lines-each}
 use Rattle.commands.specs.declared.read.FileFault.{FileFault}
-use Rattle.commands.specs.Files.{refused_list, refused_script, list_plan, both_plan, trace_plan}
-use Rattle.commands.specs.Lines.{AreLines}
-use Rattle.commands.specs.Plan.{ends, whole_ending, line_ending, said_ending}
-use Rattle.commands.specs.Texts.{one, those, nothing, IsKeptBeside}
-use Rattle.commands.proofs.Lines.{AreOfLines, IsFinal, SaysLine, one_text, lines_front, text_final, line_final}
+use Rattle.commands.specs.Files.{refused_script, list_plan}
+use Rattle.commands.specs.Plan.{said_ending}
+use Rattle.commands.specs.Texts.{nothing, IsKeptBeside}
+use Rattle.commands.proofs.Lines.{AreOfLines, one_text, lines_front, text_final, line_final}
 use Rattle.commands.proofs.Lines.{refused_list-final, refused_script-final}
-use Rattle.commands.proofs.Plans.{Every, list_every, both_every}
-use Rattle.ttp_top.specs.Calls.Answer.{Ending, Plan, ttpbench}
-use Rattle.ttp_top.specs.Calls.Differences.{same_line}
-use Rattle.ttp_top.specs.Calls.Forms.{usage_line, table_ending, trace_ending, keep_ending, verify_ending}
-use Rattle.ttp_top.specs.Calls.Forms.{precision_ending, sample_ending, modes_ending, plan_of}
-use Rattle.ttp_top.specs.Calls.Texts.{fronts, differences}
-use Rattle.ttp_top.specs.Calls.Words.{Form, schedule, run, keeps, verify, precision, sample, modes, is_run}
-use Rattle.ttp_top.specs.Calls.Words.{takes_trace, runs_cluster}
+use Rattle.commands.proofs.Plans.{Every, both_every}
+use Rattle.ttp_top.specs.Calls.Words.{keeps}
+use Rattle.ttp_top.specs.Calls.Words.{takes_trace}
 use Rattle.ttp_top.proofs.Calls.Differences.{differences-each}
 use Rattle.ttp_top.proofs.Calls.Precision.{precisions-each}
 use Rattle.ttp_top.proofs.Samples.Lines.{samples-each}

@@ -1,30 +1,15 @@
 -- The line on a node that may be two-faced.
-use Rattle.std.proofs.Common.{◌≡◌, ℕ, true, false, List, [], ◌∷◌, ◌++◌, length, refl, ap, sym, subst, ◌∙◌, inl, inr}
-use Rattle.std.proofs.Common.{arith}
-use Rattle.std.specs.Prelude.{◌==◌, codes, decimal}
+use Rattle.ttp_top.proofs.Words.{◌≡◌, ℕ, true, false, List, [], ◌∷◌, ◌++◌, length, refl, ap, sym, subst, ◌∙◌, inl, inr}
+use Rattle.ttp_top.proofs.Words.{arith, ◌==◌, codes, decimal, list_any-append, Output, Lines, newline, is_line}
+use Rattle.ttp_top.proofs.Words.{is_line-append, has, has-decimal, Medl, Script, IsLegalRun, Numbers, legal-none}
+use Rattle.ttp_top.proofs.Words.{legal-whole, Faced, faced_of, seen_of, AreLines, Says, line_ending, Answer, ttpbench}
+use Rattle.ttp_top.proofs.Words.{precision_ending, faced_line, broken_line, answer_line, IsPrecision}
 use Rattle.std.specs.Fmt.{signed_decimal}
-use Rattle.std.proofs.lemmas.List.Folds.{list_any-append}
-use Rattle.ttp_base.specs.Outside.{Output}
-use Rattle.ttp_base.specs.Text.{Lines, newline, is_line}
-use Rattle.ttp_base.proofs.Lines.{is_line-append}
-use Rattle.ttp_base.proofs.Numerals.{has, has-decimal, has-signed}
-use Rattle.ttp_world.specs.declared.medl.Medl.{Medl}
-use Rattle.ttp_world.specs.declared.script.Script.{Script}
-use Rattle.ttp_world.specs.Legal.{IsLegalRun}
-use Rattle.ttp_world.specs.World.{Numbers}
-use Rattle.ttp_world.proofs.LegalRuns.{legal-none, legal-whole}
-use Rattle.two_faced.specs.declared.faced.Faced.{Faced}
+use Rattle.ttp_base.proofs.Numerals.{has-signed}
 use Rattle.two_faced.specs.declared.faced.Faced.TheVariants as faced
 use Rattle.two_faced.specs.declared.seen.Seen.{Seen}
-use Rattle.two_faced.specs.Faced.{bound, faced_of}
-use Rattle.two_faced.specs.Seen.{seen_of}
-use Rattle.commands.specs.Lines.{AreLines}
-use Rattle.commands.specs.Outcome.{Says}
-use Rattle.commands.specs.Plan.{line_ending}
-use Rattle.ttp_top.specs.Calls.Answer.{Answer, ttpbench}
-use Rattle.ttp_top.specs.Calls.Forms.{precision_ending}
-use Rattle.ttp_top.specs.Calls.Precision.{faced_line, broken_line, answer_line, precision_line}
-use Rattle.ttp_top.specs.Calls.Texts.{IsPrecision}
+use Rattle.two_faced.specs.Faced.{bound}
+use Rattle.ttp_top.specs.Calls.Precision.{precision_line}
 
 -- It is one line.
 

@@ -1,21 +1,13 @@
 -- The promise of a call, from the plan that it followed.
-use Rattle.std.proofs.Common.{◌≡◌, ◌≢◌, ◌⊎◌, ℕ, ◌<◌, ◌≤◌, false, [], Option, None, ap, sym, subst, ◌∙◌, inl, inr}
-use Rattle.std.proofs.Common.{arith}
-use Rattle.std.specs.Prelude.{◌==◌, ◌&&◌, is_some}
-use Rattle.std.proofs.lemmas.Bool.{cases_lt}
-use Rattle.ttp_base.specs.Outside.{Wrote}
+use Rattle.ttp_top.proofs.Words.{◌≡◌, ◌≢◌, ◌⊎◌, ℕ, ◌<◌, ◌≤◌, false, [], Option, None, ap, sym, subst, ◌∙◌, inl, inr}
+use Rattle.ttp_top.proofs.Words.{arith, ◌==◌, ◌&&◌, is_some, cases_lt, Wrote, Outside, IsFinal, SaysLine, Answer}
+use Rattle.ttp_top.proofs.Words.{ttpbench, plan_of, Promise, Form, is_run, runs_cluster}
 use Rattle.commands.specs.Outcome.{Follows}
-use Rattle.commands.specs.Plan.{Outside}
 use Rattle.commands.specs.Promise.{IsUnfinished, Promise as CallPromise}
 use Rattle.commands.specs.Texts.{Texts, WroteAmong}
-use Rattle.commands.proofs.Lines.{IsFinal, SaysLine}
 use Rattle.commands.proofs.Plans.{all_come, every_weaker}
 use Rattle.commands.proofs.Promises.{wrote_nothing, promise as call_promise}
-use Rattle.ttp_top.specs.Calls.Answer.{Answer, ttpbench}
-use Rattle.ttp_top.specs.Calls.Forms.{plan_of}
-use Rattle.ttp_top.specs.Calls.Promise.{Promise}
 use Rattle.ttp_top.specs.Calls.Texts.{Sets}
-use Rattle.ttp_top.specs.Calls.Words.{Form, is_run, runs_cluster}
 use Rattle.ttp_top.proofs.Calls.Forms.{IsOfForm, none_kept, forms}
 
 module _ (form : Option Form) (before now : Outside) (answer : Answer)

@@ -1,22 +1,10 @@
 -- The promise of `schedule`, from the promise of every form.
-use Rattle.std.proofs.Common.{◌≡◌, ◌⊎◌, ℕ, List, [], Some, refl, sym, subst, inl, inr, arith}
-use Rattle.ttp_base.specs.Outside.{HasRisen, Output, Wrote, WroteLines, CutShort}
-use Rattle.ttp_base.specs.Text.{Lines}
-use Rattle.ttp_world.specs.declared.medl.Medl.{Medl}
-use Rattle.medl_text.specs.Schedule.{slot_table}
-use Rattle.commands.proofs.Fronts.{list_from-front}
-use Rattle.commands.proofs.Both.{list_came}
-use Rattle.commands.proofs.Plans.{AllAsk, list_every, end_comes}
-use Rattle.commands.proofs.Right.{list_from-right}
-use Rattle.commands.proofs.Told.{Quiet, told_shows, told_cut}
-use Rattle.commands.specs.Outcome.{Showed}
-use Rattle.commands.specs.Plan.{Outside, ends, told_ending}
-use Rattle.ttp_top.specs.Calls.Answer.{Answer, Ending, Plan, ttpbench}
-use Rattle.ttp_top.specs.Calls.Forms.{table_ending, plan_of}
-use Rattle.ttp_top.specs.Calls.Promise.{Promise}
-use Rattle.ttp_top.specs.Calls.Words.{schedule}
+use Rattle.ttp_top.proofs.Words.{◌≡◌, ◌⊎◌, ℕ, List, [], Some, refl, sym, subst, inl, inr, arith, HasRisen, Output}
+use Rattle.ttp_top.proofs.Words.{Wrote, WroteLines, CutShort, Lines, Medl, slot_table, list_from-front, list_came}
+use Rattle.ttp_top.proofs.Words.{AllAsk, list_every, end_comes, list_from-right, Quiet, told_shows, told_cut, Showed}
+use Rattle.ttp_top.proofs.Words.{Outside, ends, told_ending, Answer, Ending, Plan, ttpbench, table_ending, plan_of}
+use Rattle.ttp_top.proofs.Words.{Promise, schedule, IsTold}
 use Rattle.ttp_top.specs.Lists.Promise.{WroteTable, SchedulePromise}
-use Rattle.ttp_top.specs.Samples.Promise.{IsTold}
 
 -- the plan from a list on
 abbrev from_list : Medl → Plan

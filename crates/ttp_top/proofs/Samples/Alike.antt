@@ -1,28 +1,19 @@
 -- What is counted of a run does not depend on the messages of its frames.
-use Rattle.std.proofs.Common.{◌≡◌, ℕ, ◌+◌, ◌<◌, Bool, cond, List, [], ◌∷◌, length, refl, ap, sym, ◌∙◌, arith}
-use Rattle.std.specs.Prelude.{map, count_by}
-use Rattle.std.specs.List.{AllByRecursion}
-use Rattle.std.proofs.lemmas.List.Sums.{sum_by-cons}
-use Rattle.ttp_base.specs.NodeSet.{below}
+use Rattle.ttp_top.proofs.Words.{◌≡◌, ℕ, ◌+◌, ◌<◌, Bool, cond, List, [], ◌∷◌, length, refl, ap, sym, ◌∙◌, arith, map}
+use Rattle.ttp_top.proofs.Words.{count_by, AllByRecursion, sum_by-cons, below, Medl, Entry, NodeState, Script, History}
+use Rattle.ttp_top.proofs.Words.{is_active_phase, IsLegalRun, state_of, IsValidScript, writes_in, reads_in, Numbers}
+use Rattle.ttp_top.proofs.Words.{node_past, world, length-world, states_after, shows_sent, shows_left, lowest_members}
+use Rattle.ttp_top.proofs.Words.{totals_of}
 use Rattle.ttp_base.proofs.Below.{below-lt}
-use Rattle.ttp_world.specs.declared.medl.Medl.{Medl}
-use Rattle.ttp_world.specs.declared.node.Entry.{Entry}
 use Rattle.ttp_world.specs.declared.node.Entry.TheVariants as entry
-use Rattle.ttp_world.specs.declared.node.NodeState.{NodeState}
-use Rattle.ttp_world.specs.declared.script.Script.{Script}
-use Rattle.ttp_world.specs.Diary.{History, is_active_phase}
-use Rattle.ttp_world.specs.Legal.{IsLegalRun}
 use Rattle.ttp_world.specs.Medium.{is_sending}
-use Rattle.ttp_world.specs.Past.{NodePast, state_of}
-use Rattle.ttp_world.specs.Script.{IsValidScript, writes_in, reads_in}
-use Rattle.ttp_world.specs.World.{Numbers, node_past, world}
-use Rattle.ttp_world.proofs.Worlds.{length-world}
+use Rattle.ttp_world.specs.Past.{NodePast}
 use Rattle.frame_fates.specs.Alike.{unnumbered}
 use Rattle.frame_fates.specs.Runs.{AreRuns}
 use Rattle.frame_fates.proofs.NamedRuns.{named-run, legal-names}
 use Rattle.frame_fates.proofs.RunsAlike.{older, runs-pasts}
 use Rattle.frame_fates.proofs.Unnumbered.{is_sending-unnumbered}
-use Rattle.ttp_top.specs.Samples.Totals.{states_after, shows_sent, is_leaving, shows_left, lowest_members, totals_of}
+use Rattle.ttp_top.specs.Samples.Totals.{is_leaving}
 
 is_leaving-unnumbered : (e : Entry) → is_leaving (unnumbered e) ≡ is_leaving e
 is_leaving-unnumbered entry.Off = refl

@@ -1,18 +1,8 @@
 -- The totals of a run stay small.
-use Rattle.std.proofs.Common.{◌≡◌, ℕ, ◌*◌, ◌≤◌, [], ◌∷◌, length, arith}
-use Rattle.std.proofs.lemmas.List.{length-map}
-use Rattle.std.proofs.lemmas.List.FromFn.{length-range_with_len}
+use Rattle.ttp_top.proofs.Words.{◌≡◌, ℕ, ◌*◌, ◌≤◌, [], ◌∷◌, length, arith, length-map, length-range_with_len, below}
+use Rattle.ttp_top.proofs.Words.{Medl, Script, History, state_of, write_in, read_in, node_past, Totals, states_after}
+use Rattle.ttp_top.proofs.Words.{shows_sent, shows_left, totals_of, filter_map-few}
 use Rattle.std.proofs.lemmas.List.Sums.{count_by-le-length}
-use Rattle.ttp_base.specs.NodeSet.{below}
-use Rattle.ttp_world.specs.declared.medl.Medl.{Medl}
-use Rattle.ttp_world.specs.declared.script.Script.{Script}
-use Rattle.ttp_world.specs.Diary.{History}
-use Rattle.ttp_world.specs.Past.{state_of}
-use Rattle.ttp_world.specs.Script.{write_in, read_in}
-use Rattle.ttp_world.specs.World.{node_past}
-use Rattle.ttp_top.specs.declared.totals.Totals.{Totals}
-use Rattle.ttp_top.specs.Samples.Totals.{states_after, shows_sent, shows_left, totals_of}
-use Rattle.ttp_world.proofs.ListFacts.{filter_map-few}
 
 -- of so many slots: a line for each of 24 nodes at most, and for each of 131,072 events at most
 pub record AreSmall (totals : Totals) (slots : ℕ) : Type 0 where

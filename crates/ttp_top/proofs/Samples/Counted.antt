@@ -1,41 +1,26 @@
 -- What a slot adds to what a run has counted.
-use Rattle.std.proofs.Common.{◌≡◌, ℕ, suc, ◌+◌, ◌*◌, ◌<◌, ◌≤◌, ◌^◌, List, [], ◌∷◌, length, cond}
-use Rattle.std.proofs.Common.{Bool, true, false, refl, ap, sym, ◌∙◌, subst, arith}
-use Rattle.std.specs.Prelude.{map, count_by}
-use Rattle.std.specs.List.{AllByRecursion}
-use Rattle.std.proofs.lemmas.List.{length-map}
+use Rattle.ttp_top.proofs.Words.{◌≡◌, ℕ, suc, ◌+◌, ◌*◌, ◌<◌, ◌≤◌, List, [], ◌∷◌, length, cond, Bool, true, false, refl}
+use Rattle.ttp_top.proofs.Words.{ap, sym, ◌∙◌, subst, arith, map, count_by, AllByRecursion, length-map}
+use Rattle.ttp_top.proofs.Words.{length-range_with_len, sum_by-cons, below, set_bits, Medl, Entry, NodeState, Script}
+use Rattle.ttp_top.proofs.Words.{History, is_active_phase, IsLegal, state_of, write_in, read_in, writes_in, reads_in}
+use Rattle.ttp_top.proofs.Words.{SlotNumbers, Numbers, node_past, world, legal-none, legal-shapes, length-world}
+use Rattle.ttp_top.proofs.Words.{next_row, ClusterView, ClusterStandsFor, Totals, states_in, HasCounted, states_after}
+use Rattle.ttp_top.proofs.Words.{lowest_members, totals_of, HasDoneSlot, filter_map-few}
+use Rattle.std.proofs.Common.{◌^◌}
 use Rattle.std.proofs.lemmas.List.Elements.{recursion_from_All}
-use Rattle.std.proofs.lemmas.List.FromFn.{length-range_with_len}
-use Rattle.std.proofs.lemmas.List.Sums.{sum_by-cons}
-use Rattle.ttp_base.specs.NodeSet.{below, set_bits}
-use Rattle.ttp_world.specs.declared.medl.Medl.{Medl}
-use Rattle.ttp_world.specs.declared.node.Entry.{Entry}
-use Rattle.ttp_world.specs.declared.node.NodeState.{NodeState}
-use Rattle.ttp_world.specs.declared.script.Script.{Script}
-use Rattle.ttp_world.specs.Diary.{History, is_active_phase}
-use Rattle.ttp_world.specs.Legal.{read_messages, IsLegal}
+use Rattle.ttp_world.specs.Legal.{read_messages}
 use Rattle.ttp_world.specs.Medl.{is_wide, member_bytes, member_limit}
-use Rattle.ttp_world.specs.Past.{state_of}
-use Rattle.ttp_world.specs.Script.{HostWrite, write_in, read_in, writes_in, reads_in}
-use Rattle.ttp_world.specs.World.{SlotNumbers, Numbers, node_past, world}
-use Rattle.ttp_world.proofs.LegalRuns.{legal-none}
-use Rattle.ttp_world.proofs.LegalShapes.{legal-shapes}
+use Rattle.ttp_world.specs.Script.{HostWrite}
 use Rattle.ttp_world.proofs.Lists.{nodes-most}
-use Rattle.ttp_world.proofs.Worlds.{length-world}
 use Rattle.host_port.specs.declared.report.NodeLine.{NodeLine}
 use Rattle.host_port.specs.declared.report.SlotReport.{SlotReport}
 use Rattle.line_text.specs.LineParts.{HasDigits}
-use Rattle.cluster_run.specs.NextSlots.{next_row}
 use Rattle.cluster_run.specs.Report.{numbers_in, node_shown, writes_shown, read_shown, ShowsSlot}
-use Rattle.cluster_run.specs.Standing.{ClusterView, ClusterStandsFor}
-use Rattle.ttp_top.specs.declared.totals.Totals.{Totals}
-use Rattle.ttp_top.specs.Samples.Counted.{states_in, with_report, HasRoom, HasCounted}
-use Rattle.ttp_top.specs.Samples.Totals.{states_after, lowest_members, no_totals, with_slot, totals_of}
+use Rattle.ttp_top.specs.Samples.Counted.{with_report, HasRoom}
+use Rattle.ttp_top.specs.Samples.Totals.{no_totals, with_slot}
 use Rattle.ttp_top.proofs.Samples.Bounds.{AreSmall, totals-small}
-use Rattle.cluster_run.specs.Runs.{HasDoneSlot}
 use Rattle.ttp_top.proofs.Scripts.Slots.{after, tells}
 use Rattle.trace_check.proofs.Counts.{length-read_messages}
-use Rattle.ttp_world.proofs.ListFacts.{filter_map-few}
 
 -- What a report shows is what the slot adds.
 

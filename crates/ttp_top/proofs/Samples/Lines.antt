@@ -1,24 +1,13 @@
 -- The lines on a generated run are lines.
-use Rattle.std.proofs.Common.{◌≡◌, ℕ, true, false, List, [], ◌++◌, refl, sym, subst, arith, length}
-use Rattle.std.specs.Prelude.{◌==◌, codes, decimal}
-use Rattle.std.proofs.lemmas.List.Folds.{list_any-append}
-use Rattle.ttp_base.specs.NodeSet.{set_bits}
-use Rattle.ttp_base.specs.Text.{Lines, newline, is_line, hex}
-use Rattle.ttp_base.proofs.Lines.{is_line-append}
-use Rattle.ttp_base.proofs.Numerals.{has, has-decimal, has-hex}
-use Rattle.ttp_world.specs.declared.medl.Medl.{Medl}
-use Rattle.ttp_world.specs.declared.script.Script.{Script}
+use Rattle.ttp_top.proofs.Words.{◌≡◌, ℕ, true, false, List, [], ◌++◌, refl, sym, subst, arith, length, ◌==◌, codes}
+use Rattle.ttp_top.proofs.Words.{decimal, list_any-append, set_bits, Lines, newline, is_line, is_line-append, has}
+use Rattle.ttp_top.proofs.Words.{has-decimal, Medl, Script, world, legal-none, legal-whole, generated, AreLines, Totals}
+use Rattle.ttp_top.proofs.Words.{IsSample, asked_line, sent_line, hosts_line, summary_lines, totals_of}
+use Rattle.ttp_base.specs.Text.{hex}
+use Rattle.ttp_base.proofs.Numerals.{has-hex}
 use Rattle.ttp_world.specs.Hypothesis.{keeps}
 use Rattle.ttp_world.specs.Trace.{member_digits}
-use Rattle.ttp_world.specs.World.{world}
-use Rattle.ttp_world.proofs.LegalRuns.{legal-none, legal-whole}
 use Rattle.ttp_world.proofs.TraceLines.{keep_line-IsLine}
-use Rattle.script_gen.specs.Generator.{generated}
-use Rattle.commands.specs.Lines.{AreLines}
-use Rattle.ttp_top.specs.declared.totals.Totals.{Totals}
-use Rattle.ttp_top.specs.Calls.Texts.{IsSample}
-use Rattle.ttp_top.specs.Samples.Lines.{asked_line, sent_line, hosts_line, summary_lines}
-use Rattle.ttp_top.specs.Samples.Totals.{totals_of}
 
 ends : (x : List ℕ) → has 10 x ≡ false → is_line (x ++ newline) ≡ true
 ends x none = is_line-append x newline none refl

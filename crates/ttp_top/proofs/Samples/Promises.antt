@@ -1,20 +1,9 @@
 -- The promise of `sample`, from the promise of every form.
-use Rattle.std.proofs.Common.{◌≡◌, ◌⊎◌, ℕ, List, [], Some, refl, sym, subst}
-use Rattle.std.proofs.Common.{inl, inr, arith}
-use Rattle.ttp_base.specs.Outside.{HasRisen, Output, Wrote}
-use Rattle.ttp_world.specs.declared.medl.Medl.{Medl}
-use Rattle.commands.proofs.Fronts.{list_from-front}
-use Rattle.commands.proofs.Both.{list_came}
-use Rattle.commands.proofs.Plans.{list_every, end_comes}
-use Rattle.commands.proofs.Right.{list_from-right}
-use Rattle.commands.proofs.Told.{Quiet, told_shows}
-use Rattle.commands.specs.Outcome.{Showed}
-use Rattle.commands.specs.Plan.{Outside, ends, told_ending}
-use Rattle.ttp_top.specs.Calls.Answer.{Answer, Ending, Plan, ttpbench}
-use Rattle.ttp_top.specs.Calls.Forms.{sample_ending, plan_of}
-use Rattle.ttp_top.specs.Calls.Promise.{Promise}
-use Rattle.ttp_top.specs.Calls.Words.{sample}
-use Rattle.ttp_top.specs.Samples.Promise.{WroteSampleOf, WroteSample, IsTold, SamplePromise}
+use Rattle.ttp_top.proofs.Words.{◌≡◌, ◌⊎◌, ℕ, List, [], Some, refl, sym, subst, inl, inr, arith, HasRisen, Output}
+use Rattle.ttp_top.proofs.Words.{Wrote, Medl, list_from-front, list_came, list_every, end_comes, list_from-right, Quiet}
+use Rattle.ttp_top.proofs.Words.{told_shows, Showed, Outside, ends, told_ending, Answer, Ending, Plan, ttpbench}
+use Rattle.ttp_top.proofs.Words.{sample_ending, plan_of, Promise, sample, IsTold}
+use Rattle.ttp_top.specs.Samples.Promise.{WroteSampleOf, WroteSample, SamplePromise}
 
 -- the plan from a list on
 abbrev from_list : ℕ → ℕ → Medl → Plan

@@ -1,25 +1,9 @@
 -- The lines on a generated run, once all of its slots are counted.
-use Rattle.std.proofs.Common.{◌≡◌, ℕ, [], Some, refl, ap, sym, subst, ◌∙◌, inl, inr}
-use Rattle.ttp_base.specs.Outside.{Output, WroteLines, CutShort}
-use Rattle.ttp_base.specs.Text.{Lines}
-use Rattle.ttp_base.proofs.Outputs.{Wrote-none}
-use Rattle.ttp_world.specs.declared.medl.Medl.{Medl}
-use Rattle.ttp_world.specs.declared.script.Script.{Script}
-use Rattle.ttp_world.specs.Legal.{IsLegal}
-use Rattle.ttp_world.specs.Medl.{IsValid}
-use Rattle.ttp_world.specs.Script.{IsValidScript}
-use Rattle.ttp_world.specs.World.{world}
-use Rattle.script_gen.specs.Generator.{generated}
-use Rattle.cluster_run.specs.Standing.{ClusterView}
-use Rattle.commands.specs.Outcome.{Shows}
-use Rattle.commands.specs.Texts.{answer, alone}
-use Rattle.ttp_top.specs.declared.totals.Totals.{Totals}
-use Rattle.ttp_top.specs.Calls.Answer.{HasRunLegally, ttpbench}
-use Rattle.ttp_top.specs.Calls.Forms.{sample_ending}
-use Rattle.ttp_top.specs.Calls.Texts.{IsSample}
-use Rattle.ttp_top.specs.Samples.Counted.{HasCounted}
-use Rattle.ttp_top.specs.Samples.Lines.{summary_lines}
-use Rattle.ttp_top.specs.Samples.Totals.{totals_of}
+use Rattle.ttp_top.proofs.Words.{◌≡◌, ℕ, [], Some, refl, ap, sym, subst, ◌∙◌, inl, inr, Output, WroteLines, CutShort}
+use Rattle.ttp_top.proofs.Words.{Lines, Wrote-none, Medl, Script, IsLegal, IsValid, IsValidScript, world, generated}
+use Rattle.ttp_top.proofs.Words.{ClusterView, Shows, answer, alone, Totals, ttpbench, sample_ending, IsSample}
+use Rattle.ttp_top.proofs.Words.{HasCounted, summary_lines, totals_of}
+use Rattle.ttp_top.specs.Calls.Answer.{HasRunLegally}
 use Rattle.ttp_top.proofs.Samples.Alike.{totals-legal}
 
 -- a cluster has done all slots of the generated script, and these are the totals of the run

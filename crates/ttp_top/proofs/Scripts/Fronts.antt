@@ -1,22 +1,13 @@
 -- The lines of a run's first slots begin one of its traces.
-use Rattle.std.proofs.Common.{◌≡◌, ℕ, zero, suc, ◌-◌, ◌≤◌, List, [], ◌∷◌, ◌++◌, length, drop, refl, ap, sym, ◌∙◌}
-use Rattle.std.proofs.Common.{append_assoc, append-nil, subst, arith, inr}
-use Rattle.ttp_base.specs.Outside.{Output, WroteLines, CutShort}
-use Rattle.ttp_base.specs.Text.{Lines}
-use Rattle.ttp_base.proofs.Outputs.{CutShort-more}
-use Rattle.ttp_world.specs.declared.medl.Medl.{Medl}
-use Rattle.ttp_world.specs.declared.script.Script.{Script}
+use Rattle.ttp_top.proofs.Words.{◌≡◌, ℕ, zero, suc, ◌-◌, ◌≤◌, List, [], ◌∷◌, ◌++◌, length, drop, refl, ap, sym, ◌∙◌}
+use Rattle.ttp_top.proofs.Words.{append_assoc, subst, arith, inr, Output, WroteLines, CutShort, Lines, CutShort-more}
+use Rattle.ttp_top.proofs.Words.{Medl, Script, IsLegal, IsLegalRun, IsValid, IsValidScript, trace_head, slot_lines}
+use Rattle.ttp_top.proofs.Words.{run_lines, keep_line, back_lines, test_lines, trace_lines, Numbers, world, legal-whole}
+use Rattle.ttp_top.proofs.Words.{next_row, WroteOf, CutOf, fronts, traces, IsTrace}
+use Rattle.std.proofs.Common.{append-nil}
 use Rattle.ttp_world.specs.Hypothesis.{keeps}
-use Rattle.ttp_world.specs.Legal.{IsLegal, IsLegalRun}
-use Rattle.ttp_world.specs.Medl.{IsValid}
-use Rattle.ttp_world.specs.Script.{IsValidScript}
-use Rattle.ttp_world.specs.Trace.{trace_head, slot_lines, history_lines, run_lines, keep_line, back_lines}
-use Rattle.ttp_world.specs.Trace.{test_lines, trace_lines}
-use Rattle.ttp_world.specs.World.{Numbers, world}
-use Rattle.ttp_world.proofs.LegalRuns.{legal-whole}
-use Rattle.cluster_run.specs.NextSlots.{next_row}
-use Rattle.ttp_top.specs.Calls.Answer.{WroteOf, CutOf}
-use Rattle.ttp_top.specs.Calls.Texts.{fronts, traces, IsTrace, IsFront}
+use Rattle.ttp_world.specs.Trace.{history_lines}
+use Rattle.ttp_top.specs.Calls.Texts.{IsFront}
 
 -- The lines of a run go on from those of its first slots.
 pub record GoesOn (list : Medl) (script : Script) (whole older : Numbers) : Type 0 where

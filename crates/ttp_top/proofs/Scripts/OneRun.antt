@@ -1,22 +1,22 @@
 -- Where no host does anything a run has one list of legal numbers: each frame with payload carries message 0.
-use Rattle.std.proofs.Common.{◌≡◌, ℕ, zero, suc, ◌<◌, ◌≤◌, Bool, true, List, [], ◌∷◌, ◌++◌, length, get_or}
-use Rattle.std.proofs.Common.{Option, Some, None, if◌then◌else◌, refl, ap, sym, subst, ◌∙◌, arith}
-use Rattle.std.specs.Prelude.{nat_le, map, IsTrue}
+use Rattle.ttp_top.proofs.Words.{◌≡◌, ℕ, zero, suc, ◌<◌, ◌≤◌, Bool, true, List, [], ◌∷◌, ◌++◌, length, Option, Some}
+use Rattle.ttp_top.proofs.Words.{None, if◌then◌else◌, refl, ap, sym, subst, ◌∙◌, arith, map, Medl, Script, IsLegal}
+use Rattle.ttp_top.proofs.Words.{SlotNumbers, Numbers, world, legal-shapes}
+use Rattle.std.proofs.Common.{get_or}
+use Rattle.std.specs.Prelude.{nat_le, IsTrue}
 use Rattle.std.specs.List.{filter_map}
 use Rattle.std.proofs.Math.ListN.{get_or-map}
 use Rattle.std.proofs.lemmas.Bool.{and_parts, cond-true, leb-true}
 use Rattle.std.proofs.lemmas.List.FromFn.{get_or-map-range_with_len}
-use Rattle.ttp_world.specs.declared.medl.Medl.{Medl}
 use Rattle.ttp_world.specs.declared.node.Entry.TheVariants as entry
-use Rattle.ttp_world.specs.declared.script.Script.{Script}
 use Rattle.ttp_world.specs.Diary.{entry_of}
-use Rattle.ttp_world.specs.Legal.{is_between, is_legal_message, IsLegal}
+use Rattle.ttp_world.specs.Legal.{is_between, is_legal_message}
 use Rattle.ttp_world.specs.Messages.{message_of, newest_number}
 use Rattle.ttp_world.specs.Outgoing.{zeros_of, messages_before, nothing_chosen, message_chosen}
 use Rattle.ttp_world.specs.Script.{payload_of_host}
-use Rattle.ttp_world.specs.World.{SlotNumbers, Numbers, slot_after, is_loaded, chosen_of, messages_chosen, world}
+use Rattle.ttp_world.specs.World.{slot_after, is_loaded, chosen_of, messages_chosen}
 use Rattle.ttp_world.proofs.Carried.{AgreeWhereLoaded, message_of-row_in, row_in-same}
-use Rattle.ttp_world.proofs.LegalShapes.{legal-shapes, legal-message, legal-older}
+use Rattle.ttp_world.proofs.LegalShapes.{legal-message, legal-older}
 use Rattle.ttp_world.proofs.Unhosted.{writes_in-none, reads_in-none}
 use Rattle.ttp_world.proofs.Worlds.{row_of_world}
 use Rattle.ttp_top.specs.Scripts.Unhosted.{IsUnhosted}

@@ -1,28 +1,14 @@
 -- The promise of `run`, from the promise of every form.
-use Rattle.std.proofs.Common.{◌≡◌, ◌⊎◌, ℕ, List, [], Some, refl, ap, sym, subst, ◌∙◌, inl, inr, arith}
-use Rattle.ttp_base.specs.Outside.{HasRisen, Output}
-use Rattle.ttp_base.specs.Text.{Lines}
-use Rattle.ttp_world.specs.declared.medl.Medl.{Medl}
-use Rattle.ttp_world.specs.declared.script.Script.{Script}
-use Rattle.ttp_world.specs.Legal.{IsLegalRun}
-use Rattle.ttp_world.specs.Trace.{trace_lines}
+use Rattle.ttp_top.proofs.Words.{◌≡◌, ◌⊎◌, ℕ, List, [], Some, refl, ap, sym, subst, ◌∙◌, inl, inr, arith, HasRisen}
+use Rattle.ttp_top.proofs.Words.{Output, Lines, Medl, Script, IsLegalRun, trace_lines, Numbers, world, numbers_in-trace}
+use Rattle.ttp_top.proofs.Words.{both_came, both_told, both_ask, end_comes, AllAsk, Quiet, told_shows, told_cut, Showed}
+use Rattle.ttp_top.proofs.Words.{Outside, ends, told_ending, AreTold, Answer, Ending, Plan, WroteOf, CutOf, ttpbench}
+use Rattle.ttp_top.proofs.Words.{trace_ending, plan_of, Promise, traces, fronts, IsTrace, run, WroteTraceOf, RunPromise}
 use Rattle.ttp_world.specs.TraceNumbers.{numbers_in}
-use Rattle.ttp_world.specs.World.{Numbers, world}
-use Rattle.ttp_world.proofs.TraceNumbers.{numbers_in-trace}
 use Rattle.theorems.specs.KeptRun.{IsKeptRun, IsBackRun}
 use Rattle.theorems.proofs.Runs.{kept-run, back-run}
-use Rattle.commands.proofs.Both.{both_came, both_told, both_ask}
-use Rattle.commands.proofs.Plans.{end_comes, AllAsk}
-use Rattle.commands.proofs.Told.{Quiet, told_shows, told_cut, told_leaves}
-use Rattle.commands.specs.Outcome.{Showed}
-use Rattle.commands.specs.Plan.{Outside, ends, told_ending}
-use Rattle.commands.specs.Right.{AreTold}
-use Rattle.ttp_top.specs.Calls.Answer.{Answer, Ending, Plan, WroteOf, CutOf, ttpbench}
-use Rattle.ttp_top.specs.Calls.Forms.{trace_ending, plan_of}
-use Rattle.ttp_top.specs.Calls.Promise.{Promise}
-use Rattle.ttp_top.specs.Calls.Texts.{traces, fronts, IsTrace}
-use Rattle.ttp_top.specs.Calls.Words.{run}
-use Rattle.ttp_top.specs.Scripts.Promise.{WroteTraceOf, WroteTrace, RunPromise}
+use Rattle.commands.proofs.Told.{told_leaves}
+use Rattle.ttp_top.specs.Scripts.Promise.{WroteTrace}
 
 -- the plan of a run, from a script on
 abbrev from_script : Medl → Script → Plan

@@ -1,25 +1,12 @@
 -- What the lines of a slot add to those that were written.
-use Rattle.std.proofs.Common.{◌≤◌, [], ◌∷◌, sym, subst, arith}
-use Rattle.ttp_base.specs.Outside.{Output, WroteLines, CutShort}
-use Rattle.ttp_base.proofs.Outputs.{Wrote-join, CutShort-after}
-use Rattle.ttp_world.specs.declared.medl.Medl.{Medl}
-use Rattle.ttp_world.specs.declared.script.Script.{Script}
-use Rattle.ttp_world.specs.Legal.{IsLegal}
-use Rattle.ttp_world.specs.Medl.{IsValid}
-use Rattle.ttp_world.specs.Script.{IsValidScript}
-use Rattle.ttp_world.specs.Trace.{trace_head, slot_lines, run_lines}
-use Rattle.ttp_world.specs.World.{Numbers, world}
-use Rattle.ttp_world.proofs.LegalRuns.{legal-none}
+use Rattle.ttp_top.proofs.Words.{◌≤◌, [], ◌∷◌, sym, subst, arith, Output, WroteLines, CutShort, Wrote-join}
+use Rattle.ttp_top.proofs.Words.{CutShort-after, Medl, Script, IsLegal, IsValid, IsValidScript, trace_head, slot_lines}
+use Rattle.ttp_top.proofs.Words.{run_lines, Numbers, world, legal-none, next_row, HasDoneSlot, ClusterView}
+use Rattle.ttp_top.proofs.Words.{ClusterStandsFor, WroteOf, CutOf, fronts, traces, HasWritten}
 use Rattle.trace_text.specs.ReportText.{report_lines}
-use Rattle.cluster_run.specs.NextSlots.{next_row}
 use Rattle.cluster_run.specs.Report.{numbers_in}
-use Rattle.cluster_run.specs.Runs.{HasDoneSlot}
-use Rattle.cluster_run.specs.Standing.{ClusterView, ClusterStandsFor}
 use Rattle.cluster_run.specs.Texts.{TellsNext}
 use Rattle.cluster_run.proofs.ReportTexts.{tells_next}
-use Rattle.ttp_top.specs.Calls.Answer.{WroteOf, CutOf}
-use Rattle.ttp_top.specs.Calls.Texts.{fronts, traces}
-use Rattle.ttp_top.specs.Scripts.Written.{HasWritten}
 use Rattle.ttp_top.proofs.Scripts.Fronts.{wrote_front, cut_in}
 
 -- what is so of list and script before the slot is so after it

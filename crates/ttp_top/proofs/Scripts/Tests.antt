@@ -1,17 +1,11 @@
 -- The lines of the tests: that of the hypothesis, and the one on armed nodes where a node is armed.
-use Rattle.std.proofs.Common.{◌≡◌, ℕ, true, false, [], ◌∷◌, refl, subst, ap, sym, inl, inr}
-use Rattle.ttp_base.specs.Outside.{Output, WroteLines, CutShort}
-use Rattle.ttp_base.proofs.Outputs.{Wrote-none, Wrote-join, CutShort-after, CutShort-more}
-use Rattle.ttp_world.specs.declared.medl.Medl.{Medl}
-use Rattle.ttp_world.specs.declared.script.Script.{Script}
+use Rattle.ttp_top.proofs.Words.{◌≡◌, ℕ, true, false, [], ◌∷◌, refl, subst, ap, sym, inl, inr, Output, WroteLines}
+use Rattle.ttp_top.proofs.Words.{CutShort, Wrote-none, Wrote-join, CutShort-after, CutShort-more, Medl, Script}
+use Rattle.ttp_top.proofs.Words.{keep_line, back_lines, test_lines, Says, whole_ending, alone, one, Ending, ttpbench}
+use Rattle.ttp_top.proofs.Words.{keep_ending}
 use Rattle.ttp_world.specs.Hypothesis.{keeps}
 use Rattle.ttp_world.specs.Returning.{has_arm, returns}
-use Rattle.ttp_world.specs.Trace.{keep_line, back_line, back_lines, back_lines_if, test_lines}
-use Rattle.commands.specs.Outcome.{Says}
-use Rattle.commands.specs.Plan.{whole_ending}
-use Rattle.commands.specs.Texts.{alone, one}
-use Rattle.ttp_top.specs.Calls.Answer.{Ending, ttpbench}
-use Rattle.ttp_top.specs.Calls.Forms.{keep_ending}
+use Rattle.ttp_world.specs.Trace.{back_line, back_lines_if}
 
 -- the ending with the line on armed nodes alone, where a node is armed
 abbrev pub back_ending : Medl → Script → Ending

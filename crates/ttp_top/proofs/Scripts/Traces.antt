@@ -1,22 +1,10 @@
 -- A trace: the lines of a run, and then those of the tests.
-use Rattle.std.proofs.Common.{◌≡◌, ℕ, refl, sym, subst, ◌∙◌, inl, inr}
-use Rattle.ttp_base.specs.Outside.{Output, WroteLines, CutShort}
-use Rattle.ttp_base.proofs.Outputs.{Wrote-join, CutShort-after}
-use Rattle.ttp_world.specs.declared.medl.Medl.{Medl}
-use Rattle.ttp_world.specs.declared.script.Script.{Script}
-use Rattle.ttp_world.specs.Legal.{IsLegal, IsLegalRun}
-use Rattle.ttp_world.specs.Medl.{IsValid}
-use Rattle.ttp_world.specs.Script.{IsValidScript}
-use Rattle.ttp_world.specs.Trace.{run_lines, test_lines, trace_lines}
+use Rattle.ttp_top.proofs.Words.{◌≡◌, ℕ, refl, sym, subst, ◌∙◌, inl, inr, Output, WroteLines, CutShort, Wrote-join}
+use Rattle.ttp_top.proofs.Words.{CutShort-after, Medl, Script, IsLegal, IsLegalRun, IsValid, IsValidScript, run_lines}
+use Rattle.ttp_top.proofs.Words.{test_lines, trace_lines, Numbers, numbers_in-trace, ClusterView, Says, Shows, answer}
+use Rattle.ttp_top.proofs.Words.{alone, ttpbench, trace_ending, keep_ending, HasWritten}
 use Rattle.ttp_world.specs.TraceNumbers.{numbers_in}
-use Rattle.ttp_world.specs.World.{Numbers}
-use Rattle.ttp_world.proofs.TraceNumbers.{numbers_in-trace}
-use Rattle.cluster_run.specs.Standing.{ClusterView}
-use Rattle.commands.specs.Outcome.{Says, Shows}
-use Rattle.commands.specs.Texts.{answer, alone}
-use Rattle.ttp_top.specs.Calls.Answer.{HasRun, ttpbench, kept_after}
-use Rattle.ttp_top.specs.Calls.Forms.{trace_ending, keep_ending}
-use Rattle.ttp_top.specs.Scripts.Written.{HasWritten}
+use Rattle.ttp_top.specs.Calls.Answer.{HasRun, kept_after}
 use Rattle.ttp_top.proofs.Scripts.Fronts.{is_trace}
 
 -- a run was written whole, and its cluster has its list and its script

@@ -1,36 +1,17 @@
 -- The promises of `keeps` and of `precision`, from the promise of every form.
-use Rattle.std.proofs.Common.{◌≡◌, ◌⊎◌, ℕ, List, [], ◌∷◌, Option, Some, false, refl, ap, sym, subst, ◌∙◌}
-use Rattle.std.proofs.Common.{inl, inr, arith}
-use Rattle.ttp_base.specs.Outside.{HasRisen, Wrote}
-use Rattle.ttp_base.specs.Text.{Lines}
-use Rattle.ttp_world.specs.declared.medl.Medl.{Medl}
-use Rattle.ttp_world.specs.declared.script.Script.{Script}
-use Rattle.ttp_world.specs.Medl.{IsValid}
-use Rattle.ttp_world.specs.Script.{IsValidScript}
-use Rattle.medl_text.proofs.Valid.{medl_of-valid}
-use Rattle.script_text.proofs.RightFiles.{script_of-valid}
-use Rattle.two_faced.specs.declared.faced.Faced.{Faced}
+use Rattle.ttp_top.proofs.Words.{◌≡◌, ◌⊎◌, ℕ, List, [], ◌∷◌, Option, Some, false, refl, ap, sym, subst, ◌∙◌, inl, inr}
+use Rattle.ttp_top.proofs.Words.{arith, HasRisen, Wrote, Lines, Medl, Script, IsValid, IsValidScript, medl_of-valid}
+use Rattle.ttp_top.proofs.Words.{script_of-valid, Faced, faced_of, seen_of, both_came, both_told, both_ask, AllAsk}
+use Rattle.ttp_top.proofs.Words.{end_comes, Quiet, told_shows, told_cut, both_plan, Showed, Outside, ends, Comes}
+use Rattle.ttp_top.proofs.Words.{told_ending, AreRight, AreTold, IsAmong, Answer, Ending, Plan, ttpbench, keep_ending}
+use Rattle.ttp_top.proofs.Words.{precision_ending, plan_of, answer_line, Promise, IsPrecision, Form, is_run, precision}
+use Rattle.ttp_top.proofs.Words.{WroteSuch, CutSuch, TestPromise}
 use Rattle.two_faced.specs.declared.faced.Faced.TheVariants as faced
-use Rattle.two_faced.specs.Faced.{faced_of}
-use Rattle.two_faced.specs.Seen.{seen_of}
 use Rattle.two_faced.proofs.Rules.{rules-hold}
 use Rattle.two_faced.proofs.SeenWithin.{runs-seen}
 use Rattle.theorems.proofs.Runs.{some-run, faced-run}
-use Rattle.commands.proofs.Both.{both_came, both_told, both_ask}
-use Rattle.commands.proofs.Plans.{AllAsk, end_comes}
-use Rattle.commands.proofs.Told.{Quiet, told_shows, told_cut}
-use Rattle.commands.specs.Files.{both_plan}
-use Rattle.commands.specs.Outcome.{Showed}
-use Rattle.commands.specs.Plan.{Outside, ends, Comes, told_ending}
-use Rattle.commands.specs.Right.{AreRight, AreTold}
-use Rattle.commands.specs.Texts.{IsAmong}
-use Rattle.ttp_top.specs.Calls.Answer.{Answer, Ending, Plan, ttpbench}
-use Rattle.ttp_top.specs.Calls.Forms.{keep_ending, precision_ending, plan_of}
-use Rattle.ttp_top.specs.Calls.Precision.{answer_line}
-use Rattle.ttp_top.specs.Calls.Promise.{Promise}
-use Rattle.ttp_top.specs.Calls.Texts.{IsPrecision}
-use Rattle.ttp_top.specs.Calls.Words.{Form, is_run, keeps, precision}
-use Rattle.ttp_top.specs.Tests.Promise.{WroteSuch, CutSuch, WroteFor, TestPromise, AreTestLines, KeepsPromise}
+use Rattle.ttp_top.specs.Calls.Words.{keeps}
+use Rattle.ttp_top.specs.Tests.Promise.{WroteFor, AreTestLines, KeepsPromise}
 use Rattle.ttp_top.specs.Tests.Promise.{ShowsBound, IsPrecisionLine, PrecisionPromise}
 
 -- A form whose plan asks for a list and a script, and ends with status 0 and lines of which this is so.

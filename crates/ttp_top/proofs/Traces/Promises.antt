@@ -1,43 +1,22 @@
 -- The promises of `verify` and of `modes`, from the promise of every form.
-use Rattle.std.proofs.Common.{◌≡◌, ◌⊎◌, ℕ, ◌+◌, ◌≤◌, Bool, true, false, List, [], ◌∷◌, take, Option, Some, refl}
-use Rattle.std.proofs.Common.{ap, sym, subst, ◌∙◌, inl, inr, arith}
-use Rattle.std.specs.Prelude.{if◌then◌else◌}
-use Rattle.std.proofs.lemmas.List.{take_all}
-use Rattle.ttp_base.specs.Outside.{Held, untold, absent, holds, Load, Gives, HasRisen, Output, Wrote}
-use Rattle.ttp_base.specs.Text.{Lines, lines_of}
-use Rattle.ttp_world.specs.declared.medl.Medl.{Medl}
-use Rattle.ttp_world.specs.declared.script.Script.{Script}
-use Rattle.ttp_world.specs.Legal.{IsLegalRun}
-use Rattle.ttp_world.specs.Medl.{IsValid}
-use Rattle.ttp_world.specs.Script.{IsValidScript}
-use Rattle.ttp_world.specs.Trace.{trace_lines}
+use Rattle.ttp_top.proofs.Words.{◌≡◌, ◌⊎◌, ℕ, ◌+◌, ◌≤◌, Bool, true, false, List, [], ◌∷◌, take, Option, Some, refl, ap}
+use Rattle.ttp_top.proofs.Words.{sym, subst, ◌∙◌, inl, inr, arith, if◌then◌else◌, take_all, HasRisen, Output, Wrote}
+use Rattle.ttp_top.proofs.Words.{Lines, lines_of, Medl, Script, IsLegalRun, IsValid, IsValidScript, trace_lines}
+use Rattle.ttp_top.proofs.Words.{trace_lines-each, numbers_in-trace, medl_of-valid, script_of-valid, is_trace}
+use Rattle.ttp_top.proofs.Words.{is_trace-numbers, trace-short, both_came, both_told, both_ask, end_comes, AllAsk}
+use Rattle.ttp_top.proofs.Words.{Quiet, told_shows, told_cut, both_plan, trace_plan, Showed, Outside, whole_ending}
+use Rattle.ttp_top.proofs.Words.{ends, Comes, told_ending, trace_limit, AreRight, one, those, IsAmong, Answer, Ending}
+use Rattle.ttp_top.proofs.Words.{Plan, ttpbench, plan_of, Promise, differences, Form, is_run, verify, modes, OfTrace}
+use Rattle.ttp_top.proofs.Words.{HasJudged, CutVerdict, AreAllTold, TextPromise}
+use Rattle.ttp_base.specs.Outside.{Held, untold, absent, holds, Load, Gives}
 use Rattle.ttp_world.specs.TraceNumbers.{numbers_in}
-use Rattle.ttp_world.proofs.TraceLines.{trace_lines-each}
-use Rattle.ttp_world.proofs.TraceNumbers.{numbers_in-trace}
-use Rattle.medl_text.proofs.Valid.{medl_of-valid}
-use Rattle.script_text.proofs.RightFiles.{script_of-valid}
 use Rattle.ttp_base.proofs.Lines.{lines_of-concat}
-use Rattle.trace_check.specs.Answer.{is_trace}
-use Rattle.trace_check.proofs.OwnNumbers.{is_trace-numbers}
 use Rattle.theorems.specs.ModeText.{ShowsOneMode}
 use Rattle.theorems.proofs.ModeTexts.{mode-text}
-use Rattle.trace_size.proofs.TraceLength.{trace-short}
-use Rattle.commands.proofs.Both.{both_came, both_told, both_ask}
-use Rattle.commands.proofs.Plans.{end_comes, AllAsk}
-use Rattle.commands.proofs.Told.{Quiet, told_shows, told_cut}
-use Rattle.commands.specs.Files.{both_plan, trace_plan}
-use Rattle.commands.specs.Outcome.{Showed}
-use Rattle.commands.specs.Plan.{Outside, whole_ending, ends, Comes, told_ending}
-use Rattle.commands.specs.Read.{trace_limit}
-use Rattle.commands.specs.Right.{MayBe, AreRight}
-use Rattle.commands.specs.Texts.{one, those, IsAmong, CutAmong}
-use Rattle.ttp_top.specs.Calls.Answer.{Answer, Ending, Plan, ttpbench}
-use Rattle.ttp_top.specs.Calls.Forms.{plan_of}
-use Rattle.ttp_top.specs.Calls.Promise.{Promise}
-use Rattle.ttp_top.specs.Calls.Texts.{differences}
-use Rattle.ttp_top.specs.Calls.Words.{Form, is_run, verify, modes}
-use Rattle.ttp_top.specs.Traces.Promise.{OfTrace, said_same, said_modes, IsVerdict, HasJudged, CutVerdict, IsJudged}
-use Rattle.ttp_top.specs.Traces.Promise.{AreAllTold, TextPromise, ShowOneMode, VerifyPromise, ModesPromise}
+use Rattle.commands.specs.Right.{MayBe}
+use Rattle.commands.specs.Texts.{CutAmong}
+use Rattle.ttp_top.specs.Traces.Promise.{said_same, said_modes, IsVerdict, IsJudged}
+use Rattle.ttp_top.specs.Traces.Promise.{ShowOneMode, VerifyPromise, ModesPromise}
 use Rattle.ttp_top.proofs.Traces.Fronts.{HaveAtMost, is_trace-short, is_trace-front, first_wrong-front}
 
 -- ---- what both forms ask for, and how they end

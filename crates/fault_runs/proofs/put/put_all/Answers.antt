@@ -1,16 +1,10 @@
-use Rattle.std.proofs.Common.{◌≡◌, ◌<◌, ◌+◌, ◌*◌, ◌++◌, ◌∷◌, [], List, ℕ, length, get_or, take, drop, ap, sym, subst, ◌∙◌}
-use Rattle.std.proofs.Common.{append-nil, append_assoc, take_all, arith}
-use Rattle.std.proofs.lemmas.List.{get_or-map, length-map, map-append, take-append-drop, take_more}
-use Rattle.fault_runs.specs.Ends.{LeftBy}
+use Rattle.fault_runs.proofs.Words.{◌≡◌, ◌<◌, ◌+◌, ◌*◌, ◌++◌, ◌∷◌, [], List, ℕ, length, get_or, take, drop, ap, sym}
+use Rattle.fault_runs.proofs.Words.{subst, ◌∙◌, append-nil, append_assoc, arith, get_or-map, length-map, map-append}
+use Rattle.fault_runs.proofs.Words.{take-append-drop, take_more, LeftBy, WroteLines, Lines, Wrote-none, Wrote-join}
+use Rattle.fault_runs.proofs.Words.{Event, Tried, most_tried, HasAtMost, IsTallyOf, tried_of, tried_lines}
+use Rattle.std.proofs.Common.{take_all}
 use Rattle.fault_runs.proofs.Endings.{leaves-after, leaves-more}
-use Rattle.ttp_base.specs.Outside.{WroteLines}
-use Rattle.ttp_base.specs.Text.{Lines}
-use Rattle.ttp_base.proofs.Outputs.{Wrote-none, Wrote-join}
-use Rattle.ttp_world.specs.declared.script.Event.{Event}
 use Rattle.ttp_world.specs.declared.script.Event.TheVariants as event
-use Rattle.fault_runs.specs.declared.tried.Tried.{Tried}
-use Rattle.fault_runs.specs.Runs.{most_tried, HasAtMost, IsTallyOf}
-use Rattle.fault_runs.specs.Tries.{tried_of, tried_lines}
 use Rattle.fault_runs.proofs.put.put_all.Goals as goal
 
 pub loop-tried-init : goal.loop-tried-init

@@ -1,11 +1,5 @@
-use Rattle.std.proofs.Common.{◌≡◌, ◌++◌, ◌+◌, ◌*◌, List, take}
-use Rattle.std.specs.Prelude.{map}
-use Rattle.ttp_base.specs.Outside.{WroteLines}
-use Rattle.ttp_world.specs.declared.medl.Medl.{Medl}
-use Rattle.ttp_world.specs.declared.script.Event.{Event}
-use Rattle.ttp_world.specs.declared.script.Script.{Script}
-use Rattle.fault_runs.specs.Runs.{most_tried, HasAtMost, IsTallyOf}
-use Rattle.fault_runs.specs.Tries.{tried_of, tried_lines}
+use Rattle.fault_runs.proofs.Words.{◌≡◌, ◌++◌, ◌+◌, ◌*◌, List, take, map, WroteLines, Medl, Event, Script, most_tried}
+use Rattle.fault_runs.proofs.Words.{HasAtMost, IsTallyOf, tried_of, tried_lines}
 use Rattle.fault_runs.proofs.put.put_all.Given as goal
 
 -- the runs so far were told and counted

@@ -1,10 +1,5 @@
-use Rattle.std.proofs.Common.{Err}
-use Rattle.std.specs.Prelude.{map, IfErr}
-use Rattle.ttp_base.specs.Outside.{WroteLines}
-use Rattle.campaign.specs.Lines.{summary, summary_with, campaign_lines}
-use Rattle.fault_runs.specs.declared.put.CampaignFault.{CampaignFault}
-use Rattle.fault_runs.specs.Ends.{LeftFewerBy}
-use Rattle.fault_runs.specs.Runs.{end_lines, tried_before}
+use Rattle.fault_runs.proofs.Words.{Err, map, IfErr, WroteLines, summary, summary_with, campaign_lines, CampaignFault}
+use Rattle.fault_runs.proofs.Words.{LeftFewerBy, end_lines, tried_before}
 use Rattle.fault_runs.proofs.Endings.{err-cut, err-fewer}
 use Rattle.fault_runs.proofs.Orders.{cost-ordered}
 use Rattle.fault_runs.proofs.Wholes.{none-written, front-left, faults-left, counts-left, all-written}

@@ -1,12 +1,5 @@
-use Rattle.std.proofs.Common.{◌≡◌, ◌∷◌, [], subst, ◌∙◌}
-use Rattle.std.specs.Prelude.{codes, OnOk}
-use Rattle.ttp_base.specs.Outside.{WroteLines}
-use Rattle.ttp_base.proofs.Outputs.{Wrote-join}
-use Rattle.campaign.specs.declared.cost.Counts.{Counts}
-use Rattle.campaign.specs.Lines.{kept_counts, broken_counts, counts_line}
-use Rattle.fault_runs.specs.declared.put.CampaignFault.{CampaignFault}
-use Rattle.fault_runs.specs.Ends.{LeftFewerBy}
-use Rattle.fault_runs.specs.Runs.{end_lines}
+use Rattle.fault_runs.proofs.Words.{◌≡◌, ◌∷◌, [], subst, ◌∙◌, codes, OnOk, WroteLines, Wrote-join, Counts, kept_counts}
+use Rattle.fault_runs.proofs.Words.{broken_counts, counts_line, CampaignFault, LeftFewerBy, end_lines}
 use Rattle.fault_runs.proofs.Endings.{fewer-after, fewer-more}
 use Rattle.fault_runs.proofs.Results.{ok-weaker, err-weaker}
 use Rattle.fault_runs.proofs.put.put_end.Goals as goal

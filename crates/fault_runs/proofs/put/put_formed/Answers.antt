@@ -1,4 +1,4 @@
-use Rattle.std.proofs.Common.{[]}
+use Rattle.fault_runs.proofs.Words.{[]}
 use Rattle.fault_runs.proofs.Endings.{fewer-none}
 use Rattle.fault_runs.proofs.put.put_formed.Goals as goal
 

@@ -1,11 +1,5 @@
-use Rattle.std.proofs.Common.{◌≡◌, ◌∷◌, [], sym, subst, ◌∙◌}
-use Rattle.ttp_base.specs.Outside.{WroteLines}
-use Rattle.ttp_base.proofs.Outputs.{Wrote-join}
-use Rattle.campaign.specs.declared.cost.Counts.{Counts}
-use Rattle.campaign.specs.Lines.{summary, head_line, own_line}
-use Rattle.fault_runs.specs.declared.put.CampaignFault.{CampaignFault}
-use Rattle.fault_runs.specs.Ends.{LeftFewerBy}
-use Rattle.fault_runs.specs.Runs.{front_lines, AreAtMost, HasAtMost, IsTallyOf}
+use Rattle.fault_runs.proofs.Words.{◌≡◌, ◌∷◌, [], sym, subst, ◌∙◌, WroteLines, Wrote-join, Counts, summary, head_line}
+use Rattle.fault_runs.proofs.Words.{own_line, CampaignFault, LeftFewerBy, front_lines, AreAtMost, HasAtMost, IsTallyOf}
 use Rattle.fault_runs.proofs.Endings.{fewer-after, fewer-more}
 use Rattle.fault_runs.proofs.Results.{ok-always, ok-weaker, err-weaker}
 use Rattle.fault_runs.proofs.put.put_front.Goals as goal

@@ -1,13 +1,5 @@
-use Rattle.std.proofs.Common.{◌≡◌, ℕ, ◌≤◌, length, ap, sym, subst, ◌∙◌}
-use Rattle.std.proofs.lemmas.List.{length-map}
-use Rattle.std.specs.Prelude.{map, OnOk, IfErr}
-use Rattle.ttp_base.specs.Outside.{WroteLines}
-use Rattle.ttp_base.specs.Text.{Lines}
-use Rattle.ttp_world.proofs.Lists.{nodes-most}
-use Rattle.fault_runs.specs.declared.put.CampaignFault.{CampaignFault}
-use Rattle.fault_runs.specs.Ends.{LeftBy}
-use Rattle.fault_runs.specs.Runs.{tried_in, most_tried}
-use Rattle.fault_runs.specs.Tries.{tried_of}
+use Rattle.fault_runs.proofs.Words.{◌≡◌, ℕ, ◌≤◌, length, ap, sym, subst, ◌∙◌, length-map, map, OnOk, IfErr, WroteLines}
+use Rattle.fault_runs.proofs.Words.{Lines, nodes-most, CampaignFault, LeftBy, tried_in, most_tried, tried_of}
 use Rattle.fault_runs.proofs.Ranges.{tried-few, tried-stand}
 use Rattle.fault_runs.proofs.Tries.{lines-of}
 use Rattle.fault_runs.proofs.put.put_slot.Goals as goal

@@ -1,15 +1,8 @@
-use Rattle.std.proofs.Common.{◌≡◌, ◌+◌, ◌++◌, List, ap, sym, subst, ◌∙◌}
-use Rattle.std.proofs.Common.{append_assoc}
-use Rattle.std.proofs.lemmas.List.{map-append}
-use Rattle.ttp_base.specs.Outside.{WroteLines}
-use Rattle.ttp_base.specs.Text.{Lines}
+use Rattle.fault_runs.proofs.Words.{◌≡◌, ◌+◌, ◌++◌, List, ap, sym, subst, ◌∙◌, append_assoc, map-append, WroteLines}
+use Rattle.fault_runs.proofs.Words.{Lines, LeftBy, Wrote-none, Wrote-join, Event, run_line, fault_lines, tried_in}
+use Rattle.fault_runs.proofs.Words.{tried_before, IsTallyOf}
 use Rattle.ttp_base.proofs.Below.{flat_map-next, flat_map-split}
-use Rattle.fault_runs.specs.Ends.{LeftBy}
 use Rattle.fault_runs.proofs.Endings.{leaves-after, leaves-more}
-use Rattle.ttp_base.proofs.Outputs.{Wrote-none, Wrote-join}
-use Rattle.ttp_world.specs.declared.script.Event.{Event}
-use Rattle.campaign.specs.Lines.{run_line}
-use Rattle.fault_runs.specs.Runs.{fault_lines, tried_in, tried_before, IsTallyOf}
 use Rattle.fault_runs.proofs.put.put_slots.Goals as goal
 
 pub loop-slot-init : goal.loop-slot-init

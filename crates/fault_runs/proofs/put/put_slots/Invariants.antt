@@ -1,6 +1,4 @@
-use Rattle.std.proofs.Common.{◌*◌}
-use Rattle.ttp_base.specs.Outside.{WroteLines}
-use Rattle.fault_runs.specs.Runs.{fault_lines, tried_before, most_tried, HasAtMost, IsTallyOf}
+use Rattle.fault_runs.proofs.Words.{◌*◌, WroteLines, fault_lines, tried_before, most_tried, HasAtMost, IsTallyOf}
 use Rattle.fault_runs.specs.Tries.{IsOwnAfter}
 use Rattle.fault_runs.proofs.put.put_slots.Given as goal
 

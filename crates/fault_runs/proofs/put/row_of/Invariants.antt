@@ -1,5 +1,4 @@
-use Rattle.std.proofs.Common.{◌≡◌, take}
-use Rattle.fault_runs.specs.Runs.{entries_of}
+use Rattle.fault_runs.proofs.Words.{◌≡◌, take, entries_of}
 use Rattle.fault_runs.proofs.put.row_of.Given as goal
 
 -- of the nodes so far

@@ -1,10 +1,6 @@
-use Rattle.std.proofs.Common.{◌≡◌, Bool, cond, List, [], ap, sym, subst, ◌∙◌}
+use Rattle.fault_runs.proofs.Words.{◌≡◌, Bool, cond, List, [], ap, sym, subst, ◌∙◌, Entry, Event, faults_in, row_of}
+use Rattle.fault_runs.proofs.Words.{zeros_world, tried_in}
 use Rattle.std.specs.Prelude.{IfOk}
-use Rattle.ttp_world.specs.declared.node.Entry.{Entry}
-use Rattle.ttp_world.specs.declared.script.Event.{Event}
-use Rattle.campaign.specs.Tried.{faults_in, row_of}
-use Rattle.campaign.specs.ZerosWorld.{zeros_world}
-use Rattle.fault_runs.specs.Runs.{tried_in}
 use Rattle.fault_runs.proofs.Ranges.{shown-row}
 use Rattle.fault_runs.proofs.put.tried_in.Goals as goal
 

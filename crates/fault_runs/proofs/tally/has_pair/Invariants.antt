@@ -1,6 +1,4 @@
-use Rattle.std.proofs.Common.{◌≡◌, false, length, take}
-use Rattle.std.specs.Prelude.{nat_le}
-use Rattle.std.specs.List.{list_any}
+use Rattle.fault_runs.proofs.Words.{◌≡◌, false, length, take, nat_le, list_any}
 use Rattle.fault_runs.proofs.tally.has_pair.Given as goal
 
 -- none of those so far

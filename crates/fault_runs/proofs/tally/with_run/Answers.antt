@@ -1,7 +1,5 @@
-use Rattle.std.proofs.Common.{◌+◌, List, ℕ, length, ap, not, ◌∙◌}
-use Rattle.std.specs.Prelude.{nat_le, if◌then◌else◌}
-use Rattle.std.specs.List.{list_any}
-use Rattle.campaign.specs.declared.cost.Counts.{Counts}
+use Rattle.fault_runs.proofs.Words.{◌+◌, List, ℕ, length, ap, ◌∙◌, nat_le, if◌then◌else◌, list_any, Counts}
+use Rattle.std.proofs.Common.{not}
 use Rattle.fault_runs.proofs.Counts.{counts-next}
 use Rattle.fault_runs.proofs.tally.with_run.Goals as goal
 

@@ -1,4 +1,4 @@
-use Rattle.std.proofs.Common.{◌+◌, ◌*◌}
+use Rattle.fault_runs.proofs.Words.{◌+◌, ◌*◌}
 use Rattle.fault_runs.proofs.tried.+halves.Given as goal
 
 abbrev pub decreases-try_beside : goal.decreases-try_beside

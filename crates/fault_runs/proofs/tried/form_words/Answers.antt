@@ -1,6 +1,4 @@
-use Rattle.std.proofs.Common.{◌≡◌, ◌++◌, List, ℕ, subst}
-use Rattle.std.specs.Prelude.{OnOk}
-use Rattle.campaign.specs.CostText.{cost_words}
+use Rattle.fault_runs.proofs.Words.{◌≡◌, ◌++◌, List, ℕ, subst, OnOk, cost_words}
 use Rattle.fault_runs.proofs.tried.form_words.Goals as goal
 
 pub returns : goal.returns

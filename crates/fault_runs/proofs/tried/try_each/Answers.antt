@@ -1,8 +1,5 @@
-use Rattle.std.proofs.Common.{◌≡◌, ◌+◌, ◌++◌, ◌∷◌, [], take, ap, sym, ◌∙◌}
-use Rattle.std.proofs.lemmas.List.{map-append, take_more}
-use Rattle.std.specs.Prelude.{map}
-use Rattle.ttp_world.specs.declared.script.Event.{Event}
-use Rattle.fault_runs.specs.Tries.{tried_of}
+use Rattle.fault_runs.proofs.Words.{◌≡◌, ◌+◌, ◌++◌, ◌∷◌, [], take, ap, sym, ◌∙◌, map-append, take_more, map, Event}
+use Rattle.fault_runs.proofs.Words.{tried_of}
 use Rattle.fault_runs.proofs.tried.try_each.Goals as goal
 
 pub loop-fault-preserved : goal.loop-fault-preserved

@@ -1,7 +1,5 @@
-use Rattle.std.proofs.Common.{◌≡◌, take}
-use Rattle.std.specs.Prelude.{map}
+use Rattle.fault_runs.proofs.Words.{◌≡◌, take, map, tried_of}
 use Rattle.run_costs.specs.Standing.{IsRunOfList}
-use Rattle.fault_runs.specs.Tries.{tried_of}
 use Rattle.fault_runs.proofs.tried.try_each.Given as goal
 
 -- the runs of the faults so far

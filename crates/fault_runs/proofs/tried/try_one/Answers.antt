@@ -1,9 +1,8 @@
-use Rattle.std.proofs.Common.{◌≡◌, ◌++◌, List, ℕ, ap, ◌∙◌}
+use Rattle.fault_runs.proofs.Words.{◌≡◌, ◌++◌, List, ℕ, ap, ◌∙◌, Script, cost_words, summary, summary_with, run_line}
+use Rattle.fault_runs.proofs.Words.{is_same_cost}
 use Rattle.std.specs.Str.{bytes_eq}
-use Rattle.ttp_world.specs.declared.script.Script.{Script}
 use Rattle.campaign.specs.Cost.{says_yes}
-use Rattle.campaign.specs.CostText.{cost_words}
-use Rattle.campaign.specs.Lines.{summary, summary_with, fault_line, run_line, is_same_cost}
+use Rattle.campaign.specs.Lines.{fault_line}
 use Rattle.fault_runs.proofs.Orders.{cost-ordered}
 use Rattle.fault_runs.proofs.tried.try_one.Goals as goal
 

@@ -1,5 +1,4 @@
-use Rattle.std.proofs.Common.{◌≡◌, drop}
-use Rattle.std.specs.List.{list_any}
+use Rattle.hypothesis.proofs.Words.{◌≡◌, drop, list_any}
 use Rattle.ttp_world.specs.Returning.{is_arm}
 use Rattle.hypothesis.proofs.armed.has_arm.Given as goal
 

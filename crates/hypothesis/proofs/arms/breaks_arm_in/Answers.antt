@@ -1,8 +1,6 @@
-use Rattle.std.proofs.Common.{◌≡◌, true, false, length, ap, sym, below_more, ◌∙◌, rules, arith}
-use Rattle.ttp_world.specs.Returning.{fails_if_armed}
-use Rattle.ttp_world.specs.Script.{is_armed}
-use Rattle.hypothesis.specs.Standing.{told_start}
-use Rattle.ttp_world.proofs.RangeFacts.{any-range as one-passes, none-passes}
+use Rattle.hypothesis.proofs.Words.{◌≡◌, true, false, length, ap, sym, below_more, ◌∙◌, rules, arith, fails_if_armed}
+use Rattle.hypothesis.proofs.Words.{is_armed, told_start, none-passes}
+use Rattle.ttp_world.proofs.RangeFacts.{any-range as one-passes}
 use Rattle.hypothesis.proofs.arms.breaks_arm_in.Goals as goal
 
 pub loop-node-preserved : goal.loop-node-preserved

@@ -1,7 +1,4 @@
-use Rattle.std.proofs.Common.{◌≡◌, ℕ, ◌<◌, false}
-use Rattle.ttp_world.specs.Returning.{fails_if_armed}
-use Rattle.ttp_world.specs.Script.{is_armed}
-use Rattle.hypothesis.specs.Standing.{told_start}
+use Rattle.hypothesis.proofs.Words.{◌≡◌, ℕ, ◌<◌, false, fails_if_armed, is_armed, told_start}
 use Rattle.hypothesis.proofs.arms.breaks_arm_in.Given as goal
 
 -- none of the nodes so far

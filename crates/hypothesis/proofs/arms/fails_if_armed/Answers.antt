@@ -1,6 +1,4 @@
-use Rattle.std.proofs.Common.{◌≡◌, true, false, not, ap, sym, ◌∙◌, rules}
-use Rattle.ttp_world.specs.Returning.{fails_if_armed}
-use Rattle.hypothesis.specs.Standing.{told_start}
+use Rattle.hypothesis.proofs.Words.{◌≡◌, true, false, not, ap, sym, ◌∙◌, rules, fails_if_armed, told_start}
 use Rattle.hypothesis.proofs.arms.fails_if_armed.Goals as goal
 
 pub returns-then-not-armed : goal.returns-then-not-armed

@@ -1,8 +1,7 @@
-use Rattle.std.proofs.Common.{◌≡◌, true, length, sym, below_more, ◌∙◌, rules, arith}
-use Rattle.ttp_world.specs.Returning.{is_deaf}
-use Rattle.ttp_world.proofs.Lists.{nodes-most}
+use Rattle.hypothesis.proofs.Words.{◌≡◌, true, length, sym, below_more, ◌∙◌, rules, arith, is_deaf, nodes-most}
+use Rattle.hypothesis.proofs.Words.{none-passes}
 use Rattle.hypothesis.proofs.ArmLines.{deaf-same}
-use Rattle.ttp_world.proofs.RangeFacts.{any-range as one-passes, none-passes}
+use Rattle.ttp_world.proofs.RangeFacts.{any-range as one-passes}
 use Rattle.hypothesis.proofs.arms.is_any_deaf.Goals as goal
 
 pub loop-node-preserved : goal.loop-node-preserved

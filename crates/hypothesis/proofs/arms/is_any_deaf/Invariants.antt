@@ -1,5 +1,4 @@
-use Rattle.std.proofs.Common.{◌≡◌, ℕ, ◌<◌, false}
-use Rattle.ttp_world.specs.Returning.{is_deaf}
+use Rattle.hypothesis.proofs.Words.{◌≡◌, ℕ, ◌<◌, false, is_deaf}
 use Rattle.hypothesis.proofs.arms.is_any_deaf.Given as goal
 
 -- none of the nodes so far

@@ -1,12 +1,8 @@
-use Rattle.std.proofs.Common.{◌≡◌, ℕ, ◌+◌, ◌-◌, ◌<◌, ◌≤◌, ◌⊎◌, inl, inr, true, false, not, ◌&&◌, length, ap, sym, ◌∙◌}
-use Rattle.std.proofs.Common.{below_more, rules, arith}
-use Rattle.std.specs.Prelude.{nat_lt}
-use Rattle.std.proofs.lemmas.Bool.{cases_lt, lt-ltb, le-ltb}
-use Rattle.ttp_world.specs.Returning.{two_rounds, four_rounds, is_near_fault}
-use Rattle.ttp_world.proofs.Lists.{nodes-most}
-use Rattle.hypothesis.specs.Walks.{joined_in}
+use Rattle.hypothesis.proofs.Words.{◌≡◌, ℕ, ◌+◌, ◌-◌, ◌<◌, ◌≤◌, ◌⊎◌, inl, inr, true, false, not, ◌&&◌, length, ap, sym}
+use Rattle.hypothesis.proofs.Words.{◌∙◌, below_more, rules, arith, nat_lt, cases_lt, lt-ltb, le-ltb, four_rounds}
+use Rattle.hypothesis.proofs.Words.{is_near_fault, nodes-most, joined_in, and-false}
+use Rattle.ttp_world.specs.Returning.{two_rounds}
 use Rattle.hypothesis.proofs.LongFaulty.{joined-none, joined-some, few-zero, some-many}
-use Rattle.std.proofs.Math.Bool.{and-false}
 use Rattle.hypothesis.proofs.arms.is_apart.Goals as goal
 
 pub joins_in-requires-clause-come : goal.joins_in-requires-clause-come

@@ -1,8 +1,4 @@
-use Rattle.std.proofs.Common.{◌≡◌, ℕ, ◌<◌, ◌≤◌, length, false}
-use Rattle.std.specs.Prelude.{nat_lt}
-use Rattle.ttp_world.specs.Hypothesis.{ClusterStart}
-use Rattle.hypothesis.specs.FaultySlots.{AreNewest}
-use Rattle.hypothesis.specs.Walks.{joined_in}
+use Rattle.hypothesis.proofs.Words.{◌≡◌, ℕ, ◌<◌, ◌≤◌, length, false, nat_lt, ClusterStart, AreNewest, joined_in}
 use Rattle.hypothesis.proofs.arms.is_apart.Given as goal
 
 -- in the slots so far nobody does

@@ -1,8 +1,6 @@
-use Rattle.std.proofs.Common.{◌≡◌, ◌+◌, ◌-◌, ◌≤◌, min, true, false, not, ap, sym, ◌∙◌, below_more, rules, arith}
-use Rattle.ttp_world.specs.Returning.{four_rounds, is_missed_in}
-use Rattle.ttp_world.proofs.Lists.{nodes-most}
-use Rattle.hypothesis.specs.Standing.{told_start}
-use Rattle.ttp_world.proofs.RangeFacts.{any-range as one-passes, none-passes}
+use Rattle.hypothesis.proofs.Words.{◌≡◌, ◌+◌, ◌-◌, ◌≤◌, min, true, false, not, ap, sym, ◌∙◌, below_more, rules, arith}
+use Rattle.hypothesis.proofs.Words.{four_rounds, is_missed_in, nodes-most, told_start, none-passes}
+use Rattle.ttp_world.proofs.RangeFacts.{any-range as one-passes}
 use Rattle.hypothesis.proofs.arms.is_heard.Goals as goal
 
 pub slot_at-requires-clause-come : goal.slot_at-requires-clause-come

@@ -1,6 +1,4 @@
-use Rattle.std.proofs.Common.{◌≡◌, ℕ, ◌<◌, ◌≤◌, false}
-use Rattle.ttp_world.specs.Returning.{is_missed_in}
-use Rattle.hypothesis.specs.Standing.{told_start}
+use Rattle.hypothesis.proofs.Words.{◌≡◌, ℕ, ◌<◌, ◌≤◌, false, is_missed_in, told_start}
 use Rattle.hypothesis.proofs.arms.is_heard.Given as goal
 
 -- in none of the slots so far

@@ -1,5 +1,4 @@
-use Rattle.std.proofs.Common.{◌≡◌, drop}
-use Rattle.std.specs.List.{list_any}
+use Rattle.hypothesis.proofs.Words.{◌≡◌, drop, list_any}
 use Rattle.ttp_world.specs.Returning.{is_line_of}
 use Rattle.hypothesis.proofs.arms.is_left_alone.Given as goal
 

@@ -1,11 +1,6 @@
-use Rattle.std.proofs.Common.{◌≡◌, ◌<◌, true, false, ◌&&◌, ap, sym, ◌∙◌, rules, arith}
-use Rattle.ttp_base.specs.NodeSet.{most_nodes}
-use Rattle.ttp_world.specs.Returning.{is_long_faulty, is_apart}
-use Rattle.ttp_world.proofs.Lists.{nodes-most}
-use Rattle.hypothesis.specs.Standing.{told_start}
+use Rattle.hypothesis.proofs.Words.{◌≡◌, ◌<◌, true, false, ◌&&◌, ap, sym, ◌∙◌, rules, arith, most_nodes, is_long_faulty}
+use Rattle.hypothesis.proofs.Words.{is_apart, nodes-most, told_start, and-true, and-false}
 use Rattle.hypothesis.proofs.LongFaulty.{long-faulty}
-use Rattle.ttp_base.proofs.NodeSets.{and-true}
-use Rattle.std.proofs.Math.Bool.{and-false}
 use Rattle.hypothesis.proofs.arms.is_long_faulty.Goals as goal
 
 pub returns-then-not-is_apart : goal.returns-then-not-is_apart

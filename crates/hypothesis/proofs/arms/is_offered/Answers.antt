@@ -1,12 +1,8 @@
-use Rattle.std.proofs.Common.{◌≡◌, ◌+◌, ◌-◌, ◌≤◌, min, true, false, ◌||◌, ap, sym, ◌∙◌, below_more, rules, arith}
-use Rattle.std.specs.Prelude.{nat_lt}
-use Rattle.std.specs.List.{list_any}
-use Rattle.std.proofs.lemmas.Bool.{le-ltb}
-use Rattle.ttp_world.specs.Returning.{two_rounds, offers_place, run_slots}
-use Rattle.ttp_world.proofs.Lists.{nodes-most}
-use Rattle.hypothesis.specs.Standing.{told_start}
-use Rattle.std.proofs.Math.Bool.{or-true}
-use Rattle.ttp_world.proofs.RangeFacts.{any-range as one-passes, none-passes}
+use Rattle.hypothesis.proofs.Words.{◌≡◌, ◌+◌, ◌-◌, ◌≤◌, min, true, false, ◌||◌, ap, sym, ◌∙◌, below_more, rules, arith}
+use Rattle.hypothesis.proofs.Words.{nat_lt, list_any, le-ltb, offers_place, nodes-most, told_start, or-true}
+use Rattle.hypothesis.proofs.Words.{none-passes}
+use Rattle.ttp_world.specs.Returning.{two_rounds, run_slots}
+use Rattle.ttp_world.proofs.RangeFacts.{any-range as one-passes}
 use Rattle.hypothesis.proofs.arms.is_offered.Goals as goal
 
 pub slot_at-requires-clause-come : goal.slot_at-requires-clause-come

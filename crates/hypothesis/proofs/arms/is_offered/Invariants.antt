@@ -1,6 +1,4 @@
-use Rattle.std.proofs.Common.{◌≡◌, ℕ, ◌<◌, ◌≤◌, false}
-use Rattle.ttp_world.specs.Returning.{offers_place}
-use Rattle.hypothesis.specs.Standing.{told_start}
+use Rattle.hypothesis.proofs.Words.{◌≡◌, ℕ, ◌<◌, ◌≤◌, false, offers_place, told_start}
 use Rattle.hypothesis.proofs.arms.is_offered.Given as goal
 
 -- in none of the slots so far

@@ -1,4 +1,4 @@
-use Rattle.std.proofs.Common.{◌≡◌, ◌+◌, drop}
+use Rattle.hypothesis.proofs.Words.{◌≡◌, ◌+◌, drop}
 use Rattle.std.specs.Prelude.{count_by}
 use Rattle.ttp_world.specs.Returning.{is_arm_line}
 use Rattle.hypothesis.proofs.arms.is_only_arm.Given as goal

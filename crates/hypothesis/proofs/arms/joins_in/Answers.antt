@@ -1,5 +1,4 @@
-use Rattle.std.proofs.Common.{ap}
-use Rattle.std.specs.Prelude.{nat_lt}
+use Rattle.hypothesis.proofs.Words.{ap, nat_lt}
 use Rattle.hypothesis.proofs.arms.joins_in.Goals as goal
 
 pub returns : goal.returns

@@ -1,10 +1,6 @@
-use Rattle.std.proofs.Common.{◌≡◌, ℕ, ◌+◌, ◌-◌, false, inl, inr, ap, sym, subst, ◌∙◌, rules, arith}
-use Rattle.std.proofs.lemmas.Bool.{cases_lt}
-use Rattle.ttp_base.specs.NodeSet.{has_node}
-use Rattle.ttp_world.specs.Hypothesis.{numbers_of}
-use Rattle.ttp_world.specs.Returning.{four_rounds, slots_before, faulty_since, breaks_arm_in}
-use Rattle.hypothesis.specs.SlotIncidents.{AreKeptFrom}
-use Rattle.hypothesis.specs.Standing.{told_start, HaveSameNodes}
+use Rattle.hypothesis.proofs.Words.{◌≡◌, ℕ, ◌+◌, ◌-◌, false, inl, inr, ap, sym, subst, ◌∙◌, rules, arith, cases_lt}
+use Rattle.hypothesis.proofs.Words.{has_node, numbers_of, four_rounds, slots_before, faulty_since, breaks_arm_in}
+use Rattle.hypothesis.proofs.Words.{AreKeptFrom, told_start, HaveSameNodes}
 use Rattle.hypothesis.proofs.Ranges.{first-below}
 use Rattle.hypothesis.proofs.back_walk.arms_broken.Goals as goal
 use Rattle.hypothesis.proofs.back_walk.arms_broken.Goals.{else-has_come-via-then-has_come+else-breaks_arm_in}

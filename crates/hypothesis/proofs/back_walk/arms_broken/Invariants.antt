@@ -1,9 +1,5 @@
-use Rattle.std.proofs.Common.{◌≡◌, ℕ, ◌+◌, ◌-◌, ◌≤◌, false}
-use Rattle.ttp_world.specs.Hypothesis.{numbers_of}
-use Rattle.ttp_world.specs.Returning.{four_rounds, slots_before, faulty_since, breaks_arm_in}
-use Rattle.hypothesis.specs.FaultySlots.{AreNewest}
-use Rattle.hypothesis.specs.SlotIncidents.{AreKeptFrom}
-use Rattle.hypothesis.specs.Standing.{told_start, HaveSameNodes}
+use Rattle.hypothesis.proofs.Words.{◌≡◌, ℕ, ◌+◌, ◌-◌, ◌≤◌, false, numbers_of, four_rounds, slots_before, faulty_since}
+use Rattle.hypothesis.proofs.Words.{breaks_arm_in, AreNewest, AreKeptFrom, told_start, HaveSameNodes}
 use Rattle.hypothesis.proofs.back_walk.arms_broken.Given as goal
 
 -- the newest of the slots so far are kept, those that four rounds have followed are fine, and what is kept of the

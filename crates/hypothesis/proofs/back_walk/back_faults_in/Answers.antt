@@ -1,6 +1,5 @@
-use Rattle.std.proofs.Common.{◌≡◌, ◌-◌, rules}
-use Rattle.ttp_world.specs.Returning.{four_rounds, faulty_then, slots_before, faulty_since, faulty_at}
-use Rattle.hypothesis.specs.Standing.{told_start}
+use Rattle.hypothesis.proofs.Words.{◌≡◌, ◌-◌, rules, four_rounds, faulty_then, slots_before, faulty_since, faulty_at}
+use Rattle.hypothesis.proofs.Words.{told_start}
 use Rattle.hypothesis.proofs.SlotSteps.{stayed-at, back-faults}
 use Rattle.hypothesis.proofs.back_walk.back_faults_in.Goals as goal
 

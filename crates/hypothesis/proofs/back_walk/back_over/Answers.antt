@@ -1,5 +1,4 @@
-use Rattle.hypothesis.specs.Standing.{told_start}
-use Rattle.hypothesis.specs.Walks.{back_course}
+use Rattle.hypothesis.proofs.Words.{told_start, back_course}
 use Rattle.hypothesis.proofs.back_walk.back_over.Goals as goal
 
 pub returns-clause-walk : goal.returns-clause-walk

@@ -1,6 +1,4 @@
-use Rattle.std.proofs.Common.{◌≡◌, ◌+◌, ◌-◌, sym, ◌∙◌, rules, arith}
-use Rattle.ttp_world.specs.Returning.{four_rounds, breaks_arm_in}
-use Rattle.hypothesis.specs.Standing.{told_start}
+use Rattle.hypothesis.proofs.Words.{◌≡◌, ◌+◌, ◌-◌, sym, ◌∙◌, rules, arith, four_rounds, breaks_arm_in, told_start}
 use Rattle.hypothesis.proofs.Ranges.{none-below, first-below}
 use Rattle.hypothesis.proofs.back_walk.late_arms_broken.Goals as goal
 

@@ -1,7 +1,4 @@
-use Rattle.std.proofs.Common.{◌≡◌, ℕ, ◌<◌, false}
-use Rattle.ttp_world.specs.Returning.{breaks_arm_in}
-use Rattle.hypothesis.specs.SlotIncidents.{AreKeptFrom}
-use Rattle.hypothesis.specs.Standing.{told_start}
+use Rattle.hypothesis.proofs.Words.{◌≡◌, ℕ, ◌<◌, false, breaks_arm_in, AreKeptFrom, told_start}
 use Rattle.hypothesis.proofs.back_walk.late_arms_broken.Given as goal
 
 -- none of the slots so far is one, and what is kept of the nodes is so from the next one on

@@ -1,7 +1,5 @@
-use Rattle.std.proofs.Common.{◌≡◌, ℕ, ◌+◌, max, sym, subst, ◌∙◌, rules, arith}
-use Rattle.hypothesis.specs.SlotIncidents.{AreKeptFrom}
-use Rattle.hypothesis.specs.Standing.{told_start}
-use Rattle.hypothesis.specs.Walks.{HasWalked, back_course}
+use Rattle.hypothesis.proofs.Words.{◌≡◌, ℕ, ◌+◌, max, sym, subst, ◌∙◌, rules, arith, AreKeptFrom, told_start, HasWalked}
+use Rattle.hypothesis.proofs.Words.{back_course}
 use Rattle.hypothesis.proofs.Walks.{broken-back, walked-back}
 use Rattle.hypothesis.proofs.back_walk.started_back.Goals as goal
 

@@ -1,8 +1,4 @@
-use Rattle.std.proofs.Common.{◌≡◌}
-use Rattle.hypothesis.specs.FaultySlots.{AreNewest}
-use Rattle.hypothesis.specs.SlotIncidents.{AreKeptFrom}
-use Rattle.hypothesis.specs.Standing.{told_start}
-use Rattle.hypothesis.specs.Walks.{HasWalked, back_course}
+use Rattle.hypothesis.proofs.Words.{◌≡◌, AreNewest, AreKeptFrom, told_start, HasWalked, back_course}
 use Rattle.hypothesis.proofs.back_walk.started_back.Given as goal
 
 -- the walk has gone over the slots so far, the newest are kept, and so is what happens from the next one on

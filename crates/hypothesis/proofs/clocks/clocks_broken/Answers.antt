@@ -1,11 +1,8 @@
-use Rattle.std.proofs.Common.{◌≡◌, ℕ, ℤ, pos, ◌≤ℤ◌, Bool, true, false, cond, not, Some, sym, ◌∙◌, ap, length, rules, arith}
-use Rattle.std.specs.List.{find, list_any}
+use Rattle.hypothesis.proofs.Words.{◌≡◌, ℕ, ℤ, pos, ◌≤ℤ◌, Bool, true, false, cond, not, Some, sym, ◌∙◌, ap, length}
+use Rattle.hypothesis.proofs.Words.{rules, arith, list_any, all-below, below, errors_hold_in, drifts_hold}
+use Rattle.hypothesis.proofs.Words.{is_within_bound, reading_error, is_error}
+use Rattle.std.specs.List.{find}
 use Rattle.std.proofs.lemmas.Int.{ints}
-use Rattle.ttp_base.proofs.Below.{all-below}
-use Rattle.ttp_base.specs.NodeSet.{below}
-use Rattle.ttp_world.specs.Hypothesis.{errors_hold_in, drifts_hold, is_within_bound}
-use Rattle.ttp_world.specs.Script.{reading_error}
-use Rattle.hypothesis.specs.Errors.{is_error}
 use Rattle.hypothesis.proofs.ErrorFree.{no_errors-sum}
 use Rattle.hypothesis.proofs.Ranges.{none-below, first-below}
 use Rattle.hypothesis.proofs.clocks.clocks_broken.Goals as goal

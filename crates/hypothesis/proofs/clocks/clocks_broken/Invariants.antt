@@ -1,5 +1,4 @@
-use Rattle.std.proofs.Common.{◌≡◌, ℕ, ◌<◌, ◌≤◌, true, false, not}
-use Rattle.ttp_world.specs.Hypothesis.{drifts_hold, errors_hold_in}
+use Rattle.hypothesis.proofs.Words.{◌≡◌, ℕ, ◌<◌, ◌≤◌, true, false, not, drifts_hold, errors_hold_in}
 use Rattle.hypothesis.proofs.clocks.clocks_broken.Given as goal
 
 -- the drifts are within their bound, and so are the errors of the slots so far, and of those that are known

@@ -1,8 +1,4 @@
-use Rattle.std.proofs.Common.{sym, rules, arith}
-use Rattle.std.specs.Prelude.{length}
-use Rattle.ttp_world.specs.Hypothesis.{is_within_bound}
-use Rattle.ttp_world.specs.Script.{drift_of}
-use Rattle.ttp_base.proofs.Below.{all-below}
+use Rattle.hypothesis.proofs.Words.{sym, rules, arith, length, is_within_bound, drift_of, all-below}
 use Rattle.hypothesis.proofs.Ranges.{one-fails}
 use Rattle.hypothesis.proofs.clocks.drifts_hold.Goals as goal
 

@@ -1,6 +1,4 @@
-use Rattle.std.proofs.Common.{◌≡◌, ℕ, ◌<◌, true}
-use Rattle.ttp_world.specs.Hypothesis.{is_within_bound}
-use Rattle.ttp_world.specs.Script.{drift_of}
+use Rattle.hypothesis.proofs.Words.{◌≡◌, ℕ, ◌<◌, true, is_within_bound, drift_of}
 use Rattle.hypothesis.proofs.clocks.drifts_hold.Given as goal
 
 -- the drifts of the nodes so far are within it

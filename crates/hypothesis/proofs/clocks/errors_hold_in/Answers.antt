@@ -1,6 +1,4 @@
-use Rattle.std.proofs.Common.{w64, FitsSigned, ap, sym, ◌∙◌, rules}
-use Rattle.std.proofs.lemmas.Int.{to_z-of_z}
-use Rattle.hypothesis.specs.Errors.{errors_hold_within}
+use Rattle.hypothesis.proofs.Words.{w64, FitsSigned, ap, sym, ◌∙◌, rules, to_z-of_z, errors_hold_within}
 use Rattle.hypothesis.proofs.clocks.errors_hold_in.Goals as goal
 
 pub returns-in-Some-clause-known : goal.returns-in-Some-clause-known

@@ -1,10 +1,5 @@
-use Rattle.std.proofs.Common.{◌≡◌, ℕ, ◌<◌, ◌≤◌, true, refl, ap, sym, ◌∙◌, below_more, w64, rules, arith}
-use Rattle.std.specs.Prelude.{length}
-use Rattle.std.proofs.lemmas.Int.{to_z-of_z}
-use Rattle.ttp_world.specs.Hypothesis.{is_within_bound}
-use Rattle.ttp_world.specs.Script.{reading_error}
-use Rattle.ttp_base.proofs.Below.{all-below}
-use Rattle.hypothesis.specs.Errors.{errors_hold_within}
+use Rattle.hypothesis.proofs.Words.{◌≡◌, ℕ, ◌<◌, ◌≤◌, true, refl, ap, sym, ◌∙◌, below_more, w64, rules, arith, length}
+use Rattle.hypothesis.proofs.Words.{to_z-of_z, is_within_bound, reading_error, all-below, errors_hold_within}
 use Rattle.hypothesis.proofs.Ranges.{one-fails}
 use Rattle.hypothesis.proofs.clocks.errors_within.Goals as goal
 

@@ -1,6 +1,4 @@
-use Rattle.std.proofs.Common.{◌≡◌, ℕ, ◌<◌, ◌≤◌, true}
-use Rattle.ttp_world.specs.Hypothesis.{is_within_bound}
-use Rattle.ttp_world.specs.Script.{reading_error}
+use Rattle.hypothesis.proofs.Words.{◌≡◌, ℕ, ◌<◌, ◌≤◌, true, is_within_bound, reading_error}
 use Rattle.hypothesis.proofs.clocks.errors_within.Given as goal
 
 -- the errors of the nodes so far are within it, and the same in the next slots

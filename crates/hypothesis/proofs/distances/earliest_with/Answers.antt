@@ -1,4 +1,4 @@
-use Rattle.std.proofs.Common.{sym, arith}
+use Rattle.hypothesis.proofs.Words.{sym, arith}
 use Rattle.hypothesis.proofs.FaultSlots.{earliest-some}
 use Rattle.hypothesis.proofs.distances.earliest_with.Goals as goal
 

@@ -1,6 +1,4 @@
-use Rattle.std.proofs.Common.{◌≡◌, replicate, Some, inl, inr, ap, sym, ◌∙◌, arith}
-use Rattle.std.specs.Option.{option_or}
-use Rattle.ttp_world.specs.Hypothesis.{first_too_early}
+use Rattle.hypothesis.proofs.Words.{◌≡◌, replicate, Some, inl, inr, ap, sym, ◌∙◌, arith, option_or, first_too_early}
 use Rattle.hypothesis.proofs.FaultSlots.{too_early-soon, too_early-many}
 use Rattle.hypothesis.proofs.distances.early_with.Goals as goal
 

@@ -1,7 +1,4 @@
-use Rattle.std.proofs.Common.{◌≡◌, suc, ◌+◌, ◌-◌, ap, sym, ◌∙◌, arith}
-use Rattle.ttp_base.specs.NodeSet.{has_node}
-use Rattle.ttp_world.specs.Hypothesis.{numbers_of}
-use Rattle.ttp_world.specs.Returning.{four_rounds}
+use Rattle.hypothesis.proofs.Words.{◌≡◌, suc, ◌+◌, ◌-◌, ap, sym, ◌∙◌, arith, has_node, numbers_of, four_rounds}
 use Rattle.hypothesis.proofs.SlotSteps.{slots_before-at}
 use Rattle.ttp_world.proofs.WorldFacts.{get-none as slots_before-past}
 use Rattle.hypothesis.proofs.forgiven.faulty_then.Goals as goal

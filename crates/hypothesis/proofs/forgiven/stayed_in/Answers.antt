@@ -1,9 +1,7 @@
-use Rattle.std.proofs.Common.{◌≡◌, ℕ, ◌<◌, Bool, ◌&&◌, not, [], filter, ap, sym, ◌∙◌, rules, arith}
-use Rattle.ttp_base.specs.NodeSet.{most_nodes, has_node, with_node, below}
-use Rattle.ttp_base.proofs.NodeLists.{with_node-next, filter-next}
+use Rattle.hypothesis.proofs.Words.{◌≡◌, ℕ, ◌<◌, Bool, ◌&&◌, not, [], ap, sym, ◌∙◌, rules, arith, most_nodes, has_node}
+use Rattle.hypothesis.proofs.Words.{with_node, below, with_node-next, filter-next, numbers_of, is_armed}
+use Rattle.std.proofs.Common.{filter}
 use Rattle.ttp_base.proofs.NodeSets.{has_node-filter, has_node-sieve}
-use Rattle.ttp_world.specs.Hypothesis.{numbers_of}
-use Rattle.ttp_world.specs.Script.{is_armed}
 use Rattle.hypothesis.proofs.Stayers.{numbers-filter}
 use Rattle.hypothesis.proofs.forgiven.stayed_in.Goals as goal
 use Rattle.hypothesis.proofs.forgiven.stayed_in.Goals.{then-stays, else-stays}

@@ -1,7 +1,5 @@
-use Rattle.std.proofs.Common.{◌≡◌, ◌&&◌, not}
+use Rattle.hypothesis.proofs.Words.{◌≡◌, ◌&&◌, not, below, has_node, is_armed}
 use Rattle.std.specs.Prelude.{filter}
-use Rattle.ttp_base.specs.NodeSet.{below, has_node}
-use Rattle.ttp_world.specs.Script.{is_armed}
 use Rattle.hypothesis.proofs.forgiven.stayed_in.Given as goal
 
 -- those of the nodes so far

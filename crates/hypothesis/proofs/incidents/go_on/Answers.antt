@@ -1,6 +1,4 @@
-use Rattle.std.proofs.Common.{ℕ, ◌<◌, length, arith}
-use Rattle.ttp_world.specs.Script.{incidents_of}
-use Rattle.hypothesis.specs.SlotIncidents.{IsOfKinds}
+use Rattle.hypothesis.proofs.Words.{ℕ, ◌<◌, length, arith, incidents_of, IsOfKinds}
 use Rattle.hypothesis.proofs.incidents.go_on.Goals as goal
 
 pub returns-then-slot-kept-clause-now : goal.returns-then-slot-kept-clause-now

@@ -1,10 +1,6 @@
-use Rattle.std.proofs.Common.{◌≡◌, ℕ, ◌+◌, ◌<◌, ◌≤◌, List, length, get_or, set, replicate, refl, subst, ◌∙◌, inl, inr}
-use Rattle.std.proofs.Common.{rules, arith, below_more, max}
-use Rattle.std.proofs.lemmas.Bool.{cases_eq}
-use Rattle.std.proofs.lemmas.List.{length-set, get_or-set_same, get_or-set_other}
-use Rattle.ttp_world.specs.declared.events.Incidents.{Incidents}
-use Rattle.ttp_world.specs.Script.{incidents_of}
-use Rattle.hypothesis.specs.SlotIncidents.{IsOfKinds}
+use Rattle.hypothesis.proofs.Words.{◌≡◌, ℕ, ◌+◌, ◌<◌, ◌≤◌, List, length, get_or, set, replicate, refl, subst, ◌∙◌, inl}
+use Rattle.hypothesis.proofs.Words.{inr, rules, arith, below_more, max, cases_eq, length-set, get_or-set_same}
+use Rattle.hypothesis.proofs.Words.{get_or-set_other, Incidents, incidents_of, IsOfKinds}
 use Rattle.hypothesis.proofs.Kept.{stands-at}
 use Rattle.hypothesis.proofs.incidents.incidents_in.Goals as goal
 

@@ -1,7 +1,4 @@
-use Rattle.std.proofs.Common.{◌≡◌, ℕ, ◌<◌, ◌≤◌, length, get_or}
-use Rattle.ttp_world.specs.declared.events.Incidents.{Incidents}
-use Rattle.ttp_world.specs.Script.{incidents_of}
-use Rattle.hypothesis.specs.SlotIncidents.{IsOfKinds}
+use Rattle.hypothesis.proofs.Words.{◌≡◌, ℕ, ◌<◌, ◌≤◌, length, get_or, Incidents, incidents_of, IsOfKinds}
 use Rattle.hypothesis.proofs.incidents.incidents_in.Given as goal
 
 -- there is room for all nodes, and the nodes so far are looked up

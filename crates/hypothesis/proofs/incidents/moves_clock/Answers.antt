@@ -1,6 +1,5 @@
-use Rattle.std.proofs.Common.{◌≡◌, true, nat_eq, w64, FitsSigned, to_z, of_z, ap, sym, ◌∙◌, rules}
-use Rattle.std.proofs.lemmas.Bool.{eqb-true}
-use Rattle.std.proofs.lemmas.Int.{to_z-of_z}
+use Rattle.hypothesis.proofs.Words.{◌≡◌, true, nat_eq, w64, FitsSigned, to_z, of_z, ap, sym, ◌∙◌, rules, eqb-true}
+use Rattle.hypothesis.proofs.Words.{to_z-of_z}
 use Rattle.hypothesis.proofs.Kept.{not_false}
 use Rattle.hypothesis.proofs.incidents.moves_clock.Goals as goal
 

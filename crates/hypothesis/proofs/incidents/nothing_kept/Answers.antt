@@ -1,4 +1,4 @@
-use Rattle.std.proofs.Common.{arith}
+use Rattle.hypothesis.proofs.Words.{arith}
 use Rattle.hypothesis.proofs.incidents.nothing_kept.Goals as goal
 
 pub returns : goal.returns

@@ -1,8 +1,5 @@
-use Rattle.std.proofs.Common.{◌≡◌, refl, ℤ, pos, Bool, true, false, not, nat_eq, w64, FitsSigned, to_z, of_z, ap, sym}
-use Rattle.std.proofs.Common.{◌∙◌, rules}
-use Rattle.std.proofs.lemmas.Int.{to_z-of_z}
-use Rattle.std.proofs.lemmas.Bool.{ne_eqb}
-use Rattle.ttp_world.specs.Script.{has_jump, jump_of}
+use Rattle.hypothesis.proofs.Words.{◌≡◌, refl, ℤ, pos, Bool, true, false, not, nat_eq, w64, FitsSigned, to_z, of_z, ap}
+use Rattle.hypothesis.proofs.Words.{sym, ◌∙◌, rules, to_z-of_z, ne_eqb, has_jump, jump_of}
 use Rattle.ttp_world.proofs.Jumps.{no_jump-sum}
 use Rattle.hypothesis.proofs.FarJumps.{far_jump-sum}
 use Rattle.hypothesis.proofs.losses.has_far_jump.Goals as goal

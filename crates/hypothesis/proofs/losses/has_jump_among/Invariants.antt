@@ -1,7 +1,4 @@
-use Rattle.std.proofs.Common.{◌≡◌, false, take}
-use Rattle.std.specs.Prelude.{is_some}
-use Rattle.std.specs.List.{list_any}
-use Rattle.ttp_world.specs.Script.{jump_in}
+use Rattle.hypothesis.proofs.Words.{◌≡◌, false, take, is_some, list_any, jump_in}
 use Rattle.hypothesis.proofs.losses.has_jump_among.Given as goal
 
 -- none of the events so far is

@@ -1,6 +1,4 @@
-use Rattle.std.proofs.Common.{◌≡◌, false, take}
-use Rattle.std.specs.List.{list_any}
-use Rattle.hypothesis.specs.Jumps.{is_jump_within}
+use Rattle.hypothesis.proofs.Words.{◌≡◌, false, take, list_any, is_jump_within}
 use Rattle.hypothesis.proofs.losses.has_jump_within.Given as goal
 
 -- none of the events so far is

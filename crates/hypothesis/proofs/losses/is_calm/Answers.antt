@@ -1,8 +1,4 @@
-use Rattle.std.proofs.Common.{◌≡◌, false, ap, sym, ◌∙◌, rules}
-use Rattle.ttp_world.specs.Hypothesis.{loses}
-use Rattle.ttp_world.specs.Script.{incidents_of}
-use Rattle.hypothesis.specs.SlotIncidents.{may_lose}
-use Rattle.hypothesis.specs.Standing.{told_start}
+use Rattle.hypothesis.proofs.Words.{◌≡◌, false, ap, sym, ◌∙◌, rules, loses, incidents_of, may_lose, told_start}
 use Rattle.hypothesis.proofs.Kept.{loss-before, loss-none, no-jumpers, loses-none}
 use Rattle.hypothesis.proofs.losses.is_calm.Goals as goal
 

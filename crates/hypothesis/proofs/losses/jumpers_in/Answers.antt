@@ -1,7 +1,5 @@
-use Rattle.std.proofs.Common.{ℕ, ◌<◌, Bool, ap, ◌∙◌, rules}
-use Rattle.ttp_base.specs.NodeSet.{most_nodes, with_node}
-use Rattle.ttp_base.proofs.NodeLists.{with_node-next, filter-next}
-use Rattle.ttp_world.specs.Hypothesis.{jumps_now}
+use Rattle.hypothesis.proofs.Words.{ℕ, ◌<◌, Bool, ap, ◌∙◌, rules, most_nodes, with_node, with_node-next, filter-next}
+use Rattle.hypothesis.proofs.Words.{jumps_now}
 use Rattle.hypothesis.proofs.losses.jumpers_in.Goals as goal
 use Rattle.hypothesis.proofs.losses.jumpers_in.Goals.{then-jumps_now, else-jumps_now}
 

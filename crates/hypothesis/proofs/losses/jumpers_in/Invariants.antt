@@ -1,7 +1,5 @@
-use Rattle.std.proofs.Common.{◌≡◌}
+use Rattle.hypothesis.proofs.Words.{◌≡◌, below, jumps_now}
 use Rattle.std.specs.Prelude.{filter}
-use Rattle.ttp_base.specs.NodeSet.{below}
-use Rattle.ttp_world.specs.Hypothesis.{jumps_now}
 use Rattle.hypothesis.proofs.losses.jumpers_in.Given as goal
 
 -- those of the nodes so far

@@ -1,11 +1,8 @@
-use Rattle.std.proofs.Common.{◌≡◌, ℕ, ◌<◌, Bool, true, false, ◌&&◌, ap, sym, subst, ◌≤◌, ◌∙◌, length, rules, arith}
+use Rattle.hypothesis.proofs.Words.{◌≡◌, ℕ, ◌<◌, Bool, true, false, ◌&&◌, ap, sym, subst, ◌≤◌, ◌∙◌, length, rules}
+use Rattle.hypothesis.proofs.Words.{arith, and-false, most_nodes, below, with_node, with_node-next, filter-next}
+use Rattle.hypothesis.proofs.Words.{filter-filter, is_other, loses}
 use Rattle.std.specs.Prelude.{filter, All}
-use Rattle.std.proofs.Math.Bool.{and-false}
 use Rattle.hypothesis.proofs.Ranges.{small-sieve}
-use Rattle.ttp_base.specs.NodeSet.{most_nodes, below, with_node}
-use Rattle.ttp_base.proofs.NodeLists.{with_node-next, filter-next}
-use Rattle.ttp_base.proofs.NodeSets.{filter-filter}
-use Rattle.ttp_world.specs.Hypothesis.{is_other, loses}
 use Rattle.hypothesis.proofs.losses.losers_in.Goals as goal
 use Rattle.hypothesis.proofs.losses.losers_in.Goals.{then-is_lost+then-is_other, else-is_lost}
 use Rattle.hypothesis.proofs.losses.losers_in.Goals.{else-is_lost-via-then-is_lost+else-is_other}

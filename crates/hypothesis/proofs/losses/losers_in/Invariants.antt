@@ -1,7 +1,5 @@
-use Rattle.std.proofs.Common.{◌≡◌, ◌&&◌}
+use Rattle.hypothesis.proofs.Words.{◌≡◌, ◌&&◌, below, is_other, loses}
 use Rattle.std.specs.Prelude.{filter}
-use Rattle.ttp_base.specs.NodeSet.{below}
-use Rattle.ttp_world.specs.Hypothesis.{is_other, loses}
 use Rattle.hypothesis.proofs.losses.losers_in.Given as goal
 
 -- those of the nodes so far

@@ -1,6 +1,4 @@
-use Rattle.std.proofs.Common.{sym, ap, ◌∙◌}
-use Rattle.std.specs.List.{list_any}
-use Rattle.hypothesis.specs.Jumps.{is_jump_within}
+use Rattle.hypothesis.proofs.Words.{sym, ap, ◌∙◌, list_any, is_jump_within}
 use Rattle.hypothesis.proofs.Kept.{no_far_jump, no_jump-within}
 use Rattle.hypothesis.proofs.losses.may_jump.Goals as goal
 

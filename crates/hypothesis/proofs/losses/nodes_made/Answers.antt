@@ -1,8 +1,6 @@
-use Rattle.std.proofs.Common.{◌<◌, ap, sym, subst, ◌∙◌}
-use Rattle.ttp_base.specs.NodeSet.{most_nodes, with_node}
+use Rattle.hypothesis.proofs.Words.{◌<◌, ap, sym, subst, ◌∙◌, most_nodes, with_node, nodes_made, told_loss}
 use Rattle.ttp_base.proofs.NodeLists.{with_node-nil}
-use Rattle.ttp_world.specs.Hypothesis.{nodes_made}
-use Rattle.hypothesis.specs.Standing.{told_loss, IsOfNodes}
+use Rattle.hypothesis.specs.Standing.{IsOfNodes}
 use Rattle.hypothesis.proofs.losses.nodes_made.Goals as goal
 
 pub returns-in-Makes : goal.returns-in-Makes

@@ -1,7 +1,5 @@
-use Rattle.std.proofs.Common.{ℕ, ◌<◌, Bool, ap, ◌∙◌, rules}
-use Rattle.ttp_base.specs.NodeSet.{most_nodes, with_node}
-use Rattle.ttp_base.proofs.NodeLists.{with_node-next, filter-next}
-use Rattle.ttp_world.specs.Hypothesis.{is_other}
+use Rattle.hypothesis.proofs.Words.{ℕ, ◌<◌, Bool, ap, ◌∙◌, rules, most_nodes, with_node, with_node-next, filter-next}
+use Rattle.hypothesis.proofs.Words.{is_other}
 use Rattle.hypothesis.proofs.losses.others_in.Goals as goal
 use Rattle.hypothesis.proofs.losses.others_in.Goals.{then-is_other, else-is_other}
 

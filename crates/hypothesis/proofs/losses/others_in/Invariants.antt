@@ -1,7 +1,5 @@
-use Rattle.std.proofs.Common.{◌≡◌}
+use Rattle.hypothesis.proofs.Words.{◌≡◌, below, is_other}
 use Rattle.std.specs.Prelude.{filter}
-use Rattle.ttp_base.specs.NodeSet.{below}
-use Rattle.ttp_world.specs.Hypothesis.{is_other}
 use Rattle.hypothesis.proofs.losses.others_in.Given as goal
 
 -- those of the nodes so far

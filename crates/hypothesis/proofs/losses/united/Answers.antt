@@ -1,4 +1,4 @@
-use Rattle.std.proofs.Common.{List, ℕ, ◌+◌, subst, sym, ◌∙◌, rules}
+use Rattle.hypothesis.proofs.Words.{List, ℕ, ◌+◌, subst, sym, ◌∙◌, rules}
 use Rattle.hypothesis.proofs.Unions.{AreUnited, united-with, united-without}
 use Rattle.hypothesis.proofs.losses.united.Goals as goal
 use Rattle.hypothesis.proofs.losses.united.Goals.{then-has, else-has}

@@ -1,4 +1,4 @@
-use Rattle.std.proofs.Common.{refl}
+use Rattle.hypothesis.proofs.Words.{refl}
 use Rattle.hypothesis.proofs.SlotSteps.{newest-more}
 use Rattle.hypothesis.proofs.newest.add_slot.Goals as goal
 

@@ -1,4 +1,4 @@
-use Rattle.std.proofs.Common.{refl, arith}
+use Rattle.hypothesis.proofs.Words.{refl, arith}
 use Rattle.hypothesis.proofs.newest.no_slots.Goals as goal
 
 pub returns-clause-newest : goal.returns-clause-newest

@@ -1,7 +1,4 @@
-use Rattle.std.proofs.Common.{◌≡◌, drop}
-use Rattle.std.specs.List.{filter_map}
-use Rattle.ttp_world.specs.Hypothesis.{least_of}
-use Rattle.ttp_world.specs.Returning.{disturbed_slot, disturbance_broken}
+use Rattle.hypothesis.proofs.Words.{◌≡◌, drop, filter_map, least_of, disturbed_slot, disturbance_broken}
 use Rattle.hypothesis.proofs.Least.{lesser_of}
 use Rattle.hypothesis.proofs.outside.disturbance_broken.Given as goal
 

@@ -1,6 +1,5 @@
-use Rattle.std.proofs.Common.{◌≡◌, true, false, cond, Some, None, ap, sym, ◌∙◌, rules}
-use Rattle.ttp_world.specs.Hypothesis.{is_allowed_jump}
-use Rattle.ttp_world.specs.Returning.{disturbed_slot}
+use Rattle.hypothesis.proofs.Words.{◌≡◌, true, false, cond, Some, None, ap, sym, ◌∙◌, rules, is_allowed_jump}
+use Rattle.hypothesis.proofs.Words.{disturbed_slot}
 use Rattle.hypothesis.proofs.outside.disturbed_slot.Goals as goal
 
 pub returns-then-is_allowed_jump : goal.returns-then-is_allowed_jump

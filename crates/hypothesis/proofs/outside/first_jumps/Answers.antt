@@ -1,9 +1,6 @@
-use Rattle.std.proofs.Common.{◌≡◌, ℕ, ◌+◌, ◌<◌, List, length, get_or, take, ap, sym, subst, ◌∙◌, rules, arith}
-use Rattle.std.proofs.lemmas.List.{length-set}
-use Rattle.ttp_base.specs.NodeSet.{most_nodes}
-use Rattle.ttp_world.specs.Hypothesis.{is_jump_before}
+use Rattle.hypothesis.proofs.Words.{◌≡◌, ℕ, ◌+◌, ◌<◌, List, length, get_or, take, ap, sym, subst, ◌∙◌, rules, arith}
+use Rattle.hypothesis.proofs.Words.{length-set, most_nodes, is_jump_before, AreFirstJumps}
 use Rattle.ttp_world.proofs.Lists.{nodes}
-use Rattle.hypothesis.specs.Jumps.{AreFirstJumps}
 use Rattle.hypothesis.proofs.FirstJumps.{first_jumps-other, first_jumps-earlier, first_jumps-later}
 use Rattle.hypothesis.proofs.outside.first_jumps.Goals as goal
 use Rattle.hypothesis.proofs.outside.first_jumps.Goals.{in-Jump+then-slot-slots, in-Jump+else-slot-slots, in_default}

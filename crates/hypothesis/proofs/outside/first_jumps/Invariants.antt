@@ -1,6 +1,4 @@
-use Rattle.std.proofs.Common.{◌≡◌, length, take}
-use Rattle.ttp_base.specs.NodeSet.{most_nodes}
-use Rattle.hypothesis.specs.Jumps.{AreFirstJumps}
+use Rattle.hypothesis.proofs.Words.{◌≡◌, length, take, most_nodes, AreFirstJumps}
 use Rattle.hypothesis.proofs.outside.first_jumps.Given as goal
 
 -- the first jumps among the events so far

@@ -1,10 +1,5 @@
-use Rattle.std.proofs.Common.{◌≡◌, ◌≢◌, ℕ, refl, ◌∙◌}
-use Rattle.ttp_world.specs.declared.medl.Medl.{Medl}
-use Rattle.ttp_world.specs.declared.script.Event.{Event}
+use Rattle.hypothesis.proofs.Words.{◌≡◌, ◌≢◌, ℕ, refl, ◌∙◌, Medl, Event, Script, outside_slot, disturbed_slot}
 use Rattle.ttp_world.specs.declared.script.Event.TheVariants as event
-use Rattle.ttp_world.specs.declared.script.Script.{Script}
-use Rattle.ttp_world.specs.Hypothesis.{outside_slot}
-use Rattle.ttp_world.specs.Returning.{disturbed_slot}
 use Rattle.hypothesis.proofs.outside.outside_slot.Goals as goal
 
 -- an event that is no arm line is outside where it disturbs

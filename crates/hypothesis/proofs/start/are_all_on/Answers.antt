@@ -1,7 +1,4 @@
-use Rattle.std.proofs.Common.{not, ◌||◌, sym, rules, arith}
-use Rattle.std.specs.Prelude.{length}
-use Rattle.ttp_world.specs.Script.{is_ever_on, is_on}
-use Rattle.ttp_base.proofs.Below.{all-below}
+use Rattle.hypothesis.proofs.Words.{not, ◌||◌, sym, rules, arith, length, is_ever_on, is_on, all-below}
 use Rattle.hypothesis.proofs.Ranges.{one-fails}
 use Rattle.hypothesis.proofs.start.are_all_on.Goals as goal
 

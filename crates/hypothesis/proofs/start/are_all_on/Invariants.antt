@@ -1,5 +1,4 @@
-use Rattle.std.proofs.Common.{◌≡◌, ℕ, ◌<◌, true, not, ◌||◌}
-use Rattle.ttp_world.specs.Script.{is_ever_on, is_on}
+use Rattle.hypothesis.proofs.Words.{◌≡◌, ℕ, ◌<◌, true, not, ◌||◌, is_ever_on, is_on}
 use Rattle.hypothesis.proofs.start.are_all_on.Given as goal
 
 -- the nodes so far are

@@ -1,9 +1,5 @@
-use Rattle.std.proofs.Common.{◌≡◌, ℕ, ◌+◌, ◌-◌, ◌*◌, ◌<◌, ◌∷◌, length, Option, ap, sym, ◌∙◌, rules, arith}
-use Rattle.std.specs.Prelude.{IfSome}
-use Rattle.std.specs.List.{filter_map, range_with_len}
-use Rattle.ttp_base.specs.NodeSet.{most_nodes}
-use Rattle.ttp_world.specs.declared.script.TheConstants.{SLOT_LIMIT}
-use Rattle.ttp_world.specs.Hypothesis.{nodes_of, least_of, start_slot}
+use Rattle.hypothesis.proofs.Words.{◌≡◌, ℕ, ◌+◌, ◌-◌, ◌*◌, ◌<◌, ◌∷◌, length, Option, ap, sym, ◌∙◌, rules, arith, IfSome}
+use Rattle.hypothesis.proofs.Words.{filter_map, range_with_len, most_nodes, SLOT_LIMIT, nodes_of, least_of, start_slot}
 use Rattle.hypothesis.proofs.Least.{lesser_of, with_found, least-next, range-next}
 use Rattle.hypothesis.proofs.start.first_start.Goals as goal
 use Rattle.hypothesis.proofs.start.first_start.Goals.{in-Some, in_default}

@@ -1,9 +1,5 @@
-use Rattle.std.proofs.Common.{◌≡◌, ◌+◌, ◌-◌, ◌*◌, ◌<◌, length}
-use Rattle.std.specs.Prelude.{IfSome}
-use Rattle.std.specs.List.{filter_map, range_with_len}
-use Rattle.ttp_base.specs.NodeSet.{most_nodes}
-use Rattle.ttp_world.specs.declared.script.TheConstants.{SLOT_LIMIT}
-use Rattle.ttp_world.specs.Hypothesis.{nodes_of, least_of, start_slot}
+use Rattle.hypothesis.proofs.Words.{◌≡◌, ◌+◌, ◌-◌, ◌*◌, ◌<◌, length, IfSome, filter_map, range_with_len, most_nodes}
+use Rattle.hypothesis.proofs.Words.{SLOT_LIMIT, nodes_of, least_of, start_slot}
 use Rattle.hypothesis.proofs.Least.{lesser_of}
 use Rattle.hypothesis.proofs.start.first_start.Given as goal
 

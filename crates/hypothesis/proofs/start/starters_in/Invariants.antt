@@ -1,7 +1,5 @@
-use Rattle.std.proofs.Common.{◌≡◌}
+use Rattle.hypothesis.proofs.Words.{◌≡◌, below, starts_in}
 use Rattle.std.specs.Prelude.{filter}
-use Rattle.ttp_base.specs.NodeSet.{below}
-use Rattle.ttp_world.specs.Hypothesis.{starts_in}
 use Rattle.hypothesis.proofs.start.starters_in.Given as goal
 
 -- those of the nodes so far

@@ -1,8 +1,6 @@
-use Rattle.std.proofs.Common.{◌≡◌, ℕ, ◌+◌, ◌<◌, ◌≤◌, Bool, ap, sym, ◌∙◌, length, rules, arith}
+use Rattle.hypothesis.proofs.Words.{◌≡◌, ℕ, ◌+◌, ◌<◌, ◌≤◌, Bool, ap, sym, ◌∙◌, length, rules, arith, most_nodes, below}
+use Rattle.hypothesis.proofs.Words.{with_node, with_node-next, filter-next, is_steady}
 use Rattle.std.specs.Prelude.{filter}
-use Rattle.ttp_base.specs.NodeSet.{most_nodes, below, with_node}
-use Rattle.ttp_base.proofs.NodeLists.{with_node-next, filter-next}
-use Rattle.ttp_world.specs.Hypothesis.{is_steady}
 use Rattle.hypothesis.proofs.Ranges.{no-fewer}
 use Rattle.hypothesis.proofs.steady.has_four_steady.Goals as goal
 use Rattle.hypothesis.proofs.steady.has_four_steady.Goals.{then-is_steady+else-count-ge4, else-is_steady}

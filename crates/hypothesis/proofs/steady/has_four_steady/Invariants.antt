@@ -1,7 +1,5 @@
-use Rattle.std.proofs.Common.{◌≡◌, ◌<◌, length}
+use Rattle.hypothesis.proofs.Words.{◌≡◌, ◌<◌, length, below, is_steady}
 use Rattle.std.specs.Prelude.{filter}
-use Rattle.ttp_base.specs.NodeSet.{below}
-use Rattle.ttp_world.specs.Hypothesis.{is_steady}
 use Rattle.hypothesis.proofs.steady.has_four_steady.Given as goal
 
 -- those of the nodes so far, fewer than four

@@ -1,13 +1,9 @@
-use Rattle.std.proofs.Common.{◌≡◌, ℕ, suc, ◌+◌, ◌≤◌, max, Bool, true, false, not, cond, is_some, nat_le, List, length}
-use Rattle.std.proofs.Common.{filter, Some, None, ap, sym, ◌∙◌, rules, arith}
-use Rattle.ttp_base.specs.NodeSet.{most_nodes, has_node}
-use Rattle.ttp_world.specs.declared.medl.Medl.{Medl}
-use Rattle.ttp_world.specs.declared.script.Script.{Script}
-use Rattle.ttp_world.specs.Hypothesis.{ClusterStart, numbers_of, nodes_of, is_steady}
-use Rattle.ttp_world.specs.Medl.{IsValid}
-use Rattle.ttp_world.proofs.Lists.{nodes-most}
-use Rattle.hypothesis.specs.Standing.{told_start, HaveSameNodes}
-use Rattle.hypothesis.specs.Walks.{Course, first_unsteady, has_four_in, lacks_four_in}
+use Rattle.hypothesis.proofs.Words.{◌≡◌, ℕ, suc, ◌+◌, ◌≤◌, max, Bool, true, false, not, cond, is_some, nat_le, List}
+use Rattle.hypothesis.proofs.Words.{length, Some, None, ap, sym, ◌∙◌, rules, arith, most_nodes, has_node, Medl, Script}
+use Rattle.hypothesis.proofs.Words.{ClusterStart, numbers_of, nodes_of, is_steady, IsValid, nodes-most, told_start}
+use Rattle.hypothesis.proofs.Words.{HaveSameNodes, Course, has_four_in, lacks_four_in}
+use Rattle.std.proofs.Common.{filter}
+use Rattle.hypothesis.specs.Walks.{first_unsteady}
 use Rattle.hypothesis.proofs.Firsts.{lack-found, lack-early, lack-next, lack-none, nothing}
 use Rattle.hypothesis.proofs.SlotSteps.{same_steady}
 use Rattle.hypothesis.proofs.steady.unsteady_with.Goals as goal

@@ -1,6 +1,4 @@
-use Rattle.std.proofs.Common.{arith}
-use Rattle.ttp_world.specs.Hypothesis.{numbers_of}
-use Rattle.hypothesis.specs.Standing.{told_start}
+use Rattle.hypothesis.proofs.Words.{arith, numbers_of, told_start}
 use Rattle.hypothesis.proofs.Kept.{calm-faults}
 use Rattle.hypothesis.proofs.walk.faults_in.Goals as goal
 

@@ -1,11 +1,7 @@
-use Rattle.std.proofs.Common.{◌≡◌, ℕ, ◌+◌, ◌-◌, ◌%◌, ◌<◌, ◌≤◌, length, mod-lt, ap, ◌∙◌, arith}
-use Rattle.ttp_base.specs.NodeSet.{most_nodes}
-use Rattle.ttp_world.specs.declared.medl.Medl.{Medl}
-use Rattle.ttp_world.specs.Medl.{IsValid}
-use Rattle.ttp_world.specs.Hypothesis.{ClusterStart, numbers_of, nodes_made, is_breaking, loss_in}
-use Rattle.ttp_world.specs.Hypothesis.{expected_sender}
-use Rattle.ttp_world.proofs.Lists.{nodes-most}
-use Rattle.hypothesis.specs.Standing.{told_start, told_loss}
+use Rattle.hypothesis.proofs.Words.{◌≡◌, ℕ, ◌+◌, ◌-◌, ◌%◌, ◌<◌, ◌≤◌, length, ap, ◌∙◌, arith, most_nodes, Medl, IsValid}
+use Rattle.hypothesis.proofs.Words.{ClusterStart, numbers_of, nodes_made, is_breaking, loss_in, expected_sender}
+use Rattle.hypothesis.proofs.Words.{nodes-most, told_start, told_loss}
+use Rattle.std.proofs.Common.{mod-lt}
 use Rattle.hypothesis.proofs.SlotSteps.{fallen-same, same_jumpers, same_loss, faulty-next, count-next, count-fits}
 use Rattle.hypothesis.proofs.walk.faults_of.Goals as goal
 

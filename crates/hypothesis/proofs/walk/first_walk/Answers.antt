@@ -1,9 +1,6 @@
-use Rattle.std.proofs.Common.{◌≡◌, ◌+◌, ◌*◌, ◌<◌, subst, ap, sym, ◌∙◌, rules, arith}
-use Rattle.std.specs.Prelude.{IfSome}
-use Rattle.ttp_base.specs.NodeSet.{has_node}
-use Rattle.ttp_world.specs.Hypothesis.{first_too_early, numbers_of}
-use Rattle.hypothesis.specs.Standing.{told_start}
-use Rattle.hypothesis.specs.Walks.{earliest_after, two_rounds, has_four_in, lacks_four_in}
+use Rattle.hypothesis.proofs.Words.{◌≡◌, ◌+◌, ◌*◌, ◌<◌, subst, ap, sym, ◌∙◌, rules, arith, IfSome, has_node}
+use Rattle.hypothesis.proofs.Words.{first_too_early, numbers_of, told_start, earliest_after, has_four_in, lacks_four_in}
+use Rattle.hypothesis.specs.Walks.{two_rounds}
 use Rattle.hypothesis.proofs.FaultSlots.{fault_slots-none}
 use Rattle.hypothesis.proofs.Firsts.{lack-before}
 use Rattle.hypothesis.proofs.Starts.{start_of-later}

@@ -1,6 +1,4 @@
-use Rattle.std.proofs.Common.{◌≡◌, max, ◌∙◌, rules, arith}
-use Rattle.hypothesis.specs.Standing.{told_start}
-use Rattle.hypothesis.specs.Walks.{keep_course}
+use Rattle.hypothesis.proofs.Words.{◌≡◌, max, ◌∙◌, rules, arith, told_start, keep_course}
 use Rattle.hypothesis.proofs.Walks.{broken-keep, walked-keep}
 use Rattle.hypothesis.proofs.walk.started_keep.Goals as goal
 

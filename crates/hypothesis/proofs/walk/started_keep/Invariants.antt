@@ -1,6 +1,4 @@
-use Rattle.hypothesis.specs.SlotIncidents.{AreKeptFrom}
-use Rattle.hypothesis.specs.Standing.{told_start}
-use Rattle.hypothesis.specs.Walks.{HasWalked, keep_course}
+use Rattle.hypothesis.proofs.Words.{AreKeptFrom, told_start, HasWalked, keep_course}
 use Rattle.hypothesis.proofs.walk.started_keep.Given as goal
 
 -- the walk has gone over the slots so far, and what is kept is so from the next one on

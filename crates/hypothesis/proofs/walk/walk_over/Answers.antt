@@ -1,7 +1,5 @@
-use Rattle.std.proofs.Common.{◌≡◌, suc, ◌+◌, subst, sym, arith}
-use Rattle.ttp_world.specs.Hypothesis.{numbers_of, faulty_nodes_before}
-use Rattle.hypothesis.specs.Standing.{told_start, HaveSameNodes}
-use Rattle.hypothesis.specs.Walks.{keep_course}
+use Rattle.hypothesis.proofs.Words.{◌≡◌, suc, ◌+◌, subst, sym, arith, numbers_of, faulty_nodes_before, told_start}
+use Rattle.hypothesis.proofs.Words.{HaveSameNodes, keep_course}
 use Rattle.hypothesis.proofs.walk.walk_over.Goals as goal
 
 pub returns-clause-walk : goal.returns-clause-walk

@@ -1,8 +1,6 @@
-use Rattle.std.proofs.Common.{◌≡◌, ◌+◌, ◌*◌, ◌<◌, ◌≤◌, replicate, false, length, ap, sym, ◌∙◌, below_more, rules, arith}
-use Rattle.std.specs.Option.{option_or}
-use Rattle.ttp_world.specs.Hypothesis.{first_too_early}
-use Rattle.hypothesis.specs.Standing.{told_start}
-use Rattle.hypothesis.specs.Walks.{earliest_after, fault_slots_before, two_rounds}
+use Rattle.hypothesis.proofs.Words.{◌≡◌, ◌+◌, ◌*◌, ◌<◌, ◌≤◌, replicate, false, length, ap, sym, ◌∙◌, below_more, rules}
+use Rattle.hypothesis.proofs.Words.{arith, option_or, first_too_early, told_start, earliest_after, fault_slots_before}
+use Rattle.hypothesis.specs.Walks.{two_rounds}
 use Rattle.hypothesis.proofs.FaultSlots.{fault_slots-next, earliest_after-append, first_too_early-append}
 use Rattle.hypothesis.proofs.walk.walk_with.Goals as goal
 use Rattle.hypothesis.proofs.walk.walk_with.Goals.{then-is_within_run-2, else-is_within_run-2}

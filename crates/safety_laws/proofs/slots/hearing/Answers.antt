@@ -1,5 +1,4 @@
-use Rattle.std.proofs.Common.{refl, ◌∷◌, []}
-use Rattle.ttp_world.specs.Conduct.{cold_start_cstate}
+use Rattle.safety_laws.proofs.Words.{refl, ◌∷◌, [], cold_start_cstate}
 use Rattle.safety_laws.proofs.Hearing.{heard-uncovered, heard-covered, HearsFrame-kept}
 use Rattle.safety_laws.proofs.Joins.{joinable-cold_start, listening_entry-joins}
 use Rattle.safety_laws.proofs.Senders.{frames_in-none, frames_in-one}

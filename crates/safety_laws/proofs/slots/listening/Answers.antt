@@ -1,4 +1,4 @@
-use Rattle.std.proofs.Common.{◌∙◌}
+use Rattle.safety_laws.proofs.Words.{◌∙◌}
 use Rattle.safety_laws.proofs.Listening.{listens-armed, listens-early, left-world, around-silent, silence-silent}
 use Rattle.safety_laws.proofs.Listening.{frame-silent, frames_made-listening, waited-none, waited-passing, joined-place}
 use Rattle.safety_laws.proofs.OneSender.{place-alone, no_place-alone}

@@ -1,8 +1,5 @@
-use Rattle.std.proofs.Common.{length, ◌∙◌, subst, arith}
+use Rattle.safety_laws.proofs.Words.{length, ◌∙◌, subst, arith, length-world, node_past, world, messages_chosen, Waits}
 use Rattle.ttp_world.proofs.Starts.{alone-start, on-start}
-use Rattle.ttp_world.proofs.Worlds.{length-world}
-use Rattle.ttp_world.specs.World.{node_past, world, messages_chosen}
-use Rattle.safety_laws.specs.Start.{Waits}
 use Rattle.safety_laws.proofs.StartSlot.{starter-stands, joiner-stands, off-stays, first_due, has-begun}
 use Rattle.safety_laws.proofs.Waiting.{WaitAll-world}
 use Rattle.safety_laws.proofs.slots.start.Goals as goal

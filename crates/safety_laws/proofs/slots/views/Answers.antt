@@ -1,7 +1,7 @@
-use Rattle.safety_laws.specs.NodeSlot.{coming_place, owner_of, candidates_of}
+use Rattle.safety_laws.proofs.Words.{owner_of, candidates_of, expected_of}
+use Rattle.safety_laws.specs.NodeSlot.{coming_place}
 use Rattle.safety_laws.proofs.GroupSets.{AreCandidates-node}
 use Rattle.safety_laws.proofs.Views.{view_of_bits-members, view_of_bits-cold_start, is_within_window-bounds}
-use Rattle.ttp_world.specs.Reception.{expected_of}
 use Rattle.safety_laws.proofs.slots.views.Goals as goal
 
 pub returns-clause-inside : goal.returns-clause-inside

@@ -1,22 +1,13 @@
-use Rattle.std.proofs.Common.{◌≡◌, ◌≢◌, ℕ, zero, suc, ◌<◌, true, List, ◌∷◌, length, Some, refl}
-use Rattle.std.proofs.Common.{sym, subst, ◌∙◌, arith}
-use Rattle.std.proofs.lemmas.Bool.{false≢true, true≢false}
-use Rattle.std.proofs.lemmas.Int.{ints}
-use Rattle.ttp_base.specs.NodeSet.{members_in, with_node}
-use Rattle.ttp_world.specs.declared.node.Entry.{Entry}
+use Rattle.safety_laws.proofs.Words.{◌≡◌, ◌≢◌, ℕ, zero, suc, ◌<◌, true, List, ◌∷◌, length, Some, refl, sym, subst, ◌∙◌}
+use Rattle.safety_laws.proofs.Words.{arith, false≢true, ints, members_in, with_node, Entry, cold_start_cstate, History}
+use Rattle.safety_laws.proofs.Words.{entry_of, ClusterStart, IsValid, TellsOf, measured, Jumping, plan_of, sender}
+use Rattle.safety_laws.proofs.Words.{Falling, Sound, fate_of, is_sound_after, is_good_slot, FollowsWithin, KeepsByPlan}
+use Rattle.safety_laws.proofs.Words.{kept-plan, NotesNothing, NotedInSlot, StartedByPlan, NotedByPlan}
+use Rattle.std.proofs.lemmas.Bool.{true≢false}
 use Rattle.ttp_world.specs.declared.node.Entry.TheVariants as entry
-use Rattle.ttp_world.specs.Conduct.{cold_start_cstate}
-use Rattle.ttp_world.specs.Diary.{History, entry_of}
-use Rattle.ttp_world.specs.Hypothesis.{ClusterStart}
-use Rattle.ttp_world.specs.Medl.{IsValidSlot, IsValid}
-use Rattle.precision.specs.Together.{TellsOf, measured}
-use Rattle.fault_plan.specs.Plan.{Jumping, plan_of, sender}
-use Rattle.fault_plan.specs.Fates.{Falling, Sound, fate_of, is_sound_after, is_good_slot}
-use Rattle.fault_plan.specs.Kept.{FollowsWithin, KeepsByPlan}
-use Rattle.fault_plan.proofs.KeptPlan.{kept-plan}
-use Rattle.safety_laws.specs.NotedByPlan.{NotesNothing, NotedInSlot}
-use Rattle.safety_laws.specs.WorkedJump.{bare_slot, five_clocks, late_jump, five_clocks_start, one_jump, newest_row, older_rows}
-use Rattle.safety_laws.specs.NotedByPlan.{StartedByPlan, NotedByPlan}
+use Rattle.ttp_world.specs.Medl.{IsValidSlot}
+use Rattle.safety_laws.specs.WorkedJump.{bare_slot, five_clocks, late_jump, five_clocks_start, one_jump, newest_row}
+use Rattle.safety_laws.specs.WorkedJump.{older_rows}
 use Rattle.safety_laws.proofs.worked_jump.a_clock_jumps.Goals as goal
 
 -- what is so of each of the five

@@ -1,5 +1,4 @@
-use Rattle.std.proofs.Common.{refl}
-use Rattle.ttp_base.specs.NodeSet.{members_in, with_node}
+use Rattle.safety_laws.proofs.Words.{refl, members_in, with_node}
 use Rattle.safety_laws.proofs.worked_runs.a_doubt.Goals as goal
 
 pub returns-clause-keeps : goal.returns-clause-keeps

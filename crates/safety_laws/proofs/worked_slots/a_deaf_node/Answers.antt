@@ -1,5 +1,4 @@
-use Rattle.std.proofs.Common.{[], ◌∷◌, refl, arith}
-use Rattle.ttp_base.specs.NodeSet.{members_in, with_node}
+use Rattle.safety_laws.proofs.Words.{[], ◌∷◌, refl, arith, members_in, with_node}
 use Rattle.safety_laws.specs.WorkedSlots.{deaf}
 use Rattle.safety_laws.proofs.FourNodes.{judging-at, own-at, hears-at}
 use Rattle.safety_laws.proofs.worked_slots.a_deaf_node.Goals as goal

@@ -1,9 +1,6 @@
-use Rattle.std.proofs.Common.{[], ◌∷◌, refl, arith}
-use Rattle.ttp_base.specs.NodeSet.{members_in, with_node}
-use Rattle.safety_laws.specs.Heard.{OnBoth}
+use Rattle.safety_laws.proofs.Words.{[], ◌∷◌, refl, arith, members_in, with_node, OnBoth, slot_frame, four_nodes, at}
 use Rattle.safety_laws.specs.NodeSlot.{coming_place}
-use Rattle.safety_laws.specs.SlotFrames.{slot_frame}
-use Rattle.safety_laws.specs.WorkedSlots.{four_nodes, jumping, at}
+use Rattle.safety_laws.specs.WorkedSlots.{jumping}
 use Rattle.safety_laws.proofs.FourNodes.{judging-at}
 use Rattle.safety_laws.proofs.worked_slots.a_jumped_clock.Goals as goal
 

@@ -1,8 +1,4 @@
-use Rattle.std.proofs.Common.{[], ◌∷◌, refl}
-use Rattle.ttp_base.specs.NodeSet.{members_in, with_node}
-use Rattle.safety_laws.specs.Heard.{OnBoth}
-use Rattle.safety_laws.specs.SlotFrames.{slot_frame}
-use Rattle.safety_laws.specs.WorkedSlots.{four_nodes}
+use Rattle.safety_laws.proofs.Words.{[], ◌∷◌, refl, members_in, with_node, OnBoth, slot_frame, four_nodes}
 use Rattle.safety_laws.proofs.worked_slots.a_return.Goals as goal
 
 pub returns-clause-left : goal.returns-clause-left

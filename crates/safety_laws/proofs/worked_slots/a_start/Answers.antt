@@ -1,8 +1,5 @@
-use Rattle.std.proofs.Common.{ℕ, ◌≡◌, ◌≢◌, ◌<◌, false, IsTrue, length, refl}
-use Rattle.ttp_base.specs.NodeSet.{members_in, with_node}
-use Rattle.ttp_world.specs.Hypothesis.{loses}
-use Rattle.ttp_world.specs.Script.{is_on}
-use Rattle.safety_laws.specs.WorkedSlots.{four_nodes, faultless}
+use Rattle.safety_laws.proofs.Words.{ℕ, ◌≡◌, ◌≢◌, ◌<◌, false, IsTrue, length, refl, members_in, with_node, loses, is_on}
+use Rattle.safety_laws.proofs.Words.{four_nodes, faultless}
 use Rattle.safety_laws.proofs.worked_slots.a_start.Goals as goal
 
 kept : (k : ℕ) → k < length four_nodes.slots → k ≢ 0 → IsTrue (is_on faultless k 8) → loses faultless 0 8 k ≡ false

@@ -1,9 +1,6 @@
-use Rattle.std.proofs.Common.{◌≡◌, ◌≢◌, ◌<◌, ℕ, zero, suc, [], ◌∷◌, length, refl, arith}
-use Rattle.ttp_base.specs.NodeSet.{members_in, with_node}
+use Rattle.safety_laws.proofs.Words.{◌≡◌, ◌≢◌, ◌<◌, ℕ, zero, suc, [], ◌∷◌, length, refl, arith, members_in, with_node}
+use Rattle.safety_laws.proofs.Words.{Lacks, frames_made, four_nodes, faultless, silent, at}
 use Rattle.ttp_world.specs.declared.node.Ack.TheVariants as ack
-use Rattle.safety_laws.specs.Groups.{Lacks}
-use Rattle.safety_laws.specs.NodeSlot.{frames_made}
-use Rattle.safety_laws.specs.WorkedSlots.{four_nodes, faultless, silent, at}
 use Rattle.safety_laws.proofs.FourNodes.{own-at, hears-at}
 use Rattle.safety_laws.proofs.Groups.{holds-by}
 use Rattle.safety_laws.proofs.worked_slots.one_group.Goals as goal

@@ -1,6 +1,5 @@
-use Rattle.std.proofs.Common.{[], ◌∷◌, refl, arith}
-use Rattle.ttp_base.specs.NodeSet.{members_in, with_node}
-use Rattle.safety_laws.specs.WorkedSlots.{faultless, silent_and_deaf, alone}
+use Rattle.safety_laws.proofs.Words.{[], ◌∷◌, refl, arith, members_in, with_node, faultless}
+use Rattle.safety_laws.specs.WorkedSlots.{silent_and_deaf, alone}
 use Rattle.safety_laws.proofs.FourNodes.{own-at}
 use Rattle.safety_laws.proofs.worked_slots.own_slots.Goals as goal
 

@@ -1,9 +1,8 @@
-use Rattle.std.proofs.Common.{◌≡◌, ◌+◌, ◌-◌, ◌*◌, [], ◌∷◌, ◌++◌, SFits, w64, ap, map, sym, ◌∙◌, rules, arith}
+use Rattle.script_gen.proofs.Words.{◌≡◌, ◌+◌, ◌-◌, ◌*◌, [], ◌∷◌, ◌++◌, ap, map, sym, ◌∙◌, rules, arith, below, drawn}
+use Rattle.script_gen.proofs.Words.{spread_over, drift_by, error_by}
+use Rattle.std.proofs.Common.{SFits, w64}
 use Rattle.std.proofs.lemmas.Int.{to_z-of_z}
 use Rattle.ttp_world.specs.declared.script.Event.TheVariants as event
-use Rattle.ttp_base.specs.NodeSet.{below}
-use Rattle.script_gen.specs.Draws.{drawn}
-use Rattle.script_gen.specs.Generator.{spread_over, drift_by, error_by}
 use Rattle.script_gen.proofs.LoopSteps.{drifts-next, errors-next}
 use Rattle.script_gen.proofs.clocks.add_clocks.Goals as goal
 

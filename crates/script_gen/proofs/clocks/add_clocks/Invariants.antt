@@ -1,6 +1,4 @@
-use Rattle.std.proofs.Common.{◌≡◌, ◌*◌, ◌++◌, map}
-use Rattle.ttp_base.specs.NodeSet.{below}
-use Rattle.script_gen.specs.Generator.{drift_by, error_by}
+use Rattle.script_gen.proofs.Words.{◌≡◌, ◌*◌, ◌++◌, map, below, drift_by, error_by}
 use Rattle.script_gen.proofs.clocks.add_clocks.Given as goal
 
 -- those of the nodes so far

@@ -1,9 +1,5 @@
-use Rattle.std.proofs.Common.{◌≡◌, ◌+◌, ◌*◌, ◌++◌, ap, sym, ◌∙◌, arith}
-use Rattle.std.specs.Prelude.{length}
-use Rattle.std.specs.List.{flat_map}
-use Rattle.ttp_base.specs.NodeSet.{below}
-use Rattle.script_gen.specs.Draws.{drawn}
-use Rattle.script_gen.specs.Generator.{fault_by, fault_within}
+use Rattle.script_gen.proofs.Words.{◌≡◌, ◌+◌, ◌*◌, ◌++◌, ap, sym, ◌∙◌, arith, length, flat_map, below, drawn, fault_by}
+use Rattle.script_gen.proofs.Words.{fault_within}
 use Rattle.script_gen.proofs.LoopSteps.{faults-next, faults-past}
 use Rattle.script_gen.proofs.faults.add_faults.Goals as goal
 use Rattle.script_gen.proofs.faults.add_faults.Goals.{then-slot-slots+in_ok-push, else-slot-slots}

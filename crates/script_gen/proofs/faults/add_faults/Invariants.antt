@@ -1,7 +1,4 @@
-use Rattle.std.proofs.Common.{◌≡◌, ◌+◌, ◌*◌, ◌++◌, length}
-use Rattle.std.specs.List.{flat_map}
-use Rattle.ttp_base.specs.NodeSet.{below}
-use Rattle.script_gen.specs.Generator.{fault_within}
+use Rattle.script_gen.proofs.Words.{◌≡◌, ◌+◌, ◌*◌, ◌++◌, length, flat_map, below, fault_within}
 use Rattle.script_gen.proofs.faults.add_faults.Given as goal
 
 -- the faults so far

@@ -1,4 +1,4 @@
-use Rattle.std.proofs.Common.{rules, arith}
+use Rattle.script_gen.proofs.Words.{rules, arith}
 use Rattle.script_gen.proofs.Starter.{starter-at, starter-nowhere}
 use Rattle.script_gen.proofs.faults.starter_of.Goals as goal
 

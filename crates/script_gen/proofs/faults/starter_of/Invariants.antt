@@ -1,5 +1,4 @@
-use Rattle.std.proofs.Common.{◌≡◌, ℕ, ◌<◌, false}
-use Rattle.ttp_world.specs.Medl.{may_start}
+use Rattle.script_gen.proofs.Words.{◌≡◌, ℕ, ◌<◌, false, may_start}
 use Rattle.script_gen.proofs.faults.starter_of.Given as goal
 
 -- none of the nodes so far may start

@@ -1,5 +1,5 @@
-use Rattle.std.proofs.Common.{◌≡◌, ◌≤◌, take}
-use Rattle.std.specs.Prelude.{count_by}
+use Rattle.script_gen.proofs.Words.{◌≡◌, ◌≤◌, count_by}
+use Rattle.std.proofs.Common.{take}
 use Rattle.script_gen.proofs.faults.sync_count.Given as goal
 
 abbrev pub invariant-loop-plan : goal.invariant-loop-plan

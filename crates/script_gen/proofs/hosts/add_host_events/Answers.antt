@@ -1,6 +1,4 @@
-use Rattle.std.proofs.Common.{◌≡◌, ◌+◌, ◌%◌, ◌++◌, ap, ◌∙◌}
-use Rattle.std.specs.Prelude.{length}
-use Rattle.script_gen.specs.Generator.{write_by, reads_by}
+use Rattle.script_gen.proofs.Words.{◌≡◌, ◌+◌, ◌%◌, ◌++◌, ap, ◌∙◌, length, write_by, reads_by}
 use Rattle.script_gen.proofs.LoopSteps.{hosts-next}
 use Rattle.script_gen.proofs.hosts.add_host_events.Goals as goal
 

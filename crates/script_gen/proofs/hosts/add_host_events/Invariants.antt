@@ -1,7 +1,4 @@
-use Rattle.std.proofs.Common.{◌≡◌, ◌++◌}
-use Rattle.std.specs.List.{flat_map}
-use Rattle.ttp_base.specs.NodeSet.{below}
-use Rattle.script_gen.specs.Generator.{host_events_in}
+use Rattle.script_gen.proofs.Words.{◌≡◌, ◌++◌, flat_map, below, host_events_in}
 use Rattle.script_gen.proofs.hosts.add_host_events.Given as goal
 
 -- those of the slots so far

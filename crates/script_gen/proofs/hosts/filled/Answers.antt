@@ -1,4 +1,4 @@
-use Rattle.std.proofs.Common.{◌∙◌}
+use Rattle.script_gen.proofs.Words.{◌∙◌}
 use Rattle.std.proofs.lemmas.List.{take-replicate}
 use Rattle.script_gen.proofs.hosts.filled.Goals as goal
 

@@ -1,11 +1,5 @@
-use Rattle.std.proofs.Common.{◌≡◌, ◌≤◌, length, map, replicate, Some, ap, sym, ◌∙◌, subst}
-use Rattle.std.specs.Prelude.{All}
-use Rattle.ttp_base.specs.NodeSet.{below}
-use Rattle.ttp_world.specs.declared.script.TheConstants.{EVENT_LIMIT}
-use Rattle.ttp_world.specs.Events.{IsBounded}
-use Rattle.ttp_world.specs.Hypothesis.{keeps}
-use Rattle.ttp_world.specs.Script.{IsValidScript}
-use Rattle.script_gen.specs.Generator.{drift_by}
+use Rattle.script_gen.proofs.Words.{◌≡◌, ◌≤◌, length, map, replicate, Some, ap, sym, ◌∙◌, subst, All, below}
+use Rattle.script_gen.proofs.Words.{EVENT_LIMIT, IsBounded, keeps, IsValidScript, drift_by}
 use Rattle.script_gen.proofs.LoopSteps.{events-made, script-made}
 use Rattle.script_gen.proofs.Valid.{all-valid, all-indexed}
 use Rattle.script_gen.proofs.Kept.{keeps-generated}

@@ -1,7 +1,6 @@
-use Rattle.std.proofs.Common.{ℕ, ◌+◌, ◌*◌, ◌++◌, List, take, drop, refl, arith, sym, ap, ◌∙◌}
+use Rattle.script_text.proofs.Words.{ℕ, ◌+◌, ◌*◌, ◌++◌, List, take, drop, refl, arith, sym, ap, ◌∙◌, hex_bytes_in}
 use Rattle.std.proofs.lemmas.Bool.{false≢true}
 use Rattle.std.proofs.lemmas.List.{take_more_set, length-set, get_or-set_other}
-use Rattle.script_text.specs.Numbers.{hex_bytes_in}
 use Rattle.script_text.proofs.HexDigits.{right_pair, pair_byte, wrong_high, wrong_low}
 use Rattle.script_text.proofs.Zeros.{get_or-zeros, zeros_behind}
 use Rattle.script_text.proofs.hex.front_payload.Goals as goal

@@ -1,5 +1,4 @@
-use Rattle.std.proofs.Common.{◌≡◌, true, take}
-use Rattle.script_text.specs.Numbers.{is_hex}
+use Rattle.script_text.proofs.Words.{◌≡◌, true, take, is_hex}
 use Rattle.script_text.proofs.hex.is_hex.Given as goal
 
 -- each byte so far is a digit

@@ -1,7 +1,4 @@
-use Rattle.std.proofs.Common.{◌≡◌, true, ◌^◌, ◌<◌, take}
-use Rattle.std.specs.List.{list_all}
-use Rattle.std.specs.Char.{is_ascii_digit}
-use Rattle.script_text.specs.Numbers.{number_in}
+use Rattle.script_text.proofs.Words.{◌≡◌, true, ◌^◌, ◌<◌, take, list_all, is_ascii_digit, number_in}
 use Rattle.script_text.proofs.number.front_digits.Given as goal
 
 -- each byte so far is a digit, and the number is theirs

@@ -1,6 +1,4 @@
-use Rattle.std.proofs.Common.{◌≡◌, ◌≤◌, ◌-◌, true, length, take}
-use Rattle.std.specs.List.{list_all}
-use Rattle.script_text.specs.Lines.{is_part}
+use Rattle.script_text.proofs.Words.{◌≡◌, ◌≤◌, ◌-◌, true, length, take, list_all, is_part}
 use Rattle.script_text.proofs.words.word_end.Given as goal
 
 -- each byte so far is part of the word

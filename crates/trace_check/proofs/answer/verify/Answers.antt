@@ -1,7 +1,6 @@
-use Rattle.std.proofs.Common.{◌≡◌, ℕ, ◌+◌, ◌<◌, ◌^◌, List, [], Bor, ap, sym, subst, ◌∙◌, refl, arith}
+use Rattle.trace_check.proofs.Words.{◌≡◌, ℕ, ◌+◌, ◌<◌, ◌^◌, List, [], Bor, ap, sym, subst, ◌∙◌, refl, arith}
+use Rattle.trace_check.proofs.Words.{IsFirstWrong, IsTraceAnd}
 use Rattle.trace_check.specs.declared.answer.Outcome.TheVariants.{Differs}
-use Rattle.trace_check.specs.Answer.{IsFirstWrong}
-use Rattle.trace_check.specs.Following.{IsTraceAnd}
 use Rattle.trace_check.proofs.FewLines.{IsWrongBehind, amiss-counted, more-counted}
 use Rattle.trace_check.proofs.Outcomes.{whole-trace, first_wrong-no_trace, one_first_wrong}
 use Rattle.trace_check.proofs.OwnNumbers.{is_trace-numbers, numbers-is_trace}

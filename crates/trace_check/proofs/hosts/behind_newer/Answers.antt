@@ -1,9 +1,6 @@
-use Rattle.std.proofs.Common.{◌≡◌, ◌∙◌, ◌+◌, ℕ, List, Some, ap, sym, subst, arith}
+use Rattle.trace_check.proofs.Words.{◌≡◌, ◌∙◌, ◌+◌, ℕ, List, Some, ap, sym, subst, arith, delivered_of, after_label}
+use Rattle.trace_check.proofs.Words.{row_after, IsRing, newest_before}
 use Rattle.ttp_world.specs.declared.script.Source.TheVariants as source
-use Rattle.ttp_world.specs.Messages.{delivered_of}
-use Rattle.line_text.specs.Labels.{after_label}
-use Rattle.trace_check.specs.Following.{row_after}
-use Rattle.trace_check.specs.Incoming.{IsRing, newest_before}
 use Rattle.trace_check.proofs.Ended.{delivered-none, delivered-other, ended-delivered}
 use Rattle.trace_check.proofs.Rings.{after-own, after-same, after-status, line_read, new_read-none, new_read-some}
 use Rattle.trace_check.proofs.Rings.{newer_payload, newer_status, newest-payload, newest-status}

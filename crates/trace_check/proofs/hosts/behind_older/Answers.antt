@@ -1,7 +1,5 @@
-use Rattle.std.proofs.Common.{◌∙◌, ℕ, List, ap}
+use Rattle.trace_check.proofs.Words.{◌∙◌, ℕ, List, ap, after_label, newest_before}
 use Rattle.ttp_world.specs.declared.script.Source.TheVariants as source
-use Rattle.line_text.specs.Labels.{after_label}
-use Rattle.trace_check.specs.Incoming.{newest_before}
 use Rattle.trace_check.proofs.Rings.{line_read, newest-payload, newest-status, older_payload, older_status}
 use Rattle.trace_check.proofs.hosts.behind_older.Goals as goal
 

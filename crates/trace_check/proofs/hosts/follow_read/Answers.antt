@@ -1,7 +1,5 @@
-use Rattle.std.proofs.Common.{◌≡◌, ◌∙◌, ◌+◌, ◌≤◌, ℕ, None, set, ap, sym, subst, arith}
-use Rattle.std.proofs.lemmas.Bool.{false≢true}
-use Rattle.trace_check.specs.Following.{ReadsNone, behind_read}
-use Rattle.trace_check.specs.Incoming.{floor_of, floor_place, newest_before}
+use Rattle.trace_check.proofs.Words.{◌≡◌, ◌∙◌, ◌+◌, ◌≤◌, ℕ, None, set, ap, sym, subst, arith, false≢true, ReadsNone}
+use Rattle.trace_check.proofs.Words.{behind_read, floor_of, floor_place, newest_before}
 use Rattle.trace_check.proofs.Labels.{passed_up}
 use Rattle.trace_check.proofs.OneRead.{floor_within, reads-newer, reads-none, reads-older}
 use Rattle.trace_check.proofs.Rings.{newest-few}

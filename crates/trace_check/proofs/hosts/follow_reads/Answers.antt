@@ -1,10 +1,6 @@
-use Rattle.std.proofs.Common.{◌≡◌, ◌∙◌, List, get_or, length, refl, ap, sym, subst, arith}
-use Rattle.std.specs.Prelude.{reverse, slice_get}
-use Rattle.std.proofs.lemmas.Option.{slice_get-get_or}
-use Rattle.ttp_world.specs.declared.host_lines.HostRead.{HostRead}
+use Rattle.trace_check.proofs.Words.{◌≡◌, ◌∙◌, List, get_or, length, refl, ap, sym, subst, arith, reverse, slice_get}
+use Rattle.trace_check.proofs.Words.{slice_get-get_or, HostRead, read_messages, ReadsAmiss, ReadsOn}
 use Rattle.ttp_world.specs.declared.script.Source.TheVariants as source
-use Rattle.ttp_world.specs.Legal.{read_messages}
-use Rattle.trace_check.specs.Following.{ReadsAmiss, ReadsOn}
 use Rattle.trace_check.proofs.Ended.{ended-slot}
 use Rattle.trace_check.proofs.Labels.{passed_up}
 use Rattle.trace_check.proofs.SlotReads.{HasReadSoFar, ended-same, past-same, read-all, read-amiss, read-next, read-none}

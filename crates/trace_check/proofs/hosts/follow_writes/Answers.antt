@@ -1,11 +1,8 @@
-use Rattle.std.proofs.Common.{◌≡◌, ◌∙◌, ℕ, ◌+◌, List, Some, None, Bor, take, drop, sym, ap, subst, arith}
-use Rattle.std.specs.Prelude.{option_map}
-use Rattle.std.specs.List.{filter_map}
-use Rattle.std.proofs.lemmas.List.{append-nil, take_all}
-use Rattle.ttp_world.specs.Script.{host_write, write_at, writes_in}
-use Rattle.ttp_world.specs.Trace.{write_lines}
+use Rattle.trace_check.proofs.Words.{◌≡◌, ◌∙◌, ℕ, ◌+◌, List, Some, None, Bor, take, drop, sym, ap, subst, arith}
+use Rattle.trace_check.proofs.Words.{option_map, filter_map, take_all, host_write, write_at, writes_in, write_lines}
+use Rattle.trace_check.proofs.Words.{Departs}
+use Rattle.std.proofs.lemmas.List.{append-nil}
 use Rattle.ttp_world.proofs.HostMessages.{valid_write_at}
-use Rattle.trace_check.specs.Following.{Departs}
 use Rattle.trace_check.proofs.Labels.{passed_up}
 use Rattle.trace_check.proofs.Writes.{split_at, taken}
 use Rattle.trace_check.proofs.Written.{HasWrittenLines, lines_along, lines-depart, lines-next, lines-none, number-small, written-all}

@@ -1,6 +1,4 @@
-use Rattle.std.proofs.Common.{take}
-use Rattle.std.specs.List.{filter_map}
-use Rattle.ttp_world.specs.Script.{write_at}
+use Rattle.trace_check.proofs.Words.{take, filter_map, write_at}
 use Rattle.trace_check.proofs.Written.{HasWrittenLines}
 use Rattle.trace_check.proofs.hosts.follow_writes.Given as goal
 

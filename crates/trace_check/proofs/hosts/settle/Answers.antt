@@ -1,6 +1,4 @@
-use Rattle.std.proofs.Common.{◌≡◌, ◌<◌, length, refl, sym, subst, arith}
-use Rattle.trace_check.specs.declared.incoming.Incoming.{Incoming}
-use Rattle.trace_check.specs.Following.{row_after}
+use Rattle.trace_check.proofs.Words.{◌≡◌, ◌<◌, length, refl, sym, subst, arith, Incoming, row_after}
 use Rattle.trace_check.proofs.Settled.{TellsPayloads, TellsStatuses, all-settled, none-settled}
 use Rattle.trace_check.proofs.SettledLoop.{HasDelivered, delivers-none, delivers-some, number-small, settled-next}
 use Rattle.trace_check.proofs.Shown.{place_within, sender-of}

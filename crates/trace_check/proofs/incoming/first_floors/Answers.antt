@@ -1,5 +1,4 @@
-use Rattle.std.proofs.Common.{◌++◌, ◌∷◌, [], ◌∙◌}
-use Rattle.std.proofs.lemmas.List.{replicate_more}
+use Rattle.trace_check.proofs.Words.{◌++◌, ◌∷◌, [], ◌∙◌, replicate_more}
 use Rattle.trace_check.proofs.incoming.first_floors.Goals as goal
 
 pub loop-preserved : goal.loop-preserved

@@ -1,5 +1,4 @@
-use Rattle.std.proofs.Common.{◌++◌, ◌∙◌, ap, sym, add-one}
-use Rattle.trace_check.specs.Incoming.{first_payloads, zeros_of_all}
+use Rattle.trace_check.proofs.Words.{◌++◌, ◌∙◌, ap, sym, add-one, first_payloads, zeros_of_all}
 use Rattle.trace_check.proofs.incoming.first_payloads.Goals as goal
 
 pub loop-preserved : goal.loop-preserved

@@ -1,5 +1,4 @@
-use Rattle.std.proofs.Common.{◌≡◌}
-use Rattle.trace_check.specs.Incoming.{first_payloads}
+use Rattle.trace_check.proofs.Words.{◌≡◌, first_payloads}
 use Rattle.trace_check.proofs.incoming.first_payloads.Given as goal
 
 abbrev pub invariant-loop : goal.invariant-loop

@@ -1,5 +1,4 @@
-use Rattle.std.proofs.Common.{◌++◌, ◌∷◌, [], ◌∙◌, replicate}
-use Rattle.std.proofs.lemmas.List.{replicate_more}
+use Rattle.trace_check.proofs.Words.{◌++◌, ◌∷◌, [], ◌∙◌, replicate, replicate_more}
 use Rattle.trace_check.proofs.incoming.first_statuses.Goals as goal
 
 pub loop-preserved : goal.loop-preserved

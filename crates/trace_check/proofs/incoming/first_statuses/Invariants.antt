@@ -1,4 +1,4 @@
-use Rattle.std.proofs.Common.{◌≡◌, replicate}
+use Rattle.trace_check.proofs.Words.{◌≡◌, replicate}
 use Rattle.trace_check.proofs.incoming.first_statuses.Given as goal
 
 abbrev pub invariant-loop : goal.invariant-loop

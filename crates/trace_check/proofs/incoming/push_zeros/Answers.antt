@@ -1,8 +1,5 @@
-use Rattle.std.proofs.Common.{◌++◌, ◌∷◌, [], ◌∙◌, ap, sym, append_assoc, arith}
-use Rattle.std.specs.Prelude.{map, slice_get}
-use Rattle.std.proofs.lemmas.List.FromFn.{map-range_with_len_more}
-use Rattle.ttp_base.specs.NodeSet.{below}
-use Rattle.trace_check.specs.Incoming.{zeros_chosen}
+use Rattle.trace_check.proofs.Words.{◌++◌, ◌∷◌, [], ◌∙◌, ap, sym, append_assoc, arith, map, slice_get}
+use Rattle.trace_check.proofs.Words.{map-range_with_len_more, below, zeros_chosen}
 use Rattle.trace_check.proofs.FirstOutgoing.{zeros-chosen}
 use Rattle.trace_check.proofs.incoming.push_zeros.Goals as goal
 

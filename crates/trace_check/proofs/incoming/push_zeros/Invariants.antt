@@ -1,7 +1,4 @@
-use Rattle.std.proofs.Common.{◌≡◌, ◌++◌}
-use Rattle.std.specs.Prelude.{map}
-use Rattle.ttp_base.specs.NodeSet.{below}
-use Rattle.trace_check.specs.Incoming.{zeros_chosen}
+use Rattle.trace_check.proofs.Words.{◌≡◌, ◌++◌, map, below, zeros_chosen}
 use Rattle.trace_check.proofs.incoming.push_zeros.Given as goal
 
 abbrev pub invariant-loop-sender : goal.invariant-loop-sender

@@ -1,7 +1,4 @@
-use Rattle.std.proofs.Common.{◌∙◌, sym, subst}
-use Rattle.std.proofs.lemmas.Result.{IfOk-weaker}
-use Rattle.ttp_world.specs.Trace.{test_lines}
-use Rattle.trace_check.specs.Following.{Departs}
+use Rattle.trace_check.proofs.Words.{◌∙◌, sym, subst, IfOk-weaker, test_lines, Departs}
 use Rattle.trace_check.proofs.Labels.{passed_up, err_by_both}
 use Rattle.trace_check.proofs.LastLines.{keep-departs, keep-alone, both-begin, back-departs}
 use Rattle.trace_check.proofs.last_lines.follow_tests.Goals as goal

@@ -1,5 +1,4 @@
-use Rattle.std.proofs.Common.{◌≡◌, ◌∙◌, length, sym, subst, arith}
-use Rattle.trace_check.specs.Following.{Departs, node_lines}
+use Rattle.trace_check.proofs.Words.{◌≡◌, ◌∙◌, length, sym, subst, arith, Departs, node_lines}
 use Rattle.trace_check.proofs.Ended.{ended-digits}
 use Rattle.trace_check.proofs.Labels.{passed_up}
 use Rattle.trace_check.proofs.Shown.{HasNodesSoFar, nodes-departs, nodes-next}

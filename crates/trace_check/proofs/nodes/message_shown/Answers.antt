@@ -1,6 +1,4 @@
-use Rattle.std.proofs.Common.{◌∙◌, ap, sym, arith}
-use Rattle.ttp_world.specs.Trace.{message_shown}
-use Rattle.trace_check.specs.Following.{row_after}
+use Rattle.trace_check.proofs.Words.{◌∙◌, ap, sym, arith, message_shown, row_after}
 use Rattle.trace_check.proofs.Shown.{sender-of, sender-place, number-few, shown, shown-none}
 use Rattle.trace_check.proofs.nodes.message_shown.Goals as goal
 

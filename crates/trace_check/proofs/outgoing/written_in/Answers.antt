@@ -1,10 +1,7 @@
-use Rattle.std.proofs.Common.{◌≡◌, ◌∙◌, ◌+◌, ◌++◌, ◌∷◌, [], ℕ, List, length, get_or, take, Some, sym, ap}
-use Rattle.std.proofs.Common.{arith, length-append}
-use Rattle.std.specs.Prelude.{slice_get, option_map}
-use Rattle.std.specs.List.{filter_map}
-use Rattle.std.proofs.lemmas.List.{take_all}
+use Rattle.trace_check.proofs.Words.{◌≡◌, ◌∙◌, ◌+◌, ◌++◌, ◌∷◌, [], ℕ, List, length, get_or, take, Some, sym, ap, arith}
+use Rattle.trace_check.proofs.Words.{length-append, slice_get, option_map, filter_map, take_all, host_write, write_at}
+use Rattle.trace_check.proofs.Words.{messages_written}
 use Rattle.std.proofs.lemmas.Option.{slice_get_past}
-use Rattle.ttp_world.specs.Script.{host_write, write_at, messages_written}
 use Rattle.trace_check.proofs.Writes.{found, messages_at, messages_at-own, messages_at-other, messages_at-none, messages_by}
 use Rattle.trace_check.proofs.outgoing.written_in.Goals as goal
 use Rattle.trace_check.proofs.outgoing.written_in.Goals.{in-Some+then-written-host+else-before-eq0}

@@ -1,5 +1,4 @@
-use Rattle.std.proofs.Common.{◌≡◌, ◌+◌, length}
-use Rattle.ttp_world.specs.Script.{write_at}
+use Rattle.trace_check.proofs.Words.{◌≡◌, ◌+◌, length, write_at}
 use Rattle.trace_check.proofs.Writes.{messages_at}
 use Rattle.trace_check.proofs.outgoing.written_in.Given as goal
 

@@ -1,12 +1,9 @@
-use Rattle.std.proofs.Common.{◌≡◌, ◌∙◌, ℕ, [], Some, None, refl, ap, sym, rules, tests}
-use Rattle.std.specs.Prelude.{◌==◌, option_map, slice_get}
+use Rattle.trace_check.proofs.Words.{◌≡◌, ◌∙◌, ℕ, [], Some, None, refl, ap, sym, ◌==◌, option_map, slice_get}
+use Rattle.trace_check.proofs.Words.{get_or_from_slice_get, words_of, numeral_in, message_digits}
+use Rattle.std.proofs.Common.{rules, tests}
 use Rattle.std.proofs.lemmas.Iterator.Consumers.{nth_from_yields_List}
 use Rattle.std.proofs.lemmas.Iterator.Splits.{YieldsList-from_slice_split}
 use Rattle.std.proofs.lemmas.List.{get_or_past}
-use Rattle.std.proofs.lemmas.Option.{get_or_from_slice_get}
-use Rattle.ttp_world.specs.TraceNumbers.{words_of}
-use Rattle.line_text.specs.Numerals.{numeral_in}
-use Rattle.line_text.specs.Numerals.{message_digits}
 use Rattle.trace_check.proofs.Taken.{past_end}
 use Rattle.trace_check.proofs.text.number_named.Goals as goal
 

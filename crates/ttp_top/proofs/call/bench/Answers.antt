@@ -1,6 +1,5 @@
-use Rattle.std.proofs.Common.{Some}
-use Rattle.commands.specs.Texts.{answer}
-use Rattle.ttp_top.specs.Calls.Words.{schedule, run, keeps, verify, precision, sample, modes}
+use Rattle.ttp_top.proofs.Words.{Some, answer, schedule, run, verify, precision, sample, modes}
+use Rattle.ttp_top.specs.Calls.Words.{keeps}
 use Rattle.ttp_top.proofs.Calls.Promises.{promise}
 use Rattle.ttp_top.proofs.Lists.Promises.{schedule_promise}
 use Rattle.ttp_top.proofs.Samples.Promises.{sample_promise}

@@ -1,8 +1,6 @@
-use Rattle.std.proofs.Common.{inl, refl}
+use Rattle.ttp_top.proofs.Words.{inl, refl, ttpbench, usage_line}
 use Rattle.commands.specs.Lines.{notice}
 use Rattle.commands.proofs.Loads.{said}
-use Rattle.ttp_top.specs.Calls.Answer.{ttpbench}
-use Rattle.ttp_top.specs.Calls.Forms.{usage_line}
 use Rattle.ttp_top.proofs.call.obey.Goals as goal
 
 pub returns-in-NoForm-clause-follows : goal.returns-in-NoForm-clause-follows

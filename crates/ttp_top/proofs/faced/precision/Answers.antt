@@ -1,9 +1,4 @@
-use Rattle.std.proofs.Common.{refl}
-use Rattle.commands.specs.Plan.{outside, ends}
-use Rattle.commands.specs.Texts.{alone}
-use Rattle.commands.proofs.Loads.{pair_came, no_pair}
-use Rattle.ttp_top.specs.Calls.Answer.{ttpbench}
-use Rattle.ttp_top.specs.Calls.Forms.{precision_ending}
+use Rattle.ttp_top.proofs.Words.{refl, outside, ends, alone, pair_came, no_pair, ttpbench, precision_ending}
 use Rattle.ttp_top.proofs.faced.precision.Goals as goal
 
 pub returns-in-Ok : goal.returns-in-Ok

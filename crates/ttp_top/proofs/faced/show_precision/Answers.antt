@@ -1,7 +1,4 @@
-use Rattle.std.proofs.Common.{◌∙◌, inl}
-use Rattle.commands.proofs.Loads.{said_as}
-use Rattle.ttp_top.specs.Calls.Answer.{ttpbench}
-use Rattle.ttp_top.specs.Calls.Precision.{faced_line, broken_line}
+use Rattle.ttp_top.proofs.Words.{◌∙◌, inl, said_as, ttpbench, faced_line, broken_line}
 use Rattle.ttp_top.proofs.Calls.Precision.{faced_line-is, broken_line-is, precision-said}
 use Rattle.ttp_top.proofs.faced.show_precision.Goals as goal
 

@@ -1,10 +1,5 @@
-use Rattle.std.proofs.Common.{refl}
-use Rattle.commands.specs.Files.{trace_file, trace_plan}
-use Rattle.commands.specs.Plan.{outside, ends}
-use Rattle.commands.specs.Texts.{alone}
-use Rattle.commands.proofs.Loads.{bytes_came, no_bytes, pair_came, no_pair}
-use Rattle.ttp_top.specs.Calls.Answer.{ttpbench}
-use Rattle.ttp_top.specs.Calls.Forms.{modes_ending}
+use Rattle.ttp_top.proofs.Words.{refl, trace_file, trace_plan, outside, ends, alone, bytes_came, no_bytes, pair_came}
+use Rattle.ttp_top.proofs.Words.{no_pair, ttpbench, modes_ending}
 use Rattle.ttp_top.proofs.modes.modes.Goals as goal
 
 pub returns-in-Ok-load_trace : goal.returns-in-Ok-load_trace

@@ -1,12 +1,5 @@
-use Rattle.std.proofs.Common.{◌∙◌, inl}
-use Rattle.ttp_base.specs.Text.{lines_of}
+use Rattle.ttp_top.proofs.Words.{◌∙◌, inl, lines_of, mode_lines, said_as, whole_ending, one, ttpbench, differs_line}
 use Rattle.ttp_world.specs.TraceNumbers.{numbers_in}
-use Rattle.mode_change.specs.ModeText.{mode_lines}
-use Rattle.commands.proofs.Loads.{said_as}
-use Rattle.commands.specs.Plan.{whole_ending}
-use Rattle.commands.specs.Texts.{one}
-use Rattle.ttp_top.specs.Calls.Answer.{ttpbench}
-use Rattle.ttp_top.specs.Calls.Differences.{differs_line}
 use Rattle.ttp_top.proofs.Calls.Differences.{differs-none, differs-said}
 use Rattle.ttp_top.proofs.modes.show_modes.Goals as goal
 

@@ -1,9 +1,4 @@
-use Rattle.std.proofs.Common.{refl}
-use Rattle.commands.specs.Plan.{outside, ends}
-use Rattle.commands.specs.Texts.{answer}
-use Rattle.commands.proofs.Loads.{pair_came, no_pair}
-use Rattle.ttp_top.specs.Calls.Answer.{ttpbench}
-use Rattle.ttp_top.specs.Calls.Forms.{trace_ending}
+use Rattle.ttp_top.proofs.Words.{refl, outside, ends, answer, pair_came, no_pair, ttpbench, trace_ending}
 use Rattle.ttp_top.proofs.run.run.Goals as goal
 
 pub returns-in-Ok : goal.returns-in-Ok

@@ -1,5 +1,4 @@
-use Rattle.std.proofs.Common.{[], refl, inl, inr}
-use Rattle.ttp_base.proofs.Outputs.{Wrote-none}
+use Rattle.ttp_top.proofs.Words.{[], refl, inl, inr, Wrote-none}
 use Rattle.ttp_top.proofs.run.show_trace.Goals as goal
 
 pub returns-in-Ok : goal.returns-in-Ok

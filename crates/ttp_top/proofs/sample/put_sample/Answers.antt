@@ -1,7 +1,4 @@
-use Rattle.std.proofs.Common.{ap, subst, ◌∙◌}
-use Rattle.ttp_world.specs.declared.script.Script.{Script}
-use Rattle.ttp_world.specs.Script.{IsValidScript}
-use Rattle.script_gen.specs.Generator.{generated}
+use Rattle.ttp_top.proofs.Words.{ap, subst, ◌∙◌, Script, IsValidScript, generated}
 use Rattle.ttp_top.proofs.Samples.Said.{HasCountedAll, all_counted, sample_said, sample_stopped}
 use Rattle.ttp_top.proofs.sample.put_sample.Goals as goal
 

@@ -1,9 +1,7 @@
-use Rattle.std.proofs.Common.{[], ◌∷◌}
-use Rattle.std.proofs.lemmas.Result.{on_ok_weaker, on_err_weaker, err_from_is_err_and}
-use Rattle.ttp_base.proofs.Outputs.{Wrote-join, CutShort-after, CutShort-more}
+use Rattle.ttp_top.proofs.Words.{[], ◌∷◌, on_ok_weaker, Wrote-join, CutShort-after, CutShort-more, keep_line}
+use Rattle.ttp_top.proofs.Words.{asked_line, sent_line, hosts_line}
+use Rattle.std.proofs.lemmas.Result.{on_err_weaker, err_from_is_err_and}
 use Rattle.ttp_world.specs.Hypothesis.{keeps}
-use Rattle.ttp_world.specs.Trace.{keep_line}
-use Rattle.ttp_top.specs.Samples.Lines.{asked_line, sent_line, hosts_line}
 use Rattle.ttp_top.proofs.sample.put_summary.Goals as goal
 
 pub returns-clause-ok : goal.returns-clause-ok

@@ -1,11 +1,5 @@
-use Rattle.std.proofs.Common.{refl}
-use Rattle.commands.specs.Files.{list_file, refused_list}
-use Rattle.commands.specs.Plan.{outside, ends}
-use Rattle.commands.specs.Read.{list_from}
-use Rattle.commands.specs.Texts.{answer}
-use Rattle.commands.proofs.Loads.{value_came, no_value}
-use Rattle.ttp_top.specs.Calls.Answer.{ttpbench}
-use Rattle.ttp_top.specs.Calls.Forms.{sample_ending}
+use Rattle.ttp_top.proofs.Words.{refl, list_file, refused_list, outside, ends, list_from, answer, value_came, no_value}
+use Rattle.ttp_top.proofs.Words.{ttpbench, sample_ending}
 use Rattle.ttp_top.proofs.sample.sample.Goals as goal
 
 pub returns-in-Ok : goal.returns-in-Ok

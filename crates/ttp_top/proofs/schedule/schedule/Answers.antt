@@ -1,11 +1,5 @@
-use Rattle.std.proofs.Common.{refl, inl}
-use Rattle.commands.specs.Files.{list_file, refused_list}
-use Rattle.commands.specs.Plan.{outside, ends}
-use Rattle.commands.specs.Read.{list_from}
-use Rattle.commands.specs.Texts.{alone}
-use Rattle.commands.proofs.Loads.{value_came, no_value}
-use Rattle.ttp_top.specs.Calls.Answer.{ttpbench}
-use Rattle.ttp_top.specs.Calls.Forms.{table_ending}
+use Rattle.ttp_top.proofs.Words.{refl, inl, list_file, refused_list, outside, ends, list_from, alone, value_came}
+use Rattle.ttp_top.proofs.Words.{no_value, ttpbench, table_ending}
 use Rattle.ttp_top.proofs.schedule.schedule.Goals as goal
 
 pub returns-in-Ok : goal.returns-in-Ok

@@ -1,6 +1,4 @@
-use Rattle.std.proofs.Common.{◌≡◌, ◌≤◌, take}
-use Rattle.std.specs.Prelude.{count_by}
-use Rattle.ttp_top.specs.Samples.Totals.{shows_left}
+use Rattle.ttp_top.proofs.Words.{◌≡◌, ◌≤◌, take, count_by, shows_left}
 use Rattle.ttp_top.proofs.totals.count_left.Given as goal
 
 abbrev pub invariant-loop-line : goal.invariant-loop-line

@@ -1,6 +1,4 @@
-use Rattle.std.proofs.Common.{◌≡◌, drop}
-use Rattle.ttp_top.specs.Samples.Counted.{states_in}
-use Rattle.ttp_top.specs.Samples.Totals.{lowest_members}
+use Rattle.ttp_top.proofs.Words.{◌≡◌, drop, states_in, lowest_members}
 use Rattle.ttp_top.proofs.totals.lowest_members.Given as goal
 
 -- no node so far is active

@@ -1,8 +1,4 @@
-use Rattle.std.proofs.Common.{◌∙◌, inl}
-use Rattle.commands.proofs.Loads.{said_as}
-use Rattle.commands.specs.Plan.{line_ending}
-use Rattle.ttp_top.specs.Calls.Answer.{ttpbench}
-use Rattle.ttp_top.specs.Calls.Differences.{differs_line, same_line}
+use Rattle.ttp_top.proofs.Words.{◌∙◌, inl, said_as, line_ending, ttpbench, differs_line, same_line}
 use Rattle.ttp_top.proofs.Calls.Differences.{differs-none, differs-said}
 use Rattle.ttp_top.proofs.verify.show_outcome.Goals as goal
 

@@ -1,8 +1,6 @@
-use Rattle.std.proofs.Common.{◌<◌, [], ◌∷◌, ◌++◌, length, take, subst, ap, sym, ◌∙◌, arith}
+use Rattle.ttp_world.proofs.Words.{◌<◌, [], ◌∷◌, ◌++◌, length, take, subst, ap, sym, ◌∙◌, arith, take_more, All-more}
+use Rattle.ttp_world.proofs.Words.{filter_map-append, keyed_flip, HasFlipKey}
 use Rattle.std.specs.List.{filter_map}
-use Rattle.std.proofs.lemmas.List.{take_more}
-use Rattle.std.proofs.lemmas.List.Elements.{All-more, filter_map-append}
-use Rattle.ttp_world.specs.Flips.{keyed_flip, HasFlipKey}
 use Rattle.ttp_world.proofs.flips.flips_of.Goals as goal
 
 pub loop-event-preserved : goal.loop-event-preserved

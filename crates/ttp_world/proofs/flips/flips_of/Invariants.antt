@@ -1,6 +1,5 @@
-use Rattle.std.proofs.Common.{◌≡◌, take}
+use Rattle.ttp_world.proofs.Words.{◌≡◌, take, keyed_flip, HasFlipKey}
 use Rattle.std.specs.List.{All, filter_map}
-use Rattle.ttp_world.specs.Flips.{keyed_flip, HasFlipKey}
 use Rattle.ttp_world.proofs.flips.flips_of.Given as goal
 
 abbrev pub invariant-loop-event : goal.invariant-loop-event

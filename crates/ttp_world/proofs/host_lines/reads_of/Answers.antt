@@ -1,6 +1,4 @@
-use Rattle.std.proofs.Common.{arith}
-use Rattle.std.proofs.lemmas.Grind.{common_steps}
-use Rattle.std.proofs.lemmas.List.Elements.{filter_map-append}
+use Rattle.ttp_world.proofs.Words.{arith, common_steps, filter_map-append}
 use Rattle.ttp_world.proofs.host_lines.reads_of.Goals as goal
 
 pub loop-event-preserved : goal.loop-event-preserved

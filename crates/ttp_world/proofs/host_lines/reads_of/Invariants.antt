@@ -1,6 +1,5 @@
-use Rattle.std.proofs.Common.{◌≡◌, take}
+use Rattle.ttp_world.proofs.Words.{◌≡◌, take, keyed_read}
 use Rattle.std.specs.List.{filter_map}
-use Rattle.ttp_world.specs.HostLines.{keyed_read}
 use Rattle.ttp_world.proofs.host_lines.reads_of.Given as goal
 
 abbrev pub invariant-loop-event : goal.invariant-loop-event

@@ -1,5 +1,4 @@
-use Rattle.std.proofs.Common.{arith}
-use Rattle.std.proofs.lemmas.Grind.{common_steps}
+use Rattle.ttp_world.proofs.Words.{arith, common_steps}
 use Rattle.ttp_world.proofs.HostLists.{keyed_writes-more}
 use Rattle.ttp_world.proofs.host_lines.writes_of.Goals as goal
 

@@ -1,5 +1,4 @@
-use Rattle.std.proofs.Common.{◌≡◌, take}
-use Rattle.ttp_world.specs.HostLines.{keyed_writes}
+use Rattle.ttp_world.proofs.Words.{◌≡◌, take, keyed_writes}
 use Rattle.ttp_world.proofs.host_lines.writes_of.Given as goal
 
 abbrev pub invariant-loop-place : goal.invariant-loop-place

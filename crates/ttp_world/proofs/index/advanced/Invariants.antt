@@ -1,4 +1,4 @@
-use Rattle.std.proofs.Common.{◌≤◌, length}
+use Rattle.ttp_world.proofs.Words.{◌≤◌, length}
 use Rattle.ttp_world.proofs.index.advanced.Given as goal
 
 abbrev pub invariant-loop : goal.invariant-loop

@@ -1,6 +1,4 @@
-use Rattle.std.proofs.Common.{rules}
-use Rattle.std.proofs.lemmas.List.Sorted.{IsPartitionedBy-leb, IsPartitionPoint-from_clause}
-use Rattle.ttp_world.specs.Index.{step_is_by}
+use Rattle.ttp_world.proofs.Words.{rules, IsPartitionedBy-leb, IsPartitionPoint-from_clause, step_is_by}
 use Rattle.ttp_world.proofs.index.all_up_to.Goals as goal
 
 pub returns-clause-place : goal.returns-clause-place

@@ -1,4 +1,4 @@
-use Rattle.std.proofs.Common.{arith}
+use Rattle.ttp_world.proofs.Words.{arith}
 use Rattle.ttp_world.proofs.Splits.{splits-step}
 use Rattle.ttp_world.proofs.index.is_end.Goals as goal
 

@@ -1,7 +1,5 @@
-use Rattle.std.proofs.Common.{length, ◌∙◌}
-use Rattle.std.proofs.lemmas.List.{length-map}
+use Rattle.ttp_world.proofs.Words.{length, ◌∙◌, length-map, below}
 use Rattle.std.proofs.lemmas.List.FromFn.{length-range_with_len}
-use Rattle.ttp_base.specs.NodeSet.{below}
 use Rattle.ttp_world.specs.Words.{word_count, payload_word}
 use Rattle.ttp_world.proofs.laws.payload_has_its_words.Goals as goal
 

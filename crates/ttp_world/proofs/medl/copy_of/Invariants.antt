@@ -1,4 +1,4 @@
-use Rattle.std.proofs.Common.{◌≡◌, take}
+use Rattle.ttp_world.proofs.Words.{◌≡◌, take}
 use Rattle.ttp_world.proofs.medl.copy_of.Given as goal
 
 abbrev pub invariant-loop-slot : goal.invariant-loop-slot

@@ -1,4 +1,4 @@
-use Rattle.std.proofs.Common.{◌*◌, ◌≤◌, length, sym, subst, rules, arith}
+use Rattle.two_faced.proofs.Words.{◌*◌, ◌≤◌, length, sym, subst, rules, arith}
 use Rattle.ttp_world.specs.Medl.{IsWithin}
 use Rattle.precision.proofs.Limits.{share_limits}
 use Rattle.two_faced.proofs.bounds.drift_part.Goals as goal

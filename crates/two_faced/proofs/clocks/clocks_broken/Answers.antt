@@ -1,9 +1,7 @@
-use Rattle.std.proofs.Common.{ℕ, Bool, cond, not, Some, sym, ◌∙◌, ap, rules, arith}
+use Rattle.two_faced.proofs.Words.{ℕ, Bool, cond, not, Some, sym, ◌∙◌, ap, rules, arith, below, told_start_if}
+use Rattle.two_faced.proofs.Words.{errors_allowed_in}
 use Rattle.std.specs.List.{find}
-use Rattle.ttp_base.specs.NodeSet.{below}
-use Rattle.hypothesis.specs.Standing.{told_start_if}
 use Rattle.hypothesis.proofs.Ranges.{none-below, first-below}
-use Rattle.two_faced.specs.Faced.{errors_allowed_in}
 use Rattle.two_faced.proofs.clocks.clocks_broken.Goals as goal
 
 pub returns-then-not-errors_allowed_in : goal.returns-then-not-errors_allowed_in

@@ -1,7 +1,4 @@
-use Rattle.std.proofs.Common.{◌≡◌, ℕ, ◌<◌, true, false, not}
-use Rattle.ttp_world.specs.Hypothesis.{drifts_hold}
-use Rattle.hypothesis.specs.Standing.{told_start_if}
-use Rattle.two_faced.specs.Faced.{errors_allowed_in}
+use Rattle.two_faced.proofs.Words.{◌≡◌, ℕ, ◌<◌, true, false, not, drifts_hold, told_start_if, errors_allowed_in}
 use Rattle.two_faced.proofs.clocks.clocks_broken.Given as goal
 
 -- the drifts are within their bound, and so are the errors of the slots so far

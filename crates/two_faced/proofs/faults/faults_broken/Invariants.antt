@@ -1,7 +1,6 @@
-use Rattle.std.proofs.Common.{◌≡◌, drop}
-use Rattle.std.specs.List.{filter_map}
+use Rattle.two_faced.proofs.Words.{◌≡◌, filter_map, fault_slot, faults_broken}
+use Rattle.std.proofs.Common.{drop}
 use Rattle.ttp_world.specs.Hypothesis.{least_of}
-use Rattle.two_faced.specs.Faced.{fault_slot, faults_broken}
 use Rattle.hypothesis.proofs.Least.{lesser_of}
 use Rattle.two_faced.proofs.faults.faults_broken.Given as goal
 

@@ -1,7 +1,6 @@
-use Rattle.std.proofs.Common.{◌≡◌, ap, sym, ◌∙◌, ◌++◌, [], ◌∷◌, arith}
-use Rattle.std.specs.Prelude.{slice_get, Some}
+use Rattle.two_faced.proofs.Words.{◌≡◌, ap, sym, ◌∙◌, ◌++◌, [], ◌∷◌, arith, Some, zeros_chosen}
+use Rattle.std.specs.Prelude.{slice_get}
 use Rattle.std.proofs.lemmas.List.FromFn.{map-range_with_len_more}
-use Rattle.two_faced.specs.ZerosRun.{zeros_chosen}
 use Rattle.two_faced.proofs.ZerosPayloads.{zeros_chosen-plan}
 use Rattle.ttp_world.proofs.WorldFacts.{payload_few as plan_payload}
 use Rattle.two_faced.proofs.run.all_zeros.Goals as goal

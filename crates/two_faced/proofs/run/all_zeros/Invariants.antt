@@ -1,7 +1,5 @@
-use Rattle.std.proofs.Common.{◌≡◌}
+use Rattle.two_faced.proofs.Words.{◌≡◌, below, zeros_chosen}
 use Rattle.std.specs.Prelude.{map}
-use Rattle.ttp_base.specs.NodeSet.{below}
-use Rattle.two_faced.specs.ZerosRun.{zeros_chosen}
 use Rattle.two_faced.proofs.run.all_zeros.Given as goal
 
 -- the messages of the nodes so far

@@ -1,15 +1,9 @@
-use Rattle.std.proofs.Common.{◌≡◌, ℕ, ◌+◌, ◌-◌, ℤ, ◌∷◌, length, Option, Some, None, ap, sym, subst, ◌∙◌}
-use Rattle.std.proofs.Common.{w64, FitsSigned, to_z, of_z, eq-eqb, rules, arith}
-use Rattle.std.specs.Prelude.{◌==◌, IfSome}
-use Rattle.std.specs.List.{filter_map, range_with_len}
-use Rattle.std.proofs.lemmas.Bool.{ne_eqb}
-use Rattle.std.proofs.lemmas.Int.{to_z-of_z}
-use Rattle.ttp_world.specs.Script.{is_on}
-use Rattle.ttp_world.specs.World.{node_past}
+use Rattle.two_faced.proofs.Words.{◌≡◌, ℕ, ◌+◌, ◌-◌, ℤ, ◌∷◌, length, Option, Some, None, ap, sym, subst, ◌∙◌, w64}
+use Rattle.two_faced.proofs.Words.{FitsSigned, to_z, of_z, rules, arith, ◌==◌, IfSome, filter_map, range_with_len}
+use Rattle.two_faced.proofs.Words.{ne_eqb, to_z-of_z, is_on, node_past, zeros_world, clock_beside, apart_after}
+use Rattle.two_faced.proofs.Words.{IsNearSpan}
+use Rattle.std.proofs.Common.{eq-eqb}
 use Rattle.hypothesis.proofs.Least.{range-next}
-use Rattle.two_faced.specs.ZerosRun.{zeros_world}
-use Rattle.two_faced.specs.Seen.{clock_beside, apart_after}
-use Rattle.two_faced.specs.Spans.{IsNearSpan}
 use Rattle.two_faced.proofs.Spans.{widest_with, widest-clock, widest-none, difference_is}
 use Rattle.two_faced.proofs.Spans.{clock_counts, clock_off, clock_own}
 use Rattle.two_faced.proofs.seen.apart_after.Goals as goal

@@ -1,9 +1,5 @@
-use Rattle.std.proofs.Common.{◌≡◌, ◌+◌, ◌-◌, length}
-use Rattle.std.specs.Prelude.{IfSome}
-use Rattle.std.specs.List.{filter_map, range_with_len}
-use Rattle.two_faced.specs.ZerosRun.{zeros_world}
-use Rattle.two_faced.specs.Seen.{clock_beside, apart_after}
-use Rattle.two_faced.specs.Spans.{IsNearSpan}
+use Rattle.two_faced.proofs.Words.{◌≡◌, ◌+◌, ◌-◌, length, IfSome, filter_map, range_with_len, zeros_world, clock_beside}
+use Rattle.two_faced.proofs.Words.{apart_after, IsNearSpan}
 use Rattle.two_faced.proofs.Spans.{widest_with}
 use Rattle.two_faced.proofs.seen.apart_after.Given as goal
 

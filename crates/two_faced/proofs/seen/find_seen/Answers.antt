@@ -1,7 +1,5 @@
-use Rattle.std.proofs.Common.{◌≡◌, Some, ap, sym, ◌∙◌}
-use Rattle.ttp_world.specs.Hypothesis.{start_of}
-use Rattle.ttp_world.specs.World.{world}
-use Rattle.hypothesis.specs.Standing.{told_start, told_start_if}
+use Rattle.two_faced.proofs.Words.{◌≡◌, Some, ap, sym, ◌∙◌, start_of, world, told_start_if}
+use Rattle.hypothesis.specs.Standing.{told_start}
 use Rattle.two_faced.specs.Seen.{seen_since}
 use Rattle.two_faced.proofs.SeenAlike.{seen_of-zeros}
 use Rattle.two_faced.proofs.seen.find_seen.Goals as goal

@@ -1,11 +1,6 @@
-use Rattle.std.proofs.Common.{◌≡◌, ℕ, ◌+◌, ℤ, w64, FitsSigned, to_z, of_z, ap, sym, ◌∙◌, rules}
-use Rattle.std.proofs.lemmas.Int.{to_z-of_z}
-use Rattle.ttp_world.specs.declared.medl.Medl.{Medl}
-use Rattle.ttp_world.specs.declared.script.Script.{Script}
-use Rattle.two_faced.specs.ZerosRun.{zeros_world}
+use Rattle.two_faced.proofs.Words.{◌≡◌, ℕ, ◌+◌, ℤ, w64, FitsSigned, to_z, of_z, ap, sym, ◌∙◌, rules, to_z-of_z, Medl}
+use Rattle.two_faced.proofs.Words.{Script, zeros_world, Seen, apart_after, with_slot, seen_in}
 use Rattle.two_faced.proofs.ZerosRun.{length-zeros_world, zeros_world-more}
-use Rattle.two_faced.specs.declared.seen.Seen.{Seen}
-use Rattle.two_faced.specs.Seen.{apart_after, with_slot, seen_in}
 use Rattle.two_faced.proofs.seen.seen_in.Goals as goal
 
 -- one slot more

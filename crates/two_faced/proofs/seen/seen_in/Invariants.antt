@@ -1,7 +1,5 @@
-use Rattle.std.proofs.Common.{◌≡◌}
-use Rattle.two_faced.specs.ZerosRun.{zeros_world}
+use Rattle.two_faced.proofs.Words.{◌≡◌, zeros_world, seen_in}
 use Rattle.two_faced.specs.ZerosRun.{StandsAfter}
-use Rattle.two_faced.specs.Seen.{seen_in}
 use Rattle.two_faced.proofs.seen.seen_in.Given as goal
 
 -- the run stands for the world of the slots so far, and this was seen in it

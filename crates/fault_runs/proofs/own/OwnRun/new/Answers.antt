@@ -1,4 +1,4 @@
-use Rattle.std.proofs.Common.{ℕ, sym, subst}
+use Rattle.fault_runs.proofs.Words.{ℕ, sym, subst}
 use Rattle.run_costs.specs.Standing.{IsSeenAfter}
 use Rattle.fault_runs.proofs.own.OwnRun.new.Goals as goal
 

@@ -1,8 +1,5 @@
-use Rattle.std.proofs.Common.{◌≡◌, ◌∷◌, [], List, ap, sym, subst, ◌∙◌}
-use Rattle.std.proofs.lemmas.List.{map-append}
-use Rattle.std.specs.Prelude.{map}
-use Rattle.campaign.specs.Lines.{Summary, summary, summary_with, is_same_cost}
-use Rattle.fault_runs.specs.declared.tried.Tried.{Tried}
+use Rattle.fault_runs.proofs.Words.{◌≡◌, ◌∷◌, [], List, ap, sym, subst, ◌∙◌, map-append, map, Summary, summary}
+use Rattle.fault_runs.proofs.Words.{summary_with, is_same_cost, Tried}
 use Rattle.fault_runs.specs.Runs.{AreCountsOf}
 use Rattle.fault_runs.proofs.tally.Tally.count.Goals as goal
 

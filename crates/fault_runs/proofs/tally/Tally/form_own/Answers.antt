@@ -1,6 +1,4 @@
-use Rattle.std.proofs.Common.{◌≡◌, ◌++◌, List, ℕ, subst}
-use Rattle.std.specs.Prelude.{OnOk}
-use Rattle.campaign.specs.Lines.{summary, own_line}
+use Rattle.fault_runs.proofs.Words.{◌≡◌, ◌++◌, List, ℕ, subst, OnOk, summary, own_line}
 use Rattle.fault_runs.proofs.tally.Tally.form_own.Goals as goal
 
 pub returns-clause-line : goal.returns-clause-line

@@ -1,6 +1,4 @@
-use Rattle.std.proofs.Common.{ap}
-use Rattle.ttp_base.specs.NodeSet.{has_node}
-use Rattle.hypothesis.specs.Standing.{told_start}
+use Rattle.hypothesis.proofs.Words.{ap, has_node, told_start}
 use Rattle.hypothesis.proofs.faulty.BackFaulty.new.Goals as goal
 
 pub returns : goal.returns

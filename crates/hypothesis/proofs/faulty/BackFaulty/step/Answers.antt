@@ -1,8 +1,5 @@
-use Rattle.std.proofs.Common.{ℕ, ◌+◌, ap, subst, ◌∙◌, arith}
-use Rattle.ttp_world.specs.Hypothesis.{numbers_of}
-use Rattle.ttp_world.specs.Returning.{slots_before, faulty_since}
-use Rattle.hypothesis.specs.SlotIncidents.{AreKeptFrom}
-use Rattle.hypothesis.specs.Standing.{told_start, HaveSameNodes}
+use Rattle.hypothesis.proofs.Words.{ℕ, ◌+◌, ap, subst, ◌∙◌, arith, numbers_of, slots_before, faulty_since, AreKeptFrom}
+use Rattle.hypothesis.proofs.Words.{told_start, HaveSameNodes}
 use Rattle.hypothesis.proofs.faulty.BackFaulty.step.Goals as goal
 
 pub back_faults_in-faults-requires-clause-kept : goal.back_faults_in-faults-requires-clause-kept

@@ -1,5 +1,4 @@
-use Rattle.std.proofs.Common.{ap}
-use Rattle.ttp_base.specs.NodeSet.{has_node}
+use Rattle.hypothesis.proofs.Words.{ap, has_node}
 use Rattle.hypothesis.proofs.faulty.KeptFaulty.new.Goals as goal
 
 pub returns : goal.returns

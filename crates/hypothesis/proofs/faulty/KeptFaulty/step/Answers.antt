@@ -1,7 +1,7 @@
-use Rattle.std.proofs.Common.{ℕ, Option, ap, sym, subst, ◌∙◌, add-one}
-use Rattle.ttp_base.specs.NodeSet.{has_node}
-use Rattle.ttp_world.specs.Hypothesis.{ClusterStart, numbers_of, faulty_nodes_before, started_faulty_nodes}
-use Rattle.hypothesis.specs.Standing.{told_start, HaveSameNodes}
+use Rattle.hypothesis.proofs.Words.{ℕ, Option, ap, sym, subst, ◌∙◌, has_node, ClusterStart, numbers_of}
+use Rattle.hypothesis.proofs.Words.{faulty_nodes_before, told_start, HaveSameNodes}
+use Rattle.std.proofs.Common.{add-one}
+use Rattle.ttp_world.specs.Hypothesis.{started_faulty_nodes}
 use Rattle.hypothesis.proofs.faulty.KeptFaulty.step.Goals as goal
 
 pub returns-clause-at : goal.returns-clause-at

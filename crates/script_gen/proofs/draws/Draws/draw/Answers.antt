@@ -1,4 +1,4 @@
-use Rattle.std.proofs.Common.{refl}
+use Rattle.script_gen.proofs.Words.{refl}
 use Rattle.script_gen.proofs.DrawSteps.{state-next, drawn-next}
 use Rattle.script_gen.proofs.draws.Draws.draw.Goals as goal
 

@@ -1,7 +1,6 @@
-use Rattle.std.proofs.Common.{◌≡◌, ◌<◌, w64, to_z, of_z, length, arith, sym, ◌∙◌}
+use Rattle.script_text.proofs.Words.{◌≡◌, ◌<◌, length, arith, sym, ◌∙◌, err_from_is_err_and, number_at}
+use Rattle.std.proofs.Common.{w64, to_z, of_z}
 use Rattle.std.proofs.lemmas.Int.{to_z-of_z}
-use Rattle.std.proofs.lemmas.Result.{err_from_is_err_and}
-use Rattle.script_text.specs.Statement.{number_at}
 use Rattle.script_text.proofs.Kept.{refuses_own, takes_drift}
 use Rattle.script_text.proofs.so_far.SoFar.take_drift.Goals as goal
 

@@ -1,6 +1,4 @@
-use Rattle.std.proofs.Common.{◌≡◌, ◌<◌, length, refl, arith, sym, ◌∙◌}
-use Rattle.std.proofs.lemmas.Result.{err_from_is_err_and}
-use Rattle.script_text.specs.Statement.{number_at}
+use Rattle.script_text.proofs.Words.{◌≡◌, ◌<◌, length, refl, arith, sym, ◌∙◌, err_from_is_err_and, number_at}
 use Rattle.script_text.proofs.Kept.{refuses_own, takes_on}
 use Rattle.script_text.proofs.so_far.SoFar.take_on.Goals as goal
 

@@ -1,8 +1,5 @@
-use Rattle.std.proofs.Common.{◌∙◌, sym, subst, arith}
-use Rattle.std.proofs.lemmas.Result.{IfOk-weaker, IfErr-weaker}
-use Rattle.ttp_world.specs.Legal.{IsLegalRun}
-use Rattle.ttp_world.specs.Trace.{trace_head}
-use Rattle.trace_check.specs.Following.{IsAmissAt}
+use Rattle.trace_check.proofs.Words.{◌∙◌, sym, subst, arith, IfOk-weaker, IsLegalRun, trace_head, IsAmissAt}
+use Rattle.std.proofs.lemmas.Result.{IfErr-weaker}
 use Rattle.trace_check.proofs.Followed.{followed-at, followed-first, followed-next}
 use Rattle.trace_check.proofs.Labels.{passed_up, no_line}
 use Rattle.trace_check.proofs.Wholes.{departs-amiss, head-amiss, tests-amiss, tests-trace}

@@ -1,7 +1,4 @@
-use Rattle.std.proofs.Common.{refl, sym, subst, arith}
-use Rattle.ttp_world.specs.World.{world}
-use Rattle.ttp_world.proofs.Worlds.{length-world}
-use Rattle.trace_check.specs.Outgoing.{HoldsNewest}
+use Rattle.trace_check.proofs.Words.{refl, sym, subst, arith, world, length-world, HoldsNewest}
 use Rattle.trace_check.proofs.Labels.{passed_up}
 use Rattle.trace_check.proofs.SlotFollowed.{departs-nodes, departs-reads, departs-writes, ended, ended-with, goes-on-to, has-chosen, may-step, past, past-with, slots-of}
 use Rattle.trace_check.proofs.follow.Follower.follow_slot.Goals as goal

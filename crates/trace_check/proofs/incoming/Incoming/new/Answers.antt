@@ -1,6 +1,4 @@
-use Rattle.std.proofs.Common.{◌≡◌, ◌∙◌, ℕ, ◌*◌, ◌+◌, ap, length, arith}
-use Rattle.std.proofs.lemmas.List.{length-replicate}
-use Rattle.ttp_world.proofs.Lists.{nodes-most}
+use Rattle.trace_check.proofs.Words.{◌≡◌, ◌∙◌, ℕ, ◌*◌, ◌+◌, ap, length, arith, length-replicate, nodes-most}
 use Rattle.trace_check.proofs.FirstIncoming.{first-tells}
 use Rattle.trace_check.proofs.incoming.Incoming.new.Goals as goal
 

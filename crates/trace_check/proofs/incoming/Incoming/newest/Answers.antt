@@ -1,4 +1,4 @@
-use Rattle.std.proofs.Common.{◌∙◌}
+use Rattle.trace_check.proofs.Words.{◌∙◌}
 use Rattle.trace_check.proofs.Rings.{newest-status, newest-payload}
 use Rattle.trace_check.proofs.incoming.Incoming.newest.Goals as goal
 

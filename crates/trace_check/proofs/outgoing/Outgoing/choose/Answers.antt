@@ -1,8 +1,6 @@
-use Rattle.std.proofs.Common.{◌∙◌, ◌+◌, Some, None, get_or, [], sym, subst, arith}
-use Rattle.ttp_base.specs.Text.{lines_of}
-use Rattle.ttp_world.specs.Script.{messages_written}
+use Rattle.trace_check.proofs.Words.{◌∙◌, ◌+◌, Some, None, get_or, [], sym, subst, arith, lines_of, messages_written}
+use Rattle.trace_check.proofs.Words.{Outgoing}
 use Rattle.trace_check.specs.Outgoing.{number_named}
-use Rattle.trace_check.specs.declared.outgoing.Outgoing.{Outgoing}
 use Rattle.trace_check.proofs.Taken.{HasLookedAt, line_at, looked-past, looked-taken, named-in, none_at_first}
 use Rattle.trace_check.proofs.Taken.{number_so_far, so_far-behind, taken-bare}
 use Rattle.trace_check.proofs.outgoing.Outgoing.choose.Goals as goal

@@ -1,5 +1,4 @@
-use Rattle.std.proofs.Common.{◌≡◌, ◌∙◌, ap, sym, subst, arith}
-use Rattle.std.specs.Prelude.{slice_get}
+use Rattle.trace_check.proofs.Words.{◌≡◌, ◌∙◌, ap, sym, subst, arith, slice_get}
 use Rattle.trace_check.proofs.FirstOutgoing.{AreFirst, AreFirst-none, AreFirst-more, first-holds}
 use Rattle.trace_check.proofs.outgoing.Outgoing.new.Goals as goal
 

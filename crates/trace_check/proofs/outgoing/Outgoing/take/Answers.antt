@@ -1,7 +1,5 @@
-use Rattle.std.proofs.Common.{◌≡◌, ◌∙◌, ℕ, ◌-◌, Some, set, refl, ap, sym, arith}
-use Rattle.std.specs.Prelude.{slice_get}
-use Rattle.ttp_world.specs.Script.{messages_written}
-use Rattle.trace_check.specs.Outgoing.{number_taken, oldest_number}
+use Rattle.trace_check.proofs.Words.{◌≡◌, ◌∙◌, ℕ, ◌-◌, Some, set, refl, ap, sym, arith, slice_get, messages_written}
+use Rattle.trace_check.proofs.Words.{number_taken, oldest_number}
 use Rattle.trace_check.proofs.Taken.{chooses-found, chooses-oldest, oldest-read, taken-none}
 use Rattle.trace_check.proofs.outgoing.Outgoing.take.Goals as goal
 

@@ -1,9 +1,5 @@
-use Rattle.std.proofs.Common.{◌<◌, ap, ◌∙◌, arith}
+use Rattle.ttp_world.proofs.Words.{◌<◌, ap, ◌∙◌, arith, NODE_KEYS, flipped_bit, bits_on, keyed_flip, values_of}
 use Rattle.std.specs.List.{filter_map}
-use Rattle.ttp_world.specs.declared.index.TheConstants.{NODE_KEYS}
-use Rattle.ttp_world.specs.Events.{flipped_bit, bits_on}
-use Rattle.ttp_world.specs.Flips.{keyed_flip}
-use Rattle.ttp_world.specs.Sorted.{values_of}
 use Rattle.ttp_world.proofs.FlipLists.{flips_told}
 use Rattle.ttp_world.proofs.events.Events.flips.Goals as goal
 

@@ -1,9 +1,5 @@
-use Rattle.std.proofs.Common.{ℕ, ◌<◌, ◌≤◌, List, length, subst, ap, sym, ◌∙◌, arith}
-use Rattle.ttp_world.specs.declared.index.Step.{Step}
-use Rattle.ttp_world.specs.declared.index.TheConstants.{NODE_KEYS}
-use Rattle.ttp_world.specs.Events.{incidents_in, AreBounded}
-use Rattle.ttp_world.specs.Index.{incidents_before, step_is_by, AreFew}
-use Rattle.ttp_world.specs.Sorted.{SplitsAt}
+use Rattle.ttp_world.proofs.Words.{ℕ, ◌<◌, ◌≤◌, List, length, subst, ap, sym, ◌∙◌, arith, Step, NODE_KEYS, incidents_in}
+use Rattle.ttp_world.proofs.Words.{AreBounded, incidents_before, step_is_by, AreFew, SplitsAt}
 use Rattle.ttp_world.proofs.EventBounds.{incidents_in-bounded}
 use Rattle.ttp_world.proofs.events.Events.incidents.Goals as goal
 

@@ -1,10 +1,6 @@
-use Rattle.std.proofs.Common.{◌≡◌, ℕ, ◌<◌, ◌≤◌, false, List, length, get_or, subst, ap, sym, ◌∙◌, arith}
-use Rattle.std.proofs.lemmas.Bool.{leb-false}
-use Rattle.ttp_world.specs.declared.index.Step.{Step}
-use Rattle.ttp_world.specs.declared.index.TheConstants.{NODE_KEYS}
-use Rattle.ttp_world.specs.Events.{incidents_in, AreBounded}
-use Rattle.ttp_world.specs.Index.{first_step, incidents_before, step_is_by, AreFew}
-use Rattle.ttp_world.specs.Sorted.{key_of, SplitsAt}
+use Rattle.ttp_world.proofs.Words.{◌≡◌, ℕ, ◌<◌, ◌≤◌, false, List, length, get_or, subst, ap, sym, ◌∙◌, arith, leb-false}
+use Rattle.ttp_world.proofs.Words.{Step, NODE_KEYS, incidents_in, AreBounded, first_step, incidents_before, step_is_by}
+use Rattle.ttp_world.proofs.Words.{AreFew, key_of, SplitsAt}
 use Rattle.ttp_world.proofs.EventBounds.{incidents_in-bounded}
 use Rattle.ttp_world.proofs.Splits.{splits-later}
 use Rattle.ttp_world.proofs.events.Events.standing.Goals as goal

@@ -1,6 +1,5 @@
 -- Behind the bytes there are zeros.
-use Rattle.std.proofs.Common.{◌≡◌, ℕ, ◌-◌, List, ◌++◌, length, drop, ap, ◌∙◌}
-use Rattle.std.specs.Prelude.{replicate}
+use Rattle.ttp_world.proofs.Words.{◌≡◌, ℕ, ◌-◌, List, ◌++◌, length, drop, ap, ◌∙◌, replicate}
 use Rattle.std.proofs.Math.Seq.{drop-append_seam}
 use Rattle.std.proofs.lemmas.List.{drop-replicate}
 use Rattle.ttp_world.proofs.script.Payload.of.Goals as goal

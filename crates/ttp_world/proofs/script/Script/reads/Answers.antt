@@ -1,4 +1,4 @@
-use Rattle.std.proofs.Common.{◌∙◌}
+use Rattle.ttp_world.proofs.Words.{◌∙◌}
 use Rattle.ttp_world.proofs.HostLists.{reads_told}
 use Rattle.ttp_world.proofs.script.Script.reads.Goals as goal
 

@@ -1,6 +1,5 @@
-use Rattle.std.proofs.Common.{ap, ◌∙◌}
+use Rattle.ttp_world.proofs.Words.{ap, ◌∙◌, write_at}
 use Rattle.std.specs.List.{filter_map}
-use Rattle.ttp_world.specs.Script.{write_at}
 use Rattle.ttp_world.proofs.HostLists.{writes_told}
 use Rattle.ttp_world.proofs.script.Script.writes.Goals as goal
 

@@ -1,10 +1,6 @@
-use Rattle.std.proofs.Common.{◌≤◌, ◌^◌, ℤ, w64, FitsSigned, ap, sym, subst, ◌∙◌, rules, arith}
-use Rattle.std.specs.Prelude.{unsigned_abs}
-use Rattle.std.proofs.lemmas.Int.{to_z-of_z}
-use Rattle.ttp_world.specs.declared.medl.Medl.{Medl}
+use Rattle.two_faced.proofs.Words.{◌≤◌, ◌^◌, ℤ, w64, FitsSigned, ap, sym, subst, ◌∙◌, rules, arith, unsigned_abs}
+use Rattle.two_faced.proofs.Words.{to_z-of_z, Medl, node_past, zeros_world}
 use Rattle.ttp_world.specs.declared.node.NodeState.{NodeState}
-use Rattle.ttp_world.specs.World.{node_past}
-use Rattle.two_faced.specs.ZerosRun.{zeros_world}
 use Rattle.two_faced.proofs.ZerosRun.{length-zeros_world}
 use Rattle.two_faced.proofs.run.Run.clock.Goals as goal
 

@@ -1,4 +1,4 @@
-use Rattle.std.proofs.Common.{length, ap, ◌∙◌, arith}
+use Rattle.two_faced.proofs.Words.{length, ap, ◌∙◌, arith}
 use Rattle.two_faced.proofs.ZerosRun.{length-all_zeros, length-zeros_world, may_step, plant_next}
 use Rattle.two_faced.proofs.run.Run.step.Goals as goal
 
