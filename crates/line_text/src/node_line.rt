@@ -252,7 +252,8 @@ fn put_nobody(line: &mut Line, list: &Medl)
 // Adds what a line shows of a node that is off, between its number and its counts.
 fn put_off(line: &mut Line, list: &Medl)
     requires { length line.old + 50 ≤ 640 }
-    ensures text { line.new ≡ line.old ++ codes " off peer - msg - mem " ++ hex (member_digits list.now) 0 ++ codes " acc " }
+    ensures text { line.new ≡ line.old
+        ++ codes " off peer - msg - mem " ++ hex (member_digits list.now) 0 ++ codes " acc " }
     ensures short { length line.new ≤ length line.old + 50 }
 {
     put_array(line, b" off peer - msg - mem ");
@@ -262,7 +263,8 @@ fn put_off(line: &mut Line, list: &Medl)
 // The same of a node that is gone.
 fn put_gone(line: &mut Line, list: &Medl)
     requires { length line.old + 50 ≤ 640 }
-    ensures text { line.new ≡ line.old ++ codes " gone peer - msg - mem " ++ hex (member_digits list.now) 0 ++ codes " acc " }
+    ensures text { line.new ≡ line.old
+        ++ codes " gone peer - msg - mem " ++ hex (member_digits list.now) 0 ++ codes " acc " }
     ensures short { length line.new ≤ length line.old + 50 }
 {
     put_array(line, b" gone peer - msg - mem ");
@@ -373,7 +375,9 @@ fn put_end(line: &mut Line, state: &NodeState)
     }
 }
 
-// Adds all that comes behind what the lines of a slot begin with.
+// Adds all that comes behind what the lines of a slot begin with. It is inlined, so that its registers are saved
+// once for it and what is done with the line.
+#[inline(always)]
 #[tactic(auto, using(ttp_base::proofs::Room::room))]
 fn put_rest(
     line: &mut Line,
