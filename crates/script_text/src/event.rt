@@ -229,6 +229,7 @@ pub(crate) fn flip_in(words: &Words, list: &Medl, slots: u32) -> Result<Event, L
 }
 
 /// The event that an `error` line says, in a run of so many slots.
+#[inline(always)]
 #[tactic(auto, unfolding(crate::specs::Faults::statement_faults))]
 pub(crate) fn error_in(words: &Words, list: &Medl, slots: u32) -> Result<Event, LineFault>
     requires { IsValid list.now }

@@ -54,6 +54,7 @@ pub(crate) fn keyword_of(word: &[u8]) -> Option<Keyword>
     }
 }
 
+#[inline(always)]
 fn word_count(form: Keyword) -> usize
     ensures { result ≡ word_count form }
 {
@@ -103,6 +104,7 @@ pub(crate) fn fault_in(word: &[u8]) -> Fault
 }
 
 // Whether channels and faults are spelled as they are due.
+#[inline(always)]
 fn has_channels(form: Keyword, words: &Words) -> bool
     ensures { result ≡ has_channels form words.now }
 {
@@ -115,6 +117,7 @@ fn has_channels(form: Keyword, words: &Words) -> bool
 }
 
 /// Whether a line has the words of its form, as many, and spelled as they are due.
+#[inline(always)]
 pub(crate) fn is_spelled(form: Keyword, words: &Words) -> bool
     ensures { result ≡ is_spelled form words.now }
 {

@@ -3,6 +3,7 @@ ghost use Rattle.std.specs.Prelude.{List as Items, ◌≡◌, ◌⊎◌, ◌≤�
 ghost use Rattle.std.specs.Prelude.{IfOk, IfErr, OnOk, All, map, unwrap_or};
 ghost use Rattle.ttp_world.specs.Medl.{IsValid};
 ghost use Rattle.ttp_world.specs.Script.{IsValidScript, IsBounded};
+ghost use Rattle.script_text.specs.declared.keyword.Keyword.TheVariants as keyword;
 ghost use Rattle.script_text.specs.Lines.{is_comment, lines_of, words_of};
 ghost use Rattle.script_text.specs.Statement.{Statement};
 ghost use Rattle.script_text.specs.Faults.{is_after_slots};
@@ -31,6 +32,19 @@ fn is_after_slots(form: Keyword, slots: Option<u32>) -> bool
     form == Keyword::Slots || slots.is_some()
 }
 
+// Takes what an `error` line states.
+#[inline(always)]
+fn take_error(list: &Medl, words: &Words, so_far: &mut SoFar) -> Result<(), Refusal>
+    requires valid { IsValid list.now }
+    requires nodes { HasNodes list.now so_far.old }
+    ensures ok { OnOk result (TakesStated list.now words.now so_far.old so_far.new keyword.Error) }
+    ensures err { IfErr result (RefusesStated list.now words.now so_far.old keyword.Error) }
+    ensures nodes { HasNodes list.now so_far.new }
+{
+    let slots = so_far.slots.unwrap_or(0);
+    so_far.take_event(error_in(words, list, slots))
+}
+
 // Takes what a line of a form states.
 #[inline(always)]
 fn take_stated(list: &Medl, form: Keyword, words: &Words, so_far: &mut SoFar) -> Result<(), Refusal>
@@ -48,7 +62,7 @@ fn take_stated(list: &Medl, form: Keyword, words: &Words, so_far: &mut SoFar) ->
         Keyword::Send => so_far.take_event(send_in(words, list, slots)),
         Keyword::Receive => so_far.take_event(receive_in(words, list, slots)),
         Keyword::Flip => so_far.take_event(flip_in(words, list, slots)),
-        Keyword::Error => so_far.take_event(error_in(words, list, slots)),
+        Keyword::Error => take_error(list, words, so_far),
         Keyword::Jump => so_far.take_event(jump_in(words, list, slots)),
         Keyword::Arm => so_far.take_event(arm_in(words, list, slots)),
         Keyword::Read => so_far.take_event(read_in(words, list, slots)),
@@ -75,8 +89,26 @@ fn take_form(list: &Medl, form: Keyword, words: &Words, so_far: &mut SoFar) -> R
     take_stated(list, form, words, so_far)
 }
 
+// Takes an `error` line.
+#[inline(always)]
+#[tactic(auto, using(crate::proofs::Kept::kept))]
+fn take_error_line(list: &Medl, words: &Words, so_far: &mut SoFar) -> Result<(), Refusal>
+    requires valid { IsValid list.now }
+    requires nodes { HasNodes list.now so_far.old }
+    ensures ok { OnOk result (TakesForm list.now words.now so_far.old so_far.new keyword.Error) }
+    ensures err { IfErr result (RefusesForm list.now words.now so_far.old keyword.Error) }
+    ensures nodes { HasNodes list.now so_far.new }
+{
+    if !is_spelled(Keyword::Error, words) {
+        return Err(LineFault::Word.into());
+    }
+    if !is_after_slots(Keyword::Error, so_far.slots) {
+        return Err(LineFault::NoSlots.into());
+    }
+    take_error(list, words, so_far)
+}
+
 // Takes a line of any form.
-#[inline(never)]
 #[tactic(auto, using(crate::proofs::Kept::kept), unfolding(crate::specs::Faults::line_faults, crate::specs::Faults::statements_after))]
 fn take_any_line(list: &Medl, line: &[u8], so_far: &mut SoFar) -> Result<(), Refusal>
     requires valid { IsValid list.now }
@@ -98,7 +130,7 @@ fn take_any_line(list: &Medl, line: &[u8], so_far: &mut SoFar) -> Result<(), Ref
     take_form(list, form, &words, so_far)
 }
 
-// Takes a line. One of the form that most lines of long scripts have is taken in place.
+// Takes a line. An `error` line without a fault in its words is taken in place.
 #[tactic(auto, using(crate::proofs::Kept::kept), unfolding(crate::specs::Faults::line_faults, crate::specs::Faults::statements_after))]
 fn take_line(list: &Medl, line: &[u8], so_far: &mut SoFar) -> Result<(), Refusal>
     requires valid { IsValid list.now }
@@ -109,7 +141,7 @@ fn take_line(list: &Medl, line: &[u8], so_far: &mut SoFar) -> Result<(), Refusal
 {
     if let Some(first) = error_word(line) {
         if let Some(words) = error_words_after(first) {
-            return take_form(list, Keyword::Error, &words, so_far);
+            return take_error_line(list, &words, so_far);
         }
     }
     take_any_line(list, line, so_far)

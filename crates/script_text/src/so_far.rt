@@ -128,6 +128,7 @@ impl SoFar {
     }
 
     /// Takes the event that a line states, which is not counted, or tells what is wrong with that line.
+    #[inline(always)]
     pub(crate) fn take_event(&mut self, event: Result<Event, LineFault>) -> Result<(), Refusal>
         ensures ok { (list : Medl) (words : Items (Items ℕ)) (form : Keyword) → is_uncounted form ≡ true
             → ReadsEvent list (unwrap_or self.old.slots 0) words form event

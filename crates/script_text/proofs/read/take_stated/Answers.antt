@@ -17,11 +17,6 @@ returns-in-Flip-clause-err c = rw c.in-Flip.is (
     c.take_event-in-Flip.ensures.err c.args.list.now c.args.words.now keyword.Flip refl
     (rw c.unwrap_or-slots.ensures at c.flip_in.ensures))
 
-pub returns-in-Error-clause-err : goal.returns-in-Error-clause-err
-returns-in-Error-clause-err c = rw c.in-Error.is (
-    c.take_event-in-Error.ensures.err c.args.list.now c.args.words.now keyword.Error refl
-    (rw c.unwrap_or-slots.ensures at c.error_in.ensures))
-
 pub returns-in-Jump-clause-err : goal.returns-in-Jump-clause-err
 returns-in-Jump-clause-err c = rw c.in-Jump.is (
     c.take_event-in-Jump.ensures.err c.args.list.now c.args.words.now keyword.Jump refl
