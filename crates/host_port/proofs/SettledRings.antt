@@ -1,7 +1,6 @@
 -- The writers of rings while their readers are joined, one after another.
 use Rattle.std.proofs.Common.{◌≡◌, ℕ, zero, suc, ◌+◌, ◌<◌, ◌≤◌, List, [], ◌∷◌, length, map, take, set, get_or, Option}
-use Rattle.std.proofs.Common.{Result, Ok, Err, OnErr}
-use Rattle.std.proofs.Common.{None, refl, sym, ap, ◌∙◌, arith, add-one, below_more}
+use Rattle.std.proofs.Common.{Result, Ok, Err, OnErr, None, refl, sym, ap, ◌∙◌, arith, add-one, below_more}
 use Rattle.std.proofs.lemmas.List.{get_or_read, get_or-map, length-map}
 use Rattle.nbw_ring.specs.States.{WriterState, ReaderState}
 use Rattle.host_port.specs.Reading.{rings_read, IsItsRing, AreTheirRings, settled, all_settled, IsSettled}
@@ -19,26 +18,23 @@ all_settled-none (w ∷ ws) = refl
 -- those that come later are as they were
 all_settled-later : (ws : List (Option WriterState)) (rs : List (Option ReaderState)) (i : ℕ)
     → get_or (all_settled ws (take i rs)) i None ≡ get_or ws i None
-all_settled-later [] rs i = refl
 all_settled-later (w ∷ ws) rs zero = refl
-all_settled-later (w ∷ ws) [] (suc i) = refl
 all_settled-later (w ∷ ws) (r ∷ rs) (suc i) = all_settled-later ws rs i
+all_settled-later ws rs i = refl
 
 all_settled-more : (ws : List (Option WriterState)) (rs : List (Option ReaderState)) (i : ℕ) → i < length ws
     → i < length rs
     → set (all_settled ws (take i rs)) i (settled (get_or ws i None) (get_or rs i None))
     ≡ all_settled ws (take (suc i) rs)
-all_settled-more [] rs i near far = absurd (omega arith)
-all_settled-more (w ∷ ws) [] i near far = absurd (omega arith)
 all_settled-more (w ∷ ws) (r ∷ rs) zero near far = ap (λ l. settled w r ∷ l) (sym (all_settled-none ws))
 all_settled-more (w ∷ ws) (r ∷ rs) (suc i) near far =
     ap (λ l. settled w r ∷ l) (all_settled-more ws rs i (omega arith) (omega arith))
+all_settled-more ws rs i near far = absurd (omega arith)
 
 pub length-all_settled : (ws : List (Option WriterState)) (rs : List (Option ReaderState))
     → length (all_settled ws rs) ≡ length ws
-length-all_settled [] rs = refl
-length-all_settled (w ∷ ws) [] = refl
 length-all_settled (w ∷ ws) (r ∷ rs) = ap suc (length-all_settled ws rs)
+length-all_settled ws rs = refl
 
 -- the writers `now`, of which the first i are settled, and the next one's writer and reader
 pub record IsNext (ws now : List (Option WriterState)) (rs : List (Option ReaderState)) (i : ℕ)
@@ -50,12 +46,12 @@ pub record IsNext (ws now : List (Option WriterState)) (rs : List (Option Reader
   pub reader_is : reader ≡ get_or rs i None
 
 -- the next one, where the readers that are left are as they were
-pub is_next : (ws now : List (Option WriterState)) (rs left : List (Option ReaderState)) (i : ℕ)
-    (writer : Option WriterState) (reader : Option ReaderState) → i < length ws
+pub is_next : {ws now : List (Option WriterState)} {rs : List (Option ReaderState)} (left : List (Option ReaderState))
+    {i : ℕ} {writer : Option WriterState} {reader : Option ReaderState} → i < length ws
     → AreTheirRings (map ring_written ws) (rings_read rs) → now ≡ all_settled ws (take i rs)
     → length left ≡ length rs → ((j : ℕ) → i ≤ j → get_or left j None ≡ get_or rs j None) → writer ≡ get_or now i writer
     → reader ≡ get_or left i reader → IsNext ws now rs i writer reader
-is_next ws now rs left i writer reader within own settled_so same later here there =
+is_next {ws} {now} {rs} left {i} {writer} {reader} within own settled_so same later here there =
     let count = own.count in
     let readers : i < length rs = omega (arith, length-map ws ring_written, length-map rs ring_read) in
     record {
@@ -93,8 +89,8 @@ settled_along ws rs settled_so = rw (← ws, ← rs) settled_so
 -- one more
 pub settled_next : (ws : List (Option WriterState)) (rs : List (Option ReaderState)) (i : ℕ)
     (writer : Option WriterState) (reader : Option ReaderState) → writer ≡ get_or ws i None → reader ≡ get_or rs i None
-    → IsSettled writer reader → ((j : ℕ) → j < i → IsSettled (get_or ws j None) (get_or rs j None))
-    → (j : ℕ) → j < i + 1 → IsSettled (get_or ws j None) (get_or rs j None)
+    → IsSettled writer reader → ((j : ℕ) → j < i → IsSettled (get_or ws j None) (get_or rs j None)) → (j : ℕ)
+    → j < i + 1 → IsSettled (get_or ws j None) (get_or rs j None)
 settled_next ws rs i writer reader here there settled_one below =
     below_more _ _ below (rw (← here, ← there) settled_one)
 
