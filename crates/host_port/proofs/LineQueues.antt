@@ -1,14 +1,12 @@
 -- Pairs that wait in queues, one queue for each place, and become lines in the order of the reads.
-use Rattle.std.proofs.Common.{◌≡◌, ◌≢◌, ℕ, zero, suc, ◌+◌, ◌<◌, ◌==◌, true, false, List, [], ◌∷◌, ◌++◌, length, map}
-use Rattle.std.proofs.Common.{take, drop, set, get_or, filter, Option, Some, None, All, refl, sym, ap, ◌∙◌, arith, cond}
-use Rattle.std.proofs.Common.{inl, inr, zero-add, IfSome, option_to_list}
-use Rattle.std.proofs.lemmas.Bool.{cases_eq}
+use Rattle.std.proofs.Common.{◌≡◌, ◌≢◌, ℕ, ◌+◌, ◌<◌, List, [], ◌∷◌, ◌++◌, length, map}
+use Rattle.std.proofs.Common.{take, drop, set, get_or, Option, Some, None, All, refl, sym, ap, ◌∙◌, arith}
+use Rattle.std.proofs.Common.{IfSome, option_to_list}
 use Rattle.std.proofs.lemmas.Bool.Decides.{nat_tests}
 use Rattle.std.proofs.lemmas.Grind.{common_steps}
 use Rattle.std.proofs.lemmas.List.{map-append, map-set, get_or-map, get_or-set_same, get_or-set_other, length-map}
 use Rattle.std.proofs.lemmas.List.{append-nil, append_assoc, drop_more, take_more}
 use Rattle.std.proofs.lemmas.List.Elements.{filter-append, All-push}
-use Rattle.std.proofs.lemmas.List.Sums.{sum_by-cons}
 use Rattle.std.proofs.Math.ListN.{get_or-map as get_or-map_default}
 use Rattle.nbw_ring.specs.declared.view.Message.{Message}
 use Rattle.nbw_ring.specs.States.{ReaderState}
@@ -104,29 +102,6 @@ lined_more {calls} {whole} {before} {after} {host} {i} {lines} line so within fr
       sources = map-append (λ l. l.source) lines (line ∷ [])
           ∙ ((λ k. so.sources k ++ from k ∷ []) ∙ sym (take_more calls i line.source within));
       hosts = All-push (λ l. l.host ≡ host) lines line so.hosts hosted;
-      pairs = λ place. elim (cases_eq (place_of line.source) place) [
-        | inl here ↦
-            let at : queue_at before place ≡ line.pair ∷ queue_at after place = rw (← here) first in
-            ap (λ l. l ++ queue_at after place) (pairs_at-here place lines line here)
-            ∙ (append_assoc (pairs_at place lines) (line.pair ∷ []) (queue_at after place)
-            ∙ (ap (λ l. pairs_at place lines ++ l) (sym at) ∙ so.pairs place))
-        | inr apart ↦
-            ap (λ l. l ++ queue_at after place) (pairs_at-other place lines line apart)
-            ∙ (ap (λ q. pairs_at place lines ++ q) (others place (λ same. apart (sym same))) ∙ so.pairs place)
-      ];
-      queued = λ place. elim (cases_eq (place_of line.source) place) [
-        | inl here ↦
-            let at : queue_at before place ≡ line.pair ∷ queue_at after place = rw (← here) first in
-            omega (
-              arith,
-              so.queued place,
-              ap (calls_at place) next,
-              calls_at-here place line.source (drop (i + 1) calls) here,
-              ap length at,
-            )
-        | inr apart ↦
-            sym (calls_at-other place line.source (drop (i + 1) calls) apart)
-            ∙ (ap (calls_at place) (sym next)
-            ∙ (so.queued place ∙ ap length (sym (others place (λ same. apart (sym same))))))
-      ];
+      pairs = λ place. grind (arith, common_steps, nat_tests, append_assoc, pairs_at-here, pairs_at-other, so.pairs place);
+      queued = λ place. grind (arith, common_steps, nat_tests, calls_at-here, calls_at-other, so.queued place, next);
     }

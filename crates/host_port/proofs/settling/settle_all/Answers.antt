@@ -2,9 +2,8 @@ use Rattle.std.proofs.Common.{◌++◌, ◌∷◌, [], None, inl, map, take, ref
 use Rattle.std.proofs.lemmas.List.{map-append, map_more, get_or-set_other, length-set}
 use Rattle.std.specs.Vec.Iter.{into_iter_items}
 use Rattle.host_port.specs.Reading.{settled, got_of}
-use Rattle.host_port.proofs.ReaderLists.{read_alike, ring_written, settled_rings}
-use Rattle.host_port.proofs.SettledRings.{all_settled-none, is_next, next_writer, next_settled, settled_next, same_ring}
-use Rattle.host_port.proofs.SettledRings.{settled_along, on_err}
+use Rattle.host_port.proofs.ReaderLists.{read_alike, ring_written, settled_rings, all_settled-none, is_next}
+use Rattle.host_port.proofs.ReaderLists.{next_writer, next_settled, settled_next, same_ring, settled_along, on_err}
 use Rattle.host_port.proofs.settling.settle_all.Goals as goal
 
 pub returns-in_err-queues-clause-err : goal.returns-in_err-queues-clause-err

@@ -3,7 +3,7 @@ use Rattle.host_port.specs.Reading.{ReadersState, got_of, pairs_from}
 use Rattle.host_port.specs.Rings.{place_of}
 use Rattle.host_port.specs.Queues.{calls_at, queue_at}
 use Rattle.host_port.proofs.LineQueues.{queue_of}
-use Rattle.host_port.proofs.SettledRings.{all_settled-none, on_err}
+use Rattle.host_port.proofs.ReaderLists.{all_settled-none, on_err}
 use Rattle.host_port.proofs.ends.ControllerEnd.settle_reads.Goals as goal
 
 pub returns-in_err-lines-clause-err : goal.returns-in_err-lines-clause-err
