@@ -1,6 +1,21 @@
 -- Lists that a loop changes place by place.
-use Rattle.cluster_run.proofs.Words.{◌≡◌, ℕ, ◌+◌, ◌<◌, ◌≤◌, List, length, set, get_or, ◌∙◌, below_more, arith}
-use Rattle.cluster_run.proofs.Words.{get_or-set_same, get_or-set_other, at_any, steps}
+use Rattle.cluster_run.proofs.Words.{◌≡◌, ℕ, ◌+◌, ◌<◌, ◌≤◌, List, [], ◌∷◌, ◌++◌, length, set, get_or, sym, ap, ◌∙◌}
+use Rattle.cluster_run.proofs.Words.{subst, below_more, arith, get_or-set_same, get_or-set_other, at_any, steps}
+use Rattle.cluster_run.proofs.Words.{get_or_append_left, get_or_push, with_items, with_items_is}
+use Rattle.std.proofs.Common.{Vec}
+
+-- What a call with a vector's slice left as it was is as it was in the vector.
+pub kept_items : {X Z : Type 0} (v : Vec X Z) {there new : List X} → there ≡ v.items → length there ≡ v.len
+    → new ≡ there → (with_items v new).items ≡ v.items
+kept_items v value len kept = with_items_is v _ (ap length kept ∙ len) ∙ kept ∙ value
+
+-- So it is of the first items, so many, and of one that is put behind them.
+pub pushed_more : {A : Type 0} (P : ℕ → A → Type 0) (d : A) (k : ℕ) (xs : List A) (x : A) → length xs ≡ k
+    → ((j : ℕ) → j < k → P j (get_or xs j d)) → P k x → (j : ℕ) → j < k + 1 → P j (get_or (xs ++ x ∷ []) j d)
+pushed_more P d k xs x count so last =
+    below_more (λ j. P j (get_or (xs ++ x ∷ []) j d)) k
+    (λ j near. subst (P j) (sym (get_or_append_left xs (x ∷ []) d j (omega (arith, near, count)))) (so j near))
+    (subst (P k) (sym (get_or_push xs x d k count)) last)
 
 -- So it is at the first places, so many, between what was there and what is, and the others are as they were.
 pub record AreChanged {A : Type 0} (P : ℕ → A → A → Type 0) (d : A) (k : ℕ) (old now : List A) : Type 0 where

@@ -1,49 +1,46 @@
 -- What a node's fetcher got is a message of its host: the fetch was one attempt, which no write of the slot overtook.
 use Rattle.cluster_run.proofs.Words.{◌≡◌, ℕ, zero, suc, ◌+◌, ◌-◌, ◌/◌, ◌<◌, ◌≤◌, Bool, true, false, List, [], ◌∷◌, ◌++◌}
 use Rattle.cluster_run.proofs.Words.{length, map, get_or, Option, Some, None, IsSomeAnd, All, refl, sym, ap, subst, ◌∙◌}
-use Rattle.cluster_run.proofs.Words.{arith, cond, slice_get, ◌&&◌, nat_le, le-leb, append-nil, map-append, length-map}
-use Rattle.cluster_run.proofs.Words.{All-push, All-head, none-some, same_Some, Message, Shape, WriterState, ReaderState}
-use Rattle.cluster_run.proofs.Words.{new_reader, with_joined, settlement_of, Medl, Chosen, Script, is_legal_message}
-use Rattle.cluster_run.proofs.Words.{plan_at, messages_before, message_chosen, IsValidScript, messages_written}
-use Rattle.cluster_run.proofs.Words.{writes_in, word_count, words_of_payload, AreBytes, bytes_in, words_tell, HasSeen}
-use Rattle.cluster_run.proofs.Words.{Attempts, is_intact, HostState, message_shape, shape_of, GotEach, SawAtMost}
-use Rattle.cluster_run.proofs.Words.{IsRing, IsRingOf, pair_of, words_written, Fetches, FetchesOne, SettlesFetch}
-use Rattle.cluster_run.proofs.Words.{after_writes, fetcher_lent, with_messages, message_sizes, some_message, steps}
-use Rattle.cluster_run.proofs.Words.{IsWhole, pair_sent, choice_by}
-use Rattle.std.proofs.Common.{length-append}
-use Rattle.std.proofs.lemmas.List.Concat.{flat_map-append}
-use Rattle.nbw_ring.specs.declared.view.Settlement.{Settlement}
+use Rattle.cluster_run.proofs.Words.{arith, cond, slice_get, ◌&&◌, nat_le, le-leb, map-append, length-map, All-head}
+use Rattle.cluster_run.proofs.Words.{none-some, same_Some, Message, Shape, WriterState, ReaderState, new_reader}
+use Rattle.cluster_run.proofs.Words.{with_joined, Medl, Chosen, Script, is_legal_message, plan_at, messages_before}
+use Rattle.cluster_run.proofs.Words.{message_chosen, IsValidScript, messages_written, writes_in, word_count}
+use Rattle.cluster_run.proofs.Words.{words_of_payload, AreBytes, bytes_in, words_tell, HasSeen, Attempts, is_intact}
+use Rattle.cluster_run.proofs.Words.{HostState, message_shape, shape_of, IsRing, IsRingOf, pair_of, words_written}
+use Rattle.cluster_run.proofs.Words.{Fetches, FetchesOne, SettlesFetch, after_writes, fetcher_lent, with_messages}
+use Rattle.cluster_run.proofs.Words.{message_sizes, some_message, steps, IsWhole, pair_sent, choice_by, and_parts}
+use Rattle.cluster_run.proofs.Words.{Numbers, chosen_of, AreChosen, HaveChosen, next_slot, leb-true, out_messages}
+use Rattle.cluster_run.proofs.Words.{newest_number}
+use Rattle.cluster_run.proofs.Rings.{ring_more, settled_ring}
 use Rattle.nbw_ring.specs.Numbers.{IsMessageOf}
-use Rattle.ttp_world.specs.Messages.{newest_number}
 use Rattle.ttp_world.specs.declared.script.Source.TheVariants as source
 
 -- The ring of a node that sends payload is there.
 
-pub shape_there : (list : Medl) (k : ℕ) → 1 ≤ (plan_at list k).payload
+shape_there : (list : Medl) (k : ℕ) → 1 ≤ (plan_at list k).payload
     → message_shape list k ≡ Some (shape_of list (word_count (plan_at list k).payload))
 shape_there list k some = grind steps
 
--- a ring with these messages more
+pub record HasRing (list : Medl) (k : ℕ) (messages : List (List ℕ)) (pairs : List Message) (end : HostState) : Type 0
+  where
+    pub shape_is : message_shape list k ≡ Some (shape_of list (word_count (plan_at list k).payload))
+    pub there : IsSomeAnd end (IsRing (shape_of list (word_count (plan_at list k).payload)) messages pairs)
 
-ring_more : (shape : Shape) (before new : List (List ℕ)) (pairs : List Message) (w : WriterState)
-    → IsRing shape (map words_of_payload before) pairs w
-    → IsRing shape (map words_of_payload (before ++ new)) pairs (with_messages w new)
-ring_more shape before new pairs w ring = record {
-  shape_is = ring.shape_is;
-  messages_are =
-      ap (λ ms. ms ++ map words_of_payload new) ring.messages_are ∙ sym (map-append words_of_payload before new);
-  pairs_are = ring.pairs_are;
-  seen = λ j s within. omega (arith, ring.seen j s within, length-append w.messages (map words_of_payload new));
-  once = ring.once;
+pub has_ring : (list : Medl) (k : ℕ) (messages : List (List ℕ)) (pairs : List Message) (end : HostState)
+    → 1 ≤ (plan_at list k).payload → IsRingOf (message_shape list k) messages pairs end
+    → HasRing list k messages pairs end
+has_ring list k messages pairs end some ring = record {
+  shape_is = shape_there list k some;
+  there = rw (shape_there list k some) at ring;
 }
 
 -- A message by its words.
 
-record Found {X Y : Type 0} (f : X → Y) (xs : List X) (d : X) (k : ℕ) (y : Y) : Type 0 where
+pub record Found {X Y : Type 0} (f : X → Y) (xs : List X) (d : X) (k : ℕ) (y : Y) : Type 0 where
   pub within : k < length xs
   pub is : f (get_or xs k d) ≡ y
 
-found : {X Y : Type 0} (f : X → Y) (xs : List X) (d : X) (k : ℕ) (y : Y) → slice_get (map f xs) k ≡ Some y
+pub found : {X Y : Type 0} (f : X → Y) (xs : List X) (d : X) (k : ℕ) (y : Y) → slice_get (map f xs) k ≡ Some y
     → Found f xs d k y
 found f [] d k y here = absurd (none-some y here)
 found f (x ∷ xs) d zero y here = record { within = omega arith; is = same_Some (f x) y here }
@@ -91,21 +88,6 @@ module _ (before new : List (List ℕ)) (w : WriterState) (f : ReaderState)
   pub tries_one : f.tries ≡ 1
   tries_one = omega (arith, attempt.tries)
 
--- The ring once it is settled.
-pub settled_ring : (shape : Shape) (before new : List (List ℕ)) (pairs : List Message) (w : WriterState)
-    (f : ReaderState) (k : ℕ) → IsRing shape (map words_of_payload (before ++ new)) pairs w
-    → (got : GotOne before new f.got) → f.tries ≡ 1 → HasSeen w f
-    → IsRing shape (map words_of_payload (before ++ new))
-    (pairs ++ pair_of (source.Node k) (before ++ new) got.number ∷ []) (with_joined w f)
-settled_ring shape before new pairs w f k ring got tries seen = record {
-  shape_is = ring.shape_is;
-  messages_are = ring.messages_are;
-  pairs_are = flat_map-append (λ (s : Settlement). s.pairs) w.joined (settlement_of f ∷ [])
-      ∙ (λ i. ring.pairs_are i ++ append-nil f.got i) ∙ ap (λ ms. pairs ++ ms) got.one;
-  seen = All-push (SawAtMost w.messages) w.joined (settlement_of f) ring.seen seen;
-  once = λ more. All-push GotEach w.joined (settlement_of f) (ring.once more) (tries ∙ sym (ap length got.one));
-}
-
 -- What is chosen for a node, and its ring after the slot's writes and its fetch.
 
 pub record IsNodeChoice (list : Medl) (script : Script) (slot k : ℕ) (loaded : Bool) (pairs : List Message)
@@ -124,13 +106,13 @@ module _ (list : Medl) (script : Script) (slot k : ℕ) (valid : IsValidScript l
   len = (plan_at list k).payload
 
   fetched : (old : HostState) {pairs : List Message} {f : Option ReaderState} {new : HostState} {c0 c1 : Chosen}
-      → message_shape list k ≡ Some (shape_of list (word_count len))
-      → IsSomeAnd old (IsRing (shape_of list (word_count len)) (words_written list script k slot) pairs)
-      → Fetches (fetcher_lent true old) f → SettlesFetch len f (after_writes (writes_in script slot) k old) new c0 c1
+      → HasRing list k (words_written list script k slot) pairs old → Fetches (fetcher_lent true old) f
+      → SettlesFetch len f (after_writes (writes_in script slot) k old) new c0 c1
       → IsNodeChoice list script slot k true pairs new c1
-  fetched None there ring attempt settles = absurd ring
-  fetched (Some w) {f = None} there ring none settles = absurd none
-  fetched (Some w) {pairs = pairs} {f = Some f} {new = new} {c0 = c0} {c1 = c1} there ring attempt settles =
+  fetched None there attempt settles = absurd there.there
+  fetched (Some w) {f = None} there none settles = absurd none
+  fetched (Some w) {pairs = pairs} {f = Some f} {new = new} {c0 = c0} {c1 = c1} there attempt settles =
+      let ring = there.there in
       let before = messages_before list script k slot in
       let more = messages_written script k slot in
       let shape = shape_of list (word_count len) in
@@ -149,20 +131,18 @@ module _ (list : Medl) (script : Script) (slot k : ℕ) (valid : IsValidScript l
       settles.choice_is ∙ ap (λ ms. choice_by len (slice_get ms 0) c0) got.one
       ∙ (λ t. record { number = i; payload = told t }) in
       let number : c1.number ≡ i = ap (λ (c : Chosen). c.number) choice in
-      let whole = ring_more shape before more pairs w ring in
-      let end = settled_ring shape before more pairs (with_messages w more) f k whole got tries settles.whole.1 in
+      let whole : IsRing shape (words_written list script k (suc slot)) pairs (with_messages w more) =
+      rw map-append (ring_more (map words_of_payload more) _ ring) in
+      let end : IsRing shape (words_written list script k (suc slot))
+      (pairs ++ pair_of (source.Node k) (before ++ more) i ∷ []) (with_joined (with_messages w more) f) =
+      subst (λ ms. IsRing shape (words_written list script k (suc slot)) (pairs ++ ms) (with_joined (with_messages w more) f))
+      got.one (settled_ring f whole (λ several. tries ∙ sym (ap length got.one)) settles.whole.1) in
       record {
         message = λ _. choice ∙ ap (λ n. message_chosen list script slot k (Some n)) (sym number);
         legal = ap (λ n. is_legal_message list script slot k (Some n)) number
             ∙ between (newest_number before) (newest_number (before ++ more)) i (omega (arith, got.low))
             (omega (arith, got.high));
-        ring =
-            subst (λ (s : Option Shape). IsRingOf s (words_written list script k (suc slot))
-            (pairs ++ pair_sent list script slot k (Some c1.number)) new) (sym there)
-            (subst (λ (e : HostState). IsRingOf (Some shape) (words_written list script k (suc slot))
-            (pairs ++ pair_sent list script slot k (Some c1.number)) e) (sym settles.settled_is)
-            (subst (λ (n : ℕ). IsRing shape (words_written list script k (suc slot))
-            (pairs ++ pair_sent list script slot k (Some n)) (with_joined (with_messages w more) f)) (sym number) end));
+        ring = rw (there.shape_is, settles.settled_is, number) end;
       }
 
   unfetched : (old : HostState) {pairs : List Message} {f : Option ReaderState} {new : HostState} {c0 c1 : Chosen}
@@ -177,9 +157,21 @@ module _ (list : Medl) (script : Script) (slot k : ℕ) (valid : IsValidScript l
       → FetchesOne len loaded old (after_writes (writes_in script slot) k old) new c0 c1
       → IsNodeChoice list script slot k loaded pairs new c1
   node_choice {loaded = true} {pairs = pairs} {old = old} some ring by =
-      let there = shape_there list k (some refl) in
-      fetched old {f = by.tried} there
-      (subst (λ (s : Option Shape). IsRingOf s (words_written list script k slot) pairs old) there ring) by.fetches
-      by.settles
+      fetched old {f = by.tried} (has_ring list k _ pairs old (some refl) ring) by.fetches by.settles
   node_choice {loaded = false} {old = old} some ring by =
       unfetched old {f = by.tried} ring by.fetches by.settles
+
+pub chosen_sizes : {list : Medl} {script : Script} {numbers : Numbers} {chosen : List Chosen} {ends : List HostState}
+    → IsValidScript list script → HaveChosen list script numbers chosen ends
+    → AreChosen (next_slot list script numbers) chosen
+chosen_sizes {list} {script} {numbers} {chosen} {ends} valid are k node loaded =
+    let slot = length numbers in
+    let i = (chosen_of chosen k).number in
+    let out = out_messages list script k slot in
+    let legal : is_legal_message list script slot k (Some i) ≡ true =
+    ap (λ b. is_legal_message list script slot k (cond b (Some i) None)) (sym loaded) ∙ are.legal k node in
+    let low = nat_le (newest_number (messages_before list script k slot)) i in
+    let within : i ≤ newest_number out =
+    leb-true i (newest_number out) (and_parts low (nat_le i (newest_number out)) legal).1 in
+    ap (λ (c : Chosen). length c.payload) (are.messages k node loaded)
+    ∙ message_sizes list script k (suc slot) valid i [] (omega (arith, within, some_message list script k (suc slot)))

@@ -63,11 +63,7 @@ possible list script history k = record {
 judges_other : (list : Medl) (script : Script) (history : History) (k : ℕ)
     → (node_after list script history k).act ≡ Judge → (coming_place list (node_past list script history k)).slot ≢ k
 judges_other list script history k judges =
-    let past = node_past list script history k in
-    let does = (node_after list script history k).act in
-    (λ (at : (x : Act) → IsPossible list k past x → x ≡ Judge → (coming_place list past).slot ≢ k).
-    at does (possible list script history k) judges)
-    (λ x can is. possible-at list k past Judge (subst (IsPossible list k past) is can))
+    possible-at list k (node_past list script history k) Judge (rw judges at (possible list script history k))
 
 pub delivered-deliverable : (list : Medl) (script : Script) (history : History) (chosen : List Chosen) (r : ℕ)
     → r < length list.slots → IfSome (delivered_at (slot_after list script history) chosen r) (IsDeliverable list r)

@@ -1,24 +1,15 @@
 -- What a controller delivers in the slot after a world it may hand on, and the number that it then has in its ring.
 use Rattle.cluster_run.proofs.Words.{◌≡◌, ◌≢◌, ℕ, ◌≤◌, cond, List, [], ◌∷◌, length, Option, Some, None, IfSome}
 use Rattle.cluster_run.proofs.Words.{IsSomeAnd, option_map, refl, sym, ap, subst, ◌∙◌, arith, eq-eqb, length-map}
-use Rattle.cluster_run.proofs.Words.{Message, Shape, WriterState, Medl, Delivered, Entry, Script, Source, History}
-use Rattle.cluster_run.proofs.Words.{plan_at, IsValid, delivered_of, new_messages, word_count, ControllerState}
-use Rattle.cluster_run.proofs.Words.{at_source, incoming_shape, shape_of, HasRoom, MayHandOn, number_handed}
-use Rattle.cluster_run.proofs.Words.{number_told, IsRing, IsRingOf, ring_words, words_read, message_count, steps, ◌^◌}
-use Rattle.cluster_run.proofs.Words.{SLOT_LIMIT, in_messages, number_delivered}
-use Rattle.std.proofs.Common.{length-append}
+use Rattle.cluster_run.proofs.Words.{Message, Medl, Delivered, Entry, Script, Source, History, plan_at, IsValid}
+use Rattle.cluster_run.proofs.Words.{delivered_of, new_messages, word_count, ControllerState, at_source, incoming_shape}
+use Rattle.cluster_run.proofs.Words.{shape_of, MayHandOn, number_handed, number_told, IsRing, IsRingOf, ring_words}
+use Rattle.cluster_run.proofs.Words.{words_read, message_count, steps, ◌^◌, SLOT_LIMIT, in_messages, number_delivered}
+use Rattle.cluster_run.proofs.Words.{length-append, plan_few}
 use Rattle.cluster_run.proofs.Deliverable.{IsDeliverable}
-use Rattle.cluster_run.proofs.Sends.{ring_count, ring_takes}
+use Rattle.cluster_run.proofs.Rings.{ring_count, ring_takes, room_of}
 use Rattle.ttp_world.proofs.LegalNumbers.{ring_messages-few as few_came}
-use Rattle.ttp_world.proofs.WorldFacts.{plan-short as plan_few}
 use Rattle.ttp_world.specs.declared.script.Source.TheVariants as source
-
--- A ring of few messages has room for one more.
-
-room_of : (shape : Shape) (messages : List (List ℕ)) (pairs : List Message) (w : Option WriterState)
-    → IsSomeAnd w (IsRing shape messages pairs) → length messages ≤ 2 ^ 62 → HasRoom w
-room_of shape messages pairs None ring few = absurd ring
-room_of shape messages pairs (Some w) ring few = omega (arith, ap length ring.messages_are, few)
 
 -- what a controller's end holds, as messages of the world
 pub record HoldsCame (list : Medl) (script : Script) (history : History) (k : ℕ) (pairs : Source → List Message)

@@ -1,63 +1,124 @@
--- Readers are lent to hosts, one after another.
-use Rattle.cluster_run.proofs.Words.{◌≡◌, ℕ, ◌+◌, ◌<◌, List, [], ◌∷◌, ◌++◌, length, Option, None, is_some, sym, ◌∙◌}
-use Rattle.cluster_run.proofs.Words.{subst, arith, below_more, ForSome, get_or_append_left, get_or_push, HostRead}
-use Rattle.cluster_run.proofs.Words.{Source, reads_in, Numbers, ReadersState, AreReadersOfEnd, ControllerState}
-use Rattle.cluster_run.proofs.Words.{CurrentSlot, Nodes, desk_ends, end_at, AreLentTo, AreReadersLent, AreReadersOfAll}
-use Rattle.cluster_run.proofs.Words.{has_reads, readers_at, MayEndSlot, HoldsRead, steps}
+-- Readers are lent to hosts for the reads of a slot: they have room for all of these, and stay readers of their rings.
+use Rattle.cluster_run.proofs.Words.{◌≡◌, ℕ, ◌<◌, false, List, [], ◌∷◌, length, Option, refl, HostRead, Source}
+use Rattle.cluster_run.proofs.Words.{reads_in, Numbers, ReadersState, reads_from, ControllerState, CurrentSlot, Desk}
+use Rattle.cluster_run.proofs.Words.{Nodes, desk_ends, AreReadersLent, has_reads, MayEndSlot, HoldsRead, steps, map}
+use Rattle.cluster_run.proofs.Words.{get_or, Some, None, sym, ap, ◌∙◌, arith, ForSome, length-map, none-some, same_Some}
+use Rattle.cluster_run.proofs.Words.{AreReadersOfEnd, rings_read, end_at, rings_of, AreReadersOfAll, HaveRead}
+use Rattle.cluster_run.proofs.Words.{readers_at, rings_in, ◌+◌, ◌≤◌, Bool, true, cond, IsSomeAnd, All, inl, inr}
+use Rattle.cluster_run.proofs.Words.{AllByRecursion, cases_lt, get_or_past, All-from_recursion, Message, WriterState}
+use Rattle.cluster_run.proofs.Words.{ReaderState, Medl, Script, IsSource, IsValidScript, lent, place_of, at_source}
+use Rattle.cluster_run.proofs.Words.{incoming_shape, reader_at, calls_in, IsRingOf, is_read_at, IsReadOf}
+use Rattle.cluster_run.proofs.Words.{reads_of_valid, MayReadAll}
+use Rattle.std.proofs.lemmas.List.{get_or-map}
+use Rattle.ttp_world.specs.declared.script.Source.TheVariants as source
 
--- what is lent to node k's host
-pub record IsLentAt (reads : List HostRead) (ends : List ControllerState) (k : ℕ) (readers : Option ReadersState)
-    : Type 0 where
-  pub there : is_some readers ≡ has_reads reads k
-  pub each : ForSome readers (AreLentTo reads k (end_at ends k))
-  pub own : ForSome readers (AreReadersOfEnd (end_at ends k))
-
-pub lent_at : (reads : List HostRead) (ends : List ControllerState) (k : ℕ) (readers : Option ReadersState)
-    (end : ControllerState) → end ≡ end_at ends k → is_some readers ≡ has_reads reads k
-    → ForSome readers (AreLentTo reads k end) → ForSome readers (AreReadersOfEnd end) → IsLentAt reads ends k readers
-lent_at reads ends k readers end at there each own = record {
-  there = there;
-  each = subst (λ (e : ControllerState). ForSome readers (AreLentTo reads k e)) at each;
-  own = subst (λ (e : ControllerState). ForSome readers (AreReadersOfEnd e)) at own;
-}
-
--- to the hosts of the first nodes, so many
-pub lent_more : (reads : List HostRead) (ends : List ControllerState) (k : ℕ) (readers : List (Option ReadersState))
-    (new : Option ReadersState) → length readers ≡ k → ((i : ℕ) → i < k → IsLentAt reads ends i (readers_at readers i))
-    → IsLentAt reads ends k new → (i : ℕ) → i < k + 1 → IsLentAt reads ends i (readers_at (readers ++ new ∷ []) i)
-lent_more reads ends k readers new count lent last =
-    below_more (λ i. IsLentAt reads ends i (readers_at (readers ++ new ∷ []) i)) k
-    (λ i near. subst (IsLentAt reads ends i)
-    (sym (get_or_append_left readers (new ∷ []) None i (omega (arith, near, count)))) (lent i near))
-    (subst (IsLentAt reads ends k) (sym (get_or_push readers new None k count)) last)
-
-pub all_lent : (reads : List HostRead) (ends : List ControllerState) (n : ℕ) (readers : List (Option ReadersState))
-    → length ends ≡ n → ((i : ℕ) → i < n → IsLentAt reads ends i (readers_at readers i))
-    → AreReadersLent reads ends readers
-all_lent reads ends n readers count lent = record {
-  there = λ k near. (lent k (omega (arith, near, count))).there;
-  each = λ k near. (lent k (omega (arith, near, count))).each;
-}
-
-pub all_own : (reads : List HostRead) (ends : List ControllerState) (n : ℕ) (readers : List (Option ReadersState))
-    → length readers ≡ n → length ends ≡ n → ((i : ℕ) → i < n → IsLentAt reads ends i (readers_at readers i))
-    → AreReadersOfAll ends readers
-all_own reads ends n readers count ends_count lent = record {
-  count = count ∙ sym ends_count;
-  own = λ k near. (lent k (omega (arith, near, ends_count))).own;
-}
+-- Where a host does not read, none of its reads is of a source.
+pub not_read : (reads : List HostRead) (k : ℕ) (from : Source) → has_reads reads k ≡ false → reads_from reads k from ≡ 0
+not_read [] k from none = refl
+not_read (r ∷ reads) k from none = grind (steps, not_read reads k from)
 
 -- Readers were lent for the reads of a slot, by ends whose rings are those of the world of these numbers.
 pub record AreLentFor (at : CurrentSlot) (numbers : Numbers) (ends : List ControllerState)
     (readers : List (Option ReadersState)) : Type 0 where
   pub ends_count : length ends ≡ length at.list.now.slots
-  pub count : length readers ≡ length at.list.now.slots
   pub lent : AreReadersLent (reads_in at.script.now at.slot) ends readers
   pub rings : (k : ℕ) → k < length at.list.now.slots → (from : Source)
       → HoldsRead at.list.now at.script.now numbers ends k from
 
-pub all_lent_for : {at : CurrentSlot} {readers : List (Option ReadersState)} (nodes : Nodes) (may : MayEndSlot at nodes)
-    → AreReadersOfAll (desk_ends nodes.desks.items) readers
-    → AreReadersLent (reads_in at.script.now at.slot) (desk_ends nodes.desks.items) readers
+pub all_lent_for : {at : CurrentSlot} {readers : List (Option ReadersState)} {desks : List Desk}
+    {reads : List HostRead} (nodes : Nodes) (may : MayEndSlot at nodes) → desks ≡ nodes.desks.items
+    → reads ≡ reads_in at.script.now at.slot → AreReadersLent reads (desk_ends desks) readers
     → AreLentFor at may.numbers (desk_ends nodes.desks.items) readers
-all_lent_for nodes may own lent = grind steps
+all_lent_for nodes may same is lent = grind steps
+
+-- the rings of an end
+rings_at : (ends : List ControllerState) (k : ℕ) → k < length ends
+    → get_or (map rings_of ends) k [] ≡ rings_of (end_at ends k)
+rings_at ends k near = get_or-map rings_of ends k [] [] near
+
+own_as : (old new : ControllerState) (a b : Option ReadersState) → rings_of new ≡ rings_of old → rings_in b ≡ rings_in a
+    → ForSome a (AreReadersOfEnd old) → ForSome b (AreReadersOfEnd new)
+own_as old new (Some a) (Some b) rings read own = λ x is.
+    rw (← same_Some b x is, rings, same_Some (rings_read b.readers) (rings_read a.readers) read) (own a refl)
+own_as old new None (Some b) rings read own = absurd (none-some (rings_read b.readers) (sym read))
+own_as old new a b rings read own = λ x is. absurd (none-some x is)
+
+pub still_own : {reads asked : List HostRead} (old new : List ControllerState) (a b : List (Option ReadersState))
+    → map rings_of new ≡ map rings_of old → HaveRead reads a b → AreReadersLent asked old a → AreReadersOfAll new b
+still_own old new a b rings read lent =
+    let count : length new ≡ length old = sym (length-map new rings_of) ∙ ap length rings ∙ length-map old rings_of in
+    record {
+      count = read.count ∙ lent.count ∙ sym count;
+      own = λ k near.
+          let old_near : k < length old = omega (arith, near, count) in
+          own_as (end_at old k) (end_at new k) (readers_at a k) (readers_at b k)
+          (sym (rings_at new k near) ∙ ap (λ rs. get_or rs k []) rings ∙ rings_at old k old_near)
+          (read.rings k) (lent.each k old_near).own;
+    }
+
+-- The reads of a valid script are of nodes of its list.
+
+each_within : (n : ℕ) (Q : ℕ → Source → Type 0) (reads : List HostRead)
+    → AllByRecursion (λ (r : HostRead). (r.host < n) × Q r.host r.source) reads
+    → AllByRecursion (λ (r : HostRead). r.host < n) reads
+each_within n Q [] all = tt
+each_within n Q (r ∷ reads) all = (all.0.0, each_within n Q reads all.1)
+
+pub hosts_within : (list : Medl) (script : Script) (slot : ℕ) → IsValidScript list script
+    → All (λ (read : HostRead). read.host < length list.slots) (reads_in script slot)
+hosts_within list script slot valid =
+    All-from_recursion (λ (r : HostRead). r.host < length list.slots) (reads_in script slot)
+    (each_within (length list.slots) (IsSource list) (reads_in script slot) (reads_of_valid list script slot valid))
+
+-- What holds of each read holds of a host and source that are read.
+
+one_more : (k : ℕ) (from : Source) (r : HostRead) (reads : List HostRead) (b : Bool)
+    → is_read_at k (place_of from) r ≡ b → 1 ≤ reads_from (r ∷ reads) k from → 1 ≤ cond b 1 0 + reads_from reads k from
+one_more k from r reads b is some = grind steps
+
+read_here : (Q : ℕ → Source → Type 0) (k : ℕ) (from : Source) (r : HostRead) (b : Bool)
+    → is_read_at k (place_of from) r ≡ b → Q r.host r.source → (b ≡ false → Q k from) → Q k from
+read_here Q k from r true is here later = grind steps
+read_here Q k from r false is here later = later refl
+
+read_there : (Q : ℕ → Source → Type 0) (k : ℕ) (from : Source) (reads : List HostRead)
+    → AllByRecursion (λ (r : HostRead). Q r.host r.source) reads → 1 ≤ reads_from reads k from → Q k from
+read_there Q k from [] all some = absurd (omega arith)
+read_there Q k from (r ∷ reads) all some = read_here Q k from r (is_read_at k (place_of from) r) refl all.0
+    (λ not_here. read_there Q k from reads all.1 (omega (arith, one_more k from r reads false not_here some)))
+
+-- The ring of a source is there, so is its reader.
+lent_room : (list : Medl) (k : ℕ) (from : Source) (messages : List (List ℕ)) (pairs : List Message)
+    (w : Option WriterState) (n : ℕ) → IsSource list k from → IsRingOf (incoming_shape list k from) messages pairs w
+    → 1 ≤ n → IsSomeAnd (lent w n) (λ (r : ReaderState). n ≤ r.spare)
+lent_room list k source.Status messages pairs None n is ring some = absurd ring
+lent_room list k source.Status messages pairs (Some w) n is ring some = grind steps
+lent_room list k (source.Node p) messages pairs None n is ring some = grind steps
+lent_room list k (source.Node p) messages pairs (Some w) n is ring some = grind steps
+
+-- Readers that were lent for the reads of a slot may make them all.
+module _ {at : CurrentSlot} {numbers : Numbers} {ends : List ControllerState} {readers : List (Option ReadersState)}
+    (are : AreLentFor at numbers ends readers) where
+  abbrev list : Medl
+  list = at.list.now
+
+  abbrev reads : List HostRead
+  reads = reads_in at.script.now at.slot
+
+  room_lent : (k : ℕ) (from : Source) → 1 ≤ reads_from reads k from
+      → IsSomeAnd (reader_at readers k from) (λ (r : ReaderState). reads_from reads k from ≤ r.spare)
+  room_lent k from some =
+      let n = reads_from reads k from in
+      let is = read_there (IsReadOf list) k from reads (reads_of_valid list at.script.now at.slot at.valid_script) some in
+      rw ((are.lent.each k (omega (arith, is.0, are.ends_count))).readers from)
+      (lent_room list k from _ _ (at_source (end_at ends k) from) n is.1 (are.rings k is.0 from) some)
+
+  pub may_read_all : MayReadAll reads readers
+  may_read_all = record {
+    calls = λ k.
+        elim (cases_lt k (length ends)) [
+          | inl near ↦ (are.lent.each k near).calls
+          | inr past ↦ ap calls_in (get_or_past readers k None (omega (arith, past, are.lent.count)))
+        ];
+    room = room_lent;
+  }

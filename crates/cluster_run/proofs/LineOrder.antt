@@ -1,21 +1,10 @@
 -- Lines that wait in queues, one for each host, are brought into the order of the reads.
-use Rattle.cluster_run.proofs.Words.{◌≡◌, ◌≢◌, ℕ, ◌<◌, Bool, true, false, cond, List, [], ◌∷◌, ◌++◌, length, map, set}
-use Rattle.cluster_run.proofs.Words.{get_or, Option, Some, None, refl, sym, ap, ◌∙◌, arith, append_assoc, filter}
-use Rattle.cluster_run.proofs.Words.{IsSome, eq-eqb, get_or-set_same, get_or-set_other, map-append, map-set, length-map}
-use Rattle.cluster_run.proofs.Words.{append-nil, HostRead, ReadLine, is_host, read_of, lines_by, queue_of, AreDue}
-use Rattle.cluster_run.proofs.Words.{steps, ◌↔◌, IfNone, append_cancel_left, filter-append}
-
--- Queues in a list.
-
-pub queue_set : {A X : Type 0} (items : A → List X) (qs : List A) (k : ℕ) (q : A) → k < length qs
-    → get_or (map items (set qs k q)) k [] ≡ items q
-queue_set items qs k q within = ap (λ xs. get_or xs k []) (map-set items qs k q)
-    ∙ (get_or-set_same (map items qs) k (items q) [] (omega (arith, length-map qs items)))
-
-pub queue_kept : {A X : Type 0} (items : A → List X) (qs : List A) (k other : ℕ) (q : A) → other ≢ k
-    → get_or (map items (set qs k q)) other [] ≡ get_or (map items qs) other []
-queue_kept items qs k other q apart = ap (λ xs. get_or xs other []) (map-set items qs k q)
-    ∙ get_or-set_other (map items qs) k other (items q) [] apart
+use Rattle.cluster_run.proofs.Words.{◌≡◌, ◌≢◌, ℕ, ◌<◌, Bool, true, false, cond, List, [], ◌∷◌, ◌++◌, length, map}
+use Rattle.cluster_run.proofs.Words.{Option, Some, None, refl, sym, ap, ◌∙◌, append_assoc, filter, IsSome, eq-eqb}
+use Rattle.cluster_run.proofs.Words.{map-append, append-nil, HostRead, ReadLine, is_host, read_of, lines_by, queue_of}
+use Rattle.cluster_run.proofs.Words.{AreDue, steps, ◌↔◌, IfNone, append_cancel_left, filter-append, ◌≤◌, inl, inr}
+use Rattle.cluster_run.proofs.Words.{arith, ◌==◌, cases_lt, eqb-true, get_or_past, Source, ReadersState, calls_in}
+use Rattle.cluster_run.proofs.Words.{sources_of, AllGot, AreLinesOf, AreQueuesOf}
 
 -- where nothing is first there is nothing
 pub if_none : {X : Type 0} (first : Option X) (old before : List X) (n : ℕ) → old ≡ before → n ≡ length before
@@ -89,3 +78,40 @@ all_in_order {reads} {whole} {now} {lines} due so k =
     let none : queue_of now k ≡ [] =
     map_nothing read_of (queue_of now k) (left_due [] (sym (append-nil reads)) due so k) in
     sym (append-nil (lines_by k lines)) ∙ ap (λ q. lines_by k lines ++ q) (sym none) ∙ so.kept k
+
+-- a host's reads are told by their sources
+hosted_kept : (k : ℕ) (r : HostRead) (rs : List HostRead) (b : Bool) → (r.host == k) ≡ b
+    → map (λ (from : Source). record { host = k; source = from }) (map (λ (x : HostRead). x.source) rs) ≡ rs
+    → map (λ (from : Source). record { host = k; source = from })
+    (map (λ (x : HostRead). x.source) (cond b (r ∷ rs) rs)) ≡ cond b (r ∷ rs) rs
+hosted_kept k r rs true is later = λ i. record { host = sym (eqb-true r.host k is) i; source = r.source } ∷ later i
+hosted_kept k r rs false is later = later
+
+by_sources : (k : ℕ) (reads : List HostRead)
+    → map (λ (from : Source). record { host = k; source = from }) (sources_of reads k) ≡ filter (is_host k) reads
+by_sources k [] = refl
+by_sources k (r ∷ reads) = hosted_kept k r (filter (is_host k) reads) (r.host == k) refl (by_sources k reads)
+
+due_past : (reads : List HostRead) (readers : List (Option ReadersState)) (k : ℕ) → length readers ≤ k
+    → AllGot reads readers → [] ≡ filter (is_host k) reads
+due_past reads readers k past got =
+    sym (map_nothing (λ (x : HostRead). x.source) (filter (is_host k) reads)
+    (sym (got k) ∙ ap calls_in (get_or_past readers k None past)))
+
+are_due : (reads : List HostRead) (readers : List (Option ReadersState)) (queues : List (List ReadLine))
+    → length queues ≡ length readers → AreQueuesOf readers queues → AllGot reads readers → AreDue reads queues
+are_due reads readers queues count are got = λ k.
+    elim (cases_lt k (length readers)) [
+      | inl near ↦
+          (are k near).reads ∙ ap (map (λ (from : Source). record { host = k; source = from })) (got k)
+          ∙ by_sources k reads
+      | inr past ↦
+          ap (map read_of) (get_or_past queues k [] (omega arith)) ∙ due_past reads readers k past got
+    ]
+
+pub lines_of_all : (reads : List HostRead) (readers : List (Option ReadersState)) (queues : List (List ReadLine))
+    (lines : List ReadLine) → length queues ≡ length readers → AreQueuesOf readers queues
+    → (AreDue reads queues → map read_of lines ≡ reads)
+    → (AreDue reads queues → (k : ℕ) → lines_by k lines ≡ queue_of queues k) → AllGot reads readers
+    → AreLinesOf reads readers lines
+lines_of_all reads readers queues lines count are told own got = grind (steps, are_due, get_or_past)

@@ -4,11 +4,10 @@ use Rattle.cluster_run.proofs.Words.{refl, ap, ◌∙◌, subst, ◌==◌, nat_l
 use Rattle.cluster_run.proofs.Words.{le-leb, Message, Medl, Script, History, ring_messages, Source, ReadMessage}
 use Rattle.cluster_run.proofs.Words.{read_messages, never_fall, is_legal_read, ReadLine, pairs_from, place_of, read_of}
 use Rattle.cluster_run.proofs.Words.{lines_by, read_shown, pairs_read_in, steps, not, reverse-append, is_same_source}
-use Rattle.cluster_run.proofs.Words.{is_same_ring, is_not_older, is_line_from, pair_read}
+use Rattle.cluster_run.proofs.Words.{is_same_ring, is_not_older, is_line_from, pair_read, newest_number}
 use Rattle.std.proofs.lemmas.List.Folds.{list_all-append}
-use Rattle.ttp_world.specs.Messages.{newest_number}
 use Rattle.ttp_world.proofs.LegalReads.{reverse-all}
-use Rattle.cluster_run.proofs.Readers.{Rises}
+use Rattle.cluster_run.proofs.ReadAll.{Rises}
 use Rattle.ttp_world.specs.declared.script.Source.TheVariants as source
 
 -- the message that a line tells of, by its number
@@ -94,10 +93,6 @@ not_older_later line (e ∷ lines) all =
       not_older_later line lines (front_later (λ (m : Message). n ≤ m.number) e.pair rest same front),
     )
 
-rises_head : (m : Message) (ms : List Message) → Rises (m ∷ ms)
-    → AllByRecursion (λ (e : Message). m.number ≤ e.number) ms
-rises_head m ms rise = rise.0
-
 rise_later : (m : Message) (ms : List Message) (b : Bool) → Rises (cond b (m ∷ ms) ms) → Rises ms
 rise_later m ms true rise = rise.1
 rise_later m ms false rise = rise
@@ -107,8 +102,7 @@ pub never_fall-lines : (lines : List ReadLine) → ((k : ℕ) (from : Source) �
 never_fall-lines [] rise = refl
 never_fall-lines (line ∷ lines) rise =
     let told = map message_told lines in
-    let later = rises_head line.pair (pairs_of line.host line.source lines)
-    (subst Rises (pairs_own line lines) (rise line.host line.source)) in
+    let later = (subst Rises (pairs_own line lines) (rise line.host line.source)).0 in
     ap never_fall (reverse-append (message_told line ∷ []) told) ∙ never_fall-last (reverse told) (message_told line)
     (never_fall-lines lines (λ k from.
     rise_later line.pair (pairs_of k from lines) ((line.host == k) && is_line_from from line)

@@ -8,13 +8,12 @@ use Rattle.cluster_run.proofs.Words.{bytes_in, words_tell, AreBytesBefore, node_
 use Rattle.cluster_run.proofs.Words.{read_shown, ring_words, IsNext, steps, range_with_len, map_each-below}
 use Rattle.cluster_run.proofs.Words.{node_line_of, more_write_lines, read_line, slot_lines, HasRead, messages_read}
 use Rattle.cluster_run.proofs.Words.{HasWords, message_in, HasMessage, IsListed, node_texts, payload_size, read_text}
-use Rattle.cluster_run.proofs.Words.{report_lines, write_text, ShowsSlot, ClusterView}
+use Rattle.cluster_run.proofs.Words.{report_lines, write_text, ShowsSlot, ClusterView, plan_few}
 use Rattle.ttp_world.proofs.HostPayloads.{IsMessageOf}
 use Rattle.line_text.specs.LineParts.{HasDigits}
 use Rattle.line_text.proofs.MemberDigits.{state_of-digits}
 use Rattle.cluster_run.specs.NextSlots.{next_row}
 use Rattle.cluster_run.specs.Texts.{TellsNext}
-use Rattle.ttp_world.proofs.WorldFacts.{plan-short as plan_few}
 use Rattle.ttp_world.specs.declared.script.Source.TheVariants as source
 
 -- The lines.
@@ -103,10 +102,8 @@ tells_next cluster numbers valid valid_script bytes next legal =
             length-range_with_len 0 (length list.slots),
             valid.count.1,
           );
-      digits = subst (All (λ (line : NodeLine). HasDigits list line.state)) (sym shows.nodes)
-          (nodes_have list script row before (length list.slots) valid);
-      reads = subst (All (HasMessage list)) (sym shows.reads)
-          (reads_have list script (row ∷ before) (read_messages (reads_in script (length before)) new.read) valid
-          reads);
+      digits = rw shows.nodes (nodes_have list script row before (length list.slots) valid);
+      reads = rw shows.reads
+          (reads_have list script (row ∷ before) (read_messages (reads_in script (length before)) new.read) valid reads);
       lines = report_told list script row before new report shows reads;
     }

@@ -1,49 +1,26 @@
 -- What the sending of a slot asks and gives, node by node.
 use Rattle.cluster_run.proofs.Words.{◌≡◌, ℕ, suc, ◌+◌, ◌<◌, ◌≤◌, Bool, true, List, [], ◌∷◌, length, get_or, Option}
-use Rattle.cluster_run.proofs.Words.{Some, None, IfSome, IsSomeAnd, All, refl, sym, ap, subst, ◌∙◌, arith, ◌==◌, IsSome}
-use Rattle.cluster_run.proofs.Words.{count_by, ForSome, length-map, All-head, none-some, same_Some, Message, Shape}
-use Rattle.cluster_run.proofs.Words.{ReaderState, new_reader, Medl, Chosen, Script, EVENT_LIMIT, plan_at}
-use Rattle.cluster_run.proofs.Words.{messages_before, nothing_chosen, HostWrite, messages_written, payload_of_host}
-use Rattle.cluster_run.proofs.Words.{writes_in, word_count, words_of_payload, BegunSlot, Numbers, is_loaded, world}
-use Rattle.cluster_run.proofs.Words.{AreBytes, Seat, HostState, message_shape, shape_of, Takes, CurrentSlot}
-use Rattle.cluster_run.proofs.Words.{AreBytesBefore, HaveBegunFor, HaveChosen, next_slot, host_at, writes_shown, IsRing}
-use Rattle.cluster_run.proofs.Words.{IsRingOf, words_written, AreLent, Fetches, MaySettle, MayLend, MayWriteAll}
-use Rattle.cluster_run.proofs.Words.{FetchesOne, WritesBytes, after_writes, fetcher_lent, message_count, write_lines}
-use Rattle.cluster_run.proofs.Words.{steps, add-one, cond_both, All-append, All-tail, write_in, pairs_sent, FetchAll}
+use Rattle.cluster_run.proofs.Words.{Some, None, IfSome, All, refl, sym, ap, subst, ◌∙◌, arith, ◌==◌, count_by, ForSome}
+use Rattle.cluster_run.proofs.Words.{length-map, All-head, none-some, same_Some, Message, ReaderState, new_reader, Medl}
+use Rattle.cluster_run.proofs.Words.{Chosen, Script, EVENT_LIMIT, plan_at, messages_before, nothing_chosen, HostWrite}
+use Rattle.cluster_run.proofs.Words.{messages_written, payload_of_host, writes_in, word_count, words_of_payload}
+use Rattle.cluster_run.proofs.Words.{BegunSlot, Numbers, is_loaded, world, AreBytes, Seat, HostState, CurrentSlot}
+use Rattle.cluster_run.proofs.Words.{AreBytesBefore, HaveBegunFor, HaveChosen, next_slot, host_at, writes_shown}
+use Rattle.cluster_run.proofs.Words.{words_written, AreLent, Fetches, MaySettle, MayLend, MayWriteAll, FetchesOne}
+use Rattle.cluster_run.proofs.Words.{WritesBytes, after_writes, fetcher_lent, message_count, write_lines, steps}
+use Rattle.cluster_run.proofs.Words.{add-one, cond_both, All-append, All-tail, write_in, pairs_sent, FetchAll}
 use Rattle.cluster_run.proofs.Words.{MayFetchAll, MayFetchAlone, IsValidWrite, few_messages, filter_map-each}
-use Rattle.cluster_run.proofs.Words.{valid_write_at, valid_writes, filter_map-few}
-use Rattle.cluster_run.proofs.Choices.{node_choice, shape_there}
+use Rattle.cluster_run.proofs.Words.{valid_write_at, valid_writes, filter_map-few, HaveBegun, slice_get, unwrap_or}
+use Rattle.cluster_run.proofs.Words.{no_plan, plan_few}
+use Rattle.ttp_world.specs.declared.medl.SlotPlan.{SlotPlan}
+use Rattle.cluster_run.proofs.Choices.{HasRing, has_ring, node_choice}
+use Rattle.cluster_run.proofs.Rings.{ring_count, ring_some, ring_takes}
 use Rattle.cluster_run.proofs.Deliverable.{loaded-payload}
-use Rattle.ttp_world.proofs.WorldFacts.{plan-short as plan_few}
+use Rattle.cluster_run.proofs.Changes.{AreBothChanged}
 
--- A node's ring, where it sends payload.
-
-pub record HasRing (list : Medl) (k : ℕ) (messages : List (List ℕ)) (pairs : List Message) (end : HostState) : Type 0
-  where
-    pub there : IsSomeAnd end (IsRing (shape_of list (word_count (plan_at list k).payload)) messages pairs)
-
-pub has_ring : (list : Medl) (k : ℕ) (messages : List (List ℕ)) (pairs : List Message) (end : HostState)
-    → 1 ≤ (plan_at list k).payload → IsRingOf (message_shape list k) messages pairs end
-    → HasRing list k messages pairs end
-has_ring list k messages pairs end some ring = record {
-  there = subst (λ (s : Option Shape). IsRingOf s messages pairs end) (shape_there list k some) ring;
-}
-
-pub ring_some : (shape : Shape) (messages : List (List ℕ)) (pairs : List Message) (end : HostState)
-    → IsSomeAnd end (IsRing shape messages pairs) → IsSome end
-ring_some shape messages pairs None ring = absurd ring
-ring_some shape messages pairs (Some w) ring = refl
-
-pub ring_count : (shape : Shape) (messages : List (List ℕ)) (pairs : List Message) (end : HostState)
-    → IsSomeAnd end (IsRing shape messages pairs) → message_count end ≡ length messages
-ring_count shape messages pairs None ring = absurd ring
-ring_count shape messages pairs (Some w) ring = ap length ring.messages_are
-
-pub ring_takes : (shape : Shape) (messages : List (List ℕ)) (pairs : List Message) (end : HostState) (size : ℕ)
-    → IsSomeAnd end (IsRing shape messages pairs) → size ≤ 240 → word_count size ≡ shape.width → Takes end size
-ring_takes shape messages pairs None size ring few wide = absurd ring
-ring_takes shape messages pairs (Some w) size ring few wide =
-    (few, wide ∙ sym (ap (λ (s : Shape). s.width) ring.shape_is))
+-- The slot of a list's node.
+pub plan_there : (list : Medl) (k : ℕ) (plan : SlotPlan) → slice_get list.slots k ≡ Some plan → plan_at list k ≡ plan
+plan_there list k plan here = ap (λ (o : Option SlotPlan). unwrap_or o no_plan) here
 
 pub few_writes : (script : Script) (slot : ℕ) → length script.events ≤ EVENT_LIMIT
     → length (writes_in script slot) ≤ EVENT_LIMIT
@@ -74,7 +51,7 @@ pub more_bytes : (at : CurrentSlot) → AreBytesBefore at.list.now at.script.now
 more_bytes at bytes written k =
     let list = at.list.now in
     let script = at.script.now in
-    subst (λ n. All AreBytes (messages_before list script k n)) (sym (add-one at.slot))
+    rw add-one
     (All-append AreBytes (messages_before list script k at.slot) (messages_written script k at.slot) (bytes k)
     (filter_map-each (payload_of_host k) WritesBytes AreBytes (writes_in script at.slot) (own_bytes k) written))
 
@@ -177,8 +154,7 @@ module _ {at : CurrentSlot} {numbers : Numbers} {seats : List Seat} {ends : List
   may_settle tried writes lent tries k near f is = after_own writes k (plan_at list k).payload (host_at ends k) f
       (fetched_may list k (is_loaded s k) (host_at ends k) (get_or tried k None) f
       (ring_loaded k (omega (arith, near, count)))
-      (subst (λ (o : Option ReaderState). Fetches o (get_or tried k None)) (lent.each k near)
-      (tries.each k (omega (arith, near, lent.count)))) is)
+      (rw (lent.each k near) at (tries.each k (omega (arith, near, lent.count)))) is)
 
   -- so the messages in frames are chosen
   pub have_chosen : {settled_ends : List HostState} {chosen : List Chosen} (before : List Chosen)
@@ -199,3 +175,14 @@ module _ {at : CurrentSlot} {numbers : Numbers} {seats : List Seat} {ends : List
         legal = λ k node. (each k node).legal;
         written = λ k node. (each k node).ring;
       }
+
+-- the first controllers have fetched, so many, and what is of the others is as it was
+abbrev pub HaveFetched : Medl → List Seat → ℕ → List HostState → List HostState → List Chosen → List Chosen → Type 0
+HaveFetched list seats k =
+    AreBothChanged (λ j old new before after. (s : BegunSlot) → HaveBegun s 0 seats
+    → FetchesOne (plan_at list j).payload (is_loaded s j) old old new before after) None nothing_chosen k
+
+-- No write leaves an end as it was.
+pub unwritten : (end : HostState) (k : ℕ) → after_writes [] k end ≡ end
+unwritten None k = refl
+unwritten (Some w) k = grind steps

@@ -1,11 +1,10 @@
 -- The readers of hosts are settled, one after another, and leave their lines.
-use Rattle.cluster_run.proofs.Words.{◌≡◌, ℕ, zero, suc, ◌+◌, ◌<◌, ◌≤◌, List, [], ◌∷◌, ◌++◌, length, map, get_or, Option}
-use Rattle.cluster_run.proofs.Words.{Some, None, All, refl, ap, ◌∙◌, arith, AllByRecursion, recursion_from_All}
-use Rattle.cluster_run.proofs.Words.{WriterState, ReaderState, Source, ReadLine, ReadersState, IsSettled, settled}
-use Rattle.cluster_run.proofs.Words.{got_of, pairs_from, ControllerState, place_of, at_source, Desk, desk_ends}
-use Rattle.cluster_run.proofs.Words.{desk_numbers, readers_at, SettlesReads, SettlesReadsOf, read_of, AreLinesBy}
-use Rattle.cluster_run.proofs.Words.{queue_of, steps, all_settled}
-use Rattle.std.proofs.Math.ListN.{get_or-map}
+use Rattle.cluster_run.proofs.Words.{◌≡◌, ℕ, zero, suc, ◌<◌, ◌≤◌, List, [], ◌∷◌, length, map, get_or, Option, Some}
+use Rattle.cluster_run.proofs.Words.{None, All, refl, ap, ◌∙◌, arith, AllByRecursion, recursion_from_All, WriterState}
+use Rattle.cluster_run.proofs.Words.{ReaderState, Source, ReadLine, ReadersState, IsSettled, settled, got_of}
+use Rattle.cluster_run.proofs.Words.{pairs_from, ControllerState, place_of, at_source, Desk, desk_ends, desk_numbers}
+use Rattle.cluster_run.proofs.Words.{readers_at, SettlesReads, SettlesReadsOf, read_of, AreLinesBy, queue_of}
+use Rattle.cluster_run.proofs.Words.{all_settled, get_or-map}
 use Rattle.cluster_run.proofs.Changes.{AreChanged}
 use Rattle.cluster_run.proofs.HandingOn.{no_desk}
 
@@ -65,12 +64,6 @@ pub record AreReadersSettled (k : ℕ) (old_readers readers : List (Option Reade
   pub readers_are : AreChanged (λ i was is. Unit {0}) None k old_readers readers
   pub queues_are : (i : ℕ) → i < k → AreLinesBy i (readers_at old_readers i) (queue_of queues i)
   pub queues_count : length queues ≡ k
-
-pub queued_more : {k : ℕ} (readers : List (Option ReadersState)) (queues : List (List ReadLine)) (queue : List ReadLine)
-    → length queues ≡ k → ((i : ℕ) → i < k → AreLinesBy i (readers_at readers i) (queue_of queues i))
-    → AreLinesBy k (readers_at readers k) queue → (i : ℕ) → i < k + 1
-    → AreLinesBy i (readers_at readers i) (queue_of (queues ++ queue ∷ []) i)
-queued_more {k} readers queues queue count are lines = grind steps
 
 -- all are
 pub are_settled : {k : ℕ} {old_readers readers : List (Option ReadersState)} {old desks : List Desk}

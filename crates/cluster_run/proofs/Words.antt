@@ -1,16 +1,27 @@
 -- The words of this crate's proofs, from one place.
-pub use Rattle.cluster_run.specs.Choosing.{AreBytesBefore, HaveBegunFor, HaveChosen, HoldsSent, MayChoose, next_slot}
-pub use Rattle.cluster_run.specs.Choosing.{number_sent}
+pub use Rattle.ttp_world.proofs.WorldFacts.{payload_few, plan-short as plan_few}
+pub use Rattle.ttp_world.specs.Messages.{newest_number, delivered_of, in_messages, message_of, new_messages}
+pub use Rattle.ttp_world.specs.Messages.{ring_messages, status_words}
+pub use Rattle.host_port.specs.Reading.{IsLeft, AreReadersOfEnd, Attempts, IsSettled, ReadersState, Reads, all_settled}
+pub use Rattle.host_port.specs.Reading.{buffers_of, got_of, got_one, is_intact, is_line_from, is_read_at, lent}
+pub use Rattle.host_port.specs.Reading.{pairs_from, reads_from, rings_read, settled}
+pub use Rattle.std.proofs.Math.ListN.{get_or-map}
+pub use Rattle.std.proofs.Common.{length-append, All, Bool, IfSome, IsSomeAnd, List, None, Option, Some, [], add-one}
+pub use Rattle.std.proofs.Common.{ap, append_assoc, arith, below_more, cond, count_by, drop, false, get_or, inl, inr}
+pub use Rattle.std.proofs.Common.{is_some, length, map, not, option_map, refl, replicate, set, subst, suc, sym, take}
+pub use Rattle.std.proofs.Common.{true, vec_capacity, vec_len, zero, zero-add, ℕ, ℤ, ⊎_elim, ◌&&◌, ◌*◌, ◌++◌, ◌+◌, ◌-◌}
+pub use Rattle.std.proofs.Common.{◌/◌, ◌<◌, ◌^◌, ◌||◌, ◌∙◌, ◌∷◌, ◌≡◌, ◌≢◌, ◌≤◌}
+pub use Rattle.cluster_run.specs.Choosing.{AreBytesBefore, HaveBegunFor, HaveChosen, MayChoose, next_slot, number_sent}
 pub use Rattle.cluster_run.specs.Ending.{HasPartEnded, HaveHandedOn, IsPartReady, MayEnd, MayHandOn, delivered_to}
 pub use Rattle.cluster_run.specs.Ending.{handed_on, number_handed, outcome_of}
-pub use Rattle.cluster_run.specs.Ends.{AreNewEnds, desk_ends, desk_numbers, end_at, host_at, ring_of, rings_of}
-pub use Rattle.cluster_run.specs.Jobs.{HaveHostsDone, HaveReadBy}
+pub use Rattle.cluster_run.specs.Ends.{AreNewEnds, desk_ends, desk_numbers, end_at, host_at, rings_of}
+pub use Rattle.cluster_run.specs.Jobs.{HaveHostsDone}
 pub use Rattle.cluster_run.specs.Progress.{IsOnCourse, cluster_at}
 pub use Rattle.cluster_run.specs.Reading.{AllGot, AreDue, AreLentTo, AreLinesBy, AreLinesOf, AreQueuesOf}
-pub use Rattle.cluster_run.specs.Reading.{AreReadersLent, AreReadersOfAll, HaveRead, IsClear, MayReadAll, ReadBuffers}
-pub use Rattle.cluster_run.specs.Reading.{ReadTheSame, ReadsMany, SettlesReads, SettlesReadsOf, calls_in, has_reads}
-pub use Rattle.cluster_run.specs.Reading.{is_host, lines_by, queue_of, read_of, reader_at, reader_in, readers_at}
-pub use Rattle.cluster_run.specs.Reading.{rings_in, sources_of}
+pub use Rattle.cluster_run.specs.Reading.{AreReadersLent, AreReadersOfAll, HaveRead, IsClear, IsRead, MayReadAll}
+pub use Rattle.cluster_run.specs.Reading.{ReadsMany, SettlesReads, SettlesReadsOf, calls_in, has_reads, is_host}
+pub use Rattle.cluster_run.specs.Reading.{lines_by, queue_of, read_of, reader_at, reader_in, readers_at, rings_in}
+pub use Rattle.cluster_run.specs.Reading.{sources_of}
 pub use Rattle.cluster_run.specs.Report.{HaveEndedSlot, ShowsSlot, message_named, node_shown, number_told, numbers_in}
 pub use Rattle.cluster_run.specs.Report.{read_shown, writes_shown}
 pub use Rattle.cluster_run.specs.Rings.{GotEach, IsRing, IsRingOf, SawAtMost, joined_pairs, pair_of, pair_read}
@@ -20,9 +31,8 @@ pub use Rattle.cluster_run.specs.Sending.{AreLent, FetchAll, Fetches, FetchesOne
 pub use Rattle.cluster_run.specs.Sending.{MaySettle, MaySettleAfter, MayWriteAll, SettlesFetch, WritesBytes}
 pub use Rattle.cluster_run.specs.Sending.{after_writes, choice_by, choice_of, fetcher_lent, message_count, messages_by}
 pub use Rattle.cluster_run.specs.Sending.{with_messages, write_line, write_lines}
-pub use Rattle.cluster_run.specs.Slots.{AllHaveEnded, ArePlannedNodes, AreReady, HavePlannedSlot, IsNext, IsNextOf}
-pub use Rattle.cluster_run.specs.Slots.{IsSlotEnded, IsSlotPlanned, MayEndSlot, StandsAt, StandsForSome, Steps}
-pub use Rattle.cluster_run.specs.Slots.{TellsReads}
+pub use Rattle.cluster_run.specs.Slots.{ArePlannedNodes, AreReady, HavePlannedSlot, IsNext, IsNextOf, IsSlotEnded}
+pub use Rattle.cluster_run.specs.Slots.{IsSlotPlanned, MayEndSlot, StandsAt, StandsForSome, Steps, TellsReads}
 pub use Rattle.cluster_run.specs.Standing.{ClusterStandsFor, ClusterView, HoldsRead, NodesStandFor, NodesView}
 pub use Rattle.cluster_run.specs.Standing.{cluster_of, nodes_view}
 pub use Rattle.cluster_run.specs.declared.current.CurrentSlot.{CurrentSlot}
@@ -31,20 +41,16 @@ pub use Rattle.cluster_run.specs.declared.nodes.Nodes.{Nodes}
 pub use Rattle.cluster_run.specs.declared.progress.Course.{Course}
 pub use Rattle.cluster_run.specs.declared.progress.Progress.{Progress}
 pub use Rattle.controller.proofs.Parts.{each-back, each-front, each-joined, each-of}
-pub use Rattle.controller.specs.Limits.{IsBegun, IsPlanned}
-pub use Rattle.controller.specs.Passes.{AreChosen, Carries, HaveBegun, HaveEnded, HavePlanned, StandAfter, StandsAfter}
-pub use Rattle.controller.specs.Passes.{delivered_at}
+pub use Rattle.controller.specs.Limits.{IsPlanned}
+pub use Rattle.controller.specs.Passes.{AreChosen, HaveBegun, HaveEnded, StandAfter, StandsAfter, delivered_at}
 pub use Rattle.controller.specs.PlantStands.{no_outcome, outcomes_of}
 pub use Rattle.controller.specs.PlantWithin.{AreIncidents, AreSeats, IsControllerOf, IsEnded, IsFromWithin, most_ahead}
 pub use Rattle.controller.specs.PlantWithin.{most_ahead_in}
 pub use Rattle.controller.specs.StandsFor.{ShowsState, Stands, StandsFor}
 pub use Rattle.controller.specs.declared.controller.Outcome.{Outcome}
 pub use Rattle.controller.specs.declared.seat.Seat.{Seat}
-pub use Rattle.host_port.proofs.ReaderLists.{set_back, written_ring}
+pub use Rattle.host_port.proofs.ReaderLists.{set_back}
 pub use Rattle.host_port.specs.Fetching.{HasSeen, IsWhole}
-pub use Rattle.host_port.specs.Reading.{AreReadersOfEnd, AreTheirRings, Attempts, IsSettled, ReadersState, Reads}
-pub use Rattle.host_port.specs.Reading.{Repeats, all_settled, buffers_of, calls_after, got_of, got_one, is_intact}
-pub use Rattle.host_port.specs.Reading.{is_line_from, is_read_at, lent, pairs_from, reads_from, rings_read, settled}
 pub use Rattle.host_port.specs.Rings.{ControllerState, HostState, IsNew, at_source, incoming_shape, message_shape}
 pub use Rattle.host_port.specs.Rings.{place_of, shape_of}
 pub use Rattle.host_port.specs.Writing.{HasRoom, IsNewest, Takes, written, written_at}
@@ -58,25 +64,20 @@ pub use Rattle.nbw_ring.specs.Numbers.{limit, most_number}
 pub use Rattle.nbw_ring.specs.States.{ReaderState, RingState, WriterState, new_reader, settlement_of, with_joined}
 pub use Rattle.nbw_ring.specs.declared.view.Message.{Message}
 pub use Rattle.nbw_ring.specs.declared.view.Shape.{Shape}
-pub use Rattle.std.proofs.Common.{All, Bool, IfSome, IsSomeAnd, List, None, Option, Some, [], add-one, ap, append_assoc}
-pub use Rattle.std.proofs.Common.{arith, below_more, cond, count_by, drop, false, get_or, inl, inr, is_some, length}
-pub use Rattle.std.proofs.Common.{map, not, option_map, refl, replicate, set, subst, suc, sym, take, true, vec_capacity}
-pub use Rattle.std.proofs.Common.{vec_len, zero, zero-add, ℕ, ℤ, ⊎_elim, ◌&&◌, ◌*◌, ◌++◌, ◌+◌, ◌-◌, ◌/◌, ◌<◌, ◌^◌, ◌||◌}
-pub use Rattle.std.proofs.Common.{◌∙◌, ◌∷◌, ◌≡◌, ◌≢◌, ◌≤◌}
 pub use Rattle.std.proofs.Crossing.{crosses}
-pub use Rattle.std.proofs.lemmas.Bool.{and_parts, cases_Bool, cases_eq, cases_lt, cond_both, eq-eqb, eqb-true}
-pub use Rattle.std.proofs.lemmas.Bool.{false_from_ne_true, false≢true, le-leb, leb-true, lt-ltb, ne_eqb}
+pub use Rattle.std.proofs.lemmas.Bool.{and_parts, cases_eq, cases_lt, cond_both, eq-eqb, eqb-true, false_from_ne_true}
+pub use Rattle.std.proofs.lemmas.Bool.{false≢true, le-leb, leb-true, lt-ltb}
 pub use Rattle.std.proofs.lemmas.Bool.Decides.{nat_tests}
 pub use Rattle.std.proofs.lemmas.Grind.{common_steps}
 pub use Rattle.std.proofs.lemmas.List.{append-nil, append_cancel_left, drop_more, get_or-append-add, get_or-set_other}
 pub use Rattle.std.proofs.lemmas.List.{get_or-set_same, get_or_append_left, get_or_past, get_or_push, length-map}
 pub use Rattle.std.proofs.lemmas.List.{length-replicate, length-set, map-append, map-set, nil_from_length}
-pub use Rattle.std.proofs.lemmas.List.{reverse-append, set-get_or, take-append-drop, take_all, take_more, with_items_is}
+pub use Rattle.std.proofs.lemmas.List.{reverse-append, take-append-drop, take_all, take_more, with_items_is}
 pub use Rattle.std.proofs.lemmas.List.Elements.{All-append, All-from_recursion, All-get_or, All-head, All-nil, All-push}
 pub use Rattle.std.proofs.lemmas.List.Elements.{All-tail, filter-append, filter_map-append, recursion_from_All}
 pub use Rattle.std.proofs.lemmas.List.FromFn.{fill_by_all, length-range_with_len}
-pub use Rattle.std.proofs.lemmas.Option.{get_or_from_slice_get, none-some, same_Some, slice_get-get_or, slice_get-map}
-pub use Rattle.std.proofs.lemmas.Option.{slice_get_read, slice_get_within}
+pub use Rattle.std.proofs.lemmas.Option.{get_or_from_slice_get, none-some, same_Some, slice_get-get_or, slice_get_read}
+pub use Rattle.std.proofs.lemmas.Option.{slice_get_within}
 pub use Rattle.std.proofs.lemmas.Result.{IfErr-weaker, on_ok_weaker}
 pub use Rattle.std.specs.Int.{to_be_bytes, w64}
 pub use Rattle.std.specs.List.{AllByRecursion, cons_option, filter_map, flat_map, list_all, range_with_len}
@@ -96,7 +97,6 @@ pub use Rattle.ttp_world.proofs.HostPayloads.{HasRead, IsReadOf, messages_read, 
 pub use Rattle.ttp_world.proofs.LegalSlots.{legal-after}
 pub use Rattle.ttp_world.proofs.ListFacts.{at_any, filter_map-few}
 pub use Rattle.ttp_world.proofs.Slots.{entry_of-row_in, length-row_in, node_of-slot_after}
-pub use Rattle.ttp_world.proofs.WorldFacts.{payload_few}
 pub use Rattle.ttp_world.proofs.Worlds.{length-world, row_of_world, row_of_world-told}
 pub use Rattle.ttp_world.specs.Conduct.{carries_payload, delivery, new_entry, payload_taken, verdict_entry}
 pub use Rattle.ttp_world.specs.Diary.{Diary, History, Surroundings, diary_of, entry_of}
@@ -105,8 +105,6 @@ pub use Rattle.ttp_world.specs.Legal.{IsLegal, ReadMessage, are_legal_messages, 
 pub use Rattle.ttp_world.specs.Legal.{is_legal_message, is_legal_read, is_legal_slot, is_not_older, is_same_ring}
 pub use Rattle.ttp_world.specs.Legal.{is_same_source, never_fall, read_messages}
 pub use Rattle.ttp_world.specs.Medl.{IsValid, no_plan, plan_at}
-pub use Rattle.ttp_world.specs.Messages.{delivered_of, in_messages, message_of, new_messages, ring_messages}
-pub use Rattle.ttp_world.specs.Messages.{status_words}
 pub use Rattle.ttp_world.specs.Outgoing.{message_chosen, messages_before, nothing_chosen, out_messages, zeros_of}
 pub use Rattle.ttp_world.specs.Past.{NodePast, past_of, state_of}
 pub use Rattle.ttp_world.specs.Reception.{Hearing, expected_length, expected_of, verdict_of, view_of}
@@ -120,7 +118,7 @@ pub use Rattle.ttp_world.specs.World.{is_loaded, node_after, node_of, node_past,
 pub use Rattle.ttp_world.specs.World.{world}
 pub use Rattle.ttp_world.specs.declared.host_lines.HostRead.{HostRead}
 pub use Rattle.ttp_world.specs.declared.medl.Medl.{Medl}
-pub use Rattle.ttp_world.specs.declared.node.Act.TheVariants.{Gone, Judge, Leave, Listen, Off, Retry, Send, Start}
+pub use Rattle.ttp_world.specs.declared.node.Act.TheVariants.{Judge, Listen, Send}
 pub use Rattle.ttp_world.specs.declared.node.Chosen.{Chosen}
 pub use Rattle.ttp_world.specs.declared.node.Delivered.{Delivered}
 pub use Rattle.ttp_world.specs.declared.node.Entry.{Entry}

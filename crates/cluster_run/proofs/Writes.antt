@@ -1,13 +1,12 @@
 -- What the writes of a slot make of the ends of hosts, write by write.
-use Rattle.cluster_run.proofs.Words.{◌≡◌, ℕ, zero, suc, ◌+◌, ◌<◌, ◌≤◌, Bool, true, false, cond, List, [], ◌∷◌, ◌++◌}
-use Rattle.cluster_run.proofs.Words.{length, map, set, take, drop, get_or, count_by, Option, Some, None, option_map}
-use Rattle.cluster_run.proofs.Words.{refl, sym, ap, ◌∙◌, arith, ◌==◌, IsSome, filter_map, false≢true, eq-eqb, eqb-true}
+use Rattle.cluster_run.proofs.Words.{◌≡◌, ℕ, ◌+◌, ◌<◌, ◌≤◌, Bool, true, false, cond, List, [], ◌∷◌, ◌++◌, length, map}
+use Rattle.cluster_run.proofs.Words.{set, take, drop, get_or, count_by, Option, Some, None, option_map, refl, sym, ap}
+use Rattle.cluster_run.proofs.Words.{◌∙◌, arith, ◌==◌, IsSome, filter_map, false≢true, eq-eqb, eqb-true}
 use Rattle.cluster_run.proofs.Words.{false_from_ne_true, append-nil, length-map, length-set, take_more}
 use Rattle.cluster_run.proofs.Words.{take-append-drop, get_or-set_same, get_or-set_other, HostWrite, payload_of_host}
 use Rattle.cluster_run.proofs.Words.{words_of_payload, WriteLine, HostState, written, Takes, HasRoom, host_at}
 use Rattle.cluster_run.proofs.Words.{with_messages, after_writes, message_count, write_line, write_lines, steps}
-use Rattle.cluster_run.proofs.Words.{cons_option, filter_map-append, most_number, messages_by}
-use Rattle.std.proofs.Common.{length-append}
+use Rattle.cluster_run.proofs.Words.{cons_option, filter_map-append, most_number, messages_by, length-append}
 use Rattle.std.proofs.lemmas.List.Sums.{count_by-le-length}
 
 -- the ends and the lines once these writes were made
@@ -121,12 +120,6 @@ taken_room h xs i x y within here is =
     let whole : length (filter_map h xs) ≡ length (front ++ back) = ap length
     (ap (filter_map h) (sym (take-append-drop (i + 1) xs)) ∙ filter_map-append h (take (i + 1) xs) (drop (i + 1) xs)) in
     omega (arith, one, whole, length-append (filter_map h (take i xs)) (y ∷ []), length-append front back)
-
--- an end that takes something is there
-pub takes-within : (ends : List HostState) (k size : ℕ) → Takes (host_at ends k) size → k < length ends
-takes-within [] k size takes = absurd takes
-takes-within (end ∷ ends) zero size takes = omega arith
-takes-within (end ∷ ends) (suc k) size takes = omega (arith, takes-within ends k size takes)
 
 pub written_along : {old ends ends' : List HostState} {writes writes' : List HostWrite} {lines lines' : List WriteLine}
     → writes' ≡ writes → ends' ≡ ends → lines' ≡ lines → AreWritten old writes ends lines

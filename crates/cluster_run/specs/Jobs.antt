@@ -1,11 +1,9 @@
 -- Work of a slot that is given to a worker, and what the worker makes of it.
-use Rattle.std.specs.Prelude.{◌≡◌, ℕ, ◌≤◌, List, [], length, vec_capacity, All, Option}
+use Rattle.std.specs.Prelude.{◌≡◌, ℕ, ◌≤◌, List, [], length, vec_capacity, All}
 use Rattle.std.specs.Arc.{arc_value}
 use Rattle.std.specs.List.{filter_map}
-use Rattle.ttp_world.specs.declared.host_lines.HostRead.{HostRead}
 use Rattle.ttp_world.specs.declared.script.Script.{Script}
 use Rattle.ttp_world.specs.Script.{write_at}
-use Rattle.host_port.specs.Reading.{ReadersState}
 use Rattle.host_port.specs.Rings.{HostState}
 use Rattle.host_port.specs.declared.report.WriteLine.{WriteLine}
 use Rattle.cluster_run.specs.declared.jobs.EndJob.{EndJob}
@@ -13,7 +11,7 @@ use Rattle.cluster_run.specs.declared.jobs.HostJob.{HostJob}
 use Rattle.cluster_run.specs.declared.jobs.HostJob.TheVariants as job
 use Rattle.cluster_run.specs.Ending.{IsPartReady, HasPartEnded}
 use Rattle.cluster_run.specs.Ends.{host_at}
-use Rattle.cluster_run.specs.Reading.{HaveRead, MayReadAll, ReadBuffers, ReadTheSame}
+use Rattle.cluster_run.specs.Reading.{HaveRead, MayReadAll}
 use Rattle.cluster_run.specs.Sending.{MayWriteAll, WritesBytes, after_writes, write_lines}
 
 -- the part of a job may end the slot
@@ -42,11 +40,6 @@ pub record HaveWrittenAt (script : Script) (places : List ℕ) (old new : List H
   pub lines_are : lines ≡ write_lines old [] (filter_map (write_at script) places)
   pub bytes : All WritesBytes (filter_map (write_at script) places)
 
--- hosts have made these reads, by readers of the same rings
-pub record HaveReadBy (reads : List HostRead) (old new : List (Option ReadersState)) : Type 0 where
-  pub rings : ReadTheSame old new
-  pub read : (buffers : ℕ) → ReadBuffers buffers old → HaveRead buffers reads old new
-
 -- hosts may do what a job says
 abbrev pub MayHostsDo : HostJob → Type 0
 MayHostsDo (job.Write script places ends lines) =
@@ -59,4 +52,4 @@ HaveHostsDone (job.Write script places ends lines) (job.Write script' places' en
     HaveWrittenAt script.now places.now ends.items ends'.items lines'.items
 HaveHostsDone (job.Write script places ends lines) (job.Read reads' readers') = ⊥
 HaveHostsDone (job.Read reads readers) (job.Write script' places' ends' lines') = ⊥
-HaveHostsDone (job.Read reads readers) (job.Read reads' readers') = HaveReadBy reads.now readers.items readers'.items
+HaveHostsDone (job.Read reads readers) (job.Read reads' readers') = HaveRead reads.now readers.items readers'.items

@@ -1,6 +1,6 @@
 -- What hosts read of what came to their nodes, and the lines of it.
 use Rattle.std.specs.Prelude.{◌≡◌, ◌≢◌, ℕ, zero, suc, ◌<◌, ◌≤◌, ◌==◌, Bool, List, [], map, filter, length}
-use Rattle.std.specs.Prelude.{get_or, Option, Some, None, IsSomeAnd, is_some, option_map}
+use Rattle.std.specs.Prelude.{get_or, Option, Some, None, IsSomeAnd, option_map}
 use Rattle.std.specs.List.{list_any}
 use Rattle.std.specs.Option.{ForSome}
 use Rattle.nbw_ring.specs.Numbers.{limit}
@@ -9,8 +9,8 @@ use Rattle.ttp_world.specs.declared.host_lines.HostRead.{HostRead}
 use Rattle.ttp_world.specs.declared.script.Source.{Source}
 use Rattle.host_port.specs.declared.report.ReadLine.{ReadLine}
 use Rattle.host_port.specs.Reading.{ReadersState, AreReadersOfEnd, rings_read, Reads, reads_from, lent, IsSettled}
-use Rattle.host_port.specs.Reading.{settled, got_of, pairs_from}
-use Rattle.host_port.specs.Rings.{ControllerState, at_source}
+use Rattle.host_port.specs.Reading.{settled, got_of, pairs_from, buffers_of, calls_after}
+use Rattle.host_port.specs.Rings.{ControllerState, at_source, place_of}
 use Rattle.cluster_run.specs.Ends.{end_at}
 
 -- Readers.
@@ -41,16 +41,6 @@ pub record AreReadersOfAll (ends : List ControllerState) (readers : List (Option
 abbrev pub rings_in : Option ReadersState → Option (List (Option RingState))
 rings_in = option_map (λ r. rings_read r.readers)
 
--- they read the same rings
-pub record ReadTheSame (old new : List (Option ReadersState)) : Type 0 where
-  pub count : length new ≡ length old
-  pub each : (k : ℕ) → rings_in (readers_at new k) ≡ rings_in (readers_at old k)
-
--- the rings that they read have so many buffers
-abbrev pub ReadBuffers : ℕ → List (Option ReadersState) → Type 0
-ReadBuffers buffers readers =
-    (k : ℕ) (from : Source) → ForSome (reader_at readers k from) (λ r. r.ring.shape.buffers ≡ buffers)
-
 -- Readers are lent.
 
 -- node k's host reads
@@ -60,40 +50,49 @@ is_host k read = read.host == k
 abbrev pub has_reads : List HostRead → ℕ → Bool
 has_reads reads k = list_any (is_host k) reads
 
--- new readers of the rings of this end, each with room for the reads of its source
-pub record AreLentTo (reads : List HostRead) (k : ℕ) (end : ControllerState) (r : ReadersState) : Type 0 where
-  pub readers : (from : Source) → at_source r.readers from ≡ lent (at_source end from) (reads_from reads k from)
-  pub calls : r.calls ≡ []
+-- new readers of the rings of this end that node k's host reads, each with room for the reads of its source
+pub record AreLentTo (reads : List HostRead) (k : ℕ) (end : ControllerState) (r : Option ReadersState) : Type 0 where
+  pub readers : (from : Source) → reader_in r from ≡ lent (at_source end from) (reads_from reads k from)
+  pub calls : calls_in r ≡ []
+  pub own : ForSome r (AreReadersOfEnd end)
 
--- those of each host that reads, and of no other
+-- those of each host
 pub record AreReadersLent (reads : List HostRead) (ends : List ControllerState) (readers : List (Option ReadersState))
     : Type 0 where
-  pub there : (k : ℕ) → k < length ends → is_some (readers_at readers k) ≡ has_reads reads k
-  pub each : (k : ℕ) → k < length ends → ForSome (readers_at readers k) (AreLentTo reads k (end_at ends k))
+  pub count : length readers ≡ length ends
+  pub each : (k : ℕ) → k < length ends → AreLentTo reads k (end_at ends k) (readers_at readers k)
 
 -- Hosts read.
 
+-- a read by a host's readers: that of its source made it, and the others are as they were, all of the same rings
+pub record IsRead (read : HostRead) (old new : Option ReadersState) : Type 0 where
+  pub rings : rings_in new ≡ rings_in old
+  pub reads : Reads (buffers_of (reader_in old read.source)) (reader_in old read.source) (reader_in new read.source)
+  pub others : (other : Source) → place_of other ≢ place_of read.source → reader_in new other ≡ reader_in old other
+  pub calls : calls_in new ≡ calls_after (calls_in old) read.source (reader_in new read.source)
+
 -- so many reads of a reader, one after another
-abbrev pub ReadsMany : ℕ → ℕ → Option ReaderState → Option ReaderState → Type 0
-ReadsMany buffers zero old new = new ≡ old
-ReadsMany buffers (suc n) old new =
-    (mid : Option ReaderState) × ReadsMany buffers n old mid × Reads buffers mid new
+abbrev pub ReadsMany : ℕ → Option ReaderState → Option ReaderState → Type 0
+ReadsMany zero old new = new ≡ old
+ReadsMany (suc n) old new = (mid : Option ReaderState) × ReadsMany n old mid × Reads (buffers_of mid) mid new
 
 -- with two buffers or more, what was newest when the reader was lent is intact still at its newest load
-abbrev pub IsClear : ℕ → Option ReaderState → Option ReaderState → Type 0
-IsClear buffers (Some old) (Some new) = buffers ≢ 1 → new.seen < limit old.ring.shape old.floor
-IsClear buffers _ _ = Unit {0}
+abbrev pub IsClear : Option ReaderState → Option ReaderState → Type 0
+IsClear (Some old) (Some new) = old.ring.shape.buffers ≢ 1 → new.seen < limit old.ring.shape old.floor
+IsClear _ _ = Unit {0}
 
 -- the sources that node k's host reads, in the order of the script
 abbrev pub sources_of : List HostRead → ℕ → List Source
 sources_of reads k = map (λ read. read.source) (filter (is_host k) reads)
 
--- Each reader has made the reads of its host and source. Where all of a host's readers are clear each of its reads got
--- a message.
-pub record HaveRead (buffers : ℕ) (reads : List HostRead) (old new : List (Option ReadersState)) : Type 0 where
+-- Each reader has made the reads of its host and source, of the same ring. Where all of a host's readers are clear each
+-- of its reads got a message.
+pub record HaveRead (reads : List HostRead) (old new : List (Option ReadersState)) : Type 0 where
+  pub count : length new ≡ length old
+  pub rings : (k : ℕ) → rings_in (readers_at new k) ≡ rings_in (readers_at old k)
   pub each : (k : ℕ) (from : Source)
-      → ReadsMany buffers (reads_from reads k from) (reader_at old k from) (reader_at new k from)
-  pub calls : (k : ℕ) → ((from : Source) → IsClear buffers (reader_at old k from) (reader_at new k from))
+      → ReadsMany (reads_from reads k from) (reader_at old k from) (reader_at new k from)
+  pub calls : (k : ℕ) → ((from : Source) → IsClear (reader_at old k from) (reader_at new k from))
       → calls_in (readers_at new k) ≡ sources_of reads k
 
 -- no host has read yet, and each has a reader of what it reads, with room for all its reads of it

@@ -105,12 +105,10 @@ pub record TellsReads (at : CurrentSlot) (old new : Nodes) (lines : List ReadLin
   pub handed : List ControllerState
   pub first : List (Option ReadersState)
   pub last : List (Option ReadersState)
-  pub first_count : length first ≡ length at.list.now.slots
-  pub last_count : length last ≡ length at.list.now.slots
   pub handed_are : HaveHandedOn (outcomes_of new.seats.items) (desk_ends old.desks.items) handed
       (desk_numbers new.desks.items)
   pub lent : AreReadersLent (reads_in at.script.now at.slot) (desk_ends old.desks.items) first
-  pub read : HaveRead at.list.now.buffers (reads_in at.script.now at.slot) first last
+  pub read : HaveRead (reads_in at.script.now at.slot) first last
   pub settles : SettlesReads handed last (desk_ends new.desks.items)
   pub told : AllGot (reads_in at.script.now at.slot) last → AreLinesOf (reads_in at.script.now at.slot) last lines
 

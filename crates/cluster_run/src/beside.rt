@@ -3,8 +3,8 @@ ghost use Rattle.std.specs.Prelude.{◌≡◌, ◌≤◌, ◌++◌, length, vec_
 ghost use Rattle.std.specs.Arc.{arc_value};
 ghost use Rattle.cluster_run.specs.Ending.{IsPartReady, HasPartEnded};
 ghost use Rattle.cluster_run.specs.Jobs.{IsJobReady, HasJobEnded, MayHostsDo, HaveHostsDone};
-ghost use Rattle.cluster_run.specs.Jobs.{MayWriteAt, HaveWrittenAt, HaveReadBy};
-ghost use Rattle.cluster_run.specs.Reading.{MayReadAll};
+ghost use Rattle.cluster_run.specs.Jobs.{MayWriteAt, HaveWrittenAt};
+ghost use Rattle.cluster_run.specs.Reading.{MayReadAll, HaveRead};
 ghost use Rattle.cluster_run.specs.Sending.{MayFetchAll, FetchAll};
 ghost use Rattle.cluster_run.specs.Slots.{AreReady, AllHaveEnded};
 
@@ -173,7 +173,7 @@ pub(crate) fn end_staying<'b, 'a, R: Wait, G: Gate>(
     requires ready { AreReady at.now nodes.old }
     requires left { MayReadAll reads.now readers.items }
     ensures ended { OnOk result (AllHaveEnded at.now nodes.old nodes.new) }
-    ensures read { IfOk result (λ r. HaveReadBy reads.now readers.items r.1.items) }
+    ensures read { IfOk result (λ r. HaveRead reads.now readers.items r.1.items) }
 {
     let back = back_half(at, nodes)?;
     let medium = Arc::try_clone(&back.medium)?;

@@ -1,15 +1,12 @@
 //! What hosts read, and the lines of it.
 ghost use Rattle.std.specs.Prelude.{◌≡◌, ◌≢◌, ◌<◌, ◌≤◌, ℕ, [], ◌∷◌, length, map, vec_len, vec_capacity};
-ghost use Rattle.std.specs.Prelude.{All, IfOk, IfSome, IfNone, OnOk, is_some};
+ghost use Rattle.std.specs.Prelude.{All, IfOk, IfSome, IfNone, OnOk};
 ghost use Rattle.std.specs.Option.{ForSome};
 ghost use Rattle.std.specs.Vec.Iter.{into_iter_items};
-ghost use Rattle.ttp_world.specs.declared.script.Source.{Source};
-ghost use Rattle.host_port.specs.Reading.{AreReadersOfEnd, IsLeft, Reads, buffers_of, calls_after};
-ghost use Rattle.host_port.specs.Rings.{place_of};
+ghost use Rattle.host_port.specs.Reading.{AreReadersOfEnd, IsLeft};
 ghost use Rattle.cluster_run.specs.Ends.{desk_ends, desk_numbers};
-ghost use Rattle.cluster_run.specs.Jobs.{HaveReadBy};
-ghost use Rattle.cluster_run.specs.Reading.{AreReadersOfAll, rings_in, has_reads, AreLentTo};
-ghost use Rattle.cluster_run.specs.Reading.{AreReadersLent, reader_in, calls_in, MayReadAll, SettlesReadsOf};
+ghost use Rattle.cluster_run.specs.Reading.{AreReadersOfAll, has_reads, AreLentTo, IsRead, HaveRead};
+ghost use Rattle.cluster_run.specs.Reading.{AreReadersLent, reader_in, MayReadAll, SettlesReadsOf};
 ghost use Rattle.cluster_run.specs.Reading.{SettlesReads, AllGot, read_of, lines_by};
 ghost use Rattle.cluster_run.specs.Reading.{AreLinesBy, AreLinesOf, queue_of, AreQueuesOf, AreDue};
 
@@ -34,9 +31,7 @@ fn lend_one(
     reads: &[HostRead],
     node: u8,
 ) -> Result<Option<HostReaders>, Memory>
-    ensures there { IfOk result (λ r. is_some r ≡ has_reads reads.now node) }
-    ensures lent { IfOk result (λ r. ForSome r (AreLentTo reads.now node end.old)) }
-    ensures own { IfOk result (λ r. ForSome r (AreReadersOfEnd end.old)) }
+    ensures lent { IfOk result (AreLentTo reads.now node end.old) }
     ensures end { end.new ≡ end.old }
 {
     if has_reads(reads, node) {
@@ -52,7 +47,6 @@ pub(crate) fn lend_readers(
     reads: &[HostRead],
 ) -> Result<Vec<Option<HostReaders>>, Memory>
     requires few { length desks.old ≤ 256 }
-    ensures own { IfOk result (λ readers. AreReadersOfAll (desk_ends desks.old) readers.items) }
     ensures lent { IfOk result (λ readers. AreReadersLent reads.now (desk_ends desks.old) readers.items) }
     ensures desks { desks.new ≡ desks.old }
 {
@@ -65,14 +59,8 @@ pub(crate) fn lend_readers(
 
 // A read of a host, by its readers.
 fn read_one<R: Wait, G: Gate>(rt: &R, readers: &mut Option<HostReaders>, read: &HostRead, gate: &G)
-    requires left { IsLeft (reader_in readers.old read.now.source) }
-    ensures rings { rings_in readers.new ≡ rings_in readers.old }
-    ensures reads { Reads (buffers_of (reader_in readers.old read.now.source)) (reader_in readers.old read.now.source)
-        (reader_in readers.new read.now.source) }
-    ensures others { (other : Source) → place_of other ≢ place_of read.now.source
-        → reader_in readers.new other ≡ reader_in readers.old other }
-    ensures calls { calls_in readers.new
-        ≡ calls_after (calls_in readers.old) read.now.source (reader_in readers.new read.now.source) }
+    requires { IsLeft (reader_in readers.old read.now.source) }
+    ensures { IsRead read.now readers.old readers.new }
 {
     if let Some(readers) = readers {
         readers.read(rt, read.source, gate);
@@ -86,8 +74,8 @@ pub(crate) fn read_all<R: Wait, G: Gate>(
     reads: &[HostRead],
     gate: &G,
 )
-    requires left { MayReadAll reads.now readers.old }
-    ensures { HaveReadBy reads.now readers.old readers.new }
+    requires { MayReadAll reads.now readers.old }
+    ensures { HaveRead reads.now readers.old readers.new }
 {
     for read in reads {
         let k = usize::from(read.host);

@@ -1,15 +1,12 @@
 //! A slot of all nodes.
-ghost use Rattle.std.specs.Prelude.{◌≡◌, ◌+◌, ℕ, IfOk, OnOk};
+ghost use Rattle.std.specs.Prelude.{◌≡◌, ◌+◌, IfOk, OnOk};
 ghost use Rattle.ttp_world.specs.Script.{reads_in};
 ghost use Rattle.ttp_world.specs.World.{Numbers};
-ghost use Rattle.controller.specs.PlantStands.{outcomes_of};
 ghost use Rattle.cluster_run.specs.Choosing.{AreBytesBefore};
 ghost use Rattle.cluster_run.specs.Clusters.{AreClusterNodes};
-ghost use Rattle.cluster_run.specs.Ending.{IsPartReady, HasPartEnded, HaveHandedOn};
-ghost use Rattle.cluster_run.specs.Ends.{desk_ends, desk_numbers};
-ghost use Rattle.cluster_run.specs.Jobs.{HaveReadBy};
+ghost use Rattle.cluster_run.specs.Ending.{IsPartReady, HasPartEnded};
 ghost use Rattle.cluster_run.specs.Nodes.{AreNodesOf};
-ghost use Rattle.cluster_run.specs.Reading.{AreReadersOfAll, AreReadersLent, MayReadAll, HaveRead};
+ghost use Rattle.cluster_run.specs.Reading.{MayReadAll, HaveRead};
 ghost use Rattle.cluster_run.specs.Slots.{StandsAt, AreReady, AllHaveEnded, MayEndSlot, IsSlotPlanned, IsSlotEnded};
 ghost use Rattle.cluster_run.specs.Slots.{TellsReads, IsNextOf};
 ghost use Rattle.cluster_run.specs.Standing.{nodes_view};
@@ -43,7 +40,7 @@ fn end_started<R: Threads + Wait + Sync, G: Gate>(
     requires left { MayReadAll reads.now readers.old }
     ensures ended { HasPartEnded common.now.list.now common.now.script.now common.now.medium.now 0 seats.old seats.new
         desks.old desks.new }
-    ensures read { HaveReadBy reads.now readers.old readers.new }
+    ensures read { HaveRead reads.now readers.old readers.new }
 {
     let mut end = ||
         requires { IsPartReady common.now.list.now common.now.script.now common.now.medium.now 0 seats.now desks.now }
@@ -52,7 +49,7 @@ fn end_started<R: Threads + Wait + Sync, G: Gate>(
     { end_halves(rt, seats, desks, common, gate) };
     let mut read = ||
         requires { MayReadAll reads.now readers.now }
-        ensures { HaveReadBy reads.entry.now readers.entry.now readers.exit.now }
+        ensures { HaveRead reads.entry.now readers.entry.now readers.exit.now }
     { read_all(rt, readers, reads, gate) };
     join_mut(rt, &mut end, &mut read);
 }
@@ -69,7 +66,7 @@ fn end_with_started<'a, R: Threads + Wait + Sync, G: Gate>(
     requires ready { AreReady at.now nodes.old }
     requires left { MayReadAll reads.now readers.items }
     ensures ended { AllHaveEnded at.now nodes.old nodes.new }
-    ensures read { HaveReadBy reads.now readers.items result.items }
+    ensures read { HaveRead reads.now readers.items result.items }
 {
     let common = Common {
         list: at.list,
@@ -102,7 +99,7 @@ fn end_and_read<'b, 'a, R: Threads + Wait + Sync, G: Gate>(
     requires ready { AreReady at.now nodes.old }
     requires left { MayReadAll reads.now readers.items }
     ensures ended { OnOk result (AllHaveEnded at.now nodes.old nodes.new) }
-    ensures read { IfOk result (λ left. HaveReadBy reads.now readers.items left.items) }
+    ensures read { IfOk result (λ left. HaveRead reads.now readers.items left.items) }
 {
     let Some(hired) = staff.take() else {
         return Ok(end_with_started(rt, at, nodes, readers, reads, gate));
@@ -146,32 +143,6 @@ fn plan<'b, 'a, R: Threads + Wait + Sync, G: Gate>(
     Ok(writes)
 }
 
-// Controllers end the slot, beside the reads of hosts by these readers.
-fn end<'b, 'a, R: Threads + Wait + Sync, G: Gate>(
-    rt: &R,
-    staff: &mut Option<Hired<'b, 'a>>,
-    at: &CurrentSlot<'a>,
-    nodes: &mut Nodes,
-    readers: Vec<Option<HostReaders>>,
-    reads: &'a [HostRead],
-    gate: &G,
-) -> Result<Vec<Option<HostReaders>>, Memory>
-    requires own { AreReadersOfAll (desk_ends nodes.old.desks.items) readers.items }
-    requires lent { AreReadersLent (reads_in at.now.script.now at.now.slot) (desk_ends nodes.old.desks.items)
-        readers.items }
-    requires may { MayEndSlot at.now nodes.old }
-    requires reads { reads.now ≡ reads_in at.now.script.now at.now.slot }
-    ensures ends { OnOk result (IsSlotEnded at.now nodes.old nodes.new) }
-    ensures own { IfOk result (λ left. AreReadersOfAll (desk_ends nodes.new.desks.items) left.items) }
-    ensures reads { IfOk result (λ left. HaveRead at.now.list.now.buffers (reads_in at.now.script.now at.now.slot)
-        readers.items left.items) }
-    ensures handed { OnOk result (HaveHandedOn (outcomes_of nodes.new.seats.items) (desk_ends nodes.old.desks.items)
-        (desk_ends nodes.new.desks.items) (desk_numbers nodes.new.desks.items)) }
-{
-    let left = end_and_read(rt, staff, at, nodes, readers, reads, gate)?;
-    Ok(left)
-}
-
 // Controllers end the slot, and no host reads in it.
 fn end_unread<'a, G: Gate>(at: &CurrentSlot<'a>, nodes: &mut Nodes, gate: &G)
     requires { AreReady at.now nodes.old }
@@ -200,7 +171,7 @@ fn end_read<'b, 'a, R: Threads + Wait + Sync, G: Gate>(
     ensures tells { IfOk result (TellsReads at.now nodes.old nodes.new) }
 {
     let lent = lend_readers(at.alloc, &mut nodes.desks, reads)?;
-    let readers = end(rt, staff, at, nodes, lent, reads, gate)?;
+    let readers = end_and_read(rt, staff, at, nodes, lent, reads, gate)?;
     let lines = read_lines(at.alloc, &mut nodes.desks, readers, reads)?;
     Ok(lines)
 }

@@ -1,5 +1,4 @@
 pub mod PayloadWords
 pub mod RingLists
 pub mod ReaderLists
-pub mod SettledRings
 pub mod LineQueues

@@ -10,8 +10,7 @@ use Rattle.ttp_world.specs.Fitting.{append_byte, number_in}
 -- the number of one byte more
 pub number_in-more : (byte : ℕ → ℕ) (j : ℕ)
     → number_in (map byte (below (j + 1))) ≡ 256 * number_in (map byte (below j)) + byte j
-number_in-more byte j =
-    ap number_in (map-range_with_len_more byte 0 j j (zero-add j))
+number_in-more byte j = ap number_in (map-range_with_len_more byte 0 j j (zero-add j))
     ∙ fold-append append_byte 0 (map byte (below j)) (byte j ∷ [])
 
 -- it stays below a power that rises with the bytes

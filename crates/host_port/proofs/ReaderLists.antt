@@ -1,16 +1,24 @@
--- Lists of readers: one for each place, as they are lent and read.
-use Rattle.std.proofs.Common.{◌≡◌, ℕ, zero, suc, ◌+◌, ◌<◌, ◌==◌, Bool, true, false, cond, List, [], ◌∷◌, ◌++◌, length, map, take, set, get_or}
-use Rattle.std.proofs.Common.{Option, Some, None, option_map, inl, inr, refl, sym, ap, ◌∙◌, arith, add-one, zero-add, subst}
+-- Lists of readers and writers: one for each place, as they are lent, read and settled.
+use Rattle.std.proofs.Common.{◌≡◌, ℕ, zero, suc, ◌+◌, ◌<◌, ◌==◌, Bool, true, false, cond, List, [], ◌∷◌, ◌++◌, length}
+use Rattle.std.proofs.Common.{map, take, set, get_or, Option, Some, None, option_map, inl, inr, refl, sym, ap, ◌∙◌}
+use Rattle.std.proofs.Common.{arith, add-one, zero-add, subst, IfSome, ◌≤◌, Result, Ok, Err, OnErr, below_more}
 use Rattle.std.proofs.lemmas.Bool.{cases_eq}
 use Rattle.std.proofs.lemmas.List.{map-set, set-get_or, get_or-set_same, get_or_read, get_or-map, length-map}
-use Rattle.std.specs.Prelude.{IfSome}
 use Rattle.nbw_ring.specs.States.{RingState, WriterState, ReaderState, new_reader}
 use Rattle.ttp_world.specs.declared.host_lines.HostRead.{HostRead}
 use Rattle.ttp_world.specs.declared.script.Source.{Source}
 use Rattle.host_port.specs.Rings.{ControllerState, place_of, at_source, HaveBuffers}
 use Rattle.host_port.specs.Writing.{written}
-use Rattle.host_port.specs.Reading.{rings_read, IsItsRing, AreTheirRings, reads_at, lent, IsLeft, Reads, buffers_of, got_of, settled, all_settled}
+use Rattle.host_port.specs.Reading.{rings_read, IsItsRing, AreTheirRings, reads_at, lent, IsLeft, Reads, buffers_of}
+use Rattle.host_port.specs.Reading.{got_of, settled, all_settled, IsSettled}
 use Rattle.host_port.specs.Queues.{all_lent}
+
+-- a place lies within a list where something is so of what is there that is not so of what is told for no place
+pub within_list : {A : Type 0} (P : A → Type 0) (d : A) (xs : List A) (i : ℕ) → (P d → ⊥) → P (get_or xs i d)
+    → i < length xs
+within_list P d [] i none here = absurd (none here)
+within_list P d (x ∷ xs) zero none here = omega arith
+within_list P d (x ∷ xs) (suc i) none here = omega (arith, within_list P d xs i none here)
 
 -- what is written back where it was leaves a list as it was
 pub set_back : {A : Type 0} (xs : List A) (i : ℕ) (old new : A) → old ≡ get_or xs i old → new ≡ old → set xs i new ≡ xs
@@ -29,26 +37,23 @@ pub written_ring : (writer : Option WriterState) (words : List ℕ)
 written_ring (Some w) words = refl
 written_ring None words = refl
 
--- what has the same ring leaves the rings of a list as they were
-pub rings_kept : {A : Type 0} (ring : A → Option RingState) (xs : List A) (i : ℕ) (old new : A) → old ≡ get_or xs i old
-    → ring new ≡ ring old → map ring (set xs i new) ≡ map ring xs
-rings_kept ring xs i old new here same =
-    map-set ring xs i new
-    ∙ (ap (set (map ring xs) i) (same ∙ ap ring here)
-    ∙ (sym (map-set ring xs i (get_or xs i old)) ∙ ap (map ring) (set-get_or xs i old)))
+-- what is read alike is written where it was: the same is read of the whole list
+pub read_alike : {A B : Type 0} (f : A → B) (xs : List A) (i : ℕ) (old new : A) → old ≡ get_or xs i old → f new ≡ f old
+    → map f (set xs i new) ≡ map f xs
+read_alike f xs i old new here same = map-set f xs i new
+    ∙ (ap (set (map f xs) i) (same ∙ ap f here)
+    ∙ (sym (map-set f xs i (get_or xs i old)) ∙ ap (map f) (set-get_or xs i old)))
 
 -- So does a reader that is joined.
 
 settled_ring : (w : Option WriterState) (r : Option ReaderState) → ring_written (settled w r) ≡ ring_written w
 settled_ring (Some w) (Some r) = refl
-settled_ring (Some w) None = refl
-settled_ring None r = refl
+settled_ring w r = refl
 
 pub settled_rings : (end : ControllerState) (readers : List (Option ReaderState))
     → map ring_written (all_settled end readers) ≡ map ring_written end
-settled_rings [] readers = refl
-settled_rings (w ∷ ws) [] = refl
 settled_rings (w ∷ ws) (r ∷ rs) = λ k. settled_ring w r k ∷ settled_rings ws rs k
+settled_rings ws rs = refl
 
 pub written_rings : (end : ControllerState) (place : ℕ) (words : List ℕ)
     → map ring_written (set end place (written (get_or end place None) words)) ≡ map ring_written end
@@ -65,8 +70,7 @@ pub all_lent-more : (reads : List HostRead) (node first : ℕ) (ws : List (Optio
 all_lent-more reads node first [] i place within sum = absurd (omega arith)
 all_lent-more reads node first (w ∷ ws) zero place within sum =
     let same : first ≡ place = omega arith in ap (λ p. lent w (reads_at reads node p) ∷ []) same
-all_lent-more reads node first (w ∷ ws) (suc i) place within sum =
-    ap (λ l. lent w (reads_at reads node first) ∷ l)
+all_lent-more reads node first (w ∷ ws) (suc i) place within sum = ap (λ l. lent w (reads_at reads node first) ∷ l)
     (all_lent-more reads node (first + 1) ws i place (omega arith) (omega arith))
 
 pub all_lent-next : (reads : List HostRead) (node : ℕ) (ws : List (Option WriterState)) (i : ℕ) → i < length ws
@@ -86,8 +90,7 @@ all_lent-at reads node first [] i place sum =
     sym (none_lent (reads_at reads node place) (reads_at reads node place == 0) None refl)
 all_lent-at reads node first (w ∷ ws) zero place sum =
     let same : first ≡ place = omega arith in ap (λ p. lent w (reads_at reads node p)) same
-all_lent-at reads node first (w ∷ ws) (suc i) place sum =
-    all_lent-at reads node (first + 1) ws i place (omega arith)
+all_lent-at reads node first (w ∷ ws) (suc i) place sum = all_lent-at reads node (first + 1) ws i place (omega arith)
 
 -- each reads the ring of its writer
 lent-ring : (w : Option WriterState) (reads : ℕ) (none : Bool)
@@ -95,11 +98,6 @@ lent-ring : (w : Option WriterState) (reads : ℕ) (none : Bool)
 lent-ring w reads true = tt
 lent-ring (Some w) reads false = refl
 lent-ring None reads false = tt
-
-pub length-all_lent : (reads : List HostRead) (node first : ℕ) (ws : List (Option WriterState))
-    → length (all_lent reads node first ws) ≡ length ws
-length-all_lent reads node first [] = refl
-length-all_lent reads node first (w ∷ ws) = ap suc (length-all_lent reads node (first + 1) ws)
 
 pub all_lent-rings : (reads : List HostRead) (node first : ℕ) (ws : List (Option WriterState))
     → AreTheirRings (map ring_written ws) (rings_read (all_lent reads node first ws))
@@ -123,42 +121,34 @@ lent-got None reads false = refl
 
 pub all_lent-got : (reads : List HostRead) (node : ℕ) (ws : List (Option WriterState)) (place : ℕ)
     → got_of (get_or (all_lent reads node 0 ws) place None) ≡ []
-all_lent-got reads node ws place =
-    ap got_of (all_lent-at reads node 0 ws place place (zero-add place))
+all_lent-got reads node ws place = ap got_of (all_lent-at reads node 0 ws place place (zero-add place))
     ∙ lent-got (get_or ws place None) (reads_at reads node place) (reads_at reads node place == 0)
 
 -- A host reads.
 
--- a reader that is there lies within the list
-within_list : (readers : List (Option ReaderState)) (place : ℕ) → IsLeft (get_or readers place None)
-    → place < length readers
-within_list [] place left = absurd left
-within_list (r ∷ rs) zero left = omega arith
-within_list (r ∷ rs) (suc place) left = let within = within_list rs place left in omega arith
-
 -- it goes on reading its ring
 read_ring : (buffers : ℕ) (old new : Option ReaderState) → Reads buffers old new → ring_read new ≡ ring_read old
-read_ring buffers None new reads = absurd reads
-read_ring buffers (Some old) None reads = absurd reads
 read_ring buffers (Some old) (Some new) reads =
     elim (cases_eq buffers 1) [
       | inl one ↦ ap (λ ring. Some ring) (reads.0 one).ring
       | inr more ↦ ap (λ ring. Some ring) (reads.1 more).ring
     ]
+read_ring buffers old new reads = absurd reads
 
 pub still_rings : (readers : List (Option ReaderState)) (buffers place : ℕ) (old new : Option ReaderState)
     → old ≡ get_or readers place old → Reads buffers old new
     → map ring_read (set readers place new) ≡ map ring_read readers
 still_rings readers buffers place old new here reads =
-    rings_kept ring_read readers place old new here (read_ring buffers old new reads)
+    read_alike ring_read readers place old new here (read_ring buffers old new reads)
 
 -- and the one that read is found where it was
-pub reads_there : (shown readers : List (Option ReaderState)) (from : Source) (place : ℕ)
-    (old new : Option ReaderState) → readers ≡ shown → place ≡ place_of from → old ≡ get_or readers place old
-    → IsLeft (at_source shown from) → Reads (buffers_of old) old new
+pub reads_there : {shown readers : List (Option ReaderState)} (from : Source) {place : ℕ} {old : Option ReaderState}
+    (new : Option ReaderState) → readers ≡ shown → place ≡ place_of from → old ≡ get_or readers place old → IsLeft (at_source shown from)
+    → Reads (buffers_of old) old new
     → Reads (buffers_of (at_source shown from)) (at_source shown from) (at_source (set readers place new) from)
-reads_there shown readers from place old new same placed here left reads =
-    let within : place < length readers = rw (same, placed) (within_list shown (place_of from) left) in
+reads_there {shown} {readers} from {place} {old} new same placed here left reads =
+    let within : place < length readers = rw (same, placed)
+    (within_list IsLeft None shown (place_of from) (λ none. none) left) in
     let after : get_or (set readers place new) place None ≡ new = get_or-set_same readers place new None within in
     let before : old ≡ at_source shown from =
     get_or_read readers place old within here None ∙ (λ k. get_or (same k) (placed k) None) in
@@ -175,9 +165,106 @@ pub buffers_there : (buffers : ℕ) (rings : List (Option RingState)) (readers :
     → AreTheirRings rings (rings_read readers) → HaveBuffers buffers rings → IsLeft (get_or readers place None)
     → buffers_of (get_or readers place None) ≡ buffers
 buffers_there buffers rings readers place own have left =
-    let within : place < length readers = within_list readers place left in
+    let within = within_list IsLeft None readers place (λ none. none) left in
     let count = own.count in
     let far : place < length rings = omega (arith, length-map readers ring_read) in
     ring_buffers buffers (get_or rings place None) (get_or readers place None) (have place None far)
     (subst (IsItsRing (get_or rings place None)) (get_or-map ring_read readers place None None within) (own.each place))
     left
+
+-- a fact holds at an error, whether it is one or not
+pub on_err : {A E P : Type 0} (r : Result A E) → P → OnErr r P
+on_err (Ok x) p = tt
+on_err (Err e) p = p
+
+pub all_settled-none : (ws : List (Option WriterState)) → all_settled ws [] ≡ ws
+all_settled-none [] = refl
+all_settled-none (w ∷ ws) = refl
+
+-- those that come later are as they were
+all_settled-later : (ws : List (Option WriterState)) (rs : List (Option ReaderState)) (i : ℕ)
+    → get_or (all_settled ws (take i rs)) i None ≡ get_or ws i None
+all_settled-later (w ∷ ws) rs zero = refl
+all_settled-later (w ∷ ws) (r ∷ rs) (suc i) = all_settled-later ws rs i
+all_settled-later ws rs i = refl
+
+all_settled-more : (ws : List (Option WriterState)) (rs : List (Option ReaderState)) (i : ℕ) → i < length ws
+    → i < length rs
+    → set (all_settled ws (take i rs)) i (settled (get_or ws i None) (get_or rs i None))
+    ≡ all_settled ws (take (suc i) rs)
+all_settled-more (w ∷ ws) (r ∷ rs) zero near far = ap (λ l. settled w r ∷ l) (sym (all_settled-none ws))
+all_settled-more (w ∷ ws) (r ∷ rs) (suc i) near far =
+    ap (λ l. settled w r ∷ l) (all_settled-more ws rs i (omega arith) (omega arith))
+all_settled-more ws rs i near far = absurd (omega arith)
+
+pub length-all_settled : (ws : List (Option WriterState)) (rs : List (Option ReaderState))
+    → length (all_settled ws rs) ≡ length ws
+length-all_settled (w ∷ ws) (r ∷ rs) = ap suc (length-all_settled ws rs)
+length-all_settled ws rs = refl
+
+-- the writers `now`, of which the first i are settled, and the next one's writer and reader
+pub record IsNext (ws now : List (Option WriterState)) (rs : List (Option ReaderState)) (i : ℕ)
+    (writer : Option WriterState) (reader : Option ReaderState) : Type 0 where
+  pub settled_so : now ≡ all_settled ws (take i rs)
+  pub writers : i < length ws
+  pub readers : i < length rs
+  pub writer_is : writer ≡ get_or now i writer
+  pub reader_is : reader ≡ get_or rs i None
+
+-- the next one, where the readers that are left are as they were
+pub is_next : {ws now : List (Option WriterState)} {rs : List (Option ReaderState)} (left : List (Option ReaderState))
+    {i : ℕ} {writer : Option WriterState} {reader : Option ReaderState} → i < length ws
+    → AreTheirRings (map ring_written ws) (rings_read rs) → now ≡ all_settled ws (take i rs)
+    → length left ≡ length rs → ((j : ℕ) → i ≤ j → get_or left j None ≡ get_or rs j None) → writer ≡ get_or now i writer
+    → reader ≡ get_or left i reader → IsNext ws now rs i writer reader
+is_next {ws} {now} {rs} left {i} {writer} {reader} within own settled_so same later here there =
+    let count = own.count in
+    let readers : i < length rs = omega (arith, length-map ws ring_written, length-map rs ring_read) in
+    record {
+      settled_so = settled_so;
+      writers = within;
+      readers = readers;
+      writer_is = here;
+      reader_is =
+          let near : i < length left = omega arith in
+          get_or_read left i reader near there None ∙ later i (omega arith);
+    }
+
+-- that writer is as it was
+pub next_writer : {ws now : List (Option WriterState)} {rs : List (Option ReaderState)} {i : ℕ}
+    {writer : Option WriterState} {reader : Option ReaderState} → IsNext ws now rs i writer reader
+    → writer ≡ get_or ws i None
+next_writer {ws} {now} {rs} {i} {writer} next =
+    let same : length now ≡ length ws = ap length next.settled_so ∙ length-all_settled ws (take i rs) in
+    let within : i < length now = let near = next.writers in omega arith in
+    get_or_read now i writer within next.writer_is None
+    ∙ (ap (λ l. get_or l i None) next.settled_so ∙ all_settled-later ws rs i)
+
+-- and once it is settled one more is
+pub next_settled : {ws now : List (Option WriterState)} {rs : List (Option ReaderState)} {i : ℕ}
+    {writer : Option WriterState} {reader : Option ReaderState} → IsNext ws now rs i writer reader
+    → (new : Option WriterState) → new ≡ settled writer reader → set now i new ≡ all_settled ws (take (i + 1) rs)
+next_settled {ws} {now} {rs} {i} {writer} {reader} next new done =
+    (λ k. set (next.settled_so k) i ((done ∙ (λ j. settled (next_writer next j) (next.reader_is j))) k))
+    ∙ rw add-one (all_settled-more ws rs i next.writers next.readers)
+
+pub settled_along : {w v : Option WriterState} {r q : Option ReaderState} → w ≡ v → r ≡ q → IsSettled w r
+    → IsSettled v q
+settled_along ws rs settled_so = rw (← ws, ← rs) settled_so
+
+-- one more
+pub settled_next : (ws : List (Option WriterState)) (rs : List (Option ReaderState)) (i : ℕ)
+    (writer : Option WriterState) (reader : Option ReaderState) → writer ≡ get_or ws i None → reader ≡ get_or rs i None
+    → IsSettled writer reader → ((j : ℕ) → j < i → IsSettled (get_or ws j None) (get_or rs j None)) → (j : ℕ)
+    → j < i + 1 → IsSettled (get_or ws j None) (get_or rs j None)
+settled_next ws rs i writer reader here there settled_one below =
+    below_more _ _ below (rw (← here, ← there) settled_one)
+
+-- one of the readers reads the ring of its writer
+pub same_ring : {ws now : List (Option WriterState)} {rs : List (Option ReaderState)} {i : ℕ}
+    {writer : Option WriterState} {reader : Option ReaderState} → IsNext ws now rs i writer reader
+    → AreTheirRings (map ring_written ws) (rings_read rs) → IsItsRing (ring_written writer) (ring_read reader)
+same_ring {ws} {now} {rs} {i} next own =
+    let writer = get_or-map ring_written ws i None None next.writers ∙ ap ring_written (sym (next_writer next)) in
+    let reader = get_or-map ring_read rs i None None next.readers ∙ ap ring_read (sym next.reader_is) in
+    rw (← writer, ← reader) (own.each i)

@@ -1,23 +1,20 @@
 -- Lists of rings and their writers, as a port grows.
-use Rattle.std.proofs.Common.{◌≡◌, ℕ, zero, suc, ◌+◌, ◌<◌, ◌≤◌, List, [], ◌∷◌, ◌++◌, length, map, get_or, Option}
-use Rattle.std.proofs.Common.{Some, None}
-use Rattle.std.proofs.Common.{Bool, true, false, ◌==◌, unwrap_or, IsSomeAnd, slice_get, inl, inr, refl, ap, ◌∙◌}
-use Rattle.std.proofs.Common.{arith, below_more, cond}
+use Rattle.std.proofs.Common.{◌≡◌, ℕ, zero, suc, ◌+◌, ◌<◌, ◌≤◌, List, [], ◌∷◌, ◌++◌, length, map, get_or, Option, Some}
+use Rattle.std.proofs.Common.{None, Bool, true, false, ◌==◌, unwrap_or, slice_get, inl, inr, refl, ap, ◌∙◌, arith}
+use Rattle.std.proofs.Common.{below_more, cond, IfSome}
 use Rattle.std.proofs.lemmas.Bool.{cases_lt}
 use Rattle.std.proofs.lemmas.List.{map-append, length-append, get_or_append_left, get_or_push, get_or_past}
 use Rattle.nbw_ring.specs.States.{RingState, WriterState}
 use Rattle.ttp_world.specs.declared.medl.Medl.{Medl}
 use Rattle.ttp_world.specs.declared.medl.SlotPlan.{SlotPlan}
 use Rattle.ttp_world.specs.declared.script.Source.{Source}
-use Rattle.ttp_world.specs.declared.script.Source.TheVariants as source
-use Rattle.ttp_world.specs.Medl.{no_plan}
+use Rattle.ttp_world.specs.Medl.{no_plan, plan_at}
 use Rattle.ttp_world.specs.Words.{word_count}
-use Rattle.std.specs.Prelude.{IfSome}
 use Rattle.std.proofs.lemmas.List.Elements.{All-push}
 use Rattle.nbw_ring.specs.declared.view.Shape.{Shape}
-use Rattle.ttp_world.specs.Medl.{plan_at}
 use Rattle.host_port.specs.Rings.{at_source, shape_of, message_shape, incoming_shape, IsNew, HaveBuffers}
 use Rattle.host_port.proofs.ReaderLists.{ring_written}
+use Rattle.ttp_world.specs.declared.script.Source.TheVariants as source
 
 -- the writers of the status ring and of the rings of the first k nodes
 pub record AreNew (list : Medl) (node k : ℕ) (rings : List (Option RingState)) (writers : List (Option WriterState))
@@ -43,8 +40,7 @@ of_list-either list false shape of_list = of_list
 
 shape_of_list : (list : Medl) (node k : ℕ)
     → IfSome (incoming_shape list node (source.Node k)) (λ s. s.buffers ≡ list.buffers)
-shape_of_list list node k =
-    of_list-either list (k == node) (message_shape list k)
+shape_of_list list node k = of_list-either list (k == node) (message_shape list k)
     (of_list-either list ((plan_at list k).payload == 0)
     (Some (shape_of list (word_count (plan_at list k).payload))) refl)
 
@@ -57,12 +53,10 @@ new_more list node k rings writers ring writer so own new =
     let many = so.count in record {
       count = omega (arith, length-append writers (writer ∷ []));
       own = map-append ring_written writers (writer ∷ []) ∙ (λ i. so.own i ++ own i ∷ []);
-      buffers =
-          All-push (λ r. IfSome r (λ s. s.shape.buffers ≡ list.buffers)) rings ring so.buffers
+      buffers = All-push (λ r. IfSome r (λ s. s.shape.buffers ≡ list.buffers)) rings ring so.buffers
           (new_buffers list _ ring writer (shape_of_list list node k) own new);
       status = rw (get_or_append_left writers (writer ∷ []) None 0 (omega arith)) so.status;
-      nodes =
-          below_more _ _
+      nodes = below_more _ _
           (λ j near. rw (get_or_append_left writers (writer ∷ []) None (j + 1) (omega arith)) (so.nodes j near))
           (rw (get_or_push writers writer None (k + 1) many) new);
     }
@@ -77,14 +71,11 @@ none_anyway : {A : Type 0} (b : Bool) (x : Option A) → x ≡ None → cond b N
 none_anyway true x none = refl
 none_anyway false x none = none
 
-shape-past : (list : Medl) (node k : ℕ) → length list.slots ≤ k
-    → incoming_shape list node (source.Node k) ≡ None
-shape-past list node k past =
-    none_anyway (k == node) (message_shape list k)
+shape-past : (list : Medl) (node k : ℕ) → length list.slots ≤ k → incoming_shape list node (source.Node k) ≡ None
+shape-past list node k past = none_anyway (k == node) (message_shape list k)
     (ap
     (λ plan. cond ((unwrap_or plan no_plan).payload == 0) None
-    (Some (shape_of list (word_count (unwrap_or plan no_plan).payload))))
-    (no_plan-past list.slots k past))
+    (Some (shape_of list (word_count (unwrap_or plan no_plan).payload)))) (no_plan-past list.slots k past))
 
 -- once each node has its ring, each source has
 pub new_all : (list : Medl) (node k : ℕ) (rings : List (Option RingState)) (writers : List (Option WriterState))
@@ -99,9 +90,3 @@ new_all list node k rings writers so all (source.Node j) =
           let over : length writers ≤ j + 1 = omega arith in
           rw (shape-past list node j (omega arith)) (get_or_past writers (j + 1) None over)
     ]
-
--- the first ring is the status ring
-first_status : (list : Medl) (w : Option WriterState) → IsNew (Some (shape_of list 4)) w
-    → IsSomeAnd w (λ w. w.ring.shape.width ≡ 4)
-first_status list None new = new
-first_status list (Some w) new = ap (λ s. s.width) new.0

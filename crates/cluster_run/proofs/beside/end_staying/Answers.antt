@@ -1,6 +1,5 @@
-use Rattle.cluster_run.proofs.Words.{◌≡◌, ◌++◌, ap, subst, ◌∙◌, arith, with_items_is, HasPartEnded}
-use Rattle.std.specs.Arc.{arc_value}
-use Rattle.cluster_run.proofs.Halves.{front_ready, back_ready, both_ended}
+use Rattle.cluster_run.proofs.Words.{◌≡◌, ◌++◌, ap, ◌∙◌, arith, with_items_is}
+use Rattle.cluster_run.proofs.SlotParts.{front_ready, back_ready, both_ended}
 use Rattle.cluster_run.proofs.beside.end_staying.Goals as goal
 
 pub end_beside-hired-requires-clause-front : goal.end_beside-hired-requires-clause-front
@@ -19,29 +18,13 @@ end_beside-hired-requires-clause-back g c κs within =
 
 pub returns-clause-ended : goal.returns-clause-ended
 returns-clause-ended g c =
-    let list = c.args.at.now.list.now in
-    let script = c.args.at.now.script.now in
-    let medium = c.args.nodes.now.medium in
     let half = c.back_half.new.nodes in
-    let back = c.in_ok-back.back in
     let b = c.in_ok-back.ensures in
     let e = c.end_beside-hired.ensures in
     let left = c.end_beside-hired.result.1 in
     let ss1 = c.end_beside-hired.new.seats in
     let ds1 = c.end_beside-hired.new.desks in
-    let front : HasPartEnded list script medium 0 half.seats.items ss1 half.desks.items ds1 =
-    subst (λ m. HasPartEnded list script m 0 half.seats.items ss1 half.desks.items ds1)
-    (c.deref.ensures ∙ c.in_ok-medium.ensures ∙ b.medium)
-    (subst (λ old. HasPartEnded list script c.deref.result.now 0 old ss1 half.desks.items ds1) c.deref_mut.ensures.value
-    (subst (λ old. HasPartEnded list script c.deref.result.now 0 c.deref_mut.result.now ss1 old ds1)
-    c.deref_mut-2.ensures.value e.front)) in
-    let ended : HasPartEnded list script medium back.first back.seats.items left.seats.items back.desks.items left.desks.items =
-    subst (λ m. HasPartEnded list script m back.first back.seats.items left.seats.items back.desks.items left.desks.items)
-    b.medium
-    (subst (λ s. HasPartEnded list s (arc_value back.medium) back.first back.seats.items left.seats.items back.desks.items
-    left.desks.items) b.script
-    (subst (λ l. HasPartEnded l back.script.now (arc_value back.medium) back.first back.seats.items left.seats.items
-    back.desks.items left.desks.items) b.list e.back)) in
+    let medium = c.deref.ensures ∙ c.in_ok-medium.ensures ∙ b.medium in
     let seats : c.append.new.self.items ≡ ss1 ++ left.seats.items =
     c.in_ok-append.ensures.items ∙ ap (λ xs. xs ++ left.seats.items) (with_items_is half.seats ss1
     (omega (arith, c.end_beside-hired.auto.seats, c.deref_mut.ensures.len))) in
@@ -53,5 +36,6 @@ returns-clause-ended g c =
       chosen = b.chosen;
       ended =
           both_ended (record { is = b.seats; count = b.first }) (record { is = b.desks; count = b.desks_count ∙ b.first })
-          seats desks front ended;
+          seats desks (rw (c.deref_mut.ensures.value, c.deref_mut-2.ensures.value, medium) at e.front)
+          (rw (b.medium, b.script, b.list) at e.back);
     }

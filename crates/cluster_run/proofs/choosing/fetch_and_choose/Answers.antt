@@ -1,7 +1,6 @@
 use Rattle.cluster_run.proofs.Words.{[], All, sym, ap, subst, ◌∙◌, All-nil, next_slot, host_at, writes_shown}
 use Rattle.cluster_run.proofs.Words.{WritesBytes, after_writes}
-use Rattle.cluster_run.proofs.Alone.{unwritten}
-use Rattle.cluster_run.proofs.Sends.{have_chosen, may_fetch_alone, more_bytes}
+use Rattle.cluster_run.proofs.Sends.{unwritten, have_chosen, may_fetch_alone, more_bytes}
 use Rattle.cluster_run.proofs.choosing.fetch_and_choose.Goals as goal
 
 pub fetch_each-requires-clause-may : goal.fetch_each-requires-clause-may

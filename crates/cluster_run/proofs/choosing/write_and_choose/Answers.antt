@@ -1,7 +1,7 @@
 use Rattle.cluster_run.proofs.Words.{◌≡◌, ◌<◌, ◌≤◌, [], length, All, get_or, None, sym, ap, subst, ◌∙◌, arith}
-use Rattle.cluster_run.proofs.Words.{filter_map, ForSome, with_items_is, EVENT_LIMIT, plan_at, write_at, writes_in}
-use Rattle.cluster_run.proofs.Words.{HostState, HaveChosen, next_slot, host_at, AreLent, Fetches, MayLend, MaySettle}
-use Rattle.cluster_run.proofs.Words.{MayWriteAll, WritesBytes, after_writes, write_lines}
+use Rattle.cluster_run.proofs.Words.{filter_map, with_items_is, EVENT_LIMIT, write_at, writes_in, next_slot, host_at}
+use Rattle.cluster_run.proofs.Words.{MayLend, WritesBytes, after_writes, write_lines}
+use Rattle.cluster_run.proofs.Changes.{kept_items}
 use Rattle.cluster_run.proofs.Sends.{few_writes, have_chosen, lines_shown, may_fetch_all, may_lend, may_settle}
 use Rattle.cluster_run.proofs.Sends.{may_write_all, more_bytes}
 use Rattle.cluster_run.proofs.choosing.write_and_choose.Goals as goal
@@ -17,11 +17,9 @@ write_and_fetch-ends-requires-clause-writes g c κs within =
     let many = length (filter_map (write_at script) c.args.places.now) in
     let few : many ≤ EVENT_LIMIT =
     omega (arith, ap length c.requires.places, few_writes script at.slot at.valid_script.event_count) in
-    let lent = with_items_is c.args.ends _ (ap length c.lend_fetchers.ensures.ends ∙ c.as_mut_slice.ensures.len)
-    ∙ c.lend_fetchers.ensures.ends ∙ c.as_mut_slice.ensures.value in
+    let lent = kept_items c.args.ends c.as_mut_slice.ensures.value c.as_mut_slice.ensures.len c.lend_fetchers.ensures.ends in
     record {
-      writes = subst (MayWriteAll script many) (sym lent)
-          (may_write_all c.requires.may.ends_count c.requires.may.begun many few);
+      writes = rw lent (may_write_all c.requires.may.ends_count c.requires.may.begun many few);
       empty = c.in_ok-lines.ensures.items;
       room = omega (arith, c.in_ok-lines.ensures.capacity);
     }
@@ -37,8 +35,7 @@ settle_fetchers-requires-clause-fetchers_count g c =
     let at = c.args.at.now in
     let may = c.requires.may in
     let lent = c.in_ok-fetchers.ensures.fetchers (next_slot at.list.now at.script.now may.numbers) may.begun.begun in
-    let lent_ends = with_items_is c.args.ends _ (ap length c.lend_fetchers.ensures.ends ∙ c.as_mut_slice.ensures.len)
-    ∙ c.lend_fetchers.ensures.ends ∙ c.as_mut_slice.ensures.value in
+    let lent_ends = kept_items c.args.ends c.as_mut_slice.ensures.value c.as_mut_slice.ensures.len c.lend_fetchers.ensures.ends in
     omega (
       arith,
       lent.count,
@@ -57,16 +54,14 @@ settle_fetchers-requires-clause-fetchers g c = λ k near.
     let s = next_slot at.list.now at.script.now may.numbers in
     let ends = c.args.ends.items in
     let tried = c.write_and_fetch-ends.result.2.items in
-    let lent_ends = with_items_is c.args.ends _ (ap length c.lend_fetchers.ensures.ends ∙ c.as_mut_slice.ensures.len)
-    ∙ c.lend_fetchers.ensures.ends ∙ c.as_mut_slice.ensures.value in
-    let lent = subst (λ es. AreLent s es c.in_ok-fetchers.fetchers.items) c.as_mut_slice.ensures.value
-    (c.in_ok-fetchers.ensures.fetchers s may.begun.begun) in
+    let lent_ends = kept_items c.args.ends c.as_mut_slice.ensures.value c.as_mut_slice.ensures.len c.lend_fetchers.ensures.ends in
+    let lent = rw c.as_mut_slice.ensures.value at (c.in_ok-fetchers.ensures.fetchers s may.begun.begun) in
     let end : host_at c.as_mut_slice-2.result.now k ≡ after_writes (writes_in at.script.now at.slot) k (host_at ends k) =
     ap (λ xs. host_at xs k) c.as_mut_slice-2.ensures.value ∙ wrote.written.ends k
     ∙ (λ i. after_writes (c.requires.places i) k (host_at (lent_ends i) k)) in
     let there : k < length ends =
     omega (arith, near, ap length c.as_mut_slice-2.ensures.value, ap length lent_ends, wrote.written.count) in
-    subst (λ (e : HostState). ForSome (get_or tried k None) (MaySettle e (plan_at at.list.now k).payload)) (sym end)
+    rw end
     (may_settle may.ends_count may.begun tried (writes_in at.script.now at.slot) lent wrote.fetches k there)
 
 pub returns : goal.returns
@@ -76,8 +71,7 @@ returns g c =
     let wrote = c.write_and_fetch-ends.ensures in
     let ends = c.args.ends.items in
     let tried = c.write_and_fetch-ends.result.2.items in
-    let lent_ends = with_items_is c.args.ends _ (ap length c.lend_fetchers.ensures.ends ∙ c.as_mut_slice.ensures.len)
-    ∙ c.lend_fetchers.ensures.ends ∙ c.as_mut_slice.ensures.value in
+    let lent_ends = kept_items c.args.ends c.as_mut_slice.ensures.value c.as_mut_slice.ensures.len c.lend_fetchers.ensures.ends in
     let bytes = more_bytes at may.bytes (subst (All WritesBytes) c.requires.places wrote.written.bytes) in
     let after = with_items_is c.write_and_fetch-ends.result.0 c.settle_fetchers.new.ends
     (omega (
@@ -100,14 +94,13 @@ returns g c =
           ∙ lines_shown may.ends_count may.begun;
       chooses = λ numbers begun.
           let s = next_slot at.list.now at.script.now numbers in
-          let lent = subst (λ es. AreLent s es c.in_ok-fetchers.fetchers.items) c.as_mut_slice.ensures.value
-          (c.in_ok-fetchers.ensures.fetchers s begun.begun) in
-          subst (HaveChosen at.list.now at.script.now numbers c.settle_fetchers.new.chosen) (sym after)
+          let lent = rw c.as_mut_slice.ensures.value at (c.in_ok-fetchers.ensures.fetchers s begun.begun) in
+          rw after
           (have_chosen may.ends_count begun c.args.chosen.now bytes
           (λ k node. record {
             tried = get_or tried k None;
-            fetches = subst (λ f. Fetches f (get_or tried k None)) (lent.each k (omega (arith, node, may.ends_count)))
-                (wrote.fetches.each k (omega (arith, node, may.ends_count, lent.count)));
+            fetches = rw (lent.each k (omega (arith, node, may.ends_count)))
+                at (wrote.fetches.each k (omega (arith, node, may.ends_count, lent.count)));
             settles =
                 rw (← (ap (λ xs. host_at xs k) c.as_mut_slice-2.ensures.value ∙ wrote.written.ends k
                 ∙ (λ i. after_writes (c.requires.places i) k (host_at (lent_ends i) k))))

@@ -1,5 +1,5 @@
 use Rattle.cluster_run.proofs.Words.{refl}
-use Rattle.cluster_run.proofs.Halves.{parts_of, front_ready, back_ready, both_ended}
+use Rattle.cluster_run.proofs.SlotParts.{parts_of, front_ready, back_ready, both_ended}
 use Rattle.cluster_run.proofs.ending.end_halves.Goals as goal
 
 pub end_both-requires-clause-front : goal.end_both-requires-clause-front

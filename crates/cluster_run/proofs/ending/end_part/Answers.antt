@@ -1,7 +1,6 @@
 use Rattle.cluster_run.proofs.Words.{◌≡◌, ◌<◌, [], length, get_or, refl, sym, ap, ◌∙◌, arith, length-map, Seat}
 use Rattle.cluster_run.proofs.Words.{no_outcome, outcomes_of, Desk, handed_on, number_handed, outcome_of, end_at}
-use Rattle.cluster_run.proofs.Words.{desk_ends, at_any, slice_get_read}
-use Rattle.std.proofs.Math.ListN.{get_or-map}
+use Rattle.cluster_run.proofs.Words.{desk_ends, at_any, slice_get_read, get_or-map}
 use Rattle.cluster_run.proofs.HandingOn.{handed_more, have_handed_on, no_desk}
 use Rattle.cluster_run.proofs.ending.end_part.Goals as goal
 

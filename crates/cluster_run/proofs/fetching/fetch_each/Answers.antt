@@ -1,7 +1,7 @@
 use Rattle.cluster_run.proofs.Words.{◌<◌, length, None, subst, sym, ◌∙◌, arith, IsSome, slice_get-get_or, is_loaded}
 use Rattle.cluster_run.proofs.Words.{each-of, at_any, payload_few, MaySettleAfter}
 use Rattle.cluster_run.proofs.Changes.{both_more}
-use Rattle.cluster_run.proofs.Settling.{plan_there}
+use Rattle.cluster_run.proofs.Sends.{plan_there}
 use Rattle.cluster_run.proofs.fetching.fetch_each.Goals as goal
 
 pub fetch_for-requires-clause-ring : goal.fetch_for-requires-clause-ring

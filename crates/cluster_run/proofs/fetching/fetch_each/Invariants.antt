@@ -1,4 +1,4 @@
-use Rattle.cluster_run.proofs.Alone.{HaveFetched}
+use Rattle.cluster_run.proofs.Sends.{HaveFetched}
 use Rattle.cluster_run.proofs.fetching.fetch_each.Given as goal
 
 abbrev pub invariant-loop-k : goal.invariant-loop-k

@@ -1,4 +1,4 @@
-use Rattle.cluster_run.proofs.Words.{◌≡◌, sym, subst, ◌∙◌, ForSome, IsSettled, settled, HostState, Fetches, MaySettle}
+use Rattle.cluster_run.proofs.Words.{sym, ◌∙◌, settled}
 use Rattle.cluster_run.proofs.Sends.{lent_may}
 use Rattle.cluster_run.proofs.fetching.fetch_for.Goals as goal
 
@@ -8,21 +8,18 @@ fetch_one-requires-clause-fetcher g c κs within = λ f is.
 
 pub settle_one-requires-clause-fetcher : goal.settle_one-requires-clause-fetcher
 settle_one-requires-clause-fetcher g c =
-    subst (λ (e : HostState). ForSome c.fetch_one.new.fetcher (MaySettle e c.args.len)) (sym c.lend_one.ensures.end)
-    (c.requires.may c.fetch_one.new.fetcher
-    (subst (λ o. Fetches o c.fetch_one.new.fetcher) c.in_ok-fetcher.ensures.fetcher c.fetch_one.ensures.fetches))
+    rw c.lend_one.ensures.end
+    (c.requires.may c.fetch_one.new.fetcher (rw c.in_ok-fetcher.ensures.fetcher at c.fetch_one.ensures.fetches))
 
 pub returns : goal.returns
 returns g c =
-    let tried = c.fetch_one.new.fetcher in
     record {
       fetches = record {
-        tried = tried;
-        fetches = subst (λ o. Fetches o tried) c.in_ok-fetcher.ensures.fetcher c.fetch_one.ensures.fetches;
+        tried = c.fetch_one.new.fetcher;
+        fetches = rw c.in_ok-fetcher.ensures.fetcher at c.fetch_one.ensures.fetches;
         settles = record {
-          whole = subst (λ (e : HostState). IsSettled e tried) c.lend_one.ensures.end c.settle_one.ensures.whole;
-          settled_is = subst (λ (e : HostState). c.settle_one.new.end ≡ settled e tried) c.lend_one.ensures.end
-              c.settle_one.ensures.settled;
+          whole = rw c.lend_one.ensures.end at c.settle_one.ensures.whole;
+          settled_is = rw c.lend_one.ensures.end at c.settle_one.ensures.settled;
           choice_is = c.settle_one.ensures.chosen;
         };
       };

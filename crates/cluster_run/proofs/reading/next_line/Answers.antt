@@ -1,7 +1,7 @@
 use Rattle.cluster_run.proofs.Words.{◌<◌, [], length, get_or, ◌∙◌, arith, into_iter_items, into_iter_len}
 use Rattle.std.proofs.lemmas.List.{get_or-map}
-use Rattle.cluster_run.proofs.LineOrder.{queue_set, queue_kept, if_none}
-use Rattle.host_port.proofs.LineQueues.{if_taken as if_first}
+use Rattle.cluster_run.proofs.LineOrder.{if_none}
+use Rattle.host_port.proofs.LineQueues.{if_taken as if_first, queue_after, queue_other}
 use Rattle.cluster_run.proofs.reading.next_line.Goals as goal
 
 pub returns-clause-none : goal.returns-clause-none
@@ -21,9 +21,9 @@ returns-clause-first c =
     let within : k < length queues = omega (arith, c.requires, c.from.ensures) in
     rw (← c.from.ensures)
     (if_first c.next.result _ _ _ _ (get_or-map into_iter_items queues k c.index-queues-from.result [] within)
-    (queue_set into_iter_items queues k c.next.new.self within) c.next.ensures.items)
+    (queue_after into_iter_items queues k c.next.new.self within) c.next.ensures.items)
 
 pub returns-clause-others : goal.returns-clause-others
 returns-clause-others c = λ other apart.
-    queue_kept into_iter_items c.args.queues.now c.from.result other c.next.new.self
+    queue_other into_iter_items c.args.queues.now c.from.result other c.next.new.self
     (λ same. apart (same ∙ c.from.ensures))

@@ -1,6 +1,6 @@
 use Rattle.cluster_run.proofs.Words.{map, ap, ◌∙◌, arith, length-map, into_iter_items, Desk, read_of, lines_by}
 use Rattle.cluster_run.proofs.Words.{queue_of}
-use Rattle.cluster_run.proofs.ReadLines.{lines_of_all}
+use Rattle.cluster_run.proofs.LineOrder.{lines_of_all}
 use Rattle.cluster_run.proofs.reading.read_lines.Goals as goal
 
 pub returns-clause-lines : goal.returns-clause-lines

@@ -1,11 +1,11 @@
-use Rattle.cluster_run.proofs.Words.{sym, ◌∙◌, subst, SettlesReadsOf}
+use Rattle.cluster_run.proofs.Words.{◌∙◌}
 use Rattle.cluster_run.proofs.SettledReaders.{settles_readers, lines_queued}
 use Rattle.cluster_run.proofs.reading.settle_one.Goals as goal
 
 pub returns-clause-settles : goal.returns-clause-settles
 returns-clause-settles c =
     let ok = c.in_ok-settle_reads.ensures in
-    subst (λ o. SettlesReadsOf c.args.end.now o c.settle_reads.new.self) (sym c.in-Some.is)
+    rw c.in-Some.is
     (settles_readers c.args.end.now c.settle_reads.new.self c.in-Some.readers ok.whole ok.joined)
 
 pub returns-clause-lines : goal.returns-clause-lines

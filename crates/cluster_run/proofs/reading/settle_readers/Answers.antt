@@ -1,12 +1,11 @@
 use Rattle.cluster_run.proofs.Words.{◌≡◌, ◌<◌, ◌∷◌, [], None, length, map, get_or, sym, ap, ◌∙◌, subst, arith}
 use Rattle.cluster_run.proofs.Words.{into_iter_items, length-map, map-append, AreReadersOfEnd, ControllerState, Desk}
-use Rattle.cluster_run.proofs.Words.{desk_ends, end_at, AreLinesBy, SettlesReadsOf, at_any}
-use Rattle.std.proofs.Math.ListN.{get_or-map}
+use Rattle.cluster_run.proofs.Words.{desk_ends, end_at, readers_at, AreLinesBy, SettlesReadsOf, at_any, get_or-map}
 use Rattle.std.proofs.lemmas.List.{length-append}
-use Rattle.cluster_run.proofs.Changes.{changed_more}
+use Rattle.cluster_run.proofs.Changes.{changed_more, pushed_more}
 use Rattle.cluster_run.proofs.HandingOn.{no_desk}
-use Rattle.cluster_run.proofs.Places.{read_alike}
-use Rattle.cluster_run.proofs.SettledReaders.{are_settled, queued_more}
+use Rattle.host_port.proofs.ReaderLists.{read_alike}
+use Rattle.cluster_run.proofs.SettledReaders.{are_settled}
 use Rattle.cluster_run.proofs.reading.settle_readers.Goals as goal
 
 pub settle_one-requires : goal.settle_one-requires
@@ -65,8 +64,8 @@ loop-k-preserved c =
         readers_are =
             changed_more c.index_mut.result.now c.take-own.new.self so.readers_are near c.index_mut.ensures.value tt;
         queues_are = rw queues
-            (queued_more c.args.readers.items (map into_iter_items c.loop-k.queues.items) queue so.queues_count so.queues_are
-            (subst (λ o. AreLinesBy k o queue) own ok.lines));
+            (pushed_more (λ i. AreLinesBy i (readers_at c.args.readers.items i)) [] k (map into_iter_items c.loop-k.queues.items)
+            queue so.queues_count so.queues_are (subst (λ o. AreLinesBy k o queue) own ok.lines));
         queues_count = ap length queues ∙ length-append (map into_iter_items c.loop-k.queues.items) (queue ∷ [])
             ∙ (omega (arith, so.queues_count));
       };

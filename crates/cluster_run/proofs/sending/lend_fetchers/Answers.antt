@@ -1,6 +1,6 @@
-use Rattle.cluster_run.proofs.Words.{◌≡◌, ◌<◌, ◌∷◌, [], None, length, get_or, sym, ap, ◌∙◌, subst, below_more, arith}
-use Rattle.cluster_run.proofs.Words.{IsSome, get_or_append_left, get_or_push, slice_get-get_or, is_loaded, set_back}
-use Rattle.cluster_run.proofs.Words.{each-of, host_at, fetcher_lent, at_any}
+use Rattle.cluster_run.proofs.Words.{◌≡◌, ◌<◌, None, length, get_or, sym, ap, ◌∙◌, subst, arith, IsSome}
+use Rattle.cluster_run.proofs.Words.{slice_get-get_or, is_loaded, set_back, each-of, host_at, fetcher_lent, at_any}
+use Rattle.cluster_run.proofs.Changes.{pushed_more}
 use Rattle.cluster_run.proofs.sending.lend_fetchers.Goals as goal
 
 pub lend_one-requires : goal.lend_one-requires
@@ -22,8 +22,6 @@ pub loop-k-preserved : goal.loop-k-preserved
 loop-k-preserved c =
     let k = c.loop-k.k in
     let ends = c.args.ends.now in
-    let old = c.loop-k.fetchers.items in
-    let new = c.in_ok-lend_one.field-0 in
     let within : k < length ends = omega (arith, ap length c.loop-k.invariant.ends, c.loop-k-test.true) in
     let seat = slice_get-get_or c.args.seats.now k c.index-seats-k.result (omega (arith, c.requires.seats, within)) in
     let end = ap (λ xs. get_or xs k c.index-ends-k.result) c.loop-k.invariant.ends
@@ -33,14 +31,11 @@ loop-k-preserved c =
           (c.lend_one.ensures.end ∙ sym c.index-ends-k.is) ∙ c.loop-k.invariant.ends;
       count = omega (arith, c.push_reserved.ensures.len, c.loop-k.invariant.count);
       room = c.push_reserved.ensures.capacity ∙ c.loop-k.invariant.room;
-      lent = λ s begun. below_more
-          (λ j. get_or c.push_reserved.new.self.items j None ≡ fetcher_lent (is_loaded s j) (host_at ends j)) k
-          (λ j near. ap (λ xs. get_or xs j None) c.push_reserved.ensures.items
-          ∙ get_or_append_left old (new ∷ []) None j (omega (arith, near, c.loop-k.invariant.count))
-          ∙ c.loop-k.invariant.lent s begun j near)
-          (ap (λ xs. get_or xs k None) c.push_reserved.ensures.items
-          ∙ get_or_push old new None k (omega (arith, c.loop-k.invariant.count)) ∙ c.in_ok-lend_one.ensures.fetcher
-          ∙ (λ i. fetcher_lent (c.is_loaded-loaded.ensures s k (each-of begun k seat) i) (end i)));
+      lent = λ s begun j near. ap (λ xs. get_or xs j None) c.push_reserved.ensures.items
+          ∙ pushed_more (λ j f. f ≡ fetcher_lent (is_loaded s j) (host_at ends j)) None k c.loop-k.fetchers.items
+          c.in_ok-lend_one.field-0 (omega (arith, c.loop-k.invariant.count)) (c.loop-k.invariant.lent s begun)
+          (c.in_ok-lend_one.ensures.fetcher
+          ∙ (λ i. fetcher_lent (c.is_loaded-loaded.ensures s k (each-of begun k seat) i) (end i))) j near;
     }
 
 pub returns-clause-fetchers : goal.returns-clause-fetchers

@@ -1,7 +1,7 @@
 use Rattle.cluster_run.proofs.Words.{◌≡◌, ◌<◌, length, get_or, None, subst, sym, ap, ◌∙◌, arith, plan_at, settled}
 use Rattle.cluster_run.proofs.Words.{IsSettled, HostState, MaySettle, SettlesFetch, at_any, payload_few, choice_of}
 use Rattle.cluster_run.proofs.Changes.{both_more, changed_more}
-use Rattle.cluster_run.proofs.Settling.{plan_there}
+use Rattle.cluster_run.proofs.Sends.{plan_there}
 use Rattle.cluster_run.proofs.sending.settle_fetchers.Goals as goal
 
 pub settle_one-requires-clause-limit : goal.settle_one-requires-clause-limit

@@ -2,8 +2,9 @@ use Rattle.cluster_run.proofs.Words.{◌≡◌, ◌∷◌, ◌++◌, [], take, s
 use Rattle.cluster_run.proofs.Words.{arith, All, option_map, vec_len, vec_capacity, filter_map, with_items_is}
 use Rattle.cluster_run.proofs.Words.{length-set, All-push, write_at, HostState, written, Takes, HasRoom}
 use Rattle.cluster_run.proofs.Words.{words_of_payload, host_at, WritesBytes, write_line, at_any, host_write}
-use Rattle.cluster_run.proofs.Writes.{written_more, takes_after, room_after, takes-some, takes-within, taken_some}
+use Rattle.cluster_run.proofs.Writes.{written_more, takes_after, room_after, takes-some, taken_some}
 use Rattle.cluster_run.proofs.Writes.{taken_none, taken_room, written_along}
+use Rattle.host_port.proofs.ReaderLists.{within_list}
 use Rattle.cluster_run.proofs.sending.write_all.Goals.{in-Some, in_default}
 use Rattle.cluster_run.proofs.sending.write_all.Goals as goal
 
@@ -66,7 +67,7 @@ loop-place-preserved g c =
                 (ap (λ v. v.items) w.lines-is ∙ w.push_reserved.ensures.items
                 ∙ ap (λ l. lines ++ l ∷ []) (w.write_one.ensures.line ∙ ap (λ xs. write_line xs x.host 0) value))
                 (written_more old ends (filter_map at (take i places)) lines x so
-                (takes-within ends x.host (length x.payload) there)
+                (within_list (λ e. Takes e (length x.payload)) None ends x.host (λ none. none) there)
                 (takes-some (host_at ends x.host) (length x.payload) there));
             bytes = subst (All WritesBytes) (sym (taken_some at places i place x c.loop-place-test.true here is))
                 (All-push WritesBytes (filter_map at (take i places)) x c.loop-place.invariant.bytes

@@ -1,4 +1,4 @@
-use Rattle.cluster_run.proofs.Words.{subst, ◌∙◌, with_items_is, HaveReadBy}
+use Rattle.cluster_run.proofs.Words.{◌∙◌, with_items_is}
 use Rattle.cluster_run.proofs.slot.end_with_started.Goals as goal
 
 pub end_started-requires-clause-ready : goal.end_started-requires-clause-ready
@@ -10,7 +10,5 @@ end_started-requires-clause-left g c κs within = rw c.as_mut_slice.ensures.valu
 
 pub returns-clause-read : goal.returns-clause-read
 returns-clause-read g c =
-    let new = c.end_started.new.readers in
     let readers = with_items_is c.args.readers _ (c.end_started.auto.readers ∙ c.as_mut_slice.ensures.len) in
-    rw readers
-    (subst (λ rs. HaveReadBy c.args.reads.now rs new) c.as_mut_slice.ensures.value c.end_started.ensures.read)
+    rw readers (rw c.as_mut_slice.ensures.value at c.end_started.ensures.read)

@@ -1,8 +1,6 @@
-use Rattle.cluster_run.proofs.Words.{length, refl, sym, ap, subst, ◌∙◌, arith, with_items, with_items_is, frames_in}
-use Rattle.cluster_run.proofs.Words.{world, length-world, IsPlanned, AreChosen, AreIncidents, AreSeats, most_ahead_in}
-use Rattle.cluster_run.proofs.Words.{HaveChosen, next_slot, IsBegun, Carries, HavePlanned}
+use Rattle.cluster_run.proofs.Words.{length, refl, ap, ◌∙◌, arith, with_items, with_items_is, world, length-world}
 use Rattle.controller.proofs.Payloads.{payloads-chosen}
-use Rattle.cluster_run.proofs.ChosenSizes.{chosen_sizes}
+use Rattle.cluster_run.proofs.Choices.{chosen_sizes}
 use Rattle.cluster_run.proofs.SlotParts.{has_begun, has_begun_for}
 use Rattle.cluster_run.proofs.slot.plan.Goals as goal
 
@@ -31,14 +29,12 @@ choose-requires-after_bounds g c κs within =
 pub plan_all-requires-clause-seats : goal.plan_all-requires-clause-seats
 plan_all-requires-clause-seats g c =
     let begun = with_items_is c.args.nodes.now.seats _ (c.begin_all.ensures.count ∙ c.deref_mut.ensures.len) in
-    subst (AreSeats c.args.at.now.list.now IsBegun (most_ahead_in c.args.at.now.slot) 0)
-    (sym (c.deref_mut-3.ensures.value ∙ begun)) c.begin_all.ensures.seats
+    rw (c.deref_mut-3.ensures.value ∙ begun) c.begin_all.ensures.seats
 
 pub plan_all-requires-clause-incidents : goal.plan_all-requires-clause-incidents
 plan_all-requires-clause-incidents g c =
     let begun = with_items_is c.args.nodes.now.seats _ (c.begin_all.ensures.count ∙ c.deref_mut.ensures.len) in
-    subst (AreIncidents c.args.at.now.script.now c.args.at.now.slot 0) (sym (c.deref_mut-3.ensures.value ∙ begun))
-    c.begin_all.ensures.incidents
+    rw (c.deref_mut-3.ensures.value ∙ begun) c.begin_all.ensures.incidents
 
 pub plan_all-requires-clause-chosen : goal.plan_all-requires-clause-chosen
 plan_all-requires-clause-chosen g c =
@@ -56,7 +52,7 @@ plan_all-requires-clause-chosen g c =
       c.requires.nodes.are.seats_count,
     ))
     (has_begun at (c.deref_mut-3.ensures.value ∙ begun) stands.at c.deref_mut.ensures.value c.begin_all.ensures.begin)
-    (subst (AreChosen (next_slot at.list.now at.script.now stands.numbers)) (sym (c.deref-2.ensures.value ∙ told))
+    (rw (c.deref-2.ensures.value ∙ told)
     (chosen_sizes at.valid_script
     (c.in_ok-writes.ensures.chooses stands.numbers
     (has_begun_for at (c.deref.ensures.value ∙ begun) stands.at c.deref_mut.ensures.value c.begin_all.ensures.begin))))
@@ -84,8 +80,8 @@ returns g c =
           ap length c.deref_mut.ensures.value,
           are.seats_count,
         );
-        seats = subst (AreSeats list IsPlanned (most_ahead_in at.slot) 0) (sym planned) c.plan_all.ensures.seats;
-        incidents = subst (AreIncidents script at.slot 0) (sym planned) c.plan_all.ensures.incidents;
+        seats = rw planned c.plan_all.ensures.seats;
+        incidents = rw planned c.plan_all.ensures.incidents;
         chosen = omega (arith, ap length told, c.choose.auto.chosen, ap length c.deref_mut-2.ensures.value, are.chosen);
         desks = are.desks;
         host_ends = chose.count ∙ are.host_ends;
@@ -96,18 +92,16 @@ returns g c =
       bytes = chose.bytes;
       lines_are = chose.lines_are;
       plans = λ numbers stands.
-          let s = next_slot list script numbers in
           let begun_now = has_begun at (c.deref_mut-3.ensures.value ∙ begun) stands c.deref_mut.ensures.value
           c.begin_all.ensures.begin in
           record {
-            chosen = subst (λ xs. HaveChosen list script numbers xs c.choose.new.ends.items) (sym told)
+            chosen = rw told
                 (chose.chooses numbers
                 (has_begun_for at (c.deref.ensures.value ∙ begun) stands c.deref_mut.ensures.value
                 c.begin_all.ensures.begin));
-            planned = subst (HavePlanned s (with_items nodes.chosen c.choose.new.chosen).items 0) (sym planned)
-                (subst (λ xs. HavePlanned s xs 0 c.plan_all.new.seats) c.deref-2.ensures.value
-                (c.plan_all.ensures.plan (world list script numbers) begun_now));
-            carries = subst (λ xs. Carries s (frames_in s xs) c.plan_all.new.medium) c.deref-2.ensures.value
+            planned = rw (planned, ← c.deref-2.ensures.value)
+                (c.plan_all.ensures.plan (world list script numbers) begun_now);
+            carries = rw (← c.deref-2.ensures.value)
                 (c.plan_all.ensures.carries (world list script numbers)
                 (length-world list script numbers ∙ stands.count) begun_now);
           };

@@ -1,6 +1,5 @@
 use Rattle.cluster_run.proofs.Words.{map, sym, ap, subst, ◌∙◌, length, below, desk_numbers, HaveEndedSlot, node_shown}
-use Rattle.cluster_run.proofs.SlotReads.{TakenSlot, row as row_taken, before as world_before}
-use Rattle.cluster_run.proofs.SlotSteps.{has_ended, is_next}
+use Rattle.cluster_run.proofs.SlotSteps.{TakenSlot, row as row_taken, before as world_before, has_ended, is_next}
 use Rattle.cluster_run.proofs.slot.slot_of.Goals as goal
 
 pub returns-clause-steps : goal.returns-clause-steps

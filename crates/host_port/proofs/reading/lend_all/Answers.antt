@@ -21,8 +21,7 @@ loop-place-preserved c =
     let new : c.in_ok-lend_one.field-0 ≡ lent (get_or before place None) (reads_at reads node place) =
     c.in_ok-lend_one.ensures.reader ∙ (λ k. lent ((sym writer ∙ here) k) (c.reads_at-count.ensures k)) in
     record {
-      writers =
-          set_back writers place c.index-writers-place.result c.lend_one.new.writer writer (cc)
+      writers = set_back writers place c.index-writers-place.result c.lend_one.new.writer writer (cc)
           ∙ c.loop-place.invariant.writers;
       readers = c.push_reserved.ensures.items ∙ ((λ k. c.loop-place.invariant.readers k ++ new k ∷ []) ∙ sym next);
       count = omega (arith, c.push_reserved.ensures.len);

@@ -5,8 +5,8 @@ use Rattle.ttp_world.specs.declared.script.Source.TheVariants.{Status}
 use Rattle.host_port.specs.declared.report.ReadLine.{ReadLine}
 use Rattle.std.specs.Vec.Iter.{into_iter_items}
 use Rattle.host_port.proofs.LineQueues.{next_some, lined_more}
-use Rattle.host_port.proofs.settling.lines_of.Goals as goal
 use Rattle.host_port.proofs.settling.lines_of.Goals.{in-Some, in_default}
+use Rattle.host_port.proofs.settling.lines_of.Goals as goal
 
 pub next_pair-requires : goal.next_pair-requires
 next_pair-requires c =
@@ -32,7 +32,7 @@ loop-source-preserved c =
           let line : ReadLine = record { host = c.args.host; source = from; pair = w.in-Some.pair } in
           let first = w.in-Some.ensures.first in
           let lined =
-          lined_more calls whole before after c.args.host i c.loop-source.lines.items line c.loop-source.invariant.lined
+          lined_more {whole = whole} {before = before} {after = after} line c.loop-source.invariant.lined
           c.loop-source-test.true here refl (rw c.place_of.ensures at first)
           (λ other apart. w.in-Some.ensures.others other (λ same. apart (same ∙ c.place_of.ensures))) in
           record {

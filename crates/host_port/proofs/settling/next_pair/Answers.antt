@@ -8,8 +8,7 @@ returns-clause-some c =
     let queues = c.args.queues.now.items in
     let queue = c.index_mut-queue.result.now in
     let within = queue_within into_iter_items queues c.args.place c.requires in
-    let same =
-    queue_before into_iter_items queues c.args.place queue within c.index_mut-queue.ensures.value in
+    let same = queue_before into_iter_items queues c.args.place queue within c.index_mut-queue.ensures.value in
     let long : into_iter_len queue ≡ length (into_iter_items queue) = queue.rest.ok.0 in
     c.next.ensures.variant.1 (omega (arith, c.requires, ap length same))
 

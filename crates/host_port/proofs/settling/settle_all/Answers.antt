@@ -2,14 +2,12 @@ use Rattle.std.proofs.Common.{◌++◌, ◌∷◌, [], None, inl, map, take, ref
 use Rattle.std.proofs.lemmas.List.{map-append, map_more, get_or-set_other, length-set}
 use Rattle.std.specs.Vec.Iter.{into_iter_items}
 use Rattle.host_port.specs.Reading.{settled, got_of}
-use Rattle.host_port.proofs.ReaderLists.{ring_written, rings_kept, settled_rings}
-use Rattle.host_port.proofs.SettledRings.{all_settled-none, is_next, next_writer, next_settled, settled_next}
-use Rattle.host_port.proofs.SettledRings.{same_ring, settled_along, on_err}
+use Rattle.host_port.proofs.ReaderLists.{read_alike, ring_written, settled_rings, all_settled-none, is_next}
+use Rattle.host_port.proofs.ReaderLists.{next_writer, next_settled, settled_next, same_ring, settled_along, on_err}
 use Rattle.host_port.proofs.settling.settle_all.Goals as goal
 
 pub returns-in_err-queues-clause-err : goal.returns-in_err-queues-clause-err
-returns-in_err-queues-clause-err c =
-    on_err c.from_residual.result
+returns-in_err-queues-clause-err c = on_err c.from_residual.result
     (record { count = 0; settled_so = sym (all_settled-none c.args.writers.now); wanted = inl refl })
 
 pub loop-place-init : goal.loop-place-init
@@ -25,54 +23,47 @@ loop-place-init c = record {
 
 pub settle_one-requires : goal.settle_one-requires
 settle_one-requires c =
+    let so = c.loop-place.invariant in
     let next =
-    is_next c.args.writers.now c.loop-place.writers c.args.readers.items c.loop-place.readers.items c.loop-place.place
-    c.index-writers-place.result c.index_mut.result.now c.loop-place-test.true c.requires
-    c.loop-place.invariant.settled_so c.loop-place.invariant.lengths c.loop-place.invariant.readers
-    c.index-writers-place.is c.index_mut.ensures.value in
+    is_next {ws = c.args.writers.now} {rs = c.args.readers.items} c.loop-place.readers.items c.loop-place-test.true
+    c.requires so.settled_so so.lengths so.readers c.index-writers-place.is c.index_mut.ensures.value in
     rw (c.take-reader.ensures.value, ← c.index-writers-place.is) (same_ring next c.requires)
 
 pub loop-place-preserved : goal.loop-place-preserved
 loop-place-preserved c =
+    let so = c.loop-place.invariant in
     let next =
-    is_next c.args.writers.now c.loop-place.writers c.args.readers.items c.loop-place.readers.items c.loop-place.place
-    c.index-writers-place.result c.index_mut.result.now c.loop-place-test.true c.requires
-    c.loop-place.invariant.settled_so c.loop-place.invariant.lengths c.loop-place.invariant.readers
-    c.index-writers-place.is c.index_mut.ensures.value in
+    is_next {ws = c.args.writers.now} {rs = c.args.readers.items} c.loop-place.readers.items c.loop-place-test.true
+    c.requires so.settled_so so.lengths so.readers c.index-writers-place.is c.index_mut.ensures.value in
     let rs = c.args.readers.items in
     let place = c.loop-place.place in
     let writer = sym c.index-writers-place.is in
     let reader = c.take-reader.ensures.value in
     let queue = c.in_ok-settle_one.ensures.pairs ∙ ap got_of (reader ∙ next.reader_is) in
     record {
-      settled_so =
-          next_settled next c.settle_one.new.writer
+      settled_so = next_settled next c.settle_one.new.writer
           (c.in_ok-settle_one.ensures.settled ∙ (λ k. settled (writer k) (reader k)));
-      pairs =
-          ap (map into_iter_items) c.push_reserved.ensures.items
+      pairs = ap (map into_iter_items) c.push_reserved.ensures.items
           ∙ (map-append into_iter_items c.loop-place.queues.items (c.in_ok-settle_one.field-0 ∷ [])
-          ∙ ((λ k. c.loop-place.invariant.pairs k ++ queue k ∷ []) ∙ sym (map_more got_of rs place None next.readers)));
-      whole =
-          settled_next c.args.writers.now rs place c.index-writers-place.result c.index_mut.result.now
-          (next_writer next) next.reader_is (settled_along writer reader c.in_ok-settle_one.ensures.whole)
-          c.loop-place.invariant.whole;
+          ∙ ((λ k. so.pairs k ++ queue k ∷ []) ∙ sym (map_more got_of rs place None next.readers)));
+      whole = settled_next c.args.writers.now rs place c.index-writers-place.result c.index_mut.result.now
+          (next_writer next) next.reader_is (settled_along writer reader c.in_ok-settle_one.ensures.whole) so.whole;
       readers = λ i far.
           get_or-set_other c.loop-place.readers.items place i c.take-reader.new.self None (λ same. absurd (omega arith))
-          ∙ c.loop-place.invariant.readers i (omega arith);
-      lengths = length-set c.loop-place.readers.items place c.take-reader.new.self ∙ c.loop-place.invariant.lengths;
+          ∙ so.readers i (omega arith);
+      lengths = length-set c.loop-place.readers.items place c.take-reader.new.self ∙ so.lengths;
       count = omega (arith, c.push_reserved.ensures.len);
-      room = c.push_reserved.ensures.capacity ∙ c.loop-place.invariant.room;
+      room = c.push_reserved.ensures.capacity ∙ so.room;
     }
 
 pub returns-clause-own : goal.returns-clause-own
-returns-clause-own c =
-    ap (map ring_written) c.loop-place.invariant.settled_so
+returns-clause-own c = ap (map ring_written) c.loop-place.invariant.settled_so
     ∙ settled_rings c.args.writers.now (take c.loop-place.place c.args.readers.items)
 
 pub returns-in_err-settle_one-clause-own : goal.returns-in_err-settle_one-clause-own
 returns-in_err-settle_one-clause-own c =
     let slot = c.index-writers-place in
-    rings_kept ring_written c.loop-place.writers c.loop-place.place slot.result c.settle_one.new.writer slot.is
+    read_alike ring_written c.loop-place.writers c.loop-place.place slot.result c.settle_one.new.writer slot.is
     (ap ring_written (c.in_err-settle_one.ensures.err ∙ sym slot.is))
     ∙ (ap (map ring_written) c.loop-place.invariant.settled_so
     ∙ settled_rings c.args.writers.now (take c.loop-place.place c.args.readers.items))

@@ -3,12 +3,10 @@ use Rattle.host_port.proofs.PayloadWords.{number_in-more, number-below, number-f
 use Rattle.host_port.proofs.words.last_word.Goals as goal
 
 pub overflow_mul-word : goal.overflow_mul-word
-overflow_mul-word c =
-    omega (arith, number-fits c.loop-j.word c.loop-j.j c.loop-j.invariant.1 (omega arith))
+overflow_mul-word c = omega (arith, number-fits c.loop-j.word c.loop-j.j c.loop-j.invariant.1 (omega arith))
 
 pub overflow_add-word : goal.overflow_add-word
-overflow_add-word c =
-    omega (arith, number-fits c.loop-j.word c.loop-j.j c.loop-j.invariant.1 (omega arith))
+overflow_add-word c = omega (arith, number-fits c.loop-j.word c.loop-j.j c.loop-j.invariant.1 (omega arith))
 
 pub loop-j-preserved : goal.loop-j-preserved
 loop-j-preserved c =

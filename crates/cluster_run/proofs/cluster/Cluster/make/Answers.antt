@@ -1,6 +1,6 @@
 use Rattle.cluster_run.proofs.Words.{refl, subst, arith, same_Some}
 use Rattle.cluster_run.specs.Clusters.{AreClusterNodes}
-use Rattle.cluster_run.proofs.NewClusters.{new_bytes, new_nodes, new_stands}
+use Rattle.cluster_run.proofs.NewNodes.{new_bytes, new_nodes, new_stands}
 use Rattle.cluster_run.proofs.cluster.Cluster.make.Goals as goal
 
 pub invariant_of-result : goal.invariant_of-result

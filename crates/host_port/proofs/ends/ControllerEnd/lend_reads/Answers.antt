@@ -17,8 +17,7 @@ invariant_of-result c =
             c.in-Some.ensures,
             ap (sum_by spare_of) c.as_slice.ensures.value,
           );
-      counts = λ place.
-          ap (calls_at place) c.in_ok-calls.ensures.items
+      counts = λ place. ap (calls_at place) c.in_ok-calls.ensures.items
           ∙ sym (ap (λ rs. length (got_of (get_or rs place None))) readers
           ∙ ap length (all_lent-got c.args.reads.now c.args.node c.as_mut_slice.result.now place));
     }
@@ -36,6 +35,5 @@ returns-clause-readers c =
     ∙ ap (λ ws. lent (get_or ws place None) (reads_at reads node place)) shown)
 
 pub returns-clause-own : goal.returns-clause-own
-returns-clause-own c =
-    rw (c.in_ok-readers.ensures.readers, ← c.self.view_is, ← c.as_mut_slice.ensures.value)
+returns-clause-own c = rw (c.in_ok-readers.ensures.readers, ← c.self.view_is, ← c.as_mut_slice.ensures.value)
     (all_lent-rings c.args.reads.now c.args.node 0 c.as_mut_slice.result.now)

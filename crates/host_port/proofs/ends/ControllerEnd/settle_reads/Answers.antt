@@ -3,19 +3,17 @@ use Rattle.host_port.specs.Reading.{ReadersState, got_of, pairs_from}
 use Rattle.host_port.specs.Rings.{place_of}
 use Rattle.host_port.specs.Queues.{calls_at, queue_at}
 use Rattle.host_port.proofs.LineQueues.{queue_of}
-use Rattle.host_port.proofs.SettledRings.{all_settled-none, on_err}
+use Rattle.host_port.proofs.ReaderLists.{all_settled-none, on_err}
 use Rattle.host_port.proofs.ends.ControllerEnd.settle_reads.Goals as goal
 
 pub returns-in_err-lines-clause-err : goal.returns-in_err-lines-clause-err
-returns-in_err-lines-clause-err c =
-    on_err c.from_residual.result
+returns-in_err-lines-clause-err c = on_err c.from_residual.result
     (record { count = 0; settled_so = sym (all_settled-none c.args.self.now); wanted = inl refl })
 
 pub lines_of-lines-requires-clause-queued : goal.lines_of-lines-requires-clause-queued
 lines_of-lines-requires-clause-queued c =
     let readers = c.r.inside.readers.items in
-    λ place.
-    ap (calls_at place) c.as_slice.ensures.value
+    λ place. ap (calls_at place) c.as_slice.ensures.value
     ∙ (c.r.invariant.counts place
     ∙ sym (ap length (ap (λ qs. queue_at qs place) c.in_ok-queues.ensures.pairs ∙ queue_of readers place)))
 

@@ -5,8 +5,7 @@ use Rattle.host_port.proofs.ReaderLists.{buffers_there}
 use Rattle.host_port.proofs.port.Port.host_read.Goals as goal
 
 pub returns-clause-own : goal.returns-clause-own
-returns-clause-own g c =
-    subst (AreTheirRings c.args.self.now.incoming) (sym c.read.ensures.rings) c.requires.own
+returns-clause-own g c = subst (AreTheirRings c.args.self.now.incoming) (sym c.read.ensures.rings) c.requires.own
 
 pub returns-clause-reads : goal.returns-clause-reads
 returns-clause-reads g c =

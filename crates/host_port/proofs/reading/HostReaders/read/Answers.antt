@@ -17,12 +17,10 @@ returns-else-read_one-clause-rings g c =
 
 pub returns-then-read_one-clause-reads : goal.returns-then-read_one-clause-reads
 returns-then-read_one-clause-reads g c =
-    reads_there c.args.self.now.readers c.self.inside.readers.items c.args.source c.place_of-place.result
-    c.index_mut.result.now c.read_one.new.reader (ap (λ (r : ReadersState). r.readers) c.self.view_is)
+    reads_there c.args.source c.read_one.new.reader (ap (λ (r : ReadersState). r.readers) c.self.view_is)
     c.place_of-place.ensures c.index_mut.ensures.value c.requires.left c.read_one.ensures.reads
 
 pub returns-else-read_one-clause-reads : goal.returns-else-read_one-clause-reads
 returns-else-read_one-clause-reads g c =
-    reads_there c.args.self.now.readers c.self.inside.readers.items c.args.source c.place_of-place.result
-    c.index_mut.result.now c.read_one.new.reader (ap (λ (r : ReadersState). r.readers) c.self.view_is)
+    reads_there c.args.source c.read_one.new.reader (ap (λ (r : ReadersState). r.readers) c.self.view_is)
     c.place_of-place.ensures c.index_mut.ensures.value c.requires.left c.read_one.ensures.reads
