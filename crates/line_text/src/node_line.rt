@@ -273,6 +273,7 @@ fn put_gone(line: &mut Line, list: &Medl)
 
 // Adds what a line shows between the node's number and its counts. Where the node judged the slot, it is
 // formed only if it is not what the line before showed, and of a node that is off or gone it is a text.
+#[inline(always)]
 fn put_state(
     line: &mut Line,
     told: &mut Told,
@@ -326,7 +327,8 @@ fn put_head(line: &mut Line, slot: u32)
     line.put_text(" node ");
 }
 
-// Adds what a line shows behind the accepted frames.
+// Adds what a line shows behind the accepted frames. It stands apart, since most lines end in a text.
+#[inline(never)]
 #[tactic(auto, using(ttp_base::proofs::Room::room))]
 fn put_any_end(line: &mut Line, state: &NodeState)
     requires { length line.old + 130 ≤ 640 }
@@ -352,6 +354,7 @@ fn put_closed(line: &mut Line)
 }
 
 // The same as `put_any_end` where that holds.
+#[inline(always)]
 #[tactic(auto, using(ttp_base::proofs::Room::room))]
 fn put_closed_end(line: &mut Line, offset: i64)
     requires { length line.old + 130 ≤ 640 }
@@ -363,6 +366,7 @@ fn put_closed_end(line: &mut Line, offset: i64)
 }
 
 // The same, by a text for the cases that are by far the most frequent.
+#[inline(always)]
 #[tactic(auto, using(ttp_base::proofs::Room::room, std::proofs::lemmas::Fmt::decimal_digit))]
 fn put_end(line: &mut Line, state: &NodeState)
     requires { length line.old + 130 ≤ 640 }
