@@ -1,5 +1,4 @@
 pub mod Tables
 pub mod Counts
 pub mod Lines
-pub mod Microticks
 pub mod Valid

@@ -2,14 +2,13 @@
 use Rattle.std.proofs.Common.{◌≡◌, ◌&&◌, true, ℕ, ◌+◌, ◌<◌, List, [], ◌∷◌, ◌++◌, length, get_or, drop, String, Global}
 use Rattle.std.proofs.Common.{string_bytes, refl, ap, sym, ◌∙◌}
 use Rattle.std.specs.Option.{is_some}
-use Rattle.std.specs.List.{list_all, AllByRecursion}
+use Rattle.std.specs.List.{list_all}
 use Rattle.std.specs.Map.{keys_of}
 use Rattle.toml.specs.Data.{as_table}
 use Rattle.toml.specs.View.{view, items_view, members_view}
 use Rattle.toml.specs.declared.value.Value.{Value}
 use Rattle.toml.proofs.Views.{items_view-drop}
 use Rattle.ttp_world.specs.declared.medl.SlotPlan.{SlotPlan}
-use Rattle.ttp_world.specs.Medl.{IsValidSlot}
 use Rattle.medl_text.specs.declared.error.FieldName.{FieldName}
 use Rattle.medl_text.specs.ListFile.{are_tables, tables_of, slots_faults, plans_of, is_among, has_only}
 
@@ -33,4 +32,3 @@ pub record AreRead (rounds modes : ℕ) (vs : List Value) (plans : List SlotPlan
       ≡ slots_faults rounds modes k (tables_of (items_view (drop k vs)))
   pub values : plans_of modes 0 (tables_of (items_view vs))
       ≡ plans ++ plans_of modes k (tables_of (items_view (drop k vs)))
-  pub valid : AllByRecursion (IsValidSlot rounds modes) plans

@@ -1,8 +1,8 @@
 -- A list that the bytes of a file say is valid.
 use Rattle.std.proofs.Common.{◌≡◌, ℕ, zero, suc, ◌<◌, ◌≤◌, Bool, true, false, List, [], ◌∷◌, ◌++◌, length, refl, ◌∙◌}
-use Rattle.std.proofs.Common.{Option, Some, None, Ok, subst, arith}
+use Rattle.std.proofs.Common.{Option, Some, None, Result, Ok, Err, sym, subst, arith}
 use Rattle.std.specs.Prelude.{ℤ, pos, negsuc, ◌^◌, ◌==◌, ◌&&◌, nat_le, map, count_by, unwrap_or, option_and_then}
-use Rattle.std.specs.Prelude.{IsTrue, if◌then◌else◌}
+use Rattle.std.specs.Prelude.{IfOk, IsTrue, if◌then◌else◌}
 use Rattle.std.specs.List.{list_all, AllByRecursion}
 use Rattle.std.proofs.Math.Nat.{pow-succ'}
 use Rattle.std.proofs.Math.Pow.{pow-sub-lt}
@@ -237,6 +237,12 @@ list_valid file none =
       slots = slots_valid (number_at (at_top names.Rounds) file) (modes_in file) 0 tables slots.0;
       sync = sync_right (plans_of (modes_in file) 0 tables) unknown.1;
     }
+
+-- so is what was read of a file
+pub read_valid : (read : Result Medl MedlError) (file : Members) → IfOk read (λ list. file_faults file ≡ [])
+    → IfOk read (λ list. list ≡ list_in file) → IfOk read IsValid
+read_valid (Ok list) file none is = subst IsValid (sym is) (list_valid file none)
+read_valid (Err e) file none is = tt
 
 taken_valid : (faults : List MedlError) (list medl : Medl) → (faults ≡ [] → IsValid list)
     → list_unless faults list ≡ Ok medl → IsValid medl

@@ -1,9 +1,8 @@
 //! From the bytes of a file to the list.
 ghost use Rattle.std.specs.Prelude.{◌≡◌, ◌⊎◌, ◌≤◌, true, [], length, count_by, Some, None, Err, IfOk, IfErr, OnOk};
-ghost use Rattle.std.specs.List.{AllByRecursion};
 ghost use Rattle.toml.specs.View.{table_view, items_view};
 ghost use Rattle.ttp_base.specs.Faults.{first_fault};
-ghost use Rattle.ttp_world.specs.Medl.{IsValid, IsValidSlot};
+ghost use Rattle.ttp_world.specs.Medl.{IsValid};
 ghost use Rattle.medl_text.specs.Fault.{IsFirst};
 ghost use Rattle.medl_text.specs.ListFile.{are_tables, tables_of, slots_in, modes_faults, modes_in, slot_limit};
 ghost use Rattle.medl_text.specs.ListFile.{count_faults, slots_faults, plans_of, unknown_in_slots, unknown_faults};
@@ -51,7 +50,6 @@ fn slots_of(
     requires count { length elements.now ≤ 24 }
     ensures ok { IfOk result (λ plans. slots_faults rounds modes 0 (tables_of (items_view elements.now)) ≡ []) }
     ensures value { IfOk result (λ plans. plans ≡ plans_of modes 0 (tables_of (items_view elements.now))) }
-    ensures valid { IfOk result (AllByRecursion (IsValidSlot rounds modes)) }
     ensures err { IfErr result (λ e. IsFirst e (slots_faults rounds modes 0 (tables_of (items_view elements.now)))) }
 {
     let mut plans = List::new(alloc);
@@ -144,7 +142,6 @@ fn sync_count(plans: &[SlotPlan]) -> usize
 fn measurable(plans: &[SlotPlan]) -> Result<(), MedlError>
     requires { length plans.now ≤ 24 }
     ensures ok { OnOk result (sync_faults plans.now ≡ []) }
-    ensures sync { OnOk result (4 ≤ count_by (λ plan. plan.sync) plans.now) }
     ensures err { IfErr result (λ e. first_fault (sync_faults plans.now) ≡ Some e) }
 {
     let found = sync_count(plans);
@@ -158,7 +155,6 @@ fn measurable(plans: &[SlotPlan]) -> Result<(), MedlError>
 fn list_in(alloc: Global, file: &Table) -> Result<Medl, MedlError>
     ensures ok { IfOk result (λ list. file_faults (table_view file.now) ≡ []) }
     ensures value { IfOk result (λ list. list ≡ list_in (table_view file.now)) }
-    ensures valid { IfOk result IsValid }
     ensures err { IfErr result (λ e. IsFirst e (file_faults (table_view file.now))) }
 {
     let version = number(file, at_top(FieldName::Version), 1, 2)? as u8;

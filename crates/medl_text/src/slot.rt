@@ -1,9 +1,9 @@
 //! What a slot says: its kinds of frame, its payload, and the modes that it asks for and is live in.
-ghost use Rattle.std.specs.Prelude.{◌≡◌, ◌<◌, ◌≤◌, ◌^◌, [], length, map, Some, IsTrue, SomeIff, IfOk, IfErr};
+ghost use Rattle.std.specs.Prelude.{◌≡◌, ◌≤◌, [], length, map, Some, IsTrue, SomeIff, IfOk, IfErr};
 ghost use Rattle.std.specs.List.{list_all};
 ghost use Rattle.toml.specs.View.{table_view};
 ghost use Rattle.ttp_base.specs.Faults.{first_fault};
-ghost use Rattle.ttp_world.specs.Medl.{IsValidSlot, is_bare};
+ghost use Rattle.ttp_world.specs.Medl.{is_bare};
 ghost use Rattle.medl_text.specs.declared.error.FieldName.TheVariants as names;
 ghost use Rattle.medl_text.specs.Fault.{IsFirst};
 ghost use Rattle.medl_text.specs.ListFile.{at_slot, flag_at, is_kind, kind_of, letters_faults, kinds_faults};
@@ -32,7 +32,6 @@ fn kind_of(letter: u8) -> Option<Kind>
 fn kinds_of(alloc: Global, k: u8, rounds: u8, letters: &[u8]) -> Result<List<Kind>, MedlError>
     ensures ok { IfOk result (λ kinds. letters_faults rounds k letters.now ≡ []) }
     ensures value { IfOk result (λ kinds. kinds ≡ map kind_of letters.now) }
-    ensures count { IfOk result (λ kinds. length kinds ≡ rounds) }
     ensures err { IfErr result (λ e. IsFirst e (letters_faults rounds k letters.now)) }
 {
     if letters.len() != rounds as usize {
@@ -76,7 +75,6 @@ fn most_payload(kinds: &[Kind]) -> u8
 fn kinds_in(alloc: Global, k: u8, rounds: u8, table: &Table) -> Result<List<Kind>, MedlError>
     ensures ok { IfOk result (λ kinds. kinds_faults rounds k (table_view table.now) ≡ []) }
     ensures value { IfOk result (λ kinds. kinds ≡ kinds_at k (table_view table.now)) }
-    ensures count { IfOk result (λ kinds. length kinds ≡ rounds) }
     ensures err { IfErr result (λ e. IsFirst e (kinds_faults rounds k (table_view table.now))) }
 {
     let letters = text(table, at_slot(k, FieldName::Kinds))?;
@@ -88,7 +86,6 @@ fn kinds_in(alloc: Global, k: u8, rounds: u8, table: &Table) -> Result<List<Kind
 fn requests_in(k: u8, payload: u8, table: &Table) -> Result<bool, MedlError>
     ensures ok { IfOk result (λ requests. requests_faults k payload (table_view table.now) ≡ []) }
     ensures value { IfOk result (λ requests. requests ≡ flag_at (at_slot k names.Requests) (table_view table.now)) }
-    ensures payload { IfOk result (λ requests. IsTrue requests → 1 ≤ payload) }
     ensures err { IfErr result (λ e. first_fault (requests_faults k payload (table_view table.now)) ≡ Some e) }
 {
     let field = at_slot(k, FieldName::Requests);
@@ -117,8 +114,7 @@ fn are_answers(letters: &[u8]) -> bool
 // The modes that letters name, one for each mode: bit m for letter m.
 fn live_of(letters: &[u8]) -> u8
     requires { length letters.now ≤ 8 }
-    ensures value { result ≡ live_of letters.now }
-    ensures within { result < 2 ^ length letters.now }
+    ensures { result ≡ live_of letters.now }
 {
     let mut live = 0;
     for m in (0..letters.len()).rev() {
@@ -129,8 +125,7 @@ fn live_of(letters: &[u8]) -> u8
 
 fn all_live(modes: u8) -> u8
     requires { modes ≤ 8 }
-    ensures value { result ≡ all_live modes }
-    ensures within { result < 2 ^ modes }
+    ensures { result ≡ all_live modes }
 {
     (2u16.pow(u32::from(modes)) - 1) as u8
 }
@@ -141,7 +136,6 @@ fn live_in(k: u8, modes: u8, table: &Table) -> Result<u8, MedlError>
     requires { modes ≤ 8 }
     ensures ok { IfOk result (λ live. live_faults modes k (table_view table.now) ≡ []) }
     ensures value { IfOk result (λ live. live ≡ live_at modes k (table_view table.now)) }
-    ensures within { IfOk result (λ live. live < 2 ^ modes) }
     ensures err { IfErr result (λ e. first_fault (live_faults modes k (table_view table.now)) ≡ Some e) }
 {
     let field = at_slot(k, FieldName::Live);
@@ -167,7 +161,6 @@ pub(crate) fn slot_of(
     requires { modes ≤ 8 }
     ensures ok { IfOk result (λ plan. slot_faults rounds modes k (table_view table.now) ≡ []) }
     ensures value { IfOk result (λ plan. plan ≡ plan_of modes k (table_view table.now)) }
-    ensures valid { IfOk result (IsValidSlot rounds modes) }
     ensures err { IfErr result (λ e. IsFirst e (slot_faults rounds modes k (table_view table.now))) }
 {
     let kinds = kinds_in(alloc, k, rounds, table)?;

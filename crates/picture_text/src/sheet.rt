@@ -16,6 +16,20 @@ pub struct Sheet {
     pub failed: bool,
 }
 
+// Writes a line where the sink has not failed, and tells whether it has failed now.
+#[tactic(auto, using(crate::proofs::Puts::puts))]
+fn put_line<K: Sink>(failed: bool, line: &[u8], out: &mut K) -> bool
+    ensures { Puts failed (K.output out.old) result (K.output out.new) (line.now ∷ []) }
+{
+    if failed {
+        return true;
+    }
+    match out.write(line) {
+        Ok(()) => false,
+        Err(Failed) => true,
+    }
+}
+
 impl Sheet {
     pub fn new() -> Sheet
         ensures { result.failed ≡ false }
@@ -28,45 +42,24 @@ impl Sheet {
     }
 
     /// Writes the line.
-    #[tactic(auto, using(crate::proofs::Puts::puts))]
     pub fn write<K: Sink>(&mut self, out: &mut K)
         ensures { Puts self.old.failed (K.output out.old) self.new.failed (K.output out.new) (self.old.line ∷ []) }
     {
-        if self.failed {
-            return;
-        }
-        match out.write(self.line.bytes()) {
-            Ok(()) => {}
-            Err(Failed) => self.failed = true,
-        }
+        self.failed = put_line(self.failed, self.line.bytes(), out);
     }
 
     /// Writes the long line.
-    #[tactic(auto, using(crate::proofs::Puts::puts))]
     pub(crate) fn write_long<K: Sink>(&mut self, out: &mut K)
         ensures { Puts self.old.failed (K.output out.old) self.new.failed (K.output out.new) (self.old.long ∷ []) }
     {
-        if self.failed {
-            return;
-        }
-        match out.write(self.long.bytes()) {
-            Ok(()) => {}
-            Err(Failed) => self.failed = true,
-        }
+        self.failed = put_line(self.failed, self.long.bytes(), out);
     }
 
     /// Writes a line that never changes.
-    #[tactic(auto, using(crate::proofs::Puts::puts))]
     pub fn put<K: Sink>(&mut self, line: &[u8], out: &mut K)
         ensures { Puts self.old.failed (K.output out.old) self.new.failed (K.output out.new) (line.now ∷ []) }
     {
-        if self.failed {
-            return;
-        }
-        match out.write(line) {
-            Ok(()) => {}
-            Err(Failed) => self.failed = true,
-        }
+        self.failed = put_line(self.failed, line, out);
     }
 
     /// Whether all was written.
