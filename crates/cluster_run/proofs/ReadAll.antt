@@ -1,13 +1,14 @@
--- The reads of a slot, one after another, by the readers of all hosts: what each of them keeps, and that each got a message where the readers are clear.
+-- The reads of a slot, one after another, by the readers of all hosts: what each of them keeps, and that each got a
+-- message where the readers are clear.
 use Rattle.cluster_run.proofs.Words.{◌≡◌, ◌≢◌, ℕ, zero, suc, ◌+◌, ◌/◌, ◌<◌, ◌≤◌, true, List, [], ◌∷◌, ◌++◌, length}
 use Rattle.cluster_run.proofs.Words.{Option, Some, None, IsSomeAnd, refl, sym, ap, ◌∙◌, subst, arith, AllByRecursion}
 use Rattle.cluster_run.proofs.Words.{Message, ReaderState, Reads, buffers_of, got_one, ReadsMany, IsClear, steps}
 use Rattle.cluster_run.proofs.Words.{lt-ltb, limit, RingState, cond, set, take, get_or, inl, inr, cases_eq, take_more}
 use Rattle.cluster_run.proofs.Words.{HostRead, Source, ReadersState, reads_from, readers_at, reader_in, reader_at}
 use Rattle.cluster_run.proofs.Words.{calls_in, rings_in, IsRead, sources_of, HaveRead, MayReadAll, ◌⊎◌, at_any}
-use Rattle.cluster_run.proofs.Words.{length-append, IsLeft}
+use Rattle.cluster_run.proofs.Words.{length-append, IsLeft, within_list}
 use Rattle.nbw_ring.specs.Attempts.{Gets}
-use Rattle.host_port.proofs.ReaderLists.{within_list}
+use Rattle.ttp_world.proofs.LineLists.{each-append}
 
 -- So many reads keep the ring, what was loaded and got never falls back, and each takes room for one message at most.
 
@@ -95,11 +96,6 @@ pub record GotEvery (n : ℕ) (old new : ReaderState) : Type 0 where
   pub most : AllByRecursion (λ (m : Message). m.number ≤ new.floor) new.got
   pub rise : Rises new.got
 
-each-push : {X : Type 0} (P : X → Type 0) (xs : List X) (x : X) → AllByRecursion P xs → P x
-    → AllByRecursion P (xs ++ x ∷ [])
-each-push P [] x all here = (here, tt)
-each-push P (y ∷ ys) x all here = (all.0, each-push P ys x all.1 here)
-
 each-raised : (ms : List Message) (low high : ℕ) → low ≤ high → AllByRecursion (λ (m : Message). m.number ≤ low) ms
     → AllByRecursion (λ (m : Message). m.number ≤ high) ms
 each-raised [] low high up all = tt
@@ -127,10 +123,11 @@ got_more n old mid new so reads clear =
       count = ap length g.got ∙ length-append mid.got (m ∷ []) ∙ (omega (arith, so.count));
       once = tries_more n old mid new so reads;
       least = subst (AllByRecursion (λ (e : Message). old.floor ≤ e.number)) (sym g.got)
-          (each-push (λ (e : Message). old.floor ≤ e.number) mid.got m so.least (omega (arith, so.keeps.floor, up)));
+          (each-append (λ (e : Message). old.floor ≤ e.number) mid.got (m ∷ []) so.least
+          (omega (arith, so.keeps.floor, up), tt));
       most = subst (AllByRecursion (λ (e : Message). e.number ≤ new.floor)) (sym g.got)
-          (each-push (λ (e : Message). e.number ≤ new.floor) mid.got m
-          (each-raised mid.got mid.floor new.floor (omega (arith, g.floor, up)) so.most) (omega (arith, g.floor)));
+          (each-append (λ (e : Message). e.number ≤ new.floor) mid.got (m ∷ [])
+          (each-raised mid.got mid.floor new.floor (omega (arith, g.floor, up)) so.most) (omega (arith, g.floor), tt));
       rise = subst Rises (sym g.got) (rises-push mid.got m mid.floor so.rise so.most up);
     }
 
