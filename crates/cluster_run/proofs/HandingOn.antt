@@ -1,17 +1,115 @@
--- Controllers hand on what a slot left, one after another, and it is in the rings of the world after it.
-use Rattle.cluster_run.proofs.Words.{◌≡◌, ℕ, ◌+◌, ◌<◌, ◌≤◌, List, [], ◌∷◌, length, map, set, get_or, Option, Some, None}
-use Rattle.cluster_run.proofs.Words.{refl, sym, ap, ◌∙◌, arith, get_or-set_same, map-set, WriterState, Delivered}
-use Rattle.cluster_run.proofs.Words.{Source, words_of_payload, Outcome, ControllerState, place_of, at_source, written}
+-- What a slot hands on to hosts: a controller may deliver it, and it is in the rings of the world after the slot.
+use Rattle.cluster_run.proofs.Words.{◌≡◌, ◌≢◌, ℕ, ◌<◌, ◌≤◌, true, List, length, Option, Some, None, IfSome, refl, sym}
+use Rattle.cluster_run.proofs.Words.{subst, Medl, Chosen, Delivered, Entry, Script, History, plan_at, chosen_of}
+use Rattle.cluster_run.proofs.Words.{frames_in, is_loaded, node_past, slot_after, delivered_at, steps, ℤ, Listen, Send}
+use Rattle.cluster_run.proofs.Words.{Judge, carries_payload, delivery, new_entry, payload_taken, verdict_entry}
+use Rattle.cluster_run.proofs.Words.{joinable, NodePast, Hearing, expected_length, expected_of, verdict_of, view_of}
+use Rattle.cluster_run.proofs.Words.{is_armed, is_on, BegunNode, hearing_in, node_after, node_of, sends_payload}
+use Rattle.cluster_run.proofs.Words.{carries, taken_size, node_of-slot_after, entry_of-row_in, ◌+◌, [], ◌∷◌, map, set}
+use Rattle.cluster_run.proofs.Words.{get_or, ap, ◌∙◌, arith, get_or-set_same, map-set, WriterState, Source}
+use Rattle.cluster_run.proofs.Words.{words_of_payload, Outcome, ControllerState, place_of, at_source, written}
 use Rattle.cluster_run.proofs.Words.{written_at, HasRoom, IsNewest, Desk, HaveHandedOn, delivered_to, handed_on}
-use Rattle.cluster_run.proofs.Words.{number_handed, outcome_of, rings_of, desk_ends, desk_numbers, message_count, steps}
-use Rattle.cluster_run.proofs.Words.{◌≢◌, ◌++◌, is_some, map-append, get_or-set_other, Message, Shape, Medl, Entry}
-use Rattle.cluster_run.proofs.Words.{Script, History, delivered_of, new_messages, ring_messages, status_words}
-use Rattle.cluster_run.proofs.Words.{node_past, incoming_shape, IsRingOf, ring_words, words_read, length-append}
-use Rattle.cluster_run.proofs.Words.{get_or-map}
-use Rattle.host_port.proofs.ReaderLists.{read_alike, within_list, written_rings}
+use Rattle.cluster_run.proofs.Words.{number_handed, outcome_of, rings_of, desk_ends, desk_numbers, message_count, ◌++◌}
+use Rattle.cluster_run.proofs.Words.{is_some, map-append, get_or-set_other, Message, Shape, delivered_of, new_messages}
+use Rattle.cluster_run.proofs.Words.{ring_messages, status_words, incoming_shape, IsRingOf, ring_words, words_read}
+use Rattle.cluster_run.proofs.Words.{length-append, get_or-map, cond, IsSomeAnd, option_map, eq-eqb, length-map}
+use Rattle.cluster_run.proofs.Words.{IsValid, word_count, shape_of, MayHandOn, number_told, IsRing, ◌^◌, SLOT_LIMIT}
+use Rattle.cluster_run.proofs.Words.{in_messages, number_delivered, plan_few, read_alike, within_list, written_rings}
+use Rattle.ttp_world.specs.declared.node.Act.{Act}
+use Rattle.ttp_world.specs.declared.node.CState.{CState}
+use Rattle.ttp_world.specs.declared.node.Verdict.{Verdict}
+use Rattle.ttp_world.specs.Act.{coming_place}
+use Rattle.ttp_world.proofs.EntriesMade.{listening_entry-holds}
+use Rattle.controller.specs.ControllerWithin.{IsPossible}
+use Rattle.controller.proofs.Endings.{possible-at}
+use Rattle.ttp_world.proofs.LegalNumbers.{ring_messages-few as few_came}
 use Rattle.cluster_run.proofs.Changes.{AreChanged, changed_more}
-use Rattle.cluster_run.proofs.Rings.{ring_more}
+use Rattle.cluster_run.proofs.Rings.{ring_more, ring_count, ring_takes, room_of}
+use Rattle.ttp_world.specs.declared.node.Entry.TheVariants as entry
+use Rattle.ttp_world.specs.declared.node.Verdict.TheVariants as verdict
 use Rattle.ttp_world.specs.declared.script.Source.TheVariants as source
+
+pub record IsDeliverable (list : Medl) (k : ℕ) (d : Delivered) : Type 0 where
+  pub other : d.sender ≢ k
+  pub some : 1 ≤ (plan_at list d.sender).payload
+  pub size : length d.payload ≡ (plan_at list d.sender).payload
+
+-- So it is of the entry that a node makes.
+
+judged : (list : Medl) (k : ℕ) (past : NodePast) (h : Hearing) (v : Verdict) (deviation : ℤ)
+    → (coming_place list past).slot ≢ k
+    → (v ≡ verdict.Correct
+    → length (payload_taken list (expected_of list k past) h) ≡ expected_length list (coming_place list past))
+    → IfSome (delivery list k past h (verdict_entry (coming_place list past).slot v deviation)) (IsDeliverable list k)
+judged list k past h verdict.Correct deviation other size = grind steps
+judged list k past h v deviation other size = tt
+
+joined_nothing : (list : Medl) (k : ℕ) (past : NodePast) (h : Hearing) (c : Option CState)
+    → IfSome c (λ c. (d : ℤ) → IfSome (delivery list k past h (entry.Joined c.slot c d)) (IsDeliverable list k))
+joined_nothing list k past h None = tt
+joined_nothing list k past h (Some c) = λ d. tt
+
+made : (list : Medl) (k : ℕ) (past : NodePast) (chosen : Chosen) (h : Hearing) (does : Act)
+    → (does ≡ Judge → (coming_place list past).slot ≢ k)
+    → IfSome (delivery list k past h (new_entry list k past chosen h does)) (IsDeliverable list k)
+made list k past chosen h Listen judges =
+    listening_entry-holds (λ e. IfSome (delivery list k past h e) (IsDeliverable list k)) list h tt
+    (λ bytes. joined_nothing list k past h (joinable list bytes))
+made list k past chosen h Judge judges =
+    let expected = expected_of list k past in
+    judged list k past h
+    (verdict_of (view_of list expected h.deviation h.a) (view_of list expected h.deviation h.b) past.ack)
+    _ (judges refl) (taken_size list expected h past.ack)
+made list k past chosen h does judges = tt
+
+-- The world's slot.
+
+-- node k in it does what it can do
+possible : (list : Medl) (script : Script) (history : History) (k : ℕ)
+    → IsPossible list k (node_after list script history k).past (node_after list script history k).act
+possible list script history k = record {
+  on = is_on script k (length history);
+  armed = is_armed script k (length history);
+  is = refl;
+}
+
+judges_other : (list : Medl) (script : Script) (history : History) (k : ℕ)
+    → (node_after list script history k).act ≡ Judge → (coming_place list (node_past list script history k)).slot ≢ k
+judges_other list script history k judges =
+    possible-at list k (node_past list script history k) Judge (rw judges at (possible list script history k))
+
+pub delivered-deliverable : (list : Medl) (script : Script) (history : History) (chosen : List Chosen) (r : ℕ)
+    → r < length list.slots → IfSome (delivered_at (slot_after list script history) chosen r) (IsDeliverable list r)
+delivered-deliverable list script history chosen r node =
+    let s = slot_after list script history in
+    let h = hearing_in s (frames_in s chosen) r in
+    let judges : (node_of s r).act ≡ Judge → (coming_place list (node_of s r).past).slot ≢ r =
+    subst (λ (n : BegunNode). n.act ≡ Judge → (coming_place list n.past).slot ≢ r)
+    (sym (node_of-slot_after list script history r node)) (judges_other list script history r) in
+    subst (λ (e : Entry). IfSome (delivery list r (node_of s r).past h e) (IsDeliverable list r))
+    (sym (entry_of-row_in s chosen r node))
+    (made list r (node_of s r).past (chosen_of chosen r) h (node_of s r).act judges)
+
+-- A node whose frame carries a message has payload in the list.
+
+pub record SendsOwn (list : Medl) (past : NodePast) (does : Act) : Type 0 where
+  pub sends : does ≡ Send
+  pub carries : carries_payload list (coming_place list past) ≡ true
+
+sends_own : (list : Medl) (past : NodePast) (does : Act) → sends_payload list past does ≡ true → SendsOwn list past does
+sends_own list past Send is = record { sends = refl; carries = is }
+sends_own list past does is = absurd cc
+
+loaded_node : (list : Medl) (script : Script) (history : History) (k : ℕ)
+    → sends_payload list (node_after list script history k).past (node_after list script history k).act ≡ true
+    → 1 ≤ (plan_at list k).payload
+loaded_node list script history k loaded = grind (steps, carries, possible, possible-at, sends_own)
+
+pub loaded-payload : (list : Medl) (script : Script) (history : History) (k : ℕ) → k < length list.slots
+    → is_loaded (slot_after list script history) k ≡ true → 1 ≤ (plan_at list k).payload
+loaded-payload list script history k node =
+    subst (λ (n : BegunNode). sends_payload list n.past n.act ≡ true → 1 ≤ (plan_at list k).payload)
+    (sym (node_of-slot_after list script history k node)) (loaded_node list script history k)
 
 -- The number of a message that was just written.
 
@@ -23,8 +121,7 @@ newest_of_written (Some w) words n newest = omega (arith, newest, length-append 
 pub number_written : (end : ControllerState) (from : Source) (words : List ℕ) (n : ℕ) → HasRoom (at_source end from)
     → IsNewest (at_source (written_at end from words) from) n → n ≡ message_count (at_source end from)
 number_written end from words n room newest =
-    let near = within_list HasRoom None end (place_of from) (λ none. none) room in
-    grind (steps, get_or-set_same, newest_of_written, near)
+    grind (steps, get_or-set_same, newest_of_written, within_list HasRoom None end (place_of from) (λ none. none) room)
 
 rings_delivered : (end : ControllerState) (delivered : Option Delivered)
     → rings_of (delivered_to end delivered) ≡ rings_of end
@@ -85,10 +182,6 @@ one_more None messages pairs w words ring = ap (λ v. written v words) ring
 one_more (Some shape) messages pairs None words ring = ring
 one_more (Some shape) messages pairs (Some w) words ring = ring_more (words ∷ []) _ ring
 
-more_words : (from : Source) (before : List (List ℕ)) (message : List ℕ)
-    → map (ring_words from) (before ++ message ∷ []) ≡ map (ring_words from) before ++ ring_words from message ∷ []
-more_words from before message = map-append (ring_words from) before (message ∷ [])
-
 -- What was delivered.
 
 delivered_ring : (shape : Option Shape) (before : List (List ℕ)) (pairs : List Message) (end : ControllerState)
@@ -126,9 +219,9 @@ handed_ring {list} {script} {row} {before} {k} {outcome} source.Status pairs end
     ∙ ap (λ w. written w outcome.status.words) (status_stays end outcome.delivered) in
     let messages : words_read list script (row ∷ before) k source.Status
     ≡ words_read list script before k source.Status ++ outcome.status.words ∷ [] =
-    more_words source.Status (ring_messages list script before k source.Status)
+    map-append (ring_words source.Status) (ring_messages list script before k source.Status)
     (status_words list (length before) (node_past list script (row ∷ before) k)
-    (is_some (delivered_of list script before row k)))
+    (is_some (delivered_of list script before row k)) ∷ [])
     ∙ ap (λ ws. words_read list script before k source.Status ++ ws ∷ []) (sym handed.status) in
     rw (messages, here)
     (one_more (incoming_shape list k source.Status) (words_read list script before k source.Status) pairs
@@ -141,3 +234,57 @@ handed_ring {list} {script} {row} {before} {k} {outcome} (source.Node p) pairs e
     at_other (delivered_to end outcome.delivered) source.Status (source.Node p) outcome.status.words
     (λ same. absurd (omega (arith, same))) in
     rw (here, ← handed.delivered) (delivered_ring shape messages pairs end outcome.delivered p ring)
+
+-- what a controller's end holds, as messages of the world
+pub record HoldsCame (list : Medl) (script : Script) (history : History) (k : ℕ) (pairs : Source → List Message)
+    (end : ControllerState) : Type 0 where
+  pub each : (from : Source)
+      → IsRingOf (incoming_shape list k from) (words_read list script history k from) (pairs from) (at_source end from)
+
+few_words : (list : Medl) (script : Script) (history : History) (k : ℕ) (from : Source) → length history ≤ SLOT_LIMIT
+    → length (words_read list script history k from) ≤ 2 ^ 62
+few_words list script history k from few = grind (steps, few_came, length-map)
+
+module _ {list : Medl} {script : Script} {history : History} {k : ℕ} {pairs : Source → List Message}
+    {end : ControllerState} (holds : HoldsCame list script history k pairs end) where
+  ring_from : (p : ℕ) → p ≢ k → 1 ≤ (plan_at list p).payload
+      → IsSomeAnd (at_source end (source.Node p)) (IsRing (shape_of list (word_count (plan_at list p).payload))
+      (words_read list script history k (source.Node p)) (pairs (source.Node p)))
+  ring_from p other some = grind steps
+
+  pub may_hand_on : (delivered : Option Delivered) → IsValid list → length history ≤ SLOT_LIMIT
+      → IfSome delivered (IsDeliverable list k) → MayHandOn end delivered
+  may_hand_on delivered valid few fine = record {
+    status = room_of _ _ _ (at_source end source.Status) (holds.each source.Status)
+        (few_words list script history k source.Status few);
+    takes = λ d is.
+        let one : IsDeliverable list k d = rw is at fine in
+        ring_takes _ _ _ (at_source end (source.Node d.sender)) (length d.payload) (ring_from d.sender one.other one.some)
+        (omega (arith, one.size, plan_few list d.sender valid)) (ap word_count one.size);
+    room = λ d is.
+        let one : IsDeliverable list k d = rw is at fine in
+        room_of _ _ _ (at_source end (source.Node d.sender)) (ring_from d.sender one.other one.some)
+        (few_words list script history k (source.Node d.sender) few);
+  }
+
+  -- The number that is told of it is the one that it has in the world.
+
+  number_of : (row : List Entry) (d : Delivered) → IsDeliverable list k d
+      → delivered_of list script history row k ≡ Some d
+      → message_count (at_source end (source.Node d.sender)) ≡ number_delivered list script (row ∷ history) k d
+  number_of row d fine is =
+      let p = d.sender in
+      let before = in_messages list script history k p in
+      let own : new_messages p (delivered_of list script history row k) ≡ d.payload ∷ [] =
+      ap (new_messages p) is ∙ ap (λ b. cond b (d.payload ∷ []) []) (eq-eqb p p refl) in
+      let count = ring_count _ _ _ (at_source end (source.Node p)) (ring_from p fine.other fine.some) in
+      let words = length-map before (ring_words (source.Node p)) in
+      let more = length-append before (new_messages p (delivered_of list script history row k)) in
+      omega (arith, count, words, more, ap length own)
+
+  pub number_is_told : (row : List Entry) (delivered : Option Delivered) → IfSome delivered (IsDeliverable list k)
+      → delivered ≡ delivered_of list script history row k
+      → number_handed end delivered ≡ number_told list script row history k
+  number_is_told row None fine is = ap (option_map (number_delivered list script (row ∷ history) k)) is
+  number_is_told row (Some d) fine is =
+      ap Some (number_of row d fine (sym is)) ∙ ap (option_map (number_delivered list script (row ∷ history) k)) is

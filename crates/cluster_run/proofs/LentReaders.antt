@@ -1,4 +1,5 @@
--- Readers are lent to hosts for the reads of a slot: they have room for all of these, and stay readers of their rings.
+-- Readers are lent to hosts for the reads of a slot: they have room for all of these, stay readers of their rings, and
+-- are settled.
 use Rattle.cluster_run.proofs.Words.{◌≡◌, ℕ, ◌<◌, false, List, [], ◌∷◌, length, Option, refl, HostRead, Source}
 use Rattle.cluster_run.proofs.Words.{reads_in, Numbers, ReadersState, reads_from, ControllerState, CurrentSlot, Desk}
 use Rattle.cluster_run.proofs.Words.{Nodes, desk_ends, AreReadersLent, has_reads, MayEndSlot, HoldsRead, steps, map}
@@ -8,8 +9,13 @@ use Rattle.cluster_run.proofs.Words.{readers_at, rings_in, ◌+◌, ◌≤◌, B
 use Rattle.cluster_run.proofs.Words.{AllByRecursion, cases_lt, get_or_past, All-from_recursion, Message, WriterState}
 use Rattle.cluster_run.proofs.Words.{ReaderState, Medl, Script, IsSource, IsValidScript, lent, place_of, at_source}
 use Rattle.cluster_run.proofs.Words.{incoming_shape, reader_at, calls_in, IsRingOf, is_read_at, IsReadOf}
-use Rattle.cluster_run.proofs.Words.{reads_of_valid, MayReadAll}
-use Rattle.std.proofs.lemmas.List.{get_or-map}
+use Rattle.cluster_run.proofs.Words.{reads_of_valid, MayReadAll, zero, suc, recursion_from_All, ReadLine, IsSettled}
+use Rattle.cluster_run.proofs.Words.{settled, got_of, pairs_from, desk_numbers, SettlesReads, SettlesReadsOf, read_of}
+use Rattle.cluster_run.proofs.Words.{AreLinesBy, queue_of, all_settled, get_or-map, replicate, length-replicate}
+use Rattle.cluster_run.proofs.Words.{outcomes_of, HaveHandedOn, reader_in, reads_of_host, is_host, filter, TellsReads}
+use Rattle.std.proofs.lemmas.List.{get_or-map as get_or-map_within}
+use Rattle.cluster_run.proofs.Changes.{AreChanged}
+use Rattle.cluster_run.proofs.HandingOn.{no_desk}
 use Rattle.ttp_world.specs.declared.script.Source.TheVariants as source
 
 -- Where a host does not read, none of its reads is of a source.
@@ -34,7 +40,7 @@ all_lent_for nodes may same is lent = grind steps
 -- the rings of an end
 rings_at : (ends : List ControllerState) (k : ℕ) → k < length ends
     → get_or (map rings_of ends) k [] ≡ rings_of (end_at ends k)
-rings_at ends k near = get_or-map rings_of ends k [] [] near
+rings_at ends k near = get_or-map_within rings_of ends k [] [] near
 
 own_as : (old new : ControllerState) (a b : Option ReadersState) → rings_of new ≡ rings_of old → rings_in b ≡ rings_in a
     → ForSome a (AreReadersOfEnd old) → ForSome b (AreReadersOfEnd new)
@@ -122,3 +128,120 @@ module _ {at : CurrentSlot} {numbers : Numbers} {ends : List ControllerState} {r
         ];
     room = room_lent;
   }
+
+-- One host's.
+
+pub settled-none : (w : Option WriterState) → w ≡ settled w None
+settled-none None = refl
+settled-none (Some w) = refl
+
+pub is_settled-none : (w : Option WriterState) → IsSettled w None
+is_settled-none None = tt
+is_settled-none (Some w) = tt
+
+nothing_settled : (r : Option ReaderState) → None ≡ settled None r
+nothing_settled None = refl
+nothing_settled (Some r) = refl
+
+all_settled-at : (ws : List (Option WriterState)) (rs : List (Option ReaderState)) (i : ℕ)
+    → get_or (all_settled ws rs) i None ≡ settled (get_or ws i None) (get_or rs i None)
+all_settled-at [] rs i = nothing_settled (get_or rs i None)
+all_settled-at (w ∷ ws) [] zero = settled-none w
+all_settled-at (w ∷ ws) [] (suc i) = settled-none (get_or ws i None)
+all_settled-at (w ∷ ws) (r ∷ rs) zero = refl
+all_settled-at (w ∷ ws) (r ∷ rs) (suc i) = all_settled-at ws rs i
+
+-- one that does
+pub settles_readers : (old new : ControllerState) (r : ReadersState)
+    → ((from : Source) → IsSettled (at_source old from) (at_source r.readers from)) → new ≡ all_settled old r.readers
+    → SettlesReadsOf old (Some r) new
+settles_readers old new r whole joined = record {
+  whole = whole;
+  settled_is = λ from.
+      ap (λ (e : ControllerState). at_source e from) joined ∙ all_settled-at old r.readers (place_of from);
+}
+
+hosted : (k : ℕ) (lines : List ReadLine) → AllByRecursion (λ (line : ReadLine). line.host ≡ k) lines
+    → map read_of lines
+    ≡ map (λ (from : Source). record { host = k; source = from }) (map (λ (line : ReadLine). line.source) lines)
+hosted k [] all = refl
+hosted k (line ∷ lines) all = λ i. record { host = all.0 i; source = line.source } ∷ hosted k lines all.1 i
+
+-- with its lines
+pub lines_queued : (k : ℕ) (r : ReadersState) (lines : List ReadLine)
+    → map (λ (line : ReadLine). line.source) lines ≡ r.calls → All (λ (line : ReadLine). line.host ≡ k) lines
+    → ((from : Source) → pairs_from from lines ≡ got_of (at_source r.readers from)) → AreLinesBy k (Some r) lines
+lines_queued k r lines sources hosts pairs = record {
+  reads = hosted k lines (recursion_from_All (λ (line : ReadLine). line.host ≡ k) lines hosts)
+      ∙ ap (map (λ from. record { host = k; source = from })) sources;
+  pairs = pairs;
+}
+
+-- The first hosts' are settled, so many: the other desks and readers are as they were.
+pub record AreReadersSettled (k : ℕ) (old_readers readers : List (Option ReadersState)) (old desks : List Desk)
+    (queues : List (List ReadLine)) : Type 0 where
+  pub numbers : desk_numbers desks ≡ desk_numbers old
+  pub desks_are : AreChanged (λ i was is. SettlesReadsOf was.end (readers_at old_readers i) is.end) no_desk k old desks
+  pub readers_are : AreChanged (λ i was is. Unit {0}) None k old_readers readers
+  pub queues_are : (i : ℕ) → i < k → AreLinesBy i (readers_at old_readers i) (queue_of queues i)
+  pub queues_count : length queues ≡ k
+
+-- all are
+pub are_settled : {k : ℕ} {old_readers readers : List (Option ReadersState)} {old desks : List Desk}
+    {queues : List (List ReadLine)} → length old_readers ≤ k → AreReadersSettled k old_readers readers old desks queues
+    → SettlesReads (desk_ends old) old_readers (desk_ends desks)
+are_settled {old_readers = readers} {old = old} {desks = desks} all so = record {
+  each = λ i near.
+      let end = λ (d : Desk). d.end in
+      rw (get_or-map end old i no_desk, get_or-map end desks i no_desk)
+      (so.desks_are.done i (omega (arith, near, all)));
+}
+
+-- nothing for each of so many nodes
+abbrev nobody : ℕ → List (Option ReadersState)
+nobody n = replicate n None
+
+none_there : (n k : ℕ) → readers_at (nobody n) k ≡ None
+none_there zero k = refl
+none_there (suc n) zero = refl
+none_there (suc n) (suc k) = none_there n k
+
+none_settled : (e : ControllerState) → SettlesReadsOf e None e
+none_settled e = record {
+  whole = λ from. is_settled-none (at_source e from);
+  settled_is = λ from. settled-none (at_source e from);
+}
+
+pub none_read : (at : CurrentSlot) (old new : Nodes) → reads_in at.script.now at.slot ≡ []
+    → HaveHandedOn (outcomes_of new.seats.items) (desk_ends old.desks.items) (desk_ends new.desks.items)
+    (desk_numbers new.desks.items)
+    → TellsReads at old new []
+none_read at old new quiet handed =
+    let n = length (desk_ends old.desks.items) in
+    let ends = desk_ends new.desks.items in
+    record {
+      handed = ends;
+      first = nobody n;
+      last = nobody n;
+      handed_are = handed;
+      lent = record {
+        count = length-replicate n None;
+        each = λ k near. record {
+          readers = λ from. ap (λ o. reader_in o from) (none_there n k)
+              ∙ sym (ap (λ reads. lent (at_source (end_at (desk_ends old.desks.items) k) from) (reads_from reads k from)) quiet);
+          calls = ap calls_in (none_there n k);
+          own = λ x is. absurd (none-some x (sym (none_there n k) ∙ is));
+        };
+      };
+      read = record {
+        count = refl;
+        rings = λ k. refl;
+        each = λ k from. rw quiet refl;
+        calls = λ k clear. ap (λ o. reads_of_host k (calls_in o)) (none_there n k) ∙ sym (ap (filter (is_host k)) quiet);
+      };
+      settles = record { each = λ k near. rw (none_there n k) (none_settled (end_at ends k)) };
+      told = λ got. record {
+        reads_are = sym quiet;
+        pairs = λ k from. sym (ap (λ o. got_of (reader_in o from)) (none_there n k));
+      };
+    }

@@ -93,15 +93,10 @@ tells_next cluster numbers valid valid_script bytes next legal =
     (sym (length-world list script numbers))
     (messages_read list script new numbers (next.legal legal)
     (subst (AreBytesBefore list script) next.stands.done bytes) valid_script) in
+    let many = ap length shows.nodes ∙ length-map (below (length list.slots)) (node_shown list script row before)
+    ∙ length-range_with_len 0 (length list.slots) in
     record {
-      nodes =
-          omega (
-            arith,
-            ap length shows.nodes,
-            length-map (below (length list.slots)) (node_shown list script row before),
-            length-range_with_len 0 (length list.slots),
-            valid.count.1,
-          );
+      nodes = omega (arith, many, valid.count.1);
       digits = rw shows.nodes (nodes_have list script row before (length list.slots) valid);
       reads = rw shows.reads
           (reads_have list script (row ∷ before) (read_messages (reads_in script (length before)) new.read) valid reads);

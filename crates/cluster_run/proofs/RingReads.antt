@@ -5,7 +5,7 @@ use Rattle.cluster_run.proofs.Words.{Shape, WriterState, ReaderState, new_reader
 use Rattle.cluster_run.proofs.Words.{got_of, ReadsMany, IsClear, IsRing, IsRingOf, steps}
 use Rattle.nbw_ring.specs.Numbers.{newest_number, IsMessageOf}
 use Rattle.cluster_run.proofs.Rings.{settled_ring}
-use Rattle.cluster_run.proofs.SettledReaders.{settled-none}
+use Rattle.cluster_run.proofs.LentReaders.{settled-none}
 use Rattle.cluster_run.proofs.ReadAll.{Rises, GotEvery, many_keep, got_every}
 
 -- a reader, if there is one, is a new one of this writer's
@@ -85,19 +85,12 @@ clear_if : (r : RingSlot) (old new : Option ReaderState) → r.lent ≡ old → 
 clear_if r (Some old) (Some new) lent read = λ more.
     let t = there_for r old lent in
     let settles = settles_in r t.last_is read in
-    omega (
-      arith,
-      settles.1,
-      r.few,
-      r.there,
-      ap length t.be.messages_are,
-      ap length t.is.messages_are,
-      ap (λ (x : ReaderState). x.floor) t.lent.1,
-      ap (λ (x : ReaderState). x.ring.shape.buffers) t.lent.1,
-      ap (λ (s : Shape). s.buffers) t.is.shape_is,
-      r.some t.own t.own_is,
-      more,
-    )
+    let after = ap length t.be.messages_are in
+    let before = ap length t.is.messages_are in
+    let floor = ap (λ (x : ReaderState). x.floor) t.lent.1 in
+    let lent_buffers = ap (λ (x : ReaderState). x.ring.shape.buffers) t.lent.1 in
+    let buffers = ap (λ (s : Shape). s.buffers) t.is.shape_is in
+    omega (arith, settles.1, r.few, r.there, after, before, floor, lent_buffers, buffers, r.some t.own t.own_is, more)
 clear_if r old new lent read = tt
 
 pub clear_of : (r : RingSlot) → IsClear r.lent r.read

@@ -1,22 +1,140 @@
--- What the sending of a slot asks and gives, node by node.
-use Rattle.cluster_run.proofs.Words.{◌≡◌, ℕ, suc, ◌+◌, ◌<◌, ◌≤◌, Bool, true, List, [], ◌∷◌, length, get_or, Option}
-use Rattle.cluster_run.proofs.Words.{Some, None, IfSome, All, refl, sym, ap, subst, ◌∙◌, arith, ◌==◌, count_by, ForSome}
-use Rattle.cluster_run.proofs.Words.{length-map, All-head, none-some, same_Some, Message, ReaderState, new_reader, Medl}
-use Rattle.cluster_run.proofs.Words.{Chosen, Script, EVENT_LIMIT, plan_at, messages_before, nothing_chosen, HostWrite}
-use Rattle.cluster_run.proofs.Words.{messages_written, payload_of_host, writes_in, word_count, words_of_payload}
-use Rattle.cluster_run.proofs.Words.{BegunSlot, Numbers, is_loaded, world, AreBytes, Seat, HostState, CurrentSlot}
-use Rattle.cluster_run.proofs.Words.{AreBytesBefore, HaveBegunFor, HaveChosen, next_slot, host_at, writes_shown}
-use Rattle.cluster_run.proofs.Words.{words_written, AreLent, Fetches, MaySettle, MayLend, MayWriteAll, FetchesOne}
-use Rattle.cluster_run.proofs.Words.{WritesBytes, after_writes, fetcher_lent, message_count, write_lines, steps}
-use Rattle.cluster_run.proofs.Words.{add-one, cond_both, All-append, All-tail, write_in, pairs_sent, FetchAll}
-use Rattle.cluster_run.proofs.Words.{MayFetchAll, MayFetchAlone, IsValidWrite, few_messages, filter_map-each}
-use Rattle.cluster_run.proofs.Words.{valid_write_at, valid_writes, filter_map-few, HaveBegun, slice_get, unwrap_or}
-use Rattle.cluster_run.proofs.Words.{no_plan, plan_few}
+-- What the sending of a slot asks and gives, write by write and node by node.
+use Rattle.cluster_run.proofs.Words.{◌≡◌, ℕ, ◌+◌, ◌<◌, ◌≤◌, Bool, true, false, cond, List, [], ◌∷◌, ◌++◌, length, map}
+use Rattle.cluster_run.proofs.Words.{set, take, drop, get_or, count_by, Option, Some, None, option_map, refl, sym, ap}
+use Rattle.cluster_run.proofs.Words.{◌∙◌, arith, ◌==◌, IsSome, filter_map, false≢true, eq-eqb, eqb-true}
+use Rattle.cluster_run.proofs.Words.{false_from_ne_true, append-nil, length-map, length-set, take_more}
+use Rattle.cluster_run.proofs.Words.{take-append-drop, get_or-set_same, get_or-set_other, HostWrite, payload_of_host}
+use Rattle.cluster_run.proofs.Words.{words_of_payload, WriteLine, HostState, written, Takes, HasRoom, host_at}
+use Rattle.cluster_run.proofs.Words.{with_messages, after_writes, message_count, write_line, write_lines, steps}
+use Rattle.cluster_run.proofs.Words.{cons_option, filter_map-append, most_number, messages_by, length-append, suc}
+use Rattle.cluster_run.proofs.Words.{IfSome, All, subst, ForSome, All-head, none-some, same_Some, Message, ReaderState}
+use Rattle.cluster_run.proofs.Words.{new_reader, Medl, Chosen, Script, EVENT_LIMIT, plan_at, messages_before}
+use Rattle.cluster_run.proofs.Words.{nothing_chosen, messages_written, writes_in, word_count, BegunSlot, Numbers}
+use Rattle.cluster_run.proofs.Words.{is_loaded, world, AreBytes, Seat, CurrentSlot, AreBytesBefore, HaveBegunFor}
+use Rattle.cluster_run.proofs.Words.{HaveChosen, next_slot, writes_shown, words_written, AreLent, Fetches, MaySettle}
+use Rattle.cluster_run.proofs.Words.{MayLend, MayWriteAll, FetchesOne, WritesBytes, fetcher_lent, add-one, cond_both}
+use Rattle.cluster_run.proofs.Words.{All-append, All-tail, write_in, pairs_sent, FetchAll, MayFetchAll, MayFetchAlone}
+use Rattle.cluster_run.proofs.Words.{IsValidWrite, few_messages, filter_map-each, valid_write_at, valid_writes}
+use Rattle.cluster_run.proofs.Words.{filter_map-few, HaveBegun, slice_get, unwrap_or, no_plan, plan_few}
+use Rattle.std.proofs.lemmas.List.Sums.{count_by-le-length}
 use Rattle.ttp_world.specs.declared.medl.SlotPlan.{SlotPlan}
 use Rattle.cluster_run.proofs.Choices.{HasRing, has_ring, node_choice}
 use Rattle.cluster_run.proofs.Rings.{ring_count, ring_some, ring_takes}
-use Rattle.cluster_run.proofs.Deliverable.{loaded-payload}
+use Rattle.cluster_run.proofs.HandingOn.{loaded-payload}
 use Rattle.cluster_run.proofs.Changes.{AreBothChanged}
+
+-- the ends and the lines once these writes were made
+pub record AreWritten (old : List HostState) (writes : List HostWrite) (ends : List HostState) (lines : List WriteLine)
+    : Type 0 where
+  pub count : length ends ≡ length old
+  pub each : (k : ℕ) → host_at ends k ≡ after_writes writes k (host_at old k)
+  pub lines_are : lines ≡ write_lines old [] writes
+
+-- Of one more: its host's ring has one message more.
+
+after_one : (own : Bool) (messages : List (List ℕ)) (payload : List ℕ) (end : HostState)
+    → option_map (λ w. with_messages w (messages ++ cons_option (cond own (Some payload) None) [])) end
+    ≡ cond own (written (option_map (λ w. with_messages w messages) end) (words_of_payload payload))
+    (option_map (λ w. with_messages w messages) end)
+after_one true messages payload (Some w) = grind steps
+after_one false messages payload (Some w) = λ i. Some (with_messages w (append-nil messages i))
+after_one own messages payload end = refl
+
+after_more : (writes : List HostWrite) (w : HostWrite) (k : ℕ) (end : HostState)
+    → after_writes (writes ++ w ∷ []) k end
+    ≡ cond (w.host == k) (written (after_writes writes k end) (words_of_payload w.payload)) (after_writes writes k end)
+after_more writes w k end =
+    ap (λ ms. option_map (λ v. with_messages v ms) end) (filter_map-append (payload_of_host k) writes (w ∷ []))
+    ∙ after_one (w.host == k) (messages_by k writes) w.payload end
+
+-- The line: its number follows those of the messages before it.
+
+write_lines-more : (old : List HostState) (earlier writes : List HostWrite) (w : HostWrite)
+    → write_lines old earlier (writes ++ w ∷ [])
+    ≡ write_lines old earlier writes
+    ++ write_line old w.host (count_by (λ e. e.host == w.host) earlier + count_by (λ e. e.host == w.host) writes) ∷ []
+write_lines-more old earlier [] w = ap (λ n. write_line old w.host n ∷ []) (omega arith)
+write_lines-more old earlier (v ∷ writes) w = grind (steps, write_lines-more old (v ∷ earlier) writes w)
+
+counted : (k : ℕ) (writes : List HostWrite) → length (messages_by k writes) ≡ count_by (λ e. e.host == k) writes
+counted k [] = refl
+counted k (w ∷ writes) = grind (steps, counted k writes)
+
+count_after : (k : ℕ) (writes : List HostWrite) (end : HostState) → IsSome end
+    → message_count (after_writes writes k end) ≡ message_count end + count_by (λ e. e.host == k) writes
+count_after k writes None some = absurd (false≢true some)
+count_after k writes (Some w) some = length-append w.messages (map words_of_payload (messages_by k writes))
+    ∙ ap (λ n. length w.messages + n) (length-map (messages_by k writes) words_of_payload ∙ counted k writes)
+
+was_some : (k : ℕ) (writes : List HostWrite) (end : HostState) → IsSome (after_writes writes k end) → IsSome end
+was_some k writes None some = some
+was_some k writes (Some w) some = some
+
+pub written_more : (old ends : List HostState) (writes : List HostWrite) (lines : List WriteLine) (w : HostWrite)
+    → AreWritten old writes ends lines → w.host < length ends → IsSome (host_at ends w.host)
+    → AreWritten old (writes ++ w ∷ [])
+    (set ends w.host (written (host_at ends w.host) (words_of_payload w.payload)))
+    (lines ++ write_line ends w.host 0 ∷ [])
+written_more old ends writes lines w so within some =
+    grind (
+      steps,
+      after_more,
+      count_after,
+      eq-eqb,
+      eqb-true,
+      false_from_ne_true,
+      get_or-set_other,
+      get_or-set_same,
+      length-set,
+      was_some,
+      write_lines-more,
+    )
+
+-- What a ring takes, it takes after the writes, and it has room for one more of so many.
+
+pub takes_after : (k : ℕ) (writes : List HostWrite) (end : HostState) (size : ℕ) → Takes end size
+    → Takes (after_writes writes k end) size
+takes_after k writes None size takes = takes
+takes_after k writes (Some w) size takes = takes
+
+pub room_after : (k : ℕ) (writes : List HostWrite) (end : HostState) (size many : ℕ) → Takes end size
+    → message_count end + many ≤ most_number → length writes < many → HasRoom (after_writes writes k end)
+room_after k writes None size many takes few more = takes
+room_after k writes (Some w) size many takes few more =
+    omega (arith, count_after k writes (Some w) refl, count_by-le-length (λ (e : HostWrite). e.host == k) writes)
+
+pub takes-some : (end : HostState) (size : ℕ) → Takes end size → IsSome end
+takes-some None size takes = absurd takes
+takes-some (Some w) size takes = refl
+
+-- The writes at the first places.
+
+pub taken_some : {X Y : Type 0} (h : X → Option Y) (xs : List X) (i : ℕ) (x : X) (y : Y) → i < length xs
+    → x ≡ get_or xs i x → h x ≡ Some y → filter_map h (take (i + 1) xs) ≡ filter_map h (take i xs) ++ y ∷ []
+taken_some h xs i x y within here is = ap (filter_map h) (take_more xs i x within)
+    ∙ filter_map-append h (take i xs) (get_or xs i x ∷ [])
+    ∙ ap (λ o. filter_map h (take i xs) ++ cons_option o []) (ap h (sym here) ∙ is)
+
+pub taken_none : {X Y : Type 0} (h : X → Option Y) (xs : List X) (i : ℕ) (x : X) → i < length xs → x ≡ get_or xs i x
+    → h x ≡ None → filter_map h (take (i + 1) xs) ≡ filter_map h (take i xs)
+taken_none h xs i x within here is = grind (steps, append-nil, filter_map-append, take_more)
+
+-- one that is taken leaves room in the count of all
+pub taken_room : {X Y : Type 0} (h : X → Option Y) (xs : List X) (i : ℕ) (x : X) (y : Y) → i < length xs
+    → x ≡ get_or xs i x → h x ≡ Some y → length (filter_map h (take i xs)) < length (filter_map h xs)
+taken_room h xs i x y within here is =
+    let front = filter_map h (take (i + 1) xs) in
+    let back = filter_map h (drop (i + 1) xs) in
+    let one : length front ≡ length (filter_map h (take i xs) ++ y ∷ []) =
+    ap length (taken_some h xs i x y within here is) in
+    let whole : length (filter_map h xs) ≡ length (front ++ back) = ap length
+    (ap (filter_map h) (sym (take-append-drop (i + 1) xs)) ∙ filter_map-append h (take (i + 1) xs) (drop (i + 1) xs)) in
+    omega (arith, one, whole, length-append (filter_map h (take i xs)) (y ∷ []), length-append front back)
+
+pub written_along : {old ends ends' : List HostState} {writes writes' : List HostWrite} {lines lines' : List WriteLine}
+    → writes' ≡ writes → ends' ≡ ends → lines' ≡ lines → AreWritten old writes ends lines
+    → AreWritten old writes' ends' lines'
+written_along {old} e f l so = rw (e, f, l) so
 
 -- The slot of a list's node.
 pub plan_there : (list : Medl) (k : ℕ) (plan : SlotPlan) → slice_get list.slots k ≡ Some plan → plan_at list k ≡ plan
@@ -49,10 +167,9 @@ own_bytes k w bytes =
 pub more_bytes : (at : CurrentSlot) → AreBytesBefore at.list.now at.script.now at.slot
     → All WritesBytes (writes_in at.script.now at.slot) → AreBytesBefore at.list.now at.script.now (at.slot + 1)
 more_bytes at bytes written k =
-    let list = at.list.now in
     let script = at.script.now in
     rw add-one
-    (All-append AreBytes (messages_before list script k at.slot) (messages_written script k at.slot) (bytes k)
+    (All-append AreBytes (messages_before at.list.now script k at.slot) (messages_written script k at.slot) (bytes k)
     (filter_map-each (payload_of_host k) WritesBytes AreBytes (writes_in script at.slot) (own_bytes k) written))
 
 -- Controllers may fetch.
@@ -115,19 +232,13 @@ module _ {at : CurrentSlot} {numbers : Numbers} {seats : List Seat} {ends : List
       let end = host_at ends w.host in
       let ring = (has_ring list w.host (words_written list script w.host (length numbers))
       (pairs_sent list script numbers w.host) end write.some (begun.written w.host write.node)).there in
+      let before = messages_before list script w.host (length numbers) in
+      let many_before = ring_count _ _ _ end ring ∙ length-map before words_of_payload in
+      let few_before = few_messages list script w.host (length numbers) at.valid at.valid_script in
       record {
         takes = ring_takes _ _ _ end (length w.payload) ring
             (omega (arith, write.size, plan_few list w.host at.valid)) (ap word_count write.size);
-        room = omega (
-          arith,
-          ring_count _ _ _ end ring,
-          length-map (messages_before list script w.host (length numbers)) words_of_payload,
-          few_messages list script w.host (length numbers) at.valid at.valid_script,
-          begun.count,
-          at.within,
-          at.valid_script.slots,
-          few,
-        );
+        room = omega (arith, many_before, few_before, begun.count, at.within, at.valid_script.slots, few);
       }
 
   -- the lines of what they write

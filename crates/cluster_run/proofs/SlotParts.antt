@@ -1,4 +1,5 @@
--- The nodes at the end of a slot, in two parts, one after the other, and whole: they are ready for it once it is planned.
+-- The nodes at the end of a slot, in two parts, one after the other, and whole: they are ready for it once it is
+-- planned.
 use Rattle.cluster_run.proofs.Words.{◌≡◌, ℕ, ◌+◌, ◌-◌, ◌<◌, List, [], ◌++◌, length, map, get_or, take, drop, None, sym}
 use Rattle.cluster_run.proofs.Words.{ap, subst, ◌∙◌, arith, cases_lt, map-append, length-map, take-append-drop, Medl}
 use Rattle.cluster_run.proofs.Words.{Script, slot_after, delivered_at, no_outcome, outcomes_of, Seat, ControllerState}
@@ -11,8 +12,7 @@ use Rattle.cluster_run.proofs.Words.{IsSlotEnded, MayEndSlot, StandsAt, IsFromWi
 use Rattle.cluster_run.proofs.Words.{NodesView, length-append}
 use Rattle.medium.specs.Carried.{Carried}
 use Rattle.controller.specs.Parts.{EachFrom}
-use Rattle.cluster_run.proofs.Deliverable.{delivered-deliverable}
-use Rattle.cluster_run.proofs.HandsOn.{HoldsCame, may_hand_on}
+use Rattle.cluster_run.proofs.HandingOn.{delivered-deliverable, HoldsCame, may_hand_on}
 
 -- the first ones of a list, so many, and the others
 pub record AreParts {X : Type 0} (half : ℕ) (whole front back : List X) : Type 0 where
@@ -126,10 +126,7 @@ module _ {half : ℕ} {ss ss1 ss2 : List Seat} {ds ds1 ds2 : List Desk} (c : Are
       let seats : AreParts half ss' ss1' ss2' = record { is = c'; count = front.count ∙ c.count } in
       let outcomes : AreParts half (outcomes_of ss') (outcomes_of ss1') (outcomes_of ss2') =
       mapped (λ (seat : Seat). seat.outcome) seats in
-      let parts : AreParts half ds' ds1' ds2' = record {
-        is = d';
-        count = same_many ds1' ds1 front.rings ∙ d.count;
-      } in
+      let parts : AreParts half ds' ds1' ds2' = record { is = d'; count = same_many ds1' ds1 front.rings ∙ d.count } in
       let after : AreParts half (desk_ends ds') (desk_ends ds1') (desk_ends ds2') = mapped (λ (desk : Desk). desk.end) parts in
       let told : AreParts half (desk_numbers ds') (desk_numbers ds1') (desk_numbers ds2') =
       mapped (λ (desk : Desk). desk.delivered) parts in
@@ -177,7 +174,6 @@ may_end at nodes may =
     let history = world list script may.numbers in
     let chosen = nodes.chosen.items in
     let ends = desk_ends nodes.desks.items in
-    let slots = length-world list script may.numbers in
     record {
       history = history;
       chosen = chosen;
@@ -191,7 +187,7 @@ may_end at nodes may =
           record { each = λ from. may.read j node from } in
           subst (λ k. MayHandOn (end_at ends j) (delivered_at (slot_after list script history) chosen k)) here
           (may_hand_on came (delivered_at (slot_after list script history) chosen j) at.valid
-          (omega (arith, slots, may.count, at.within, at.valid_script.slots))
+          (omega (arith, length-world list script may.numbers, may.count, at.within, at.valid_script.slots))
           (delivered-deliverable list script history chosen j node));
     }
 

@@ -1,34 +1,32 @@
--- A slot takes a cluster to the world of one slot more: its numbers are those in its report, which shows that slot. Each
--- of its reads gets a message, the numbers of these are legal, and the rings keep what was got of them.
+-- A slot takes a cluster to the world of one slot more: its numbers are those in its report, which shows that slot.
+-- Each of its reads gets a message, the numbers of these are legal, and the rings keep what was got of them.
 use Rattle.cluster_run.proofs.Words.{◌≡◌, ℕ, ◌+◌, ◌<◌, ◌≤◌, Bool, true, false, cond, ◌&&◌, List, [], ◌∷◌, ◌++◌, length}
-use Rattle.cluster_run.proofs.Words.{map, get_or, Option, Some, None, IfSome, option_map, inl, inr, refl, sym, ap, ◌∙◌}
-use Rattle.cluster_run.proofs.Words.{subst, arith, ◌==◌, reverse, is_some, AllByRecursion, list_all, ForSome, cases_lt}
-use Rattle.cluster_run.proofs.Words.{eq-eqb, length-map, get_or_past, none-some, Message, WriterState, ReaderState}
-use Rattle.cluster_run.proofs.Words.{new_reader, HostRead, Shape, Medl, Delivered, Entry, Script, Source, History}
-use Rattle.cluster_run.proofs.Words.{read_messages, is_legal_read, are_legal_reads, never_fall, ring_messages}
-use Rattle.cluster_run.proofs.Words.{status_words, message_chosen, reads_in, Numbers, node_past, row_in, world}
-use Rattle.cluster_run.proofs.Words.{chosen_of, length-world, Outcome, outcomes_of, ReadLine, WriteLine, ReadersState}
-use Rattle.cluster_run.proofs.Words.{reads_from, lent, at_source, incoming_shape, CurrentSlot, Desk, Nodes, next_slot}
-use Rattle.cluster_run.proofs.Words.{outcome_of, desk_ends, desk_numbers, end_at, reader_in, reader_at, IsClear}
-use Rattle.cluster_run.proofs.Words.{AreLinesOf, read_of, number_told, read_shown, ring_words, words_read, pair_of}
-use Rattle.cluster_run.proofs.Words.{pairs_read, pairs_read_in, IsRingOf, IsSlotEnded, StandsAt, TellsReads, nodes_view}
-use Rattle.cluster_run.proofs.Words.{steps, AreOfHosts, delivered_of-row_in, HaveEnded, HavePlannedSlot, IsSlotPlanned}
-use Rattle.cluster_run.proofs.Words.{below, IsLegal, is_legal_message, writes_in, SlotNumbers, legal-after, most_ahead}
-use Rattle.cluster_run.proofs.Words.{NodeLine, SlotReport, HaveEndedSlot, node_shown, numbers_in, writes_shown}
-use Rattle.cluster_run.proofs.Words.{IsNextOf, NodesStandFor, fill_by_all, all-below, entry_of, are_legal_messages}
-use Rattle.cluster_run.proofs.Words.{are_same_numbers, is_legal_slot, message_of, message_of-row_in, length-row_in}
-use Rattle.cluster_run.proofs.Words.{row_of_world, row_of_world-told, number_sent, newest_number, get_or-map}
+use Rattle.cluster_run.proofs.Words.{map, get_or, Option, Some, None, option_map, inl, inr, refl, sym, ap, ◌∙◌, subst}
+use Rattle.cluster_run.proofs.Words.{arith, ◌==◌, reverse, is_some, AllByRecursion, list_all, ForSome, cases_lt, eq-eqb}
+use Rattle.cluster_run.proofs.Words.{length-map, get_or_past, Message, WriterState, new_reader, HostRead, Shape, Medl}
+use Rattle.cluster_run.proofs.Words.{Delivered, Entry, Script, Source, History, read_messages, is_legal_read}
+use Rattle.cluster_run.proofs.Words.{are_legal_reads, never_fall, ring_messages, status_words, message_chosen, reads_in}
+use Rattle.cluster_run.proofs.Words.{Numbers, node_past, row_in, world, chosen_of, length-world, Outcome, outcomes_of}
+use Rattle.cluster_run.proofs.Words.{ReadLine, WriteLine, ReadersState, reads_from, lent, at_source, incoming_shape}
+use Rattle.cluster_run.proofs.Words.{CurrentSlot, Desk, Nodes, next_slot, outcome_of, desk_ends, desk_numbers, end_at}
+use Rattle.cluster_run.proofs.Words.{reader_in, reader_at, IsClear, AreLinesOf, read_of, number_told, read_shown}
+use Rattle.cluster_run.proofs.Words.{ring_words, words_read, pair_of, pairs_read, pairs_read_in, IsRingOf, IsSlotEnded}
+use Rattle.cluster_run.proofs.Words.{StandsAt, TellsReads, nodes_view, steps, AreOfHosts, delivered_of-row_in}
+use Rattle.cluster_run.proofs.Words.{HaveEnded, HavePlannedSlot, IsSlotPlanned, below, IsLegal, is_legal_message}
+use Rattle.cluster_run.proofs.Words.{writes_in, SlotNumbers, legal-after, most_ahead, NodeLine, SlotReport}
+use Rattle.cluster_run.proofs.Words.{HaveEndedSlot, node_shown, numbers_in, writes_shown, IsNextOf, NodesStandFor}
+use Rattle.cluster_run.proofs.Words.{fill_by_all, all-below, entry_of, are_legal_messages, are_same_numbers}
+use Rattle.cluster_run.proofs.Words.{is_legal_slot, message_of, message_of-row_in, length-row_in, row_of_world}
+use Rattle.cluster_run.proofs.Words.{row_of_world-told, number_sent, newest_number, get_or-map}
 use Rattle.nbw_ring.specs.Numbers.{newest_number as newest_in, IsMessageOf}
 use Rattle.controller.specs.Passes.{IsLeft}
 use Rattle.controller.proofs.Plants.{left_at}
 use Rattle.ttp_world.proofs.LegalRuns.{are_same_numbers-refl as same_numbers}
 use Rattle.ttp_world.proofs.LineLists.{map_of_map}
 use Rattle.cluster_run.proofs.Choices.{found}
-use Rattle.cluster_run.proofs.Deliverable.{IsDeliverable, delivered-deliverable}
-use Rattle.cluster_run.proofs.HandingOn.{IsHandedOf, handed_ring}
-use Rattle.cluster_run.proofs.HandsOn.{HoldsCame, number_is_told}
-use Rattle.cluster_run.proofs.LineReads.{message_told, messages_told, pairs_of, each_line, never_fall-lines, TellsRing}
-use Rattle.cluster_run.proofs.LineReads.{reads_shown, pairs_told, IsLegalLine, legal_lines}
+use Rattle.cluster_run.proofs.HandingOn.{delivered-deliverable, IsHandedOf, handed_ring, HoldsCame, number_is_told}
+use Rattle.cluster_run.proofs.Lines.{message_told, messages_told, pairs_of, each_line, never_fall-lines, TellsRing}
+use Rattle.cluster_run.proofs.Lines.{reads_shown, pairs_told, IsLegalLine, legal_lines}
 use Rattle.cluster_run.proofs.RingReads.{IsLentBy, AreGotOf, RingSlot, nothing_got, clear_of, IsRingRead, ring_read}
 use Rattle.ttp_world.specs.declared.script.Source.TheVariants as source
 use Rattle.ttp_world.specs.declared.node.Entry.TheVariants as entry
@@ -67,10 +65,6 @@ no_reader : (readers : List (Option ReadersState)) (k n : ℕ) (from : Source) �
 no_reader readers k n from count past =
     ap (λ (o : Option ReadersState). reader_in o from) (get_or_past readers k None (omega arith))
 
-clear_none : (old new : Option ReaderState) → old ≡ None → IsClear old new
-clear_none None new none = tt
-clear_none (Some old) new none = absurd (none-some old (sym none))
-
 -- A ring has as many buffers as the list gives, one at least.
 buffers_some : (list : Medl) (k : ℕ) (from : Source) → 1 ≤ list.buffers
     → ForSome (incoming_shape list k from) (λ (s : Shape). 1 ≤ s.buffers)
@@ -82,8 +76,7 @@ buffers_some list k (source.Node p) some = grind steps
 is_pair : (from : Source) (messages : List (List ℕ)) (m : Message) → IsMessageOf (map (ring_words from) messages) m
     → m ≡ pair_of from messages m.number
 is_pair from messages m is =
-    let there = found (ring_words from) messages [] m.number m.words is in
-    λ i. record { number = m.number; words = sym there.is i }
+    λ i. record { number = m.number; words = sym (found (ring_words from) messages [] m.number m.words is).is i }
 
 is_near : (from : Source) (messages : List (List ℕ)) (m : Message) → IsMessageOf (map (ring_words from) messages) m
     → m.number ≤ newest_number messages
@@ -206,24 +199,21 @@ module _ (so : TakenSlot) where
 
   came : (k : ℕ) → k < length list.slots
       → HoldsCame list script before k (pairs_read list script so.numbers k) (end_at (desk_ends so.mid.desks.items) k)
-  came k node = record {
-    each = λ from. rw (← so.plans.desks) at (so.stands.stands.read k node from);
-  }
+  came k node = record { each = λ from. rw (← so.plans.desks) at (so.stands.stands.read k node from) }
 
   -- so the numbers told are those of the world
   numbers_delivered : (k : ℕ) → k < length list.slots
       → get_or (desk_numbers so.new.desks.items) k None ≡ number_told list script row before k
   numbers_delivered k node = so.tells.handed_are.numbers_are k (omega (arith, node, ends_count))
       ∙ number_is_told (came k node) row (outcome k).delivered
-      (subst (λ (o : Option Delivered). IfSome o (IsDeliverable list k)) (sym (left_here k node).delivered)
-      (delivered-deliverable list script before so.mid.chosen.items k node)) (handed_of k node).delivered
+      (rw (left_here k node).delivered (delivered-deliverable list script before so.mid.chosen.items k node))
+      (handed_of k node).delivered
 
   -- What was read.
 
   abbrev ring : (k : ℕ) → k < length list.slots → Source → RingSlot
   ring k near from =
       let few = ring_messages-few list script row before k from in
-      let some = ring_messages-some list script before k from in
       let count = length-words list script before k from in
       let is = (came k near).each from in
       record {
@@ -236,7 +226,7 @@ module _ (so : TakenSlot) where
         lent = reader_at so.tells.first k from;
         read = reader_at so.tells.last k from;
         some = buffers_some list k from so.at.valid.buffers.0;
-        there = omega (arith, count, some);
+        there = omega (arith, count, ring_messages-some list script before k from);
         few = omega (arith, count, length-words list script (row ∷ before) k from, few);
         is = is;
         be = rw (so.tells.handed_are.ends k (omega (arith, near, ends_count)))
@@ -250,9 +240,7 @@ module _ (so : TakenSlot) where
   clear k from =
       elim (cases_lt k (length list.slots)) [
         | inl near ↦ clear_of (ring k near from)
-        | inr past ↦
-            clear_none (reader_at so.tells.first k from) (reader_at so.tells.last k from)
-            (no_reader so.tells.first k (length list.slots) from first_count past)
+        | inr past ↦ rw (no_reader so.tells.first k (length list.slots) from first_count past) tt
       ]
 
   -- each read got a message
@@ -312,12 +300,9 @@ module _ (so : TakenSlot) where
       ++ pairs_read_in list script (row ∷ before) (read_messages reads (numbers_told so.reads)) k from)
       (at_source (end_at (desk_ends so.new.desks.items) k) from)
   rings_settled k near from =
-      rw (
-        (so.tells.settles.each k (omega (arith, near, last_count))).settled_is from,
-        messages,
-        pairs_told list script (row ∷ before) so.reads k from rings_told,
-        are_lines.pairs k from,
-      ) (ring_is k near from).ring
+      let settled = (so.tells.settles.each k (omega (arith, near, last_count))).settled_is from in
+      rw (settled, messages, pairs_told list script (row ∷ before) so.reads k from rings_told, are_lines.pairs k from)
+      (ring_is k near from).ring
 
   -- The report, whose lines of nodes these are.
 

@@ -1,4 +1,5 @@
 -- The words of this crate's proofs, from one place.
+pub use Rattle.host_port.proofs.ReaderLists.{read_alike, within_list, written_rings, set_back}
 pub use Rattle.ttp_world.proofs.WorldFacts.{payload_few, plan-short as plan_few}
 pub use Rattle.ttp_world.specs.Messages.{newest_number, delivered_of, in_messages, message_of, new_messages}
 pub use Rattle.ttp_world.specs.Messages.{ring_messages, status_words}
@@ -21,7 +22,7 @@ pub use Rattle.cluster_run.specs.Reading.{AllGot, AreDue, AreLentTo, AreLinesBy,
 pub use Rattle.cluster_run.specs.Reading.{AreReadersLent, AreReadersOfAll, HaveRead, IsClear, IsRead, MayReadAll}
 pub use Rattle.cluster_run.specs.Reading.{ReadsMany, SettlesReads, SettlesReadsOf, calls_in, has_reads, is_host}
 pub use Rattle.cluster_run.specs.Reading.{lines_by, queue_of, read_of, reader_at, reader_in, readers_at, rings_in}
-pub use Rattle.cluster_run.specs.Reading.{sources_of}
+pub use Rattle.cluster_run.specs.Reading.{reads_of_host}
 pub use Rattle.cluster_run.specs.Report.{HaveEndedSlot, ShowsSlot, message_named, node_shown, number_told, numbers_in}
 pub use Rattle.cluster_run.specs.Report.{read_shown, writes_shown}
 pub use Rattle.cluster_run.specs.Rings.{GotEach, IsRing, IsRingOf, SawAtMost, joined_pairs, pair_of, pair_read}
@@ -49,7 +50,6 @@ pub use Rattle.controller.specs.PlantWithin.{most_ahead_in}
 pub use Rattle.controller.specs.StandsFor.{ShowsState, Stands, StandsFor}
 pub use Rattle.controller.specs.declared.controller.Outcome.{Outcome}
 pub use Rattle.controller.specs.declared.seat.Seat.{Seat}
-pub use Rattle.host_port.proofs.ReaderLists.{set_back}
 pub use Rattle.host_port.specs.Fetching.{HasSeen, IsWhole}
 pub use Rattle.host_port.specs.Rings.{ControllerState, HostState, IsNew, at_source, incoming_shape, message_shape}
 pub use Rattle.host_port.specs.Rings.{place_of, shape_of}

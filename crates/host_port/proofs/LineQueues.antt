@@ -1,7 +1,6 @@
 -- Pairs that wait in queues, one queue for each place, and become lines in the order of the reads.
-use Rattle.std.proofs.Common.{◌≡◌, ◌≢◌, ℕ, ◌+◌, ◌<◌, List, [], ◌∷◌, ◌++◌, length, map}
-use Rattle.std.proofs.Common.{take, drop, set, get_or, Option, Some, None, All, refl, sym, ap, ◌∙◌, arith}
-use Rattle.std.proofs.Common.{IfSome, option_to_list}
+use Rattle.std.proofs.Common.{◌≡◌, ◌≢◌, ℕ, ◌+◌, ◌<◌, List, [], ◌∷◌, ◌++◌, length, map, take, drop, set, get_or, Option}
+use Rattle.std.proofs.Common.{Some, None, All, refl, sym, ap, ◌∙◌, arith, IfSome, option_to_list}
 use Rattle.std.proofs.lemmas.Bool.Decides.{nat_tests}
 use Rattle.std.proofs.lemmas.Grind.{common_steps}
 use Rattle.std.proofs.lemmas.List.{map-append, map-set, get_or-map, get_or-set_same, get_or-set_other, length-map}
@@ -73,12 +72,8 @@ pub next_some : (calls : List Source) (i : ℕ) (from : Source) (queues : List (
 next_some calls i from queues within here queued =
     let next : drop i calls ≡ from ∷ drop (i + 1) calls =
     drop_more calls i from within ∙ ap (λ f. f ∷ drop (i + 1) calls) (sym here) in
-    omega (
-      arith,
-      queued (place_of from),
-      ap (calls_at (place_of from)) next,
-      calls_at-here (place_of from) from (drop (i + 1) calls) refl,
-    )
+    let counted = ap (calls_at (place_of from)) next ∙ calls_at-here (place_of from) from (drop (i + 1) calls) refl in
+    omega (arith, queued (place_of from), counted)
 
 pairs_at-here : (place : ℕ) (lines : List ReadLine) (line : ReadLine) → place_of line.source ≡ place
     → pairs_at place (lines ++ line ∷ []) ≡ pairs_at place lines ++ line.pair ∷ []

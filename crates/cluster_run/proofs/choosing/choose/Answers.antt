@@ -1,4 +1,4 @@
-use Rattle.cluster_run.proofs.Words.{sym, subst, arith, with_items_is, MayChoose}
+use Rattle.cluster_run.proofs.Words.{◌∙◌, sym, subst, with_items_is, MayChoose}
 use Rattle.cluster_run.proofs.choosing.choose.Goals as goal
 
 pub fetch_and_choose-requires-clause-may : goal.fetch_and_choose-requires-clause-may
@@ -13,11 +13,8 @@ write_and_choose-requires-clause-may g c κs within =
 
 pub returns-then-is_empty : goal.returns-then-is_empty
 returns-then-is_empty g c =
-    rw (
-      with_items_is c.args.ends.now c.fetch_and_choose.new.ends
-          (omega (arith, c.fetch_and_choose.auto.ends, c.as_mut_slice.ensures.len)),
-      ← c.as_mut_slice.ensures.value,
-    ) c.in_ok-none.ensures
+    let same = with_items_is c.args.ends.now _ (c.fetch_and_choose.auto.ends ∙ c.as_mut_slice.ensures.len) in
+    rw (same, ← c.as_mut_slice.ensures.value) c.in_ok-none.ensures
 
 pub returns : goal.returns
 returns g c = rw (← c.replace-given.ensures.value) c.in_ok-given.ensures

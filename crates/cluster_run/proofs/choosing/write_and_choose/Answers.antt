@@ -36,15 +36,8 @@ settle_fetchers-requires-clause-fetchers_count g c =
     let may = c.requires.may in
     let lent = c.in_ok-fetchers.ensures.fetchers (next_slot at.list.now at.script.now may.numbers) may.begun.begun in
     let lent_ends = kept_items c.args.ends c.as_mut_slice.ensures.value c.as_mut_slice.ensures.len c.lend_fetchers.ensures.ends in
-    omega (
-      arith,
-      lent.count,
-      ap length c.as_mut_slice.ensures.value,
-      ap length c.as_mut_slice-2.ensures.value,
-      ap length lent_ends,
-      c.write_and_fetch-ends.ensures.written.count,
-      c.write_and_fetch-ends.ensures.fetches.count,
-    )
+    c.write_and_fetch-ends.ensures.fetches.count ∙ lent.count ∙ ap length c.as_mut_slice.ensures.value
+    ∙ sym (ap length c.as_mut_slice-2.ensures.value ∙ c.write_and_fetch-ends.ensures.written.count ∙ ap length lent_ends)
 
 pub settle_fetchers-requires-clause-fetchers : goal.settle_fetchers-requires-clause-fetchers
 settle_fetchers-requires-clause-fetchers g c = λ k near.
@@ -70,25 +63,13 @@ returns g c =
     let may = c.requires.may in
     let wrote = c.write_and_fetch-ends.ensures in
     let ends = c.args.ends.items in
-    let tried = c.write_and_fetch-ends.result.2.items in
     let lent_ends = kept_items c.args.ends c.as_mut_slice.ensures.value c.as_mut_slice.ensures.len c.lend_fetchers.ensures.ends in
     let bytes = more_bytes at may.bytes (subst (All WritesBytes) c.requires.places wrote.written.bytes) in
-    let after = with_items_is c.write_and_fetch-ends.result.0 c.settle_fetchers.new.ends
-    (omega (
-      arith,
-      c.settle_fetchers.ensures.ends_count,
-      c.as_mut_slice-2.ensures.len,
-      ap length c.as_mut_slice-2.ensures.value,
-    )) in
+    let after = with_items_is c.write_and_fetch-ends.result.0 _
+    (c.settle_fetchers.ensures.ends_count ∙ c.as_mut_slice-2.ensures.len) in
+    let many = ap length c.as_mut_slice-2.ensures.value ∙ wrote.written.count ∙ ap length lent_ends in
     record {
-      count = omega (
-        arith,
-        ap length after,
-        c.settle_fetchers.ensures.ends_count,
-        ap length c.as_mut_slice-2.ensures.value,
-        wrote.written.count,
-        ap length lent_ends,
-      );
+      count = ap length after ∙ c.settle_fetchers.ensures.ends_count ∙ many;
       bytes = bytes;
       lines_are = wrote.written.lines_are ∙ (λ i. write_lines (lent_ends i) [] (c.requires.places i))
           ∙ lines_shown may.ends_count may.begun;
@@ -98,20 +79,12 @@ returns g c =
           rw after
           (have_chosen may.ends_count begun c.args.chosen.now bytes
           (λ k node. record {
-            tried = get_or tried k None;
+            tried = get_or c.write_and_fetch-ends.result.2.items k None;
             fetches = rw (lent.each k (omega (arith, node, may.ends_count)))
                 at (wrote.fetches.each k (omega (arith, node, may.ends_count, lent.count)));
             settles =
                 rw (← (ap (λ xs. host_at xs k) c.as_mut_slice-2.ensures.value ∙ wrote.written.ends k
                 ∙ (λ i. after_writes (c.requires.places i) k (host_at (lent_ends i) k))))
-                (c.settle_fetchers.ensures.settles k
-                (omega (
-                  arith,
-                  node,
-                  may.ends_count,
-                  ap length c.as_mut_slice-2.ensures.value,
-                  ap length lent_ends,
-                  wrote.written.count,
-                )));
+                (c.settle_fetchers.ensures.settles k (omega (arith, node, may.ends_count, many)));
           }));
     }

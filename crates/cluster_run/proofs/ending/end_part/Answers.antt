@@ -13,7 +13,6 @@ hand_on-requires-clause-room g c κs within =
     let old = c.args.part.desks.now in
     let desks = c.loop-j.desks in
     let desk = c.index-desks-j.result in
-    let many = length-map old (λ (d : Desk). d.end) in
     let now_many = length-map desks (λ (d : Desk). d.end) in
     let ended = c.take_all.ensures.end may.history may.chosen may.planned may.carries in
     let seats = c.take_all.new.seats in
@@ -26,7 +25,7 @@ hand_on-requires-clause-room g c κs within =
     ∙ get_or-map (λ (d : Desk). d.end) desks j no_desk ∙ ap (λ (d : Desk). d.end) (so.changed.rest j (omega arith))
     ∙ sym (get_or-map (λ (d : Desk). d.end) old j no_desk) in
     let delivered_is = ap (λ (s : Seat). s.outcome.delivered) (sym c.index-seats-j.is) ∙ left.delivered in
-    rw (end_is, delivered_is) (may.hands_on j (omega (arith, many, c.loop-j-test.true)))
+    rw (end_is, delivered_is) (may.hands_on j (omega (arith, length-map old (λ (d : Desk). d.end), c.loop-j-test.true)))
 
 pub loop-j-preserved : goal.loop-j-preserved
 loop-j-preserved g c =
@@ -34,15 +33,8 @@ loop-j-preserved g c =
     let so = c.loop-j.invariant in
     let seats = c.take_all.new.seats in
     let left = λ (s : Seat). s.outcome in
-    let near : j < length (outcomes_of seats) =
-    omega (
-      arith,
-      length-map seats left,
-      c.take_all.ensures.count,
-      c.requires.count,
-      so.changed.count,
-      c.loop-j-test.true,
-    ) in
+    let many = length-map seats left ∙ c.take_all.ensures.count ∙ sym c.requires.count ∙ sym so.changed.count in
+    let near : j < length (outcomes_of seats) = omega (arith, many, c.loop-j-test.true) in
     let outcome : c.index-seats-j.result.outcome ≡ outcome_of (outcomes_of seats) j =
     ap left c.index-seats-j.is ∙ sym (get_or-map left seats j c.index-seats-j.result)
     ∙ at_any (outcomes_of seats) j c.index-seats-j.result.outcome no_outcome near in

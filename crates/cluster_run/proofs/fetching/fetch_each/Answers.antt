@@ -24,14 +24,13 @@ pub fetch_for-requires-clause-may : goal.fetch_for-requires-clause-may
 fetch_for-requires-clause-may g c κs within =
     let k = c.loop-k.k in
     let so = c.loop-k.invariant in
-    let list = c.args.list.now in
     let may = c.requires.may in
     let near : k < length c.loop-k.ends = omega (arith, so.first.count, c.loop-k-test.true) in
     let seat = slice_get-get_or c.args.seats.now k c.index-seats-k.result
     (omega (arith, c.requires.seats, so.first.count, near)) in
     let loaded = c.is_loaded-loaded.ensures may.lend.slot k (each-of may.lend.begun k seat) in
     let end = sym (so.first.rest k (omega arith)) ∙ at_any c.loop-k.ends k None c.index-ends-k.result near in
-    rw (← plan_there list k c.get.result.now c.get.ensures, loaded)
+    rw (← plan_there c.args.list.now k c.get.result.now c.get.ensures, loaded)
     (subst (MaySettleAfter _ (is_loaded may.lend.slot k)) end (may.settle k (omega (arith, near, so.first.count))))
 
 pub loop-k-preserved : goal.loop-k-preserved
@@ -43,12 +42,9 @@ loop-k-preserved g c =
     omega (arith, so.second.count, so.first.count, c.requires.chosen_count, near) in
     let seat = slice_get-get_or c.args.seats.now k c.index-seats-k.result
     (omega (arith, c.requires.seats, so.first.count, near)) in
+    let plan = plan_there c.args.list.now k c.get.result.now c.get.ensures in
     both_more c.index-ends-k.result c.fetch_for.new.end c.index-chosen-k.result c.fetch_for.new.chosen so near chosen_near
     c.index-ends-k.is c.index-chosen-k.is
     (λ s begun.
-    rw (
-      plan_there c.args.list.now k c.get.result.now c.get.ensures,
-      ← c.is_loaded-loaded.ensures s k (each-of begun k seat),
-      c.index-ends-k.is,
-      c.index-chosen-k.is,
-    ) c.in_ok-fetch_for.ensures.fetches)
+    rw (plan, ← c.is_loaded-loaded.ensures s k (each-of begun k seat), c.index-ends-k.is, c.index-chosen-k.is)
+    c.in_ok-fetch_for.ensures.fetches)

@@ -1,7 +1,7 @@
-use Rattle.cluster_run.proofs.Words.{◌≡◌, ◌+◌, ◌∷◌, ◌++◌, [], take, drop, map, get_or, sym, ap, ◌∙◌, subst, arith}
-use Rattle.cluster_run.proofs.Words.{vec_len, vec_capacity, take_more, take-append-drop, HostRead, into_iter_items}
-use Rattle.cluster_run.proofs.Words.{take_all, drop_more}
-use Rattle.cluster_run.proofs.LineOrder.{AreInOrder, line_taken, line_there, all_in_order}
+use Rattle.cluster_run.proofs.Words.{◌≡◌, ◌+◌, ◌∷◌, ◌++◌, take, drop, map, get_or, sym, ap, ◌∙◌, subst, arith, vec_len}
+use Rattle.cluster_run.proofs.Words.{vec_capacity, take_more, take-append-drop, HostRead, into_iter_items, take_all}
+use Rattle.cluster_run.proofs.Words.{drop_more}
+use Rattle.cluster_run.proofs.Lines.{AreInOrder, line_taken, line_there, all_in_order}
 use Rattle.cluster_run.proofs.reading.in_order.Goals.{in-Some, in_default}
 use Rattle.ttp_world.specs.declared.script.Source.TheVariants as source
 use Rattle.cluster_run.proofs.reading.in_order.Goals as goal
@@ -17,15 +17,13 @@ loop-read-preserved c =
     let whole = map into_iter_items c.args.queues.now in
     let after = map into_iter_items c.next_line.new.queues in
     let so = c.loop-read.invariant.ordered in
-    let next = sym (take_more reads i d c.loop-read-test.true) in
     let split : reads ≡ done ++ r ∷ rest =
     sym (take-append-drop i reads) ∙ ap (λ xs. done ++ xs) (drop_more reads i d c.loop-read-test.true) in
     elim c.match-next_line.branch [
       | in-Some w ↦ record {
-        ordered = λ due. subst (λ ls. AreInOrder (take (i + 1) reads) whole after ls)
-            (sym (ap (λ v. v.items) w.lines-is ∙ w.push_reserved.ensures.items))
-            (subst (λ xs. AreInOrder xs whole after (c.loop-read.lines.items ++ w.in-Some.line ∷ [])) next
-            (line_taken r rest split due (so due) w.in-Some.line w.in-Some.ensures.first w.in-Some.ensures.others));
+        ordered = λ due.
+            rw (ap (λ v. v.items) w.lines-is ∙ w.push_reserved.ensures.items, take_more reads i d c.loop-read-test.true)
+            (line_taken r rest split due (so due) w.in-Some.line w.in-Some.ensures.first w.in-Some.ensures.others);
         queues = w.in-Some.ensures.count ∙ c.loop-read.invariant.queues;
         count = omega (arith, ap vec_len w.lines-is, w.push_reserved.ensures.len, c.loop-read.invariant.count);
         room = ap vec_capacity w.lines-is ∙ w.push_reserved.ensures.capacity ∙ c.loop-read.invariant.room;
@@ -45,7 +43,6 @@ returns-clause-reads c = λ due.
 pub returns-clause-lines : goal.returns-clause-lines
 returns-clause-lines c = λ due.
     let whole = map into_iter_items c.args.queues.now in
-    let now = map into_iter_items c.loop-read.queues in
     all_in_order due
-    (subst (λ xs. AreInOrder xs whole now c.loop-read.lines.items)
+    (subst (λ xs. AreInOrder xs whole (map into_iter_items c.loop-read.queues) c.loop-read.lines.items)
     (take_all c.loop-read.read-index c.args.reads.now c.loop-read-test.false) (c.loop-read.invariant.ordered due))

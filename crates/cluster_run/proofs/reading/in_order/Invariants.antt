@@ -1,5 +1,5 @@
 use Rattle.cluster_run.proofs.Words.{◌≡◌, ◌≤◌, map, take, length, vec_len, vec_capacity, into_iter_items, AreDue}
-use Rattle.cluster_run.proofs.LineOrder.{AreInOrder}
+use Rattle.cluster_run.proofs.Lines.{AreInOrder}
 use Rattle.cluster_run.proofs.reading.in_order.Given as goal
 
 abbrev pub invariant-loop-read : goal.invariant-loop-read

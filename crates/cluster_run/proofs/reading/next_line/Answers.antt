@@ -1,6 +1,6 @@
 use Rattle.cluster_run.proofs.Words.{◌<◌, [], length, get_or, ◌∙◌, arith, into_iter_items, into_iter_len}
 use Rattle.std.proofs.lemmas.List.{get_or-map}
-use Rattle.cluster_run.proofs.LineOrder.{if_none}
+use Rattle.cluster_run.proofs.Lines.{if_none}
 use Rattle.host_port.proofs.LineQueues.{if_taken as if_first, queue_after, queue_other}
 use Rattle.cluster_run.proofs.reading.next_line.Goals as goal
 

@@ -1,14 +1,13 @@
 use Rattle.cluster_run.proofs.Words.{map, ap, ◌∙◌, arith, length-map, into_iter_items, Desk, read_of, lines_by}
 use Rattle.cluster_run.proofs.Words.{queue_of}
-use Rattle.cluster_run.proofs.LineOrder.{lines_of_all}
+use Rattle.cluster_run.proofs.Lines.{lines_of_all}
 use Rattle.cluster_run.proofs.reading.read_lines.Goals as goal
 
 pub returns-clause-lines : goal.returns-clause-lines
 returns-clause-lines c =
     let vecs = c.in_ok-queues.queues.items in
-    let queues = map into_iter_items vecs in
     let same = ap (map into_iter_items) c.as_mut_slice.ensures.value in
-    lines_of_all c.args.reads.now c.args.readers.items queues c.from_vec.result
+    lines_of_all c.args.reads.now c.args.readers.items (map into_iter_items vecs) c.from_vec.result
     (omega (
       arith,
       length-map vecs into_iter_items,

@@ -1,5 +1,5 @@
 use Rattle.cluster_run.proofs.Words.{◌∙◌}
-use Rattle.cluster_run.proofs.SettledReaders.{settles_readers, lines_queued}
+use Rattle.cluster_run.proofs.LentReaders.{settles_readers, lines_queued}
 use Rattle.cluster_run.proofs.reading.settle_one.Goals as goal
 
 pub returns-clause-settles : goal.returns-clause-settles

@@ -1,11 +1,10 @@
 use Rattle.cluster_run.proofs.Words.{◌≡◌, ◌<◌, ◌∷◌, [], None, length, map, get_or, sym, ap, ◌∙◌, subst, arith}
 use Rattle.cluster_run.proofs.Words.{into_iter_items, length-map, map-append, AreReadersOfEnd, ControllerState, Desk}
-use Rattle.cluster_run.proofs.Words.{desk_ends, end_at, readers_at, AreLinesBy, SettlesReadsOf, at_any, get_or-map}
+use Rattle.cluster_run.proofs.Words.{desk_ends, end_at, readers_at, AreLinesBy, at_any, get_or-map, read_alike}
 use Rattle.std.proofs.lemmas.List.{length-append}
 use Rattle.cluster_run.proofs.Changes.{changed_more, pushed_more}
 use Rattle.cluster_run.proofs.HandingOn.{no_desk}
-use Rattle.host_port.proofs.ReaderLists.{read_alike}
-use Rattle.cluster_run.proofs.SettledReaders.{are_settled}
+use Rattle.cluster_run.proofs.LentReaders.{are_settled}
 use Rattle.cluster_run.proofs.reading.settle_readers.Goals as goal
 
 pub settle_one-requires : goal.settle_one-requires
@@ -32,8 +31,7 @@ settle_one-requires c = record {
 
 pub returns-in_err-settle_one-clause-numbers : goal.returns-in_err-settle_one-clause-numbers
 returns-in_err-settle_one-clause-numbers c =
-    let desk = c.index-desks-k.result in
-    read_alike (λ (d : Desk). d.delivered) c.loop-k.desks c.loop-k.k desk _ c.index-desks-k.is
+    read_alike (λ (d : Desk). d.delivered) c.loop-k.desks c.loop-k.k c.index-desks-k.result _ c.index-desks-k.is
     (ap (λ (d : Desk). d.delivered) (sym c.index-desks-k.is)) ∙ c.loop-k.invariant.settled.numbers
 
 pub loop-k-preserved : goal.loop-k-preserved
@@ -58,9 +56,7 @@ loop-k-preserved c =
             (ap (λ (d : Desk). d.delivered) (sym c.index-desks-k.is)) ∙ so.numbers;
         desks_are =
             changed_more desk new so.desks_are (omega (arith, so.desks_are.count, c.loop-k-test.true)) c.index-desks-k.is
-            (subst (λ o. SettlesReadsOf desk.end o new.end) own
-            (subst (λ (e : ControllerState). SettlesReadsOf e c.take-own.result c.settle_one.new.end)
-            (sym (ap (λ (d : Desk). d.end) c.index-desks-k.is)) ok.settles));
+            (rw (own, ← c.index-desks-k.is) at ok.settles);
         readers_are =
             changed_more c.index_mut.result.now c.take-own.new.self so.readers_are near c.index_mut.ensures.value tt;
         queues_are = rw queues
@@ -75,11 +71,5 @@ loop-k-preserved c =
 pub returns-clause-settles : goal.returns-clause-settles
 returns-clause-settles c =
     let so = c.loop-k.invariant.settled in
-    are_settled
-    (omega (
-      arith,
-      c.requires.own.count,
-      length-map c.args.desks.now (λ (d : Desk). d.end),
-      so.desks_are.count,
-      c.loop-k-test.false,
-    )) so
+    let many = c.requires.own.count ∙ length-map c.args.desks.now (λ (d : Desk). d.end) ∙ sym so.desks_are.count in
+    are_settled (omega (arith, many, c.loop-k-test.false)) so

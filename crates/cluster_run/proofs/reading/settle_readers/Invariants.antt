@@ -1,5 +1,5 @@
 use Rattle.cluster_run.proofs.Words.{◌≡◌, map, length, vec_capacity, into_iter_items}
-use Rattle.cluster_run.proofs.SettledReaders.{AreReadersSettled}
+use Rattle.cluster_run.proofs.LentReaders.{AreReadersSettled}
 use Rattle.cluster_run.proofs.reading.settle_readers.Given as goal
 
 abbrev pub invariant-loop-k : goal.invariant-loop-k

@@ -2,7 +2,7 @@ use Rattle.cluster_run.proofs.Words.{◌≡◌, ◌∷◌, ◌++◌, [], None, g
 use Rattle.cluster_run.proofs.Words.{slice_get-get_or, ShowsState, Seat, NodeLine, Desk, message_named, node_shown}
 use Rattle.cluster_run.proofs.Words.{map-next}
 use Rattle.std.proofs.lemmas.List.{get_or-map}
-use Rattle.cluster_run.proofs.NodeLines.{line_shown}
+use Rattle.cluster_run.proofs.Lines.{line_shown}
 use Rattle.cluster_run.proofs.reporting.node_lines.Goals as goal
 
 pub loop-k-preserved : goal.loop-k-preserved

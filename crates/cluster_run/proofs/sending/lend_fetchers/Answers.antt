@@ -7,13 +7,12 @@ pub lend_one-requires : goal.lend_one-requires
 lend_one-requires c = record {
   ring = λ loaded.
       let k = c.loop-k.k in
-      let ends = c.args.ends.now in
-      let within : k < length ends = omega (arith, ap length c.loop-k.invariant.ends, c.loop-k-test.true) in
+      let within : k < length c.args.ends.now = omega (arith, ap length c.loop-k.invariant.ends, c.loop-k-test.true) in
       let seat = slice_get-get_or c.args.seats.now k c.index-seats-k.result (omega (arith, c.requires.seats, within)) in
       let is = sym (c.is_loaded-loaded.ensures c.requires.rings.slot k (each-of c.requires.rings.begun k seat))
       ∙ loaded in
       subst IsSome
-      (at_any ends k None c.index-ends-k.result within
+      (at_any c.args.ends.now k None c.index-ends-k.result within
       ∙ ap (λ xs. get_or xs k c.index-ends-k.result) (sym c.loop-k.invariant.ends))
       (c.requires.rings.rings k within is);
 }

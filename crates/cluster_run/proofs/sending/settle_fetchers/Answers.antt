@@ -1,5 +1,5 @@
 use Rattle.cluster_run.proofs.Words.{◌≡◌, ◌<◌, length, get_or, None, subst, sym, ap, ◌∙◌, arith, plan_at, settled}
-use Rattle.cluster_run.proofs.Words.{IsSettled, HostState, MaySettle, SettlesFetch, at_any, payload_few, choice_of}
+use Rattle.cluster_run.proofs.Words.{IsSettled, HostState, SettlesFetch, at_any, payload_few, choice_of}
 use Rattle.cluster_run.proofs.Changes.{both_more, changed_more}
 use Rattle.cluster_run.proofs.Sends.{plan_there}
 use Rattle.cluster_run.proofs.sending.settle_fetchers.Goals as goal
@@ -18,22 +18,21 @@ settle_one-requires-clause-fetcher c = λ x is.
     sym (c.index_mut.ensures.value ∙ at_any c.loop-k.fetchers.items k c.index_mut.result.now None near
     ∙ so.taken.rest k (omega arith)) ∙ sym c.take-fetcher.ensures.value ∙ is in
     let now : k < length c.loop-k.ends = omega (arith, so.settled.first.count, c.loop-k-test.true) in
-    rw (← plan_there c.args.list.now k c.get.result.now c.get.ensures)
-    (subst (λ (e : HostState). MaySettle e (plan_at c.args.list.now k).payload x)
-    (sym (at_any c.loop-k.ends k c.index-ends-k.result None now ∙ so.settled.first.rest k (omega arith)))
-    (c.requires.fetchers k here x was))
+    rw (
+      ← plan_there c.args.list.now k c.get.result.now c.get.ensures,
+      at_any c.loop-k.ends k c.index-ends-k.result None now ∙ so.settled.first.rest k (omega arith),
+    ) (c.requires.fetchers k here x was)
 
 pub loop-k-preserved : goal.loop-k-preserved
 loop-k-preserved c =
     let k = c.loop-k.k in
     let so = c.loop-k.invariant in
-    let fetchers = c.loop-k.fetchers.items in
     let here : k < length c.args.ends.now = omega (arith, so.settled.first.count, c.loop-k-test.true) in
     let now : k < length c.loop-k.ends = omega (arith, so.settled.first.count, c.loop-k-test.true) in
-    let near : k < length fetchers = omega (arith, so.taken.count, c.requires.fetchers_count, here) in
+    let near : k < length c.loop-k.fetchers.items = omega (arith, so.taken.count, c.requires.fetchers_count, here) in
     let chosen_near : k < length c.loop-k.chosen = omega (arith, so.settled.second.count, c.requires.chosen_count, here) in
     let fetcher = c.take-fetcher.ensures.value ∙ c.index_mut.ensures.value
-    ∙ at_any fetchers k c.index_mut.result.now None near ∙ so.taken.rest k (omega arith) in
+    ∙ at_any c.loop-k.fetchers.items k c.index_mut.result.now None near ∙ so.taken.rest k (omega arith) in
     let plan = plan_there c.args.list.now k c.get.result.now c.get.ensures in
     let end = sym c.index-ends-k.is in
     record {

@@ -2,9 +2,9 @@ use Rattle.cluster_run.proofs.Words.{◌≡◌, ◌∷◌, ◌++◌, [], take, s
 use Rattle.cluster_run.proofs.Words.{arith, All, option_map, vec_len, vec_capacity, filter_map, with_items_is}
 use Rattle.cluster_run.proofs.Words.{length-set, All-push, write_at, HostState, written, Takes, HasRoom}
 use Rattle.cluster_run.proofs.Words.{words_of_payload, host_at, WritesBytes, write_line, at_any, host_write}
-use Rattle.cluster_run.proofs.Writes.{written_more, takes_after, room_after, takes-some, taken_some}
-use Rattle.cluster_run.proofs.Writes.{taken_none, taken_room, written_along}
-use Rattle.host_port.proofs.ReaderLists.{within_list}
+use Rattle.cluster_run.proofs.Words.{within_list}
+use Rattle.cluster_run.proofs.Sends.{written_more, takes_after, room_after, takes-some, taken_some, taken_none}
+use Rattle.cluster_run.proofs.Sends.{taken_room, written_along}
 use Rattle.cluster_run.proofs.sending.write_all.Goals.{in-Some, in_default}
 use Rattle.cluster_run.proofs.sending.write_all.Goals as goal
 
@@ -56,13 +56,10 @@ loop-place-preserved g c =
           record {
             written = written_along (taken_some at places i place x c.loop-place-test.true here is)
                 (ap (λ v. v.items) w.ends-is ∙ with_items_is c.loop-place.ends w.write_one.new.ends
-                (omega (
-                  arith,
-                  ap length w.write_one.ensures.ends,
-                  length-set w.as_mut_slice.result.now x.host
-                      (written (host_at w.as_mut_slice.result.now x.host) (words_of_payload x.payload)),
-                  w.as_mut_slice.ensures.len,
-                )) ∙ w.write_one.ensures.ends
+                (ap length w.write_one.ensures.ends
+                ∙ length-set w.as_mut_slice.result.now x.host
+                (written (host_at w.as_mut_slice.result.now x.host) (words_of_payload x.payload))
+                ∙ w.as_mut_slice.ensures.len) ∙ w.write_one.ensures.ends
                 ∙ (λ j. set (value j) x.host (written (host_at (value j) x.host) (words_of_payload x.payload))))
                 (ap (λ v. v.items) w.lines-is ∙ w.push_reserved.ensures.items
                 ∙ ap (λ l. lines ++ l ∷ []) (w.write_one.ensures.line ∙ ap (λ xs. write_line xs x.host 0) value))
@@ -81,8 +78,7 @@ loop-place-preserved g c =
             written =
                 written_along (taken_none at places i place c.loop-place-test.true here is) (ap
                 (λ v. v.items) w.ends-is) (ap (λ v. v.items) w.lines-is) so;
-            bytes = subst (All WritesBytes) (sym (taken_none at places i place c.loop-place-test.true here is))
-                c.loop-place.invariant.bytes;
+            bytes = rw (taken_none at places i place c.loop-place-test.true here is) c.loop-place.invariant.bytes;
             count = omega (arith, ap vec_len w.lines-is, c.loop-place.invariant.count);
             room = ap vec_capacity w.lines-is ∙ c.loop-place.invariant.room;
           }

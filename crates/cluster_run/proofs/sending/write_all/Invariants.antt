@@ -1,5 +1,5 @@
 use Rattle.cluster_run.proofs.Words.{◌≡◌, ◌≤◌, take, vec_len, vec_capacity, All, filter_map, write_at, WritesBytes}
-use Rattle.cluster_run.proofs.Writes.{AreWritten}
+use Rattle.cluster_run.proofs.Sends.{AreWritten}
 use Rattle.cluster_run.proofs.sending.write_all.Given as goal
 
 abbrev pub invariant-loop-place : goal.invariant-loop-place

@@ -35,11 +35,9 @@ read_lines-requires-clause-hosts g c =
     let at = c.args.at.now in
     let nodes = c.args.nodes.now in
     let lent = kept_items nodes.desks c.deref_mut.ensures.value c.deref_mut.ensures.len c.lend_readers.ensures.desks in
-    rw (
-      c.requires.reads,
-      ap length c.deref_mut-2.ensures.value ∙ same_many _ _ c.in_ok-readers.ensures.ended.ended.rings ∙ ap length lent
-          ∙ c.requires.may.are.desks,
-    ) (hosts_within at.list.now at.script.now at.slot at.valid_script)
+    let many = ap length c.deref_mut-2.ensures.value ∙ same_many _ _ c.in_ok-readers.ensures.ended.ended.rings
+    ∙ ap length lent ∙ c.requires.may.are.desks in
+    rw (c.requires.reads, many) (hosts_within at.list.now at.script.now at.slot at.valid_script)
 
 pub returns-clause-ends : goal.returns-clause-ends
 returns-clause-ends g c =
@@ -56,7 +54,6 @@ pub returns-clause-tells : goal.returns-clause-tells
 returns-clause-tells g c =
     let nodes = c.args.nodes.now in
     let done = c.end_and_read.new.nodes in
-    let read = c.in_ok-readers.ensures.read in
     let lent = all_lent_for nodes c.requires.may c.deref_mut.ensures.value c.requires.reads c.in_ok-lent.ensures.lent in
     let kept = kept_items nodes.desks c.deref_mut.ensures.value c.deref_mut.ensures.len c.lend_readers.ensures.desks in
     let settled = with_items_is done.desks _ (c.read_lines.ensures.count ∙ c.deref_mut-2.ensures.len) in
@@ -67,7 +64,7 @@ returns-clause-tells g c =
       handed_are = rw (settled, c.read_lines.ensures.numbers, c.deref_mut-2.ensures.value)
           (rw kept at c.in_ok-readers.ensures.ended.ended.handed);
       lent = lent.lent;
-      read = rw (← c.requires.reads) read;
+      read = rw (← c.requires.reads) c.in_ok-readers.ensures.read;
       settles = rw settled (rw c.deref_mut-2.ensures.value at c.in_ok-lines.ensures.settles);
       told = rw c.requires.reads at c.in_ok-lines.ensures.lines;
     }

@@ -1,6 +1,6 @@
 use Rattle.cluster_run.proofs.Words.{length, sym, ◌∙◌, eqb-true, nil_from_length}
 use Rattle.cluster_run.proofs.SlotParts.{same_many, ends_slot, part_ready}
-use Rattle.cluster_run.proofs.QuietReads.{none_read}
+use Rattle.cluster_run.proofs.LentReaders.{none_read}
 use Rattle.cluster_run.proofs.slot.end_slot.Goals as goal
 
 pub end_unread-requires-after_bounds : goal.end_unread-requires-after_bounds

@@ -7,19 +7,13 @@ use Rattle.cluster_run.proofs.slot.plan.Goals as goal
 pub choose-requires-after_bounds : goal.choose-requires-after_bounds
 choose-requires-after_bounds g c κs within =
     let at = c.args.at.now in
-    let nodes = c.args.nodes.now in
     let are = c.requires.nodes.are in
-    let begun = with_items_is nodes.seats _ (c.begin_all.ensures.count ∙ c.deref_mut.ensures.len) in
+    let begun = with_items_is c.args.nodes.now.seats _ (c.begin_all.ensures.count ∙ c.deref_mut.ensures.len) in
     record {
       ends_count = are.host_ends;
-      seats_count = omega (
-        arith,
-        ap length (c.deref.ensures.value ∙ begun),
-        c.begin_all.ensures.count,
-        ap length c.deref_mut.ensures.value,
-        are.seats_count,
-      );
-      chosen_count = omega (arith, ap length c.deref_mut-2.ensures.value, are.chosen);
+      seats_count = ap length (c.deref.ensures.value ∙ begun) ∙ c.begin_all.ensures.count
+          ∙ ap length c.deref_mut.ensures.value ∙ are.seats_count;
+      chosen_count = ap length c.deref_mut-2.ensures.value ∙ are.chosen;
       bytes = c.requires.bytes;
       numbers = c.requires.nodes.stands.numbers;
       begun = has_begun_for at (c.deref.ensures.value ∙ begun) c.requires.nodes.stands.at c.deref_mut.ensures.value
@@ -42,17 +36,11 @@ plan_all-requires-clause-chosen g c =
     let nodes = c.args.nodes.now in
     let stands = c.requires.nodes.stands in
     let begun = with_items_is nodes.seats _ (c.begin_all.ensures.count ∙ c.deref_mut.ensures.len) in
-    let told = with_items_is nodes.chosen _ (c.choose.auto.chosen ∙ c.deref_mut-2.ensures.len) in
-    payloads-chosen c.deref-2.result.now
-    (omega (
-      arith,
-      ap length (c.deref_mut-3.ensures.value ∙ begun),
-      c.begin_all.ensures.count,
-      ap length c.deref_mut.ensures.value,
-      c.requires.nodes.are.seats_count,
-    ))
+    let many = ap length (c.deref_mut-3.ensures.value ∙ begun) ∙ c.begin_all.ensures.count
+    ∙ ap length c.deref_mut.ensures.value ∙ c.requires.nodes.are.seats_count in
+    payloads-chosen c.deref-2.result.now (omega (arith, many))
     (has_begun at (c.deref_mut-3.ensures.value ∙ begun) stands.at c.deref_mut.ensures.value c.begin_all.ensures.begin)
-    (rw (c.deref-2.ensures.value ∙ told)
+    (rw (c.deref-2.ensures.value ∙ (with_items_is nodes.chosen _ (c.choose.auto.chosen ∙ c.deref_mut-2.ensures.len)))
     (chosen_sizes at.valid_script
     (c.in_ok-writes.ensures.chooses stands.numbers
     (has_begun_for at (c.deref.ensures.value ∙ begun) stands.at c.deref_mut.ensures.value c.begin_all.ensures.begin))))
@@ -71,15 +59,8 @@ returns g c =
     let told = with_items_is nodes.chosen _ (c.choose.auto.chosen ∙ c.deref_mut-2.ensures.len) in
     record {
       are = record {
-        seats_count = omega (
-          arith,
-          ap length planned,
-          c.plan_all.ensures.count,
-          ap length (c.deref_mut-3.ensures.value ∙ begun),
-          c.begin_all.ensures.count,
-          ap length c.deref_mut.ensures.value,
-          are.seats_count,
-        );
+        seats_count = ap length planned ∙ c.plan_all.ensures.count ∙ ap length (c.deref_mut-3.ensures.value ∙ begun)
+            ∙ c.begin_all.ensures.count ∙ ap length c.deref_mut.ensures.value ∙ are.seats_count;
         seats = rw planned c.plan_all.ensures.seats;
         incidents = rw planned c.plan_all.ensures.incidents;
         chosen = omega (arith, ap length told, c.choose.auto.chosen, ap length c.deref_mut-2.ensures.value, are.chosen);

@@ -3,6 +3,5 @@ use Rattle.cluster_run.proofs.staff.do_host_job.Goals as goal
 
 pub returns-in-Read : goal.returns-in-Read
 returns-in-Read g c =
-    let readers = c.in-Read.readers in
-    let left = with_items_is readers _ (c.read_all.auto.readers ∙ c.as_mut_slice.ensures.len) in
+    let left = with_items_is c.in-Read.readers _ (c.read_all.auto.readers ∙ c.as_mut_slice.ensures.len) in
     rw (c.in-Read.is, left) (rw c.as_mut_slice.ensures.value at c.read_all.ensures)

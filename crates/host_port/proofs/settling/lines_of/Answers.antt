@@ -30,10 +30,9 @@ loop-source-preserved c =
     elim c.match-next_pair.branch [
       | in-Some w ↦
           let line : ReadLine = record { host = c.args.host; source = from; pair = w.in-Some.pair } in
-          let first = w.in-Some.ensures.first in
           let lined =
           lined_more {whole = whole} {before = before} {after = after} line c.loop-source.invariant.lined
-          c.loop-source-test.true here refl (rw c.place_of.ensures at first)
+          c.loop-source-test.true here refl (rw c.place_of.ensures at w.in-Some.ensures.first)
           (λ other apart. w.in-Some.ensures.others other (λ same. apart (same ∙ c.place_of.ensures))) in
           record {
             lined = rw (w.lines-is, w.push_reserved.ensures.items) lined;

@@ -10,8 +10,7 @@ overflow_add-word c = omega (arith, number-fits c.loop-j.word c.loop-j.j c.loop-
 
 pub loop-j-preserved : goal.loop-j-preserved
 loop-j-preserved c =
-    let i = c.args.i in
-    let more = number_in-more (λ j. get_or c.args.bytes.now (8 * i + j) 0) c.loop-j.j in (
+    let more = number_in-more (λ j. get_or c.args.bytes.now (8 * c.args.i + j) 0) c.loop-j.j in (
       omega (arith, more),
       number-below c.loop-j.word c.byte_at.result c.loop-j.j c.loop-j.invariant.1 c.byte_at.ensures.bound,
     )

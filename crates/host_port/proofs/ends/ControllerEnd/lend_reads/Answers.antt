@@ -7,18 +7,11 @@ use Rattle.host_port.proofs.ends.ControllerEnd.lend_reads.Goals as goal
 
 pub invariant_of-result : goal.invariant_of-result
 invariant_of-result c =
-    let readers = c.in_ok-readers.ensures.readers in
+    let spare = ap (sum_by spare_of) c.as_slice.ensures.value in
     record {
-      room =
-          omega (
-            arith,
-            c.in_ok-calls.ensures.len,
-            c.in_ok-calls.ensures.exact,
-            c.in-Some.ensures,
-            ap (sum_by spare_of) c.as_slice.ensures.value,
-          );
+      room = omega (arith, c.in_ok-calls.ensures.len, c.in_ok-calls.ensures.exact, c.in-Some.ensures, spare);
       counts = λ place. ap (calls_at place) c.in_ok-calls.ensures.items
-          ∙ sym (ap (λ rs. length (got_of (get_or rs place None))) readers
+          ∙ sym (ap (λ rs. length (got_of (get_or rs place None))) c.in_ok-readers.ensures.readers
           ∙ ap length (all_lent-got c.args.reads.now c.args.node c.as_mut_slice.result.now place));
     }
 
@@ -26,12 +19,11 @@ pub returns-clause-readers : goal.returns-clause-readers
 returns-clause-readers c =
     let reads = c.args.reads.now in
     let node = c.args.node in
-    let writers = c.as_mut_slice.result.now in
     let shown = c.as_mut_slice.ensures.value ∙ c.self.view_is in
     λ source.
     let place = place_of source in
     ap (λ rs. get_or rs place None) c.in_ok-readers.ensures.readers
-    ∙ (all_lent-at reads node 0 writers place place (zero-add place)
+    ∙ (all_lent-at reads node 0 c.as_mut_slice.result.now place place (zero-add place)
     ∙ ap (λ ws. lent (get_or ws place None) (reads_at reads node place)) shown)
 
 pub returns-clause-own : goal.returns-clause-own
