@@ -76,7 +76,8 @@ pub use Rattle.std.specs.Prelude.{All, if◌then◌else◌, int_le, nat_le, nat_
 pub use Rattle.std.specs.Str.{bytes_eq}
 pub use Rattle.ttp_base.proofs.Below.{below-lt}
 pub use Rattle.ttp_base.proofs.NodeLists.{with_node-nil}
-pub use Rattle.ttp_base.specs.NodeSet.{below, has_node, members_in, most_nodes, with_node, without_node}
+pub use Rattle.ttp_base.specs.NodeSet.{below, has_node, most_nodes, without_node}
+unfoldable pub use Rattle.ttp_base.specs.NodeSet.{members_in, with_node}
 pub use Rattle.ttp_frame.proofs.Undisturbed.{HavePlaces-AreNodes, is_formed-frame}
 pub use Rattle.ttp_world.proofs.Filters.{each-filter}
 pub use Rattle.ttp_world.proofs.LegalShapes.{legal-older, legal-shapes}

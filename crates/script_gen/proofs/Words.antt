@@ -1,8 +1,9 @@
 -- The words of this crate's proofs, from one place.
-pub use Rattle.script_gen.specs.Draws.{drawn}
+unfoldable pub use Rattle.script_gen.specs.Draws.{drawn}
 pub use Rattle.script_gen.specs.Generator.{all_events, both_channels, drift_by, error_by, error_events, fault_by}
 pub use Rattle.script_gen.specs.Generator.{fault_events, fault_slot, fault_within, first_start, first_starter}
-pub use Rattle.script_gen.specs.Generator.{generated, has_payload, host_events, host_events_in, most_faults, reads_by}
+pub use Rattle.script_gen.specs.Generator.{has_payload, host_events, host_events_in, most_faults, reads_by}
+unfoldable pub use Rattle.script_gen.specs.Generator.{generated}
 pub use Rattle.script_gen.specs.Generator.{spread_over, starter_of, write_by}
 pub use Rattle.std.proofs.Common.{Bool, List, None, Option, Some, [], add-one, ap, arith, cond, false, get_or, inl, inr}
 pub use Rattle.std.proofs.Common.{length, length-append, map, mod-lt, neg_ℤ, not, pos, refl, replicate, rules, subst}

@@ -5,7 +5,8 @@ pub use Rattle.controller.specs.PlantView.{PlantView}
 pub use Rattle.frame_fates.specs.Runs.{AreRuns}
 pub use Rattle.line_text.proofs.Cuts.{AreLines, AreLines-take, lines_of-behind}
 pub use Rattle.line_text.specs.Labels.{after_label}
-pub use Rattle.line_text.specs.Numerals.{message_digits, numeral_in}
+pub use Rattle.line_text.specs.Numerals.{message_digits}
+unfoldable pub use Rattle.line_text.specs.Numerals.{numeral_in}
 pub use Rattle.std.proofs.Common.{Bool, Bor, IfSome, IsTrue, List, None, Option, Some, [], add-one, ap, append_assoc}
 pub use Rattle.std.proofs.Common.{arith, cond, count_by, drop, false, get_or, if◌then◌else◌, inl, inr, length}
 pub use Rattle.std.proofs.Common.{length-append, option_map, refl, replicate, set, subst, suc, sym, take, true, zero, ℕ}
