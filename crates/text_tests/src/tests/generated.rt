@@ -1,13 +1,13 @@
 //! Scripts for a few lists, worked out by a program of its own.
-ghost use Rattle.std.specs.Prelude.{IfOk};
+ghost use Rattle.std.specs.Prelude.{◌≡◌, [], ◌∷◌, ◌++◌, true, false, IfOk, OnOk};
+ghost use Rattle.ttp_world.specs.declared.medl.Kind.TheVariants as kind;
 ghost use Rattle.ttp_world.specs.Medl.{IsValid};
 
-use super::scripts::add_slot;
 use script_gen::generate;
 use std::alloc::Global;
 use std::test::Fail;
 use ttp_base::{List, Memory};
-use ttp_world::{Channels, Event, Fault, Kind, Medl, Script, Source};
+use ttp_world::{Channels, Event, Fault, Kind, Medl, Script, SlotPlan, Source};
 
 const BOTH: Channels = Channels { a: true, b: true };
 
@@ -84,6 +84,35 @@ fn is_line(event: &Event, line: Line) -> bool {
         }
         _ => false,
     }
+}
+
+// Adds the slot of a node whose frames are all of one kind.
+fn add_slot(
+    alloc: Global,
+    slots: &mut List<SlotPlan>,
+    kind: Kind,
+    payload: u8,
+    start: bool,
+) -> Result<(), Memory>
+    ensures { OnOk result (slots.new ≡ slots.old ++ record {
+      kinds = kind ∷ [];
+      payload = payload;
+      sync = true;
+      start = start;
+      requests = false;
+      live = 1;
+    } ∷ []) }
+{
+    let mut kinds = List::new(alloc);
+    kinds.push(kind)?;
+    slots.push(SlotPlan {
+        kinds,
+        payload,
+        sync: true,
+        start,
+        requests: false,
+        live: 1,
+    })
 }
 
 // Six nodes, of which the first and the fifth send payload and the second may start.

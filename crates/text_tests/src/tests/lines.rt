@@ -1,4 +1,4 @@
-//! Lines of nodes, as the format of the trace gives them.
+//! Lines as the format of the trace gives them, of states that no run is asked for.
 ghost use Rattle.std.specs.Prelude.{◌≡◌};
 ghost use Rattle.line_text.specs.HostLines.{HasWords};
 
@@ -8,7 +8,7 @@ use line_text::{
 use std::alloc::Global;
 use std::test::Fail;
 use ttp_base::{Line, List, Memory, MemorySink, NodeSet};
-use ttp_world::{Ack, Back, CState, Entry, Keep, Medl, NodeState, Phase, Reason, Source, Verdict};
+use ttp_world::{Ack, Back, Entry, Keep, Medl, NodeState, Phase, Source, Verdict};
 
 // A list without slots: of it a line needs the version alone.
 fn list(alloc: Global, version: u8) -> Medl
@@ -40,10 +40,6 @@ fn judged(sender: u8, verdict: Verdict) -> Entry {
     }
 }
 
-fn left(reason: Reason, peer: u8) -> Entry {
-    Entry::Left { reason, peer }
-}
-
 // What a line shows of an active node whose clock is at 0.
 fn active(entry: Entry, members: NodeSet, accepted: u8, rejected: u8, ack: Ack) -> NodeState {
     NodeState {
@@ -53,19 +49,6 @@ fn active(entry: Entry, members: NodeSet, accepted: u8, rejected: u8, ack: Ack) 
         accepted,
         rejected,
         ack,
-        offset: 0,
-    }
-}
-
-// What a line shows of a node that is not active.
-fn idle(phase: Phase, entry: Entry) -> NodeState {
-    NodeState {
-        phase,
-        entry,
-        members: NodeSet::empty(),
-        accepted: 0,
-        rejected: 0,
-        ack: Ack::Closed,
         offset: 0,
     }
 }
@@ -112,117 +95,6 @@ fn wrong_line(
         }
     }
     Ok(None)
-}
-
-// The state of a node that joined on the frame of node 0.
-fn joined() -> NodeState {
-    let one = NodeSet::empty().with(0);
-    let entry = Entry::Joined {
-        sender: 0,
-        cstate: CState {
-            time: 0,
-            round: 0,
-            slot: 0,
-            members: one,
-        },
-        deviation: 0,
-    };
-    active(entry, one, 1, 0, Ack::Closed)
-}
-
-fn started_rows() -> [Row; 5] {
-    let one = NodeSet::empty().with(0);
-    let two = one.with(1);
-    let bare = Entry::Sent { message: None };
-    let correct = judged(1, Verdict::Correct);
-    let third = judged(2, Verdict::Correct);
-    let all = four_members().with(2);
-    [
-        (10, 0, active(Entry::Started, one, 1, 0, Ack::First), None),
-        (10, 1, joined(), None),
-        (11, 0, active(correct, two, 2, 0, Ack::Closed), None),
-        (11, 1, active(bare, two, 1, 0, Ack::First), None),
-        (17, 0, active(third, all, 3, 0, Ack::Closed), Some(2)),
-    ]
-}
-
-fn later_rows() -> [Row; 5] {
-    let four = four_members();
-    let all = four.with(2);
-    let sent = Entry::Sent { message: Some(1) };
-    let invalid = judged(2, Verdict::Invalid);
-    let tentative = judged(3, Verdict::Tentative);
-    let null = judged(2, Verdict::Null);
-    let incorrect = judged(2, Verdict::Incorrect);
-    [
-        (17, 2, active(sent, all, 1, 0, Ack::First), Some(1)),
-        (22, 0, active(invalid, four, 2, 1, Ack::Closed), None),
-        (23, 2, active(tentative, all, 1, 0, Ack::Doubt(3)), None),
-        (24, 1, active(null, four, 2, 0, Ack::Closed), None),
-        (24, 3, active(incorrect, four, 2, 1, Ack::First), None),
-    ]
-}
-
-const STARTED_LINES: &[&str] = &[
-    "slot 10 node 0 start peer 0 msg - mem 0001 acc 1 rej 0 ack first clock 0\n",
-    "slot 10 node 1 join peer 0 msg - mem 0001 acc 1 rej 0 ack none clock 0\n",
-    "slot 11 node 0 correct peer 1 msg - mem 0003 acc 2 rej 0 ack none clock 0\n",
-    "slot 11 node 1 send peer 1 msg - mem 0003 acc 1 rej 0 ack first clock 0\n",
-    "slot 17 node 0 correct peer 2 msg 2 mem 001f acc 3 rej 0 ack none clock 0\n",
-];
-
-const LATER_LINES: &[&str] = &[
-    "slot 17 node 2 send peer 2 msg 1 mem 001f acc 1 rej 0 ack first clock 0\n",
-    "slot 22 node 0 invalid peer 2 msg - mem 001b acc 2 rej 1 ack none clock 0\n",
-    "slot 23 node 2 tentative peer 3 msg - mem 001f acc 1 rej 0 ack doubt:3 clock 0\n",
-    "slot 24 node 1 null peer 2 msg - mem 001b acc 2 rej 0 ack none clock 0\n",
-    "slot 24 node 3 incorrect peer 2 msg - mem 001b acc 2 rej 1 ack first clock 0\n",
-];
-
-#[test]
-fn active_nodes(rt: HostRuntime) -> Result<(), Fail> {
-    let wrong = wrong_line(rt.alloc(), &started_rows(), STARTED_LINES)?;
-    assert!(rt; wrong.is_none(), "{wrong:?}");
-    let wrong = wrong_line(rt.alloc(), &later_rows(), LATER_LINES)?;
-    assert!(rt; wrong.is_none(), "{wrong:?}");
-    Ok(())
-}
-
-fn idle_row(slot: u32, node: u8, phase: Phase, entry: Entry) -> Row {
-    (slot, node, idle(phase, entry), None)
-}
-
-fn left_row(slot: u32, node: u8, reason: Reason, peer: u8) -> Row {
-    idle_row(slot, node, Phase::Left, left(reason, peer))
-}
-
-fn other_rows() -> [Row; 7] {
-    [
-        idle_row(0, 3, Phase::Off, Entry::Off),
-        idle_row(9, 4, Phase::Listening, Entry::Waited),
-        idle_row(16, 1, Phase::Listening, Entry::Retried),
-        left_row(24, 2, Reason::Denied, 4),
-        left_row(33, 3, Reason::Unacknowledged, 3),
-        left_row(31, 1, Reason::Clique, 1),
-        idle_row(32, 1, Phase::Left, Entry::Gone),
-    ]
-}
-
-const OTHER_LINES: &[&str] = &[
-    "slot 0 node 3 off peer - msg - mem 0000 acc 0 rej 0 ack none clock 0\n",
-    "slot 9 node 4 wait peer - msg - mem 0000 acc 0 rej 0 ack none clock 0\n",
-    "slot 16 node 1 retry peer - msg - mem 0000 acc 0 rej 0 ack none clock 0\n",
-    "slot 24 node 2 denied peer 4 msg - mem 0000 acc 0 rej 0 ack none clock 0\n",
-    "slot 33 node 3 unacknowledged peer 3 msg - mem 0000 acc 0 rej 0 ack none clock 0\n",
-    "slot 31 node 1 clique peer 1 msg - mem 0000 acc 0 rej 0 ack none clock 0\n",
-    "slot 32 node 1 gone peer - msg - mem 0000 acc 0 rej 0 ack none clock 0\n",
-];
-
-#[test]
-fn other_nodes(rt: HostRuntime) -> Result<(), Fail> {
-    let wrong = wrong_line(rt.alloc(), &other_rows(), OTHER_LINES)?;
-    assert!(rt; wrong.is_none(), "{wrong:?}");
-    Ok(())
 }
 
 fn slot_row(node: u8, sender: u8, verdict: Verdict, members: NodeSet, message: Option<u64>) -> Row {
@@ -339,54 +211,36 @@ fn is_write_line(alloc: Global, line: &mut Line) -> Result<bool, Memory> {
     Ok(written.is_ok() && sink.bytes() == b"slot 19999 host 23 write 60000\n".as_slice())
 }
 
+const PART: [u64; 2] = [0xffee_ddcc_bbaa_9988, 0x7700_0000_0000_0000];
+
+// Whether the lines of messages of nine bytes and of one are right.
+fn are_read_lines(alloc: Global, line: &mut Line) -> Result<bool, Memory> {
+    let nine = RingMessage {
+        source: Source::Node(23),
+        number: 20_000,
+        words: &PART,
+        size: 9,
+    };
+    let one = RingMessage {
+        source: Source::Node(0),
+        number: 0,
+        words: &PART[1..],
+        size: 1,
+    };
+    Ok(
+        is_read_line(
+            alloc,
+            &nine,
+            line,
+            "slot 11 host 1 read 23 20000 ffeeddccbbaa998877\n",
+        )? && is_read_line(alloc, &one, line, "slot 11 host 1 read 0 0 77\n")?,
+    )
+}
+
 #[test]
 fn lines_of_hosts(rt: HostRuntime) -> Result<(), Fail> {
-    let status: [u64; 4] = [11, 41, 0x0000_0001_0001_0003, 256];
-    let full: [u64; 1] = [0x0102_0304_0506_0708];
-    let part: [u64; 2] = [0xffee_ddcc_bbaa_9988, 0x7700_0000_0000_0000];
-    let rows: [(Source, u64, &[u64], u8, &str); 4] = [
-        (
-            Source::Status,
-            12,
-            &status,
-            0,
-            "slot 11 host 1 read status 12 000000000000000b000000000000002900000001000100030000000000000100\n",
-        ),
-        (
-            Source::Node(2),
-            1,
-            &full,
-            8,
-            "slot 11 host 1 read 2 1 0102030405060708\n",
-        ),
-        (
-            Source::Node(23),
-            20_000,
-            &part,
-            9,
-            "slot 11 host 1 read 23 20000 ffeeddccbbaa998877\n",
-        ),
-        (
-            Source::Node(0),
-            0,
-            &part[1..],
-            1,
-            "slot 11 host 1 read 0 0 77\n",
-        ),
-    ];
     let mut line = Line::new();
-    for (source, number, words, size, text) in rows {
-        let message = RingMessage {
-            source,
-            number,
-            words,
-            size,
-        };
-        assert!(rt;
-            is_read_line(rt.alloc(), &message, &mut line, text)?,
-            "{text}"
-        );
-    }
+    assert!(rt; are_read_lines(rt.alloc(), &mut line)?);
     assert!(rt; is_write_line(rt.alloc(), &mut line)?);
     Ok(())
 }
@@ -433,13 +287,6 @@ fn a_line_of_a_host_is_one_piece(rt: HostRuntime) -> Result<(), Fail> {
     Ok(())
 }
 
-const KEEPS: &[(Keep, &str)] = &[
-    (Keep::Yes { start: 10 }, "keeps yes start 10\n"),
-    (Keep::Yes { start: 20_070 }, "keeps yes start 20070\n"),
-    (Keep::No { rule: 4, slot: 0 }, "keeps no H4 0\n"),
-    (Keep::No { rule: 6, slot: 41 }, "keeps no H6 41\n"),
-];
-
 fn is_keep_line(alloc: Global, keep: &Keep, text: &str) -> Result<bool, Memory> {
     let mut out = MemorySink::new(alloc, 22, List::new(alloc))?;
     Ok(put_keep(keep, &mut out).is_ok() && out.bytes() == text.as_bytes())
@@ -451,24 +298,6 @@ fn is_keep_refused(alloc: Global) -> Result<bool, Memory> {
     let keep = Keep::No { rule: 4, slot: 0 };
     Ok(put_keep(&keep, &mut narrow).is_err() && narrow.bytes().is_empty())
 }
-
-#[test]
-fn answers_of_the_hypothesis_test(rt: HostRuntime) -> Result<(), Fail> {
-    for (keep, text) in KEEPS {
-        assert!(rt; is_keep_line(rt.alloc(), keep, text)?, "{text}");
-    }
-    assert!(rt;
-        is_keep_refused(rt.alloc())?,
-        "a part of a line was written"
-    );
-    Ok(())
-}
-
-const BACKS: &[(Back, &str)] = &[
-    (Back::Yes { start: 12 }, "returns yes start 12\n"),
-    (Back::No { rule: 8, slot: 37 }, "returns no Q8 37\n"),
-    (Back::No { rule: 2, slot: 0 }, "returns no Q2 0\n"),
-];
 
 fn is_back_line(alloc: Global, back: &Back, text: &str) -> Result<bool, Memory> {
     let mut out = MemorySink::new(alloc, 21, List::new(alloc))?;
@@ -482,14 +311,19 @@ fn is_back_refused(alloc: Global) -> Result<bool, Memory> {
     Ok(put_back(&back, &mut narrow).is_err() && narrow.bytes().is_empty())
 }
 
+fn are_answers(alloc: Global) -> Result<bool, Memory> {
+    let keep = Keep::Yes { start: 20_070 };
+    let back = Back::No { rule: 8, slot: 37 };
+    Ok(
+        is_keep_line(alloc, &keep, "keeps yes start 20070\n")?
+            && is_keep_refused(alloc)?
+            && is_back_line(alloc, &back, "returns no Q8 37\n")?
+            && is_back_refused(alloc)?,
+    )
+}
+
 #[test]
-fn answers_on_armed_nodes(rt: HostRuntime) -> Result<(), Fail> {
-    for (back, text) in BACKS {
-        assert!(rt; is_back_line(rt.alloc(), back, text)?, "{text}");
-    }
-    assert!(rt;
-        is_back_refused(rt.alloc())?,
-        "a part of a line was written"
-    );
+fn answers_of_both_tests(rt: HostRuntime) -> Result<(), Fail> {
+    assert!(rt; are_answers(rt.alloc())?);
     Ok(())
 }

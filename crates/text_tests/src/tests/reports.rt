@@ -17,9 +17,9 @@ const STATUS: [u64; 4] = [11, 41, 0x0000_0001_0001_0003, 256];
 const NINE: [u64; 2] = [0xffee_ddcc_bbaa_9988, 0x7700_0000_0000_0000];
 
 // The plan of a slot whose frames carry so much payload.
-fn slot_plan(rt: &HostRuntime, payload: u8) -> SlotPlan {
+fn slot_plan(alloc: Global, payload: u8) -> SlotPlan {
     SlotPlan {
-        kinds: List::new(rt.alloc()),
+        kinds: List::new(alloc),
         payload,
         sync: true,
         start: true,
@@ -29,13 +29,13 @@ fn slot_plan(rt: &HostRuntime, payload: u8) -> SlotPlan {
 }
 
 // A list of version 1 with three nodes, the last one of which sends nine bytes.
-fn three_nodes(rt: &HostRuntime) -> Result<Medl, Memory>
+fn three_nodes(alloc: Global) -> Result<Medl, Memory>
     ensures { IfOk result (λ list. list.version ≡ 1) }
 {
-    let mut slots = List::new(rt.alloc());
-    slots.push(slot_plan(rt, 0))?;
-    slots.push(slot_plan(rt, 1))?;
-    slots.push(slot_plan(rt, 9))?;
+    let mut slots = List::new(alloc);
+    slots.push(slot_plan(alloc, 0))?;
+    slots.push(slot_plan(alloc, 1))?;
+    slots.push(slot_plan(alloc, 9))?;
     Ok(Medl {
         version: 1,
         rounds: 1,
@@ -149,48 +149,56 @@ fn judged(sender: u8, verdict: Verdict) -> Entry {
     }
 }
 
-// A slot in which node 2 sends its host's fourth message, and hosts write and read.
+// The nodes of a slot in which node 2 sends its host's fourth message.
+fn nodes_of(alloc: Global, list: &Medl) -> Result<List<NodeLine>, Memory>
+    requires { list.now.version ≡ 1 }
+    ensures most { IfOk result (λ nodes. length nodes ≤ 3) }
+    ensures digits { IfOk result (All (λ line. HasDigits list.now line.state)) }
+{
+    let all = NodeSet::empty().with(0).with(1).with(2);
+    let few = all.without(2);
+    let sent = Entry::Sent { message: Some(4) };
+    let mut nodes = List::new(alloc);
+    add_node(list, judged(2, Verdict::Correct), Some(7), all, &mut nodes)?;
+    add_node(list, judged(2, Verdict::Null), None, few, &mut nodes)?;
+    add_node(list, sent, Some(4), all, &mut nodes)?;
+    Ok(nodes)
+}
+
+// What hosts write in it.
+fn writes_of(alloc: Global) -> Result<List<WriteLine>, Memory> {
+    let mut writes = List::new(alloc);
+    for (host, number) in [(2, 5), (1, 9), (2, 6)] {
+        writes.push(WriteLine { host, number })?;
+    }
+    Ok(writes)
+}
+
+// What node 1's host reads in it.
+fn reads_of(alloc: Global, list: &Medl) -> Result<List<ReadLine>, Memory>
+    ensures { IfOk result (All (HasMessage list.now)) }
+{
+    let mut reads = List::new(alloc);
+    let status = pairs_of(alloc, 12, &STATUS)?;
+    add_reads(list, Source::Status, status, &mut reads)?;
+    let nine = pairs_of(alloc, 3, &NINE)?;
+    add_reads(list, Source::Node(2), nine, &mut reads)?;
+    let none = pairs_of(alloc, 0, &[9])?;
+    add_reads(list, Source::Node(1), none, &mut reads)?;
+    Ok(reads)
+}
+
 fn report(alloc: Global, list: &Medl) -> Result<SlotReport, Memory>
     requires { list.now.version ≡ 1 }
     ensures nodes { IfOk result (λ report. length report.nodes ≤ 3) }
     ensures digits { IfOk result (λ report. All (λ line. HasDigits list.now line.state) report.nodes) }
     ensures reads { IfOk result (λ report. All (HasMessage list.now) report.reads) }
 {
-    let all = NodeSet::empty().with(0).with(1).with(2);
-    let sent = Entry::Sent { message: Some(4) };
-    let mut nodes = List::new(alloc);
-    add_node(list, judged(2, Verdict::Correct), Some(7), all, &mut nodes)?;
-    add_node(
-        list,
-        judged(2, Verdict::Null),
-        None,
-        all.without(2),
-        &mut nodes,
-    )?;
-    add_node(list, sent, Some(4), all, &mut nodes)?;
-    let mut writes = List::new(alloc);
-    writes.push(WriteLine { host: 2, number: 5 })?;
-    writes.push(WriteLine { host: 1, number: 9 })?;
-    writes.push(WriteLine { host: 2, number: 6 })?;
-    let mut reads = List::new(alloc);
-    add_reads(
-        list,
-        Source::Status,
-        pairs_of(alloc, 12, &STATUS)?,
-        &mut reads,
-    )?;
-    add_reads(
-        list,
-        Source::Node(2),
-        pairs_of(alloc, 3, &NINE)?,
-        &mut reads,
-    )?;
-    add_reads(list, Source::Node(1), pairs_of(alloc, 0, &[9])?, &mut reads)?;
     Ok(SlotReport {
         slot: 11,
-        nodes,
-        writes,
-        reads,
+        nodes: nodes_of(alloc, list)?,
+        writes: writes_of(alloc)?,
+        reads: reads_of(alloc, list)?,
     })
 }
 
@@ -215,14 +223,6 @@ fn are_lines(alloc: Global, list: &Medl, report: &SlotReport) -> Result<bool, Me
     Ok(written.is_ok() && whole.bytes() == LINES.as_bytes())
 }
 
-#[test]
-fn lines_of_a_report(rt: HostRuntime) -> Result<(), Fail> {
-    let list = three_nodes(&rt)?;
-    let report = report(rt.alloc(), &list)?;
-    assert!(rt; are_lines(rt.alloc(), &list, &report)?);
-    Ok(())
-}
-
 // Whether a sink that is full has some first lines, and none of the lines after them.
 fn is_cut(alloc: Global, list: &Medl, report: &SlotReport, room: usize) -> Result<bool, Memory>
     requires version { list.now.version ≡ 1 }
@@ -237,13 +237,30 @@ fn is_cut(alloc: Global, list: &Medl, report: &SlotReport, room: usize) -> Resul
     Ok(refused && whole_lines && LINES.as_bytes().starts_with(written))
 }
 
-// A sink that is full at any place.
-#[test]
-fn a_report_that_does_not_fit(rt: HostRuntime) -> Result<(), Fail> {
-    let list = three_nodes(&rt)?;
-    let report = report(rt.alloc(), &list)?;
+// Whether that is so of a sink that is full at any place.
+fn is_cut_anywhere(alloc: Global, list: &Medl, report: &SlotReport) -> Result<bool, Memory>
+    requires version { list.now.version ≡ 1 }
+    requires nodes { length report.now.nodes ≤ 3 }
+    requires digits { All (λ line. HasDigits list.now line.state) report.now.nodes }
+    requires reads { All (HasMessage list.now) report.now.reads }
+{
     for room in 0..LINES.len() {
-        assert!(rt; is_cut(rt.alloc(), &list, &report, room)?, "room {room}");
+        if !is_cut(alloc, list, report, room)? {
+            return Ok(false);
+        }
     }
+    Ok(true)
+}
+
+// Whether a report has its lines, whole or cut.
+fn is_written(alloc: Global) -> Result<bool, Memory> {
+    let list = three_nodes(alloc)?;
+    let report = report(alloc, &list)?;
+    Ok(are_lines(alloc, &list, &report)? && is_cut_anywhere(alloc, &list, &report)?)
+}
+
+#[test]
+fn lines_of_a_report(rt: HostRuntime) -> Result<(), Fail> {
+    assert!(rt; is_written(rt.alloc())?);
     Ok(())
 }
