@@ -12,7 +12,7 @@ use Rattle.cluster_run.proofs.Words.{incoming_shape, reader_at, calls_in, IsRing
 use Rattle.cluster_run.proofs.Words.{reads_of_valid, MayReadAll, zero, suc, recursion_from_All, ReadLine, IsSettled}
 use Rattle.cluster_run.proofs.Words.{settled, got_of, pairs_from, desk_numbers, SettlesReads, SettlesReadsOf, read_of}
 use Rattle.cluster_run.proofs.Words.{AreLinesBy, queue_of, all_settled, get_or-map, replicate, length-replicate}
-use Rattle.cluster_run.proofs.Words.{outcomes_of, HaveHandedOn, reader_in, sources_of, TellsReads}
+use Rattle.cluster_run.proofs.Words.{outcomes_of, HaveHandedOn, reader_in, reads_of_host, is_host, filter, TellsReads}
 use Rattle.std.proofs.lemmas.List.{get_or-map as get_or-map_within}
 use Rattle.cluster_run.proofs.Changes.{AreChanged}
 use Rattle.cluster_run.proofs.HandingOn.{no_desk}
@@ -237,7 +237,7 @@ none_read at old new quiet handed =
         count = refl;
         rings = λ k. refl;
         each = λ k from. rw quiet refl;
-        calls = λ k clear. ap calls_in (none_there n k) ∙ sym (ap (λ reads. sources_of reads k) quiet);
+        calls = λ k clear. ap (λ o. reads_of_host k (calls_in o)) (none_there n k) ∙ sym (ap (filter (is_host k)) quiet);
       };
       settles = record { each = λ k near. rw (none_there n k) (none_settled (end_at ends k)) };
       told = λ got. record {

@@ -3,16 +3,15 @@ use Rattle.cluster_run.proofs.Words.{◌≡◌, ◌≢◌, ℕ, ◌<◌, Bool, t
 use Rattle.cluster_run.proofs.Words.{Option, Some, None, refl, sym, ap, ◌∙◌, append_assoc, filter, IsSome, eq-eqb}
 use Rattle.cluster_run.proofs.Words.{map-append, append-nil, HostRead, ReadLine, is_host, read_of, lines_by, queue_of}
 use Rattle.cluster_run.proofs.Words.{AreDue, steps, ◌↔◌, IfNone, append_cancel_left, filter-append, ◌≤◌, inl, inr}
-use Rattle.cluster_run.proofs.Words.{arith, ◌==◌, cases_lt, eqb-true, get_or_past, Source, ReadersState, calls_in}
-use Rattle.cluster_run.proofs.Words.{sources_of, AllGot, AreLinesOf, AreQueuesOf, ◌+◌, ◌&&◌, ◌||◌, subst, nat_le}
-use Rattle.cluster_run.proofs.Words.{reverse, AllByRecursion, list_all, and_parts, le-leb, Message, Medl, Script}
-use Rattle.cluster_run.proofs.Words.{History, ring_messages, ReadMessage, read_messages, never_fall, is_legal_read}
-use Rattle.cluster_run.proofs.Words.{pairs_from, place_of, read_shown, pairs_read_in, not, reverse-append}
-use Rattle.cluster_run.proofs.Words.{is_same_source, is_same_ring, is_not_older, is_line_from, pair_read, newest_number}
-use Rattle.cluster_run.proofs.Words.{get_or, slice_get, Entry, node_past, IsEnded, ShowsState, Seat, NodeLine}
-use Rattle.cluster_run.proofs.Words.{HaveEndedSlot, message_named, number_told, node_shown, zero-add, Diary}
-use Rattle.cluster_run.proofs.Words.{Surroundings, diary_of, past_of, state_of, message_shown, StandsAfter}
-use Rattle.cluster_run.proofs.Words.{IsControllerOf, StandsFor, Stands}
+use Rattle.cluster_run.proofs.Words.{arith, ◌==◌, cases_lt, get_or_past, Source, ReadersState, calls_in, reads_of_host}
+use Rattle.cluster_run.proofs.Words.{AllGot, AreLinesOf, AreQueuesOf, ◌+◌, ◌&&◌, ◌||◌, subst, nat_le, reverse}
+use Rattle.cluster_run.proofs.Words.{AllByRecursion, list_all, and_parts, le-leb, Message, Medl, Script, History}
+use Rattle.cluster_run.proofs.Words.{ring_messages, ReadMessage, read_messages, never_fall, is_legal_read, pairs_from}
+use Rattle.cluster_run.proofs.Words.{place_of, read_shown, pairs_read_in, not, reverse-append, is_same_source}
+use Rattle.cluster_run.proofs.Words.{is_same_ring, is_not_older, is_line_from, pair_read, newest_number, get_or}
+use Rattle.cluster_run.proofs.Words.{slice_get, Entry, node_past, IsEnded, ShowsState, Seat, NodeLine, HaveEndedSlot}
+use Rattle.cluster_run.proofs.Words.{message_named, number_told, node_shown, zero-add, Diary, Surroundings, diary_of}
+use Rattle.cluster_run.proofs.Words.{past_of, state_of, message_shown, StandsAfter, IsControllerOf, StandsFor, Stands}
 use Rattle.std.proofs.lemmas.List.Folds.{list_all-append}
 use Rattle.ttp_world.proofs.LegalReads.{reverse-all}
 use Rattle.ttp_world.specs.declared.node.NodeState.{NodeState}
@@ -87,34 +86,14 @@ all_in_order {reads} {whole} {now} {lines} due so k =
     map_nothing read_of (queue_of now k) (left_due [] (sym (append-nil reads)) due so k) in
     sym (append-nil (lines_by k lines)) ∙ ap (λ q. lines_by k lines ++ q) (sym none) ∙ so.kept k
 
--- a host's reads are told by their sources
-hosted_kept : (k : ℕ) (r : HostRead) (rs : List HostRead) (b : Bool) → (r.host == k) ≡ b
-    → map (λ (from : Source). record { host = k; source = from }) (map (λ (x : HostRead). x.source) rs) ≡ rs
-    → map (λ (from : Source). record { host = k; source = from })
-    (map (λ (x : HostRead). x.source) (cond b (r ∷ rs) rs)) ≡ cond b (r ∷ rs) rs
-hosted_kept k r rs true is later = λ i. record { host = sym (eqb-true r.host k is) i; source = r.source } ∷ later i
-hosted_kept k r rs false is later = later
-
-by_sources : (k : ℕ) (reads : List HostRead)
-    → map (λ (from : Source). record { host = k; source = from }) (sources_of reads k) ≡ filter (is_host k) reads
-by_sources k [] = refl
-by_sources k (r ∷ reads) = hosted_kept k r (filter (is_host k) reads) (r.host == k) refl (by_sources k reads)
-
-due_past : (reads : List HostRead) (readers : List (Option ReadersState)) (k : ℕ) → length readers ≤ k
-    → AllGot reads readers → [] ≡ filter (is_host k) reads
-due_past reads readers k past got =
-    sym (map_nothing (λ (x : HostRead). x.source) (filter (is_host k) reads)
-    (sym (got k) ∙ ap calls_in (get_or_past readers k None past)))
-
 are_due : (reads : List HostRead) (readers : List (Option ReadersState)) (queues : List (List ReadLine))
     → length queues ≡ length readers → AreQueuesOf readers queues → AllGot reads readers → AreDue reads queues
 are_due reads readers queues count are got = λ k.
     elim (cases_lt k (length readers)) [
-      | inl near ↦
-          (are k near).reads ∙ ap (map (λ (from : Source). record { host = k; source = from })) (got k)
-          ∙ by_sources k reads
+      | inl near ↦ (are k near).reads ∙ got k
       | inr past ↦
-          ap (map read_of) (get_or_past queues k [] (omega arith)) ∙ due_past reads readers k past got
+          ap (map read_of) (get_or_past queues k [] (omega arith))
+          ∙ sym (ap (λ o. reads_of_host k (calls_in o)) (get_or_past readers k None past)) ∙ got k
     ]
 
 pub lines_of_all : (reads : List HostRead) (readers : List (Option ReadersState)) (queues : List (List ReadLine))

@@ -5,8 +5,9 @@ use Rattle.cluster_run.proofs.Words.{Option, Some, None, IsSomeAnd, refl, sym, a
 use Rattle.cluster_run.proofs.Words.{Message, ReaderState, Reads, buffers_of, got_one, ReadsMany, IsClear, steps}
 use Rattle.cluster_run.proofs.Words.{lt-ltb, limit, RingState, cond, set, take, get_or, inl, inr, cases_eq, take_more}
 use Rattle.cluster_run.proofs.Words.{HostRead, Source, ReadersState, reads_from, readers_at, reader_in, reader_at}
-use Rattle.cluster_run.proofs.Words.{calls_in, rings_in, IsRead, sources_of, HaveRead, MayReadAll, ◌⊎◌, at_any}
-use Rattle.cluster_run.proofs.Words.{length-append, IsLeft, within_list}
+use Rattle.cluster_run.proofs.Words.{calls_in, rings_in, IsRead, reads_of_host, is_host, filter, filter-append}
+use Rattle.cluster_run.proofs.Words.{append-nil, map-append, HaveRead, MayReadAll, ◌⊎◌, at_any, length-append, IsLeft}
+use Rattle.cluster_run.proofs.Words.{within_list}
 use Rattle.nbw_ring.specs.Attempts.{Gets}
 use Rattle.ttp_world.proofs.LineLists.{each-append}
 
@@ -147,13 +148,13 @@ got_every (suc n) old new none untried many clear =
 
 -- Which reads are of a host and a source.
 
-sources_more-own : (done : List HostRead) (r : HostRead) (k : ℕ) → r.host ≡ k
-    → sources_of (done ++ r ∷ []) k ≡ sources_of done k ++ r.source ∷ []
-sources_more-own done r k own = grind steps
+host_more-own : (done : List HostRead) (r : HostRead) (k : ℕ) → r.host ≡ k
+    → filter (is_host k) (done ++ r ∷ []) ≡ filter (is_host k) done ++ r ∷ []
+host_more-own done r k own = grind (steps, filter-append)
 
-sources_more-other : (done : List HostRead) (r : HostRead) (k : ℕ) → r.host ≢ k
-    → sources_of (done ++ r ∷ []) k ≡ sources_of done k
-sources_more-other done r k other = grind steps
+host_more-other : (done : List HostRead) (r : HostRead) (k : ℕ) → r.host ≢ k
+    → filter (is_host k) (done ++ r ∷ []) ≡ filter (is_host k) done
+host_more-other done r k other = grind (steps, append-nil, filter-append)
 
 -- A read, among the readers of all hosts.
 
@@ -213,26 +214,26 @@ module _ {done : List HostRead} {r : HostRead} {start old new : List (Option Rea
       ]
 
   own_more : ((from : Source) → IsClear (reader_at start r.host from) (reader_at new r.host from))
-      → calls_in (readers_at new r.host) ≡ sources_of (done ++ r ∷ []) r.host
+      → reads_of_host r.host (calls_in (readers_at new r.host)) ≡ filter (is_host r.host) (done ++ r ∷ [])
   own_more clear =
       let h = r.host in
       let got = clear_got (reads_from done h r.source) (reader_at start h r.source) (reader_at old h r.source)
       (reader_at new h r.source) (so.each h r.source) is.own.reads (clear r.source) in
       let calls = calls_in (readers_at old h) in
-      is.own.calls ∙ ap (λ b. cond b (calls ++ r.source ∷ []) calls) got
-      ∙ ap (λ cs. cs ++ r.source ∷ []) (so.calls h (λ from. was_clear h from (clear from)))
-      ∙ sym (sources_more-own done r h refl)
+      ap (reads_of_host h) (is.own.calls ∙ ap (λ b. cond b (calls ++ r.source ∷ []) calls) got)
+      ∙ map-append (λ (from : Source). record { host = h; source = from }) calls (r.source ∷ [])
+      ∙ ap (λ rs. rs ++ r ∷ []) (so.calls h (λ from. was_clear h from (clear from))) ∙ sym (host_more-own done r h refl)
 
   calls_more : (k : ℕ) → ((from : Source) → IsClear (reader_at start k from) (reader_at new k from))
-      → calls_in (readers_at new k) ≡ sources_of (done ++ r ∷ []) k
+      → reads_of_host k (calls_in (readers_at new k)) ≡ filter (is_host k) (done ++ r ∷ [])
   calls_more k clear =
       elim (cases_eq r.host k) [
         | inl own ↦
-            subst (λ j. calls_in (readers_at new j) ≡ sources_of (done ++ r ∷ []) j) own
+            subst (λ j. reads_of_host j (calls_in (readers_at new j)) ≡ filter (is_host j) (done ++ r ∷ [])) own
             (own_more (λ from. rw own (clear from)))
         | inr other ↦
-            ap calls_in (is.others k other) ∙ so.calls k (λ from. was_clear k from (clear from))
-            ∙ sym (sources_more-other done r k other)
+            ap (λ o. reads_of_host k (calls_in o)) (is.others k other) ∙ so.calls k (λ from. was_clear k from (clear from))
+            ∙ sym (host_more-other done r k other)
       ]
 
   have_more : HaveRead (done ++ r ∷ []) start new

@@ -22,7 +22,7 @@ pub use Rattle.cluster_run.specs.Reading.{AllGot, AreDue, AreLentTo, AreLinesBy,
 pub use Rattle.cluster_run.specs.Reading.{AreReadersLent, AreReadersOfAll, HaveRead, IsClear, IsRead, MayReadAll}
 pub use Rattle.cluster_run.specs.Reading.{ReadsMany, SettlesReads, SettlesReadsOf, calls_in, has_reads, is_host}
 pub use Rattle.cluster_run.specs.Reading.{lines_by, queue_of, read_of, reader_at, reader_in, readers_at, rings_in}
-pub use Rattle.cluster_run.specs.Reading.{sources_of}
+pub use Rattle.cluster_run.specs.Reading.{reads_of_host}
 pub use Rattle.cluster_run.specs.Report.{HaveEndedSlot, ShowsSlot, message_named, node_shown, number_told, numbers_in}
 pub use Rattle.cluster_run.specs.Report.{read_shown, writes_shown}
 pub use Rattle.cluster_run.specs.Rings.{GotEach, IsRing, IsRingOf, SawAtMost, joined_pairs, pair_of, pair_read}

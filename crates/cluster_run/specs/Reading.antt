@@ -81,9 +81,9 @@ abbrev pub IsClear : Option ReaderState → Option ReaderState → Type 0
 IsClear (Some old) (Some new) = old.ring.shape.buffers ≢ 1 → new.seen < limit old.ring.shape old.floor
 IsClear _ _ = Unit {0}
 
--- the sources that node k's host reads, in the order of the script
-abbrev pub sources_of : List HostRead → ℕ → List Source
-sources_of reads k = map (λ read. read.source) (filter (is_host k) reads)
+-- the reads of node k's host from these sources
+abbrev pub reads_of_host : ℕ → List Source → List HostRead
+reads_of_host k sources = map (λ from. record { host = k; source = from }) sources
 
 -- Each reader has made the reads of its host and source, of the same ring. Where all of a host's readers are clear each
 -- of its reads got a message.
@@ -93,7 +93,7 @@ pub record HaveRead (reads : List HostRead) (old new : List (Option ReadersState
   pub each : (k : ℕ) (from : Source)
       → ReadsMany (reads_from reads k from) (reader_at old k from) (reader_at new k from)
   pub calls : (k : ℕ) → ((from : Source) → IsClear (reader_at old k from) (reader_at new k from))
-      → calls_in (readers_at new k) ≡ sources_of reads k
+      → reads_of_host k (calls_in (readers_at new k)) ≡ filter (is_host k) reads
 
 -- no host has read yet, and each has a reader of what it reads, with room for all its reads of it
 pub record MayReadAll (reads : List HostRead) (readers : List (Option ReadersState)) : Type 0 where
@@ -115,7 +115,7 @@ pub record SettlesReads (old : List ControllerState) (readers : List (Option Rea
 
 -- each read got a message
 abbrev pub AllGot : List HostRead → List (Option ReadersState) → Type 0
-AllGot reads readers = (k : ℕ) → calls_in (readers_at readers k) ≡ sources_of reads k
+AllGot reads readers = (k : ℕ) → reads_of_host k (calls_in (readers_at readers k)) ≡ filter (is_host k) reads
 
 -- Lines.
 
@@ -128,7 +128,7 @@ lines_by k lines = filter (λ line. line.host == k) lines
 
 -- the lines of the readers of node k's host: one for each read that got a message, with what its reader got
 pub record AreLinesBy (k : ℕ) (r : Option ReadersState) (lines : List ReadLine) : Type 0 where
-  pub reads : map read_of lines ≡ map (λ from. record { host = k; source = from }) (calls_in r)
+  pub reads : map read_of lines ≡ reads_of_host k (calls_in r)
   pub pairs : (from : Source) → pairs_from from lines ≡ got_of (reader_in r from)
 
 -- the lines of all hosts, a line for each read
