@@ -254,10 +254,10 @@ settled_along ws rs settled_so = rw (← ws, ← rs) settled_so
 
 -- one more
 pub settled_next : (ws : List (Option WriterState)) (rs : List (Option ReaderState)) (i : ℕ)
-    (writer : Option WriterState) (reader : Option ReaderState) → writer ≡ get_or ws i None → reader ≡ get_or rs i None
+    {writer : Option WriterState} {reader : Option ReaderState} → writer ≡ get_or ws i None → reader ≡ get_or rs i None
     → IsSettled writer reader → ((j : ℕ) → j < i → IsSettled (get_or ws j None) (get_or rs j None)) → (j : ℕ)
     → j < i + 1 → IsSettled (get_or ws j None) (get_or rs j None)
-settled_next ws rs i writer reader here there settled_one below =
+settled_next ws rs i here there settled_one below =
     below_more _ _ below (rw (← here, ← there) settled_one)
 
 -- one of the readers reads the ring of its writer

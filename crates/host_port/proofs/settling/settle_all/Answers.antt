@@ -46,8 +46,8 @@ loop-place-preserved c =
       pairs = ap (map into_iter_items) c.push_reserved.ensures.items
           ∙ (map-append into_iter_items c.loop-place.queues.items (c.in_ok-settle_one.field-0 ∷ [])
           ∙ ((λ k. so.pairs k ++ queue k ∷ []) ∙ sym (map_more got_of rs place None next.readers)));
-      whole = settled_next c.args.writers.now rs place c.index-writers-place.result c.index_mut.result.now
-          (next_writer next) next.reader_is (settled_along writer reader c.in_ok-settle_one.ensures.whole) so.whole;
+      whole = settled_next c.args.writers.now rs place (next_writer next) next.reader_is
+          (settled_along writer reader c.in_ok-settle_one.ensures.whole) so.whole;
       readers = λ i far.
           get_or-set_other c.loop-place.readers.items place i c.take-reader.new.self None (λ same. absurd (omega arith))
           ∙ so.readers i (omega arith);
