@@ -36,7 +36,8 @@ pub fn colliding_starters()
     ensures noise_on_a { heard colliding 11 2 channel.A (senders_in (entry.Started ∷ entry.Started ∷ [])) ≡ Noise }
     ensures noise_on_b { heard colliding 11 2 channel.B (senders_in (entry.Started ∷ entry.Started ∷ [])) ≡ Noise }
     ensures run { let run = bare_run two_starters colliding 24 in
-        (newest_row (after_slot run 11) ≡ entry.Started ∷ entry.Started ∷ entry.Waited ∷ entry.Waited ∷ entry.Waited ∷ [])
+        (newest_row (after_slot run 11)
+        ≡ entry.Started ∷ entry.Started ∷ entry.Waited ∷ entry.Waited ∷ entry.Waited ∷ [])
         × (newest_row (after_slot run 16)
         ≡ entry.Retried ∷ entry.Retried ∷ entry.Waited ∷ entry.Waited ∷ entry.Waited ∷ [])
         × (entry_at run 21 0 ≡ entry.Waited)
