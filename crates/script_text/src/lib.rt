@@ -17,8 +17,8 @@
 //! The layer above gets a script that is valid for the list, which `proofs/Valid.antt` and
 //! `RightFiles.antt` show of the definition, for lines without a fault. Between two lines the reader
 //! stands for what the lines so far state (`StandsFor` of `specs/SoFar.antt`). A line is cut into
-//! words once (`src/words.rt`), and those of digits are read as numbers on the way; by its words it
-//! says something, or has a first fault (`src/event.rt`, `src/host.rt`).
+//! words once, a wrong `error` line twice (`src/words.rt`), and words of digits are read as numbers
+//! on the way; by its words a line says something, or has a first fault (`src/event.rt`, `src/host.rt`).
 //!
 //! The file is gone over once, and at the end its events are sorted into an index. No code counts
 //! them: a file of 1,048,576 bytes has no more than 131,072, of which at most 95,325 are of hosts,

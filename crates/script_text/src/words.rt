@@ -282,7 +282,7 @@ pub(crate) fn words_after(first: Cut<'_>) -> Option<Words<'_>>
     })
 }
 
-/// All words of a line, of which the first was cut off, where four follow it and all but the second of them are numbers.
+/// All words of a line, of which the first was cut off, where four follow and all but the second of these are numbers.
 #[inline(always)]
 pub(crate) fn error_words_after(first: Cut<'_>) -> Option<Words<'_>>
     ensures { IfSome result (λ words. words ≡ first.entry.piece.now ∷ words_of first.entry.rest.now) }

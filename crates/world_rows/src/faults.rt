@@ -8,7 +8,7 @@ ghost use Rattle.ttp_world.specs.declared.script.Channel.TheVariants as channel;
 ghost use Rattle.ttp_world.specs.Hypothesis.{keeps};
 ghost use Rattle.ttp_world.specs.Medium.{Silence, Noise, Bits, channel_signal};
 ghost use Rattle.ttp_world.specs.Reception.{verdict_of};
-ghost use Rattle.world_rows.specs.Cases.{bare_list, bare_run, bare_lines, hold_from, is_safe_from};
+ghost use Rattle.world_rows.specs.Cases.{bare_list, bare_run, bare_lines, lines_in, hold_from, is_safe_from};
 ghost use Rattle.world_rows.specs.Frames.{two_frames};
 ghost use Rattle.world_rows.specs.Scripts.{noisy_sender, silent_sender, silent_and_noisy_sender, noisy_sender_of_four};
 ghost use Rattle.world_rows.specs.Scripts.{noisy_channel, deaf_before_its_slot, deaf_in_between, deaf_for_good};
@@ -19,13 +19,13 @@ ghost use Rattle.world_rows.specs.Scripts.{collided_noise, one_silenced};
 /// Node 2 sends noise in slot 22. All others reject it; its first successor's frame puts it in doubt
 /// and its second successor's frame denies it.
 pub fn noisy_sender_leaves()
-    ensures lines { bare_lines (bare_list 5) noisy_sender 25 ((22, 0) ∷ (23, 2) ∷ (24, 2) ∷ [])
+    ensures run { let run = bare_run (bare_list 5) noisy_sender 40 in
+        (lines_in (bare_list 5) noisy_sender run ((22, 0) ∷ (23, 2) ∷ (24, 2) ∷ [])
         ≡ codes "slot 22 node 0 invalid peer 2 msg - mem 001b acc 2 rej 1 ack none clock 0\n"
         ++ codes "slot 23 node 2 tentative peer 3 msg - mem 001f acc 1 rej 0 ack doubt:3 clock 0\n"
-        ++ codes "slot 24 node 2 denied peer 4 msg - mem 0000 acc 0 rej 0 ack none clock 0\n" }
-    ensures members { hold_from 24 (bare_list 5) (bare_run (bare_list 5) noisy_sender 40) (0 ∷ 1 ∷ 3 ∷ 4 ∷ [])
-        (0 ∷ 1 ∷ 3 ∷ 4 ∷ []) ≡ true }
-    ensures safe { is_safe_from 10 (bare_list 5) noisy_sender (bare_run (bare_list 5) noisy_sender 40) ≡ true }
+        ++ codes "slot 24 node 2 denied peer 4 msg - mem 0000 acc 0 rej 0 ack none clock 0\n")
+        × (hold_from 24 (bare_list 5) run (0 ∷ 1 ∷ 3 ∷ 4 ∷ []) (0 ∷ 1 ∷ 3 ∷ 4 ∷ []) ≡ true)
+        × (is_safe_from 10 (bare_list 5) noisy_sender run ≡ true) }
     ensures keeps { keeps (bare_list 5) noisy_sender ≡ keep.Yes 10 }
 {}
 
@@ -65,33 +65,35 @@ pub fn one_noisy_channel()
 /// Node 3 does not hear node 2's frame in the slot before its own. Its own frame then puts node 2 in
 /// doubt about it; node 4's frame settles the doubt against node 3, which leaves unacknowledged.
 pub fn deaf_receiver_is_doubted()
-    ensures lines { bare_lines (bare_list 6) deaf_before_its_slot 34 ((27, 3) ∷ (27, 2) ∷ (28, 2) ∷ (33, 3) ∷ [])
+    ensures run { let run = bare_run (bare_list 6) deaf_before_its_slot 48 in
+        (lines_in (bare_list 6) deaf_before_its_slot run ((27, 3) ∷ (27, 2) ∷ (28, 2) ∷ (33, 3) ∷ [])
         ≡ codes "slot 27 node 3 send peer 3 msg - mem 003b acc 1 rej 0 ack first clock 0\n"
         ++ codes "slot 27 node 2 tentative peer 3 msg - mem 003f acc 1 rej 0 ack doubt:3 clock 0\n"
         ++ codes "slot 28 node 2 correct peer 4 msg - mem 0037 acc 2 rej 1 ack none clock 0\n"
-        ++ codes "slot 33 node 3 unacknowledged peer 3 msg - mem 0000 acc 0 rej 0 ack none clock 0\n" }
-    ensures safe { is_safe_from 12 (bare_list 6) deaf_before_its_slot (bare_run (bare_list 6) deaf_before_its_slot 48)
-        ≡ true }
+        ++ codes "slot 33 node 3 unacknowledged peer 3 msg - mem 0000 acc 0 rej 0 ack none clock 0\n")
+        × (is_safe_from 12 (bare_list 6) deaf_before_its_slot run ≡ true) }
     ensures keeps { keeps (bare_list 6) deaf_before_its_slot ≡ keep.Yes 12 }
 {}
 
 /// Node 1 does not hear node 4's frame, and so rejects the frames of those that did. With as many
 /// accepted as rejected it leaves: a tie leaves.
 pub fn deaf_receiver_leaves_for_clique()
-    ensures lines { bare_lines (bare_list 6) deaf_in_between 32 ((30, 1) ∷ (31, 1) ∷ [])
+    ensures run { let run = bare_run (bare_list 6) deaf_in_between 48 in
+        (lines_in (bare_list 6) deaf_in_between run ((30, 1) ∷ (31, 1) ∷ [])
         ≡ codes "slot 30 node 1 incorrect peer 0 msg - mem 000e acc 3 rej 3 ack none clock 0\n"
-        ++ codes "slot 31 node 1 clique peer 1 msg - mem 0000 acc 0 rej 0 ack none clock 0\n" }
-    ensures safe { is_safe_from 12 (bare_list 6) deaf_in_between (bare_run (bare_list 6) deaf_in_between 48) ≡ true }
+        ++ codes "slot 31 node 1 clique peer 1 msg - mem 0000 acc 0 rej 0 ack none clock 0\n")
+        × (is_safe_from 12 (bare_list 6) deaf_in_between run ≡ true) }
     ensures keeps { keeps (bare_list 6) deaf_in_between ≡ keep.Yes 12 }
 {}
 
 /// Node 1 sent in slot 25 and hears nothing more: nobody acknowledges its frame.
 pub fn receiver_deaf_for_good()
-    ensures lines { bare_lines (bare_list 6) deaf_for_good 32 ((25, 1) ∷ (30, 1) ∷ (31, 1) ∷ [])
+    ensures run { let run = bare_run (bare_list 6) deaf_for_good 48 in
+        (lines_in (bare_list 6) deaf_for_good run ((25, 1) ∷ (30, 1) ∷ (31, 1) ∷ [])
         ≡ codes "slot 25 node 1 send peer 1 msg - mem 003f acc 1 rej 0 ack first clock 0\n"
         ++ codes "slot 30 node 1 null peer 0 msg - mem 0002 acc 1 rej 0 ack first clock 0\n"
-        ++ codes "slot 31 node 1 unacknowledged peer 1 msg - mem 0000 acc 0 rej 0 ack none clock 0\n" }
-    ensures safe { is_safe_from 12 (bare_list 6) deaf_for_good (bare_run (bare_list 6) deaf_for_good 48) ≡ true }
+        ++ codes "slot 31 node 1 unacknowledged peer 1 msg - mem 0000 acc 0 rej 0 ack none clock 0\n")
+        × (is_safe_from 12 (bare_list 6) deaf_for_good run ≡ true) }
     ensures keeps { keeps (bare_list 6) deaf_for_good ≡ keep.Yes 12 }
 {}
 

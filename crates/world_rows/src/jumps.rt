@@ -5,7 +5,7 @@ ghost use Rattle.ttp_world.specs.declared.keep.Keep.TheVariants as keep;
 ghost use Rattle.ttp_world.specs.declared.script.Event.TheVariants as event;
 ghost use Rattle.ttp_world.specs.declared.script.Fault.TheVariants as fault;
 ghost use Rattle.ttp_world.specs.Hypothesis.{keeps, faulty_after, faulty_nodes_after, is_correct_after};
-ghost use Rattle.world_rows.specs.Cases.{bare_list, script_of, script_on, bare_run, bare_lines, hold_from};
+ghost use Rattle.world_rows.specs.Cases.{bare_list, script_of, script_on, bare_run, lines_in, hold_from};
 ghost use Rattle.world_rows.specs.Cases.{is_safe_from, both};
 ghost use Rattle.world_rows.specs.Jumps.{far_jump, jumps_and_a_loss, without_node_3, late_node_3, six_nodes_keep};
 ghost use Rattle.world_rows.specs.Jumps.{late_nodes_keep, wide_window_keeps};
@@ -13,14 +13,14 @@ ghost use Rattle.world_rows.specs.Jumps.{late_nodes_keep, wide_window_keeps};
 /// Node 3's clock jumps by four windows in slot 26. From then on it takes no frame for one, nobody
 /// takes its own, and it leaves in its second next slot; the others go on without it.
 pub fn far_jump_of_a_clock()
-    ensures lines { bare_lines (bare_list 6) far_jump 34 ((26, 3) ∷ (27, 3) ∷ (27, 2) ∷ (33, 3) ∷ [])
+    ensures run { let run = bare_run (bare_list 6) far_jump 36 in
+        (lines_in (bare_list 6) far_jump run ((26, 3) ∷ (27, 3) ∷ (27, 2) ∷ (33, 3) ∷ [])
         ≡ codes "slot 26 node 3 invalid peer 2 msg - mem 003b acc 5 rej 1 ack none clock 4\n"
         ++ codes "slot 27 node 3 send peer 3 msg - mem 003b acc 1 rej 0 ack first clock 4\n"
         ++ codes "slot 27 node 2 invalid peer 3 msg - mem 0037 acc 1 rej 1 ack first clock 0\n"
-        ++ codes "slot 33 node 3 unacknowledged peer 3 msg - mem 0000 acc 0 rej 0 ack none clock 4\n" }
-    ensures members { hold_from 33 (bare_list 6) (bare_run (bare_list 6) far_jump 36) (0 ∷ 1 ∷ 2 ∷ 4 ∷ 5 ∷ [])
-        (0 ∷ 1 ∷ 2 ∷ 4 ∷ 5 ∷ []) ≡ true }
-    ensures safe { is_safe_from 26 (bare_list 6) far_jump (bare_run (bare_list 6) far_jump 36) ≡ true }
+        ++ codes "slot 33 node 3 unacknowledged peer 3 msg - mem 0000 acc 0 rej 0 ack none clock 4\n")
+        × (hold_from 33 (bare_list 6) run (0 ∷ 1 ∷ 2 ∷ 4 ∷ 5 ∷ []) (0 ∷ 1 ∷ 2 ∷ 4 ∷ 5 ∷ []) ≡ true)
+        × (is_safe_from 26 (bare_list 6) far_jump run ≡ true) }
     ensures keeps { keeps (bare_list 6) far_jump ≡ keep.Yes 12 }
 {}
 

@@ -8,7 +8,7 @@ ghost use Rattle.ttp_world.specs.Medium.{Noise, heard, senders_in};
 ghost use Rattle.ttp_world.specs.Safety.{IsSafe};
 ghost use Rattle.ttp_world.specs.Trace.{trace_lines};
 ghost use Rattle.world_rows.specs.Cases.{bare_list, bare_list_of, script_of, bare_numbers, bare_run, newest_row};
-ghost use Rattle.world_rows.specs.Cases.{entry_at, bare_lines, picked_lines, hold_from, is_safe_from};
+ghost use Rattle.world_rows.specs.Cases.{after_slot, entry_at, bare_lines, picked_lines, hold_from, is_safe_from};
 ghost use Rattle.world_rows.specs.Frames.{cstate};
 ghost use Rattle.world_rows.specs.Scripts.{two_starters, colliding, noisy_start, deaf_on_a, late};
 
@@ -23,28 +23,27 @@ pub fn fault_free_start()
         ∷ codes "slot 11 node 1 send peer 1 msg - mem 0003 acc 1 rej 0 ack first clock 0\n"
         ∷ codes "keeps yes start 10\n"
         ∷ [] }
-    ensures joins { entry_at (bare_run (bare_list 5) (script_of 5 15 []) 15) 10 4
-        ≡ entry.Joined 0 (cstate 0 0 0 (0 ∷ [])) (pos 0) }
-    ensures last_sends { entry_at (bare_run (bare_list 5) (script_of 5 15 []) 15) 14 4 ≡ entry.Sent None }
-    ensures safe_at_the_end { IsSafe (bare_list 5) (script_of 5 15 []) (bare_run (bare_list 5) (script_of 5 15 []) 15) }
-    ensures safe { is_safe_from 10 (bare_list 5) (script_of 5 15 []) (bare_run (bare_list 5) (script_of 5 15 []) 15)
-        ≡ true }
+    ensures run { let run = bare_run (bare_list 5) (script_of 5 15 []) 15 in
+        (entry_at run 10 4 ≡ entry.Joined 0 (cstate 0 0 0 (0 ∷ [])) (pos 0))
+        × (entry_at run 14 4 ≡ entry.Sent None)
+        × (IsSafe (bare_list 5) (script_of 5 15 []) run)
+        × (is_safe_from 10 (bare_list 5) (script_of 5 15 []) run ≡ true) }
 {}
 
 /// Two starters that reach the same slot: both send, the others hear noise, and both retry a round
 /// later. Node 0, whose limit is now the shorter, then starts alone.
 pub fn colliding_starters()
-    ensures both_start { newest_row (bare_run two_starters colliding 12)
-        ≡ entry.Started ∷ entry.Started ∷ entry.Waited ∷ entry.Waited ∷ entry.Waited ∷ [] }
     ensures noise_on_a { heard colliding 11 2 channel.A (senders_in (entry.Started ∷ entry.Started ∷ [])) ≡ Noise }
     ensures noise_on_b { heard colliding 11 2 channel.B (senders_in (entry.Started ∷ entry.Started ∷ [])) ≡ Noise }
-    ensures both_retry { newest_row (bare_run two_starters colliding 17)
-        ≡ entry.Retried ∷ entry.Retried ∷ entry.Waited ∷ entry.Waited ∷ entry.Waited ∷ [] }
-    ensures still_waits { entry_at (bare_run two_starters colliding 24) 21 0 ≡ entry.Waited }
-    ensures one_starts { entry_at (bare_run two_starters colliding 24) 22 0 ≡ entry.Started }
-    ensures other_joins { entry_at (bare_run two_starters colliding 24) 22 1
-        ≡ entry.Joined 0 (cstate 0 0 0 (0 ∷ [])) (pos 0) }
-    ensures then_sends { entry_at (bare_run two_starters colliding 24) 23 1 ≡ entry.Sent None }
+    ensures run { let run = bare_run two_starters colliding 24 in
+        (newest_row (after_slot run 11)
+        ≡ entry.Started ∷ entry.Started ∷ entry.Waited ∷ entry.Waited ∷ entry.Waited ∷ [])
+        × (newest_row (after_slot run 16)
+        ≡ entry.Retried ∷ entry.Retried ∷ entry.Waited ∷ entry.Waited ∷ entry.Waited ∷ [])
+        × (entry_at run 21 0 ≡ entry.Waited)
+        × (entry_at run 22 0 ≡ entry.Started)
+        × (entry_at run 22 1 ≡ entry.Joined 0 (cstate 0 0 0 (0 ∷ [])) (pos 0))
+        × (entry_at run 23 1 ≡ entry.Sent None) }
     ensures keeps { keeps two_starters colliding ≡ keep.No 4 0 }
 {}
 
@@ -52,11 +51,11 @@ pub fn colliding_starters()
 /// which would start in slot 11, waits. Node 0 retries in slot 15 and starts again in slot 21, after
 /// five silent slots and before node 1 has counted eleven.
 pub fn noise_before_a_start()
-    ensures noisy_start { entry_at (bare_run two_starters noisy_start 22) 10 0 ≡ entry.Started }
-    ensures waits { entry_at (bare_run two_starters noisy_start 22) 11 1 ≡ entry.Waited }
-    ensures retries { entry_at (bare_run two_starters noisy_start 22) 15 0 ≡ entry.Retried }
-    ensures starts_again { newest_row (bare_run two_starters noisy_start 22)
-        ≡ entry.Started ∷ replicate 4 (entry.Joined 0 (cstate 0 0 0 (0 ∷ [])) (pos 0)) }
+    ensures { let run = bare_run two_starters noisy_start 22 in
+        (entry_at run 10 0 ≡ entry.Started)
+        × (entry_at run 11 1 ≡ entry.Waited)
+        × (entry_at run 15 0 ≡ entry.Retried)
+        × (newest_row run ≡ entry.Started ∷ replicate 4 (entry.Joined 0 (cstate 0 0 0 (0 ∷ [])) (pos 0))) }
 {}
 
 /// Where the list lets no node start, all listen for good.
