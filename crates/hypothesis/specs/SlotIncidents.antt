@@ -1,6 +1,8 @@
 -- What happens to the nodes in a slot, and how long it is kept.
 use Rattle.std.specs.Prelude.{◌≡◌, ℕ, ◌<◌, ◌≤◌, pos, Bool, false, ◌&&◌, ◌||◌, length, get_or}
+use Rattle.ttp_base.specs.NodeSet.{most_nodes}
 use Rattle.ttp_world.specs.declared.events.Incidents.{Incidents}
+use Rattle.ttp_world.specs.declared.events.Standing.{Standing}
 use Rattle.ttp_world.specs.declared.medl.Medl.{Medl}
 use Rattle.ttp_world.specs.declared.script.Channels.{Channels}
 use Rattle.ttp_world.specs.declared.script.Script.{Script}
@@ -12,8 +14,14 @@ use Rattle.hypothesis.specs.declared.incidents.SlotIncidents.{SlotIncidents}
 -- what happens to each node of a list in a slot
 abbrev pub AreIncidentsIn : Medl → Script → ℕ → SlotIncidents → Type 0
 AreIncidentsIn list script slot incidents =
-    (k : ℕ) (nothing : Incidents) → k < length list.slots
-    → get_or incidents.nodes k nothing ≡ incidents_of script k slot
+    (k : ℕ) (nothing : Standing) → k < length list.slots
+    → (get_or incidents.nodes k nothing).incidents ≡ incidents_of script k slot
+
+-- what is kept of each node for which it stands in a slot is what happens to it
+abbrev pub EachStandsIn : Script → ℕ → SlotIncidents → Type 0
+EachStandsIn script slot incidents =
+    (k : ℕ) (nothing : Standing) → k < most_nodes → slot < (get_or incidents.nodes k nothing).until
+    → incidents_of script k slot ≡ (get_or incidents.nodes k nothing).incidents
 
 -- what happens to a node is of some kinds and no others
 pub record IsOfKinds (kinds : Kinds) (incidents : Incidents) : Type 0 where
@@ -34,6 +42,11 @@ pub record AreKeptIn (list : Medl) (script : Script) (slot : ℕ) (kept : KeptIn
   pub kinds : (k : ℕ) → k < length list.slots → IsOfKinds kept.incidents.kinds (incidents_of script k slot)
   pub jumps : kept.jump ≡ false → (k : ℕ) → k < length list.slots → has_jump script k slot ≡ false
 
--- it is so in each slot from one on, up to that in which it may be something else
+-- it is so where it stands
+pub record StandsIn (list : Medl) (script : Script) (slot : ℕ) (kept : KeptIncidents) : Type 0 where
+  pub all : slot < kept.incidents.until → AreKeptIn list script slot kept
+  pub each : EachStandsIn script slot kept.incidents
+
+-- in each slot from one on
 abbrev pub AreKeptFrom : Medl → Script → ℕ → KeptIncidents → Type 0
-AreKeptFrom list script slot kept = (t : ℕ) → slot ≤ t → t < kept.incidents.until → AreKeptIn list script t kept
+AreKeptFrom list script slot kept = (t : ℕ) → slot ≤ t → StandsIn list script t kept

@@ -392,7 +392,7 @@ pub(crate) fn breaks_arm_in(
         return false;
     }
     for node in 0..list.nodes() {
-        let armed = kept.incidents.nodes[node as usize].armed;
+        let armed = kept.incidents.nodes[node as usize].incidents.armed;
         if fails_if_armed(list, script, start, newest, node, slot, armed) {
             return true;
         }

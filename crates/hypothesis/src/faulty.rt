@@ -10,7 +10,7 @@ ghost use Rattle.hypothesis.specs.FaultyRuns.{KnowsKept, IsKeptAt, KnowsBack, Is
 ghost use Rattle.hypothesis.specs.Standing.{told_start, HaveSameNodes};
 
 use crate::back_walk::back_faults_in;
-use crate::incidents::{KeptIncidents, forgotten, nothing_kept};
+use crate::incidents::{KeptIncidents, nothing_kept};
 use crate::losses::Jumps;
 use crate::newest::{NewestSlots, no_slots};
 use crate::outside::disturbance_broken;
@@ -81,7 +81,7 @@ impl KeptFaulty {
             start: self.start,
             jumps: self.jumps,
             faulty: self.faulty,
-            kept: forgotten(self.kept),
+            kept: nothing_kept(),
         }
     }
 
@@ -134,7 +134,7 @@ impl BackFaulty {
             jumps: self.jumps,
             newest: self.newest,
             faulty: self.faulty,
-            kept: forgotten(self.kept),
+            kept: nothing_kept(),
         }
     }
 

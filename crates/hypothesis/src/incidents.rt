@@ -6,10 +6,10 @@ ghost use Rattle.ttp_world.specs.Script.{incidents_of};
 ghost use Rattle.ttp_world.specs.declared.events.Incidents.{Incidents};
 ghost use Rattle.ttp_world.specs.declared.medl.Medl.{Medl};
 ghost use Rattle.ttp_world.specs.declared.script.Script.{Script};
-ghost use Rattle.hypothesis.specs.SlotIncidents.{AreIncidentsIn, IsOfKinds, AreKeptIn, AreKeptFrom};
+ghost use Rattle.hypothesis.specs.SlotIncidents.{AreIncidentsIn, EachStandsIn, IsOfKinds, AreKeptIn, AreKeptFrom};
 
 use crate::losses::{Jumps, may_jump};
-use ttp_world::{Channels, Incidents, LastLookUp, Medl, Script};
+use ttp_world::{Channels, Incidents, LastLookUp, Medl, Script, Standing};
 
 /// Which kinds of incidents there are among those of some nodes.
 #[derive(Clone, Copy)]
@@ -25,7 +25,7 @@ pub(crate) struct Kinds {
 /// What happens to each node from a slot on.
 #[derive(Clone, Copy)]
 pub(crate) struct SlotIncidents {
-    pub(crate) nodes: [Incidents; 24],
+    pub(crate) nodes: [Standing; 24],
     pub(crate) kinds: Kinds,
     /// The first slot after that one in which something else may happen to one of them.
     pub(crate) until: u32,
@@ -79,21 +79,16 @@ pub(crate) fn nothing_kept() -> KeptIncidents
     };
     KeptIncidents {
         incidents: SlotIncidents {
-            nodes: [nothing; 24],
+            nodes: [Standing {
+                incidents: nothing,
+                until: 0,
+            }; 24],
             kinds: no_kinds(),
             until: 0,
         },
         jump: false,
         last: no_look_ups(),
     }
-}
-
-/// Nothing is kept any longer. The next look-ups begin where the last ended.
-pub(crate) fn forgotten(mut kept: KeptIncidents) -> KeptIncidents
-    ensures { (list : Medl) (script : Script) (slot : ℕ) → AreKeptFrom list script slot result }
-{
-    kept.incidents.until = 0;
-    kept
 }
 
 // Whether the jumps of a clock add up to something.
@@ -118,28 +113,57 @@ fn kinds_with(kinds: Kinds, incidents: &Incidents) -> Kinds
     }
 }
 
-// What happens to each node of a list from a slot on.
-fn incidents_in(list: &Medl, script: &Script, slot: u32, last: &mut LastLookUps) -> SlotIncidents
-    requires { IsValid list.now }
-    ensures nodes { (t : ℕ) → slot ≤ t → t < max result.until (slot + 1) → AreIncidentsIn list.now script.now t result }
-    ensures kinds { (t k : ℕ) → slot ≤ t → t < max result.until (slot + 1) → k < length list.now.slots
-        → IsOfKinds result.kinds (incidents_of script.now k t) }
+// What happens to a node from a slot on. It is looked up anew where it may be something else than what stands.
+fn standing_in(
+    script: &Script,
+    node: u8,
+    slot: u32,
+    standing: Standing,
+    last: &mut LastLookUp,
+) -> Standing
+    requires { (t : ℕ) → slot ≤ t → t < standing.until → incidents_of script.now node t ≡ standing.incidents }
+    ensures { (t : ℕ) → slot ≤ t → t < max result.until (slot + 1)
+        → incidents_of script.now node t ≡ result.incidents }
 {
-    let first = script.incidents_from(0, slot, &mut last.nodes[0]);
-    let mut nodes = [first.incidents; 24];
-    let mut kinds = kinds_with(no_kinds(), &first.incidents);
-    let mut until = first.until;
-    for node in 1..list.nodes() {
-        let standing = script.incidents_from(node, slot, &mut last.nodes[node as usize]);
-        nodes[node as usize] = standing.incidents;
+    if slot < standing.until {
+        return standing;
+    }
+    script.incidents_from(node, slot, last)
+}
+
+// Looks up what happens to each node of a list from a slot on, where it may be something else than what stands.
+fn look_up(
+    list: &Medl,
+    script: &Script,
+    slot: u32,
+    incidents: &mut SlotIncidents,
+    last: &mut LastLookUps,
+)
+    requires valid { IsValid list.now }
+    requires each { (t : ℕ) → slot ≤ t → EachStandsIn script.now t incidents.old }
+    ensures each { (t : ℕ) → slot ≤ t → EachStandsIn script.now t incidents.new }
+    ensures nodes { (t : ℕ) → slot ≤ t → t < max incidents.new.until (slot + 1)
+        → AreIncidentsIn list.now script.now t incidents.new }
+    ensures kinds { (t k : ℕ) → slot ≤ t → t < max incidents.new.until (slot + 1) → k < length list.now.slots
+        → IsOfKinds incidents.new.kinds (incidents_of script.now k t) }
+{
+    let mut kinds = no_kinds();
+    let mut until = u32::MAX;
+    for node in 0..list.nodes() {
+        let place = node as usize;
+        let standing = standing_in(
+            script,
+            node,
+            slot,
+            incidents.nodes[place],
+            &mut last.nodes[place],
+        );
+        incidents.nodes[place] = standing;
         kinds = kinds_with(kinds, &standing.incidents);
         until = until.min(standing.until);
     }
-    SlotIncidents {
-        nodes,
-        kinds,
-        until,
-    }
+    incidents.kinds = kinds;
+    incidents.until = until;
 }
 
 /// Goes on to a slot: looks up anew what happens to the nodes, where it may be something else than what is
@@ -154,6 +178,6 @@ pub(crate) fn go_on(list: &Medl, script: &Script, jumps: Jumps, slot: u32, kept:
     if slot < kept.incidents.until {
         return;
     }
-    kept.incidents = incidents_in(list, script, slot, &mut kept.last);
+    look_up(list, script, slot, &mut kept.incidents, &mut kept.last);
     kept.jump = may_jump(script, jumps, &kept.incidents, slot);
 }

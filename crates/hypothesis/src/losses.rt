@@ -82,10 +82,10 @@ fn losers_in(
     ensures nodes { All (λ k. k < most_nodes) result }
     ensures lost { result ≡ filter (loses script.now sender slot) (others_in list.now script.now faulty sender slot) }
 {
-    let sending = &incidents.nodes[sender as usize];
+    let sending = &incidents.nodes[sender as usize].incidents;
     let mut lost = NodeSet::empty();
     for node in 0..list.nodes() {
-        if is_lost(sending, &incidents.nodes[node as usize])
+        if is_lost(sending, &incidents.nodes[node as usize].incidents)
             && is_other(script, faulty, sender, slot, node)
         {
             lost = lost.with(node);
@@ -260,7 +260,7 @@ pub(crate) fn jumpers_in(
 {
     let mut jumpers = NodeSet::empty();
     for node in 0..list.nodes() {
-        let happens = &incidents.nodes[node as usize];
+        let happens = &incidents.nodes[node as usize].incidents;
         if jumps_now(script, jumps, happens, faulty, slot, node) {
             jumpers = jumpers.with(node);
         }
@@ -320,7 +320,7 @@ pub(crate) fn is_calm(list: &Medl, start: Start, kept: &KeptIncidents, slot: u32
     }
     let sender = expected_sender(list, start, slot);
     !may_lose(
-        &kept.incidents.nodes[sender as usize],
+        &kept.incidents.nodes[sender as usize].incidents,
         kept.incidents.kinds.unheard,
     )
 }

@@ -48,10 +48,10 @@ returns-then-not-kept-clause-value c =
     ((c.go_on.ensures.now.kinds k (omega (arith, less))).arm c.if-not-kept.true)))
 
 pub returns-clause-kept : goal.returns-clause-kept
-returns-clause-kept c = λ t from before. c.go_on.ensures.later t (omega (arith, from)) before
+returns-clause-kept c = λ t from. c.go_on.ensures.later t (omega (arith, from))
 
 pub returns-then-not-kept-clause-kept : goal.returns-then-not-kept-clause-kept
-returns-then-not-kept-clause-kept c = λ t from before. c.go_on.ensures.later t (omega (arith, from)) before
+returns-then-not-kept-clause-kept c = λ t from. c.go_on.ensures.later t (omega (arith, from))
 
 pub returns-then-fails_if_armed-clause-kept : goal.returns-then-fails_if_armed-clause-kept
-returns-then-fails_if_armed-clause-kept c = λ t from before. c.go_on.ensures.later t (omega (arith, from)) before
+returns-then-fails_if_armed-clause-kept c = λ t from. c.go_on.ensures.later t (omega (arith, from))

@@ -10,14 +10,13 @@ pub breaks_arm_in-requires-clause-come : goal.breaks_arm_in-requires-clause-come
 breaks_arm_in-requires-clause-come c = record { come = omega arith; near = omega arith }
 
 pub breaks_arm_in-requires-clause-kept : goal.breaks_arm_in-requires-clause-kept
-breaks_arm_in-requires-clause-kept c = λ t from before. c.loop-slot.invariant.arms t (omega (arith, from)) before
+breaks_arm_in-requires-clause-kept c = λ t from. c.loop-slot.invariant.arms t (omega (arith, from))
 
 pub back_faults_in-faulty-requires-clause-kept : goal.back_faults_in-faulty-requires-clause-kept
-back_faults_in-faulty-requires-clause-kept c = λ t from before.
-    c.loop-slot.invariant.kept t (omega (arith, from, c.loop-slot.invariant.end)) before
+back_faults_in-faulty-requires-clause-kept c = λ t from. c.loop-slot.invariant.kept t (omega (arith, from, c.loop-slot.invariant.end))
 
 pub late_arms_broken-requires-clause-kept : goal.late_arms_broken-requires-clause-kept
-late_arms_broken-requires-clause-kept c = λ t from before. c.loop-slot.invariant.arms t (omega (arith, from)) before
+late_arms_broken-requires-clause-kept c = λ t from. c.loop-slot.invariant.arms t (omega (arith, from))
 
 pub loop-slot-init : goal.loop-slot-init
 loop-slot-init c = record {
@@ -52,15 +51,14 @@ loop-slot-preserved c =
         | inl last ↦ now t (omega (arith, less, last))
         | inr earlier ↦ c.loop-slot.invariant.fine t earlier
       ];
-      kept = λ t from before.
-          c.back_faults_in-faulty.ensures.kept t (omega (arith, from, c.loop-slot.invariant.end)) before;
+      kept = λ t from. c.back_faults_in-faulty.ensures.kept t (omega (arith, from, c.loop-slot.invariant.end));
       arms = elim c.else-has_come.branch [
         | else-has_come-via-then-has_come+else-breaks_arm_in w ↦
             subst (AreKeptFrom list script (slot + 1 + 1 - four_rounds list)) (sym w.arms-is)
-            (λ t from before. w.breaks_arm_in.ensures.kept t (omega (arith, from)) before)
+            (λ t from. w.breaks_arm_in.ensures.kept t (omega (arith, from)))
         | else-has_come-via-else-has_come w ↦
             subst (AreKeptFrom list script (slot + 1 + 1 - four_rounds list)) (sym w.arms-is)
-            (λ t from before. c.loop-slot.invariant.arms t (omega (arith, from)) before)
+            (λ t from. c.loop-slot.invariant.arms t (omega (arith, from)))
       ];
     }
 

@@ -14,7 +14,7 @@ loop-slot-init c =
     search rules in
     record {
       fine = λ t less. c.requires.before t (omega (arith, first, less));
-      kept = λ t from before. c.requires.kept t (omega (arith, first, from)) before;
+      kept = λ t from. c.requires.kept t (omega (arith, first, from));
     }
 
 pub returns-then-breaks_arm_in : goal.returns-then-breaks_arm_in

@@ -7,11 +7,11 @@ returns-then-is_calm c =
     let list = c.args.list.now in
     let script = c.args.script.now in
     record {
-      kept = λ t from before. c.go_on.ensures.later t (omega (arith, from)) before;
+      kept = λ t from. c.go_on.ensures.later t (omega (arith, from));
       faults = λ before same.
           let calm = c.is_calm.ensures script (numbers_of before) c.go_on.ensures.now c.if-is_calm.true in
           calm-faults list script (told_start c.args.start) c.args.slot before c.args.faulty calm.0 calm.1 same;
     }
 
 pub returns-clause-kept : goal.returns-clause-kept
-returns-clause-kept c = λ t from before. c.go_on.ensures.later t (omega (arith, from)) before
+returns-clause-kept c = λ t from. c.go_on.ensures.later t (omega (arith, from))

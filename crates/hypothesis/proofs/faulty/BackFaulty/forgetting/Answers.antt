@@ -9,5 +9,5 @@ returns c = λ list script slot known. record {
     newest = known.newest;
     faulty = known.faulty;
   };
-  kept = c.forgotten.ensures list script slot;
+  kept = c.nothing_kept.ensures list script slot;
 }

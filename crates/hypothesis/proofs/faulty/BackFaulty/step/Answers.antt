@@ -3,7 +3,7 @@ use Rattle.hypothesis.proofs.Words.{told_start, HaveSameNodes}
 use Rattle.hypothesis.proofs.faulty.BackFaulty.step.Goals as goal
 
 pub back_faults_in-faults-requires-clause-kept : goal.back_faults_in-faults-requires-clause-kept
-back_faults_in-faults-requires-clause-kept c = λ t from before. c.requires.at.kept t (omega arith) before
+back_faults_in-faults-requires-clause-kept c = λ t from. c.requires.at.kept t (omega arith)
 
 pub returns-clause-at : goal.returns-clause-at
 returns-clause-at c =
