@@ -1,6 +1,6 @@
 -- Counts of writes, one for each node and slot.
-use Rattle.script_text.proofs.Words.{◌≡◌, ℕ, ◌+◌, ◌*◌, ◌<◌, ◌==◌, ◌&&◌, Bool, true, false, List, length, get_or, set}
-use Rattle.script_text.proofs.Words.{get_or-set_same, arith, refl, ◌∙◌, if◌then◌else◌, nat_tests}
+use Rattle.script_text.proofs.Terms.{◌≡◌, ℕ, ◌+◌, ◌*◌, ◌<◌, ◌==◌, ◌&&◌, Bool, true, false, List, length, get_or, set}
+use Rattle.script_text.proofs.Terms.{get_or-set_same, arith, refl, ◌∙◌, if◌then◌else◌, nat_tests}
 use Rattle.std.proofs.Common.{◌≢◌}
 use Rattle.std.proofs.Common.{get_or-set_other}
 use Rattle.std.proofs.lemmas.Nat.{same_from_place}

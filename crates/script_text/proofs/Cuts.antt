@@ -1,9 +1,9 @@
 -- A text cut at its first line feed, and a line at its first word.
-use Rattle.script_text.proofs.Words.{◌≡◌, ℕ, zero, suc, ◌+◌, ◌<◌, ◌≤◌, ◌==◌, Bool, true, false, cond, List, [], ◌∷◌}
-use Rattle.script_text.proofs.Words.{length, take, drop, get_or, map, Option, Some, None, filter, arith, refl, ap, sym}
-use Rattle.script_text.proofs.Words.{◌∙◌, slice_split, list_all, nat_tests, length-take, get_or-take}
-use Rattle.script_text.proofs.Words.{AllPass-from_list_all, is_line_feed, is_blank, is_part, has_bytes, without_return}
-use Rattle.script_text.proofs.Words.{without_empty_end, lines_of, words_of}
+use Rattle.script_text.proofs.Terms.{◌≡◌, ℕ, zero, suc, ◌+◌, ◌<◌, ◌≤◌, ◌==◌, Bool, true, false, cond, List, [], ◌∷◌}
+use Rattle.script_text.proofs.Terms.{length, take, drop, get_or, map, Option, Some, None, filter, arith, refl, ap, sym}
+use Rattle.script_text.proofs.Terms.{◌∙◌, slice_split, list_all, nat_tests, length-take, get_or-take}
+use Rattle.script_text.proofs.Terms.{AllPass-from_list_all, is_line_feed, is_blank, is_part, has_bytes, without_return}
+use Rattle.script_text.proofs.Terms.{without_empty_end, lines_of, words_of}
 use Rattle.std.specs.List.{position, position_or_len}
 use Rattle.std.proofs.lemmas.List.{length-map, take_all}
 use Rattle.std.proofs.lemmas.List.Splits.{slice_split_first, length-slice_split, slice_split-cons_yes}

@@ -1,6 +1,6 @@
 -- The number that decimal digits write, one digit after another.
-use Rattle.script_text.proofs.Words.{◌≡◌, true, ℕ, ◌+◌, ◌-◌, ◌*◌, ◌^◌, ◌<◌, ◌≤◌, List, length, get_or, take, arith, ap}
-use Rattle.script_text.proofs.Words.{◌∙◌, is_ascii_digit, digit_value, nat_tests, number_in}
+use Rattle.script_text.proofs.Terms.{◌≡◌, true, ℕ, ◌+◌, ◌-◌, ◌*◌, ◌^◌, ◌<◌, ◌≤◌, List, length, get_or, take, arith, ap}
+use Rattle.script_text.proofs.Terms.{◌∙◌, is_ascii_digit, digit_value, nat_tests, number_in}
 use Rattle.std.proofs.Common.{lit<}
 use Rattle.std.proofs.Math.Nat.{pow-le-pow_right}
 use Rattle.std.proofs.lemmas.Grind.{pow_more}

@@ -1,8 +1,8 @@
 -- Messages of hexadecimal digits, two for each byte.
-use Rattle.script_text.proofs.Words.{◌≡◌, ℕ, ◌+◌, ◌-◌, ◌*◌, ◌<◌, ◌≤◌, Bool, true, false, ◌&&◌, List, [], ◌∷◌, ◌++◌}
-use Rattle.script_text.proofs.Words.{length, get_or, take, drop, map, arith, refl, ap, sym, ◌∙◌, digit_value, list_all}
-use Rattle.script_text.proofs.Words.{nat_tests, common_steps, get_or-take, length-take, get_or-map-range_with_len}
-use Rattle.script_text.proofs.Words.{is_part, is_hex, hex_bytes_in}
+use Rattle.script_text.proofs.Terms.{◌≡◌, ℕ, ◌+◌, ◌-◌, ◌*◌, ◌<◌, ◌≤◌, Bool, true, false, ◌&&◌, List, [], ◌∷◌, ◌++◌}
+use Rattle.script_text.proofs.Terms.{length, get_or, take, drop, map, arith, refl, ap, sym, ◌∙◌, digit_value, list_all}
+use Rattle.script_text.proofs.Terms.{nat_tests, common_steps, get_or-take, length-take, get_or-map-range_with_len}
+use Rattle.script_text.proofs.Terms.{is_part, is_hex, hex_bytes_in}
 use Rattle.std.proofs.Common.{zero-add}
 use Rattle.std.specs.List.{range_with_len}
 use Rattle.std.proofs.lemmas.Bool.{lt-ltb, le-ltb}

@@ -1,12 +1,12 @@
 -- What is kept of the lines that were read, beside what those lines state.
-use Rattle.script_text.proofs.Words.{◌≡◌, Bool, true, false, ℕ, ◌+◌, ◌<◌, ◌≤◌, ◌==◌, ◌&&◌, nat_le, ℤ, List, [], ◌∷◌}
-use Rattle.script_text.proofs.Words.{◌++◌, length, get_or, set, lit≤, count_by, cond, Option, Some, None, is_some}
-use Rattle.script_text.proofs.Words.{unwrap_or, Ok, Err, get_or-set_same, arith, refl, ap, sym, ◌∙◌, if◌then◌else◌}
-use Rattle.script_text.proofs.Words.{option_or, common_steps, nat_tests, append-nil, first_fault, Medl, Event}
-use Rattle.script_text.proofs.Words.{LineFault, Keyword, SoFar, Statement, says_slots, says_on, says_drift, says_event}
-use Rattle.script_text.proofs.Words.{word_at, value_in, hex_bytes_in, number_at, is_spelled, statement_of, slots_of}
-use Rattle.script_text.proofs.Words.{is_write_at, when, keyword_faults, statement_faults, stated_faults, is_after_slots}
-use Rattle.script_text.proofs.Words.{form_faults, StandsFor, is_event_form, is_uncounted}
+use Rattle.script_text.proofs.Terms.{◌≡◌, Bool, true, false, ℕ, ◌+◌, ◌<◌, ◌≤◌, ◌==◌, ◌&&◌, nat_le, ℤ, List, [], ◌∷◌}
+use Rattle.script_text.proofs.Terms.{◌++◌, length, get_or, set, lit≤, count_by, cond, Option, Some, None, is_some}
+use Rattle.script_text.proofs.Terms.{unwrap_or, Ok, Err, get_or-set_same, arith, refl, ap, sym, ◌∙◌, if◌then◌else◌}
+use Rattle.script_text.proofs.Terms.{option_or, common_steps, nat_tests, append-nil, first_fault, Medl, Event}
+use Rattle.script_text.proofs.Terms.{LineFault, Keyword, SoFar, Statement, says_slots, says_on, says_drift, says_event}
+use Rattle.script_text.proofs.Terms.{word_at, value_in, hex_bytes_in, number_at, is_spelled, statement_of, slots_of}
+use Rattle.script_text.proofs.Terms.{is_write_at, when, keyword_faults, statement_faults, stated_faults, is_after_slots}
+use Rattle.script_text.proofs.Terms.{form_faults, StandsFor, is_event_form, is_uncounted}
 use Rattle.std.proofs.Common.{nat_lt}
 use Rattle.std.proofs.Common.{get_or-set_other}
 use Rattle.std.proofs.lemmas.List.Sums.{sum_by-cons}

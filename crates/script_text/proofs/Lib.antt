@@ -12,4 +12,4 @@ pub mod ValidEvents
 pub mod Valid
 pub mod RightFiles
 pub mod WordCuts
-pub mod Words
+pub mod Terms

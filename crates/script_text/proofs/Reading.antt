@@ -1,10 +1,10 @@
 -- A file that is read line by line.
-use Rattle.script_text.proofs.Words.{◌≡◌, ◌⊎◌, ℕ, ◌+◌, ◌*◌, ◌<◌, ◌≤◌, List, [], ◌∷◌, ◌++◌, length, Some, Result, Err}
-use Rattle.script_text.proofs.Words.{arith, refl, ap, sym, ◌∙◌, suc, inl, inr, All, first_fault, Medl, Script}
-use Rattle.script_text.proofs.Words.{EVENT_LIMIT, IsValid, IsBounded, LineFault, ScriptError, SoFar, lines_of, words_of}
-use Rattle.script_text.proofs.Words.{Statement, events_of, line_faults, statements_after, errors_at, file_faults}
-use Rattle.script_text.proofs.Words.{end_faults, statements_of, stated_script, script_or_fault, lines_script, script_of}
-use Rattle.script_text.proofs.Words.{StandsFor, HasNodes}
+use Rattle.script_text.proofs.Terms.{◌≡◌, ◌⊎◌, ℕ, ◌+◌, ◌*◌, ◌<◌, ◌≤◌, List, [], ◌∷◌, ◌++◌, length, Some, Result, Err}
+use Rattle.script_text.proofs.Terms.{arith, refl, ap, sym, ◌∙◌, suc, inl, inr, All, first_fault, Medl, Script}
+use Rattle.script_text.proofs.Terms.{EVENT_LIMIT, IsValid, IsBounded, LineFault, ScriptError, SoFar, lines_of, words_of}
+use Rattle.script_text.proofs.Terms.{Statement, events_of, line_faults, statements_after, errors_at, file_faults}
+use Rattle.script_text.proofs.Terms.{end_faults, statements_of, stated_script, script_or_fault, lines_script, script_of}
+use Rattle.script_text.proofs.Terms.{StandsFor, HasNodes}
 use Rattle.std.proofs.Common.{add-one, subst}
 use Rattle.script_text.specs.declared.error.Refusal.{Refusal}
 use Rattle.script_text.specs.declared.error.Refusal.TheVariants as refusals

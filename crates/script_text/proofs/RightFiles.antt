@@ -1,15 +1,15 @@
 -- A file without a fault: what its lines state is a valid script, and has no more events than fit into its bytes.
-use Rattle.script_text.proofs.Words.{◌≡◌, ◌⊎◌, ℕ, ◌+◌, ◌*◌, ◌≤◌, ◌==◌, ◌&&◌, ℤ, pos, Bool, true, false, cond, List, []}
-use Rattle.script_text.proofs.Words.{◌∷◌, ◌++◌, length, get_or, Option, Some, None, is_some, unwrap_or, Result, Ok, Err}
-use Rattle.script_text.proofs.Words.{arith, refl, ap, sym, ◌∙◌, suc, lit≤, inl, inr, if◌then◌else◌, All, IfSome}
-use Rattle.script_text.proofs.Words.{count_by, common_steps, append-nil, length-map-range_with_len, below, Medl, Event}
-use Rattle.script_text.proofs.Words.{Script, SLOT_LIMIT, DRIFT_LIMIT, EVENT_LIMIT, IsValid, IsWithinSpan, IsBounded}
-use Rattle.script_text.proofs.Words.{LineFault, ScriptError, Keyword, lines_of, words_of, word_at, Statement}
-use Rattle.script_text.proofs.Words.{says_slots, says_on, says_drift, says_event, keyword_of, is_spelled, statement_of}
-use Rattle.script_text.proofs.Words.{slots_of, on_of, drift_of, events_of, is_write_at, is_after_slots, stated_faults}
-use Rattle.script_text.proofs.Words.{form_faults, keyword_faults, line_faults, statements_after, errors_at, end_faults}
-use Rattle.script_text.proofs.Words.{file_faults, statements_of, stated_script, script_or_fault, lines_script}
-use Rattle.script_text.proofs.Words.{script_of, is_event_form}
+use Rattle.script_text.proofs.Terms.{◌≡◌, ◌⊎◌, ℕ, ◌+◌, ◌*◌, ◌≤◌, ◌==◌, ◌&&◌, ℤ, pos, Bool, true, false, cond, List, []}
+use Rattle.script_text.proofs.Terms.{◌∷◌, ◌++◌, length, get_or, Option, Some, None, is_some, unwrap_or, Result, Ok, Err}
+use Rattle.script_text.proofs.Terms.{arith, refl, ap, sym, ◌∙◌, suc, lit≤, inl, inr, if◌then◌else◌, All, IfSome}
+use Rattle.script_text.proofs.Terms.{count_by, common_steps, append-nil, length-map-range_with_len, below, Medl, Event}
+use Rattle.script_text.proofs.Terms.{Script, SLOT_LIMIT, DRIFT_LIMIT, EVENT_LIMIT, IsValid, IsWithinSpan, IsBounded}
+use Rattle.script_text.proofs.Terms.{LineFault, ScriptError, Keyword, lines_of, words_of, word_at, Statement}
+use Rattle.script_text.proofs.Terms.{says_slots, says_on, says_drift, says_event, keyword_of, is_spelled, statement_of}
+use Rattle.script_text.proofs.Terms.{slots_of, on_of, drift_of, events_of, is_write_at, is_after_slots, stated_faults}
+use Rattle.script_text.proofs.Terms.{form_faults, keyword_faults, line_faults, statements_after, errors_at, end_faults}
+use Rattle.script_text.proofs.Terms.{file_faults, statements_of, stated_script, script_or_fault, lines_script}
+use Rattle.script_text.proofs.Terms.{script_of, is_event_form}
 use Rattle.std.proofs.Common.{length-append}
 use Rattle.std.proofs.Common.{option_to_list}
 use Rattle.std.specs.Prelude.{IfOk}

@@ -1,9 +1,9 @@
 -- How many bytes lines and words take, each with the byte that ends it.
-use Rattle.script_text.proofs.Words.{◌≡◌, ℕ, ◌+◌, ◌*◌, ◌≤◌, Bool, true, false, cond, List, [], ◌∷◌, length, map, filter}
-use Rattle.script_text.proofs.Words.{Some, arith, refl, ap, lit≤, All, slice_split, common_steps, nat_tests}
-use Rattle.script_text.proofs.Words.{bytes_eq-Decides, Keyword, is_line_feed, is_blank, has_bytes, without_return}
-use Rattle.script_text.proofs.Words.{without_empty_end, lines_of, words_of, word_at, is_text, keyword_of, is_spelled}
-use Rattle.script_text.proofs.Words.{is_event_form}
+use Rattle.script_text.proofs.Terms.{◌≡◌, ℕ, ◌+◌, ◌*◌, ◌≤◌, Bool, true, false, cond, List, [], ◌∷◌, length, map, filter}
+use Rattle.script_text.proofs.Terms.{Some, arith, refl, ap, lit≤, All, slice_split, common_steps, nat_tests}
+use Rattle.script_text.proofs.Terms.{bytes_eq-Decides, Keyword, is_line_feed, is_blank, has_bytes, without_return}
+use Rattle.script_text.proofs.Terms.{without_empty_end, lines_of, words_of, word_at, is_text, keyword_of, is_spelled}
+use Rattle.script_text.proofs.Terms.{is_event_form}
 use Rattle.std.proofs.Common.{codes}
 use Rattle.std.specs.List.{onto_first}
 use Rattle.std.proofs.Math.Nat.{le_refl}

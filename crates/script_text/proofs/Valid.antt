@@ -1,12 +1,12 @@
 -- What lines without a fault state is valid, with each statement more.
-use Rattle.script_text.proofs.Words.{◌≡◌, ℕ, ◌+◌, ◌<◌, ◌≤◌, ◌==◌, ◌&&◌, Bool, true, false, List, [], ◌∷◌, ◌++◌, Option}
-use Rattle.script_text.proofs.Words.{Some, None, is_some, unwrap_or, arith, refl, ap, ◌∙◌, if◌then◌else◌, All, IfSome}
-use Rattle.script_text.proofs.Words.{count_by, option_or, leb-true, nat_tests, common_steps, append-nil, Medl, Script}
-use Rattle.script_text.proofs.Words.{SLOT_LIMIT, DRIFT_LIMIT, IsValid, IsValidEvent, IsWithinSpan, LineFault, Keyword}
-use Rattle.script_text.proofs.Words.{word_at, value_in, hex_bytes_in, Statement, says_slots, says_event, statement_of}
-use Rattle.script_text.proofs.Words.{number_at, slots_of, on_of, drift_of, events_of, has_payload, is_write_at, when}
-use Rattle.script_text.proofs.Words.{event_has_nodes, event_is_in_range, is_after_slots, statement_faults}
-use Rattle.script_text.proofs.Words.{stated_faults, is_event_form, is_uncounted}
+use Rattle.script_text.proofs.Terms.{◌≡◌, ℕ, ◌+◌, ◌<◌, ◌≤◌, ◌==◌, ◌&&◌, Bool, true, false, List, [], ◌∷◌, ◌++◌, Option}
+use Rattle.script_text.proofs.Terms.{Some, None, is_some, unwrap_or, arith, refl, ap, ◌∙◌, if◌then◌else◌, All, IfSome}
+use Rattle.script_text.proofs.Terms.{count_by, option_or, leb-true, nat_tests, common_steps, append-nil, Medl, Script}
+use Rattle.script_text.proofs.Terms.{SLOT_LIMIT, DRIFT_LIMIT, IsValid, IsValidEvent, IsWithinSpan, LineFault, Keyword}
+use Rattle.script_text.proofs.Terms.{word_at, value_in, hex_bytes_in, Statement, says_slots, says_event, statement_of}
+use Rattle.script_text.proofs.Terms.{number_at, slots_of, on_of, drift_of, events_of, has_payload, is_write_at, when}
+use Rattle.script_text.proofs.Terms.{event_has_nodes, event_is_in_range, is_after_slots, statement_faults}
+use Rattle.script_text.proofs.Terms.{stated_faults, is_event_form, is_uncounted}
 use Rattle.std.proofs.lemmas.Bool.{leb-false}
 use Rattle.std.proofs.lemmas.List.Elements.{All-nil, All-cons, All-append}
 use Rattle.ttp_world.specs.declared.script.Event.TheVariants as event

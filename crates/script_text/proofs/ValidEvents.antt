@@ -1,8 +1,8 @@
 -- An event that a line without a fault says is valid.
-use Rattle.script_text.proofs.Words.{◌≡◌, ℕ, ◌*◌, ◌==◌, ℤ, true, List, length, nat_le, arith, leb-true, nat_tests}
-use Rattle.script_text.proofs.Words.{common_steps, Medl, Event, Script, IsValidEvent, IsWithinSpan, Keyword, word_at}
-use Rattle.script_text.proofs.Words.{hex_bytes_in, says_event, statement_of, has_payload, event_has_nodes}
-use Rattle.script_text.proofs.Words.{event_is_in_range}
+use Rattle.script_text.proofs.Terms.{◌≡◌, ℕ, ◌*◌, ◌==◌, ℤ, true, List, length, nat_le, arith, leb-true, nat_tests}
+use Rattle.script_text.proofs.Terms.{common_steps, Medl, Event, Script, IsValidEvent, IsWithinSpan, Keyword, word_at}
+use Rattle.script_text.proofs.Terms.{hex_bytes_in, says_event, statement_of, has_payload, event_has_nodes}
+use Rattle.script_text.proofs.Terms.{event_is_in_range}
 use Rattle.std.proofs.Common.{not, nat_abs}
 use Rattle.std.proofs.lemmas.Bool.{and_parts}
 use Rattle.std.proofs.lemmas.Int.{ints}

@@ -1,6 +1,6 @@
 -- Zeros behind numbers.
-use Rattle.script_text.proofs.Words.{◌≡◌, ℕ, zero, suc, ◌+◌, ◌-◌, ◌≤◌, List, [], ◌∷◌, ◌++◌, length, drop, get_or, arith}
-use Rattle.script_text.proofs.Words.{refl, sym, ◌∙◌, common_steps, ext_get_or}
+use Rattle.script_text.proofs.Terms.{◌≡◌, ℕ, zero, suc, ◌+◌, ◌-◌, ◌≤◌, List, [], ◌∷◌, ◌++◌, length, drop, get_or, arith}
+use Rattle.script_text.proofs.Terms.{refl, sym, ◌∙◌, common_steps, ext_get_or}
 use Rattle.std.specs.Prelude.{replicate}
 use Rattle.std.proofs.lemmas.List.{get_or-drop, length-drop, length-replicate}
 

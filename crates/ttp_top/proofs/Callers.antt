@@ -1,10 +1,10 @@
 -- What a caller of `bench` concludes whose library is sure of its files: a right list and a right script give what is due,
 -- or memory was refused, or the sink cut a text short that it was not sure to take. No count is asked for.
-use Rattle.ttp_top.proofs.Words.{◌≡◌, ◌⊎◌, ℕ, ◌<◌, ◌≤◌, true, List, length, refl, ap, sym, subst, ◌∙◌, inl, inr, arith}
-use Rattle.ttp_top.proofs.Words.{concat, Lines, Medl, Script, IsLegalRun, IsValid, IsValidScript, trace_lines, Numbers}
-use Rattle.ttp_top.proofs.Words.{is_trace, trace-short, Outside, trace_limit, AreRight, Answer, Plan, ttpbench, CutOf}
-use Rattle.ttp_top.proofs.Words.{traces, IsTrace, WroteTraceOf, RunPromise, WroteSuch, CutSuch, TestPromise, OfTrace}
-use Rattle.ttp_top.proofs.Words.{HasJudged, CutVerdict, AreAllTold, TextPromise}
+use Rattle.ttp_top.proofs.Terms.{◌≡◌, ◌⊎◌, ℕ, ◌<◌, ◌≤◌, true, List, length, refl, ap, sym, subst, ◌∙◌, inl, inr, arith}
+use Rattle.ttp_top.proofs.Terms.{concat, Lines, Medl, Script, IsLegalRun, IsValid, IsValidScript, trace_lines, Numbers}
+use Rattle.ttp_top.proofs.Terms.{is_trace, trace-short, Outside, trace_limit, AreRight, Answer, Plan, ttpbench, CutOf}
+use Rattle.ttp_top.proofs.Terms.{traces, IsTrace, WroteTraceOf, RunPromise, WroteSuch, CutSuch, TestPromise, OfTrace}
+use Rattle.ttp_top.proofs.Terms.{HasJudged, CutVerdict, AreAllTold, TextPromise}
 use Rattle.std.proofs.lemmas.Bool.{true≢false}
 use Rattle.ttp_base.specs.Outside.{count_end}
 use Rattle.trace_check.proofs.OwnNumbers.{numbers-is_trace}

@@ -5,4 +5,4 @@ pub mod Traces
 pub mod Lists
 pub mod Tests
 pub mod Callers
-pub mod Words
+pub mod Terms

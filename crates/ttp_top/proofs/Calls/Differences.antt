@@ -1,8 +1,8 @@
 -- The lines on whether a text is a trace.
-use Rattle.ttp_top.proofs.Words.{◌≡◌, ℕ, Bool, true, false, List, ◌++◌, refl, sym, subst, inl, inr, arith, ◌==◌, codes}
-use Rattle.ttp_top.proofs.Words.{decimal, if◌then◌else◌, list_any-append, Output, Lines, newline, is_line}
-use Rattle.ttp_top.proofs.Words.{is_line-append, has, has-decimal, Medl, Script, is_trace, IsFirstWrong, AreLines, Says}
-use Rattle.ttp_top.proofs.Words.{line_ending, whole_ending, those, Answer, Ending, ttpbench, differs_line, differences}
+use Rattle.ttp_top.proofs.Terms.{◌≡◌, ℕ, Bool, true, false, List, ◌++◌, refl, sym, subst, inl, inr, arith, ◌==◌, codes}
+use Rattle.ttp_top.proofs.Terms.{decimal, if◌then◌else◌, list_any-append, Output, Lines, newline, is_line}
+use Rattle.ttp_top.proofs.Terms.{is_line-append, has, has-decimal, Medl, Script, is_trace, IsFirstWrong, AreLines, Says}
+use Rattle.ttp_top.proofs.Terms.{line_ending, whole_ending, those, Answer, Ending, ttpbench, differs_line, differences}
 use Rattle.std.specs.Prelude.{◌↔◌}
 use Rattle.trace_check.specs.declared.answer.Outcome.TheVariants as outcome
 use Rattle.ttp_top.specs.Calls.Differences.{IsDifference}

@@ -1,12 +1,12 @@
 -- What holds of each ending of a form: what its texts are made of, and what its status and the form tell of each other.
-use Rattle.ttp_top.proofs.Words.{◌≡◌, ◌≢◌, ℕ, Bool, true, false, ◌&&◌, Option, Some, None, refl, ap, sym, subst, ◌∙◌}
-use Rattle.ttp_top.proofs.Words.{arith, List, [], ◌∷◌, inl, inr, ◌==◌, is_some, if◌then◌else◌, Lines, lines_of, Medl}
-use Rattle.ttp_top.proofs.Words.{Script, test_lines, trace_lines-each, slot_table, ClusterView, is_trace, mode_lines}
-use Rattle.ttp_top.proofs.Words.{refused_list, both_plan, trace_plan, AreLines, ends, whole_ending, line_ending, one}
-use Rattle.ttp_top.proofs.Words.{those, IsFinal, SaysLine, list_every, Ending, Plan, ttpbench, same_line, usage_line}
-use Rattle.ttp_top.proofs.Words.{table_ending, trace_ending, keep_ending, verify_ending, precision_ending}
-use Rattle.ttp_top.proofs.Words.{sample_ending, modes_ending, plan_of, fronts, differences, Form, schedule, run, verify}
-use Rattle.ttp_top.proofs.Words.{precision, sample, modes, is_run, runs_cluster}
+use Rattle.ttp_top.proofs.Terms.{◌≡◌, ◌≢◌, ℕ, Bool, true, false, ◌&&◌, Option, Some, None, refl, ap, sym, subst, ◌∙◌}
+use Rattle.ttp_top.proofs.Terms.{arith, List, [], ◌∷◌, inl, inr, ◌==◌, is_some, if◌then◌else◌, Lines, lines_of, Medl}
+use Rattle.ttp_top.proofs.Terms.{Script, test_lines, trace_lines-each, slot_table, ClusterView, is_trace, mode_lines}
+use Rattle.ttp_top.proofs.Terms.{refused_list, both_plan, trace_plan, AreLines, ends, whole_ending, line_ending, one}
+use Rattle.ttp_top.proofs.Terms.{those, IsFinal, SaysLine, list_every, Ending, Plan, ttpbench, same_line, usage_line}
+use Rattle.ttp_top.proofs.Terms.{table_ending, trace_ending, keep_ending, verify_ending, precision_ending}
+use Rattle.ttp_top.proofs.Terms.{sample_ending, modes_ending, plan_of, fronts, differences, Form, schedule, run, verify}
+use Rattle.ttp_top.proofs.Terms.{precision, sample, modes, is_run, runs_cluster}
 use Rattle.std.specs.Prelude.{IsSomeAnd}
 use Rattle.std.proofs.lemmas.Bool.{ne_eqb}
 use Rattle.ttp_world.specs.TraceNumbers.{numbers_in}

@@ -1,7 +1,7 @@
 -- The promise of a call, from the plan that it followed.
-use Rattle.ttp_top.proofs.Words.{◌≡◌, ◌≢◌, ◌⊎◌, ℕ, ◌<◌, ◌≤◌, false, [], Option, None, ap, sym, subst, ◌∙◌, inl, inr}
-use Rattle.ttp_top.proofs.Words.{arith, ◌==◌, ◌&&◌, is_some, cases_lt, Wrote, Outside, IsFinal, SaysLine, Answer}
-use Rattle.ttp_top.proofs.Words.{ttpbench, plan_of, Promise, Form, is_run, runs_cluster}
+use Rattle.ttp_top.proofs.Terms.{◌≡◌, ◌≢◌, ◌⊎◌, ℕ, ◌<◌, ◌≤◌, false, [], Option, None, ap, sym, subst, ◌∙◌, inl, inr}
+use Rattle.ttp_top.proofs.Terms.{arith, ◌==◌, ◌&&◌, is_some, cases_lt, Wrote, Outside, IsFinal, SaysLine, Answer}
+use Rattle.ttp_top.proofs.Terms.{ttpbench, plan_of, Promise, Form, is_run, runs_cluster}
 use Rattle.commands.specs.Outcome.{Follows}
 use Rattle.commands.specs.Promise.{IsUnfinished, Promise as CallPromise}
 use Rattle.commands.specs.Texts.{Texts, WroteAmong}

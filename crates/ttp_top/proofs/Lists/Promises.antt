@@ -1,9 +1,9 @@
 -- The promise of `schedule`, from the promise of every form.
-use Rattle.ttp_top.proofs.Words.{◌≡◌, ◌⊎◌, ℕ, List, [], Some, refl, sym, subst, inl, inr, arith, HasRisen, Output}
-use Rattle.ttp_top.proofs.Words.{Wrote, WroteLines, CutShort, Lines, Medl, slot_table, list_from-front, list_came}
-use Rattle.ttp_top.proofs.Words.{AllAsk, list_every, end_comes, list_from-right, Quiet, told_shows, told_cut, Showed}
-use Rattle.ttp_top.proofs.Words.{Outside, ends, told_ending, Answer, Ending, Plan, ttpbench, table_ending, plan_of}
-use Rattle.ttp_top.proofs.Words.{Promise, schedule, IsTold}
+use Rattle.ttp_top.proofs.Terms.{◌≡◌, ◌⊎◌, ℕ, List, [], Some, refl, sym, subst, inl, inr, arith, HasRisen, Output}
+use Rattle.ttp_top.proofs.Terms.{Wrote, WroteLines, CutShort, Lines, Medl, slot_table, list_from-front, list_came}
+use Rattle.ttp_top.proofs.Terms.{AllAsk, list_every, end_comes, list_from-right, Quiet, told_shows, told_cut, Showed}
+use Rattle.ttp_top.proofs.Terms.{Outside, ends, told_ending, Answer, Ending, Plan, ttpbench, table_ending, plan_of}
+use Rattle.ttp_top.proofs.Terms.{Promise, schedule, IsTold}
 use Rattle.ttp_top.specs.Lists.Promise.{WroteTable, SchedulePromise}
 
 -- the plan from a list on

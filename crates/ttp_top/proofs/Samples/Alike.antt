@@ -1,9 +1,9 @@
 -- What is counted of a run does not depend on the messages of its frames.
-use Rattle.ttp_top.proofs.Words.{◌≡◌, ℕ, ◌+◌, ◌<◌, Bool, cond, List, [], ◌∷◌, length, refl, ap, sym, ◌∙◌, arith, map}
-use Rattle.ttp_top.proofs.Words.{count_by, AllByRecursion, sum_by-cons, below, Medl, Entry, NodeState, Script, History}
-use Rattle.ttp_top.proofs.Words.{is_active_phase, IsLegalRun, state_of, IsValidScript, writes_in, reads_in, Numbers}
-use Rattle.ttp_top.proofs.Words.{node_past, world, length-world, states_after, shows_sent, shows_left, lowest_members}
-use Rattle.ttp_top.proofs.Words.{totals_of}
+use Rattle.ttp_top.proofs.Terms.{◌≡◌, ℕ, ◌+◌, ◌<◌, Bool, cond, List, [], ◌∷◌, length, refl, ap, sym, ◌∙◌, arith, map}
+use Rattle.ttp_top.proofs.Terms.{count_by, AllByRecursion, sum_by-cons, below, Medl, Entry, NodeState, Script, History}
+use Rattle.ttp_top.proofs.Terms.{is_active_phase, IsLegalRun, state_of, IsValidScript, writes_in, reads_in, Numbers}
+use Rattle.ttp_top.proofs.Terms.{node_past, world, length-world, states_after, shows_sent, shows_left, lowest_members}
+use Rattle.ttp_top.proofs.Terms.{totals_of}
 use Rattle.ttp_base.proofs.Below.{below-lt}
 use Rattle.ttp_world.specs.declared.node.Entry.TheVariants as entry
 use Rattle.ttp_world.specs.Medium.{is_sending}

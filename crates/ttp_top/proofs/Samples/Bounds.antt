@@ -1,7 +1,7 @@
 -- The totals of a run stay small.
-use Rattle.ttp_top.proofs.Words.{◌≡◌, ℕ, ◌*◌, ◌≤◌, [], ◌∷◌, length, arith, length-map, length-range_with_len, below}
-use Rattle.ttp_top.proofs.Words.{Medl, Script, History, state_of, write_in, read_in, node_past, Totals, states_after}
-use Rattle.ttp_top.proofs.Words.{shows_sent, shows_left, totals_of, filter_map-few}
+use Rattle.ttp_top.proofs.Terms.{◌≡◌, ℕ, ◌*◌, ◌≤◌, [], ◌∷◌, length, arith, length-map, length-range_with_len, below}
+use Rattle.ttp_top.proofs.Terms.{Medl, Script, History, state_of, write_in, read_in, node_past, Totals, states_after}
+use Rattle.ttp_top.proofs.Terms.{shows_sent, shows_left, totals_of, filter_map-few}
 use Rattle.std.proofs.lemmas.List.Sums.{count_by-le-length}
 
 -- of so many slots: a line for each of 24 nodes at most, and for each of 131,072 events at most

@@ -1,11 +1,11 @@
 -- What a slot adds to what a run has counted.
-use Rattle.ttp_top.proofs.Words.{◌≡◌, ℕ, suc, ◌+◌, ◌*◌, ◌<◌, ◌≤◌, List, [], ◌∷◌, length, cond, Bool, true, false, refl}
-use Rattle.ttp_top.proofs.Words.{ap, sym, ◌∙◌, subst, arith, map, count_by, AllByRecursion, length-map}
-use Rattle.ttp_top.proofs.Words.{length-range_with_len, sum_by-cons, below, set_bits, Medl, Entry, NodeState, Script}
-use Rattle.ttp_top.proofs.Words.{History, is_active_phase, IsLegal, state_of, write_in, read_in, writes_in, reads_in}
-use Rattle.ttp_top.proofs.Words.{SlotNumbers, Numbers, node_past, world, legal-none, legal-shapes, length-world}
-use Rattle.ttp_top.proofs.Words.{next_row, ClusterView, ClusterStandsFor, Totals, states_in, HasCounted, states_after}
-use Rattle.ttp_top.proofs.Words.{lowest_members, totals_of, HasDoneSlot, filter_map-few}
+use Rattle.ttp_top.proofs.Terms.{◌≡◌, ℕ, suc, ◌+◌, ◌*◌, ◌<◌, ◌≤◌, List, [], ◌∷◌, length, cond, Bool, true, false, refl}
+use Rattle.ttp_top.proofs.Terms.{ap, sym, ◌∙◌, subst, arith, map, count_by, AllByRecursion, length-map}
+use Rattle.ttp_top.proofs.Terms.{length-range_with_len, sum_by-cons, below, set_bits, Medl, Entry, NodeState, Script}
+use Rattle.ttp_top.proofs.Terms.{History, is_active_phase, IsLegal, state_of, write_in, read_in, writes_in, reads_in}
+use Rattle.ttp_top.proofs.Terms.{SlotNumbers, Numbers, node_past, world, legal-none, legal-shapes, length-world}
+use Rattle.ttp_top.proofs.Terms.{next_row, ClusterView, ClusterStandsFor, Totals, states_in, HasCounted, states_after}
+use Rattle.ttp_top.proofs.Terms.{lowest_members, totals_of, HasDoneSlot, filter_map-few}
 use Rattle.std.proofs.Common.{◌^◌}
 use Rattle.std.proofs.lemmas.List.Elements.{recursion_from_All}
 use Rattle.ttp_world.specs.Legal.{read_messages}

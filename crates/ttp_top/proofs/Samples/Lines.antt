@@ -1,8 +1,8 @@
 -- The lines on a generated run are lines.
-use Rattle.ttp_top.proofs.Words.{◌≡◌, ℕ, true, false, List, [], ◌++◌, refl, sym, subst, arith, length, ◌==◌, codes}
-use Rattle.ttp_top.proofs.Words.{decimal, list_any-append, set_bits, Lines, newline, is_line, is_line-append, has}
-use Rattle.ttp_top.proofs.Words.{has-decimal, Medl, Script, world, legal-none, legal-whole, generated, AreLines, Totals}
-use Rattle.ttp_top.proofs.Words.{IsSample, asked_line, sent_line, hosts_line, summary_lines, totals_of}
+use Rattle.ttp_top.proofs.Terms.{◌≡◌, ℕ, true, false, List, [], ◌++◌, refl, sym, subst, arith, length, ◌==◌, codes}
+use Rattle.ttp_top.proofs.Terms.{decimal, list_any-append, set_bits, Lines, newline, is_line, is_line-append, has}
+use Rattle.ttp_top.proofs.Terms.{has-decimal, Medl, Script, world, legal-none, legal-whole, generated, AreLines, Totals}
+use Rattle.ttp_top.proofs.Terms.{IsSample, asked_line, sent_line, hosts_line, summary_lines, totals_of}
 use Rattle.ttp_base.specs.Text.{hex}
 use Rattle.ttp_base.proofs.Numerals.{has-hex}
 use Rattle.ttp_world.specs.Hypothesis.{keeps}

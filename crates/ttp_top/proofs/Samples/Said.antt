@@ -1,8 +1,8 @@
 -- The lines on a generated run, once all of its slots are counted.
-use Rattle.ttp_top.proofs.Words.{◌≡◌, ℕ, [], Some, refl, ap, sym, subst, ◌∙◌, inl, inr, Output, WroteLines, CutShort}
-use Rattle.ttp_top.proofs.Words.{Lines, Wrote-none, Medl, Script, IsLegal, IsValid, IsValidScript, world, generated}
-use Rattle.ttp_top.proofs.Words.{ClusterView, Shows, answer, alone, Totals, ttpbench, sample_ending, IsSample}
-use Rattle.ttp_top.proofs.Words.{HasCounted, summary_lines, totals_of}
+use Rattle.ttp_top.proofs.Terms.{◌≡◌, ℕ, [], Some, refl, ap, sym, subst, ◌∙◌, inl, inr, Output, WroteLines, CutShort}
+use Rattle.ttp_top.proofs.Terms.{Lines, Wrote-none, Medl, Script, IsLegal, IsValid, IsValidScript, world, generated}
+use Rattle.ttp_top.proofs.Terms.{ClusterView, Shows, answer, alone, Totals, ttpbench, sample_ending, IsSample}
+use Rattle.ttp_top.proofs.Terms.{HasCounted, summary_lines, totals_of}
 use Rattle.ttp_top.specs.Calls.Answer.{HasRunLegally}
 use Rattle.ttp_top.proofs.Samples.Alike.{totals-legal}
 

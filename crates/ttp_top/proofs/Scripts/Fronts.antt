@@ -1,9 +1,9 @@
 -- The lines of a run's first slots begin one of its traces.
-use Rattle.ttp_top.proofs.Words.{◌≡◌, ℕ, zero, suc, ◌-◌, ◌≤◌, List, [], ◌∷◌, ◌++◌, length, drop, refl, ap, sym, ◌∙◌}
-use Rattle.ttp_top.proofs.Words.{append_assoc, subst, arith, inr, Output, WroteLines, CutShort, Lines, CutShort-more}
-use Rattle.ttp_top.proofs.Words.{Medl, Script, IsLegal, IsLegalRun, IsValid, IsValidScript, trace_head, slot_lines}
-use Rattle.ttp_top.proofs.Words.{run_lines, keep_line, back_lines, test_lines, trace_lines, Numbers, world, legal-whole}
-use Rattle.ttp_top.proofs.Words.{next_row, WroteOf, CutOf, fronts, traces, IsTrace}
+use Rattle.ttp_top.proofs.Terms.{◌≡◌, ℕ, zero, suc, ◌-◌, ◌≤◌, List, [], ◌∷◌, ◌++◌, length, drop, refl, ap, sym, ◌∙◌}
+use Rattle.ttp_top.proofs.Terms.{append_assoc, subst, arith, inr, Output, WroteLines, CutShort, Lines, CutShort-more}
+use Rattle.ttp_top.proofs.Terms.{Medl, Script, IsLegal, IsLegalRun, IsValid, IsValidScript, trace_head, slot_lines}
+use Rattle.ttp_top.proofs.Terms.{run_lines, keep_line, back_lines, test_lines, trace_lines, Numbers, world, legal-whole}
+use Rattle.ttp_top.proofs.Terms.{next_row, WroteOf, CutOf, fronts, traces, IsTrace}
 use Rattle.std.proofs.Common.{append-nil}
 use Rattle.ttp_world.specs.Hypothesis.{keeps}
 use Rattle.ttp_world.specs.Trace.{history_lines}

@@ -1,7 +1,7 @@
 -- Where no host does anything a run has one list of legal numbers: each frame with payload carries message 0.
-use Rattle.ttp_top.proofs.Words.{◌≡◌, ℕ, zero, suc, ◌<◌, ◌≤◌, Bool, true, List, [], ◌∷◌, ◌++◌, length, Option, Some}
-use Rattle.ttp_top.proofs.Words.{None, if◌then◌else◌, refl, ap, sym, subst, ◌∙◌, arith, map, Medl, Script, IsLegal}
-use Rattle.ttp_top.proofs.Words.{SlotNumbers, Numbers, world, legal-shapes}
+use Rattle.ttp_top.proofs.Terms.{◌≡◌, ℕ, zero, suc, ◌<◌, ◌≤◌, Bool, true, List, [], ◌∷◌, ◌++◌, length, Option, Some}
+use Rattle.ttp_top.proofs.Terms.{None, if◌then◌else◌, refl, ap, sym, subst, ◌∙◌, arith, map, Medl, Script, IsLegal}
+use Rattle.ttp_top.proofs.Terms.{SlotNumbers, Numbers, world, legal-shapes}
 use Rattle.std.proofs.Common.{get_or}
 use Rattle.std.specs.Prelude.{nat_le, IsTrue}
 use Rattle.std.specs.List.{filter_map}

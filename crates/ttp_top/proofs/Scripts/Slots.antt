@@ -1,8 +1,8 @@
 -- What the lines of a slot add to those that were written.
-use Rattle.ttp_top.proofs.Words.{◌≤◌, [], ◌∷◌, sym, subst, arith, Output, WroteLines, CutShort, Wrote-join}
-use Rattle.ttp_top.proofs.Words.{CutShort-after, Medl, Script, IsLegal, IsValid, IsValidScript, trace_head, slot_lines}
-use Rattle.ttp_top.proofs.Words.{run_lines, Numbers, world, legal-none, next_row, HasDoneSlot, ClusterView}
-use Rattle.ttp_top.proofs.Words.{ClusterStandsFor, WroteOf, CutOf, fronts, traces, HasWritten}
+use Rattle.ttp_top.proofs.Terms.{◌≤◌, [], ◌∷◌, sym, subst, arith, Output, WroteLines, CutShort, Wrote-join}
+use Rattle.ttp_top.proofs.Terms.{CutShort-after, Medl, Script, IsLegal, IsValid, IsValidScript, trace_head, slot_lines}
+use Rattle.ttp_top.proofs.Terms.{run_lines, Numbers, world, legal-none, next_row, HasDoneSlot, ClusterView}
+use Rattle.ttp_top.proofs.Terms.{ClusterStandsFor, WroteOf, CutOf, fronts, traces, HasWritten}
 use Rattle.trace_text.specs.ReportText.{report_lines}
 use Rattle.cluster_run.specs.Report.{numbers_in}
 use Rattle.cluster_run.specs.Texts.{TellsNext}

@@ -1,8 +1,8 @@
 -- Of a text that is longer than any trace, the first bytes decide whether it is one and which of its lines is wrong.
-use Rattle.ttp_top.proofs.Words.{◌≡◌, ◌⊎◌, ℕ, ◌+◌, ◌-◌, ◌<◌, ◌≤◌, Bool, true, false, List, ◌++◌, length, take, drop}
-use Rattle.ttp_top.proofs.Words.{refl, ap, sym, subst, ◌∙◌, inl, inr, arith, append_assoc, concat, cases_lt, take_all}
-use Rattle.ttp_top.proofs.Words.{Lines, lines_of, Medl, Script, IsLegalRun, trace_lines, Numbers, is_trace}
-use Rattle.ttp_top.proofs.Words.{IsFirstWrong, is_trace-numbers}
+use Rattle.ttp_top.proofs.Terms.{◌≡◌, ◌⊎◌, ℕ, ◌+◌, ◌-◌, ◌<◌, ◌≤◌, Bool, true, false, List, ◌++◌, length, take, drop}
+use Rattle.ttp_top.proofs.Terms.{refl, ap, sym, subst, ◌∙◌, inl, inr, arith, append_assoc, concat, cases_lt, take_all}
+use Rattle.ttp_top.proofs.Terms.{Lines, lines_of, Medl, Script, IsLegalRun, trace_lines, Numbers, is_trace}
+use Rattle.ttp_top.proofs.Terms.{IsFirstWrong, is_trace-numbers}
 use Rattle.std.proofs.Common.{length-append}
 use Rattle.std.proofs.lemmas.List.{take-append-drop, length-take, length-take-le}
 use Rattle.std.proofs.lemmas.List.Folds.{concat-append}

@@ -1,13 +1,13 @@
 -- The promises of `verify` and of `modes`, from the promise of every form.
-use Rattle.ttp_top.proofs.Words.{◌≡◌, ◌⊎◌, ℕ, ◌+◌, ◌≤◌, Bool, true, false, List, [], ◌∷◌, take, Option, Some, refl, ap}
-use Rattle.ttp_top.proofs.Words.{sym, subst, ◌∙◌, inl, inr, arith, if◌then◌else◌, take_all, HasRisen, Output, Wrote}
-use Rattle.ttp_top.proofs.Words.{Lines, lines_of, Medl, Script, IsLegalRun, IsValid, IsValidScript, trace_lines}
-use Rattle.ttp_top.proofs.Words.{trace_lines-each, numbers_in-trace, medl_of-valid, script_of-valid, is_trace}
-use Rattle.ttp_top.proofs.Words.{is_trace-numbers, trace-short, both_came, both_told, both_ask, end_comes, AllAsk}
-use Rattle.ttp_top.proofs.Words.{Quiet, told_shows, told_cut, both_plan, trace_plan, Showed, Outside, whole_ending}
-use Rattle.ttp_top.proofs.Words.{ends, Comes, told_ending, trace_limit, AreRight, one, those, IsAmong, Answer, Ending}
-use Rattle.ttp_top.proofs.Words.{Plan, ttpbench, plan_of, Promise, differences, Form, is_run, verify, modes, OfTrace}
-use Rattle.ttp_top.proofs.Words.{HasJudged, CutVerdict, AreAllTold, TextPromise}
+use Rattle.ttp_top.proofs.Terms.{◌≡◌, ◌⊎◌, ℕ, ◌+◌, ◌≤◌, Bool, true, false, List, [], ◌∷◌, take, Option, Some, refl, ap}
+use Rattle.ttp_top.proofs.Terms.{sym, subst, ◌∙◌, inl, inr, arith, if◌then◌else◌, take_all, HasRisen, Output, Wrote}
+use Rattle.ttp_top.proofs.Terms.{Lines, lines_of, Medl, Script, IsLegalRun, IsValid, IsValidScript, trace_lines}
+use Rattle.ttp_top.proofs.Terms.{trace_lines-each, numbers_in-trace, medl_of-valid, script_of-valid, is_trace}
+use Rattle.ttp_top.proofs.Terms.{is_trace-numbers, trace-short, both_came, both_told, both_ask, end_comes, AllAsk}
+use Rattle.ttp_top.proofs.Terms.{Quiet, told_shows, told_cut, both_plan, trace_plan, Showed, Outside, whole_ending}
+use Rattle.ttp_top.proofs.Terms.{ends, Comes, told_ending, trace_limit, AreRight, one, those, IsAmong, Answer, Ending}
+use Rattle.ttp_top.proofs.Terms.{Plan, ttpbench, plan_of, Promise, differences, Form, is_run, verify, modes, OfTrace}
+use Rattle.ttp_top.proofs.Terms.{HasJudged, CutVerdict, AreAllTold, TextPromise}
 use Rattle.ttp_base.specs.Outside.{Held, untold, absent, holds, Load, Gives}
 use Rattle.ttp_world.specs.TraceNumbers.{numbers_in}
 use Rattle.ttp_base.proofs.Lines.{lines_of-concat}

@@ -1,4 +1,4 @@
-use Rattle.script_text.proofs.Words.{sym, arith}
+use Rattle.script_text.proofs.Terms.{sym, arith}
 use Rattle.script_text.proofs.Spelling.{is_text-all}
 use Rattle.script_text.proofs.form.is_text.Goals as goal
 

@@ -1,4 +1,4 @@
-use Rattle.script_text.proofs.Words.{◌≡◌, ℕ, ◌<◌, length, get_or}
+use Rattle.script_text.proofs.Terms.{◌≡◌, ℕ, ◌<◌, length, get_or}
 use Rattle.script_text.proofs.form.is_text.Given as goal
 
 -- the bytes so far are the same

@@ -1,4 +1,4 @@
-use Rattle.script_text.proofs.Words.{ℕ, ◌+◌, ◌*◌, ◌++◌, List, take, drop, refl, arith, sym, ap, ◌∙◌, hex_bytes_in}
+use Rattle.script_text.proofs.Terms.{ℕ, ◌+◌, ◌*◌, ◌++◌, List, take, drop, refl, arith, sym, ap, ◌∙◌, hex_bytes_in}
 use Rattle.std.proofs.lemmas.Bool.{false≢true}
 use Rattle.std.proofs.lemmas.List.{take_more_set, length-set, get_or-set_other}
 use Rattle.script_text.proofs.HexDigits.{right_pair, pair_byte, wrong_high, wrong_low}

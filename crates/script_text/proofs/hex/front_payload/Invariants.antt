@@ -1,4 +1,4 @@
-use Rattle.script_text.proofs.Words.{◌≡◌, ℕ, ◌*◌, ◌≤◌, ◌++◌, drop, take, length, get_or, is_hex, hex_bytes_in}
+use Rattle.script_text.proofs.Terms.{◌≡◌, ℕ, ◌*◌, ◌≤◌, ◌++◌, drop, take, length, get_or, is_hex, hex_bytes_in}
 use Rattle.script_text.proofs.hex.front_payload.Given as goal
 
 -- the bytes so far, and those of the other digits, with zeros behind

@@ -1,4 +1,4 @@
-use Rattle.script_text.proofs.Words.{◌≡◌, true, take, is_hex}
+use Rattle.script_text.proofs.Terms.{◌≡◌, true, take, is_hex}
 use Rattle.script_text.proofs.hex.is_hex.Given as goal
 
 -- each byte so far is a digit

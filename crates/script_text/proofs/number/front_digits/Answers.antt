@@ -1,5 +1,5 @@
-use Rattle.script_text.proofs.Words.{◌≡◌, true, ◌+◌, ◌*◌, ◌-◌, ℕ, get_or, take, arith, sym, ap, ◌∙◌, is_ascii_digit}
-use Rattle.script_text.proofs.Words.{common_steps, length-take}
+use Rattle.script_text.proofs.Terms.{◌≡◌, true, ◌+◌, ◌*◌, ◌-◌, ℕ, get_or, take, arith, sym, ap, ◌∙◌, is_ascii_digit}
+use Rattle.script_text.proofs.Terms.{common_steps, length-take}
 use Rattle.script_text.proofs.Digits.{number_in-more, digit-small, within_word}
 use Rattle.ttp_world.proofs.SmallTests.{below_power}
 use Rattle.script_text.proofs.number.front_digits.Goals as goal

@@ -1,4 +1,4 @@
-use Rattle.script_text.proofs.Words.{◌≡◌, true, ◌^◌, ◌<◌, take, list_all, is_ascii_digit, number_in}
+use Rattle.script_text.proofs.Terms.{◌≡◌, true, ◌^◌, ◌<◌, take, list_all, is_ascii_digit, number_in}
 use Rattle.script_text.proofs.number.front_digits.Given as goal
 
 -- each byte so far is a digit, and the number is theirs

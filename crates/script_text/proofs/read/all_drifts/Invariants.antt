@@ -1,4 +1,4 @@
-use Rattle.script_text.proofs.Words.{◌≡◌, pos, map, take, unwrap_or}
+use Rattle.script_text.proofs.Terms.{◌≡◌, pos, map, take, unwrap_or}
 use Rattle.script_text.proofs.read.all_drifts.Given as goal
 
 -- those of the nodes so far

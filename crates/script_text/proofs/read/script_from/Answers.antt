@@ -1,4 +1,4 @@
-use Rattle.script_text.proofs.Words.{sym, ap, ◌∙◌, inr, map, pos, unwrap_or}
+use Rattle.script_text.proofs.Terms.{sym, ap, ◌∙◌, inr, map, pos, unwrap_or}
 use Rattle.script_text.proofs.Told.{stated_script-kept}
 use Rattle.script_text.proofs.read.script_from.Goals as goal
 

@@ -1,4 +1,4 @@
-use Rattle.script_text.proofs.Words.{length}
+use Rattle.script_text.proofs.Terms.{length}
 use Rattle.script_text.proofs.Reading.{IsReading}
 use Rattle.script_text.proofs.read.take_lines.Given as goal
 

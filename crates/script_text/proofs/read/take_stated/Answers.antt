@@ -1,4 +1,4 @@
-use Rattle.script_text.proofs.Words.{refl}
+use Rattle.script_text.proofs.Terms.{refl}
 use Rattle.script_text.specs.declared.keyword.Keyword.TheVariants as keyword
 use Rattle.script_text.proofs.read.take_stated.Goals as goal
 

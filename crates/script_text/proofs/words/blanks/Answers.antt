@@ -1,4 +1,4 @@
-use Rattle.script_text.proofs.Words.{sym, ◌∙◌}
+use Rattle.script_text.proofs.Terms.{sym, ◌∙◌}
 use Rattle.script_text.proofs.Cuts.{words_of-past, first-start}
 use Rattle.script_text.proofs.words.blanks.Goals as goal
 

@@ -1,4 +1,4 @@
-use Rattle.script_text.proofs.Words.{take}
+use Rattle.script_text.proofs.Terms.{take}
 use Rattle.script_text.proofs.WordCuts.{parts-digits}
 use Rattle.script_text.proofs.words.number_word.Goals as goal
 

@@ -1,4 +1,4 @@
-use Rattle.script_text.proofs.Words.{◌<◌, length, arith}
+use Rattle.script_text.proofs.Terms.{◌<◌, length, arith}
 use Rattle.script_text.proofs.WordCuts.{CutsWord-blank, CutsWord-whole}
 use Rattle.script_text.proofs.words.past_word.Goals as goal
 

@@ -1,4 +1,4 @@
-use Rattle.script_text.proofs.Words.{◌≡◌, ◌≤◌, ◌-◌, true, length, take, list_all, is_part}
+use Rattle.script_text.proofs.Terms.{◌≡◌, ◌≤◌, ◌-◌, true, length, take, list_all, is_part}
 use Rattle.script_text.proofs.words.word_end.Given as goal
 
 -- each byte so far is part of the word

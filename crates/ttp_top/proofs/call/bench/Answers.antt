@@ -1,4 +1,4 @@
-use Rattle.ttp_top.proofs.Words.{Some, answer, schedule, run, verify, precision, sample, modes}
+use Rattle.ttp_top.proofs.Terms.{Some, answer, schedule, run, verify, precision, sample, modes}
 use Rattle.ttp_top.specs.Calls.Words.{keeps}
 use Rattle.ttp_top.proofs.Calls.Promises.{promise}
 use Rattle.ttp_top.proofs.Lists.Promises.{schedule_promise}

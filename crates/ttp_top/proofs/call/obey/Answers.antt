@@ -1,4 +1,4 @@
-use Rattle.ttp_top.proofs.Words.{inl, refl, ttpbench, usage_line}
+use Rattle.ttp_top.proofs.Terms.{inl, refl, ttpbench, usage_line}
 use Rattle.commands.specs.Lines.{notice}
 use Rattle.commands.proofs.Loads.{said}
 use Rattle.ttp_top.proofs.call.obey.Goals as goal

@@ -1,4 +1,4 @@
-use Rattle.ttp_top.proofs.Words.{refl, outside, ends, alone, pair_came, no_pair, ttpbench, precision_ending}
+use Rattle.ttp_top.proofs.Terms.{refl, outside, ends, alone, pair_came, no_pair, ttpbench, precision_ending}
 use Rattle.ttp_top.proofs.faced.precision.Goals as goal
 
 pub returns-in-Ok : goal.returns-in-Ok

@@ -1,4 +1,4 @@
-use Rattle.ttp_top.proofs.Words.{◌∙◌, inl, said_as, ttpbench, faced_line, broken_line}
+use Rattle.ttp_top.proofs.Terms.{◌∙◌, inl, said_as, ttpbench, faced_line, broken_line}
 use Rattle.ttp_top.proofs.Calls.Precision.{faced_line-is, broken_line-is, precision-said}
 use Rattle.ttp_top.proofs.faced.show_precision.Goals as goal
 

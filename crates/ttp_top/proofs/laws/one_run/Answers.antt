@@ -1,4 +1,4 @@
-use Rattle.ttp_top.proofs.Words.{sym, ◌∙◌}
+use Rattle.ttp_top.proofs.Terms.{sym, ◌∙◌}
 use Rattle.ttp_top.proofs.Scripts.OneRun.{numbers-same}
 use Rattle.ttp_top.proofs.laws.one_run.Goals as goal
 

@@ -1,4 +1,4 @@
-use Rattle.ttp_top.proofs.Words.{◌∙◌, inl, lines_of, mode_lines, said_as, whole_ending, one, ttpbench, differs_line}
+use Rattle.ttp_top.proofs.Terms.{◌∙◌, inl, lines_of, mode_lines, said_as, whole_ending, one, ttpbench, differs_line}
 use Rattle.ttp_world.specs.TraceNumbers.{numbers_in}
 use Rattle.ttp_top.proofs.Calls.Differences.{differs-none, differs-said}
 use Rattle.ttp_top.proofs.modes.show_modes.Goals as goal

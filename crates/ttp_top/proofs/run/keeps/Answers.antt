@@ -1,4 +1,4 @@
-use Rattle.ttp_top.proofs.Words.{refl, inl, outside, ends, alone, pair_came, no_pair, ttpbench, keep_ending}
+use Rattle.ttp_top.proofs.Terms.{refl, inl, outside, ends, alone, pair_came, no_pair, ttpbench, keep_ending}
 use Rattle.ttp_top.proofs.run.keeps.Goals as goal
 
 pub returns-in-Ok : goal.returns-in-Ok

@@ -1,4 +1,4 @@
-use Rattle.ttp_top.proofs.Words.{refl, outside, ends, answer, pair_came, no_pair, ttpbench, trace_ending}
+use Rattle.ttp_top.proofs.Terms.{refl, outside, ends, answer, pair_came, no_pair, ttpbench, trace_ending}
 use Rattle.ttp_top.proofs.run.run.Goals as goal
 
 pub returns-in-Ok : goal.returns-in-Ok

@@ -1,4 +1,4 @@
-use Rattle.ttp_top.proofs.Words.{[], refl, inl, inr, Wrote-none}
+use Rattle.ttp_top.proofs.Terms.{[], refl, inl, inr, Wrote-none}
 use Rattle.ttp_top.proofs.run.show_trace.Goals as goal
 
 pub returns-in-Ok : goal.returns-in-Ok

@@ -1,4 +1,4 @@
-use Rattle.ttp_top.proofs.Words.{ap, subst, ◌∙◌, Script, IsValidScript, generated}
+use Rattle.ttp_top.proofs.Terms.{ap, subst, ◌∙◌, Script, IsValidScript, generated}
 use Rattle.ttp_top.proofs.Samples.Said.{HasCountedAll, all_counted, sample_said, sample_stopped}
 use Rattle.ttp_top.proofs.sample.put_sample.Goals as goal
 

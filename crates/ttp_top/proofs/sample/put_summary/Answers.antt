@@ -1,5 +1,5 @@
-use Rattle.ttp_top.proofs.Words.{[], ◌∷◌, on_ok_weaker, Wrote-join, CutShort-after, CutShort-more, keep_line}
-use Rattle.ttp_top.proofs.Words.{asked_line, sent_line, hosts_line}
+use Rattle.ttp_top.proofs.Terms.{[], ◌∷◌, on_ok_weaker, Wrote-join, CutShort-after, CutShort-more, keep_line}
+use Rattle.ttp_top.proofs.Terms.{asked_line, sent_line, hosts_line}
 use Rattle.std.proofs.lemmas.Result.{on_err_weaker, err_from_is_err_and}
 use Rattle.ttp_world.specs.Hypothesis.{keeps}
 use Rattle.ttp_top.proofs.sample.put_summary.Goals as goal

@@ -1,5 +1,5 @@
-use Rattle.ttp_top.proofs.Words.{refl, list_file, refused_list, outside, ends, list_from, answer, value_came, no_value}
-use Rattle.ttp_top.proofs.Words.{ttpbench, sample_ending}
+use Rattle.ttp_top.proofs.Terms.{refl, list_file, refused_list, outside, ends, list_from, answer, value_came, no_value}
+use Rattle.ttp_top.proofs.Terms.{ttpbench, sample_ending}
 use Rattle.ttp_top.proofs.sample.sample.Goals as goal
 
 pub returns-in-Ok : goal.returns-in-Ok

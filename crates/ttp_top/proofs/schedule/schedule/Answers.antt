@@ -1,5 +1,5 @@
-use Rattle.ttp_top.proofs.Words.{refl, inl, list_file, refused_list, outside, ends, list_from, alone, value_came}
-use Rattle.ttp_top.proofs.Words.{no_value, ttpbench, table_ending}
+use Rattle.ttp_top.proofs.Terms.{refl, inl, list_file, refused_list, outside, ends, list_from, alone, value_came}
+use Rattle.ttp_top.proofs.Terms.{no_value, ttpbench, table_ending}
 use Rattle.ttp_top.proofs.schedule.schedule.Goals as goal
 
 pub returns-in-Ok : goal.returns-in-Ok

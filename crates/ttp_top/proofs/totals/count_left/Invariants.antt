@@ -1,4 +1,4 @@
-use Rattle.ttp_top.proofs.Words.{◌≡◌, ◌≤◌, take, count_by, shows_left}
+use Rattle.ttp_top.proofs.Terms.{◌≡◌, ◌≤◌, take, count_by, shows_left}
 use Rattle.ttp_top.proofs.totals.count_left.Given as goal
 
 abbrev pub invariant-loop-line : goal.invariant-loop-line

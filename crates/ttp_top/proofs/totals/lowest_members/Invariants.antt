@@ -1,4 +1,4 @@
-use Rattle.ttp_top.proofs.Words.{◌≡◌, drop, states_in, lowest_members}
+use Rattle.ttp_top.proofs.Terms.{◌≡◌, drop, states_in, lowest_members}
 use Rattle.ttp_top.proofs.totals.lowest_members.Given as goal
 
 -- no node so far is active

@@ -1,4 +1,4 @@
-use Rattle.ttp_top.proofs.Words.{on_ok_weaker}
+use Rattle.ttp_top.proofs.Terms.{on_ok_weaker}
 use Rattle.std.proofs.lemmas.Result.{IfErr-weaker}
 use Rattle.ttp_top.proofs.Scripts.Slots.{head_written, head_cut}
 use Rattle.ttp_top.proofs.trace.put_run.Goals as goal

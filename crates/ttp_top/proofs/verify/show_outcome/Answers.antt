@@ -1,4 +1,4 @@
-use Rattle.ttp_top.proofs.Words.{◌∙◌, inl, said_as, line_ending, ttpbench, differs_line, same_line}
+use Rattle.ttp_top.proofs.Terms.{◌∙◌, inl, said_as, line_ending, ttpbench, differs_line, same_line}
 use Rattle.ttp_top.proofs.Calls.Differences.{differs-none, differs-said}
 use Rattle.ttp_top.proofs.verify.show_outcome.Goals as goal
 

@@ -1,5 +1,5 @@
-use Rattle.ttp_top.proofs.Words.{refl, trace_file, trace_plan, outside, ends, alone, bytes_came, no_bytes, pair_came}
-use Rattle.ttp_top.proofs.Words.{no_pair, ttpbench, verify_ending}
+use Rattle.ttp_top.proofs.Terms.{refl, trace_file, trace_plan, outside, ends, alone, bytes_came, no_bytes, pair_came}
+use Rattle.ttp_top.proofs.Terms.{no_pair, ttpbench, verify_ending}
 use Rattle.ttp_top.proofs.verify.verify.Goals as goal
 
 pub returns-in-Ok-load_trace : goal.returns-in-Ok-load_trace

@@ -1,4 +1,4 @@
-use Rattle.script_text.proofs.Words.{◌≡◌, ◌<◌, length, arith, sym, ◌∙◌, err_from_is_err_and, number_at}
+use Rattle.script_text.proofs.Terms.{◌≡◌, ◌<◌, length, arith, sym, ◌∙◌, err_from_is_err_and, number_at}
 use Rattle.std.proofs.Common.{w64, to_z, of_z}
 use Rattle.std.proofs.lemmas.Int.{to_z-of_z}
 use Rattle.script_text.proofs.Kept.{refuses_own, takes_drift}

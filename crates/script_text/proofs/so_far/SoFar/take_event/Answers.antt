@@ -1,4 +1,4 @@
-use Rattle.script_text.proofs.Words.{refl}
+use Rattle.script_text.proofs.Terms.{refl}
 use Rattle.script_text.proofs.Kept.{takes_event, refuses_own}
 use Rattle.script_text.proofs.so_far.SoFar.take_event.Goals as goal
 

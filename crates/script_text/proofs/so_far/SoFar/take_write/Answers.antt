@@ -1,4 +1,4 @@
-use Rattle.script_text.proofs.Words.{◌≡◌, ◌<◌, length, refl, arith, sym, ◌∙◌, err_from_is_err_and, number_at}
+use Rattle.script_text.proofs.Terms.{◌≡◌, ◌<◌, length, refl, arith, sym, ◌∙◌, err_from_is_err_and, number_at}
 use Rattle.script_text.proofs.Kept.{refuses_own, takes_write}
 use Rattle.script_text.proofs.so_far.SoFar.take_write.Goals as goal
 

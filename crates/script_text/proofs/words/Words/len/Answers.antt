@@ -1,4 +1,4 @@
-use Rattle.script_text.proofs.Words.{[], ◌∷◌, length, arith, ap}
+use Rattle.script_text.proofs.Terms.{[], ◌∷◌, length, arith, ap}
 use Rattle.script_text.proofs.WordCuts.{length-held}
 use Rattle.script_text.proofs.words.Words.len.Goals as goal
 

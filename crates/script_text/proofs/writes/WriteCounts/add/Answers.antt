@@ -1,4 +1,4 @@
-use Rattle.script_text.proofs.Words.{◌≡◌, ℕ, ◌+◌, ◌*◌, ◌<◌, ◌==◌, ◌&&◌, length, get_or, arith, ap, ◌∙◌, if◌then◌else◌}
+use Rattle.script_text.proofs.Terms.{◌≡◌, ℕ, ◌+◌, ◌*◌, ◌<◌, ◌==◌, ◌&&◌, length, get_or, arith, ap, ◌∙◌, if◌then◌else◌}
 use Rattle.std.proofs.Common.{mul_comm}
 use Rattle.std.proofs.lemmas.List.{get_or_read}
 use Rattle.std.proofs.lemmas.Nat.{mul-add-lt}

@@ -1,4 +1,4 @@
-use Rattle.ttp_top.proofs.Words.{sym}
+use Rattle.ttp_top.proofs.Terms.{sym}
 use Rattle.ttp_top.proofs.Samples.Counted.{slot_fits, slot_counted}
 use Rattle.ttp_top.proofs.totals.SlotCounterWatch.told.Goals as goal
 

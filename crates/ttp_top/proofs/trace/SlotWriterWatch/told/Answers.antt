@@ -1,4 +1,4 @@
-use Rattle.ttp_top.proofs.Words.{sym}
+use Rattle.ttp_top.proofs.Terms.{sym}
 use Rattle.ttp_top.proofs.Scripts.Slots.{tells, slot_written, slot_cut}
 use Rattle.ttp_top.proofs.trace.SlotWriterWatch.told.Goals as goal
 
