@@ -1,37 +1,17 @@
 //! A call of `lab` over a library and a sink in memory.
 use lab_top::lab;
-use std::process::Abort;
 use std::test::Fail;
 use std::thread::Threads;
 use ttp_base::{List, MemoryLibrary, MemorySink};
 
-/// A call of `lab`: its words, the files that the library holds, each with the parts of its text, and which call
-/// of the library fails, and which of the sink; 0 is none.
+/// A call of `lab`: its words, the files that the library holds, each with its text, and which call of the library
+/// fails, and which of the sink; 0 is none.
 #[derive(Clone, Copy)]
 pub(crate) struct Call<'a> {
     pub(crate) words: &'a [&'a str],
-    pub(crate) files: &'a [(&'a str, &'a [&'a str])],
+    pub(crate) files: &'a [(&'a str, &'a str)],
     pub(crate) bad_load: u32,
     pub(crate) bad_write: u32,
-}
-
-/// A call in which nothing fails.
-pub(crate) fn call_of<'a>(words: &'a [&'a str], files: &'a [(&'a str, &'a [&'a str])]) -> Call<'a> {
-    Call {
-        words,
-        files,
-        bad_load: 0,
-        bad_write: 0,
-    }
-}
-
-/// The texts, one after another.
-pub(crate) fn joined<R: AllocGlobal>(rt: &R, parts: &[&str]) -> Result<String, Fail> {
-    let mut text = String::new(rt.alloc());
-    for part in parts {
-        text.push_str(part)?;
-    }
-    Ok(text)
 }
 
 // The number of the call that fails.
@@ -43,8 +23,8 @@ fn failing<R: AllocGlobal>(rt: &R, call: u32) -> Result<List<u32>, Fail> {
 
 fn library_of<R: AllocGlobal>(rt: &R, call: &Call<'_>) -> Result<MemoryLibrary, Fail> {
     let mut library = MemoryLibrary::new(rt.alloc(), failing(rt, call.bad_load)?);
-    for (name, parts) in call.files {
-        library.add(name, joined(rt, parts)?.as_bytes())?;
+    for (name, text) in call.files {
+        library.add(name, text.as_bytes())?;
     }
     Ok(library)
 }
@@ -77,20 +57,4 @@ pub(crate) fn answer<R: AllocGlobal + Threads + Sync>(
     let mut out = MemorySink::new(rt.alloc(), 65_536, failing(rt, call.bad_write)?)?;
     let status = run_lab(rt, &words, &mut library, &mut out);
     Ok((status, Vec::from_slice(rt.alloc(), out.bytes())?))
-}
-
-/// A call answers this status and writes these texts, one after another.
-pub(crate) fn gives<R: AllocGlobal + Abort + Threads + Sync>(
-    rt: &R,
-    call: &Call<'_>,
-    status: u8,
-    texts: &[&str],
-) -> Result<(), Fail> {
-    let wanted = joined(rt, texts)?;
-    let (found, written) = answer(rt, call)?;
-    assert!(rt;
-        found == status && written.as_slice() == wanted.as_bytes(),
-        "not {status} {wanted}"
-    );
-    Ok(())
 }

@@ -1,4 +1,5 @@
-//! Tests of `lab` as a user calls it: words, a library and a sink in memory, and the bytes that are expected.
+//! Tests of `lab` over a library and a sink in memory: files and lines that fail. What commands write to the byte is
+//! compared where the real program runs.
 //!
 //! They stand in a crate of their own, above the call, so that no crate is proved a second time with them. The
 //! crate has nothing but tests, and nothing stands on it.
@@ -7,12 +8,4 @@
 #[cfg(test)]
 mod calls;
 #[cfg(test)]
-mod campaigns;
-#[cfg(test)]
-mod charts;
-#[cfg(test)]
-mod expected;
-#[cfg(test)]
-mod views;
-#[cfg(test)]
-mod words;
+mod commands;

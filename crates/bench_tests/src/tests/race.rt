@@ -3,8 +3,7 @@
 //! one of them to the end, and both messages come in a frame. And controllers end a slot in two halves of as many
 //! nodes.
 
-use super::texts::{list_of, script_of, scripted};
-use super::{HEAD, answer_past, has_each};
+use super::{FIRST, HEAD, SLOT, answer_past, call_of, joined, text_of};
 use std::hint::spin_loop;
 use std::process::Abort;
 use std::sync::Wait;
@@ -107,14 +106,16 @@ impl Gate for Beside {
     }
 }
 
-// A run: the top of its list and letters for the slots, the first line of its script, how many nodes are on, and
-// its other lines; who is held, lines that it has, and how often each place is passed.
+const LOADED: &str = "[[slot]]\nkinds = \"N\"\ndata = 8\nsync = true\nstart = false\n";
+
+const THREE_BUFFERS: &str =
+    "version = 1\nrounds = 1\nschedule = 0\nbuffers = 3\ndrift = 0\nerror = 0\nwindow = 1\n";
+
+// A run: the parts of its list and its script; who is held, lines that it has, and how often each place is passed.
 #[derive(Clone, Copy)]
 struct Case<'a> {
-    list: (&'a str, &'a str),
-    slots: &'a str,
-    on: usize,
-    hosts: &'a str,
+    list: &'a [&'a str],
+    script: &'a str,
     holds: [Hold; 2],
     lines: &'a [&'a str],
     passes: [u64; 6],
@@ -126,10 +127,19 @@ fn answer_beside<R: Threads + Wait + Sync + AllocGlobal>(
     case: &Case<'_>,
     gate: &Beside,
 ) -> Result<(u8, Vec<u8>), Memory> {
-    let list = list_of(rt, case.list.0, case.list.1)?;
-    let script = script_of(rt, case.slots, case.on, case.hosts)?;
-    let words = ["run", "cluster.toml", "five.script"];
-    answer_past(rt, &scripted(&words, &list, &script), gate)
+    let list = joined(rt, case.list)?;
+    let words = ["run", "list", "script"];
+    answer_past(rt, &call_of(&words, &list, case.script), gate)
+}
+
+// Whether a text has these parts.
+fn has_each(text: &str, parts: &[&str]) -> bool {
+    for part in parts {
+        if !text.contains(*part) {
+            return false;
+        }
+    }
+    true
 }
 
 // The run has these lines, both threads are held, none of them to the end, and each place is passed once for
@@ -142,7 +152,7 @@ fn runs_beside<R: Threads + Wait + Sync + AllocGlobal + Abort>(
     let (status, written) = answer_beside(rt, case, &gate)?;
     assert!(rt; status == 0);
     assert!(rt; gate.held_both());
-    has_each(rt, &written, case.lines);
+    assert!(rt; has_each(text_of(&written), case.lines));
     assert!(rt; gate.passes() == case.passes);
     Ok(())
 }
@@ -159,10 +169,8 @@ const FETCHES: u64 = 1;
 #[test]
 fn hosts_write_beside_fetches(rt: HostRuntime) -> Result<(), Memory> {
     let late = Case {
-        list: (HEAD, "FSNSS"),
-        slots: "slots 20\n",
-        on: 5,
-        hosts: "write 2 17 0102030405060708\n",
+        list: &[HEAD, FIRST, SLOT, LOADED, SLOT, SLOT],
+        script: "slots 20\non 0 0\non 1 0\non 2 0\non 3 0\non 4 0\nwrite 2 17 0102030405060708\n",
         // The write waits at its word until the fetch has begun, and the fetch at its word until that one was put.
         holds: [
             Hold {
@@ -186,11 +194,8 @@ fn hosts_write_beside_fetches(rt: HostRuntime) -> Result<(), Memory> {
     };
     runs_beside(&rt, &late)?;
     let early = Case {
-        list: (
-            "version = 1\nrounds = 1\nschedule = 0\nbuffers = 3\ndrift = 0\nerror = 0\nwindow = 1\n",
-            "FSNSS",
-        ),
-        hosts: "write 2 17 0102030405060708\nwrite 2 17 1112131415161718\n",
+        list: &[THREE_BUFFERS, FIRST, SLOT, LOADED, SLOT, SLOT],
+        script: "slots 20\non 0 0\non 1 0\non 2 0\non 3 0\non 4 0\nwrite 2 17 0102030405060708\nwrite 2 17 1112131415161718\n",
         // The fetch waits until a second write begins, and this one until the fetch has all words of the first.
         holds: [
             Hold {
@@ -221,10 +226,8 @@ fn hosts_write_beside_fetches(rt: HostRuntime) -> Result<(), Memory> {
 #[test]
 fn two_halves_have_as_many_nodes(rt: HostRuntime) -> Result<(), Memory> {
     let case = Case {
-        list: (HEAD, "FSSS"),
-        slots: "slots 15\n",
-        on: 4,
-        hosts: "read 1 11 status\n",
+        list: &[HEAD, FIRST, SLOT, SLOT, SLOT],
+        script: "slots 15\non 0 0\non 1 0\non 2 0\non 3 0\nread 1 11 status\n",
         holds: [
             Hold {
                 place: 1,

@@ -1,9 +1,7 @@
 //! Threads that are held until others have come: the halves of the controllers run at once, and so do the
 //! controllers and the hosts' reads.
 
-use super::super::texts::{list_of, script_of, scripted};
-use super::super::{HEAD, answer_at, call_of, let_go};
-use super::is_polled;
+use super::{FIVE_NODES, START, answer_at, call_of, joined, let_go, text_of, trace_of};
 use cluster_run::Cluster;
 use std::hint::spin_loop;
 use std::process::Abort;
@@ -123,17 +121,39 @@ fn is_kept(kept: &Option<Cluster>) -> bool {
     }
 }
 
+// The line of the read: the status of slot 10, or that of slot 11.
+const READS: [&str; 2] = [
+    "slot 11 host 1 read status 11 000000000000000a000000000000000100000000000000010000000000000100\n",
+    "slot 11 host 1 read status 12 000000000000000b000000000000002900000001000100030000000000000100\n",
+];
+
+// What a text has between the lines that a trace without the read has before slot 12 and from there on.
+fn line_between<'a>(text: &'a str, start: &str) -> Option<&'a str> {
+    let at = start.find("slot 12 node 0 ")?;
+    let rest = text.strip_prefix(start.get(..at)?)?;
+    rest.strip_suffix(start.get(at..)?)
+}
+
+// Whether a text is a trace of the run: that of the run without the read, and the line of it.
+fn is_polled(text: &str, start: &str) -> bool {
+    match line_between(text, start) {
+        Some(line) => line == READS[0] || line == READS[1],
+        None => false,
+    }
+}
+
 // Whether the run of a polled status answers 0, and writes a legal trace.
 fn is_run<R: Threads + Wait + Sync + AllocGlobal>(
     rt: &R,
     gate: &Holds,
     kept: &mut Option<Cluster>,
 ) -> Result<bool, Memory> {
-    let list = list_of(rt, HEAD, "FSSSS")?;
-    let script = script_of(rt, "slots 15\n", 5, "read 1 11 status\n")?;
-    let words = ["run", "cluster.toml", "five.script"];
-    let (status, text) = answer_at(rt, &scripted(&words, &list, &script), gate, kept)?;
-    Ok(status == 0 && is_polled(&text))
+    let list = joined(rt, FIVE_NODES)?;
+    let script = joined(rt, &[START, "read 1 11 status\n"])?;
+    let call = call_of(&["run", "list", "script"], &list, &script);
+    let (status, text) = answer_at(rt, &call, gate, kept)?;
+    let start = trace_of(rt, &list, START)?;
+    Ok(status == 0 && is_polled(text_of(&text), text_of(&start)))
 }
 
 // Whether a call without words answers 2, and keeps no cluster.
@@ -142,7 +162,7 @@ fn is_no_form<R: Threads + Wait + Sync + AllocGlobal>(
     gate: &Holds,
     kept: &mut Option<Cluster>,
 ) -> Result<bool, Memory> {
-    let (status, _usage) = answer_at(rt, &call_of(&[], b""), gate, kept)?;
+    let (status, _usage) = answer_at(rt, &call_of(&[], "", ""), gate, kept)?;
     Ok(status == 2 && kept.is_none())
 }
 

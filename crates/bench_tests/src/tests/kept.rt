@@ -1,0 +1,41 @@
+//! The cluster that ran is kept, until the next call.
+
+use super::{FIVE_NODES, START, answer_at, call_of, joined, let_go};
+use cluster_run::Cluster;
+use std::process::Abort;
+use std::sync::Wait;
+use std::thread::Threads;
+use ttp_base::{Memory, OpenGate};
+
+// Answers `sample` with this number of slots, and tells how many slots the cluster has done that is kept then.
+fn done_after<R: Threads + Wait + Sync + AllocGlobal>(
+    rt: &R,
+    slots: &str,
+    kept: &mut Option<Cluster>,
+) -> Result<Option<u32>, Memory> {
+    let list = joined(rt, FIVE_NODES)?;
+    let words = ["sample", "list", slots, "7"];
+    let call = call_of(&words, &list, START);
+    let _answer = answer_at(rt, &call, &OpenGate::new(), kept)?;
+    match kept {
+        Some(cluster) => Ok(Some(cluster.done())),
+        None => Ok(None),
+    }
+}
+
+fn keeps_until_the_next<R: Threads + Wait + Sync + AllocGlobal + Abort>(
+    rt: &R,
+    kept: &mut Option<Cluster>,
+) -> Result<(), Memory> {
+    assert!(rt; done_after(rt, "12", kept)? == Some(12));
+    assert!(rt; done_after(rt, "0", kept)?.is_none());
+    Ok(())
+}
+
+#[test]
+fn the_cluster_is_kept(rt: HostRuntime) -> Result<(), Memory> {
+    let mut kept = None;
+    let told = keeps_until_the_next(&rt, &mut kept);
+    let_go(kept);
+    told
+}

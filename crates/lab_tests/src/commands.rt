@@ -1,0 +1,157 @@
+//! Each command once; loads that fail, and sinks that fail at the first lines.
+use crate::calls::{Call, answer};
+use std::process::Abort;
+use std::test::Fail;
+use std::thread::Threads;
+
+// Five nodes, of which node 0 starts in slot 10.
+const LIST: &str =
+    "version = 1\nrounds = 1\nschedule = 0\nbuffers = 2\ndrift = 0\nerror = 0\nwindow = 1\n
+[[slot]]\nkinds = \"I\"\ndata = 0\nsync = true\nstart = true\n
+[[slot]]\nkinds = \"I\"\ndata = 0\nsync = true\nstart = false\n
+[[slot]]\nkinds = \"I\"\ndata = 0\nsync = true\nstart = false\n
+[[slot]]\nkinds = \"I\"\ndata = 0\nsync = true\nstart = false\n
+[[slot]]\nkinds = \"I\"\ndata = 0\nsync = true\nstart = false\n";
+
+const SCRIPT: &str = "slots 12\non 0 0\non 1 0\non 2 0\non 3 0\non 4 0\n";
+
+// A slot of four nodes, of which node 0 listens.
+const TRACE: &str = "ttpbench trace 1 nodes 4 rounds 1 slots 1 schedule 000000
+slot 0 node 0 wait peer - msg - mem 0000 acc 0 rej 0 ack none clock 0
+slot 0 node 1 off peer - msg - mem 0000 acc 0 rej 0 ack none clock 0
+slot 0 node 2 off peer - msg - mem 0000 acc 0 rej 0 ack none clock 0
+slot 0 node 3 off peer - msg - mem 0000 acc 0 rej 0 ack none clock 0
+keeps no H4 0
+";
+
+const USAGE: &str =
+    "usage: wave TRACE | picture TRACE [FIRST LAST] | campaign LIST SCRIPT FIRST LAST | chart CAMPAIGN [FIRST LAST]\n";
+
+const CAMPAIGN: &[&str] = &["campaign", "list", "script", "11", "11"];
+
+// The words of a call, which of its loads fails, its status, and the first line that it writes.
+type Row = (&'static [&'static str], u32, u8, &'static str);
+
+const COMMANDS: &[Row] = &[
+    (&["wave", "trace"], 0, 0, "$version ttplab wave $end\n"),
+    (
+        &["picture", "trace", "0", "00009"],
+        0,
+        0,
+        "<svg xmlns=\"http://www.w3.org/2000/svg\" width=\"1036\" height=\"422\" viewBox=\"0 0 1036 422\">\n",
+    ),
+    (
+        CAMPAIGN,
+        0,
+        0,
+        "ttplab campaign 1 nodes 5 slots 12 from 11 to 11\n",
+    ),
+    (
+        &["chart", "campaign"],
+        0,
+        0,
+        "<svg xmlns=\"http://www.w3.org/2000/svg\" width=\"1236\" height=\"654\" viewBox=\"0 0 1236 654\">\n",
+    ),
+    (&[], 1, 2, USAGE),
+    (&["wave", "trace"], 1, 5, "load: trace\n"),
+    (CAMPAIGN, 1, 5, "load: list\n"),
+    (CAMPAIGN, 2, 5, "load: script\n"),
+    (&["chart", "campaign"], 1, 5, "load: campaign\n"),
+    (
+        &["picture", "trace", "2", "2"],
+        0,
+        4,
+        "trace: slots 0 to 0\n",
+    ),
+];
+
+// How many lines of a text have a sink that fails at them.
+const LINES: u32 = 5;
+
+// Whether a sink whose write of this number fails has this front of a text.
+fn has_front<R: AllocGlobal + Threads + Sync>(
+    rt: &R,
+    call: &Call<'_>,
+    bad_write: u32,
+    front: Option<&[u8]>,
+) -> Result<bool, Fail> {
+    let (status, written) = answer(rt, &Call { bad_write, ..*call })?;
+    Ok(status == 6 && front == Some(written.as_slice()))
+}
+
+// Whether a sink that fails at one of the first lines of a text has those before it.
+fn has_fronts<R: AllocGlobal + Threads + Sync>(
+    rt: &R,
+    call: &Call<'_>,
+    text: &str,
+) -> Result<bool, Fail> {
+    let mut bad_write = 0u32;
+    let mut before = 0usize;
+    for line in text.split('\n') {
+        bad_write = bad_write.saturating_add(1);
+        if line.is_empty() || bad_write > LINES {
+            return Ok(true);
+        }
+        if !has_front(rt, call, bad_write, text.as_bytes().get(..before))? {
+            return Ok(false);
+        }
+        before = before.saturating_add(line.len()).saturating_add(1);
+    }
+    Ok(false)
+}
+
+// Whether a call answers as its row says, also where a line can't be written.
+fn is_answered<R: AllocGlobal + Threads + Sync>(
+    rt: &R,
+    row: &Row,
+    files: &[(&str, &str)],
+) -> Result<bool, Fail> {
+    let (words, bad_load, status, line) = *row;
+    let call = Call {
+        words,
+        files,
+        bad_load,
+        bad_write: 0,
+    };
+    let (found, written) = answer(rt, &call)?;
+    let text = str::from_utf8(&written)?;
+    Ok(found == status && text.starts_with(line) && has_fronts(rt, &call, text)?)
+}
+
+// What `campaign` writes.
+fn campaign_of<R: AllocGlobal + Threads + Sync>(
+    rt: &R,
+    files: &[(&str, &str)],
+) -> Result<Vec<u8>, Fail> {
+    let call = Call {
+        words: CAMPAIGN,
+        files,
+        bad_load: 0,
+        bad_write: 0,
+    };
+    let (_status, text) = answer(rt, &call)?;
+    Ok(text)
+}
+
+// All calls answer as their rows say, with these files.
+fn are_answered<R: AllocGlobal + Threads + Sync + Abort>(
+    rt: &R,
+    files: &[(&str, &str)],
+) -> Result<(), Fail> {
+    for row in COMMANDS {
+        assert!(rt; is_answered(rt, row, files)?, "not {}", row.3);
+    }
+    Ok(())
+}
+
+#[test]
+fn each_command_is_answered(rt: HostRuntime) -> Result<(), Fail> {
+    let campaign = campaign_of(&rt, &[("list", LIST), ("script", SCRIPT)])?;
+    let files = [
+        ("list", LIST),
+        ("script", SCRIPT),
+        ("trace", TRACE),
+        ("campaign", str::from_utf8(&campaign)?),
+    ];
+    are_answered(&rt, &files)
+}
