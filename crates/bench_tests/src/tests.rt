@@ -1,7 +1,7 @@
 //! Commands over a library and a sink in memory: files and lines that fail, gates, and clusters that are kept.
 //! What commands write to the byte is compared where the real program runs.
 
-mod commands;
+mod forms;
 mod gate;
 mod kept;
 mod race;

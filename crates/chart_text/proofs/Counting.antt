@@ -1,11 +1,10 @@
 -- Counting one item more.
-use Rattle.std.proofs.Common.{◌≡◌, ℕ, ◌+◌, ◌<◌, ◌≤◌, ◌^◌, Bool, true, false, cond, List, [], ◌∷◌, length, get_or, map, replicate}
-use Rattle.std.proofs.Common.{refl, sym, ap, ◌∙◌, arith}
-use Rattle.std.specs.Prelude.{◌==◌, count_by}
-use Rattle.std.proofs.lemmas.List.{get_or-replicate, ext_get_or, length-replicate}
+use Rattle.chart_text.proofs.Words.{◌≡◌, ℕ, ◌+◌, ◌<◌, ◌≤◌, ◌^◌, Bool, true, false, cond, List, [], ◌∷◌, length, get_or}
+use Rattle.chart_text.proofs.Words.{map, replicate, refl, sym, ap, ◌∙◌, arith, ◌==◌, get_or-replicate, length-replicate}
+use Rattle.chart_text.proofs.Words.{count_by-le-length, below}
+use Rattle.std.specs.Prelude.{count_by}
+use Rattle.std.proofs.lemmas.List.{ext_get_or}
 use Rattle.std.proofs.lemmas.List.FromFn.{length-map-range_with_len, get_or-map-range_with_len}
-use Rattle.std.proofs.lemmas.List.Sums.{count_by-le-length}
-use Rattle.ttp_base.specs.NodeSet.{below}
 use Rattle.chart_text.specs.Column.{counts_by}
 use Rattle.chart_text.specs.Steps.{AreFaultsCounted}
 

@@ -1,8 +1,7 @@
 -- Texts of a chart that are formed part by part.
-use Rattle.std.proofs.Common.{◌≡◌, ℕ, List, ◌++◌, codes, refl, append_assoc}
-use Rattle.ttp_base.specs.Text.{newline}
+use Rattle.chart_text.proofs.Words.{◌≡◌, ℕ, List, ◌++◌, codes, refl, append_assoc, newline, ended}
 use Rattle.picture_text.specs.Cells.{attribute, title_element}
-use Rattle.picture_text.specs.Picture.{class_of, ended}
+use Rattle.picture_text.specs.Picture.{class_of}
 use Rattle.picture_text.proofs.Joined.{cell_in_parts}
 
 -- a wide cell whose places are p and q

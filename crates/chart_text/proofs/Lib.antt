@@ -7,3 +7,4 @@ pub mod Joined
 pub mod Taken
 pub mod Worst
 pub mod Whole
+pub mod Words

@@ -1,20 +1,13 @@
 -- Faults in their order, passed one after another.
+use Rattle.chart_text.proofs.Words.{◌≡◌, ◌≢◌, ℕ, ◌+◌, ◌<◌, ◌≤◌, Bool, true, false, ◌&&◌, cond, List, [], ◌∷◌, length}
+use Rattle.chart_text.proofs.Words.{refl, sym, ap, ◌∙◌, arith, subst, ◌==◌, nat_le, filter, and_parts, eq-eqb, ne_eqb}
+use Rattle.chart_text.proofs.Words.{nat_tests, length-filter, count_by-le-length, FaultTold, in_order_from, Size}
+use Rattle.chart_text.proofs.Words.{look_number, fault_look, IsSlotTally, faults_told_in, SameFrom, longest_text}
 use Rattle.std.proofs.lemmas.Bool.{le-leb, leb-true}
-use Rattle.std.proofs.Common.{◌≡◌, ◌≢◌, ℕ, ◌+◌, ◌<◌, ◌≤◌, Bool, true, false, ◌&&◌, cond, List, [], ◌∷◌, length, refl, sym, ap, ◌∙◌}
-use Rattle.std.proofs.Common.{arith, subst, max}
-use Rattle.std.specs.Prelude.{◌==◌, nat_le, filter}
-use Rattle.std.proofs.lemmas.Bool.{and_parts, eq-eqb, ne_eqb}
-use Rattle.std.proofs.lemmas.Bool.Decides.{nat_tests}
-use Rattle.std.proofs.lemmas.List.Sums.{length-filter, count_by-le-length}
-use Rattle.whole_campaign.specs.Whole.{FaultTold}
-use Rattle.whole_campaign.specs.Readable.{in_order_from}
-use Rattle.chart_text.specs.declared.size.Size.{Size}
+use Rattle.std.proofs.Common.{max}
 use Rattle.chart_text.specs.declared.tally.SlotTally.{SlotTally}
-use Rattle.chart_text.specs.Looks.{look_number, fault_look}
-use Rattle.chart_text.specs.Walks.{IsSlotTally}
 use Rattle.chart_text.proofs.Counting.{counted-all}
-use Rattle.chart_text.specs.Column.{faults_told_in, look_counts, most_hurt}
-use Rattle.chart_text.specs.Steps.{SameFrom, longest_text}
+use Rattle.chart_text.specs.Column.{look_counts, most_hurt}
 
 -- an order from a slot on is one from an earlier slot on
 pub order-earlier : (s t : ℕ) (xs : List FaultTold) → s ≤ t → in_order_from t xs ≡ true → in_order_from s xs ≡ true

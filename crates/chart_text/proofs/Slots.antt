@@ -1,26 +1,26 @@
 -- Marked slots, one after another.
-use Rattle.std.proofs.Common.{◌≡◌, ◌≢◌, ℕ, zero, suc, ◌+◌, ◌-◌, ◌<◌, ◌≤◌, Bool, true, false, cond, ◌&&◌, ◌||◌, List, [], ◌∷◌, ◌++◌}
-use Rattle.std.proofs.Common.{length, get_or, take, drop, set, refl, sym, ap, ◌∙◌, arith, length-append, length-drop, inl, inr, subst, replicate}
-use Rattle.std.specs.Prelude.{◌==◌, nat_le, nat_lt, min, filter, Some, None, Option, position}
-use Rattle.std.specs.List.{list_any, position_or_len}
+use Rattle.chart_text.proofs.Words.{◌≡◌, ◌≢◌, ℕ, ◌+◌, ◌-◌, ◌<◌, ◌≤◌, Bool, true, false, cond, ◌&&◌, ◌||◌, List, [], ◌∷◌}
+use Rattle.chart_text.proofs.Words.{◌++◌, length, get_or, take, drop, refl, sym, ap, ◌∙◌, arith, subst, replicate, ◌==◌}
+use Rattle.chart_text.proofs.Words.{nat_le, nat_lt, filter, Some, None, Option, list_any, eq-eqb, ne_eqb}
+use Rattle.chart_text.proofs.Words.{get_or-replicate, length-replicate, get_or-set_other, nat_tests, length-filter}
+use Rattle.chart_text.proofs.Words.{count_by-le-length, below, Piece, as_count, Span, is_tried, is_asked, shown_before}
+use Rattle.chart_text.proofs.Words.{has_mark, marked_slots}
+use Rattle.std.proofs.Common.{zero, suc}
+use Rattle.std.proofs.Common.{set, length-append, length-drop, inl, inr}
+use Rattle.std.specs.Prelude.{min, position}
+use Rattle.std.specs.List.{position_or_len}
 use Rattle.std.proofs.Math.ListN.{get_or-eq_default, get_or-append}
 use Rattle.std.proofs.Math.Seq.{get_or-append_seam}
-use Rattle.std.proofs.lemmas.Bool.{cases_lt, eqb-false, eq-eqb, ne_eqb, or_parts}
-use Rattle.std.proofs.lemmas.List.{append-nil, get_or-replicate, length-replicate, take_all, drop_all, take-append-le, drop-append-le, get_or-set_same, get_or-set_other}
-use Rattle.std.proofs.lemmas.Bool.Decides.{nat_tests}
+use Rattle.std.proofs.lemmas.Bool.{cases_lt, eqb-false, or_parts}
+use Rattle.std.proofs.lemmas.List.{append-nil, take_all, drop_all, take-append-le, drop-append-le, get_or-set_same}
 use Rattle.std.proofs.lemmas.List.Elements.{filter-append, All-filter}
 use Rattle.std.proofs.lemmas.List.FromFn.{length-range_with_len, get_or-range_with_len}
-use Rattle.std.proofs.lemmas.List.Sums.{position_or_len_is, length-filter, count_by-le-length}
-use Rattle.ttp_base.specs.NodeSet.{below, has_node}
+use Rattle.std.proofs.lemmas.List.Sums.{position_or_len_is}
+use Rattle.ttp_base.specs.NodeSet.{has_node}
 use Rattle.ttp_base.proofs.Below.{below-next}
 use Rattle.ttp_base.proofs.NodeSets.{has_node-filter, has_node-sieve, same_sieve, filter-filter}
-use Rattle.whole_campaign.specs.declared.shown.Piece.{Piece}
-use Rattle.whole_campaign.specs.Due.{as_count}
-use Rattle.picture_text.specs.declared.window.Span.{Span}
 use Rattle.picture_text.proofs.Sought.{found_at, found_nowhere}
-use Rattle.chart_text.specs.Columns.{is_tried, tried_slots, is_asked, place_in}
-use Rattle.chart_text.specs.Column.{shown_before}
-use Rattle.chart_text.specs.Steps.{has_mark, marked_slots}
+use Rattle.chart_text.specs.Columns.{tried_slots, place_in}
 use Rattle.ttp_world.proofs.ListFacts.{node-out as fails, one-more as passes, nodes-length as count-passes}
 
 -- where nothing passes, nothing stands first

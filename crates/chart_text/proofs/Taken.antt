@@ -1,9 +1,9 @@
 -- The first of some faults, and those behind it.
-use Rattle.std.proofs.Common.{◌≡◌, Bool, true, false, List, [], ◌∷◌, drop, refl, sym, Option, Some, None, is_some}
+use Rattle.chart_text.proofs.Words.{◌≡◌, Bool, true, false, List, [], ◌∷◌, drop, refl, sym, Option, Some, None, told_of}
+use Rattle.chart_text.proofs.Words.{FaultTold}
+use Rattle.std.proofs.Common.{is_some}
 use Rattle.std.specs.Prelude.{IfSome, IsNone}
 use Rattle.whole_campaign.specs.declared.shown.FaultLine.{FaultLine}
-use Rattle.whole_campaign.specs.Steps.{told_of}
-use Rattle.whole_campaign.specs.Whole.{FaultTold}
 use Rattle.chart_text.specs.Walks.{told_ahead}
 
 -- all of them, where the first was taken

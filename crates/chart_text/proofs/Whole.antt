@@ -1,13 +1,9 @@
 -- The chart of a campaign, by the slots that are shown.
-use Rattle.std.proofs.Common.{◌≡◌, ℕ, List, map, subst, Option, Result}
-use Rattle.std.specs.Result.{OnOk, IfErr}
-use Rattle.ttp_base.specs.Outside.{Output, WroteLines}
-use Rattle.ttp_base.specs.Text.{Lines}
+use Rattle.chart_text.proofs.Words.{◌≡◌, ℕ, List, map, subst, Option, Result, OnOk, Output, WroteLines, Lines}
+use Rattle.chart_text.proofs.Words.{counts_sum, Span, Size}
+use Rattle.std.specs.Result.{IfErr}
 use Rattle.whole_campaign.specs.Whole.{WholeCampaign}
-use Rattle.whole_campaign.specs.Readable.{counts_sum}
-use Rattle.picture_text.specs.declared.window.Span.{Span}
 use Rattle.chart_text.specs.declared.chart.ChartFault.{ChartFault}
-use Rattle.chart_text.specs.declared.size.Size.{Size}
 use Rattle.chart_text.specs.Chart.{chart_of, chart_lines}
 use Rattle.chart_text.specs.Columns.{size_of_campaign, slots_shown}
 use Rattle.chart_text.specs.Walks.{LeftOfChart}

@@ -1,10 +1,9 @@
 -- The worst of one look more.
-use Rattle.std.proofs.Common.{◌≡◌, ◌∙◌, ℕ, ◌+◌, Bool, Option, Some, cond, List, get_or, sym, ap, add-one, refl}
-use Rattle.std.specs.Prelude.{◌==◌}
+use Rattle.chart_text.proofs.Words.{◌≡◌, ◌∙◌, ℕ, ◌+◌, Bool, Option, Some, cond, List, get_or, sym, ap, refl, ◌==◌}
+use Rattle.chart_text.proofs.Words.{worst_below, looks}
+use Rattle.std.proofs.Common.{add-one}
 use Rattle.chart_text.specs.declared.look.Look.{Look}
 use Rattle.chart_text.specs.declared.look.Look.TheVariants as look
-use Rattle.chart_text.specs.Column.{worst_below}
-use Rattle.chart_text.specs.Looks.{looks}
 
 pub worst-next : (counts : List ℕ) (n : ℕ) (before after : Option Look) → before ≡ worst_below counts n
     → after ≡ cond (get_or counts n 0 == 0) before (Some (get_or looks n look.Same))

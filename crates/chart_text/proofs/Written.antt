@@ -1,12 +1,11 @@
 -- Lines that were put, in the order of a chart.
-use Rattle.std.proofs.Common.{◌≡◌, ℕ, ◌+◌, Bool, true, false, List, [], ◌∷◌, ◌++◌, subst, sym, Result, Ok, Err, ◌↔◌}
-use Rattle.std.specs.Result.{IsOk, OnOk, OnErr}
-use Rattle.std.specs.List.{flat_map}
-use Rattle.ttp_base.specs.Outside.{Output, WroteLines, CutShort}
-use Rattle.ttp_base.specs.Text.{Lines, lines_below}
-use Rattle.picture_text.specs.Sheet.{Puts}
+use Rattle.chart_text.proofs.Words.{◌≡◌, ℕ, ◌+◌, Bool, true, false, List, [], ◌∷◌, ◌++◌, subst, sym, Result, OnOk}
+use Rattle.chart_text.proofs.Words.{flat_map, Output, WroteLines, Lines, lines_below, Puts, puts_below}
+use Rattle.std.proofs.Common.{Ok, Err, ◌↔◌}
+use Rattle.std.specs.Result.{IsOk, OnErr}
+use Rattle.ttp_base.specs.Outside.{CutShort}
 use Rattle.picture_text.proofs.Ending.{end_ok, end_failed}
-use Rattle.picture_text.proofs.Puts.{puts_then, puts_none, puts_below}
+use Rattle.picture_text.proofs.Puts.{puts_then, puts_none}
 
 -- what is left of a list: the lines of its first item and those of the others, or none
 pub left_first : {X : Type 0} (lines : X → Lines) (old rest : List X) (x : X) (g h i : Bool) (b c d : Output)

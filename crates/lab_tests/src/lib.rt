@@ -8,4 +8,4 @@
 #[cfg(test)]
 mod calls;
 #[cfg(test)]
-mod commands;
+mod forms;

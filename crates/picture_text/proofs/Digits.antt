@@ -1,8 +1,7 @@
 -- The lowest digits of a number are those of its rest.
-use Rattle.std.proofs.Common.{◌≡◌, ℕ, suc, ◌+◌, ◌*◌, ◌/◌, ◌%◌, ◌^◌, refl, arith}
+use Rattle.picture_text.proofs.Words.{◌≡◌, ℕ, suc, ◌+◌, ◌*◌, ◌/◌, ◌%◌, ◌^◌, refl, arith, hex}
 use Rattle.std.proofs.Math.Pow.{mod-mod-pow}
 use Rattle.std.proofs.lemmas.Nat.{mod-pow-add}
-use Rattle.ttp_base.specs.Text.{hex}
 
 -- the last digit of a rest, and the rest without it
 rest-digit : (j v : ℕ) → v % 2 ^ (j + 4) % 16 ≡ v % 16

@@ -1,15 +1,11 @@
 -- Memberships with one more behind them.
-use Rattle.std.proofs.Common.{◌≡◌, ℕ, ◌+◌, ◌<◌, ◌≤◌, Bool, true, false, cond, not, List, [], ◌∷◌, ◌++◌, length, take}
-use Rattle.std.proofs.Common.{get_or, refl, sym, ap, ◌∙◌, subst, arith, length-append}
-use Rattle.std.specs.Prelude.{◌==◌, ◌||◌, filter, map}
-use Rattle.std.specs.List.{list_any}
+use Rattle.picture_text.proofs.Words.{◌≡◌, ℕ, ◌+◌, ◌<◌, ◌≤◌, Bool, true, false, cond, not, List, [], ◌∷◌, ◌++◌, length}
+use Rattle.picture_text.proofs.Words.{take, get_or, refl, sym, ap, ◌∙◌, subst, arith, length-append, ◌==◌, ◌||◌, filter}
+use Rattle.picture_text.proofs.Words.{map, list_any, append-nil, filter-append, set_bits, NodeShown, is_holder}
+use Rattle.picture_text.proofs.Words.{memberships}
 use Rattle.std.proofs.lemmas.Bool.{eqb-true, eqb-false, eq-eqb, ne_eqb}
-use Rattle.std.proofs.lemmas.List.{append-nil, map-append, take_more}
-use Rattle.std.proofs.lemmas.List.Elements.{filter-append}
-use Rattle.ttp_base.specs.NodeSet.{set_bits}
-use Rattle.whole_trace.specs.declared.shown.NodeShown.{NodeShown}
-use Rattle.shown_slot.specs.Nodes.{is_holder}
-use Rattle.picture_text.specs.Cells.{distinct, noted, memberships}
+use Rattle.std.proofs.lemmas.List.{map-append, take_more}
+use Rattle.picture_text.specs.Cells.{distinct, noted}
 
 -- another number is still there
 has-others : (x y : ℕ) (words : List ℕ) → (x == y) ≡ false

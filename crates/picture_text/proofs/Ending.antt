@@ -1,10 +1,8 @@
 -- What the end tells: that all lines were written, or that the sink failed within them.
-use Rattle.std.proofs.Common.{◌≡◌, refl, Bool, true, false, subst, Result, Ok, Err, ◌↔◌}
+use Rattle.picture_text.proofs.Words.{◌≡◌, refl, Bool, true, false, subst, Output, WroteLines, CutShort, Lines, Span}
+use Rattle.picture_text.proofs.Words.{Puts}
+use Rattle.std.proofs.Common.{Result, Ok, Err, ◌↔◌}
 use Rattle.std.specs.Result.{IsOk, OnOk, OnErr}
-use Rattle.ttp_base.specs.Outside.{Output, WroteLines, CutShort}
-use Rattle.ttp_base.specs.Text.{Lines}
-use Rattle.picture_text.specs.declared.window.Span.{Span}
-use Rattle.picture_text.specs.Sheet.{Puts}
 use Rattle.picture_text.proofs.Puts.{all_wrote, all_cut}
 
 -- lines of the slots shown, from a sheet on that did not fail

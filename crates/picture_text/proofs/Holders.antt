@@ -1,16 +1,11 @@
 -- Of the numbers below one more number those that pass a test.
-use Rattle.std.proofs.Common.{◌≡◌, ℕ, ◌+◌, Bool, true, cond, List, [], ◌∷◌, ◌++◌, length, sym, ap, ◌∙◌}
-use Rattle.std.proofs.Common.{◌<◌, decimal, codes, get_or}
-use Rattle.std.specs.Prelude.{filter}
-use Rattle.std.proofs.lemmas.List.{append-nil, get_or_default}
-use Rattle.std.proofs.lemmas.List.Concat.{flat_map-append}
-use Rattle.std.proofs.lemmas.List.Elements.{filter-append}
-use Rattle.ttp_base.specs.NodeSet.{below}
+use Rattle.picture_text.proofs.Words.{◌≡◌, ℕ, ◌+◌, Bool, true, cond, List, [], ◌∷◌, ◌++◌, length, sym, ap, ◌∙◌, ◌<◌}
+use Rattle.picture_text.proofs.Words.{codes, get_or, filter, append-nil, flat_map-append, filter-append, below}
+use Rattle.picture_text.proofs.Words.{NodeShown, SlotLines, node_at, each_node}
+use Rattle.std.proofs.Common.{decimal}
+use Rattle.std.proofs.lemmas.List.{get_or_default}
 use Rattle.ttp_base.proofs.Below.{below-next}
-use Rattle.whole_trace.specs.declared.shown.NodeShown.{NodeShown}
-use Rattle.whole_trace.specs.Whole.{SlotLines}
-use Rattle.shown_slot.specs.Trace.{no_node, node_at}
-use Rattle.picture_text.specs.Cells.{each_node}
+use Rattle.shown_slot.specs.Trace.{no_node}
 use Rattle.ttp_world.proofs.ListFacts.{one-more as passes}
 
 filter-next : (p : ℕ → Bool) (n : ℕ) → filter p (below (n + 1)) ≡ filter p (below n) ++ cond (p n) (n ∷ []) []

@@ -1,7 +1,6 @@
 -- Texts that are formed part by part.
-use Rattle.std.proofs.Common.{◌≡◌, ℕ, List, ◌++◌, codes, refl, sym, ◌∙◌, append_assoc}
-use Rattle.ttp_base.specs.Text.{newline}
-use Rattle.picture_text.specs.Cells.{attribute, title_element}
+use Rattle.picture_text.proofs.Words.{◌≡◌, ℕ, List, ◌++◌, codes, refl, sym, ◌∙◌, append_assoc, newline, attribute}
+use Rattle.picture_text.proofs.Words.{title_element}
 
 -- parts behind what was there
 pub three_parts : (o a b c : List ℕ) → o ++ a ++ b ++ c ≡ o ++ (a ++ b ++ c)

@@ -12,3 +12,4 @@ pub mod Sought
 pub mod Joined
 pub mod Pairs
 pub mod NodeLine
+pub mod Words

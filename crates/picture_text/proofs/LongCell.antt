@@ -1,7 +1,5 @@
 -- A cell whose title is long, formed in two parts.
-use Rattle.std.proofs.Common.{◌≡◌, ℕ, List, ◌++◌, codes, sym, ap, ◌∙◌}
-use Rattle.ttp_base.specs.Text.{newline}
-use Rattle.picture_text.specs.Cells.{attribute, title_element}
+use Rattle.picture_text.proofs.Words.{◌≡◌, ℕ, List, ◌++◌, codes, sym, ap, ◌∙◌, newline, attribute, title_element}
 use Rattle.picture_text.proofs.Joined.{three_parts, cell_parts}
 
 pub long_cell : (all front back closed shut class title p q shown : List ℕ) → all ≡ front ++ back

@@ -1,13 +1,10 @@
 -- The line of a node, formed part by part.
-use Rattle.std.proofs.Common.{◌≡◌, ℕ, List, ◌++◌, codes, decimal, Bool, true, false, refl, append_assoc}
+use Rattle.picture_text.proofs.Words.{◌≡◌, ℕ, List, ◌++◌, codes, Bool, true, false, refl, append_assoc, signed_decimal}
+use Rattle.picture_text.proofs.Words.{set_bits, hex, number_or_dash, ack_word, word_text, NodeShown}
+use Rattle.std.proofs.Common.{decimal}
 use Rattle.std.specs.Prelude.{if◌then◌else◌}
-use Rattle.std.specs.Fmt.{signed_decimal}
-use Rattle.ttp_base.specs.NodeSet.{set_bits}
-use Rattle.ttp_base.specs.Text.{hex}
-use Rattle.ttp_world.specs.Trace.{number_or_dash, ack_word}
 use Rattle.line_reader.specs.declared.trace_line.TraceLine.TheVariants as line
-use Rattle.line_reader.specs.TraceLines.{text_of, word_text}
-use Rattle.whole_trace.specs.declared.shown.NodeShown.{NodeShown}
+use Rattle.line_reader.specs.TraceLines.{text_of}
 
 node_parts : (o s d n k sp w pe p ms m me h ac a rj r ak ack cl z : List ℕ)
     → o ++ (s ++ d ++ n ++ k ++ sp) ++ (w ++ pe ++ p ++ ms ++ m ++ me) ++ h

@@ -1,8 +1,5 @@
 -- One line that is put, and two.
-use Rattle.std.proofs.Common.{◌≡◌, ℕ, List, [], ◌∷◌, ◌++◌, Bool, subst}
-use Rattle.ttp_base.specs.Outside.{Output}
-use Rattle.ttp_base.specs.Text.{Lines}
-use Rattle.picture_text.specs.Sheet.{Puts}
+use Rattle.picture_text.proofs.Words.{◌≡◌, ℕ, List, [], ◌∷◌, ◌++◌, Bool, subst, Output, Lines, Puts}
 use Rattle.picture_text.proofs.Puts.{puts_then}
 
 pub puts_one : {f g : Bool} {a b : Output} {x y : List ℕ} → x ≡ y → Puts f a g b (x ∷ []) → Puts f a g b (y ∷ [])

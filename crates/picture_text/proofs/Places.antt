@@ -1,7 +1,6 @@
 -- How far down the cells of a picture stand, and how long the number of a slot is.
-use Rattle.std.proofs.Common.{ℕ, ◌*◌, ◌<◌, ◌≤◌, ◌^◌, length, arith}
+use Rattle.picture_text.proofs.Words.{ℕ, ◌*◌, ◌<◌, ◌≤◌, ◌^◌, length, arith, length-decimal-le}
 use Rattle.std.proofs.lemmas.Nat.{mul-le}
-use Rattle.std.proofs.lemmas.Fmt.{length-decimal-le}
 use Rattle.std.specs.Fmt.{decimal}
 
 pub bands_are_low : (high band : ℕ) → high ≤ 512 → band < 2 ^ 32 → high * band ≤ 512 * 2 ^ 32

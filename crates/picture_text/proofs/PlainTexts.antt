@@ -1,40 +1,37 @@
 -- What no text in a line of a picture has: a line feed, or a byte that begins a tag or stands for another.
-use Rattle.std.proofs.Common.{◌≡◌, ℕ, zero, suc, ◌+◌, ◌-◌, ◌/◌, ◌%◌, Bool, true, false, cond, ◌&&◌, ◌||◌, not, nat_lt}
-use Rattle.std.proofs.Common.{List, [], ◌∷◌, ◌++◌, refl, ◌∙◌, ℤ, pos, negsuc, Option, Some, None, arith, codes, decimal, length, get_or}
-use Rattle.std.specs.Prelude.{◌==◌, nat_le, is_some}
-use Rattle.std.specs.List.{AllByRecursion, list_all, list_any, flat_map}
-use Rattle.std.specs.Fmt.{digit_glyph, digits_onto, digits, signed_decimal}
+use Rattle.picture_text.proofs.Words.{◌≡◌, ℕ, suc, ◌+◌, ◌-◌, ◌/◌, ◌%◌, Bool, true, false, cond, ◌||◌, not, List, []}
+use Rattle.picture_text.proofs.Words.{◌∷◌, ◌++◌, refl, ◌∙◌, Option, Some, None, arith, codes, length, get_or, ◌==◌}
+use Rattle.picture_text.proofs.Words.{list_any, flat_map, signed_decimal, set_bits, Lines, hex, Back, Keep}
+use Rattle.picture_text.proofs.Words.{number_or_dash, ack_word, word_text, keep_text, Head, HostLine, NodeShown}
+use Rattle.picture_text.proofs.Words.{SlotLines, WholeTrace, is_holder, head_text, node_text, host_text, Span}
+use Rattle.picture_text.proofs.Words.{memberships, node_class, each_node, membership_text, members_title, count_of}
+use Rattle.picture_text.proofs.Words.{apart_text, apart_shown, more_text, words, letter, keep_meaning, strange_past}
+use Rattle.std.proofs.Common.{zero, ◌&&◌, nat_lt}
+use Rattle.std.proofs.Common.{ℤ, pos, negsuc, decimal}
+use Rattle.std.specs.Prelude.{nat_le, is_some}
+use Rattle.std.specs.List.{AllByRecursion, list_all}
+use Rattle.std.specs.Fmt.{digit_glyph, digits_onto, digits}
 use Rattle.std.proofs.lemmas.Bool.{and_parts, not-true}
 use Rattle.std.proofs.lemmas.List.Folds.{list_any-append}
-use Rattle.ttp_base.specs.NodeSet.{set_bits}
-use Rattle.ttp_base.specs.Text.{Lines, hex_digit, hex, byte_hex, hex_bytes}
-use Rattle.ttp_world.specs.declared.keep.Back.{Back}
+use Rattle.ttp_base.specs.Text.{hex_digit, byte_hex, hex_bytes}
 use Rattle.ttp_world.specs.declared.keep.Back.TheVariants as back
-use Rattle.ttp_world.specs.declared.keep.Keep.{Keep}
 use Rattle.ttp_world.specs.declared.keep.Keep.TheVariants as keep
 use Rattle.ttp_world.specs.declared.node.Ack.{Ack}
 use Rattle.ttp_world.specs.declared.node.Ack.TheVariants as ack
 use Rattle.ttp_world.specs.declared.script.Source.{Source}
 use Rattle.ttp_world.specs.declared.script.Source.TheVariants as source
-use Rattle.ttp_world.specs.Trace.{number_or_dash, ack_word, source_word}
+use Rattle.ttp_world.specs.Trace.{source_word}
 use Rattle.line_reader.specs.declared.trace_line.Word.{Word}
 use Rattle.line_reader.specs.declared.trace_line.Word.TheVariants as word
-use Rattle.line_reader.specs.TraceLines.{word_text, keep_text, back_text}
-use Rattle.whole_trace.specs.declared.shown.Head.{Head}
-use Rattle.whole_trace.specs.declared.shown.HostLine.{HostLine}
+use Rattle.line_reader.specs.TraceLines.{back_text}
 use Rattle.whole_trace.specs.declared.shown.HostLine.TheVariants as by_host
-use Rattle.whole_trace.specs.declared.shown.NodeShown.{NodeShown}
-use Rattle.whole_trace.specs.Whole.{SlotLines, WholeTrace}
 use Rattle.shown_slot.specs.declared.node.ClockRange.{ClockRange}
-use Rattle.shown_slot.specs.Nodes.{is_doubt, is_holder, spread_in}
-use Rattle.shown_slot.specs.Trace.{head_text, first_text, node_text, host_text}
-use Rattle.picture_text.specs.declared.window.Span.{Span}
-use Rattle.picture_text.specs.Cells.{memberships, holders_of, doubt_class, other_class, data_class, node_class}
-use Rattle.picture_text.specs.Cells.{member_digits, each_node, membership_text, members_title, count_of, apart_text, apart_shown}
-use Rattle.picture_text.specs.Picture.{more_text}
-use Rattle.picture_text.specs.Tables.{words, letter, word_meaning, rule_meanings, returning_meanings, keep_meaning, back_meaning}
+use Rattle.shown_slot.specs.Nodes.{is_doubt, spread_in}
+use Rattle.shown_slot.specs.Trace.{first_text}
+use Rattle.picture_text.specs.Cells.{holders_of, doubt_class, other_class, data_class}
+use Rattle.picture_text.specs.Cells.{member_digits}
+use Rattle.picture_text.specs.Tables.{word_meaning, rule_meanings, returning_meanings, back_meaning}
 use Rattle.picture_text.specs.Tables.{keep_name, back_name}
-use Rattle.picture_text.specs.Window.{strange_past}
 
 -- a line feed, `<` or `&`
 abbrev pub is_special : ℕ → Bool

@@ -1,16 +1,12 @@
 -- Lines that are put one after another.
-use Rattle.std.proofs.Common.{◌≡◌, refl, ap, ◌∙◌, ℕ, ◌+◌, map, List, [], ◌∷◌, ◌++◌, subst, sym, Bool, true, false}
-use Rattle.std.proofs.Common.{append_assoc}
-use Rattle.std.proofs.lemmas.List.{append-nil, map-id}
-use Rattle.std.proofs.lemmas.List.Concat.{flat_map-append}
+use Rattle.picture_text.proofs.Words.{◌≡◌, refl, ap, ◌∙◌, ℕ, ◌+◌, map, List, [], ◌∷◌, ◌++◌, subst, sym, Bool, true}
+use Rattle.picture_text.proofs.Words.{false, append_assoc, append-nil, flat_map-append, flat_map, range_with_len, below}
+use Rattle.picture_text.proofs.Words.{Output, WroteLines, CutShort, Lines, lines_below, Puts}
+use Rattle.std.proofs.lemmas.List.{map-id}
 use Rattle.std.proofs.lemmas.List.FromFn.{map-range_with_len_more}
-use Rattle.std.specs.List.{flat_map, range_with_len}
-use Rattle.ttp_base.specs.NodeSet.{below}
-use Rattle.ttp_base.specs.Outside.{Output, WroteLines, CutShort}
-use Rattle.ttp_base.specs.Text.{Lines, lines_below}
 use Rattle.ttp_base.proofs.Below.{flat_map-next, map-next}
 use Rattle.ttp_base.proofs.Outputs.{Wrote-join, Wrote-none, CutShort-after, CutShort-more}
-use Rattle.picture_text.specs.Sheet.{Puts, HasPut}
+use Rattle.picture_text.specs.Sheet.{HasPut}
 
 -- no lines, and lines in two parts
 pub puts_none : (f : Bool) (a : Output) → Puts f a f a []

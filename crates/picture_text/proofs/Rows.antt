@@ -1,12 +1,7 @@
 -- Lines whose texts are known by equations, put behind others.
-use Rattle.std.proofs.Common.{◌≡◌, ℕ, ◌+◌, ◌-◌, ◌*◌, ◌/◌, ◌<◌, ◌≤◌, Bool, map, List, [], ◌∷◌, ◌++◌}
-use Rattle.std.proofs.Common.{subst, sym, arith}
-use Rattle.std.specs.List.{flat_map, range_with_len}
+use Rattle.picture_text.proofs.Words.{◌≡◌, ℕ, ◌+◌, ◌-◌, ◌*◌, ◌/◌, ◌<◌, ◌≤◌, Bool, map, List, [], ◌∷◌, ◌++◌, subst, sym}
+use Rattle.picture_text.proofs.Words.{arith, flat_map, range_with_len, below, Output, Lines, Puts}
 use Rattle.std.proofs.Math.Nat.{mul-le-mul_left}
-use Rattle.ttp_base.specs.NodeSet.{below}
-use Rattle.ttp_base.specs.Outside.{Output}
-use Rattle.ttp_base.specs.Text.{Lines}
-use Rattle.picture_text.specs.Sheet.{Puts}
 use Rattle.picture_text.proofs.Puts.{puts_none, puts_next, puts_then, puts_range}
 
 pub one_more : (f g h : Bool) (a b c : Output) (line : ℕ → List ℕ) (k : ℕ) (one : List ℕ)

@@ -1,16 +1,14 @@
 -- The first slot that is sought, and slots one after another.
-use Rattle.std.proofs.Common.{◌≡◌, ℕ, ◌+◌, ◌<◌, ◌≤◌, Bool, List, [], ◌∷◌, length, drop, get_or, Some, None}
-use Rattle.std.proofs.Common.{refl, sym, ap, ◌∙◌, arith, length-drop, ◌-◌}
-use Rattle.std.specs.Prelude.{position, Option, unwrap_or, option_map}
-use Rattle.std.specs.List.{position_or_len}
+use Rattle.picture_text.proofs.Words.{◌≡◌, ℕ, ◌+◌, ◌<◌, ◌≤◌, Bool, List, [], ◌∷◌, length, drop, get_or, Some, None}
+use Rattle.picture_text.proofs.Words.{refl, sym, ap, ◌∙◌, arith, length-drop, ◌-◌, position, Option, unwrap_or}
+use Rattle.picture_text.proofs.Words.{position_or_len, SlotLines, no_slot, is_strange, has_start, strange_past}
+use Rattle.std.specs.Prelude.{option_map}
 use Rattle.std.proofs.lemmas.Bool.{lt-ltb, le-ltb}
 use Rattle.std.proofs.lemmas.Bool.Decides.{nat_tests}
 use Rattle.std.proofs.lemmas.List.{drop-drop, get_or-drop}
 use Rattle.std.proofs.lemmas.List.Quantifiers.{position-Some}
 use Rattle.std.proofs.lemmas.List.Sums.{position_or_len_is, fails_before_first}
-use Rattle.whole_trace.specs.Whole.{SlotLines}
-use Rattle.picture_text.specs.Picture.{no_slot}
-use Rattle.picture_text.specs.Window.{is_strange, has_start, slot_of_interest, strange_past}
+use Rattle.picture_text.specs.Window.{slot_of_interest}
 
 pub found_at : {X : Type 0} (p : X → Bool) (xs : List X) (n : ℕ) → position_or_len p xs ≡ n → n < length xs
     → position p xs ≡ Some n

@@ -1,24 +1,15 @@
 -- The picture as its head, its rows and what stands behind them.
-use Rattle.std.proofs.Common.{◌≡◌, ℕ, ◌+◌, List, [], ◌∷◌, ◌++◌, Bool, codes, decimal}
-use Rattle.std.proofs.Common.{refl, sym, ap, ◌∙◌, subst, append_assoc}
-use Rattle.std.specs.Prelude.{Option}
-use Rattle.std.specs.List.{flat_map}
-use Rattle.ttp_base.specs.Outside.{Output}
-use Rattle.ttp_base.specs.Text.{Lines, lines_below}
-use Rattle.ttp_world.specs.declared.keep.Back.{Back}
-use Rattle.ttp_world.specs.declared.keep.Keep.{Keep}
-use Rattle.line_reader.specs.TraceLines.{keep_text}
-use Rattle.whole_trace.specs.declared.shown.Head.{Head}
-use Rattle.whole_trace.specs.Whole.{WholeTrace}
-use Rattle.shown_slot.specs.Trace.{head_text}
-use Rattle.picture_text.specs.declared.window.Span.{Span}
-use Rattle.picture_text.specs.Cells.{attribute, title_element}
-use Rattle.picture_text.specs.Picture.{ended, size, svg_line, style_lines, more_text, said_line, back_said, text_line}
-use Rattle.picture_text.specs.Picture.{word_entries, head_lines, class_entries, picture_of}
-use Rattle.picture_text.specs.Picture.{band_lines, cell_lines, beside_lines, slot_at, slots_in, keep_flag, back_flag}
-use Rattle.picture_text.specs.Sheet.{Puts}
-use Rattle.picture_text.specs.Tables.{keep_meaning, words}
-use Rattle.picture_text.specs.Window.{height, bands, legend_top, strange_past}
+use Rattle.picture_text.proofs.Words.{◌≡◌, ℕ, ◌+◌, List, [], ◌∷◌, ◌++◌, Bool, codes, refl, sym, ap, ◌∙◌, subst}
+use Rattle.picture_text.proofs.Words.{append_assoc, Option, flat_map, Output, Lines, lines_below, Back, Keep, keep_text}
+use Rattle.picture_text.proofs.Words.{Head, WholeTrace, head_text, Span, attribute, title_element, ended, size}
+use Rattle.picture_text.proofs.Words.{svg_line, more_text, word_entries, class_entries, picture_of, band_lines}
+use Rattle.picture_text.proofs.Words.{cell_lines, beside_lines, slot_at, keep_flag, back_flag, Puts, keep_meaning}
+use Rattle.picture_text.proofs.Words.{words, strange_past}
+use Rattle.std.proofs.Common.{decimal}
+use Rattle.picture_text.specs.Picture.{style_lines, said_line, back_said, text_line}
+use Rattle.picture_text.specs.Picture.{head_lines}
+use Rattle.picture_text.specs.Picture.{slots_in}
+use Rattle.picture_text.specs.Window.{height, bands, legend_top}
 use Rattle.picture_text.proofs.Puts.{puts_then}
 
 -- each of the parts, by what it is written from

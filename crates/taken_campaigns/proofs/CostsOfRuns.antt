@@ -1,32 +1,24 @@
 -- What a run costs names nodes of the list and slots of the run.
-use Rattle.std.proofs.Common.{◌≡◌, ℕ, zero, suc, ◌+◌, ◌<◌, ◌≤◌, Bool, true, false, ◌&&◌, not, List, [], ◌∷◌}
-use Rattle.std.proofs.Common.{length, All, Option, Some, None, IfSome, refl, subst, arith, decimal}
-use Rattle.std.specs.Prelude.{filter}
-use Rattle.std.specs.List.{filter_map, cons_option, range_with_len}
+use Rattle.taken_campaigns.proofs.Words.{◌≡◌, ℕ, zero, suc, ◌+◌, ◌<◌, ◌≤◌, Bool, true, false, ◌&&◌, not, List, [], ◌∷◌}
+use Rattle.taken_campaigns.proofs.Words.{length, All, Option, Some, None, IfSome, refl, subst, arith, decimal, filter}
+use Rattle.taken_campaigns.proofs.Words.{range_with_len, cond_both, All-cons, All-head, All-tail, HasWord, Medl, Entry}
+use Rattle.taken_campaigns.proofs.Words.{Script, History, entry_of, IsValid, nodes-most, Leave, Span, leave_word}
+use Rattle.taken_campaigns.proofs.Words.{members_word, Kind}
+use Rattle.std.specs.List.{filter_map, cons_option}
 use Rattle.std.specs.Str.{bytes_eq}
-use Rattle.std.proofs.lemmas.Bool.{cond_both}
-use Rattle.std.proofs.lemmas.List.Elements.{All-cons, All-head, All-tail, All-filter, All-from_recursion}
+use Rattle.std.proofs.lemmas.List.Elements.{All-filter, All-from_recursion}
 use Rattle.std.proofs.lemmas.List.Elements.{recursion_from_All}
 use Rattle.ttp_base.specs.NodeSet.{below}
 use Rattle.ttp_base.proofs.Below.{below-lt}
-use Rattle.ttp_base.proofs.SetWords.{HasWord, HasWord-nil, HasWord-filter}
-use Rattle.ttp_world.specs.declared.medl.Medl.{Medl}
-use Rattle.ttp_world.specs.declared.node.Entry.{Entry}
+use Rattle.ttp_base.proofs.SetWords.{HasWord-nil, HasWord-filter}
 use Rattle.ttp_world.specs.declared.node.Entry.TheVariants as entry
-use Rattle.ttp_world.specs.declared.script.Script.{Script}
-use Rattle.ttp_world.specs.Diary.{History, entry_of, diary_of, is_active}
-use Rattle.ttp_world.specs.Medl.{IsValid}
+use Rattle.ttp_world.specs.Diary.{diary_of, is_active}
 use Rattle.ttp_world.specs.Membership.{is_good}
 use Rattle.ttp_world.specs.Safety.{members_of_node}
 use Rattle.ttp_world.proofs.HostMessages.{filter_map-each}
-use Rattle.ttp_world.proofs.Lists.{nodes-most}
 use Rattle.ttp_world.proofs.Pasts.{elim_both}
-use Rattle.campaign.specs.declared.cost.Leave.{Leave}
-use Rattle.campaign.specs.declared.cost.Span.{Span}
 use Rattle.campaign.specs.Cost.{leave_after, newest_leave, leaves, is_hurt, is_firm, firm_members, each_once}
 use Rattle.campaign.specs.Cost.{memberships, span_after, is_split, split_span, cost_of}
-use Rattle.campaign.specs.CostText.{leave_word, members_word}
-use Rattle.whole_campaign.specs.declared.listed.Kind.{Kind}
 use Rattle.whole_campaign.specs.declared.listed.Kind.TheVariants as kind
 use Rattle.taken_campaigns.proofs.ListsRead.{IsNodeWord, AreNodeWords, IsSetWord}
 use Rattle.taken_campaigns.proofs.CostsRead.{IsSpanBelow, IsCostIn, leave-is_word, node-is_word, members-are_word}

@@ -1,19 +1,21 @@
 -- What a run cost is read of its words.
-use Rattle.std.proofs.Common.{◌≡◌, ℕ, ◌*◌, ◌^◌, ◌<◌, ◌≤◌, Bool, true, false, ◌&&◌, ◌||◌, not, List, [], ◌∷◌}
-use Rattle.std.proofs.Common.{◌++◌, length, fold, Option, Some, None, IfSome, refl, sym, ap, ◌∙◌, arith, codes, decimal}
-use Rattle.std.proofs.Common.{append_assoc, lit<, subst}
-use Rattle.std.specs.Prelude.{◌==◌, nat_le, map, is_some}
-use Rattle.std.specs.List.{list_any, list_all, AllByRecursion}
-use Rattle.std.proofs.Math.Bool.{or-true}
+use Rattle.taken_campaigns.proofs.Words.{◌≡◌, ℕ, ◌^◌, ◌<◌, ◌≤◌, Bool, true, false, ◌&&◌, ◌||◌, not, List, [], ◌∷◌, ◌++◌}
+use Rattle.taken_campaigns.proofs.Words.{length, fold, Option, Some, None, IfSome, refl, sym, ap, ◌∙◌, arith, codes}
+use Rattle.taken_campaigns.proofs.Words.{decimal, append_assoc, subst, ◌==◌, nat_le, map, is_some, list_any}
+use Rattle.taken_campaigns.proofs.Words.{AllByRecursion, or-true, and_parts, both_ways, eq-eqb, false_from_ne_true}
+use Rattle.taken_campaigns.proofs.Words.{le-leb, lt-ltb, list_any-append, bytes_eq-Decides, has, has-append}
+use Rattle.taken_campaigns.proofs.Words.{has-decimal, HasWord, Medl, numeral-again, slot_digits, Cost, Leave, Span}
+use Rattle.taken_campaigns.proofs.Words.{listed, leave_word, members_word, cost_words, SetsSoFar, is_dash}
+use Rattle.taken_campaigns.proofs.Words.{members_listed, nodes_listed, sets_listed, node_digits, cost_in}
+use Rattle.std.proofs.Common.{◌*◌}
+use Rattle.std.proofs.Common.{lit<}
+use Rattle.std.specs.List.{list_all}
 use Rattle.std.proofs.Math.Nat.{pow-le-pow_right}
-use Rattle.std.proofs.lemmas.Bool.{and_parts, both_ways, eq-eqb, false_from_ne_true, le-leb, lt-ltb, ne_eqb, or_from}
-use Rattle.std.proofs.lemmas.List.Folds.{list_any-append}
-use Rattle.std.proofs.lemmas.Slice.Eq.{bytes_eq-Decides}
+use Rattle.std.proofs.lemmas.Bool.{ne_eqb, or_from}
 use Rattle.ttp_base.specs.NodeSet.{most_nodes, set_bits, members_in}
 use Rattle.ttp_base.specs.Text.{hex}
-use Rattle.ttp_base.proofs.Numerals.{has, has-append, has-decimal, has-hex}
-use Rattle.ttp_base.proofs.SetWords.{HasWord, set_bits-small, members_in-set_bits}
-use Rattle.ttp_world.specs.declared.medl.Medl.{Medl}
+use Rattle.ttp_base.proofs.Numerals.{has-hex}
+use Rattle.ttp_base.proofs.SetWords.{set_bits-small, members_in-set_bits}
 use Rattle.ttp_world.specs.declared.node.Entry.TheVariants as entry
 use Rattle.ttp_world.specs.declared.node.Reason.{Reason}
 use Rattle.ttp_world.specs.declared.node.Reason.TheVariants as reason
@@ -23,19 +25,11 @@ use Rattle.ttp_world.specs.TraceNumbers.{is_digit, append_digit}
 use Rattle.ttp_world.proofs.NumberWords.{number_named-decimal}
 use Rattle.ttp_world.proofs.TraceWords.{has-entry_word}
 use Rattle.line_text.proofs.Options.{guarded}
-use Rattle.line_text.proofs.WrittenNumbers.{numeral-again}
 use Rattle.line_reader.specs.Reading.{hex_in}
-use Rattle.line_reader.specs.TraceLines.{slot_digits}
 use Rattle.line_reader.proofs.WrittenWords.{hex-again}
-use Rattle.campaign.specs.declared.cost.Cost.{Cost}
-use Rattle.campaign.specs.declared.cost.Leave.{Leave}
-use Rattle.campaign.specs.declared.cost.Span.{Span}
-use Rattle.campaign.specs.CostText.{listed, leave_word, span_words, members_word, cost_words}
+use Rattle.campaign.specs.CostText.{span_words}
 use Rattle.whole_campaign.specs.declared.listed.Kind.TheVariants as kind
-use Rattle.whole_campaign.specs.declared.listed.SetsSoFar.{SetsSoFar}
-use Rattle.whole_campaign.specs.Words.{is_dash, is_reason, leaving_in, members_listed, split_in, nodes_listed, sets_listed}
-use Rattle.whole_campaign.specs.Words.{node_digits}
-use Rattle.whole_campaign.specs.Runs.{cost_in}
+use Rattle.whole_campaign.specs.Words.{is_reason, leaving_in, split_in}
 use Rattle.taken_campaigns.proofs.WordsCut.{IsOfWords, word-behind, one-word, more-words, nested-5}
 use Rattle.taken_campaigns.proofs.ListsRead.{IsNodeWord, AreNodeWords, IsSetWord, has-listed, numeral-no_dash}
 use Rattle.taken_campaigns.proofs.ListsRead.{nodes-again, sets-again}

@@ -1,21 +1,14 @@
 -- The counts of a piece, one fault after another, are those of all its faults.
-use Rattle.std.proofs.Common.{◌≡◌, ℕ, zero, suc, ◌+◌, Bool, true, false, cond, not, List, [], ◌∷◌, ◌++◌, length, refl, ap}
-use Rattle.std.proofs.Common.{◌∙◌, arith}
-use Rattle.std.specs.Prelude.{◌==◌, nat_lt, map, filter, count_by, is_some}
-use Rattle.std.proofs.lemmas.Bool.Decides.{nat_tests}
+use Rattle.taken_campaigns.proofs.Words.{◌≡◌, ℕ, zero, suc, ◌+◌, Bool, true, false, cond, not, List, [], ◌∷◌, ◌++◌}
+use Rattle.taken_campaigns.proofs.Words.{length, refl, ap, ◌∙◌, arith, ◌==◌, nat_lt, map, filter, is_some, nat_tests}
+use Rattle.taken_campaigns.proofs.Words.{Medl, Event, Script, Cost, Counts, Span, Summary, summary, summary_with}
+use Rattle.taken_campaigns.proofs.Words.{FaultShown, Piece, no_runs, with_fault_counted, shown_of_run}
+use Rattle.std.specs.Prelude.{count_by}
 use Rattle.std.proofs.lemmas.List.Sums.{sum_by-cons}
-use Rattle.ttp_world.specs.declared.medl.Medl.{Medl}
-use Rattle.ttp_world.specs.declared.script.Event.{Event}
-use Rattle.ttp_world.specs.declared.script.Script.{Script}
-use Rattle.campaign.specs.declared.cost.Cost.{Cost}
-use Rattle.campaign.specs.declared.cost.Counts.{Counts}
-use Rattle.campaign.specs.declared.cost.Span.{Span}
-use Rattle.campaign.specs.Lines.{Summary, summary, summary_with, is_same_cost, has_hurt, is_torn, is_dead, counts_of, costs_of}
+use Rattle.campaign.specs.Lines.{is_same_cost, has_hurt, is_torn, is_dead, counts_of, costs_of}
 use Rattle.campaign.specs.Lines.{kept_counts, broken_counts}
-use Rattle.whole_campaign.specs.declared.shown.FaultShown.{FaultShown}
-use Rattle.whole_campaign.specs.declared.shown.Piece.{Piece}
-use Rattle.whole_campaign.specs.Due.{no_runs, as_count, with_run, with_run_if, with_fault_counted}
-use Rattle.taken_campaigns.specs.Taken.{shown_of_run, piece_with}
+use Rattle.whole_campaign.specs.Due.{as_count, with_run, with_run_if}
+use Rattle.taken_campaigns.specs.Taken.{piece_with}
 
 -- two counts, added up
 abbrev both : Counts → Counts → Counts

@@ -1,38 +1,26 @@
 -- The words of a fault are those that are due at its place.
-use Rattle.std.proofs.Common.{◌≡◌, ℕ, zero, suc, ◌+◌, ◌-◌, ◌%◌, ◌<◌, ◌≤◌, ℤ, pos, negsuc, neg_ℤ, ◌≤ℤ◌, Bool}
-use Rattle.std.proofs.Common.{true, false, List, [], ◌∷◌, ◌++◌, length, Some, refl, sym, ap}
-use Rattle.std.proofs.Common.{◌∙◌, arith, codes, decimal}
-use Rattle.std.specs.Prelude.{◌==◌, nat_lt, map}
+use Rattle.taken_campaigns.proofs.Words.{◌≡◌, ℕ, zero, suc, ◌+◌, ◌-◌, ◌<◌, ◌≤◌, Bool, true, false, List, [], ◌∷◌, ◌++◌}
+use Rattle.taken_campaigns.proofs.Words.{length, Some, refl, sym, ap, ◌∙◌, arith, codes, decimal, ◌==◌, nat_lt, map}
+use Rattle.taken_campaigns.proofs.Words.{eq-eqb, lt-ltb, list_any-append, has, has-decimal, Medl, Event, Script}
+use Rattle.taken_campaigns.proofs.Words.{IsValid, is_arm, IsValidEvent, bytes_eq-same, numeral-again, slot_digits}
+use Rattle.taken_campaigns.proofs.Words.{fault_words, fault_slot, fault_node, jump_sizes, losses_from, Doing, Spot}
+use Rattle.taken_campaigns.proofs.Words.{node_digits, doing_in, is_last_place, doing_of}
+use Rattle.std.proofs.Common.{◌%◌, ℤ, pos, negsuc, neg_ℤ, ◌≤ℤ◌}
 use Rattle.std.specs.Fmt.{signed_decimal}
-use Rattle.std.proofs.lemmas.Bool.{eq-eqb, lt-ltb}
 use Rattle.std.proofs.lemmas.Int.{int_min_is, ints}
-use Rattle.std.proofs.lemmas.List.Folds.{list_any-append}
-use Rattle.ttp_base.proofs.Numerals.{has, has-decimal, has-signed}
-use Rattle.ttp_world.specs.declared.medl.Medl.{Medl}
+use Rattle.ttp_base.proofs.Numerals.{has-signed}
 use Rattle.ttp_world.specs.declared.script.Channels.{Channels}
-use Rattle.ttp_world.specs.declared.script.Event.{Event}
 use Rattle.ttp_world.specs.declared.script.Event.TheVariants as event
 use Rattle.ttp_world.specs.declared.script.Fault.{Fault}
 use Rattle.ttp_world.specs.declared.script.Fault.TheVariants as fault
-use Rattle.ttp_world.specs.declared.script.Script.{Script}
 use Rattle.ttp_world.specs.declared.script.TheConstants.{JUMP_LIMIT}
 use Rattle.ttp_world.specs.Hypothesis.{four_windows}
-use Rattle.ttp_world.specs.Medl.{IsValid}
-use Rattle.ttp_world.specs.Returning.{is_arm}
-use Rattle.ttp_world.specs.Script.{IsValidEvent}
-use Rattle.ttp_world.proofs.NumberWords.{bytes_eq-same}
-use Rattle.line_text.proofs.WrittenNumbers.{numeral-again}
-use Rattle.line_reader.specs.TraceLines.{slot_digits}
-use Rattle.campaign.specs.CostText.{on_channels, channels_word, kind_word, loss_words, fault_words}
-use Rattle.campaign.specs.Lines.{fault_slot, fault_node}
-use Rattle.campaign.specs.Tried.{sized, jump_sizes, losses_from}
-use Rattle.whole_campaign.specs.declared.shown.Doing.{Doing}
+use Rattle.campaign.specs.CostText.{on_channels, channels_word, kind_word, loss_words}
+use Rattle.campaign.specs.Tried.{sized}
 use Rattle.whole_campaign.specs.declared.shown.Doing.TheVariants as doing
-use Rattle.whole_campaign.specs.declared.spot.Spot.{Spot}
-use Rattle.whole_campaign.specs.Words.{node_digits}
-use Rattle.whole_campaign.specs.Faults.{channels_at, loss_at, loss_end, doing_label, doing_in, is_loss_of, signed_in, is_jump_value}
-use Rattle.whole_campaign.specs.Faults.{jump_words_in, is_fault_of, is_last_place}
-use Rattle.taken_campaigns.specs.Taken.{doing_of}
+use Rattle.whole_campaign.specs.Faults.{channels_at, loss_at, loss_end, doing_label, is_loss_of, signed_in}
+use Rattle.whole_campaign.specs.Faults.{is_jump_value}
+use Rattle.whole_campaign.specs.Faults.{jump_words_in, is_fault_of}
 use Rattle.taken_campaigns.proofs.WordsCut.{word-behind, nested-6}
 
 abbrev pub spot_at : ℕ → ℕ → Doing → ℕ → Spot

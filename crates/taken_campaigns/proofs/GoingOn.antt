@@ -1,30 +1,16 @@
 -- A campaign that goes on with lines that are due.
-use Rattle.std.proofs.Common.{◌≡◌, ℕ, ◌<◌, true, false, List, [], ◌∷◌, ◌++◌, Option, Some, None, append_assoc}
-use Rattle.std.proofs.Common.{refl, ap, ◌∙◌, arith, codes, decimal}
-use Rattle.std.specs.Prelude.{◌==◌, option_map}
-use Rattle.std.specs.List.{AllByRecursion}
-use Rattle.std.proofs.lemmas.Bool.{eq-eqb, lt-ltb}
-use Rattle.std.proofs.lemmas.List.Folds.{list_any-append}
-use Rattle.ttp_base.specs.Text.{Lines, newline, is_line}
+use Rattle.taken_campaigns.proofs.Words.{◌≡◌, ℕ, ◌<◌, true, false, List, [], ◌∷◌, ◌++◌, Option, Some, None}
+use Rattle.taken_campaigns.proofs.Words.{append_assoc, refl, ap, ◌∙◌, arith, codes, decimal, ◌==◌, AllByRecursion}
+use Rattle.taken_campaigns.proofs.Words.{eq-eqb, lt-ltb, list_any-append, Lines, newline, is_line, has, has-decimal}
+use Rattle.taken_campaigns.proofs.Words.{bytes_eq-same, ◌>>=◌, Counts, unended, counts_line, Due, FaultShown, Piece}
+use Rattle.taken_campaigns.proofs.Words.{Spot, without_feed, word_behind, campaign_head_in, head_of_line}
+use Rattle.taken_campaigns.proofs.Words.{fault_words_in, fault_line_in, with_fault_counted, piece_begun, spot_of}
+use Rattle.taken_campaigns.proofs.Words.{fault_told, is_between_groups, Common, FaultTold, one_further}
+use Rattle.std.specs.Prelude.{option_map}
 use Rattle.ttp_base.proofs.Lines.{is_line-append}
-use Rattle.ttp_base.proofs.Numerals.{has, has-decimal}
-use Rattle.ttp_world.proofs.NumberWords.{bytes_eq-same}
-use Rattle.line_reader.specs.Reading.{◌>>=◌}
-use Rattle.campaign.specs.declared.cost.Counts.{Counts}
-use Rattle.campaign.specs.CostText.{unended}
-use Rattle.campaign.specs.Lines.{counts_line}
-use Rattle.whole_campaign.specs.declared.due.Due.{Due}
 use Rattle.whole_campaign.specs.declared.due.Due.TheVariants as due
-use Rattle.whole_campaign.specs.declared.shown.FaultShown.{FaultShown}
-use Rattle.whole_campaign.specs.declared.shown.Piece.{Piece}
-use Rattle.whole_campaign.specs.declared.spot.Spot.{Spot}
-use Rattle.whole_campaign.specs.Words.{without_feed, word_behind}
-use Rattle.whole_campaign.specs.Runs.{campaign_head_in, head_of_line}
-use Rattle.whole_campaign.specs.Faults.{fault_words_in, fault_line_in}
-use Rattle.whole_campaign.specs.Due.{with_fault_counted, piece_begun, spot_of, fault_told, is_between_groups}
 use Rattle.whole_campaign.specs.Due.{behind_fault, behind_piece, behind_head, due_in_campaign}
-use Rattle.whole_campaign.specs.Own.{Common}
-use Rattle.whole_campaign.specs.Whole.{FaultTold, told_at, onto, items_behind, wrong_behind, one_further, wrong_line}
+use Rattle.whole_campaign.specs.Whole.{told_at, onto, items_behind, wrong_behind, wrong_line}
 use Rattle.whole_campaign.specs.Whole.{faults_told, pieces_from, piece_ended}
 use Rattle.taken_campaigns.proofs.WordsCut.{feed-again}
 use Rattle.taken_campaigns.proofs.LinesRead.{IsEnded}

@@ -1,37 +1,23 @@
 -- The faults of a node in a slot, those of a slot and those of a range are due one behind another.
-use Rattle.std.proofs.Common.{◌≡◌, ℕ, zero, suc, ◌+◌, ◌<◌, ◌≤◌, Bool, true, cond, ◌&&◌, List, [], ◌∷◌, ◌++◌}
-use Rattle.std.proofs.Common.{length, Option, Some, None, IfSome, refl, sym, ap, subst, ◌∙◌, arith, append_assoc, inl, inr}
-use Rattle.std.specs.Prelude.{◌⊎◌, nat_lt, map, filter, flat_map}
-use Rattle.std.specs.List.{list_any, range_with_len}
-use Rattle.std.proofs.Math.Bool.{or-true}
-use Rattle.std.proofs.lemmas.Bool.{cond_both, eq-eqb, le-leb, lt-ltb}
+use Rattle.taken_campaigns.proofs.Words.{◌≡◌, ℕ, zero, suc, ◌+◌, ◌<◌, ◌≤◌, Bool, true, cond, ◌&&◌, List, [], ◌∷◌, ◌++◌}
+use Rattle.taken_campaigns.proofs.Words.{length, Option, Some, None, IfSome, refl, sym, ap, subst, ◌∙◌, arith}
+use Rattle.taken_campaigns.proofs.Words.{append_assoc, nat_lt, map, filter, flat_map, list_any, range_with_len, or-true}
+use Rattle.taken_campaigns.proofs.Words.{cond_both, eq-eqb, le-leb, lt-ltb, Lines, Medl, Entry, Event, Script, History}
+use Rattle.taken_campaigns.proofs.Words.{entry_of, IsValid, IsValidScript, nodes-most, summary_with, run_line}
+use Rattle.taken_campaigns.proofs.Words.{losses_from, jump_sizes, Due, Doing, FaultShown, Piece, Spot, is_last_place}
+use Rattle.taken_campaigns.proofs.Words.{place_behind, stands_behind, lies_in, with_fault_counted, spot_of}
+use Rattle.taken_campaigns.proofs.Words.{is_between_groups, FaultTold, shown_of_run}
+use Rattle.std.proofs.Common.{inl, inr}
+use Rattle.std.specs.Prelude.{◌⊎◌}
 use Rattle.std.proofs.lemmas.List.{map-append}
-use Rattle.ttp_base.specs.Text.{Lines}
-use Rattle.ttp_world.specs.declared.medl.Medl.{Medl}
-use Rattle.ttp_world.specs.declared.node.Entry.{Entry}
-use Rattle.ttp_world.specs.declared.script.Event.{Event}
 use Rattle.ttp_world.specs.declared.script.Event.TheVariants as event
-use Rattle.ttp_world.specs.declared.script.Script.{Script}
-use Rattle.ttp_world.specs.Diary.{History, entry_of}
 use Rattle.ttp_world.specs.Medium.{is_sending}
-use Rattle.ttp_world.specs.Medl.{IsValid}
-use Rattle.ttp_world.specs.Script.{IsValidScript}
-use Rattle.ttp_world.proofs.Lists.{nodes-most}
-use Rattle.campaign.specs.Lines.{summary_with, run_line}
-use Rattle.campaign.specs.Tried.{is_hearing, is_timed, losses_from, losses_of, jump_sizes, jumps_of, faults_of, faults_in}
+use Rattle.campaign.specs.Tried.{is_hearing, is_timed, losses_of, jumps_of, faults_of, faults_in}
 use Rattle.campaign.specs.Tried.{row_of}
-use Rattle.whole_campaign.specs.declared.due.Due.{Due}
 use Rattle.whole_campaign.specs.declared.due.Due.TheVariants as due
-use Rattle.whole_campaign.specs.declared.shown.Doing.{Doing}
 use Rattle.whole_campaign.specs.declared.shown.Doing.TheVariants as doing
-use Rattle.whole_campaign.specs.declared.shown.FaultShown.{FaultShown}
-use Rattle.whole_campaign.specs.declared.shown.Piece.{Piece}
-use Rattle.whole_campaign.specs.declared.spot.Spot.{Spot}
-use Rattle.whole_campaign.specs.Faults.{first_place, is_last_place, place_behind, is_later, is_same_doing}
-use Rattle.whole_campaign.specs.Faults.{stands_behind, lies_in}
-use Rattle.whole_campaign.specs.Due.{with_fault_counted, spot_of, is_between_groups}
-use Rattle.whole_campaign.specs.Whole.{FaultTold}
-use Rattle.taken_campaigns.specs.Taken.{shown_of_run, run_told, told_from, told_of_node, told_in_slot}
+use Rattle.whole_campaign.specs.Faults.{first_place, is_later, is_same_doing}
+use Rattle.taken_campaigns.specs.Taken.{run_told, told_from, told_of_node, told_in_slot}
 use Rattle.taken_campaigns.proofs.FaultsRead.{IsTriedAt, AreTriedFrom, spot_at, sent-tried, heard-tried, jumps-tried}
 use Rattle.taken_campaigns.proofs.Counted.{shown_of, placed-counted, counted, counted-append}
 use Rattle.taken_campaigns.proofs.RunsRead.{common, run-line-ended, fault-again}

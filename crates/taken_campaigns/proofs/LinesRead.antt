@@ -1,53 +1,39 @@
 -- The lines of a campaign are read: the head, the script's own line, and the line of each fault.
-use Rattle.std.proofs.Common.{◌≡◌, ℕ, ◌^◌, ◌<◌, ◌≤◌, Bool, true, false, List, ◌∷◌, ◌++◌}
-use Rattle.std.proofs.Common.{length, Option, Some, refl, sym, ap, ◌∙◌, arith, codes, decimal, bytes_eq, append_assoc, subst}
-use Rattle.std.specs.Prelude.{◌==◌, nat_le}
-use Rattle.std.proofs.lemmas.Bool.{le-leb}
-use Rattle.std.proofs.lemmas.List.Folds.{list_any-append}
-use Rattle.ttp_base.specs.Text.{newline}
-use Rattle.ttp_base.proofs.Numerals.{has, has-decimal}
+use Rattle.taken_campaigns.proofs.Words.{◌≡◌, ℕ, ◌^◌, ◌<◌, ◌≤◌, Bool, true, false, List, ◌∷◌, ◌++◌, length, Option}
+use Rattle.taken_campaigns.proofs.Words.{Some, refl, sym, ap, ◌∙◌, arith, codes, decimal, append_assoc, subst, ◌==◌}
+use Rattle.taken_campaigns.proofs.Words.{nat_le, le-leb, list_any-append, newline, has, has-decimal, Medl, Event}
+use Rattle.taken_campaigns.proofs.Words.{Script, IsValid, has_arm, IsValidScript, nodes-most, label-again}
+use Rattle.taken_campaigns.proofs.Words.{numeral-again, slot_digits, unended, cost_words, fault_words, Summary, summary}
+use Rattle.taken_campaigns.proofs.Words.{own_line, fault_slot, fault_node, head_line, zeros_world, CampaignHead, Doing}
+use Rattle.taken_campaigns.proofs.Words.{FaultShown, Piece, Spot, node_digits, RunWords, run_words_in, is_same_test}
+use Rattle.taken_campaigns.proofs.Words.{cost_in, campaign_head_in, doing_in, place_behind, fault_words_in, is_spot_due}
+use Rattle.taken_campaigns.proofs.Words.{fault_line_in, own_in, Common, HasSlots, test_said_if, test_said}
+use Rattle.std.proofs.Common.{bytes_eq}
 use Rattle.ttp_world.specs.declared.keep.Back.{Back}
 use Rattle.ttp_world.specs.declared.keep.Back.TheVariants as back
 use Rattle.ttp_world.specs.declared.keep.Keep.{Keep}
 use Rattle.ttp_world.specs.declared.keep.Keep.TheVariants as keep
-use Rattle.ttp_world.specs.declared.medl.Medl.{Medl}
-use Rattle.ttp_world.specs.declared.script.Event.{Event}
-use Rattle.ttp_world.specs.declared.script.Script.{Script}
 use Rattle.ttp_world.specs.Hypothesis.{keeps}
-use Rattle.ttp_world.specs.Medl.{IsValid}
-use Rattle.ttp_world.specs.Returning.{has_arm, returns}
-use Rattle.ttp_world.specs.Script.{IsValidScript}
-use Rattle.ttp_world.proofs.Lists.{nodes-most}
+use Rattle.ttp_world.specs.Returning.{returns}
 use Rattle.line_text.specs.Labels.{after_label}
-use Rattle.line_text.proofs.LabelTexts.{label-again}
-use Rattle.line_text.proofs.WrittenNumbers.{numeral-again}
 use Rattle.line_reader.specs.declared.trace_line.TraceLine.TheVariants as line
 use Rattle.line_reader.specs.Reading.{line_in}
-use Rattle.line_reader.specs.TraceLines.{slot_digits, keep_text, back_text}
+use Rattle.line_reader.specs.TraceLines.{keep_text, back_text}
 use Rattle.line_reader.proofs.LineValues.{keep-value, back-value}
 use Rattle.line_reader.proofs.WrittenLines.{line-again}
 use Rattle.whole_trace.specs.Due.{is_keep, is_back}
 use Rattle.campaign.specs.Cost.{says_yes_if}
-use Rattle.campaign.specs.CostText.{unended, test_words_if, cost_words, fault_words}
-use Rattle.campaign.specs.Lines.{Summary, summary, own_line, fault_line, fault_slot, fault_node, head_line}
-use Rattle.campaign.specs.ZerosWorld.{zeros_world}
+use Rattle.campaign.specs.CostText.{test_words_if}
+use Rattle.campaign.specs.Lines.{fault_line}
 use Rattle.seen_costs.proofs.Rows.{length-zeros}
 use Rattle.whole_campaign.specs.declared.cost.CostShown.{CostShown}
-use Rattle.whole_campaign.specs.declared.head.CampaignHead.{CampaignHead}
-use Rattle.whole_campaign.specs.declared.shown.Doing.{Doing}
-use Rattle.whole_campaign.specs.declared.shown.FaultShown.{FaultShown}
-use Rattle.whole_campaign.specs.declared.shown.Piece.{Piece}
 use Rattle.whole_campaign.specs.declared.shown.Test.{Test}
 use Rattle.whole_campaign.specs.declared.shown.Test.TheVariants as test
-use Rattle.whole_campaign.specs.declared.spot.Spot.{Spot}
-use Rattle.whole_campaign.specs.Words.{node_digits}
-use Rattle.whole_campaign.specs.Runs.{RunWords, run_words_in, test_in, test_says_yes, is_same_test, cost_in}
-use Rattle.whole_campaign.specs.Runs.{range_digits, is_campaign_head, campaign_head_in}
-use Rattle.whole_campaign.specs.Faults.{doing_in, place_behind, FaultWords, fault_words_in}
-use Rattle.whole_campaign.specs.Faults.{spot_in, is_spot_due, shown_at, fault_line_in}
-use Rattle.whole_campaign.specs.Own.{own_in, Common}
-use Rattle.taken_traces.proofs.TestBounds.{HasSlots, keeps-fits, returns-fits}
-use Rattle.taken_campaigns.specs.Taken.{test_said_if, test_said}
+use Rattle.whole_campaign.specs.Runs.{test_in, test_says_yes}
+use Rattle.whole_campaign.specs.Runs.{range_digits, is_campaign_head}
+use Rattle.whole_campaign.specs.Faults.{FaultWords}
+use Rattle.whole_campaign.specs.Faults.{spot_in, shown_at}
+use Rattle.taken_traces.proofs.TestBounds.{keeps-fits, returns-fits}
 use Rattle.taken_campaigns.proofs.WordsCut.{IsOfWords, feed-again, word-behind, one-word, more-words, run-again, nested-5}
 use Rattle.taken_campaigns.proofs.CostsRead.{IsCostIn, cost-words, cost-again, cost-no_feed}
 use Rattle.taken_campaigns.proofs.CostsOfRuns.{cost-in}

@@ -1,22 +1,18 @@
 -- Lists with commas are cut into their words again, and what they tell.
-use Rattle.std.proofs.Common.{◌≡◌, ℕ, suc, ◌+◌, ◌<◌, ◌≤◌, Bool, false, ◌||◌, List, [], ◌∷◌}
-use Rattle.std.proofs.Common.{length, fold, All, Option, Some, refl, sym, ap, ◌∙◌, arith, codes, decimal, bytes_eq}
-use Rattle.std.specs.Prelude.{◌==◌, nat_le, map}
-use Rattle.std.specs.List.{join_with_byte, slice_split, list_any, AllByRecursion}
-use Rattle.std.proofs.Math.Bool.{or_assoc, or-false}
-use Rattle.std.proofs.lemmas.Bool.{false_from_ne_true, le-leb, lt-ltb, both_ways, or_parts}
-use Rattle.std.proofs.lemmas.List.Elements.{All-nil, All-cons}
+use Rattle.taken_campaigns.proofs.Words.{◌≡◌, ℕ, suc, ◌+◌, ◌<◌, ◌≤◌, Bool, false, ◌||◌, List, [], ◌∷◌, length, fold}
+use Rattle.taken_campaigns.proofs.Words.{All, Option, Some, refl, sym, ap, ◌∙◌, arith, codes, decimal, ◌==◌, nat_le}
+use Rattle.taken_campaigns.proofs.Words.{map, list_any, AllByRecursion, or-false, false_from_ne_true, le-leb, lt-ltb}
+use Rattle.taken_campaigns.proofs.Words.{both_ways, or_parts, All-nil, All-cons, bytes_eq-Decides, has, has-append}
+use Rattle.taken_campaigns.proofs.Words.{◌>>=◌, listed, Kind, SetsSoFar, is_dash, nodes_listed, members_listed}
+use Rattle.taken_campaigns.proofs.Words.{sets_listed}
+use Rattle.std.proofs.Common.{bytes_eq}
+use Rattle.std.specs.List.{join_with_byte, slice_split}
+use Rattle.std.proofs.Math.Bool.{or_assoc}
 use Rattle.std.proofs.lemmas.List.Splits.{slice_split_at, slice_split_none}
-use Rattle.std.proofs.lemmas.Slice.Eq.{bytes_eq-Decides}
-use Rattle.ttp_base.proofs.Numerals.{has, has-append}
 use Rattle.ttp_world.proofs.NumberWords.{word-no_number}
-use Rattle.line_reader.specs.Reading.{◌>>=◌}
-use Rattle.campaign.specs.CostText.{listed}
-use Rattle.whole_campaign.specs.declared.listed.Kind.{Kind}
 use Rattle.whole_campaign.specs.declared.listed.NodesSoFar.{NodesSoFar}
-use Rattle.whole_campaign.specs.declared.listed.SetsSoFar.{SetsSoFar}
-use Rattle.whole_campaign.specs.Words.{is_comma, is_dash, node_in_word, with_node_word, nodes_listed}
-use Rattle.whole_campaign.specs.Words.{members_listed, with_set_word, sets_listed}
+use Rattle.whole_campaign.specs.Words.{is_comma, node_in_word, with_node_word}
+use Rattle.whole_campaign.specs.Words.{with_set_word}
 
 -- Cut at the commas.
 

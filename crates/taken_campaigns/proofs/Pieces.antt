@@ -1,32 +1,20 @@
 -- The pieces of a campaign, and the whole.
-use Rattle.std.proofs.Common.{◌≡◌, ℕ, true, ◌&&◌, List, [], ◌∷◌, ◌++◌, length, Option}
-use Rattle.std.proofs.Common.{Some, None, sym, ap, subst, ◌∙◌, arith, codes, append_assoc}
-use Rattle.std.specs.Prelude.{Ok, nat_le, map, flat_map}
-use Rattle.std.specs.List.{concat, AllByRecursion}
-use Rattle.std.proofs.lemmas.Bool.{and_parts, leb-true}
-use Rattle.ttp_base.specs.Text.{Lines, is_line}
+use Rattle.taken_campaigns.proofs.Words.{◌≡◌, ℕ, true, ◌&&◌, List, [], ◌∷◌, ◌++◌, length, Option, Some, None, sym, ap}
+use Rattle.taken_campaigns.proofs.Words.{subst, ◌∙◌, arith, codes, append_assoc, nat_le, map, flat_map, AllByRecursion}
+use Rattle.taken_campaigns.proofs.Words.{and_parts, Lines, is_line, Medl, Event, Script, History, IsValid}
+use Rattle.taken_campaigns.proofs.Words.{IsValidScript, ◌>>=◌, Span, summary, head_line, own_line, counts_line}
+use Rattle.taken_campaigns.proofs.Words.{run_line, zeros_world, CampaignHead, Piece, without_feed, campaign_head_in}
+use Rattle.taken_campaigns.proofs.Words.{head_of_line, no_runs, piece_begun, FaultTold, one_further, own_told}
+use Rattle.std.specs.Prelude.{Ok}
+use Rattle.std.specs.List.{concat}
+use Rattle.std.proofs.lemmas.Bool.{leb-true}
 use Rattle.ttp_base.proofs.Lines.{lines_of-concat}
-use Rattle.ttp_world.specs.declared.medl.Medl.{Medl}
-use Rattle.ttp_world.specs.declared.script.Event.{Event}
-use Rattle.ttp_world.specs.declared.script.Script.{Script}
-use Rattle.ttp_world.specs.Diary.{History}
-use Rattle.ttp_world.specs.Medl.{IsValid}
-use Rattle.ttp_world.specs.Script.{IsValidScript}
-use Rattle.line_reader.specs.Reading.{◌>>=◌}
-use Rattle.campaign.specs.declared.cost.Span.{Span}
-use Rattle.campaign.specs.Lines.{summary, head_line, own_line, counts_line, run_line}
 use Rattle.campaign.specs.Tried.{faults_from}
-use Rattle.campaign.specs.ZerosWorld.{zeros_world}
 use Rattle.whole_campaign.specs.declared.due.Due.TheVariants as due
-use Rattle.whole_campaign.specs.declared.head.CampaignHead.{CampaignHead}
-use Rattle.whole_campaign.specs.declared.shown.Piece.{Piece}
-use Rattle.whole_campaign.specs.Words.{without_feed}
-use Rattle.whole_campaign.specs.Runs.{campaign_head_in, head_of_line}
-use Rattle.whole_campaign.specs.Due.{no_runs, piece_begun}
-use Rattle.whole_campaign.specs.Whole.{FaultTold, one_further, or_wrong, behind_own, behind_first, whole_of}
+use Rattle.whole_campaign.specs.Whole.{or_wrong, behind_own, behind_first, whole_of}
 use Rattle.whole_campaign.specs.Whole.{campaign_from, campaign_in}
 use Rattle.taken_campaigns.specs.Ranges.{IsRange, AreRanges, lines_over}
-use Rattle.taken_campaigns.specs.Taken.{own_told, piece_over, faults_over, campaign_over}
+use Rattle.taken_campaigns.specs.Taken.{piece_over, faults_over, campaign_over}
 use Rattle.taken_campaigns.proofs.WordsCut.{feed-again}
 use Rattle.taken_campaigns.proofs.LinesRead.{head_text, head-ended, head-again}
 use Rattle.taken_campaigns.proofs.Counted.{counted, counted-begun}

@@ -1,38 +1,20 @@
 -- The line of a fault that is due is read as what its run says.
-use Rattle.std.proofs.Common.{◌≡◌, ℕ, ◌<◌, Bool, true, false, ◌||◌, List, [], ◌∷◌, ◌++◌, length, All, Option}
-use Rattle.std.proofs.Common.{Some, refl, sym, ap, ◌∙◌, arith, codes}
-use Rattle.std.specs.Prelude.{is_some, nat_le}
-use Rattle.std.specs.List.{list_any}
-use Rattle.std.proofs.Math.Bool.{or-false}
-use Rattle.std.proofs.lemmas.List.Elements.{All-nil, All-cons, All-head, All-tail, All-push}
-use Rattle.std.proofs.lemmas.List.Folds.{list_any-append}
-use Rattle.ttp_base.specs.Text.{newline}
-use Rattle.ttp_base.proofs.Numerals.{has}
-use Rattle.ttp_world.specs.declared.medl.Medl.{Medl}
-use Rattle.ttp_world.specs.declared.script.Event.{Event}
+use Rattle.taken_campaigns.proofs.Words.{◌≡◌, ℕ, ◌<◌, Bool, true, false, ◌||◌, List, [], ◌∷◌, ◌++◌, length, All, Option}
+use Rattle.taken_campaigns.proofs.Words.{Some, refl, sym, ap, ◌∙◌, arith, codes, is_some, nat_le, list_any, or-false}
+use Rattle.taken_campaigns.proofs.Words.{All-nil, All-cons, All-head, All-tail, list_any-append, newline, has, Medl}
+use Rattle.taken_campaigns.proofs.Words.{Event, Script, IsValid, is_arm, has_arm, IsValidEvent, IsValidScript}
+use Rattle.taken_campaigns.proofs.Words.{nodes-most, ◌>>=◌, unended, cost_words, fault_words, summary, own_line}
+use Rattle.taken_campaigns.proofs.Words.{fault_slot, fault_node, summary_with, run_line, Doing, Piece, Spot}
+use Rattle.taken_campaigns.proofs.Words.{without_feed, RunWords, is_same_test, place_behind, stands_behind, lies_in}
+use Rattle.taken_campaigns.proofs.Words.{is_spot_due, fault_line_in, fault_told, own_in, Common, HasSlots, test_said_if}
+use Rattle.taken_campaigns.proofs.Words.{test_said, own_told, doing_of, shown_of_run}
+use Rattle.std.proofs.lemmas.List.Elements.{All-push}
 use Rattle.ttp_world.specs.declared.script.Event.TheVariants as event
-use Rattle.ttp_world.specs.declared.script.Script.{Script}
-use Rattle.ttp_world.specs.Medl.{IsValid}
-use Rattle.ttp_world.specs.Returning.{is_arm, has_arm}
-use Rattle.ttp_world.specs.Script.{IsValidEvent, IsValidScript}
-use Rattle.ttp_world.proofs.Lists.{nodes-most}
-use Rattle.line_reader.specs.Reading.{◌>>=◌}
-use Rattle.campaign.specs.CostText.{unended, cost_words, fault_words}
-use Rattle.campaign.specs.Lines.{summary, own_line, fault_slot, fault_node, summary_with, run_line}
 use Rattle.campaign.specs.Tried.{with_fault}
 use Rattle.seen_costs.proofs.Distinct.{bytes_eq-sym}
 use Rattle.whole_campaign.specs.declared.due.Due.TheVariants as due
-use Rattle.whole_campaign.specs.declared.shown.Doing.{Doing}
-use Rattle.whole_campaign.specs.declared.shown.Piece.{Piece}
-use Rattle.whole_campaign.specs.declared.spot.Spot.{Spot}
-use Rattle.whole_campaign.specs.Words.{without_feed}
-use Rattle.whole_campaign.specs.Runs.{RunWords, is_same_test}
-use Rattle.whole_campaign.specs.Faults.{place_behind, stands_behind, lies_in, is_spot_due}
-use Rattle.whole_campaign.specs.Faults.{fault_line_in}
-use Rattle.whole_campaign.specs.Due.{fault_told}
-use Rattle.whole_campaign.specs.Own.{OwnShown, own_in, own_of_line, Common}
-use Rattle.taken_traces.proofs.TestBounds.{HasSlots, valid-slots}
-use Rattle.taken_campaigns.specs.Taken.{test_said_if, test_said, own_told, doing_of, shown_of_run}
+use Rattle.whole_campaign.specs.Own.{OwnShown, own_of_line}
+use Rattle.taken_traces.proofs.TestBounds.{valid-slots}
 use Rattle.taken_campaigns.proofs.WordsCut.{feed-again, run-again}
 use Rattle.taken_campaigns.proofs.CostsRead.{cost-words, cost-again}
 use Rattle.taken_campaigns.proofs.FaultsRead.{IsTriedAt, spot_at}

@@ -1,18 +1,12 @@
 -- Words are cut again where they were put together.
-use Rattle.std.proofs.Common.{◌≡◌, ℕ, suc, ◌+◌, ◌-◌, true, false, List, [], ◌∷◌, ◌++◌, length}
-use Rattle.std.proofs.Common.{Option, Some, refl, ap, ◌∙◌, arith, codes, length-append, append_assoc}
-use Rattle.std.specs.Prelude.{◌==◌, nat_le, nat_lt}
+use Rattle.taken_campaigns.proofs.Words.{◌≡◌, ℕ, suc, ◌+◌, ◌-◌, true, false, List, [], ◌∷◌, ◌++◌, length, Option, Some}
+use Rattle.taken_campaigns.proofs.Words.{refl, ap, ◌∙◌, arith, codes, append_assoc, ◌==◌, nat_le, nat_lt, eq-eqb}
+use Rattle.taken_campaigns.proofs.Words.{lt-ltb, or_parts, nat_tests, newline, has, label-again, ◌>>=◌, unended}
+use Rattle.taken_campaigns.proofs.Words.{without_feed, word_behind, run_words_in}
+use Rattle.std.proofs.Common.{length-append}
 use Rattle.std.specs.List.{position_or_len}
-use Rattle.std.proofs.lemmas.Bool.{eq-eqb, lt-ltb, or_parts}
-use Rattle.std.proofs.lemmas.Bool.Decides.{nat_tests}
 use Rattle.std.proofs.lemmas.List.{take_at, drop_at}
-use Rattle.ttp_base.specs.Text.{newline}
-use Rattle.ttp_base.proofs.Numerals.{has}
-use Rattle.line_text.proofs.LabelTexts.{label-again}
-use Rattle.line_reader.specs.Reading.{◌>>=◌}
-use Rattle.campaign.specs.CostText.{unended}
-use Rattle.whole_campaign.specs.Words.{without_feed, cut_after, length_before, word_behind, length_of_words, words_behind}
-use Rattle.whole_campaign.specs.Runs.{run_words_in}
+use Rattle.whole_campaign.specs.Words.{cut_after, length_before, length_of_words, words_behind}
 
 -- The line feed.
 

@@ -1,6 +1,6 @@
 -- One digit more of a binary number.
-use Rattle.std.proofs.Common.{◌≡◌, ℕ, zero, suc, ◌+◌, ◌-◌, ◌/◌, ◌%◌, ◌<◌, ◌≤◌, [], ◌∷◌, ◌++◌, refl, arith, nat_lt, false}
-use Rattle.wave_text.specs.Values.{binary, binary_number}
+use Rattle.wave_text.proofs.Words.{◌≡◌, ℕ, zero, suc, ◌+◌, ◌-◌, ◌/◌, ◌%◌, ◌<◌, ◌≤◌, [], ◌∷◌, ◌++◌, refl, arith, nat_lt}
+use Rattle.wave_text.proofs.Words.{false, binary, binary_number}
 
 pub no_binary : (v : ℕ) → binary 0 v ≡ []
 unfolding binary

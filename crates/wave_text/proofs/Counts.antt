@@ -1,19 +1,12 @@
 -- The changes of a node whose line shows the same as before but for its peer and the frames that it accepted.
-use Rattle.std.proofs.Common.{◌≡◌, ℕ, List, [], ◌++◌, ◌∷◌, Some, ap, ◌∙◌, codes}
-use Rattle.std.specs.Prelude.{if◌then◌else◌}
-use Rattle.std.proofs.lemmas.List.{append-nil}
-use Rattle.ttp_base.specs.Text.{Lines}
+use Rattle.wave_text.proofs.Words.{◌≡◌, ℕ, List, [], ◌++◌, ◌∷◌, Some, ap, ◌∙◌, codes, if◌then◌else◌, append-nil, Lines}
+use Rattle.wave_text.proofs.Words.{Word, word_text, sends, NodeShown, NodeVariable, node_value, bit_text, phase_text}
+use Rattle.wave_text.proofs.Words.{held_text, unless_off, number_or_nothing, number_text, wires_text, node_code}
+use Rattle.wave_text.proofs.Words.{change_line, change_lines, changes_by, node_changes}
 use Rattle.ttp_world.proofs.NumberWords.{bytes_eq-same}
-use Rattle.line_reader.specs.declared.trace_line.Word.{Word}
-use Rattle.line_reader.specs.TraceLines.{word_text}
-use Rattle.shown_slot.specs.Nodes.{sends}
-use Rattle.whole_trace.specs.declared.shown.NodeShown.{NodeShown}
-use Rattle.wave_text.specs.declared.variable.NodeVariable.{NodeVariable}
 use Rattle.wave_text.specs.declared.variable.NodeVariable.TheVariants as of_node
 use Rattle.wave_text.specs.Moment.{DiffersInCounts}
-use Rattle.wave_text.specs.Values.{node_value, bit_text, phase_text, held_text, unless_off, number_or_nothing, number_text, wires_text, node_ack_text, clock_text}
-use Rattle.wave_text.specs.Variables.{node_code}
-use Rattle.wave_text.specs.Wave.{change_line, change_lines, changes_by, node_changes}
+use Rattle.wave_text.specs.Values.{node_ack_text, clock_text}
 
 kept-none : (code before now : List ℕ) → before ≡ now → change_lines code (Some before) now ≡ []
 kept-none code before now same =

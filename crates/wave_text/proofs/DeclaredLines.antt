@@ -1,38 +1,25 @@
 -- Each line before the slots of a waveform is one line, and so is each line of the whole.
-use Rattle.std.proofs.Common.{ℕ, ◌+◌, ◌-◌, ◌*◌, List, [], ◌∷◌, ◌++◌, map, refl, Option, Some, None, arith, codes}
-use Rattle.std.proofs.Common.{decimal}
-use Rattle.std.specs.List.{flat_map}
-use Rattle.ttp_base.specs.NodeSet.{below}
-use Rattle.ttp_base.specs.Text.{newline, hex, lines_below}
-use Rattle.ttp_base.proofs.Lines.{is_line-append}
+use Rattle.wave_text.proofs.Words.{ℕ, ◌+◌, ◌-◌, ◌*◌, List, [], ◌∷◌, ◌++◌, map, refl, Option, Some, None, arith, codes}
+use Rattle.wave_text.proofs.Words.{decimal, flat_map, below, newline, hex, lines_below, is_line-append, source_word}
+use Rattle.wave_text.proofs.Words.{each-append, IsLine, Head, WholeTrace, Port, What, trace_ports, head_text}
+use Rattle.wave_text.proofs.Words.{first_text, keeps_text, returns_text, member_room, ClusterVariable, NodeVariable}
+use Rattle.wave_text.proofs.Words.{PortVariable, cluster_variables, node_variables, port_variables, cluster_letter}
+use Rattle.wave_text.proofs.Words.{node_code, port_code, cluster_declaration, node_declaration, port_declaration}
+use Rattle.wave_text.proofs.Words.{port_declarations, scope_line, upscope_line, ports_at, host_scope, node_scope}
+use Rattle.wave_text.proofs.Words.{declarations, comment_line, comment_lines, head_lines, all_slots_lines, wave_lines}
 use Rattle.ttp_base.proofs.Numerals.{has-hex}
 use Rattle.ttp_world.specs.declared.keep.Back.{Back}
 use Rattle.ttp_world.specs.declared.keep.Back.TheVariants as back
 use Rattle.ttp_world.specs.declared.keep.Keep.{Keep}
 use Rattle.ttp_world.specs.declared.keep.Keep.TheVariants as keep
 use Rattle.ttp_world.specs.declared.script.Source.TheVariants as source
-use Rattle.ttp_world.specs.Trace.{source_word}
-use Rattle.ttp_world.proofs.LineLists.{each-append}
-use Rattle.ttp_world.proofs.TraceLines.{IsLine}
 use Rattle.line_reader.specs.TraceLines.{keep_text, back_text}
-use Rattle.whole_trace.specs.declared.shown.Head.{Head}
-use Rattle.whole_trace.specs.Whole.{WholeTrace}
-use Rattle.shown_slot.specs.declared.host.Port.{Port}
-use Rattle.shown_slot.specs.declared.host.What.{What}
 use Rattle.shown_slot.specs.declared.host.What.TheVariants as what
-use Rattle.shown_slot.specs.Trace.{trace_ports, head_text, first_text, keeps_text, returns_text, member_room}
-use Rattle.wave_text.specs.declared.variable.ClusterVariable.{ClusterVariable}
 use Rattle.wave_text.specs.declared.variable.ClusterVariable.TheVariants as of_cluster
-use Rattle.wave_text.specs.declared.variable.NodeVariable.{NodeVariable}
 use Rattle.wave_text.specs.declared.variable.NodeVariable.TheVariants as of_node
-use Rattle.wave_text.specs.declared.variable.PortVariable.{PortVariable}
 use Rattle.wave_text.specs.declared.variable.PortVariable.TheVariants as of_port
-use Rattle.wave_text.specs.Variables.{cluster_variables, node_variables, port_variables, cluster_letter, node_code}
-use Rattle.wave_text.specs.Variables.{port_code, cluster_name, node_name, port_name, wire, cluster_type, node_type, port_type}
-use Rattle.wave_text.specs.Variables.{range_text, cluster_range, node_range, port_range, declaration, cluster_declaration}
-use Rattle.wave_text.specs.Variables.{node_declaration, port_declaration, port_declarations, scope_line, upscope_line}
-use Rattle.wave_text.specs.Variables.{ports_at, host_scope, node_scope, declarations}
-use Rattle.wave_text.specs.Wave.{comment_line, comment_lines, head_lines, all_slots_lines, wave_lines}
+use Rattle.wave_text.specs.Variables.{cluster_name, node_name, port_name, wire, cluster_type, node_type, port_type}
+use Rattle.wave_text.specs.Variables.{range_text, cluster_range, node_range, port_range, declaration}
 use Rattle.wave_text.proofs.Feeds.{HasNone, none-append, none-decimal, none-source}
 use Rattle.wave_text.proofs.WaveLines.{AreLines, each-flat_map, none-cluster_letter, none-node_code, none-port_code}
 use Rattle.wave_text.proofs.WaveLines.{all_slots-each}

@@ -1,36 +1,24 @@
 -- No value, code, name or type of a variable has a line feed.
-use Rattle.std.proofs.Common.{◌≡◌, ℕ, zero, suc, ◌+◌, ◌-◌, ◌/◌, ◌%◌, ◌<◌, Bool, true, false, List, [], ◌∷◌, ◌++◌, refl}
-use Rattle.std.proofs.Common.{Option, Some, None, arith, codes, decimal, nat_lt}
-use Rattle.std.specs.Prelude.{◌==◌, if◌then◌else◌}
-use Rattle.std.specs.Fmt.{signed_decimal}
-use Rattle.std.specs.List.{flat_map}
+use Rattle.wave_text.proofs.Words.{◌≡◌, ℕ, zero, suc, ◌+◌, ◌-◌, ◌/◌, ◌%◌, ◌<◌, Bool, true, false, List, [], ◌∷◌, ◌++◌}
+use Rattle.wave_text.proofs.Words.{refl, Option, Some, None, arith, codes, decimal, nat_lt, ◌==◌, if◌then◌else◌}
+use Rattle.wave_text.proofs.Words.{signed_decimal, flat_map, Source, ack_word, source_word, Word, word_text, NodeShown}
+use Rattle.wave_text.proofs.Words.{Message, is_active, sends, set_bits, ClusterVariable, NodeVariable, PortVariable}
+use Rattle.wave_text.proofs.Words.{binary, binary_number, most_digits, number_text, wires_text, number_or_nothing}
+use Rattle.wave_text.proofs.Words.{bit_text, cluster_value, phase_text, unless_off, held_text, node_value, port_value}
 use Rattle.ttp_base.proofs.Numerals.{has, has-append, has-decimal, has-signed}
-use Rattle.ttp_world.specs.declared.script.Source.{Source}
 use Rattle.ttp_world.specs.declared.script.Source.TheVariants as source
-use Rattle.ttp_world.specs.Trace.{ack_word, source_word}
 use Rattle.ttp_world.proofs.TraceWords.{has-ack_word}
-use Rattle.line_reader.specs.declared.trace_line.Word.{Word}
 use Rattle.line_reader.specs.declared.trace_line.Word.TheVariants as word
-use Rattle.line_reader.specs.TraceLines.{word_text}
-use Rattle.whole_trace.specs.declared.shown.NodeShown.{NodeShown}
-use Rattle.shown_slot.specs.declared.host.Message.{Message}
 use Rattle.shown_slot.specs.declared.host.What.TheVariants as what
 use Rattle.shown_slot.specs.declared.node.ClockRange.{ClockRange}
 use Rattle.shown_slot.specs.declared.node.Sender.{Sender}
 use Rattle.shown_slot.specs.declared.node.Sender.TheVariants as sent_by
-use Rattle.shown_slot.specs.Nodes.{is_active, has_left, sends, agreement, sender_among, bits_where, clock_range}
+use Rattle.shown_slot.specs.Nodes.{has_left, agreement, sender_among, bits_where, clock_range}
 use Rattle.shown_slot.specs.Nodes.{spread_in}
-use Rattle.ttp_base.specs.NodeSet.{set_bits}
-use Rattle.wave_text.specs.declared.variable.ClusterVariable.{ClusterVariable}
 use Rattle.wave_text.specs.declared.variable.ClusterVariable.TheVariants as of_cluster
-use Rattle.wave_text.specs.declared.variable.NodeVariable.{NodeVariable}
 use Rattle.wave_text.specs.declared.variable.NodeVariable.TheVariants as of_node
-use Rattle.wave_text.specs.declared.variable.PortVariable.{PortVariable}
 use Rattle.wave_text.specs.declared.variable.PortVariable.TheVariants as of_port
-use Rattle.wave_text.specs.Values.{binary, binary_number, most_digits, number_text, wires_text, number_or_nothing, bit_text}
-use Rattle.wave_text.specs.Values.{agreement_text, sender_text, spread_text, cluster_value, phase_text, unless_off}
-use Rattle.wave_text.specs.Values.{held_text, node_value}
-use Rattle.wave_text.specs.Values.{port_value}
+use Rattle.wave_text.specs.Values.{agreement_text, sender_text, spread_text}
 use Rattle.ttp_world.proofs.TraceLines.{feed_is_low}
 
 -- a text without a line feed

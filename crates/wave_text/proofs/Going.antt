@@ -1,8 +1,6 @@
 -- Lines that are written one part after another.
-use Rattle.std.proofs.Common.{◌≡◌, [], ◌++◌, sym, ap, subst, ◌∙◌, append_assoc}
-use Rattle.ttp_base.specs.Outside.{Output, WroteLines, CutShort}
-use Rattle.ttp_base.specs.Text.{Lines}
-use Rattle.ttp_base.proofs.Outputs.{Wrote-none, Wrote-join, CutShort-after, CutShort-more}
+use Rattle.wave_text.proofs.Words.{◌≡◌, [], ◌++◌, sym, ap, subst, ◌∙◌, append_assoc, Output, WroteLines, CutShort}
+use Rattle.wave_text.proofs.Words.{Lines, Wrote-none, Wrote-join, CutShort-after, CutShort-more}
 
 -- of all lines these are still to be written
 pub record IsGoing (from now : Output) (all rest : Lines) : Type 0 where

@@ -1,9 +1,6 @@
 -- What an active node holds is shown as it is.
-use Rattle.std.proofs.Common.{◌≡◌, true, List, ℕ, refl}
-use Rattle.line_reader.specs.declared.trace_line.Word.{Word}
+use Rattle.wave_text.proofs.Words.{◌≡◌, true, List, ℕ, refl, Word, is_active, held_text}
 use Rattle.line_reader.specs.declared.trace_line.Word.TheVariants as word
-use Rattle.shown_slot.specs.Nodes.{is_active}
-use Rattle.wave_text.specs.Values.{held_text}
 
 pub held_by_active : (w : Word) (text : List ℕ) → is_active w ≡ true → held_text w text ≡ text
 held_by_active word.Start text is = refl

@@ -1,18 +1,15 @@
 -- Lines of hosts, and what one line more adds to what they say of a port.
-use Rattle.std.proofs.Common.{◌≡◌, ℕ, ◌+◌, Bool, true, cond, ◌&&◌, List, [], ◌∷◌, ◌++◌, Option, Some, None}
-use Rattle.std.proofs.Common.{refl, sym, ap, ◌∙◌, arith, eq-eqb}
-use Rattle.std.specs.Prelude.{◌==◌}
+use Rattle.wave_text.proofs.Words.{◌≡◌, ℕ, ◌+◌, Bool, true, cond, List, [], ◌∷◌, ◌++◌, Option, Some, None, refl, sym}
+use Rattle.wave_text.proofs.Words.{ap, ◌∙◌, arith, ◌==◌, Source, HostLine, Message, What, larger, later, message_of}
+use Rattle.wave_text.proofs.Words.{most_bytes, newest_message, size_of, host_in, message_said, what_in}
+use Rattle.std.proofs.Common.{◌&&◌}
+use Rattle.std.proofs.Common.{eq-eqb}
 use Rattle.std.proofs.lemmas.Bool.{and_parts, eqb-true}
 use Rattle.line_text.proofs.Options.{guarded}
-use Rattle.ttp_world.specs.declared.script.Source.{Source}
 use Rattle.ttp_world.specs.declared.script.Source.TheVariants as source
-use Rattle.whole_trace.specs.declared.shown.HostLine.{HostLine}
 use Rattle.whole_trace.specs.declared.shown.HostLine.TheVariants as line
-use Rattle.shown_slot.specs.declared.host.Message.{Message}
-use Rattle.shown_slot.specs.declared.host.What.{What}
 use Rattle.shown_slot.specs.declared.host.What.TheVariants as what
-use Rattle.shown_slot.specs.Ports.{larger, later, message_of, most_bytes, newest_message, same_source, size_of}
-use Rattle.wave_text.specs.Places.{host_in, message_said, what_in}
+use Rattle.shown_slot.specs.Ports.{same_source}
 
 -- Whose message a line has.
 

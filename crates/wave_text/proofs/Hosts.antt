@@ -1,9 +1,8 @@
 -- The scope of a host: there is none where it has no ports.
-use Rattle.std.proofs.Common.{◌≡◌, Bool, true, false, cond, List, [], ◌∷◌, ◌++◌, codes, refl}
-use Rattle.std.specs.Prelude.{◌||◌, ◌==◌, ℕ, filter}
-use Rattle.std.specs.List.{list_any, flat_map}
-use Rattle.shown_slot.specs.declared.host.Port.{Port}
-use Rattle.wave_text.specs.Variables.{scope_line, upscope_line, port_declarations, host_scope, ports_at}
+use Rattle.wave_text.proofs.Words.{◌≡◌, Bool, true, false, cond, List, [], ◌∷◌, ◌++◌, codes, refl, ◌==◌, ℕ, filter}
+use Rattle.wave_text.proofs.Words.{list_any, flat_map, Port, scope_line, upscope_line, port_declarations, host_scope}
+use Rattle.wave_text.proofs.Words.{ports_at}
+use Rattle.std.specs.Prelude.{◌||◌}
 
 none_pass : (p : Port → Bool) (ports : List Port) → list_any p ports ≡ false → filter p ports ≡ []
 none_pass p [] none = refl

@@ -1,12 +1,7 @@
 -- The slots behind the first one, as a loop over them writes them.
-use Rattle.std.proofs.Common.{◌≡◌, ℕ, ◌+◌, ◌≤◌, List, length, Option}
-use Rattle.ttp_base.specs.Outside.{Output}
-use Rattle.whole_trace.specs.Whole.{SlotLines}
-use Rattle.shown_slot.specs.declared.host.Message.{Message}
-use Rattle.shown_slot.specs.declared.host.Port.{Port}
-use Rattle.wave_text.specs.declared.slot.Moment.{Moment}
+use Rattle.wave_text.proofs.Words.{◌≡◌, ℕ, ◌+◌, ◌≤◌, List, length, Option, Output, SlotLines, Message, Port, Moment}
+use Rattle.wave_text.proofs.Words.{later_lines}
 use Rattle.wave_text.specs.Moment.{ShowsMessages}
-use Rattle.wave_text.specs.Wave.{later_lines}
 use Rattle.wave_text.proofs.Going.{IsGoing}
 
 -- before the slot of this time, with what was kept of the slot before it and a table that is free

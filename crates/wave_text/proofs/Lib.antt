@@ -14,3 +14,4 @@ pub mod Going
 pub mod LaterSlots
 pub mod WaveParts
 pub mod Counts
+pub mod Words

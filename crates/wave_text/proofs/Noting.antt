@@ -1,18 +1,9 @@
 -- Loops over lines of hosts, which take them into a table.
-use Rattle.std.proofs.Common.{◌≡◌, ℕ, ◌+◌, ◌<◌, List, [], ◌∷◌, ◌++◌, Option, None, length, get_or, set}
-use Rattle.std.proofs.Common.{sym, ap, subst, ◌∙◌, arith, inl, inr, append_assoc, length-set}
-use Rattle.std.specs.Prelude.{slice_get, All}
-use Rattle.std.specs.List.{flat_map}
-use Rattle.std.proofs.lemmas.Bool.Decides.{eqb_tells}
-use Rattle.std.proofs.lemmas.List.{append-nil}
+use Rattle.wave_text.proofs.Words.{◌≡◌, ℕ, ◌+◌, ◌<◌, List, [], ◌∷◌, ◌++◌, Option, None, length, get_or, set, sym, ap}
+use Rattle.wave_text.proofs.Words.{subst, ◌∙◌, arith, inl, inr, append_assoc, length-set, slice_get, All, flat_map}
+use Rattle.wave_text.proofs.Words.{eqb_tells, append-nil, HostLine, SlotLines, Message, Port, What, HasMost, HasNewest}
+use Rattle.wave_text.proofs.Words.{HasPlace, table_place, HasLetters}
 use Rattle.std.proofs.lemmas.List.Concat.{flat_map-append}
-use Rattle.whole_trace.specs.declared.shown.HostLine.{HostLine}
-use Rattle.whole_trace.specs.Whole.{SlotLines}
-use Rattle.shown_slot.specs.declared.host.Message.{Message}
-use Rattle.shown_slot.specs.declared.host.Port.{Port}
-use Rattle.shown_slot.specs.declared.host.What.{What}
-use Rattle.wave_text.specs.Places.{HasMost, HasNewest, HasPlace, table_place}
-use Rattle.wave_text.specs.Variables.{HasLetters}
 use Rattle.wave_text.proofs.Tables.{place-lt, set_elsewhere}
 use Rattle.ttp_world.proofs.ListFacts.{slice_get-set_same as set_there, at_any as same_item}
 

@@ -1,22 +1,16 @@
 -- The ports that a table of sizes has are those of the lines that it was made of.
-use Rattle.std.proofs.Common.{◌≡◌, ℕ, ◌+◌, ◌<◌, ◌≤◌, List, [], ◌∷◌, ◌++◌, Option, Some, None, length, map, replicate}
-use Rattle.std.proofs.Common.{sym, ap, ◌∙◌, arith}
-use Rattle.std.specs.Prelude.{All}
-use Rattle.std.specs.List.{flat_map, AllByRecursion}
-use Rattle.std.proofs.lemmas.List.{get_or-replicate, length-replicate}
+use Rattle.wave_text.proofs.Words.{◌≡◌, ℕ, ◌+◌, ◌<◌, ◌≤◌, List, [], ◌∷◌, ◌++◌, Option, Some, None, length, map}
+use Rattle.wave_text.proofs.Words.{replicate, sym, ap, ◌∙◌, arith, All, flat_map, AllByRecursion, length-replicate}
+use Rattle.wave_text.proofs.Words.{slice_get-get_or, get_or_from_slice_get, below, flat_map-next, HostLine, Port, What}
+use Rattle.wave_text.proofs.Words.{all_whats, most_bytes, port_if, ports_of, HasMost, HasPlace, ports_in, size_at}
+use Rattle.wave_text.proofs.Words.{table_place, HasLetters, HasSourceLetter}
+use Rattle.std.proofs.lemmas.List.{get_or-replicate}
 use Rattle.std.proofs.lemmas.List.Folds.{flat_map-map}
 use Rattle.std.proofs.lemmas.List.Elements.{All-from_recursion}
-use Rattle.std.proofs.lemmas.Option.{slice_get-get_or, get_or_from_slice_get}
-use Rattle.ttp_base.specs.NodeSet.{below, most_nodes}
-use Rattle.ttp_base.proofs.Below.{below-lt, flat_map-next, flat_map_agree-below, map_each-below}
+use Rattle.ttp_base.specs.NodeSet.{most_nodes}
+use Rattle.ttp_base.proofs.Below.{below-lt, flat_map_agree-below, map_each-below}
 use Rattle.ttp_world.specs.declared.script.Source.TheVariants as source
-use Rattle.whole_trace.specs.declared.shown.HostLine.{HostLine}
-use Rattle.shown_slot.specs.declared.host.Port.{Port}
-use Rattle.shown_slot.specs.declared.host.What.{What}
 use Rattle.shown_slot.specs.declared.host.What.TheVariants as what
-use Rattle.shown_slot.specs.Ports.{all_whats, most_bytes, port_if, ports_of}
-use Rattle.wave_text.specs.Places.{HasMost, HasPlace, ports_in, size_at, table_place}
-use Rattle.wave_text.specs.Variables.{HasLetters, HasSourceLetter}
 use Rattle.wave_text.proofs.Tables.{place-lt}
 use Rattle.ttp_world.proofs.LineLists.{each-append as all-append}
 

@@ -1,15 +1,13 @@
 -- Lines that are written for one item of a list after another.
-use Rattle.std.proofs.Common.{◌≡◌, ℕ, ◌+◌, ◌<◌, Bool, true, false, cond, List, [], ◌∷◌, ◌++◌, length, get_or, take, drop}
-use Rattle.std.proofs.Common.{refl, sym, ap, subst, ◌∙◌}
-use Rattle.std.specs.Prelude.{Result, OnOk, OnErr, filter, map, if◌then◌else◌}
+use Rattle.wave_text.proofs.Words.{◌≡◌, ℕ, ◌+◌, ◌<◌, Bool, true, false, cond, List, [], ◌∷◌, ◌++◌, length, get_or, take}
+use Rattle.wave_text.proofs.Words.{refl, sym, ap, subst, ◌∙◌, OnOk, OnErr, filter, map, if◌then◌else◌, on_ok_weaker}
+use Rattle.wave_text.proofs.Words.{on_err_weaker, append-nil, flat_map, Output, WroteLines, CutShort, Lines, Wrote-join}
+use Rattle.wave_text.proofs.Words.{CutShort-after, CutShort-more}
+use Rattle.std.proofs.Common.{drop}
+use Rattle.std.specs.Prelude.{Result}
 use Rattle.std.proofs.lemmas.List.Concat.{flat_map_single}
-use Rattle.std.proofs.lemmas.Result.{on_ok_weaker, on_err_weaker}
-use Rattle.std.proofs.lemmas.List.{take_more, take-append-drop, append-nil}
+use Rattle.std.proofs.lemmas.List.{take_more, take-append-drop}
 use Rattle.std.proofs.lemmas.Grind.{flat_map-append}
-use Rattle.std.specs.List.{flat_map}
-use Rattle.ttp_base.specs.Outside.{Output, WroteLines, CutShort}
-use Rattle.ttp_base.specs.Text.{Lines}
-use Rattle.ttp_base.proofs.Outputs.{Wrote-join, CutShort-after, CutShort-more}
 
 -- Lines in two parts, one after the other.
 

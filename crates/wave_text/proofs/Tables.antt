@@ -1,19 +1,16 @@
 -- Tables of what hosts do, with one line more.
-use Rattle.std.proofs.Common.{◌≡◌, ◌≢◌, ℕ, ◌+◌, ◌<◌, List, [], ◌∷◌, ◌++◌, Option, Some, None, length, set}
-use Rattle.std.proofs.Common.{refl, sym, ap, subst, ◌∙◌, arith, inl, inr, length-set}
-use Rattle.std.specs.Prelude.{slice_get}
+use Rattle.wave_text.proofs.Words.{◌≡◌, ℕ, ◌+◌, ◌<◌, List, [], ◌∷◌, ◌++◌, Option, Some, None, length, set, refl, sym}
+use Rattle.wave_text.proofs.Words.{ap, subst, ◌∙◌, arith, inl, inr, length-set, slice_get, slice_get-get_or}
+use Rattle.wave_text.proofs.Words.{get_or_from_slice_get, eqb_tells, HostLine, Message, What, larger, later, message_of}
+use Rattle.wave_text.proofs.Words.{most_bytes, newest_message, size_of, HasMost, HasNewest, HasPlace, host_in}
+use Rattle.wave_text.proofs.Words.{message_said, table_place, what_in, HasSourceLetter}
+use Rattle.std.proofs.Common.{◌≢◌}
 use Rattle.std.proofs.lemmas.List.{get_or-set_other}
-use Rattle.std.proofs.lemmas.Option.{slice_get-get_or, slice_get_within, get_or_from_slice_get}
-use Rattle.std.proofs.lemmas.Bool.Decides.{eqb_tells}
+use Rattle.std.proofs.lemmas.Option.{slice_get_within}
 use Rattle.line_text.proofs.Options.{some_same}
 use Rattle.ttp_world.specs.declared.script.Source.TheVariants as source
-use Rattle.whole_trace.specs.declared.shown.HostLine.{HostLine}
-use Rattle.shown_slot.specs.declared.host.Message.{Message}
-use Rattle.shown_slot.specs.declared.host.What.{What}
 use Rattle.shown_slot.specs.declared.host.What.TheVariants as what
-use Rattle.shown_slot.specs.Ports.{larger, later, message_of, most_bytes, newest_message, size_of}
-use Rattle.wave_text.specs.Places.{HasMost, HasNewest, HasPlace, host_in, in_row, message_said, table_place, what_in}
-use Rattle.wave_text.specs.Variables.{HasSourceLetter}
+use Rattle.wave_text.specs.Places.{in_row}
 use Rattle.wave_text.proofs.HostLines.{its_message, its_port, most-append, most-other, newest-append, newest-other}
 use Rattle.ttp_world.proofs.ListFacts.{slice_get-set_same as set_there}
 

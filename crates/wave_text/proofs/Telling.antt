@@ -1,29 +1,21 @@
 -- The values of a node's variables tell its line.
-use Rattle.std.proofs.Common.{◌≡◌, ℕ, zero, suc, ◌+◌, ◌-◌, ◌*◌, ◌/◌, ◌%◌, ◌^◌, ◌<◌, Bool, true, false, List, [], ◌∷◌}
-use Rattle.std.proofs.Common.{◌++◌, refl, sym, ap, ◌∙◌, Option, Some, None, arith, codes, nat_lt}
-use Rattle.std.proofs.Common.{decimal}
-use Rattle.std.specs.Prelude.{◌==◌, fold, IfSome, unwrap_or, if◌then◌else◌}
+use Rattle.wave_text.proofs.Words.{◌≡◌, ℕ, zero, suc, ◌+◌, ◌-◌, ◌*◌, ◌/◌, ◌%◌, ◌<◌, Bool, true, false, List, [], ◌∷◌}
+use Rattle.wave_text.proofs.Words.{◌++◌, refl, sym, ap, ◌∙◌, Option, Some, None, arith, codes, nat_lt, decimal, ◌==◌}
+use Rattle.wave_text.proofs.Words.{if◌then◌else◌, signed_decimal, list_any, set_bits, hex, ack_word, Word, word_text}
+use Rattle.wave_text.proofs.Words.{Head, NodeShown, is_active, binary, binary_number, most_digits, number_text}
+use Rattle.wave_text.proofs.Words.{wires_text, number_or_nothing, unless_off, held_text, node_value}
+use Rattle.std.proofs.Common.{◌^◌}
+use Rattle.std.specs.Prelude.{fold, IfSome, unwrap_or}
 use Rattle.std.proofs.lemmas.Bool.{ltb-true}
 use Rattle.std.proofs.Math.Nat.{pow-suc}
-use Rattle.std.specs.Fmt.{signed_decimal}
-use Rattle.std.specs.List.{list_any}
 use Rattle.std.proofs.lemmas.List.Folds.{list_any-append}
 use Rattle.std.proofs.lemmas.List.Sums.{fold-append}
-use Rattle.ttp_base.specs.NodeSet.{set_bits}
-use Rattle.ttp_base.specs.Text.{hex}
 use Rattle.ttp_world.specs.Medl.{member_bytes}
-use Rattle.ttp_world.specs.Trace.{ack_word, number_or_dash}
-use Rattle.line_reader.specs.declared.trace_line.Word.{Word}
+use Rattle.ttp_world.specs.Trace.{number_or_dash}
 use Rattle.line_reader.specs.declared.trace_line.Word.TheVariants as word
-use Rattle.line_reader.specs.TraceLines.{word_text}
-use Rattle.whole_trace.specs.declared.shown.Head.{Head}
-use Rattle.whole_trace.specs.declared.shown.NodeShown.{NodeShown}
-use Rattle.shown_slot.specs.Nodes.{is_active}
 use Rattle.shown_slot.specs.Trace.{node_text}
 use Rattle.wave_text.specs.declared.variable.NodeVariable.TheVariants as of_node
 use Rattle.wave_text.specs.Telling.{is_letter, with_bit, number_told, count_told, line_told, IsTold}
-use Rattle.wave_text.specs.Values.{binary, binary_number, most_digits, number_text, wires_text, number_or_nothing, unless_off}
-use Rattle.wave_text.specs.Values.{held_text, node_value}
 
 -- Digits.
 

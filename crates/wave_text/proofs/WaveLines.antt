@@ -1,34 +1,22 @@
 -- Each line of a waveform is one line: its one line feed is its last byte.
-use Rattle.std.proofs.Common.{ℕ, ◌+◌, ◌-◌, Bool, true, false, List, [], ◌∷◌, ◌++◌, length, refl}
-use Rattle.std.proofs.Common.{Option, Some, None, arith, codes, decimal, nat_lt}
-use Rattle.std.specs.Prelude.{option_map, if◌then◌else◌}
-use Rattle.std.specs.List.{AllByRecursion, flat_map}
+use Rattle.wave_text.proofs.Words.{ℕ, ◌+◌, ◌-◌, Bool, true, false, List, [], ◌∷◌, ◌++◌, length, refl, Option, Some}
+use Rattle.wave_text.proofs.Words.{None, arith, codes, decimal, nat_lt, option_map, if◌then◌else◌, AllByRecursion}
+use Rattle.wave_text.proofs.Words.{flat_map, below, Lines, newline, lines_below, is_line-append, each-append, IsLine}
+use Rattle.wave_text.proofs.Words.{NodeShown, SlotLines, Message, Port, What, node_at, ClusterVariable, NodeVariable}
+use Rattle.wave_text.proofs.Words.{PortVariable, cluster_value, node_value, port_value, cluster_variables}
+use Rattle.wave_text.proofs.Words.{node_variables, port_variables, cluster_letter, node_code, port_code, ports_at}
+use Rattle.wave_text.proofs.Words.{change_line, change_lines, changes_by, cluster_changes, node_changes, port_changes}
+use Rattle.wave_text.proofs.Words.{message_at, scope_changes, slot_changes, time_line, first_slot_lines, slot_lines}
+use Rattle.wave_text.proofs.Words.{later_lines, all_slots_lines}
 use Rattle.std.specs.Str.{bytes_eq}
-use Rattle.ttp_base.specs.NodeSet.{below}
-use Rattle.ttp_base.specs.Text.{Lines, newline, is_line, lines_below}
-use Rattle.ttp_base.proofs.Lines.{is_line-append}
+use Rattle.ttp_base.specs.Text.{is_line}
 use Rattle.ttp_world.specs.declared.script.Source.TheVariants as source
-use Rattle.ttp_world.proofs.LineLists.{each-append}
-use Rattle.ttp_world.proofs.TraceLines.{IsLine}
-use Rattle.whole_trace.specs.declared.shown.NodeShown.{NodeShown}
-use Rattle.whole_trace.specs.Whole.{SlotLines}
-use Rattle.shown_slot.specs.declared.host.Message.{Message}
-use Rattle.shown_slot.specs.declared.host.Port.{Port}
-use Rattle.shown_slot.specs.declared.host.What.{What}
 use Rattle.shown_slot.specs.declared.host.What.TheVariants as what
-use Rattle.shown_slot.specs.Trace.{node_at}
-use Rattle.wave_text.specs.declared.variable.ClusterVariable.{ClusterVariable}
 use Rattle.wave_text.specs.declared.variable.ClusterVariable.TheVariants as of_cluster
-use Rattle.wave_text.specs.declared.variable.NodeVariable.{NodeVariable}
 use Rattle.wave_text.specs.declared.variable.NodeVariable.TheVariants as of_node
-use Rattle.wave_text.specs.declared.variable.PortVariable.{PortVariable}
 use Rattle.wave_text.specs.declared.variable.PortVariable.TheVariants as of_port
-use Rattle.wave_text.specs.Values.{cluster_value, node_value, port_value}
-use Rattle.wave_text.specs.Variables.{cluster_variables, node_variables, port_variables, cluster_letter, node_letter}
-use Rattle.wave_text.specs.Variables.{port_letter, letter_of, source_letter, node_code, port_code, ports_at}
-use Rattle.wave_text.specs.Wave.{change_line, change_lines, changes_by, cluster_changes, node_changes, port_changes}
-use Rattle.wave_text.specs.Wave.{message_at, scope_changes, slot_changes, time_line, first_slot_lines, slot_lines}
-use Rattle.wave_text.specs.Wave.{later_lines, all_slots_lines}
+use Rattle.wave_text.specs.Variables.{node_letter}
+use Rattle.wave_text.specs.Variables.{port_letter, letter_of, source_letter}
 use Rattle.wave_text.proofs.Feeds.{HasNone, none-append, none-byte, none-decimal, none-cluster_value, none-node_value}
 use Rattle.wave_text.proofs.Feeds.{none-port_value}
 

@@ -1,11 +1,7 @@
 -- The waveform of a trace in its parts.
-use Rattle.std.proofs.Common.{◌≡◌, List, [], ◌∷◌, ◌++◌, codes, sym, ap, ◌∙◌, append_assoc}
-use Rattle.ttp_base.specs.Text.{Lines, newline}
-use Rattle.whole_trace.specs.Whole.{WholeTrace}
-use Rattle.shown_slot.specs.declared.host.Port.{Port}
-use Rattle.shown_slot.specs.Trace.{first_text, keeps_text, returns_text, member_room, trace_ports}
-use Rattle.wave_text.specs.Variables.{declarations}
-use Rattle.wave_text.specs.Wave.{all_slots_lines, head_lines, wave_lines}
+use Rattle.wave_text.proofs.Words.{◌≡◌, List, [], ◌∷◌, ◌++◌, codes, sym, ap, ◌∙◌, append_assoc, Lines, newline}
+use Rattle.wave_text.proofs.Words.{WholeTrace, Port, first_text, keeps_text, returns_text, member_room, trace_ports}
+use Rattle.wave_text.proofs.Words.{declarations, all_slots_lines, head_lines, wave_lines}
 
 abbrev pub head_part : WholeTrace → Lines
 head_part trace = head_lines (first_text trace) (keeps_text trace) (returns_text trace)

@@ -1,5 +1,4 @@
-use Rattle.ttp_base.specs.Text.{lines_below}
-use Rattle.picture_text.specs.Sheet.{Puts}
+use Rattle.chart_text.proofs.Words.{lines_below, Puts}
 use Rattle.chart_text.specs.Chart.{row_names}
 use Rattle.chart_text.proofs.band.put_bands.Given as goal
 

@@ -1,4 +1,4 @@
-use Rattle.picture_text.proofs.Pairs.{puts_two, puts_both}
+use Rattle.chart_text.proofs.Words.{puts_two, puts_both}
 use Rattle.chart_text.proofs.band.put_names_at.Goals as goal
 
 pub returns : goal.returns

@@ -1,7 +1,4 @@
-use Rattle.std.proofs.Common.{◌+◌, ◌++◌, codes, decimal}
-use Rattle.picture_text.specs.Picture.{row_line}
-use Rattle.picture_text.proofs.Rows.{one_more}
-use Rattle.chart_text.specs.Columns.{chart_y}
+use Rattle.chart_text.proofs.Words.{◌+◌, ◌++◌, codes, decimal, row_line, one_more, chart_y}
 use Rattle.chart_text.proofs.band.put_node_names.Goals as goal
 
 pub loop-node-preserved : goal.loop-node-preserved

@@ -1,8 +1,4 @@
-use Rattle.std.proofs.Common.{◌+◌, ◌++◌, map, codes, decimal}
-use Rattle.ttp_base.specs.NodeSet.{below}
-use Rattle.picture_text.specs.Picture.{row_line}
-use Rattle.picture_text.specs.Sheet.{Puts}
-use Rattle.chart_text.specs.Columns.{chart_y}
+use Rattle.chart_text.proofs.Words.{◌+◌, ◌++◌, map, codes, decimal, below, row_line, Puts, chart_y}
 use Rattle.chart_text.proofs.band.put_node_names.Given as goal
 
 -- the names so far were put

@@ -1,8 +1,5 @@
-use Rattle.std.proofs.Common.{◌+◌, ◌-◌, ◌++◌, codes, decimal, get_or, length}
-use Rattle.picture_text.specs.Cells.{place}
-use Rattle.ttp_base.specs.Text.{newline}
+use Rattle.chart_text.proofs.Words.{◌+◌, ◌-◌, ◌++◌, codes, decimal, get_or, length, place, newline, marked_slots}
 use Rattle.chart_text.specs.Chart.{hidden_text}
-use Rattle.chart_text.specs.Steps.{marked_slots}
 use Rattle.chart_text.proofs.Joined.{shown_parts}
 use Rattle.chart_text.proofs.chart.make_shown.Goals as goal
 

@@ -1,5 +1,4 @@
-use Rattle.std.proofs.Common.{◌||◌, ◌∙◌, ap, Bool, length, arith}
-use Rattle.chart_text.specs.Columns.{is_tried}
+use Rattle.chart_text.proofs.Words.{◌||◌, ◌∙◌, ap, Bool, length, arith, is_tried}
 use Rattle.chart_text.proofs.Slots.{tried-marks}
 use Rattle.chart_text.proofs.chart.mark_tried.Goals as goal
 

@@ -1,6 +1,5 @@
-use Rattle.std.proofs.Common.{◌∙◌, ap}
+use Rattle.chart_text.proofs.Words.{◌∙◌, ap, marked_slots}
 use Rattle.chart_text.specs.Key.{all_counts}
-use Rattle.chart_text.specs.Steps.{marked_slots}
 use Rattle.chart_text.proofs.Whole.{chart-whole, wrote-whole, left-whole}
 use Rattle.chart_text.proofs.chart.put_chart.Goals as goal
 

@@ -1,7 +1,4 @@
-use Rattle.std.proofs.Common.{ℕ, subst}
-use Rattle.picture_text.specs.Sheet.{Puts}
-use Rattle.picture_text.proofs.Pairs.{puts_both}
-use Rattle.chart_text.specs.Chart.{chart_end}
+use Rattle.chart_text.proofs.Words.{ℕ, subst, Puts, puts_both, chart_end}
 use Rattle.chart_text.proofs.chart.put_end.Goals as goal
 
 pub returns : goal.returns

@@ -1,13 +1,9 @@
-use Rattle.std.proofs.Common.{◌∙◌, ◌&&◌, [], ap, ℕ, List, length, map}
+use Rattle.chart_text.proofs.Words.{◌∙◌, ◌&&◌, [], ap, ℕ, List, length, map, Piece, counts_sum, puts_both, puts_first}
+use Rattle.chart_text.proofs.Words.{first_told_slot, is_hidden, does_harm, marked_slots}
 use Rattle.campaign.specs.declared.cost.Counts.{Counts}
-use Rattle.whole_campaign.specs.declared.shown.Piece.{Piece}
-use Rattle.whole_campaign.specs.Readable.{counts_sum}
 use Rattle.picture_text.specs.Picture.{text_line}
-use Rattle.picture_text.proofs.Pairs.{puts_both, puts_first}
 use Rattle.chart_text.specs.Chart.{chart_front, slots_shown_text, own_lines, counted_lines}
-use Rattle.chart_text.specs.Columns.{chart_height, first_told_slot, is_hidden}
-use Rattle.chart_text.specs.Looks.{does_harm}
-use Rattle.chart_text.specs.Steps.{marked_slots}
+use Rattle.chart_text.specs.Columns.{chart_height}
 use Rattle.chart_text.proofs.Written.{along}
 use Rattle.chart_text.proofs.chart.put_head.Goals as goal
 

@@ -1,5 +1,4 @@
-use Rattle.picture_text.proofs.Pairs.{puts_both}
-use Rattle.chart_text.specs.Chart.{chart_end}
+use Rattle.chart_text.proofs.Words.{puts_both, chart_end}
 use Rattle.chart_text.specs.Columns.{key_top}
 use Rattle.chart_text.proofs.Written.{along, chart_ok, chart_failed}
 use Rattle.chart_text.proofs.chart.put_marked.Goals as goal

@@ -1,5 +1,4 @@
-use Rattle.std.proofs.Common.{◌+◌, ◌++◌, codes, decimal}
-use Rattle.picture_text.specs.Cells.{place}
+use Rattle.chart_text.proofs.Words.{◌+◌, ◌++◌, codes, decimal, place}
 use Rattle.chart_text.specs.Column.{hurt_shown}
 use Rattle.chart_text.proofs.Joined.{wide_cell_parts}
 use Rattle.chart_text.proofs.column.make_hurt.Goals as goal

@@ -1,6 +1,5 @@
-use Rattle.std.proofs.Common.{◌+◌}
-use Rattle.picture_text.specs.Cells.{place}
-use Rattle.chart_text.specs.Column.{slot_told, worst_below, worst_class, worst_letter}
+use Rattle.chart_text.proofs.Words.{◌+◌, place, worst_below}
+use Rattle.chart_text.specs.Column.{slot_told, worst_class, worst_letter}
 use Rattle.chart_text.proofs.Joined.{wide_cell_parts}
 use Rattle.chart_text.proofs.column.make_worst.Goals as goal
 

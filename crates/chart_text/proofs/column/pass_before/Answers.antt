@@ -1,5 +1,4 @@
-use Rattle.std.proofs.Common.{drop, arith}
-use Rattle.whole_campaign.specs.Steps.{told_of}
+use Rattle.chart_text.proofs.Words.{drop, arith, told_of}
 use Rattle.chart_text.proofs.Order.{passed-few, passed-same, passed-order_from}
 use Rattle.chart_text.proofs.column.pass_before.Goals as goal
 

@@ -1,6 +1,4 @@
-use Rattle.std.proofs.Common.{◌≡◌, ◌≤◌, true, length}
-use Rattle.whole_campaign.specs.Readable.{in_order_from}
-use Rattle.chart_text.specs.Steps.{SameFrom, longest_text}
+use Rattle.chart_text.proofs.Words.{◌≡◌, ◌≤◌, true, length, in_order_from, SameFrom, longest_text}
 use Rattle.chart_text.proofs.column.pass_before.Given as goal
 
 -- faults of earlier slots were passed

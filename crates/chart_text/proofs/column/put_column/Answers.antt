@@ -1,8 +1,4 @@
-use Rattle.std.proofs.Common.{sym, List, arith, subst}
-use Rattle.whole_campaign.specs.Whole.{FaultTold}
-use Rattle.picture_text.specs.Sheet.{Puts}
-use Rattle.picture_text.proofs.Pairs.{puts_both}
-use Rattle.chart_text.specs.Column.{column_of}
+use Rattle.chart_text.proofs.Words.{sym, List, arith, subst, FaultTold, Puts, puts_both, column_of}
 use Rattle.chart_text.proofs.Order.{order-earlier}
 use Rattle.chart_text.proofs.column.put_column.Goals as goal
 

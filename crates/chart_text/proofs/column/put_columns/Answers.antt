@@ -1,9 +1,8 @@
-use Rattle.std.proofs.Common.{◌≡◌, ◌<◌, ◌+◌, ◌∙◌, ap, sym, refl, subst, ℕ, List, length, get_or, arith}
-use Rattle.whole_campaign.specs.Whole.{FaultTold}
-use Rattle.whole_campaign.specs.Readable.{in_order_from}
+use Rattle.chart_text.proofs.Words.{◌≡◌, ◌<◌, ◌+◌, ◌∙◌, ap, sym, refl, subst, ℕ, List, length, get_or, arith, FaultTold}
+use Rattle.chart_text.proofs.Words.{in_order_from, column_lines, column_of, shown_before, faults_told_in, SameFrom}
+use Rattle.chart_text.proofs.Words.{longest_text, marked_slots}
 use Rattle.picture_text.specs.declared.sheet.Sheet.{Sheet}
-use Rattle.chart_text.specs.Column.{column_lines, column_of, shown_before, faults_told_in}
-use Rattle.chart_text.specs.Steps.{Roomy, SameFrom, longest_text, marked_slots}
+use Rattle.chart_text.specs.Steps.{Roomy}
 use Rattle.chart_text.proofs.Order.{same-then, same-later}
 use Rattle.chart_text.proofs.Slots.{count-marked, count-unmarked, marked-at, shown_before-next}
 use Rattle.chart_text.proofs.Written.{columns_next, columns_same}

@@ -1,11 +1,5 @@
-use Rattle.std.proofs.Common.{◌≡◌, ◌≤◌, true, length}
-use Rattle.std.specs.Prelude.{filter}
-use Rattle.ttp_base.specs.NodeSet.{below}
-use Rattle.ttp_base.specs.Text.{lines_below}
-use Rattle.whole_campaign.specs.Readable.{in_order_from}
-use Rattle.picture_text.specs.Sheet.{Puts}
-use Rattle.chart_text.specs.Column.{column_lines, shown_before}
-use Rattle.chart_text.specs.Steps.{has_mark, longest_text, marked_slots, SameFrom}
+use Rattle.chart_text.proofs.Words.{◌≡◌, ◌≤◌, true, length, filter, below, lines_below, in_order_from, Puts}
+use Rattle.chart_text.proofs.Words.{column_lines, shown_before, has_mark, longest_text, marked_slots, SameFrom}
 use Rattle.chart_text.proofs.column.put_columns.Given as goal
 
 -- the columns so far were put

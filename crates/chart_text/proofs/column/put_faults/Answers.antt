@@ -1,9 +1,5 @@
-use Rattle.std.proofs.Common.{◌∙◌, ◌+◌, ap, sym, refl, subst, drop, List, length, arith}
-use Rattle.whole_campaign.specs.Steps.{told_of}
-use Rattle.whole_campaign.specs.Whole.{FaultTold}
-use Rattle.chart_text.specs.Column.{faults_told_in, shown_fault}
-use Rattle.chart_text.specs.Looks.{look_number, fault_look}
-use Rattle.chart_text.specs.Walks.{IsSlotTally}
+use Rattle.chart_text.proofs.Words.{◌∙◌, ◌+◌, ap, sym, refl, subst, drop, List, length, arith, told_of, FaultTold}
+use Rattle.chart_text.proofs.Words.{faults_told_in, shown_fault, look_number, fault_look, IsSlotTally}
 use Rattle.chart_text.proofs.Counting.{counted-few}
 use Rattle.chart_text.proofs.Order.{passed-few, passed-same, passed-order_from, passed-here, none-left, few-of-slot, tally-whole}
 use Rattle.chart_text.proofs.Written.{left_first, left_none}

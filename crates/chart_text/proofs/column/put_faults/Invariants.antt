@@ -1,11 +1,5 @@
-use Rattle.std.proofs.Common.{◌≡◌, ◌+◌, ◌≤◌, true, Bool, length}
-use Rattle.std.specs.List.{flat_map}
-use Rattle.ttp_base.specs.Outside.{Output}
-use Rattle.whole_campaign.specs.Readable.{in_order_from}
-use Rattle.picture_text.specs.Sheet.{Puts}
-use Rattle.chart_text.specs.Column.{faults_told_in, shown_fault}
-use Rattle.chart_text.specs.Steps.{SameFrom, longest_text}
-use Rattle.chart_text.specs.Walks.{IsSlotTally}
+use Rattle.chart_text.proofs.Words.{◌≡◌, ◌+◌, ◌≤◌, true, Bool, length, flat_map, Output, in_order_from, Puts}
+use Rattle.chart_text.proofs.Words.{faults_told_in, shown_fault, SameFrom, longest_text, IsSlotTally}
 use Rattle.chart_text.proofs.column.put_faults.Given as goal
 
 -- the faults so far were put and counted

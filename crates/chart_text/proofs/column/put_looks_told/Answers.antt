@@ -1,8 +1,6 @@
-use Rattle.std.proofs.Common.{◌≤◌, ◌+◌, ◌++◌, ◌∙◌, ap, sym, List, ℕ, length, arith, append_assoc}
-use Rattle.std.specs.List.{flat_map}
-use Rattle.ttp_base.specs.NodeSet.{below}
+use Rattle.chart_text.proofs.Words.{◌≤◌, ◌+◌, ◌++◌, ◌∙◌, ap, sym, List, ℕ, length, arith, append_assoc, flat_map, below}
+use Rattle.chart_text.proofs.Words.{look_told}
 use Rattle.ttp_base.proofs.Below.{flat_map-next}
-use Rattle.chart_text.specs.Column.{look_told}
 use Rattle.chart_text.proofs.column.put_looks_told.Goals as goal
 
 pub loop-number-preserved : goal.loop-number-preserved

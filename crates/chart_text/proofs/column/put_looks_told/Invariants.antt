@@ -1,7 +1,4 @@
-use Rattle.std.proofs.Common.{◌≡◌, ◌≤◌, ◌+◌, ◌*◌, ◌++◌, length}
-use Rattle.std.specs.List.{flat_map}
-use Rattle.ttp_base.specs.NodeSet.{below}
-use Rattle.chart_text.specs.Column.{look_told}
+use Rattle.chart_text.proofs.Words.{◌≡◌, ◌≤◌, ◌+◌, ◌*◌, ◌++◌, length, flat_map, below, look_told}
 use Rattle.chart_text.proofs.column.put_looks_told.Given as goal
 
 -- the looks so far were told

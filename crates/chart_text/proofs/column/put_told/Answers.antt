@@ -1,7 +1,4 @@
-use Rattle.std.proofs.Common.{◌++◌, codes, decimal}
-use Rattle.std.specs.List.{flat_map}
-use Rattle.ttp_base.specs.NodeSet.{below}
-use Rattle.chart_text.specs.Column.{look_told}
+use Rattle.chart_text.proofs.Words.{◌++◌, codes, decimal, flat_map, below, look_told}
 use Rattle.chart_text.proofs.Joined.{told_parts}
 use Rattle.chart_text.proofs.column.put_told.Goals as goal
 

@@ -1,5 +1,4 @@
-use Rattle.std.proofs.Common.{◌+◌, codes}
-use Rattle.picture_text.specs.Cells.{place}
+use Rattle.chart_text.proofs.Words.{◌+◌, codes, place}
 use Rattle.picture_text.proofs.Joined.{between_parts}
 use Rattle.chart_text.proofs.element.close_wide_title.Goals as goal
 

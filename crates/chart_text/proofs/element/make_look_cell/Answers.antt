@@ -1,5 +1,4 @@
-use Rattle.std.proofs.Common.{◌+◌}
-use Rattle.picture_text.specs.Cells.{place}
+use Rattle.chart_text.proofs.Words.{◌+◌, place}
 use Rattle.chart_text.specs.Looks.{look_text, look_letter}
 use Rattle.chart_text.proofs.Joined.{wide_cell_parts}
 use Rattle.chart_text.proofs.element.make_look_cell.Goals as goal

@@ -1,5 +1,4 @@
-use Rattle.std.proofs.Common.{decimal}
-use Rattle.picture_text.proofs.Joined.{mark_parts}
+use Rattle.chart_text.proofs.Words.{decimal, mark_parts}
 use Rattle.chart_text.proofs.element.make_mark.Goals as goal
 
 pub returns : goal.returns

@@ -1,4 +1,4 @@
-use Rattle.std.proofs.Common.{decimal}
+use Rattle.chart_text.proofs.Words.{decimal}
 use Rattle.chart_text.proofs.Joined.{pole_parts}
 use Rattle.chart_text.proofs.element.make_pole.Goals as goal
 

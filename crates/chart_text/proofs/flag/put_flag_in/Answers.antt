@@ -1,4 +1,4 @@
-use Rattle.picture_text.proofs.Pairs.{puts_two}
+use Rattle.chart_text.proofs.Words.{puts_two}
 use Rattle.chart_text.proofs.flag.put_flag_in.Goals as goal
 
 pub returns : goal.returns

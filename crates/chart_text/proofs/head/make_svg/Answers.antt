@@ -1,5 +1,4 @@
-use Rattle.std.proofs.Common.{codes, decimal}
-use Rattle.ttp_base.specs.Text.{newline}
+use Rattle.chart_text.proofs.Words.{codes, decimal, newline}
 use Rattle.picture_text.proofs.Joined.{element_parts}
 use Rattle.chart_text.specs.Chart.{chart_size}
 use Rattle.chart_text.proofs.head.make_svg.Goals as goal

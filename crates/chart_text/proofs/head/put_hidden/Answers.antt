@@ -1,5 +1,4 @@
-use Rattle.std.proofs.Common.{codes, decimal}
-use Rattle.picture_text.proofs.Joined.{three_parts}
+use Rattle.chart_text.proofs.Words.{codes, decimal, three_parts}
 use Rattle.chart_text.proofs.head.put_hidden.Goals as goal
 
 pub returns-in-Some-clause-text : goal.returns-in-Some-clause-text

@@ -1,9 +1,6 @@
-use Rattle.std.proofs.Common.{map, get_or}
-use Rattle.ttp_base.specs.NodeSet.{below}
+use Rattle.chart_text.proofs.Words.{map, get_or, below, Puts, looks}
 use Rattle.chart_text.specs.declared.look.Look.TheVariants as look
-use Rattle.picture_text.specs.Sheet.{Puts}
 use Rattle.chart_text.specs.Chart.{look_style}
-use Rattle.chart_text.specs.Looks.{looks}
 use Rattle.chart_text.proofs.head.put_look_styles.Given as goal
 
 -- the styles so far were put

@@ -1,7 +1,4 @@
-use Rattle.std.proofs.Common.{map, get_or, []}
-use Rattle.ttp_base.specs.NodeSet.{below}
-use Rattle.picture_text.specs.Picture.{ended}
-use Rattle.picture_text.specs.Sheet.{Puts}
+use Rattle.chart_text.proofs.Words.{map, get_or, [], below, ended, Puts}
 use Rattle.chart_text.specs.Chart.{other_styles}
 use Rattle.chart_text.proofs.head.put_other_styles.Given as goal
 

@@ -1,5 +1,4 @@
-use Rattle.std.proofs.Common.{◌∙◌}
-use Rattle.picture_text.proofs.Pairs.{puts_two}
+use Rattle.chart_text.proofs.Words.{◌∙◌, puts_two}
 use Rattle.chart_text.proofs.head.put_own.Goals as goal
 
 pub returns-clause-puts : goal.returns-clause-puts

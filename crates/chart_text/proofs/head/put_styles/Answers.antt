@@ -1,4 +1,4 @@
-use Rattle.picture_text.proofs.Pairs.{puts_both}
+use Rattle.chart_text.proofs.Words.{puts_both}
 use Rattle.chart_text.proofs.head.put_styles.Goals as goal
 
 pub returns : goal.returns

@@ -1,4 +1,4 @@
-use Rattle.picture_text.proofs.Pairs.{puts_two}
+use Rattle.chart_text.proofs.Words.{puts_two}
 use Rattle.chart_text.proofs.head.put_sums.Goals as goal
 
 pub returns : goal.returns

@@ -1,4 +1,4 @@
-use Rattle.picture_text.proofs.Pairs.{puts_first, puts_both}
+use Rattle.chart_text.proofs.Words.{puts_first, puts_both}
 use Rattle.chart_text.proofs.key.put_key.Goals as goal
 
 pub returns : goal.returns

@@ -1,5 +1,4 @@
-use Rattle.picture_text.proofs.Rows.{one_more}
-use Rattle.chart_text.specs.Key.{key_square}
+use Rattle.chart_text.proofs.Words.{one_more, key_square}
 use Rattle.chart_text.proofs.key.put_key_squares.Goals as goal
 
 pub loop-place-preserved : goal.loop-place-preserved

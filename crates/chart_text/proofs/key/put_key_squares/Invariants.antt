@@ -1,7 +1,4 @@
-use Rattle.std.proofs.Common.{map}
-use Rattle.ttp_base.specs.NodeSet.{below}
-use Rattle.picture_text.specs.Sheet.{Puts}
-use Rattle.chart_text.specs.Key.{key_square}
+use Rattle.chart_text.proofs.Words.{map, below, Puts, key_square}
 use Rattle.chart_text.proofs.key.put_key_squares.Given as goal
 
 -- the squares so far were put

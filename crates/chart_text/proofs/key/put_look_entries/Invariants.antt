@@ -1,5 +1,4 @@
-use Rattle.ttp_base.specs.Text.{lines_below}
-use Rattle.picture_text.specs.Sheet.{Puts}
+use Rattle.chart_text.proofs.Words.{lines_below, Puts}
 use Rattle.chart_text.specs.Key.{look_entry}
 use Rattle.chart_text.proofs.key.put_look_entries.Given as goal
 

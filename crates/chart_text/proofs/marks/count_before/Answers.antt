@@ -1,8 +1,5 @@
-use Rattle.std.proofs.Common.{◌+◌, ◌∙◌, ap, sym, ℕ, Bool, arith}
-use Rattle.whole_campaign.specs.Due.{as_count}
-use Rattle.chart_text.specs.Steps.{has_mark}
+use Rattle.chart_text.proofs.Words.{◌+◌, ◌∙◌, ap, sym, ℕ, Bool, arith, as_count, has_mark, one-small}
 use Rattle.chart_text.proofs.Slots.{count-next}
-use Rattle.whole_campaign.proofs.Rooms.{one-small}
 use Rattle.chart_text.proofs.marks.count_before.Goals as goal
 
 pub loop-t-preserved : goal.loop-t-preserved

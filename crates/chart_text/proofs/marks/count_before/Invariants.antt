@@ -1,7 +1,4 @@
-use Rattle.std.proofs.Common.{◌≡◌, ◌≤◌, length}
-use Rattle.std.specs.Prelude.{filter}
-use Rattle.ttp_base.specs.NodeSet.{below}
-use Rattle.chart_text.specs.Steps.{has_mark}
+use Rattle.chart_text.proofs.Words.{◌≡◌, ◌≤◌, length, filter, below, has_mark}
 use Rattle.chart_text.proofs.marks.count_before.Given as goal
 
 -- the marks so far were counted

@@ -1,4 +1,4 @@
-use Rattle.std.proofs.Common.{arith}
+use Rattle.chart_text.proofs.Words.{arith}
 use Rattle.chart_text.proofs.Slots.{asked-marks}
 use Rattle.chart_text.proofs.marks.keep_asked.Goals as goal
 

@@ -1,6 +1,4 @@
-use Rattle.std.proofs.Common.{◌≡◌, ℕ, ◌<◌, ◌≤◌, ◌&&◌}
-use Rattle.chart_text.specs.Columns.{is_asked}
-use Rattle.chart_text.specs.Steps.{has_mark}
+use Rattle.chart_text.proofs.Words.{◌≡◌, ℕ, ◌<◌, ◌≤◌, ◌&&◌, is_asked, has_mark}
 use Rattle.chart_text.proofs.marks.keep_asked.Given as goal
 
 -- the marks so far are those that were asked for

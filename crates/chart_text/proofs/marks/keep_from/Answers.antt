@@ -1,9 +1,6 @@
-use Rattle.std.proofs.Common.{◌≡◌, ◌≢◌, ◌+◌, ◌<◌, ◌∙◌, ap, sym, ℕ, Bool, false, get_or, length, arith}
-use Rattle.std.proofs.lemmas.List.{get_or-set_other}
-use Rattle.whole_campaign.specs.Due.{as_count}
-use Rattle.chart_text.specs.Steps.{has_mark}
+use Rattle.chart_text.proofs.Words.{◌≡◌, ◌≢◌, ◌+◌, ◌<◌, ◌∙◌, ap, sym, ℕ, Bool, false, get_or, length, arith}
+use Rattle.chart_text.proofs.Words.{get_or-set_other, as_count, has_mark, one-small}
 use Rattle.chart_text.proofs.Slots.{count-next, kept-next}
-use Rattle.whole_campaign.proofs.Rooms.{one-small}
 use Rattle.chart_text.proofs.marks.keep_from.Goals as goal
 
 pub loop-t-preserved : goal.loop-t-preserved

@@ -1,7 +1,4 @@
-use Rattle.std.proofs.Common.{◌≡◌, ℕ, ◌≤◌, length, take, drop}
-use Rattle.std.specs.Prelude.{filter}
-use Rattle.ttp_base.specs.NodeSet.{below}
-use Rattle.chart_text.specs.Steps.{has_mark}
+use Rattle.chart_text.proofs.Words.{◌≡◌, ℕ, ◌≤◌, length, take, drop, filter, below, has_mark}
 use Rattle.chart_text.proofs.marks.keep_from.Given as goal
 
 -- of the marks so far those of the window are left

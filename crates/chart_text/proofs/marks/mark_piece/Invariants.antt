@@ -1,6 +1,4 @@
-use Rattle.std.proofs.Common.{◌≡◌, ℕ, ◌<◌, ◌&&◌, ◌||◌, length}
-use Rattle.std.specs.Prelude.{nat_le, nat_lt}
-use Rattle.chart_text.specs.Steps.{has_mark}
+use Rattle.chart_text.proofs.Words.{◌≡◌, ℕ, ◌<◌, ◌&&◌, ◌||◌, length, nat_le, nat_lt, has_mark}
 use Rattle.chart_text.proofs.marks.mark_piece.Given as goal
 
 -- the slots of the piece so far are marked

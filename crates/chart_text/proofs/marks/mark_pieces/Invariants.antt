@@ -1,6 +1,4 @@
-use Rattle.std.proofs.Common.{◌≡◌, ℕ, ◌<◌, ◌||◌, length}
-use Rattle.chart_text.specs.Columns.{is_tried}
-use Rattle.chart_text.specs.Steps.{has_mark}
+use Rattle.chart_text.proofs.Words.{◌≡◌, ℕ, ◌<◌, ◌||◌, length, is_tried, has_mark}
 use Rattle.chart_text.proofs.marks.mark_pieces.Given as goal
 
 -- what is not marked yet is of a piece that is left

@@ -1,10 +1,7 @@
-use Rattle.std.proofs.Common.{◌≡◌, ◌<◌, ◌+◌, ◌&&◌, ◌∙◌, ap, sym, ℕ, Bool, get_or, length, arith}
-use Rattle.std.proofs.lemmas.Bool.{and_parts, eqb-true}
-use Rattle.std.specs.Prelude.{◌==◌}
-use Rattle.whole_campaign.specs.Due.{as_count}
-use Rattle.chart_text.specs.Steps.{has_mark, marked_slots}
+use Rattle.chart_text.proofs.Words.{◌≡◌, ◌<◌, ◌+◌, ◌&&◌, ◌∙◌, ap, sym, ℕ, Bool, get_or, length, arith, and_parts, ◌==◌}
+use Rattle.chart_text.proofs.Words.{as_count, has_mark, marked_slots, one-small}
+use Rattle.std.proofs.lemmas.Bool.{eqb-true}
 use Rattle.chart_text.proofs.Slots.{count-next, marked-at, low-next}
-use Rattle.whole_campaign.proofs.Rooms.{one-small}
 use Rattle.chart_text.proofs.marks.marked_slot.Goals as goal
 
 pub returns-then-is_it : goal.returns-then-is_it

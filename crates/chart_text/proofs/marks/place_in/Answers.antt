@@ -1,4 +1,4 @@
-use Rattle.std.proofs.Common.{◌∙◌, ap, sym, ℕ, Some, arith}
+use Rattle.chart_text.proofs.Words.{◌∙◌, ap, sym, ℕ, Some, arith}
 use Rattle.chart_text.proofs.Slots.{place-marked, place-unmarked, within-marks}
 use Rattle.chart_text.proofs.marks.place_in.Goals as goal
 

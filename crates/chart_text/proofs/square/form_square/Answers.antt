@@ -1,5 +1,4 @@
-use Rattle.std.proofs.Common.{decimal}
-use Rattle.picture_text.proofs.Joined.{mark_parts}
+use Rattle.chart_text.proofs.Words.{decimal, mark_parts}
 use Rattle.chart_text.specs.Elements.{square_shape}
 use Rattle.chart_text.proofs.square.form_square.Goals as goal
 

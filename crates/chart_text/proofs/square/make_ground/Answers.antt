@@ -1,7 +1,5 @@
-use Rattle.std.proofs.Common.{decimal}
-use Rattle.picture_text.proofs.Joined.{mark_parts}
+use Rattle.chart_text.proofs.Words.{decimal, mark_parts, doing_word}
 use Rattle.chart_text.specs.Column.{ground_title}
-use Rattle.chart_text.specs.Looks.{doing_word}
 use Rattle.chart_text.proofs.square.make_ground.Goals as goal
 
 pub returns : goal.returns

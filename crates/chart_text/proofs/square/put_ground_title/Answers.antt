@@ -1,5 +1,4 @@
-use Rattle.std.proofs.Common.{codes, decimal}
-use Rattle.chart_text.specs.Looks.{doing_word}
+use Rattle.chart_text.proofs.Words.{codes, decimal, doing_word}
 use Rattle.chart_text.proofs.Joined.{title_parts}
 use Rattle.chart_text.proofs.square.put_ground_title.Goals as goal
 

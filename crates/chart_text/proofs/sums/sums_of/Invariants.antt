@@ -1,5 +1,5 @@
-use Rattle.std.proofs.Common.{◌≡◌, length, map}
-use Rattle.whole_campaign.specs.Readable.{counts_together, counts_sum}
+use Rattle.chart_text.proofs.Words.{◌≡◌, length, map, counts_sum}
+use Rattle.whole_campaign.specs.Readable.{counts_together}
 use Rattle.chart_text.proofs.sums.sums_of.Given as goal
 
 -- with those of the pieces that are left the sums are whole

@@ -1,7 +1,4 @@
-use Rattle.std.proofs.Common.{◌≡◌, ◌&&◌, length}
-use Rattle.chart_text.specs.Columns.{first_told_slot, is_hidden}
-use Rattle.chart_text.specs.Looks.{does_harm}
-use Rattle.chart_text.specs.Steps.{marked_slots}
+use Rattle.chart_text.proofs.Words.{◌≡◌, ◌&&◌, length, first_told_slot, is_hidden, does_harm, marked_slots}
 use Rattle.chart_text.proofs.survey.first_hidden.Given as goal
 
 -- none of the faults so far is hidden

@@ -1,7 +1,4 @@
-use Rattle.std.proofs.Common.{◌&&◌, ◌∙◌, ap, sym, Bool, not}
-use Rattle.std.specs.Prelude.{◌==◌}
-use Rattle.std.specs.List.{list_any}
-use Rattle.chart_text.specs.Steps.{marked_slots}
+use Rattle.chart_text.proofs.Words.{◌&&◌, ◌∙◌, ap, sym, Bool, not, ◌==◌, list_any, marked_slots}
 use Rattle.chart_text.proofs.Slots.{marked-any}
 use Rattle.chart_text.proofs.survey.is_hidden_harm.Goals as goal
 

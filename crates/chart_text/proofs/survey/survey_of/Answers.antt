@@ -1,7 +1,4 @@
-use Rattle.std.proofs.Common.{◌∙◌, List, [], refl, subst}
-use Rattle.whole_campaign.specs.Whole.{FaultTold}
-use Rattle.chart_text.specs.Key.{counter_of}
-use Rattle.chart_text.specs.Walks.{IsSurvey}
+use Rattle.chart_text.proofs.Words.{◌∙◌, List, [], refl, subst, FaultTold, counter_of, IsSurvey}
 use Rattle.chart_text.proofs.Counting.{counted-all}
 use Rattle.chart_text.proofs.survey.survey_of.Goals as goal
 

@@ -1,5 +1,4 @@
-use Rattle.std.proofs.Common.{length}
-use Rattle.chart_text.specs.Walks.{IsSurvey}
+use Rattle.chart_text.proofs.Words.{length, IsSurvey}
 use Rattle.chart_text.proofs.survey.survey_of.Given as goal
 
 -- the faults so far were noted

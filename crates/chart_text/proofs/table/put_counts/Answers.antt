@@ -1,5 +1,4 @@
-use Rattle.picture_text.proofs.Rows.{one_more}
-use Rattle.chart_text.specs.Key.{count_line}
+use Rattle.chart_text.proofs.Words.{one_more, count_line}
 use Rattle.chart_text.proofs.table.put_counts.Goals as goal
 
 pub loop-number-preserved : goal.loop-number-preserved

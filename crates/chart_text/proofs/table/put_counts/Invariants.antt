@@ -1,7 +1,4 @@
-use Rattle.std.proofs.Common.{map}
-use Rattle.ttp_base.specs.NodeSet.{below}
-use Rattle.picture_text.specs.Sheet.{Puts}
-use Rattle.chart_text.specs.Key.{count_line}
+use Rattle.chart_text.proofs.Words.{map, below, Puts, count_line}
 use Rattle.chart_text.proofs.table.put_counts.Given as goal
 
 -- the numbers so far were put

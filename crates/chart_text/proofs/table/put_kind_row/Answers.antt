@@ -1,6 +1,4 @@
-use Rattle.std.proofs.Common.{ℕ, map}
-use Rattle.ttp_base.specs.NodeSet.{below}
-use Rattle.picture_text.proofs.Pairs.{puts_first}
+use Rattle.chart_text.proofs.Words.{ℕ, map, below, puts_first}
 use Rattle.chart_text.proofs.table.put_kind_row.Goals as goal
 
 pub returns : goal.returns

@@ -1,9 +1,6 @@
-use Rattle.std.proofs.Common.{◌≡◌, ◌+◌, ◌*◌, ℕ, subst, arith}
-use Rattle.ttp_base.specs.Text.{lines_below}
-use Rattle.picture_text.specs.Sheet.{Puts}
-use Rattle.picture_text.proofs.Puts.{puts_below}
-use Rattle.whole_campaign.specs.Faults.{first_place}
-use Rattle.chart_text.specs.Key.{kind_lines, many_places}
+use Rattle.chart_text.proofs.Words.{◌≡◌, ◌+◌, ◌*◌, ℕ, subst, arith, lines_below, Puts, puts_below, first_place}
+use Rattle.chart_text.proofs.Words.{kind_lines}
+use Rattle.chart_text.specs.Key.{many_places}
 use Rattle.chart_text.proofs.table.put_kind_rows.Goals as goal
 
 pub loop-number-preserved : goal.loop-number-preserved

@@ -1,8 +1,4 @@
-use Rattle.std.proofs.Common.{◌+◌, ◌*◌}
-use Rattle.ttp_base.specs.Text.{lines_below}
-use Rattle.picture_text.specs.Sheet.{Puts}
-use Rattle.whole_campaign.specs.Faults.{first_place}
-use Rattle.chart_text.specs.Key.{kind_lines}
+use Rattle.chart_text.proofs.Words.{◌+◌, ◌*◌, lines_below, Puts, first_place, kind_lines}
 use Rattle.chart_text.proofs.table.put_kind_rows.Given as goal
 
 -- the rows so far were put

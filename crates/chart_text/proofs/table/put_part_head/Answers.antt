@@ -1,8 +1,5 @@
-use Rattle.std.proofs.Common.{◌+◌, ◌*◌, get_or}
+use Rattle.chart_text.proofs.Words.{◌+◌, ◌*◌, get_or, one_more, look_cell, looks}
 use Rattle.chart_text.specs.declared.look.Look.TheVariants as look
-use Rattle.picture_text.proofs.Rows.{one_more}
-use Rattle.chart_text.specs.Elements.{look_cell}
-use Rattle.chart_text.specs.Looks.{looks}
 use Rattle.chart_text.proofs.table.put_part_head.Goals as goal
 
 pub loop-number-preserved : goal.loop-number-preserved

@@ -1,9 +1,5 @@
-use Rattle.std.proofs.Common.{◌+◌, ◌*◌, map, get_or}
-use Rattle.ttp_base.specs.NodeSet.{below}
+use Rattle.chart_text.proofs.Words.{◌+◌, ◌*◌, map, get_or, below, Puts, look_cell, looks}
 use Rattle.chart_text.specs.declared.look.Look.TheVariants as look
-use Rattle.picture_text.specs.Sheet.{Puts}
-use Rattle.chart_text.specs.Elements.{look_cell}
-use Rattle.chart_text.specs.Looks.{looks}
 use Rattle.chart_text.proofs.table.put_part_head.Given as goal
 
 -- the cells so far were put

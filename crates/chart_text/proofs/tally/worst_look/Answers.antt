@@ -1,5 +1,4 @@
-use Rattle.std.proofs.Common.{◌≡◌, ℕ, subst, arith}
-use Rattle.chart_text.specs.Column.{worst_below}
+use Rattle.chart_text.proofs.Words.{◌≡◌, ℕ, subst, arith, worst_below}
 use Rattle.chart_text.proofs.Worst.{worst-next}
 use Rattle.chart_text.proofs.tally.worst_look.Goals as goal
 

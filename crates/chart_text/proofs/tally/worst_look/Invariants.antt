@@ -1,5 +1,4 @@
-use Rattle.std.proofs.Common.{◌≡◌}
-use Rattle.chart_text.specs.Column.{worst_below}
+use Rattle.chart_text.proofs.Words.{◌≡◌, worst_below}
 use Rattle.chart_text.proofs.tally.worst_look.Given as goal
 
 -- the worst of the looks so far

@@ -1,8 +1,6 @@
-use Rattle.std.proofs.Common.{◌∙◌, ap, subst, ℕ, ◌+◌, ◌*◌, ◌++◌, [], ◌∷◌, map, codes, decimal, arith}
-use Rattle.ttp_base.specs.NodeSet.{below}
-use Rattle.picture_text.specs.Picture.{row_line}
-use Rattle.picture_text.specs.Sheet.{Puts}
-use Rattle.picture_text.specs.Window.{row_y}
+use Rattle.picture_text.proofs.Words.{◌∙◌, ap, subst, ℕ, ◌+◌, ◌*◌, ◌++◌, [], ◌∷◌, map, codes, arith, below, row_line}
+use Rattle.picture_text.proofs.Words.{Puts, row_y}
+use Rattle.std.proofs.Common.{decimal}
 use Rattle.picture_text.proofs.Rows.{two_more, band_within}
 use Rattle.picture_text.proofs.band.put_band.Goals as goal
 

@@ -1,6 +1,4 @@
-use Rattle.ttp_base.specs.Text.{lines_below}
-use Rattle.picture_text.specs.Picture.{band_lines}
-use Rattle.picture_text.specs.Sheet.{Puts}
+use Rattle.picture_text.proofs.Words.{lines_below, band_lines, Puts}
 use Rattle.picture_text.proofs.band.put_bands.Given as goal
 
 -- the bands so far were put

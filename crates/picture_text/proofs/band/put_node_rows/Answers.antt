@@ -1,6 +1,5 @@
-use Rattle.std.proofs.Common.{◌∙◌, ap, ℕ, ◌+◌, ◌++◌, codes, decimal}
-use Rattle.picture_text.specs.Picture.{row_line}
-use Rattle.picture_text.specs.Window.{row_y}
+use Rattle.picture_text.proofs.Words.{◌∙◌, ap, ℕ, ◌+◌, ◌++◌, codes, row_line, row_y}
+use Rattle.std.proofs.Common.{decimal}
 use Rattle.picture_text.proofs.Rows.{one_more}
 use Rattle.picture_text.proofs.band.put_node_rows.Goals as goal
 

@@ -1,8 +1,5 @@
-use Rattle.std.proofs.Common.{◌+◌, ◌++◌, map, codes, decimal}
-use Rattle.ttp_base.specs.NodeSet.{below}
-use Rattle.picture_text.specs.Picture.{row_line}
-use Rattle.picture_text.specs.Window.{row_y}
-use Rattle.picture_text.specs.Sheet.{Puts}
+use Rattle.picture_text.proofs.Words.{◌+◌, ◌++◌, map, codes, below, row_line, row_y, Puts}
+use Rattle.std.proofs.Common.{decimal}
 use Rattle.picture_text.proofs.band.put_node_rows.Given as goal
 
 -- the names so far were put

@@ -1,5 +1,5 @@
+use Rattle.picture_text.proofs.Words.{host_text}
 use Rattle.std.proofs.Common.{decimal}
-use Rattle.shown_slot.specs.Trace.{host_text}
 use Rattle.picture_text.proofs.Joined.{mark_parts}
 use Rattle.picture_text.proofs.beside.make_mark_of.Goals as goal
 

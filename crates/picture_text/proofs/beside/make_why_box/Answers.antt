@@ -1,7 +1,5 @@
-use Rattle.std.proofs.Common.{◌+◌, ◌*◌, length, codes, decimal}
-use Rattle.ttp_base.specs.Text.{newline}
-use Rattle.line_reader.specs.TraceLines.{word_text}
-use Rattle.picture_text.specs.Cells.{place}
+use Rattle.picture_text.proofs.Words.{◌+◌, ◌*◌, length, codes, newline, word_text, place}
+use Rattle.std.proofs.Common.{decimal}
 use Rattle.picture_text.proofs.Joined.{element_parts}
 use Rattle.picture_text.proofs.beside.make_why_box.Goals as goal
 

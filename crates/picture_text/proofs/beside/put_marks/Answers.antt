@@ -1,8 +1,4 @@
-use Rattle.std.proofs.Common.{subst, refl, map, List}
-use Rattle.whole_trace.specs.declared.shown.HostLine.{HostLine}
-use Rattle.picture_text.specs.Cells.{host_of, host_mark}
-use Rattle.picture_text.specs.Window.{column_x, row_y}
-use Rattle.picture_text.specs.Sheet.{Puts}
+use Rattle.picture_text.proofs.Words.{subst, refl, map, List, HostLine, host_of, host_mark, column_x, row_y, Puts}
 use Rattle.picture_text.proofs.Rows.{rest_first, rest_none}
 use Rattle.picture_text.proofs.beside.put_marks.Goals as goal
 

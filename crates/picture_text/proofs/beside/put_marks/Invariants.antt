@@ -1,8 +1,4 @@
-use Rattle.std.proofs.Common.{Bool, map, length}
-use Rattle.ttp_base.specs.Outside.{Output}
-use Rattle.picture_text.specs.Cells.{host_of, host_mark}
-use Rattle.picture_text.specs.Window.{column_x, row_y}
-use Rattle.picture_text.specs.Sheet.{Puts}
+use Rattle.picture_text.proofs.Words.{Bool, map, length, Output, host_of, host_mark, column_x, row_y, Puts}
 use Rattle.picture_text.proofs.beside.put_marks.Given as goal
 
 -- whatever puts the marks that are left has put all of them

@@ -1,6 +1,5 @@
-use Rattle.ttp_base.specs.Text.{lines_below}
+use Rattle.picture_text.proofs.Words.{lines_below, Puts}
 use Rattle.picture_text.specs.Picture.{why_lines}
-use Rattle.picture_text.specs.Sheet.{Puts}
 use Rattle.picture_text.proofs.beside.put_whys.Given as goal
 
 -- the reasons so far were put

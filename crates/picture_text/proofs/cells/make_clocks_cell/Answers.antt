@@ -1,5 +1,5 @@
-use Rattle.std.proofs.Common.{◌+◌, ◌++◌, codes, decimal}
-use Rattle.picture_text.specs.Cells.{apart_text, apart_shown, place}
+use Rattle.picture_text.proofs.Words.{◌+◌, ◌++◌, codes, apart_text, apart_shown, place}
+use Rattle.std.proofs.Common.{decimal}
 use Rattle.shown_slot.specs.Nodes.{clock_range}
 use Rattle.picture_text.proofs.Joined.{cell_parts}
 use Rattle.picture_text.proofs.cells.make_clocks_cell.Goals as goal

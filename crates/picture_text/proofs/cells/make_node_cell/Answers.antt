@@ -1,7 +1,4 @@
-use Rattle.std.proofs.Common.{◌+◌}
-use Rattle.picture_text.specs.Cells.{node_class, place}
-use Rattle.picture_text.specs.Tables.{letter}
-use Rattle.shown_slot.specs.Trace.{node_text}
+use Rattle.picture_text.proofs.Words.{◌+◌, node_class, place, letter, node_text}
 use Rattle.picture_text.proofs.Joined.{cell_parts}
 use Rattle.picture_text.proofs.cells.make_node_cell.Goals as goal
 

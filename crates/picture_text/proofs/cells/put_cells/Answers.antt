@@ -1,10 +1,6 @@
-use Rattle.std.proofs.Common.{ap, ℕ, ◌+◌, map}
-use Rattle.std.specs.Prelude.{Option}
-use Rattle.ttp_base.specs.NodeSet.{below}
-use Rattle.shown_slot.specs.Trace.{node_at}
-use Rattle.picture_text.specs.Cells.{node_cell, clocks_cell, members_cell}
+use Rattle.picture_text.proofs.Words.{ap, ℕ, ◌+◌, map, Option, below, node_at, node_cell, column_x, row_y}
+use Rattle.picture_text.specs.Cells.{clocks_cell, members_cell}
 use Rattle.picture_text.specs.Picture.{number_lines}
-use Rattle.picture_text.specs.Window.{column_x, row_y}
 use Rattle.picture_text.proofs.Rows.{cells_more}
 use Rattle.picture_text.proofs.cells.put_cells.Goals as goal
 

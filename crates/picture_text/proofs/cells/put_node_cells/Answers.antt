@@ -1,6 +1,4 @@
-use Rattle.shown_slot.specs.Trace.{node_at}
-use Rattle.picture_text.specs.Cells.{node_cell}
-use Rattle.picture_text.specs.Window.{column_x, row_y}
+use Rattle.picture_text.proofs.Words.{node_at, node_cell, column_x, row_y}
 use Rattle.picture_text.proofs.Rows.{one_more}
 use Rattle.picture_text.proofs.cells.put_node_cells.Goals as goal
 

@@ -1,9 +1,4 @@
-use Rattle.std.proofs.Common.{map}
-use Rattle.ttp_base.specs.NodeSet.{below}
-use Rattle.shown_slot.specs.Trace.{node_at}
-use Rattle.picture_text.specs.Cells.{node_cell}
-use Rattle.picture_text.specs.Window.{column_x, row_y}
-use Rattle.picture_text.specs.Sheet.{Puts}
+use Rattle.picture_text.proofs.Words.{map, below, node_at, node_cell, column_x, row_y, Puts}
 use Rattle.picture_text.proofs.cells.put_node_cells.Given as goal
 
 -- the cells so far were put

@@ -1,5 +1,4 @@
-use Rattle.std.proofs.Common.{◌+◌}
-use Rattle.picture_text.specs.Cells.{place}
+use Rattle.picture_text.proofs.Words.{◌+◌, place}
 use Rattle.picture_text.proofs.Joined.{cell_parts}
 use Rattle.picture_text.proofs.element.make_cell.Goals as goal
 

@@ -1,6 +1,5 @@
-use Rattle.std.proofs.Common.{codes, decimal}
-use Rattle.ttp_base.specs.Text.{newline}
-use Rattle.picture_text.specs.Picture.{size}
+use Rattle.picture_text.proofs.Words.{codes, newline, size}
+use Rattle.std.proofs.Common.{decimal}
 use Rattle.picture_text.proofs.Joined.{element_parts}
 use Rattle.picture_text.proofs.head.make_svg.Goals as goal
 

@@ -1,5 +1,4 @@
-use Rattle.std.proofs.Common.{ap, ◌∙◌}
-use Rattle.picture_text.specs.Picture.{svg_line}
+use Rattle.picture_text.proofs.Words.{ap, ◌∙◌, svg_line}
 use Rattle.picture_text.proofs.Pairs.{puts_two}
 use Rattle.picture_text.proofs.head.put_front.Goals as goal
 

@@ -1,4 +1,5 @@
-use Rattle.std.proofs.Common.{codes, decimal, append_assoc}
+use Rattle.picture_text.proofs.Words.{codes, append_assoc}
+use Rattle.std.proofs.Common.{decimal}
 use Rattle.picture_text.proofs.head.put_more.Goals as goal
 
 pub returns-in-Some-clause-text : goal.returns-in-Some-clause-text

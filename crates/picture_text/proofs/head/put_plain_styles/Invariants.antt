@@ -1,8 +1,5 @@
-use Rattle.std.proofs.Common.{map, get_or, []}
-use Rattle.ttp_base.specs.NodeSet.{below}
-use Rattle.picture_text.specs.Picture.{ended}
+use Rattle.picture_text.proofs.Words.{map, get_or, [], below, ended, Puts}
 use Rattle.picture_text.specs.Tables.{styles}
-use Rattle.picture_text.specs.Sheet.{Puts}
 use Rattle.picture_text.proofs.head.put_plain_styles.Given as goal
 
 -- the styles so far were put

@@ -1,5 +1,4 @@
-use Rattle.std.proofs.Common.{ℕ, ◌++◌, codes, ap, ◌∙◌}
-use Rattle.picture_text.specs.Picture.{ended, size}
+use Rattle.picture_text.proofs.Words.{ℕ, ◌++◌, codes, ap, ◌∙◌, ended, size}
 use Rattle.picture_text.proofs.Pairs.{puts_two}
 use Rattle.picture_text.proofs.head.put_shown.Goals as goal
 

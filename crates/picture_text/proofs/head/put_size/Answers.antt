@@ -1,4 +1,5 @@
-use Rattle.std.proofs.Common.{codes, decimal}
+use Rattle.picture_text.proofs.Words.{codes}
+use Rattle.std.proofs.Common.{decimal}
 use Rattle.picture_text.proofs.Joined.{three_parts}
 use Rattle.picture_text.proofs.head.put_size.Goals as goal
 

@@ -1,9 +1,6 @@
-use Rattle.std.proofs.Common.{map, get_or}
-use Rattle.ttp_base.specs.NodeSet.{below}
+use Rattle.picture_text.proofs.Words.{map, get_or, below, words, Puts}
 use Rattle.line_reader.specs.declared.trace_line.Word.TheVariants as word
 use Rattle.picture_text.specs.Picture.{word_style}
-use Rattle.picture_text.specs.Tables.{words}
-use Rattle.picture_text.specs.Sheet.{Puts}
 use Rattle.picture_text.proofs.head.put_word_styles.Given as goal
 
 -- the styles so far were put

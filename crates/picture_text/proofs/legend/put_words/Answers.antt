@@ -1,7 +1,5 @@
-use Rattle.std.proofs.Common.{ℕ, get_or}
+use Rattle.picture_text.proofs.Words.{ℕ, get_or, word_entry, words}
 use Rattle.line_reader.specs.declared.trace_line.Word.TheVariants as word
-use Rattle.picture_text.specs.Picture.{word_entry}
-use Rattle.picture_text.specs.Tables.{words}
 use Rattle.picture_text.proofs.Puts.{puts_below}
 use Rattle.picture_text.proofs.legend.put_words.Goals as goal
 

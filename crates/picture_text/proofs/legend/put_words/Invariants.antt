@@ -1,9 +1,5 @@
-use Rattle.std.proofs.Common.{get_or}
-use Rattle.ttp_base.specs.Text.{lines_below}
+use Rattle.picture_text.proofs.Words.{get_or, lines_below, word_entry, words, Puts}
 use Rattle.line_reader.specs.declared.trace_line.Word.TheVariants as word
-use Rattle.picture_text.specs.Picture.{word_entry}
-use Rattle.picture_text.specs.Tables.{words}
-use Rattle.picture_text.specs.Sheet.{Puts}
 use Rattle.picture_text.proofs.legend.put_words.Given as goal
 
 -- the entries so far were put

@@ -1,4 +1,4 @@
-use Rattle.std.proofs.Common.{length}
+use Rattle.picture_text.proofs.Words.{length}
 use Rattle.picture_text.proofs.members.+most_held.Given as goal
 
 -- the memberships that are left

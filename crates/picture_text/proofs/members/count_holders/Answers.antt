@@ -1,6 +1,4 @@
-use Rattle.std.proofs.Common.{◌∙◌, ap, sym, length, arith}
-use Rattle.shown_slot.specs.Trace.{node_at}
-use Rattle.picture_text.specs.Cells.{holds}
+use Rattle.picture_text.proofs.Words.{◌∙◌, ap, sym, length, arith, node_at, holds}
 use Rattle.picture_text.proofs.Holders.{read_node}
 use Rattle.ttp_world.proofs.ListFacts.{node-out as fails, nodes-length as count-passes}
 use Rattle.picture_text.proofs.members.count_holders.Goals as goal

@@ -1,8 +1,4 @@
-use Rattle.std.proofs.Common.{◌≡◌, ◌≤◌, length}
-use Rattle.std.specs.Prelude.{filter}
-use Rattle.ttp_base.specs.NodeSet.{below}
-use Rattle.shown_slot.specs.Trace.{node_at}
-use Rattle.picture_text.specs.Cells.{holds}
+use Rattle.picture_text.proofs.Words.{◌≡◌, ◌≤◌, length, filter, below, node_at, holds}
 use Rattle.picture_text.proofs.members.count_holders.Given as goal
 
 -- the holders so far

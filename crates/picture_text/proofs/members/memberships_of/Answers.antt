@@ -1,4 +1,4 @@
-use Rattle.std.proofs.Common.{◌∙◌, sym, ◌≤◌, ◌+◌, length, arith}
+use Rattle.picture_text.proofs.Words.{◌∙◌, sym, ◌≤◌, ◌+◌, length, arith}
 use Rattle.picture_text.proofs.Distinct.{taken-holder, taken-other, noted-few}
 use Rattle.picture_text.proofs.members.memberships_of.Goals as goal
 use Rattle.picture_text.proofs.members.memberships_of.Goals.{then-is_holder, else-is_holder}

@@ -1,5 +1,4 @@
-use Rattle.std.proofs.Common.{◌≡◌, ◌≤◌, length, take}
-use Rattle.picture_text.specs.Cells.{memberships}
+use Rattle.picture_text.proofs.Words.{◌≡◌, ◌≤◌, length, take, memberships}
 use Rattle.picture_text.proofs.members.memberships_of.Given as goal
 
 -- the memberships of the nodes so far

@@ -1,4 +1,4 @@
-use Rattle.std.proofs.Common.{length}
+use Rattle.picture_text.proofs.Words.{length}
 use Rattle.picture_text.proofs.members_cell.+put_count.Given as goal
 
 -- the nodes that are left

@@ -1,7 +1,5 @@
-use Rattle.std.proofs.Common.{◌∙◌, ap, List, ℕ, ◌+◌, ◌++◌, codes}
-use Rattle.picture_text.specs.Cells.{members_title, place, count_of}
+use Rattle.picture_text.proofs.Words.{◌∙◌, ap, List, ℕ, ◌+◌, ◌++◌, codes, members_title, place, count_of, NodeShown}
 use Rattle.picture_text.proofs.LongCell.{long_cell}
-use Rattle.whole_trace.specs.declared.shown.NodeShown.{NodeShown}
 use Rattle.picture_text.proofs.members_cell.make_agreed.Goals as goal
 
 pub returns-clause-text : goal.returns-clause-text

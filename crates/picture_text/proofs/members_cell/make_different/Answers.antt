@@ -1,5 +1,4 @@
-use Rattle.std.proofs.Common.{◌+◌, codes}
-use Rattle.picture_text.specs.Cells.{members_title, place}
+use Rattle.picture_text.proofs.Words.{◌+◌, codes, members_title, place}
 use Rattle.picture_text.proofs.Joined.{long_cell_parts}
 use Rattle.picture_text.proofs.members_cell.make_different.Goals as goal
 

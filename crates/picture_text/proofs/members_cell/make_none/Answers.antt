@@ -1,5 +1,5 @@
-use Rattle.std.proofs.Common.{◌+◌, ◌++◌, codes, decimal}
-use Rattle.picture_text.specs.Cells.{place}
+use Rattle.picture_text.proofs.Words.{◌+◌, ◌++◌, codes, place}
+use Rattle.std.proofs.Common.{decimal}
 use Rattle.picture_text.proofs.Joined.{cell_parts}
 use Rattle.picture_text.proofs.members_cell.make_none.Goals as goal
 

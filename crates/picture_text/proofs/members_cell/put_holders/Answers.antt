@@ -1,8 +1,6 @@
-use Rattle.std.proofs.Common.{◌∙◌, ap, sym, ◌≤◌, ◌++◌, List, ℕ, length, arith}
-use Rattle.std.proofs.Common.{append_assoc, length-append, decimal}
-use Rattle.std.proofs.lemmas.Fmt.{length-decimal-le}
-use Rattle.shown_slot.specs.Trace.{node_at}
-use Rattle.picture_text.specs.Cells.{holds, each_node}
+use Rattle.picture_text.proofs.Words.{◌∙◌, ap, sym, ◌≤◌, ◌++◌, List, ℕ, length, arith, append_assoc, length-append}
+use Rattle.picture_text.proofs.Words.{length-decimal-le, node_at, holds, each_node}
+use Rattle.std.proofs.Common.{decimal}
 use Rattle.picture_text.proofs.Holders.{text-passes, read_node}
 use Rattle.ttp_world.proofs.ListFacts.{node-out as fails}
 use Rattle.picture_text.proofs.members_cell.put_holders.Goals as goal

@@ -1,6 +1,4 @@
-use Rattle.std.proofs.Common.{◌≡◌, ◌≤◌, ◌+◌, ◌*◌, ◌++◌, length, take}
-use Rattle.std.specs.List.{flat_map}
-use Rattle.picture_text.specs.Cells.{membership_text}
+use Rattle.picture_text.proofs.Words.{◌≡◌, ◌≤◌, ◌+◌, ◌*◌, ◌++◌, length, take, flat_map, membership_text}
 use Rattle.picture_text.proofs.members_cell.put_memberships.Given as goal
 
 -- the memberships so far were added

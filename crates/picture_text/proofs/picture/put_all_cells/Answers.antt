@@ -1,5 +1,4 @@
-use Rattle.std.proofs.Common.{◌≡◌, ◌∙◌, ap, sym, refl, ℕ, ◌+◌, drop, arith}
-use Rattle.picture_text.specs.Picture.{cell_lines, slot_at, no_slot}
+use Rattle.picture_text.proofs.Words.{◌≡◌, ◌∙◌, ap, sym, refl, ℕ, ◌+◌, drop, arith, cell_lines, slot_at, no_slot}
 use Rattle.picture_text.proofs.Rows.{slot_more}
 use Rattle.picture_text.proofs.Sought.{at_place, next_place, not_all}
 use Rattle.picture_text.proofs.picture.put_all_cells.Goals as goal

@@ -1,7 +1,4 @@
-use Rattle.std.proofs.Common.{◌≡◌, ◌+◌, drop}
-use Rattle.std.specs.List.{flat_map, range_with_len}
-use Rattle.picture_text.specs.Picture.{cell_lines, slot_at}
-use Rattle.picture_text.specs.Sheet.{Puts}
+use Rattle.picture_text.proofs.Words.{◌≡◌, ◌+◌, drop, flat_map, range_with_len, cell_lines, slot_at, Puts}
 use Rattle.picture_text.proofs.picture.put_all_cells.Given as goal
 
 -- the slots so far are behind, and their lines were put

@@ -1,4 +1,4 @@
-use Rattle.picture_text.specs.Picture.{picture_of}
+use Rattle.picture_text.proofs.Words.{picture_of}
 use Rattle.picture_text.proofs.Ending.{from_start, end_ok, end_failed}
 use Rattle.picture_text.proofs.picture.put_picture.Goals as goal
 

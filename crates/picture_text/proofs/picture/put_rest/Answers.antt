@@ -1,7 +1,5 @@
-use Rattle.std.proofs.Common.{subst, ℕ, ◌+◌, [], ◌∷◌, ◌++◌, codes}
-use Rattle.picture_text.specs.Picture.{ended, keep_flag, back_flag, word_entries, class_entries}
-use Rattle.picture_text.specs.Sheet.{Puts}
-use Rattle.picture_text.specs.Tables.{words}
+use Rattle.picture_text.proofs.Words.{subst, ℕ, ◌+◌, [], ◌∷◌, ◌++◌, codes, ended, keep_flag, back_flag, word_entries}
+use Rattle.picture_text.proofs.Words.{class_entries, Puts, words}
 use Rattle.picture_text.proofs.Rows.{five_parts}
 use Rattle.picture_text.proofs.picture.put_rest.Goals as goal
 

@@ -1,4 +1,4 @@
-use Rattle.std.specs.Prelude.{◌==◌}
+use Rattle.picture_text.proofs.Words.{◌==◌}
 use Rattle.picture_text.proofs.NodeLine.{node_line}
 use Rattle.picture_text.proofs.titles.put_node_text.Goals as goal
 

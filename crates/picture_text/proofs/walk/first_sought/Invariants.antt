@@ -1,5 +1,4 @@
-use Rattle.std.proofs.Common.{◌≡◌, ◌+◌, length}
-use Rattle.std.specs.List.{position_or_len}
+use Rattle.picture_text.proofs.Words.{◌≡◌, ◌+◌, length, position_or_len}
 use Rattle.picture_text.specs.Window.{is_sought}
 use Rattle.picture_text.proofs.walk.first_sought.Given as goal
 

@@ -1,4 +1,4 @@
-use Rattle.std.proofs.Common.{◌∙◌, sym, refl, arith}
+use Rattle.picture_text.proofs.Words.{◌∙◌, sym, refl, arith}
 use Rattle.picture_text.proofs.Sought.{next_place, not_all}
 use Rattle.picture_text.proofs.walk.skipped.Goals as goal
 

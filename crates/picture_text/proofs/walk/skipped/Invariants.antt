@@ -1,4 +1,4 @@
-use Rattle.std.proofs.Common.{◌≡◌, drop}
+use Rattle.picture_text.proofs.Words.{◌≡◌, drop}
 use Rattle.picture_text.proofs.walk.skipped.Given as goal
 
 -- the slots so far are behind

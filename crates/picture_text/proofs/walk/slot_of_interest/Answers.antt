@@ -1,7 +1,4 @@
-use Rattle.std.proofs.Common.{◌∙◌, ap, sym, List}
-use Rattle.std.specs.Prelude.{position}
-use Rattle.whole_trace.specs.Whole.{SlotLines}
-use Rattle.picture_text.specs.Window.{is_strange}
+use Rattle.picture_text.proofs.Words.{◌∙◌, ap, sym, List, position, SlotLines, is_strange}
 use Rattle.picture_text.proofs.Sought.{interest-strange, interest-calm}
 use Rattle.picture_text.proofs.walk.slot_of_interest.Goals as goal
 

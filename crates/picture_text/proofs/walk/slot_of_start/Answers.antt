@@ -1,7 +1,4 @@
-use Rattle.std.proofs.Common.{ℕ, Option, ◌∙◌, ap, sym, List}
-use Rattle.std.specs.Prelude.{position, unwrap_or}
-use Rattle.whole_trace.specs.Whole.{SlotLines}
-use Rattle.picture_text.specs.Window.{has_start}
+use Rattle.picture_text.proofs.Words.{ℕ, Option, ◌∙◌, ap, sym, List, position, unwrap_or, SlotLines, has_start}
 use Rattle.picture_text.proofs.walk.slot_of_start.Goals as goal
 
 pub returns-in-Some : goal.returns-in-Some

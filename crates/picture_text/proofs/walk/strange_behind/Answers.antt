@@ -1,8 +1,5 @@
-use Rattle.std.proofs.Common.{◌∙◌, ◌+◌, ap, sym, Some, None, List, arith, length, length-drop, drop}
-use Rattle.std.specs.Prelude.{position}
-use Rattle.whole_trace.specs.Whole.{SlotLines}
-use Rattle.picture_text.specs.Picture.{no_slot}
-use Rattle.picture_text.specs.Window.{is_strange}
+use Rattle.picture_text.proofs.Words.{◌∙◌, ◌+◌, ap, sym, Some, None, List, arith, length, length-drop, drop, position}
+use Rattle.picture_text.proofs.Words.{SlotLines, no_slot, is_strange}
 use Rattle.picture_text.proofs.Sought.{behind, past-found, found_within}
 use Rattle.picture_text.proofs.walk.strange_behind.Goals as goal
 

@@ -1,11 +1,6 @@
+use Rattle.wave_text.proofs.Words.{cluster_letter, cluster_variables, cluster_value, changes_by, option_map, [], arith}
+use Rattle.wave_text.proofs.Words.{err_from_is_err_and, WroteLines, CutShort}
 use Rattle.wave_text.specs.declared.variable.ClusterVariable.TheVariants as of_cluster
-use Rattle.wave_text.specs.Variables.{cluster_letter, cluster_variables}
-use Rattle.wave_text.specs.Values.{cluster_value}
-use Rattle.wave_text.specs.Wave.{changes_by}
-use Rattle.std.specs.Prelude.{option_map}
-use Rattle.std.proofs.Common.{[], arith}
-use Rattle.std.proofs.lemmas.Result.{err_from_is_err_and}
-use Rattle.ttp_base.specs.Outside.{WroteLines, CutShort}
 use Rattle.wave_text.proofs.Puts.{WroteLines-at, CutShort-at}
 use Rattle.wave_text.proofs.change.put_cluster_changes.Goals as goal
 

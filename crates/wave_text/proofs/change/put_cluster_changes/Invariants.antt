@@ -1,10 +1,5 @@
-use Rattle.std.proofs.Common.{take}
-use Rattle.std.specs.List.{flat_map}
-use Rattle.std.specs.Prelude.{option_map}
-use Rattle.ttp_base.specs.Outside.{WroteLines}
-use Rattle.wave_text.specs.Values.{cluster_value}
-use Rattle.wave_text.specs.Variables.{cluster_letter, cluster_variables}
-use Rattle.wave_text.specs.Wave.{changes_by}
+use Rattle.wave_text.proofs.Words.{take, flat_map, option_map, WroteLines, cluster_value, cluster_letter}
+use Rattle.wave_text.proofs.Words.{cluster_variables, changes_by}
 use Rattle.wave_text.proofs.change.put_cluster_changes.Given as goal
 
 -- the changes so far were written

@@ -1,12 +1,6 @@
-use Rattle.std.proofs.Common.{ℕ, Some}
-use Rattle.std.proofs.lemmas.Result.{err_from_is_err_and}
-use Rattle.ttp_base.specs.Text.{Lines}
-use Rattle.whole_trace.specs.declared.shown.NodeShown.{NodeShown}
-use Rattle.wave_text.specs.declared.variable.NodeVariable.{NodeVariable}
+use Rattle.wave_text.proofs.Words.{ℕ, Some, err_from_is_err_and, Lines, NodeShown, NodeVariable, node_value, node_code}
+use Rattle.wave_text.proofs.Words.{changes_by, node_changes}
 use Rattle.wave_text.specs.declared.variable.NodeVariable.TheVariants as of_node
-use Rattle.wave_text.specs.Values.{node_value}
-use Rattle.wave_text.specs.Variables.{node_code}
-use Rattle.wave_text.specs.Wave.{changes_by, node_changes}
 use Rattle.wave_text.proofs.Counts.{counted}
 use Rattle.wave_text.proofs.Puts.{parts-ok, parts-failed, first-cut}
 use Rattle.wave_text.proofs.change.put_counts.Goals as goal

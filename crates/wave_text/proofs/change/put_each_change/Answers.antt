@@ -1,11 +1,6 @@
+use Rattle.wave_text.proofs.Words.{node_code, node_variables, node_value, changes_by, option_map, [], arith}
+use Rattle.wave_text.proofs.Words.{err_from_is_err_and, WroteLines, CutShort}
 use Rattle.wave_text.specs.declared.variable.NodeVariable.TheVariants as of_node
-use Rattle.wave_text.specs.Variables.{node_code, node_variables}
-use Rattle.wave_text.specs.Values.{node_value}
-use Rattle.wave_text.specs.Wave.{changes_by}
-use Rattle.std.specs.Prelude.{option_map}
-use Rattle.std.proofs.Common.{[], arith}
-use Rattle.std.proofs.lemmas.Result.{err_from_is_err_and}
-use Rattle.ttp_base.specs.Outside.{WroteLines, CutShort}
 use Rattle.wave_text.proofs.Puts.{WroteLines-at, CutShort-at}
 use Rattle.wave_text.proofs.change.put_each_change.Goals as goal
 

@@ -1,10 +1,5 @@
-use Rattle.std.proofs.Common.{take}
-use Rattle.std.specs.List.{flat_map}
-use Rattle.std.specs.Prelude.{option_map}
-use Rattle.ttp_base.specs.Outside.{WroteLines}
-use Rattle.wave_text.specs.Values.{node_value}
-use Rattle.wave_text.specs.Variables.{node_code, node_variables}
-use Rattle.wave_text.specs.Wave.{changes_by}
+use Rattle.wave_text.proofs.Words.{take, flat_map, option_map, WroteLines, node_value, node_code, node_variables}
+use Rattle.wave_text.proofs.Words.{changes_by}
 use Rattle.wave_text.proofs.change.put_each_change.Given as goal
 
 -- the changes so far were written

@@ -1,8 +1,6 @@
+use Rattle.wave_text.proofs.Words.{cluster_declaration, cluster_variables, List, ℕ, [], ◌∷◌, ◌∙◌, subst, arith}
+use Rattle.wave_text.proofs.Words.{err_from_is_err_and, WroteLines, CutShort}
 use Rattle.wave_text.specs.declared.variable.ClusterVariable.TheVariants as of_cluster
-use Rattle.wave_text.specs.Variables.{cluster_declaration, cluster_variables}
-use Rattle.std.proofs.Common.{List, ℕ, [], ◌∷◌, ◌∙◌, subst, arith}
-use Rattle.std.proofs.lemmas.Result.{err_from_is_err_and}
-use Rattle.ttp_base.specs.Outside.{WroteLines, CutShort}
 use Rattle.wave_text.proofs.Puts.{WroteLines-at, CutShort-at, line_each}
 use Rattle.wave_text.proofs.declare.put_cluster_declarations.Goals as goal
 

@@ -1,7 +1,6 @@
-use Rattle.ttp_base.specs.Text.{lines_below}
-use Rattle.wave_text.specs.Variables.{node_scope, upscope_line, cluster_declaration, cluster_variables, scope_line, declarations}
-use Rattle.std.proofs.Common.{[], ◌∷◌, ◌++◌, map, codes, append_assoc}
-use Rattle.std.proofs.lemmas.Result.{err_from_is_err_and}
+use Rattle.wave_text.proofs.Words.{lines_below, node_scope, upscope_line, cluster_declaration, cluster_variables}
+use Rattle.wave_text.proofs.Words.{scope_line, declarations, [], ◌∷◌, ◌++◌, map, codes, append_assoc}
+use Rattle.wave_text.proofs.Words.{err_from_is_err_and}
 use Rattle.wave_text.proofs.Puts.{parts-ok, parts-failed, first-cut}
 use Rattle.wave_text.proofs.declare.put_declarations.Goals as goal
 

@@ -1,12 +1,6 @@
+use Rattle.wave_text.proofs.Words.{Port, port_declarations, ◌==◌, if◌then◌else◌, flat_map, ◌≡◌, List, ℕ, [], ◌∙◌, ap}
+use Rattle.wave_text.proofs.Words.{subst, sym, take, arith, take_all, err_from_is_err_and, WroteLines, CutShort}
 use Rattle.shown_slot.specs.declared.host.What.TheVariants as what
-use Rattle.shown_slot.specs.declared.host.Port.{Port}
-use Rattle.wave_text.specs.Variables.{port_declarations}
-use Rattle.std.specs.Prelude.{◌==◌, if◌then◌else◌}
-use Rattle.std.specs.List.{flat_map}
-use Rattle.std.proofs.Common.{◌≡◌, List, ℕ, [], ◌∙◌, ap, subst, sym, take, arith}
-use Rattle.std.proofs.lemmas.List.{take_all}
-use Rattle.std.proofs.lemmas.Result.{err_from_is_err_and}
-use Rattle.ttp_base.specs.Outside.{WroteLines, CutShort}
 use Rattle.wave_text.proofs.Puts.{WroteLines-at, CutShort-at, flat_map-filter}
 use Rattle.wave_text.proofs.declare.put_host_declarations.Goals as goal
 

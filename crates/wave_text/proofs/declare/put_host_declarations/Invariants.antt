@@ -1,8 +1,4 @@
-use Rattle.wave_text.specs.Variables.{port_declarations}
-use Rattle.std.specs.Prelude.{◌==◌, if◌then◌else◌}
-use Rattle.std.proofs.Common.{take, []}
-use Rattle.std.specs.List.{flat_map}
-use Rattle.ttp_base.specs.Outside.{WroteLines}
+use Rattle.wave_text.proofs.Words.{port_declarations, ◌==◌, if◌then◌else◌, take, [], flat_map, WroteLines}
 use Rattle.wave_text.proofs.declare.put_host_declarations.Given as goal
 
 -- the lines so far were written

@@ -1,7 +1,5 @@
-use Rattle.std.specs.List.{flat_map}
-use Rattle.wave_text.specs.Variables.{port_declarations, ports_at, upscope_line}
-use Rattle.std.proofs.Common.{refl, [], ◌∷◌, ◌++◌}
-use Rattle.std.proofs.lemmas.Result.{err_from_is_err_and}
+use Rattle.wave_text.proofs.Words.{flat_map, port_declarations, ports_at, upscope_line, refl, [], ◌∷◌, ◌++◌}
+use Rattle.wave_text.proofs.Words.{err_from_is_err_and}
 use Rattle.wave_text.proofs.Puts.{parts-ok, parts-failed, first-cut}
 use Rattle.wave_text.proofs.declare.put_host_rest.Goals as goal
 

@@ -1,11 +1,7 @@
-use Rattle.std.proofs.Common.{◌≡◌, true, false, List, [], ◌∷◌, ◌++◌, sym, subst, codes, rules}
-use Rattle.std.specs.Prelude.{◌==◌}
-use Rattle.std.specs.List.{list_any, flat_map}
-use Rattle.std.proofs.lemmas.Result.{err_from_is_err_and}
-use Rattle.ttp_base.specs.Outside.{WroteLines}
-use Rattle.ttp_base.proofs.Outputs.{Wrote-none}
-use Rattle.shown_slot.specs.declared.host.Port.{Port}
-use Rattle.wave_text.specs.Variables.{scope_line, upscope_line, port_declarations, host_scope, ports_at}
+use Rattle.wave_text.proofs.Words.{◌≡◌, true, false, List, [], ◌∷◌, ◌++◌, sym, subst, codes, ◌==◌, list_any, flat_map}
+use Rattle.wave_text.proofs.Words.{err_from_is_err_and, WroteLines, Wrote-none, Port, scope_line, upscope_line}
+use Rattle.wave_text.proofs.Words.{port_declarations, host_scope, ports_at}
+use Rattle.std.proofs.Common.{rules}
 use Rattle.wave_text.proofs.Hosts.{no_scope, host_scope_of}
 use Rattle.wave_text.proofs.Puts.{parts-ok, parts-failed, first-cut}
 use Rattle.wave_text.proofs.declare.put_host_scope.Goals as goal

@@ -1,8 +1,6 @@
+use Rattle.wave_text.proofs.Words.{node_declaration, node_variables, List, ℕ, [], ◌∷◌, ◌∙◌, subst, arith}
+use Rattle.wave_text.proofs.Words.{err_from_is_err_and, WroteLines, CutShort}
 use Rattle.wave_text.specs.declared.variable.NodeVariable.TheVariants as of_node
-use Rattle.wave_text.specs.Variables.{node_declaration, node_variables}
-use Rattle.std.proofs.Common.{List, ℕ, [], ◌∷◌, ◌∙◌, subst, arith}
-use Rattle.std.proofs.lemmas.Result.{err_from_is_err_and}
-use Rattle.ttp_base.specs.Outside.{WroteLines, CutShort}
 use Rattle.wave_text.proofs.Puts.{WroteLines-at, CutShort-at, line_each}
 use Rattle.wave_text.proofs.declare.put_node_declarations.Goals as goal
 

@@ -1,7 +1,4 @@
-use Rattle.wave_text.specs.Variables.{node_declaration, node_variables}
-use Rattle.std.proofs.Common.{take, [], ◌∷◌}
-use Rattle.std.specs.List.{flat_map}
-use Rattle.ttp_base.specs.Outside.{WroteLines}
+use Rattle.wave_text.proofs.Words.{node_declaration, node_variables, take, [], ◌∷◌, flat_map, WroteLines}
 use Rattle.wave_text.proofs.declare.put_node_declarations.Given as goal
 
 -- the lines so far were written

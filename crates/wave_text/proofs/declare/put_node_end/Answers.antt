@@ -1,6 +1,4 @@
-use Rattle.wave_text.specs.Variables.{host_scope, ports_at, upscope_line}
-use Rattle.std.proofs.Common.{refl, [], ◌∷◌, ◌++◌}
-use Rattle.std.proofs.lemmas.Result.{err_from_is_err_and}
+use Rattle.wave_text.proofs.Words.{host_scope, ports_at, upscope_line, refl, [], ◌∷◌, ◌++◌, err_from_is_err_and}
 use Rattle.wave_text.proofs.Puts.{parts-ok, parts-failed, first-cut}
 use Rattle.wave_text.proofs.declare.put_node_end.Goals as goal
 

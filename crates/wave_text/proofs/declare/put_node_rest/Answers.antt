@@ -1,6 +1,5 @@
-use Rattle.wave_text.specs.Variables.{host_scope, ports_at, upscope_line, node_declaration, node_variables}
-use Rattle.std.proofs.Common.{refl, [], ◌∷◌, ◌++◌, map}
-use Rattle.std.proofs.lemmas.Result.{err_from_is_err_and}
+use Rattle.wave_text.proofs.Words.{host_scope, ports_at, upscope_line, node_declaration, node_variables, refl, [], ◌∷◌}
+use Rattle.wave_text.proofs.Words.{◌++◌, map, err_from_is_err_and}
 use Rattle.wave_text.proofs.Puts.{parts-ok, parts-failed, first-cut}
 use Rattle.wave_text.proofs.declare.put_node_rest.Goals as goal
 

@@ -1,7 +1,5 @@
-use Rattle.wave_text.specs.Variables.{host_scope, ports_at, upscope_line, node_declaration, node_variables, node_scope, scope_line}
-use Rattle.std.proofs.Common.{decimal}
-use Rattle.std.proofs.Common.{[], ◌∷◌, ◌++◌, map, codes, append_assoc}
-use Rattle.std.proofs.lemmas.Result.{err_from_is_err_and}
+use Rattle.wave_text.proofs.Words.{host_scope, ports_at, upscope_line, node_declaration, node_variables, node_scope}
+use Rattle.wave_text.proofs.Words.{scope_line, decimal, [], ◌∷◌, ◌++◌, map, codes, append_assoc, err_from_is_err_and}
 use Rattle.wave_text.proofs.Puts.{parts-ok, parts-failed, first-cut}
 use Rattle.wave_text.proofs.declare.put_node_scope.Goals as goal
 

@@ -1,7 +1,4 @@
-use Rattle.wave_text.specs.Variables.{node_scope}
-use Rattle.std.proofs.Common.{[], arith}
-use Rattle.std.proofs.lemmas.Result.{err_from_is_err_and}
-use Rattle.ttp_base.proofs.Outputs.{WroteLines-below, CutShort-below}
+use Rattle.wave_text.proofs.Words.{node_scope, [], arith, err_from_is_err_and, WroteLines-below, CutShort-below}
 use Rattle.wave_text.proofs.declare.put_node_scopes.Goals as goal
 
 pub returns-in_err-put_node_scope-clause-failed : goal.returns-in_err-put_node_scope-clause-failed

@@ -1,6 +1,4 @@
-use Rattle.ttp_base.specs.Outside.{WroteLines}
-use Rattle.ttp_base.specs.Text.{lines_below}
-use Rattle.wave_text.specs.Variables.{node_scope}
+use Rattle.wave_text.proofs.Words.{WroteLines, lines_below, node_scope}
 use Rattle.wave_text.proofs.declare.put_node_scopes.Given as goal
 
 -- the scopes so far were written

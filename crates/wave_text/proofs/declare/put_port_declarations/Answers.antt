@@ -1,7 +1,6 @@
-use Rattle.wave_text.specs.Variables.{port_declaration, port_declarations, data_variables}
+use Rattle.wave_text.proofs.Words.{port_declaration, port_declarations, refl, [], ◌∷◌, map, err_from_is_err_and}
+use Rattle.wave_text.specs.Variables.{data_variables}
 use Rattle.wave_text.specs.declared.variable.PortVariable.TheVariants as of_port
-use Rattle.std.proofs.Common.{refl, [], ◌∷◌, map}
-use Rattle.std.proofs.lemmas.Result.{err_from_is_err_and}
 use Rattle.wave_text.proofs.Puts.{parts-ok, parts-failed, first-cut}
 use Rattle.wave_text.proofs.declare.put_port_declarations.Goals as goal
 

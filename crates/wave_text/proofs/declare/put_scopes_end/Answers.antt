@@ -1,7 +1,4 @@
-use Rattle.ttp_base.specs.Text.{lines_below}
-use Rattle.wave_text.specs.Variables.{node_scope, upscope_line}
-use Rattle.std.proofs.Common.{refl, [], ◌∷◌, ◌++◌}
-use Rattle.std.proofs.lemmas.Result.{err_from_is_err_and}
+use Rattle.wave_text.proofs.Words.{lines_below, node_scope, upscope_line, refl, [], ◌∷◌, ◌++◌, err_from_is_err_and}
 use Rattle.wave_text.proofs.Puts.{parts-ok, parts-failed, first-cut}
 use Rattle.wave_text.proofs.declare.put_scopes_end.Goals as goal
 

@@ -1,6 +1,5 @@
-use Rattle.std.proofs.Common.{◌≡◌, ℕ, ◌+◌, ◌-◌, ◌/◌, ◌%◌, List, [], ◌∷◌, ◌++◌, ◌∙◌, ap, sym, arith, append_assoc}
-use Rattle.std.proofs.lemmas.List.{append-nil}
-use Rattle.wave_text.specs.Values.{binary}
+use Rattle.wave_text.proofs.Words.{◌≡◌, ℕ, ◌+◌, ◌-◌, ◌/◌, ◌%◌, List, [], ◌∷◌, ◌++◌, ◌∙◌, ap, sym, arith, append_assoc}
+use Rattle.wave_text.proofs.Words.{append-nil, binary}
 use Rattle.wave_text.proofs.Binary.{binary_step, no_binary}
 use Rattle.wave_text.proofs.draft.+put_binary.Goals as goal
 

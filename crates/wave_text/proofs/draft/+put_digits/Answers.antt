@@ -1,6 +1,5 @@
-use Rattle.std.proofs.Common.{◌≡◌, ℕ, ◌+◌, ◌-◌, ◌/◌, ◌%◌, List, [], ◌∷◌, ◌++◌, ◌∙◌, ap, sym, arith, append_assoc}
-use Rattle.std.proofs.lemmas.List.{append-nil}
-use Rattle.wave_text.specs.Values.{binary_number}
+use Rattle.wave_text.proofs.Words.{◌≡◌, ℕ, ◌+◌, ◌-◌, ◌/◌, ◌%◌, List, [], ◌∷◌, ◌++◌, ◌∙◌, ap, sym, arith, append_assoc}
+use Rattle.wave_text.proofs.Words.{append-nil, binary_number}
 use Rattle.wave_text.proofs.Binary.{number_step, number_digit, no_number}
 use Rattle.wave_text.proofs.draft.+put_digits.Goals as goal
 

@@ -1,5 +1,4 @@
-use Rattle.std.proofs.Common.{ap, sym}
-use Rattle.wave_text.specs.Values.{binary_number, number_text}
+use Rattle.wave_text.proofs.Words.{ap, sym, binary_number, number_text}
 use Rattle.wave_text.proofs.draft.small_number_text.Goals as goal
 
 pub returns-in-0-clause-text : goal.returns-in-0-clause-text

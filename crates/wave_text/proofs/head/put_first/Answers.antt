@@ -1,8 +1,5 @@
-use Rattle.std.proofs.Common.{◌≡◌, ℕ, List, [], ◌∷◌, ap, subst, ◌∙◌}
-use Rattle.std.specs.Prelude.{OnOk}
-use Rattle.ttp_base.specs.Outside.{WroteLines}
-use Rattle.shown_slot.specs.Trace.{first_text, head_text}
-use Rattle.wave_text.specs.Wave.{comment_line}
+use Rattle.wave_text.proofs.Words.{◌≡◌, ℕ, List, [], ◌∷◌, ap, subst, ◌∙◌, OnOk, WroteLines, first_text, head_text}
+use Rattle.wave_text.proofs.Words.{comment_line}
 use Rattle.wave_text.proofs.head.put_first.Goals as goal
 
 pub returns-clause-ok : goal.returns-clause-ok

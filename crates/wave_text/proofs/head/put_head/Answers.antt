@@ -1,9 +1,7 @@
-use Rattle.std.proofs.Common.{refl, [], ◌∷◌, ◌++◌, codes}
-use Rattle.std.proofs.lemmas.Result.{err_from_is_err_and, on_ok_weaker, on_err_weaker}
-use Rattle.ttp_base.specs.Text.{newline}
+use Rattle.wave_text.proofs.Words.{refl, [], ◌∷◌, ◌++◌, codes, err_from_is_err_and, on_ok_weaker, on_err_weaker}
+use Rattle.wave_text.proofs.Words.{newline, first_text, keeps_text, returns_text, comment_line, comment_lines}
+use Rattle.wave_text.proofs.Words.{head_lines}
 use Rattle.wave_text.proofs.Going.{all-cut, all-gone, begun, cut-going, gone-on}
-use Rattle.shown_slot.specs.Trace.{first_text, keeps_text, returns_text}
-use Rattle.wave_text.specs.Wave.{comment_line, comment_lines, head_lines}
 use Rattle.wave_text.proofs.head.put_head.Goals as goal
 
 pub returns-in_err-write-clause-failed : goal.returns-in_err-write-clause-failed

@@ -1,5 +1,4 @@
-use Rattle.std.proofs.Common.{ℕ, None, set, ◌+◌, subst, sym, arith}
-use Rattle.shown_slot.specs.declared.host.Port.{Port}
+use Rattle.wave_text.proofs.Words.{ℕ, None, set, ◌+◌, subst, sym, arith, Port}
 use Rattle.shown_slot.specs.declared.host.What.TheVariants as what
 use Rattle.wave_text.proofs.Noting.{AreCleared, cleared-more}
 use Rattle.wave_text.proofs.newest.clear.Goals as goal

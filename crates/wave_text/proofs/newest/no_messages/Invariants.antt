@@ -1,4 +1,4 @@
-use Rattle.std.proofs.Common.{◌≡◌, length}
+use Rattle.wave_text.proofs.Words.{◌≡◌, length}
 use Rattle.wave_text.proofs.newest.no_messages.Given as goal
 
 abbrev pub invariant-loop : goal.invariant-loop

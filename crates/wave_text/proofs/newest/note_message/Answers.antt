@@ -1,8 +1,5 @@
-use Rattle.std.proofs.Common.{◌≡◌, ℕ, [], ◌∷◌, ◌++◌, Option, ap, sym, subst, refl, set, ◌∙◌}
-use Rattle.shown_slot.specs.declared.host.Message.{Message}
-use Rattle.shown_slot.specs.declared.host.What.{What}
-use Rattle.shown_slot.specs.Ports.{message_of}
-use Rattle.wave_text.specs.Places.{HasNewest, HasPlace, host_in, table_place, what_in}
+use Rattle.wave_text.proofs.Words.{◌≡◌, ℕ, [], ◌∷◌, ◌++◌, Option, ap, sym, subst, refl, set, ◌∙◌, Message, What}
+use Rattle.wave_text.proofs.Words.{message_of, HasNewest, HasPlace, host_in, table_place, what_in}
 use Rattle.wave_text.proofs.Tables.{newest-placed, newest-unplaced}
 use Rattle.wave_text.proofs.newest.note_message.Goals as goal
 

@@ -1,4 +1,4 @@
-use Rattle.std.proofs.Common.{length}
+use Rattle.wave_text.proofs.Words.{length}
 use Rattle.wave_text.proofs.Noting.{AreNoted}
 use Rattle.wave_text.proofs.newest.note_slot.Given as goal
 

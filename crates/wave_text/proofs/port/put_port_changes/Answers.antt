@@ -1,10 +1,7 @@
-use Rattle.wave_text.specs.Wave.{changes_by, data_changes, port_changes}
-use Rattle.wave_text.specs.Values.{port_value}
-use Rattle.wave_text.specs.Variables.{port_code}
+use Rattle.wave_text.proofs.Words.{changes_by, port_changes, port_value, port_code, option_map, refl, []}
+use Rattle.wave_text.proofs.Words.{err_from_is_err_and}
+use Rattle.wave_text.specs.Wave.{data_changes}
 use Rattle.wave_text.specs.declared.variable.PortVariable.TheVariants as of_port
-use Rattle.std.specs.Prelude.{option_map}
-use Rattle.std.proofs.Common.{refl, []}
-use Rattle.std.proofs.lemmas.Result.{err_from_is_err_and}
 use Rattle.wave_text.proofs.Puts.{parts-ok, parts-failed, first-cut}
 use Rattle.wave_text.proofs.port.put_port_changes.Goals as goal
 

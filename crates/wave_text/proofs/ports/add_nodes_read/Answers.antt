@@ -1,8 +1,4 @@
-use Rattle.std.proofs.Common.{List, ◌++◌, append_assoc, ap, sym, map, ◌∙◌}
-use Rattle.ttp_base.specs.NodeSet.{below}
-use Rattle.shown_slot.specs.declared.host.Port.{Port}
-use Rattle.shown_slot.specs.Ports.{port_if}
-use Rattle.wave_text.specs.Places.{ports_in, size_at}
+use Rattle.wave_text.proofs.Words.{List, ◌++◌, append_assoc, ap, sym, map, ◌∙◌, below, Port, port_if, ports_in, size_at}
 use Rattle.wave_text.proofs.PortLists.{next_node_read, node_read}
 use Rattle.wave_text.proofs.ports.add_nodes_read.Goals as goal
 

@@ -1,8 +1,6 @@
-use Rattle.std.proofs.Common.{◌≡◌, ◌++◌, map}
-use Rattle.ttp_base.specs.NodeSet.{below}
+use Rattle.wave_text.proofs.Words.{◌≡◌, ◌++◌, map, below, ports_in}
 use Rattle.ttp_world.specs.declared.script.Source.TheVariants as source
 use Rattle.shown_slot.specs.declared.host.What.TheVariants as what
-use Rattle.wave_text.specs.Places.{ports_in}
 use Rattle.wave_text.proofs.ports.add_nodes_read.Given as goal
 
 -- the ports of the nodes so far were added

@@ -1,10 +1,4 @@
-use Rattle.std.proofs.Common.{List, ap, sym, subst, ◌∙◌}
-use Rattle.std.specs.Prelude.{All}
-use Rattle.std.specs.List.{flat_map}
-use Rattle.whole_trace.specs.declared.shown.Head.{Head}
-use Rattle.shown_slot.specs.declared.host.Port.{Port}
-use Rattle.shown_slot.specs.Ports.{ports_of}
-use Rattle.wave_text.specs.Variables.{HasLetters}
+use Rattle.wave_text.proofs.Words.{List, ap, sym, subst, ◌∙◌, All, flat_map, Head, Port, ports_of, HasLetters}
 use Rattle.wave_text.proofs.PortLists.{have_letters, noted_ports}
 use Rattle.wave_text.proofs.ports.find_ports.Goals as goal
 

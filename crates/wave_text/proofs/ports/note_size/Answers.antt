@@ -1,10 +1,6 @@
-use Rattle.std.proofs.Common.{◌≡◌, ◌<◌, ℕ, [], ◌∷◌, ◌++◌, Option, Some, None, length, get_or, ap, sym, subst, refl, set}
-use Rattle.std.proofs.Common.{◌∙◌, arith}
-use Rattle.std.specs.Prelude.{slice_get}
-use Rattle.std.proofs.lemmas.Option.{slice_get-get_or}
-use Rattle.shown_slot.specs.declared.host.What.{What}
-use Rattle.shown_slot.specs.Ports.{larger}
-use Rattle.wave_text.specs.Places.{HasMost, HasPlace, host_in, message_said, table_place, what_in}
+use Rattle.wave_text.proofs.Words.{◌≡◌, ◌<◌, ℕ, [], ◌∷◌, ◌++◌, Option, Some, None, length, get_or, ap, sym, subst, refl}
+use Rattle.wave_text.proofs.Words.{set, ◌∙◌, arith, slice_get, slice_get-get_or, What, larger, HasMost, HasPlace}
+use Rattle.wave_text.proofs.Words.{host_in, message_said, table_place, what_in}
 use Rattle.wave_text.proofs.Tables.{most-placed, most-unplaced, place-lt}
 use Rattle.wave_text.proofs.ports.note_size.Goals as goal
 

@@ -1,4 +1,4 @@
-use Rattle.std.proofs.Common.{length}
+use Rattle.wave_text.proofs.Words.{length}
 use Rattle.wave_text.proofs.Noting.{AreTaken}
 use Rattle.wave_text.proofs.ports.note_sizes.Given as goal
 

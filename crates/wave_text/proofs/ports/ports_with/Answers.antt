@@ -1,8 +1,4 @@
-use Rattle.std.proofs.Common.{ℕ, List, ◌++◌, ap, sym, ◌∙◌}
-use Rattle.ttp_base.proofs.Below.{flat_map-next}
-use Rattle.shown_slot.specs.declared.host.Port.{Port}
-use Rattle.shown_slot.specs.Ports.{all_whats}
-use Rattle.wave_text.specs.Places.{ports_in}
+use Rattle.wave_text.proofs.Words.{ℕ, List, ◌++◌, ap, sym, ◌∙◌, flat_map-next, Port, all_whats, ports_in}
 use Rattle.wave_text.proofs.ports.ports_with.Goals as goal
 
 pub loop-host-preserved : goal.loop-host-preserved

@@ -1,7 +1,5 @@
-use Rattle.std.proofs.Common.{◌≡◌, ℕ, List, [], ◌++◌, Option, None, length, replicate, ap, sym, subst, ◌∙◌, arith}
-use Rattle.std.proofs.lemmas.List.{length-replicate}
-use Rattle.whole_trace.specs.declared.shown.HostLine.{HostLine}
-use Rattle.wave_text.specs.Places.{HasMost}
+use Rattle.wave_text.proofs.Words.{◌≡◌, ℕ, List, [], ◌++◌, Option, None, length, replicate, ap, sym, subst, ◌∙◌, arith}
+use Rattle.wave_text.proofs.Words.{length-replicate, HostLine, HasMost}
 use Rattle.wave_text.proofs.Noting.{AreSlotsTaken, slots-taken-more}
 use Rattle.wave_text.proofs.PortLists.{none_noted}
 use Rattle.wave_text.proofs.ports.sizes_in.Goals as goal

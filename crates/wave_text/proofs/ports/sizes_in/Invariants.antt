@@ -1,4 +1,4 @@
-use Rattle.std.proofs.Common.{length}
+use Rattle.wave_text.proofs.Words.{length}
 use Rattle.wave_text.proofs.Noting.{AreSlotsTaken}
 use Rattle.wave_text.proofs.ports.sizes_in.Given as goal
 

@@ -1,13 +1,7 @@
-use Rattle.std.proofs.Common.{◌≡◌, List, ℕ, [], ◌∙◌, ap, subst, sym, take, arith}
-use Rattle.std.specs.Prelude.{◌==◌, option_map, if◌then◌else◌}
-use Rattle.std.specs.List.{flat_map}
-use Rattle.std.proofs.lemmas.List.{take_all}
-use Rattle.std.proofs.lemmas.Result.{err_from_is_err_and}
-use Rattle.ttp_base.specs.Outside.{WroteLines, CutShort}
-use Rattle.shown_slot.specs.declared.host.Port.{Port}
+use Rattle.wave_text.proofs.Words.{◌≡◌, List, ℕ, [], ◌∙◌, ap, subst, sym, take, arith, ◌==◌, option_map, if◌then◌else◌}
+use Rattle.wave_text.proofs.Words.{flat_map, take_all, err_from_is_err_and, WroteLines, CutShort, Port, slot_before}
+use Rattle.wave_text.proofs.Words.{message_at, port_changes}
 use Rattle.shown_slot.specs.declared.host.What.TheVariants as what
-use Rattle.wave_text.specs.Moment.{slot_before}
-use Rattle.wave_text.specs.Wave.{message_at, port_changes}
 use Rattle.wave_text.proofs.Puts.{WroteLines-at, CutShort-at, flat_map-filter}
 use Rattle.wave_text.proofs.slot.put_host_changes.Goals as goal
 

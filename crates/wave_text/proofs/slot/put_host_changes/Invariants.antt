@@ -1,9 +1,5 @@
-use Rattle.std.proofs.Common.{take, []}
-use Rattle.std.specs.List.{flat_map}
-use Rattle.std.specs.Prelude.{◌==◌, option_map, if◌then◌else◌}
-use Rattle.ttp_base.specs.Outside.{WroteLines}
-use Rattle.wave_text.specs.Moment.{slot_before}
-use Rattle.wave_text.specs.Wave.{message_at, port_changes}
+use Rattle.wave_text.proofs.Words.{take, [], flat_map, ◌==◌, option_map, if◌then◌else◌, WroteLines, slot_before}
+use Rattle.wave_text.proofs.Words.{message_at, port_changes}
 use Rattle.wave_text.proofs.slot.put_host_changes.Given as goal
 
 -- the changes so far were written

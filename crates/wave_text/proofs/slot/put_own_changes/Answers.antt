@@ -1,12 +1,6 @@
-use Rattle.std.proofs.Common.{Option, None, subst, sym}
-use Rattle.std.specs.Prelude.{OnErr, option_map}
+use Rattle.wave_text.proofs.Words.{Option, None, subst, sym, OnErr, option_map, CutShort, NodeShown, node_at, Moment}
+use Rattle.wave_text.proofs.Words.{slot_before, node_changes}
 use Rattle.std.specs.Borrow.{Bor}
-use Rattle.ttp_base.specs.Outside.{CutShort}
-use Rattle.whole_trace.specs.declared.shown.NodeShown.{NodeShown}
-use Rattle.shown_slot.specs.Trace.{node_at}
-use Rattle.wave_text.specs.declared.slot.Moment.{Moment}
-use Rattle.wave_text.specs.Moment.{slot_before}
-use Rattle.wave_text.specs.Wave.{node_changes}
 use Rattle.wave_text.proofs.slot.put_own_changes.Goals as goal
 
 pub returns-in-None-clause-failed : goal.returns-in-None-clause-failed

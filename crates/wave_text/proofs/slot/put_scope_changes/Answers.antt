@@ -1,12 +1,5 @@
-use Rattle.std.specs.Prelude.{option_map}
-use Rattle.std.specs.List.{flat_map}
-use Rattle.std.proofs.Common.{refl}
-use Rattle.std.proofs.lemmas.Result.{err_from_is_err_and}
-use Rattle.shown_slot.specs.declared.host.Port.{Port}
-use Rattle.shown_slot.specs.Trace.{node_at}
-use Rattle.wave_text.specs.Moment.{slot_before}
-use Rattle.wave_text.specs.Variables.{ports_at}
-use Rattle.wave_text.specs.Wave.{message_at, node_changes, port_changes, scope_changes}
+use Rattle.wave_text.proofs.Words.{option_map, flat_map, refl, err_from_is_err_and, Port, node_at, slot_before}
+use Rattle.wave_text.proofs.Words.{ports_at, message_at, node_changes, port_changes, scope_changes}
 use Rattle.wave_text.proofs.Puts.{parts-ok, parts-failed, first-cut}
 use Rattle.wave_text.proofs.slot.put_scope_changes.Goals as goal
 

@@ -1,8 +1,5 @@
-use Rattle.wave_text.specs.Moment.{slot_before}
-use Rattle.wave_text.specs.Wave.{scope_changes}
-use Rattle.std.proofs.Common.{[], arith}
-use Rattle.std.proofs.lemmas.Result.{err_from_is_err_and}
-use Rattle.ttp_base.proofs.Outputs.{WroteLines-below, CutShort-below}
+use Rattle.wave_text.proofs.Words.{slot_before, scope_changes, [], arith, err_from_is_err_and, WroteLines-below}
+use Rattle.wave_text.proofs.Words.{CutShort-below}
 use Rattle.wave_text.proofs.slot.put_scopes.Goals as goal
 
 pub returns-in_err-put_scope_changes-clause-failed : goal.returns-in_err-put_scope_changes-clause-failed

@@ -1,7 +1,4 @@
-use Rattle.ttp_base.specs.Outside.{WroteLines}
-use Rattle.ttp_base.specs.Text.{lines_below}
-use Rattle.wave_text.specs.Moment.{slot_before}
-use Rattle.wave_text.specs.Wave.{scope_changes}
+use Rattle.wave_text.proofs.Words.{WroteLines, lines_below, slot_before, scope_changes}
 use Rattle.wave_text.proofs.slot.put_scopes.Given as goal
 
 -- the changes so far were written

@@ -1,9 +1,5 @@
-use Rattle.std.specs.Prelude.{option_map}
-use Rattle.std.proofs.Common.{refl}
-use Rattle.std.proofs.lemmas.Result.{err_from_is_err_and}
-use Rattle.ttp_base.specs.Text.{lines_below}
-use Rattle.wave_text.specs.Moment.{slot_before}
-use Rattle.wave_text.specs.Wave.{cluster_changes, scope_changes, slot_changes}
+use Rattle.wave_text.proofs.Words.{option_map, refl, err_from_is_err_and, lines_below, slot_before, cluster_changes}
+use Rattle.wave_text.proofs.Words.{scope_changes, slot_changes}
 use Rattle.wave_text.proofs.Puts.{parts-ok, parts-failed, first-cut}
 use Rattle.wave_text.proofs.slot.put_slot_changes.Goals as goal
 

@@ -1,6 +1,4 @@
-use Rattle.std.proofs.Common.{◌≡◌, ◌+◌, ◌*◌, ◌++◌, take, length, codes}
-use Rattle.std.specs.List.{flat_map}
-use Rattle.wave_text.specs.Values.{binary}
+use Rattle.wave_text.proofs.Words.{◌≡◌, ◌+◌, ◌*◌, ◌++◌, take, length, codes, flat_map, binary}
 use Rattle.wave_text.proofs.value.put_bytes.Given as goal
 
 -- the bytes so far were added

@@ -1,7 +1,5 @@
-use Rattle.std.proofs.Common.{refl, [], ◌++◌}
-use Rattle.std.proofs.lemmas.Result.{err_from_is_err_and, on_ok_weaker, on_err_weaker}
+use Rattle.wave_text.proofs.Words.{refl, [], ◌++◌, err_from_is_err_and, on_ok_weaker, on_err_weaker, wave_lines}
 use Rattle.wave_text.proofs.Going.{all-cut, all-gone, begun, cut-going, gone-on}
-use Rattle.wave_text.specs.Wave.{wave_lines}
 use Rattle.wave_text.proofs.WaveParts.{end_part, head_part, slots_part, variables_part, wave_parts}
 use Rattle.wave_text.proofs.wave.put_all.Goals as goal
 

@@ -1,9 +1,6 @@
-use Rattle.std.proofs.Common.{refl, [], ◌∷◌, ◌++◌, codes}
-use Rattle.std.proofs.lemmas.Result.{err_from_is_err_and, on_ok_weaker, on_err_weaker}
-use Rattle.ttp_base.specs.Text.{newline}
+use Rattle.wave_text.proofs.Words.{refl, [], ◌∷◌, ◌++◌, codes, err_from_is_err_and, on_ok_weaker, on_err_weaker}
+use Rattle.wave_text.proofs.Words.{newline, None, first_slot_lines, slot_changes, time_line}
 use Rattle.wave_text.proofs.Going.{all-cut, all-gone, begun, cut-going, gone-on}
-use Rattle.std.specs.Prelude.{None}
-use Rattle.wave_text.specs.Wave.{first_slot_lines, slot_changes, time_line}
 use Rattle.wave_text.proofs.wave.put_first_slot.Goals as goal
 
 pub returns-in_err-put_time-clause-failed : goal.returns-in_err-put_time-clause-failed

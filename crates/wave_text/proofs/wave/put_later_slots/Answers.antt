@@ -1,7 +1,5 @@
-use Rattle.std.proofs.Common.{◌≡◌, ◌+◌, [], ◌∷◌, ◌++◌, length, refl, sym, ap, ◌∙◌, arith}
-use Rattle.std.proofs.lemmas.Result.{err_from_is_err_and, on_ok_weaker, on_err_weaker}
-use Rattle.whole_trace.specs.Whole.{SlotLines}
-use Rattle.wave_text.specs.Wave.{later_lines, slot_lines}
+use Rattle.wave_text.proofs.Words.{◌≡◌, ◌+◌, [], ◌∷◌, ◌++◌, length, refl, sym, ap, ◌∙◌, arith, err_from_is_err_and}
+use Rattle.wave_text.proofs.Words.{on_ok_weaker, on_err_weaker, SlotLines, later_lines, slot_lines}
 use Rattle.wave_text.proofs.Going.{all-cut, all-gone, begun, cut-going, gone-on}
 use Rattle.wave_text.proofs.wave.put_later_slots.Goals as goal
 

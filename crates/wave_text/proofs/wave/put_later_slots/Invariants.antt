@@ -1,4 +1,4 @@
-use Rattle.std.proofs.Common.{length}
+use Rattle.wave_text.proofs.Words.{length}
 use Rattle.wave_text.proofs.LaterSlots.{IsBefore}
 use Rattle.wave_text.proofs.wave.put_later_slots.Given as goal
 

@@ -1,8 +1,6 @@
-use Rattle.std.proofs.Common.{refl, [], ◌∷◌, ◌++◌}
-use Rattle.std.proofs.lemmas.Result.{err_from_is_err_and, on_ok_weaker, on_err_weaker}
+use Rattle.wave_text.proofs.Words.{refl, [], ◌∷◌, ◌++◌, err_from_is_err_and, on_ok_weaker, on_err_weaker, Some}
+use Rattle.wave_text.proofs.Words.{slot_changes, slot_lines, time_line}
 use Rattle.wave_text.proofs.Going.{all-cut, all-gone, begun, cut-going, gone-on}
-use Rattle.std.specs.Prelude.{Some}
-use Rattle.wave_text.specs.Wave.{slot_changes, slot_lines, time_line}
 use Rattle.wave_text.proofs.wave.put_slot.Goals as goal
 
 pub returns-in_err-put_time-clause-failed : goal.returns-in_err-put_time-clause-failed

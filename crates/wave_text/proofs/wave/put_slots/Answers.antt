@@ -1,7 +1,5 @@
-use Rattle.std.proofs.Common.{◌≡◌, ◌++◌, sym, ap, ◌∙◌}
-use Rattle.std.proofs.lemmas.Result.{err_from_is_err_and}
-use Rattle.whole_trace.specs.Whole.{SlotLines}
-use Rattle.wave_text.specs.Wave.{all_slots_lines, first_slot_lines, later_lines}
+use Rattle.wave_text.proofs.Words.{◌≡◌, ◌++◌, sym, ap, ◌∙◌, err_from_is_err_and, SlotLines, all_slots_lines}
+use Rattle.wave_text.proofs.Words.{first_slot_lines, later_lines}
 use Rattle.wave_text.proofs.Puts.{parts-ok, parts-failed, first-cut}
 use Rattle.wave_text.proofs.wave.put_slots.Goals as goal
 

@@ -1,4 +1,4 @@
-use Rattle.std.proofs.Common.{◌∙◌, ap, not}
+use Rattle.chart_text.proofs.Words.{◌∙◌, ap, not}
 use Rattle.chart_text.proofs.Taken.{ahead-none, ahead-passed}
 use Rattle.chart_text.proofs.ahead.Ahead.pass.Goals as goal
 

@@ -1,5 +1,4 @@
-use Rattle.std.proofs.Common.{refl, arith}
-use Rattle.chart_text.specs.Key.{counter_of}
+use Rattle.chart_text.proofs.Words.{refl, arith, counter_of}
 use Rattle.chart_text.proofs.Counting.{counted-start}
 use Rattle.chart_text.proofs.survey.Survey.new.Goals as goal
 
