@@ -9,3 +9,4 @@ pub mod RunsRead
 pub mod GoingOn
 pub mod Groups
 pub mod Pieces
+pub mod Words

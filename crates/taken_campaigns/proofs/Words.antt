@@ -42,15 +42,17 @@ pub use Rattle.ttp_world.specs.declared.script.Script.{Script}
 pub use Rattle.whole_campaign.specs.Due.{is_between_groups, no_runs, piece_begun, spot_of}
 unfoldable pub use Rattle.whole_campaign.specs.Due.{fault_told}
 pub use Rattle.whole_campaign.specs.Due.{with_fault_counted}
-pub use Rattle.whole_campaign.specs.Faults.{fault_line_in, fault_words_in, is_last_place, is_spot_due}
-unfoldable pub use Rattle.whole_campaign.specs.Faults.{doing_in}
+pub use Rattle.whole_campaign.specs.Faults.{is_last_place, is_spot_due}
+unfoldable pub use Rattle.whole_campaign.specs.Faults.{fault_line_in, fault_words_in, doing_in}
 pub use Rattle.whole_campaign.specs.Faults.{lies_in, place_behind, stands_behind}
-pub use Rattle.whole_campaign.specs.Own.{Common, own_in}
-pub use Rattle.whole_campaign.specs.Runs.{RunWords, cost_in, is_same_test, run_words_in}
-unfoldable pub use Rattle.whole_campaign.specs.Runs.{campaign_head_in, head_of_line}
+pub use Rattle.whole_campaign.specs.Own.{Common}
+unfoldable pub use Rattle.whole_campaign.specs.Own.{own_in}
+pub use Rattle.whole_campaign.specs.Runs.{RunWords, is_same_test}
+unfoldable pub use Rattle.whole_campaign.specs.Runs.{cost_in, run_words_in, campaign_head_in, head_of_line}
 pub use Rattle.whole_campaign.specs.Whole.{FaultTold, one_further}
-pub use Rattle.whole_campaign.specs.Words.{is_dash, members_listed, node_digits, nodes_listed, sets_listed}
-pub use Rattle.whole_campaign.specs.Words.{without_feed, word_behind}
+pub use Rattle.whole_campaign.specs.Words.{is_dash, node_digits}
+unfoldable pub use Rattle.whole_campaign.specs.Words.{members_listed, nodes_listed, sets_listed}
+unfoldable pub use Rattle.whole_campaign.specs.Words.{without_feed, word_behind}
 pub use Rattle.whole_campaign.specs.declared.due.Due.{Due}
 pub use Rattle.whole_campaign.specs.declared.head.CampaignHead.{CampaignHead}
 pub use Rattle.whole_campaign.specs.declared.listed.Kind.{Kind}
