@@ -13,7 +13,27 @@ use host_port::HostEnd;
 use ttp_base::{Gate, Memory};
 use ttp_world::{Chosen, Medl, PAYLOAD_LIMIT};
 
-// A node's controller fetches, if its frame carries a message, and chooses what it got.
+// A node's controller fetches, and chooses what it got. It stands apart, since room for a fetcher is made in it.
+#[inline(never)]
+fn fetch_loaded<G: Gate>(
+    end: &mut HostEnd,
+    loaded: bool,
+    len: u8,
+    chosen: &mut Chosen,
+    gate: &G,
+) -> Result<(), Memory>
+    requires ring { loaded ≡ true → IsSome end.old }
+    requires limit { len ≤ PAYLOAD_LIMIT }
+    requires may { MaySettleAfter len loaded end.old }
+    ensures fetches { OnOk result (FetchesOne len loaded end.old end.old end.new chosen.old chosen.new) }
+{
+    let mut fetcher = lend_one(end, loaded)?;
+    fetch_one(&mut fetcher, gate);
+    settle_one(end, fetcher, len, chosen);
+    Ok(())
+}
+
+// The same, if its frame carries a message.
 fn fetch_for<G: Gate>(
     end: &mut HostEnd,
     loaded: bool,
@@ -29,10 +49,7 @@ fn fetch_for<G: Gate>(
     if !loaded {
         return Ok(());
     }
-    let mut fetcher = lend_one(end, loaded)?;
-    fetch_one(&mut fetcher, gate);
-    settle_one(end, fetcher, len, chosen);
-    Ok(())
+    fetch_loaded(end, loaded, len, chosen, gate)
 }
 
 /// Each controller whose node's frame carries a message fetches it, one after another.

@@ -1,6 +1,6 @@
 use Rattle.cluster_run.proofs.Words.{sym, ◌∙◌, settled}
 use Rattle.cluster_run.proofs.Sends.{lent_may}
-use Rattle.cluster_run.proofs.fetching.fetch_for.Goals as goal
+use Rattle.cluster_run.proofs.fetching.fetch_loaded.Goals as goal
 
 pub fetch_one-requires-clause-fetcher : goal.fetch_one-requires-clause-fetcher
 fetch_one-requires-clause-fetcher g c κs within = λ f is.
