@@ -19,7 +19,7 @@ use Rattle.cluster_run.proofs.Words.{fill_by_all, all-below, entry_of, are_legal
 use Rattle.cluster_run.proofs.Words.{is_legal_slot, message_of, message_of-row_in, length-row_in, row_of_world}
 use Rattle.cluster_run.proofs.Words.{row_of_world-told, number_sent, newest_number, get_or-map}
 use Rattle.nbw_ring.specs.Numbers.{newest_number as newest_in, IsMessageOf}
-use Rattle.controller.specs.Passes.{IsLeft}
+use Rattle.controller.specs.Passes.{IsOutcomeOf}
 use Rattle.controller.proofs.Plants.{left_at}
 use Rattle.ttp_world.proofs.LegalRuns.{are_same_numbers-refl as same_numbers}
 use Rattle.ttp_world.proofs.LineLists.{map_of_map}
@@ -183,7 +183,7 @@ module _ (so : TakenSlot) where
   abbrev outcome : ℕ → Outcome
   outcome = outcome_of (outcomes_of so.new.seats.items)
 
-  left_here : (k : ℕ) → k < length list.slots → IsLeft list script before so.mid.chosen.items k (outcome k)
+  left_here : (k : ℕ) → k < length list.slots → IsOutcomeOf list script before so.mid.chosen.items k (outcome k)
   left_here k node = left_at ended.left k (omega (arith, node, so.ends.are.seats_count))
 
   handed_of : (k : ℕ) → k < length list.slots → IsHandedOf list script row before k (outcome k)

@@ -3,7 +3,7 @@ pub use Rattle.host_port.proofs.ReaderLists.{read_alike, within_list, written_ri
 pub use Rattle.ttp_world.proofs.WorldFacts.{payload_few, plan-short as plan_few}
 pub use Rattle.ttp_world.specs.Messages.{newest_number, delivered_of, in_messages, message_of, new_messages}
 pub use Rattle.ttp_world.specs.Messages.{ring_messages, status_words}
-pub use Rattle.host_port.specs.Reading.{IsLeft, AreReadersOfEnd, Attempts, IsSettled, ReadersState, Reads, all_settled}
+pub use Rattle.host_port.specs.Reading.{IsLeft, AreReadersOfEnd, Attempts, IsReaderSettled, ReadersState, Reads, all_settled}
 pub use Rattle.host_port.specs.Reading.{buffers_of, got_of, got_one, is_intact, is_line_from, is_read_at, lent}
 pub use Rattle.host_port.specs.Reading.{pairs_from, reads_from, rings_read, settled}
 pub use Rattle.std.proofs.Math.ListN.{get_or-map}
@@ -47,12 +47,12 @@ pub use Rattle.controller.specs.Passes.{AreChosen, HaveBegun, HaveEnded, StandAf
 pub use Rattle.controller.specs.PlantStands.{no_outcome, outcomes_of}
 pub use Rattle.controller.specs.PlantWithin.{AreIncidents, AreSeats, IsControllerOf, IsEnded, IsFromWithin, most_ahead}
 pub use Rattle.controller.specs.PlantWithin.{most_ahead_in}
-pub use Rattle.controller.specs.StandsFor.{ShowsState, Stands, StandsFor}
+pub use Rattle.controller.specs.StandsFor.{ShowsState, Stands, ControllerStandsFor}
 pub use Rattle.controller.specs.declared.controller.Outcome.{Outcome}
 pub use Rattle.controller.specs.declared.seat.Seat.{Seat}
 pub use Rattle.host_port.specs.Fetching.{HasSeen, IsWhole}
 pub use Rattle.host_port.specs.Rings.{ControllerState, HostState, IsNew, at_source, incoming_shape, message_shape}
-pub use Rattle.host_port.specs.Rings.{place_of, shape_of}
+pub use Rattle.host_port.specs.Rings.{source_place, shape_of}
 pub use Rattle.host_port.specs.Writing.{HasRoom, IsNewest, Takes, written, written_at}
 pub use Rattle.host_port.specs.declared.report.NodeLine.{NodeLine}
 pub use Rattle.host_port.specs.declared.report.ReadLine.{ReadLine}

@@ -17,7 +17,7 @@ use Rattle.controller.specs.Passes.{HaveBegun}
 use Rattle.controller.specs.declared.seat.Seat.{Seat}
 use Rattle.host_port.specs.declared.report.WriteLine.{WriteLine}
 use Rattle.host_port.specs.Rings.{HostState}
-use Rattle.host_port.specs.Reading.{lent, Attempts, IsSettled, settled}
+use Rattle.host_port.specs.Reading.{lent, Attempts, IsReaderSettled, settled}
 use Rattle.line_text.specs.HostLines.{AreBytes, bytes_in}
 use Rattle.ttp_world.specs.declared.node.Chosen.{Chosen}
 use Rattle.host_port.specs.Writing.{Takes}
@@ -127,7 +127,7 @@ choice_of (Some fetcher) len before = choice_by len (slice_get fetcher.got 0) be
 -- what a fetcher got is the end's messages, it is settled there, and its message is chosen
 pub record SettlesFetch (len : ℕ) (fetcher : Option ReaderState) (old new : HostState) (before after : Chosen) : Type 0
   where
-    pub whole : IsSettled old fetcher
+    pub whole : IsReaderSettled old fetcher
     pub settled_is : new ≡ settled old fetcher
     pub choice_is : after ≡ choice_of fetcher len before
 

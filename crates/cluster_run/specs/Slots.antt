@@ -7,7 +7,7 @@ use Rattle.ttp_world.specs.Legal.{IsLegal}
 use Rattle.ttp_world.specs.Script.{reads_in, writes_in}
 use Rattle.ttp_world.specs.World.{Numbers, world, frames_in}
 use Rattle.controller.specs.Limits.{IsPlanned}
-use Rattle.controller.specs.Passes.{HavePlanned, Carries, HaveEnded}
+use Rattle.controller.specs.Passes.{HavePlanned, CarriesFrames, HaveEnded}
 use Rattle.controller.specs.PlantStands.{outcomes_of}
 use Rattle.controller.specs.PlantWithin.{AreSeats, AreIncidents, IsFromWithin, most_ahead_in}
 use Rattle.host_port.specs.declared.report.ReadLine.{ReadLine}
@@ -55,7 +55,7 @@ pub record ArePlannedNodes (at : CurrentSlot) (nodes : Nodes) : Type 0 where
 pub record HavePlannedSlot (at : CurrentSlot) (numbers : Numbers) (nodes : Nodes) : Type 0 where
   pub chosen : HaveChosen at.list.now at.script.now numbers nodes.chosen.items nodes.host_ends.items
   pub planned : HavePlanned (next_slot at.list.now at.script.now numbers) nodes.chosen.items 0 nodes.seats.items
-  pub carries : Carries (next_slot at.list.now at.script.now numbers)
+  pub carries : CarriesFrames (next_slot at.list.now at.script.now numbers)
       (frames_in (next_slot at.list.now at.script.now numbers) nodes.chosen.items) nodes.medium
 
 -- Hosts have written what they write in the slot, with these lines, and the slot is planned for whatever numbers the

@@ -6,7 +6,7 @@ ghost use Rattle.ttp_world.specs.Script.{host_write};
 ghost use Rattle.ttp_world.specs.Words.{words_of_payload, word_count};
 ghost use Rattle.ttp_world.specs.World.{BegunSlot};
 ghost use Rattle.controller.specs.Passes.{HaveBegun};
-ghost use Rattle.host_port.specs.Reading.{IsSettled, settled};
+ghost use Rattle.host_port.specs.Reading.{IsReaderSettled, settled};
 ghost use Rattle.line_text.specs.HostLines.{AreBytes, bytes_in};
 ghost use Rattle.ttp_world.specs.Medl.{IsValid, plan_at};
 ghost use Rattle.ttp_world.specs.Outgoing.{nothing_chosen};
@@ -208,7 +208,7 @@ pub(crate) fn settle_one(end: &mut HostEnd, fetcher: Option<Fetcher>, len: u8, c
     requires limit { len ≤ PAYLOAD_LIMIT }
     requires fetcher { ForSome fetcher (MaySettle end.old len) }
     ensures chosen { chosen.new ≡ choice_of fetcher len chosen.old }
-    ensures whole { IsSettled end.old fetcher }
+    ensures whole { IsReaderSettled end.old fetcher }
     ensures settled { end.new ≡ settled end.old fetcher }
 {
     if let Some(fetcher) = fetcher {

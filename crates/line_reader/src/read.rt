@@ -3,7 +3,7 @@ ghost use Rattle.std.specs.Prelude.{◌≡◌, IfSome, option_map};
 ghost use Rattle.line_reader.specs.TraceLines.{text_of, Fits};
 ghost use Rattle.line_reader.specs.declared.trace_line.TraceLine.{TraceLine as Line};
 ghost use Rattle.line_reader.specs.declared.trace_line.TraceLine.TheVariants as said;
-ghost use Rattle.line_reader.specs.Reading.{head_in, node_in, write_in, read_in, kept_in, broken_in, owed_in};
+ghost use Rattle.line_reader.specs.Reading.{head_in, node_in, write_line_in, read_line_in, kept_in, broken_in, owed_in};
 ghost use Rattle.line_reader.specs.Reading.{refused_in, line_in};
 
 use crate::digits::{is_wide, members_in, payload_in, schedule_in};
@@ -106,9 +106,9 @@ fn node_in(bytes: &[u8]) -> Option<TraceLine>
 }
 
 // The line of a message that a host wrote.
-#[tactic(auto, unfolding(crate::specs::Reading::write_in))]
+#[tactic(auto, unfolding(crate::specs::Reading::write_line_in))]
 fn write_in(bytes: &[u8]) -> Option<TraceLine>
-    ensures { result ≡ write_in bytes.now }
+    ensures { result ≡ write_line_in bytes.now }
 {
     let words = fields_in(&["slot ", " host ", " write "], bytes)?;
     let slot = slot_in(words.at(0))?;
@@ -118,9 +118,9 @@ fn write_in(bytes: &[u8]) -> Option<TraceLine>
 }
 
 // The line of a message that a host read.
-#[tactic(auto, unfolding(crate::specs::Reading::read_in))]
+#[tactic(auto, unfolding(crate::specs::Reading::read_line_in))]
 fn read_in(bytes: &[u8]) -> Option<TraceLine>
-    ensures { result ≡ read_in bytes.now }
+    ensures { result ≡ read_line_in bytes.now }
 {
     let words = fields_in(&["slot ", " host ", " read ", " ", " "], bytes)?;
     let slot = slot_in(words.at(0))?;

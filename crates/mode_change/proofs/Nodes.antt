@@ -15,7 +15,7 @@ use Rattle.ttp_world.specs.After.{place_after}
 use Rattle.ttp_world.specs.Diary.{History, entry_of, diary_of, Place, no_place, place_of}
 use Rattle.ttp_world.specs.Outgoing.{nothing_chosen}
 use Rattle.ttp_world.specs.World.{chosen_of}
-use Rattle.slot_clock.specs.StandsFor as clock
+use Rattle.slot_clock.specs.StandsFor.{ClockStandsFor}
 use Rattle.controller.specs.PlantStands.{outcome_at, ShowsNode}
 use Rattle.controller.specs.PlantView.{PlantView}
 use Rattle.mode_change.specs.declared.node.NodeModes.{NodeModes}
@@ -31,7 +31,7 @@ pub record AreNew (nodes : List NodeModes) (list : Medl) (many : ℕ) : Type 0 w
   pub each : (script : Script) (k : ℕ) (node : NodeModes) → k < many → node ≡ get_or nodes k node
       → Knows node list script [] k
 
-new-knows : (list : Medl) (script : Script) (k : ℕ) (new : NodeModes) → clock.StandsFor new.clock list no_place
+new-knows : (list : Medl) (script : Script) (k : ℕ) (new : NodeModes) → ClockStandsFor new.clock list no_place
     → new.modes ≡ no_modes → new.live ≡ None → Knows new list script [] k
 new-knows list script k new stands modes live = record {
   clock = stands;
@@ -41,7 +41,7 @@ new-knows list script k new stands modes live = record {
 }
 
 pub new-more : (nodes : List NodeModes) (list : Medl) (many : ℕ) (new : NodeModes) → AreNew nodes list many
-    → clock.StandsFor new.clock list no_place → new.modes ≡ no_modes → new.live ≡ None
+    → ClockStandsFor new.clock list no_place → new.modes ≡ no_modes → new.live ≡ None
     → AreNew (nodes ++ new ∷ []) list (many + 1)
 new-more nodes list many new are stands modes live = record {
   count = length_push nodes new ∙ ap (λ n. n + 1) are.count;
@@ -97,9 +97,9 @@ module _ (plant : PlantView) (chosen : List Chosen) (list : Medl) (script : Scri
     pub knows-next : (old new : NodeModes) (e : Entry) (c : Chosen) (delivered : Option Delivered)
         → Knows old list script history k → e ≡ entry_of row k → c ≡ chosen_of chosen k
         → delivered ≡ (outcome_at plant k).delivered
-        → ((place : Place) → clock.StandsFor old.clock list place
-        → clock.StandsFor new.clock list (place_after list k place e))
-        → ((place : Place) → clock.StandsFor old.clock list place
+        → ((place : Place) → ClockStandsFor old.clock list place
+        → ClockStandsFor new.clock list (place_after list k place e))
+        → ((place : Place) → ClockStandsFor old.clock list place
         → new.modes ≡ switched_at (ends_cycle list (place_after list k place e))
         (with_request (mode_by list k e c.payload delivered) (modes_with e old.modes)))
         → new.live ≡ is_delivery_live list delivered old.modes.mode → AreSmall new.modes
@@ -109,7 +109,7 @@ module _ (plant : PlantView) (chosen : List Chosen) (list : Medl) (script : Scri
         let there : place_after list k place e ≡ place_of list k (diary_of (row ∷ history) k) =
         ap (place_after list k place) entry_is ∙ sym (past.place k node) in
         record {
-          clock = subst (λ (p : Place). clock.StandsFor new.clock list p) there (stands place knows.clock);
+          clock = subst (λ (p : Place). ClockStandsFor new.clock list p) there (stands place knows.clock);
           modes =
               modes place knows.clock
               ∙ (λ i. switched_at (ends_cycle list (there i))

@@ -27,7 +27,7 @@ use Rattle.ttp_world.proofs.LegalShapes.{legal-message, legal-older, legal-shape
 use Rattle.ttp_world.proofs.NextPasts.{node_past-next}
 use Rattle.ttp_world.proofs.Places.{IsOfList, delivered_of-sender, entry_of-row_after-of_list}
 use Rattle.ttp_world.proofs.Worlds.{row_of_world, world-of_list}
-use Rattle.controller.specs.Passes.{AreChosen, IsLeft}
+use Rattle.controller.specs.Passes.{AreChosen, IsOutcomeOf}
 use Rattle.controller.specs.PlantStands.{PlantStandsFor, MayStep, IsStep, Steps, outcome_at}
 use Rattle.controller.specs.PlantView.{PlantView}
 use Rattle.controller.proofs.Payloads.{chosen-step}
@@ -135,8 +135,8 @@ module _ (list : Medl) (script : Script) (valid : IsValid list) (valid_script : 
     delivered-told : (k : ℕ) → k < length list.slots
         → (outcome_at plant k).delivered ≡ delivered_of list script history row k
     delivered-told k node =
-        let left : IsLeft list script history chosen k (outcome_at plant k) =
-        subst (λ (l : Medl). IsLeft l script history chosen k (outcome_at plant k)) same
+        let left : IsOutcomeOf list script history chosen k (outcome_at plant k) =
+        subst (λ (l : Medl). IsOutcomeOf l script history chosen k (outcome_at plant k)) same
         (step.left k (subst (λ (l : Medl). k < length l.slots) (sym same) node)) in
         left.delivered ∙ sym (delivered_of-row_in list script history chosen k of_hosts)
 

@@ -13,7 +13,7 @@ use Rattle.ttp_world.specs.Legal.{IsLegalRun}
 use Rattle.ttp_world.specs.Messages.{delivered_of}
 use Rattle.ttp_world.specs.Trace.{trace_head, history_lines, trace_lines}
 use Rattle.ttp_world.specs.World.{Numbers, chosen_of, world}
-use Rattle.slot_clock.specs.StandsFor as clock
+use Rattle.slot_clock.specs.StandsFor.{ClockStandsFor}
 use Rattle.controller.specs.PlantStands.{PlantStandsFor, outcome_at}
 use Rattle.controller.specs.PlantView.{PlantView}
 use Rattle.trace_check.specs.Outgoing.{HoldsNewest}
@@ -49,7 +49,7 @@ newest_live list script (row ∷ before) k = live_in list script row before k
 
 -- all of this is known of node k after a history
 pub record Knows (node : NodeModes) (list : Medl) (script : Script) (history : History) (k : ℕ) : Type 0 where
-  pub clock : clock.StandsFor node.clock list (place_of list k (diary_of history k))
+  pub clock : ClockStandsFor node.clock list (place_of list k (diary_of history k))
   pub modes : node.modes ≡ modes_of list script history k
   pub live : node.live ≡ newest_live list script history k
   pub small : AreSmall node.modes

@@ -29,7 +29,7 @@ use Rattle.whole_trace.specs.declared.shown.NodeShown.{NodeShown}
 use Rattle.whole_trace.specs.Due.{is_below, source_node, has_digits, are_members, doubted, is_node_line, is_head, is_keep, is_back}
 use Rattle.whole_trace.specs.Due.{next_node, after_node, due_after, ending}
 use Rattle.whole_trace.specs.Whole.{SlotLines, SlotsFrom, WholeTrace, value_of, one_line_later, or_missing, judged_behind, judged}
-use Rattle.whole_trace.specs.Whole.{no_lines, no_slots, with_node, with_node_line, with_line, with_value, slots_from, with_slots}
+use Rattle.whole_trace.specs.Whole.{no_lines, no_slots, with_shown_node, with_node_line, with_line, with_value, slots_from, with_slots}
 use Rattle.whole_trace.specs.Whole.{whole_or_line, whole_in}
 use Rattle.whole_trace.proofs.Heads.{few_slots, few_nodes}
 use Rattle.whole_trace.proofs.SlotCounts.{slot_count}
@@ -184,11 +184,11 @@ say-node head t k node text lines from o within is says = by (k == 0) refl
     by : (b : Bool) → (k == 0) ≡ b
         → SaysSlots head (text ∷ lines)
         (cond b (from_slot head t (cond b
-        (let begun : SlotsFrom = record { front = no_lines; slots = with_node node from.front ∷ from.slots } in begun)
-        (record { front = with_node node from.front; slots = from.slots })).slots o)
+        (let begun : SlotsFrom = record { front = no_lines; slots = with_shown_node node from.front ∷ from.slots } in begun)
+        (record { front = with_shown_node node from.front; slots = from.slots })).slots o)
         (from_node head t k (cond b
-        (let begun : SlotsFrom = record { front = no_lines; slots = with_node node from.front ∷ from.slots } in begun)
-        (record { front = with_node node from.front; slots = from.slots })) o)) o
+        (let begun : SlotsFrom = record { front = no_lines; slots = with_shown_node node from.front ∷ from.slots } in begun)
+        (record { front = with_shown_node node from.front; slots = from.slots })) o)) o
     by false other = node-says head t k node text lines from o within is says
     by true same =
         let all = node-says head t k node text lines from o within is says in
@@ -258,7 +258,8 @@ begun-slot head t j node text lines from o is count says =
       are =
           says.are
           ∙ ap (λ (m : ℕ). map ended (from_slot head (t + 1) (with_node_line m node from).slots o)) is
-          ∙ ap (λ (n : ℕ). map ended (slots_left head (t + 1) n (with_node node from.front ∷ from.slots) ++ ends_left o)) count;
+          ∙ ap (λ (n : ℕ). map ended (slots_left head (t + 1) n
+          (with_shown_node node from.front ∷ from.slots) ++ ends_left o)) count;
     })
 
 step : (at then : Due) (v : TraceLine) (text : List ℕ) (lines : Lines) (from : SlotsFrom) (o : Outline)

@@ -8,7 +8,7 @@ use Rattle.trace_check.proofs.Words.{is_legal_message, is_legal_read, never_fall
 use Rattle.trace_check.proofs.Words.{newest_number, message_chosen, out_messages, IsValidScript, reads_in, read_line}
 use Rattle.trace_check.proofs.Words.{read_lines, slot_lines, write_lines, Numbers, SlotNumbers, chosen_of, is_loaded}
 use Rattle.trace_check.proofs.Words.{slot_after, world, delivered_of-row_in, message_of-row_in, length-world}
-use Rattle.trace_check.proofs.Words.{row_of_world, AreChosen, IsLeft, outcome_at, PlantView, Incoming, Begins}
+use Rattle.trace_check.proofs.Words.{row_of_world, AreChosen, IsOutcomeOf, outcome_at, PlantView, Incoming, Begins}
 use Rattle.trace_check.proofs.Words.{DepartsAfter, HasEnded, MayReadAll, ReadsOn, lines_of_slot, node_lines, row_after}
 use Rattle.trace_check.proofs.Words.{TellsRings, number_taken, oldest_number}
 use Rattle.std.proofs.Common.{append-nil}
@@ -92,8 +92,8 @@ module _ (list : Medl) (script : Script) (valid : IsValid list) (valid_script : 
     step = step;
     of_hosts = chosen-of_hosts;
     senders = λ k node.
-        let left : IsLeft list script before chosen k (outcome_at plant k) =
-        subst (λ (l : Medl). IsLeft l script before chosen k (outcome_at plant k)) same
+        let left : IsOutcomeOf list script before chosen k (outcome_at plant k) =
+        subst (λ (l : Medl). IsOutcomeOf l script before chosen k (outcome_at plant k)) same
         (step.left k (subst (λ (l : Medl). k < length l.slots) (sym same) node)) in
         subst (λ (o : Option Delivered). IfSome o (λ d. d.sender < length list.slots))
         (sym (left.delivered ∙ sym (delivered_of-row_in list script before chosen k are_of_hosts)))

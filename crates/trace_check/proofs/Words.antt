@@ -1,5 +1,5 @@
 -- The words of this crate's proofs, from one place.
-pub use Rattle.controller.specs.Passes.{AreChosen, IsLeft}
+pub use Rattle.controller.specs.Passes.{AreChosen, IsOutcomeOf}
 pub use Rattle.controller.specs.PlantStands.{ShowsNode, outcome_at}
 pub use Rattle.controller.specs.PlantView.{PlantView}
 pub use Rattle.frame_fates.specs.Runs.{AreRuns}
