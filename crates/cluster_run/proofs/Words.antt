@@ -85,7 +85,7 @@ pub use Rattle.std.specs.Option.{ForSome}
 pub use Rattle.std.specs.Prelude.{IfNone, IsSome, filter, nat_le, reverse, slice_get, unwrap_or, ◌==◌, ◌↔◌, ◌⊎◌}
 pub use Rattle.std.specs.Vec.{with_items}
 pub use Rattle.std.specs.Vec.Iter.{into_iter_items, into_iter_len}
-pub use Rattle.trace_text.specs.ReportText.{HasMessage, IsListed, node_texts, payload_size, read_text, report_lines}
+pub use Rattle.trace_text.specs.ReportText.{HasMessage, IsListed, node_texts, source_payload_size, read_text, report_lines}
 pub use Rattle.trace_text.specs.ReportText.{write_text}
 pub use Rattle.ttp_base.proofs.Below.{all-below, map-next, map_agree-below, map_each-below}
 pub use Rattle.ttp_base.specs.NodeSet.{below}

@@ -5,9 +5,9 @@ ghost use Rattle.ttp_world.specs.Medl.{IsValid};
 ghost use Rattle.script_text.specs.declared.error.LineFault.TheVariants as faults;
 ghost use Rattle.script_text.specs.declared.keyword.Keyword.TheVariants as keyword;
 ghost use Rattle.script_text.specs.Lines.{word_at};
-ghost use Rattle.script_text.specs.Numbers.{is_source, source_in, hex_bytes_in};
-ghost use Rattle.script_text.specs.Statement.{number_at};
-ghost use Rattle.script_text.specs.Faults.{is_node, is_read_node, payload_size, sends_payload, unless};
+ghost use Rattle.script_text.specs.Numbers.{is_source, source_named, digit_bytes_in};
+ghost use Rattle.script_text.specs.Statement.{number_at_word};
+ghost use Rattle.script_text.specs.Faults.{is_node, is_read_node, payload_size, node_sends_payload, fault_unless};
 ghost use Rattle.script_text.specs.Faults.{statement_faults};
 ghost use Rattle.script_text.specs.SoFar.{ReadsEvent};
 
@@ -32,7 +32,7 @@ pub(crate) fn payload_size(list: &Medl, node: u8) -> u8
 pub(crate) fn sends_payload(list: &Medl, source: Source) -> bool
     requires valid { IsValid list.now }
     requires node { is_read_node (is_node list.now) source ≡ true }
-    ensures { result ≡ is_read_node (sends_payload list.now) source }
+    ensures { result ≡ is_read_node (node_sends_payload list.now) source }
 {
     match source {
         Source::Status => true,
@@ -56,10 +56,10 @@ fn source_at(words: &Words, i: usize, list: &Medl) -> Result<Source, LineFault>
     requires high { i ≤ 5 }
     requires valid { IsValid list.now }
     ensures ok { IfOk result (λ source. (is_source (word_at words.now i) ≡ true)
-        × (source ≡ source_in (word_at words.now i)) × (is_read_node (is_node list.now) source ≡ true)) }
+        × (source ≡ source_named (word_at words.now i)) × (is_read_node (is_node list.now) source ≡ true)) }
     ensures err { IfErr result (λ fault.
-        first_fault (unless (is_source (word_at words.now i)) faults.Number
-        ++ unless (is_read_node (is_node list.now) (source_in (word_at words.now i))) faults.NoNode) ≡ Some fault) }
+        first_fault (fault_unless (is_source (word_at words.now i)) faults.Number
+        ++ fault_unless (is_read_node (is_node list.now) (source_named (word_at words.now i))) faults.NoNode) ≡ Some fault) }
 {
     let word = words.at(i);
     if is_text(b"status", word.text()) {
@@ -103,9 +103,9 @@ pub(crate) fn message_in(words: &Words, list: &Medl, slots: u32) -> Result<Messa
     requires { IsValid list.now }
     ensures ok { IfOk result (λ _. statement_faults list.now slots words.now keyword.Write ≡ []) }
     ensures value { IfOk result (λ message. message ≡ record {
-      node = number_at words.now 1;
-      slot = number_at words.now 2;
-      payload = hex_bytes_in (word_at words.now 3);
+      node = number_at_word words.now 1;
+      slot = number_at_word words.now 2;
+      payload = digit_bytes_in (word_at words.now 3);
     }) }
     ensures node { IfOk result (λ message. message.node < length list.now.slots) }
     ensures slot { IfOk result (λ message. message.slot < slots) }

@@ -6,7 +6,7 @@ ghost use Rattle.ttp_world.specs.declared.medl.Medl.{Medl};
 ghost use Rattle.ttp_world.specs.declared.script.Event.TheVariants as event;
 ghost use Rattle.script_text.specs.declared.keyword.Keyword.{Keyword};
 ghost use Rattle.script_text.specs.declared.keyword.Keyword.TheVariants as keyword;
-ghost use Rattle.script_text.specs.SoFar.{StandsFor, HasNodes, writes_at, CountsMore, is_uncounted};
+ghost use Rattle.script_text.specs.SoFar.{LinesStandFor, HasNodes, writes_at, CountsMore, is_uncounted};
 ghost use Rattle.script_text.specs.SoFar.{ReadsEvent, TakesStated, RefusesStated};
 
 use crate::error::{LineFault, Refusal};
@@ -33,7 +33,7 @@ impl SoFar {
     /// Nothing was said, of this list's nodes or of the run.
     pub(crate) fn new(alloc: Global, list: &Medl) -> Result<SoFar, Memory>
         requires { IsValid list.now }
-        ensures stands { IfOk result (λ so_far. StandsFor so_far []) }
+        ensures stands { IfOk result (λ so_far. LinesStandFor so_far []) }
         ensures nodes { IfOk result (HasNodes list.now) }
     {
         let nodes = list.nodes();

@@ -3,7 +3,7 @@ ghost use Rattle.std.specs.Prelude.{◌≡◌, ◌≤◌, [], ◌∷◌, length,
 ghost use Rattle.ttp_base.specs.Outside.{WroteLines, CutShort};
 ghost use Rattle.ttp_world.specs.Medl.{node_limit};
 ghost use Rattle.line_text.specs.LineParts.{HasDigits};
-ghost use Rattle.trace_text.specs.ReportText.{node_texts, write_text, payload_size, read_text, host_lines};
+ghost use Rattle.trace_text.specs.ReportText.{node_texts, write_text, source_payload_size, read_text, host_lines};
 ghost use Rattle.trace_text.specs.ReportText.{report_lines, IsListed, HasMessage};
 
 use host_port::{NodeLine, ReadLine, SlotReport, WriteLine};
@@ -55,7 +55,7 @@ fn put_writes<K: Sink>(
 // How many bytes a payload of a source has.
 fn payload_size(list: &Medl, source: Source) -> u8
     requires { IsListed list.now source }
-    ensures { result ≡ payload_size list.now source }
+    ensures { result ≡ source_payload_size list.now source }
 {
     match source {
         Source::Status => 0,

@@ -2,7 +2,7 @@
 -- or memory was refused, or the sink cut a text short that it was not sure to take. No count is asked for.
 use Rattle.ttp_top.proofs.Terms.{◌≡◌, ◌⊎◌, ℕ, ◌<◌, ◌≤◌, true, List, length, refl, ap, sym, subst, ◌∙◌, inl, inr, arith}
 use Rattle.ttp_top.proofs.Terms.{concat, Lines, Medl, Script, IsLegalRun, IsValid, IsValidScript, trace_lines, Numbers}
-use Rattle.ttp_top.proofs.Terms.{is_trace, trace-short, Outside, trace_limit, AreRight, Answer, Plan, ttpbench, CutOf}
+use Rattle.ttp_top.proofs.Terms.{is_trace, trace-short, Outside, trace_limit, AreRight, BenchAnswer, BenchPlan, ttpbench, CutOf}
 use Rattle.ttp_top.proofs.Terms.{traces, IsTrace, WroteTraceOf, RunPromise, WroteSuch, CutSuch, TestPromise, OfTrace}
 use Rattle.ttp_top.proofs.Terms.{HasJudged, CutVerdict, AreAllTold, TextPromise}
 use Rattle.std.proofs.lemmas.Bool.{true≢false}
@@ -25,7 +25,8 @@ own_text list script numbers valid valid_script legal =
     numbers-is_trace list script (concat (trace_lines list script numbers)) valid valid_script
     (record { numbers = numbers; legal = legal; whole = refl })
 
-module _ {plan : Plan} {before now : Outside} {answer : Answer} (call : CallPromise ttpbench plan before now answer)
+module _ {plan : BenchPlan} {before now : Outside} {answer : BenchAnswer}
+    (call : CallPromise ttpbench plan before now answer)
     {list script bytes script_bytes : List ℕ} {medl : Medl} {right : Script} (l : HoldsSurely before.files list bytes)
     (s : HoldsSurely before.files script script_bytes) (are : AreRight bytes script_bytes medl right)
     (can : before.output.faults < count_end) where

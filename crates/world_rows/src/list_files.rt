@@ -6,7 +6,7 @@ ghost use Rattle.toml.specs.Data.{string, integer, boolean, no_items, item};
 ghost use Rattle.ttp_world.specs.declared.medl.Kind.TheVariants as kinds;
 ghost use Rattle.medl_text.specs.declared.error.FieldName.TheVariants as names;
 ghost use Rattle.medl_text.specs.declared.error.MedlError.TheVariants as errors;
-ghost use Rattle.medl_text.specs.ListFile.{at_top, at_slot, element_of, slot_faults, plan_of, medl_in, medl_of};
+ghost use Rattle.medl_text.specs.ListFile.{at_top, at_slot, element_of, slot_faults, slot_plan_of, medl_in, medl_of};
 ghost use Rattle.medl_text.specs.Schedule.{slot_table};
 ghost use Rattle.world_rows.specs.ListFiles.{four_nodes, modal_nodes, many_nodes, mixed_nodes, short_list, one_mode_slot};
 ghost use Rattle.world_rows.specs.ListFiles.{live_slot, payload_slot};
@@ -81,7 +81,7 @@ pub fn right_modes()
     ensures none_of_one { slots_mean (two_slots other_slot (answers (codes "n")))
         ≡ Ok (short_list 1 1 (one_mode_slot false ∷ live_slot false 0 ∷ one_mode_slot false ∷ one_mode_slot false ∷ [])) }
     ensures asking_for_none { slots_mean (four_slots (asking (boolean false)) other_slot other_slot) ≡ Ok four_nodes }
-    ensures asking_plan { plan_of 3 1 (element_of asking_slot) ≡ asking_plan }
+    ensures asking_plan { slot_plan_of 3 1 (element_of asking_slot) ≡ asking_plan }
     ensures asking_list { modes_mean (integer (pos 3)) (two_slots other_slot asking_slot)
         ≡ Ok (short_list 1 3 (live_slot false 7 ∷ asking_plan ∷ live_slot false 7 ∷ live_slot false 7 ∷ [])) }
     ensures asking_without_fault { slot_faults 1 3 1 (element_of asking_slot) ≡ [] }

@@ -1,5 +1,5 @@
 //! Rows of the definition of a script file.
-#![tactic(auto, unfolding(script_text::specs::Lines::lines_of, script_text::specs::Lines::words_of, script_text::specs::Faults::statement_faults, script_text::specs::Faults::stated_faults, script_text::specs::Faults::form_faults, script_text::specs::Faults::line_faults, script_text::specs::Faults::statements_after, script_text::specs::ScriptFile::stated_script, script_text::specs::ScriptFile::lines_script, script_text::specs::ScriptFile::script_of))]
+#![tactic(auto, unfolding(script_text::specs::Lines::lines_of_file, script_text::specs::Lines::words_of_line, script_text::specs::Faults::statement_faults, script_text::specs::Faults::stated_faults, script_text::specs::Faults::form_faults, script_text::specs::Faults::line_faults, script_text::specs::Faults::statements_after, script_text::specs::ScriptFile::stated_script, script_text::specs::ScriptFile::lines_script, script_text::specs::ScriptFile::script_of))]
 
 ghost use Rattle.std.specs.Prelude.{◌≡◌, [], ◌∷◌, ◌++◌, pos, negsuc, true};
 ghost use Rattle.std.specs.Prelude.{false, Ok, None, Some, codes, replicate};

@@ -16,8 +16,8 @@ use Rattle.host_port.specs.declared.report.NodeLine.{NodeLine}
 use Rattle.host_port.specs.declared.report.SlotReport.{SlotReport}
 use Rattle.line_text.specs.LineParts.{HasDigits}
 use Rattle.cluster_run.specs.Report.{numbers_in, node_shown, writes_shown, read_shown, ShowsSlot}
-use Rattle.ttp_top.specs.Samples.Counted.{with_report, HasRoom}
-use Rattle.ttp_top.specs.Samples.Totals.{no_totals, with_slot}
+use Rattle.ttp_top.specs.Samples.Counted.{with_report, SumsFit}
+use Rattle.ttp_top.specs.Samples.Totals.{no_totals, totals_with_slot}
 use Rattle.ttp_top.proofs.Samples.Bounds.{AreSmall, totals-small}
 use Rattle.ttp_top.proofs.Scripts.Slots.{after, tells}
 use Rattle.trace_check.proofs.Counts.{length-read_messages}
@@ -50,7 +50,7 @@ report-adds : (list : Medl) (script : Script) (row : List Entry) (before : Histo
     (report : SlotReport) (totals : Totals) → ShowsSlot list script row before new report
     → length new.read ≡ length (reads_in script (length before))
     → with_report totals report
-    ≡ with_slot totals (states_after list script (row ∷ before)) (length (writes_in script (length before)))
+    ≡ totals_with_slot totals (states_after list script (row ∷ before)) (length (writes_in script (length before)))
     (length (reads_in script (length before)))
 report-adds list script row before new report totals shows same =
     let slot = length before in
@@ -62,7 +62,7 @@ report-adds list script row before new report totals shows same =
     ap length shows.reads
     ∙ length-map (read_messages (reads_in script slot) new.read) (read_shown list script (row ∷ before))
     ∙ length-read_messages (reads_in script slot) new.read same in
-    λ i. with_slot totals (nodes i) (writes i) (reads i)
+    λ i. totals_with_slot totals (nodes i) (writes i) (reads i)
 
 -- The members can be written.
 
@@ -127,7 +127,7 @@ slot_counted old new s totals counted =
           (world new.list new.script numbers) (numbers_in new.report) new.report totals next.shows
           (reads-told new.list new.script (numbers_in new.report) numbers legal)
           ∙ ap (λ (t : Totals).
-          with_slot t (states_after new.list new.script (world new.list new.script more))
+          totals_with_slot t (states_after new.list new.script (world new.list new.script more))
           (length (writes_in new.script (length (world new.list new.script numbers))))
           (length (reads_in new.script (length (world new.list new.script numbers))))) before;
       members =
@@ -138,7 +138,7 @@ slot_counted old new s totals counted =
 -- Its sums fit.
 
 pub slot_fits : (old new : ClusterView) → HasDoneSlot old new → (totals : Totals) → HasCounted old totals
-    → HasRoom totals new.report
+    → SumsFit totals new.report
 slot_fits old new s totals counted =
     let numbers = counted.numbers in
     let next = s.steps numbers counted.stands in

@@ -50,16 +50,16 @@ abbrev pub ttpbench : Program
 ttpbench = record { Sets = Sets; Kept = ClusterView; IsOf = IsOf; Beside = IsBeside }
 
 -- a status, and the cluster that is kept
-abbrev pub Answer : Type 0
-Answer = AnswerOf ClusterView
+abbrev pub BenchAnswer : Type 0
+BenchAnswer = AnswerOf ClusterView
 
 -- how a command of it may end
-abbrev pub Ending : Type 0
-Ending = EndingOf Sets
+abbrev pub BenchEnding : Type 0
+BenchEnding = EndingOf Sets
 
 -- how one goes on
-abbrev pub Plan : Type 0
-Plan = PlanOf Sets
+abbrev pub BenchPlan : Type 0
+BenchPlan = PlanOf Sets
 
 -- a text of a set was written, each of its lines as one piece, or a fault of the sink cut one short
 abbrev pub WroteOf : Sets → Output → Output → Type 0
