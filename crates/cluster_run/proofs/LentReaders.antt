@@ -9,7 +9,7 @@ use Rattle.cluster_run.proofs.Words.{readers_at, rings_in, ◌+◌, ◌≤◌, B
 use Rattle.cluster_run.proofs.Words.{AllByRecursion, cases_lt, get_or_past, All-from_recursion, Message, WriterState}
 use Rattle.cluster_run.proofs.Words.{ReaderState, Medl, Script, IsSource, IsValidScript, lent, source_place, at_source}
 use Rattle.cluster_run.proofs.Words.{incoming_shape, reader_at, calls_in, IsRingOf, is_read_at, IsReadOf}
-use Rattle.cluster_run.proofs.Words.{reads_of_valid, MayReadAll, zero, suc, recursion_from_All, ReadLine, IsReaderSettled}
+use Rattle.cluster_run.proofs.Words.{reads_of_valid, HaveRoomForReads, zero, suc, recursion_from_All, ReadLine, IsReaderSettled}
 use Rattle.cluster_run.proofs.Words.{settled, got_of, pairs_from, desk_numbers, SettlesReads, SettlesReadsOf, read_of}
 use Rattle.cluster_run.proofs.Words.{AreLinesBy, queue_of, all_settled, get_or-map, replicate, length-replicate}
 use Rattle.cluster_run.proofs.Words.{outcomes_of, HaveHandedOn, reader_in, reads_of_host, is_host, filter, TellsReads}
@@ -120,7 +120,7 @@ module _ {at : CurrentSlot} {numbers : Numbers} {ends : List ControllerState} {r
       rw ((are.lent.each k (omega (arith, is.0, are.ends_count))).readers from)
       (lent_room list k from _ _ (at_source (end_at ends k) from) n is.1 (are.rings k is.0 from) some)
 
-  pub may_read_all : MayReadAll reads readers
+  pub may_read_all : HaveRoomForReads reads readers
   may_read_all = record {
     calls = λ k.
         elim (cases_lt k (length ends)) [

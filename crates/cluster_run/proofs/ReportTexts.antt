@@ -4,7 +4,7 @@ use Rattle.cluster_run.proofs.Words.{append_assoc, arith, AllByRecursion, length
 use Rattle.cluster_run.proofs.Words.{All-from_recursion, All-nil, below, Medl, Entry, Script, Source, History, IsLegal}
 use Rattle.cluster_run.proofs.Words.{ReadMessage, read_messages, IsValid, HostWrite, IsSource, IsValidScript, reads_in}
 use Rattle.cluster_run.proofs.Words.{words_of_payload, Numbers, SlotNumbers, world, length-world, NodeLine, SlotReport}
-use Rattle.cluster_run.proofs.Words.{bytes_in, words_tell, AreBytesBefore, node_shown, numbers_in, writes_shown}
+use Rattle.cluster_run.proofs.Words.{bytes_in, words_tell, AreBytesBefore, node_shown, report_numbers, writes_shown}
 use Rattle.cluster_run.proofs.Words.{read_shown, ring_words, IsNext, steps, range_with_len, map_each-below}
 use Rattle.cluster_run.proofs.Words.{node_line_of, more_write_lines, read_line, slot_lines, HasRead, messages_read}
 use Rattle.cluster_run.proofs.Words.{HasWords, message_in, HasMessage, IsListed, node_texts, source_payload_size, read_text}
@@ -83,7 +83,7 @@ tells_next cluster numbers valid valid_script bytes next legal =
     let list = cluster.list in
     let script = cluster.script in
     let report = cluster.report in
-    let new = numbers_in report in
+    let new = report_numbers report in
     let before = world list script numbers in
     let row = next_row list script new numbers in
     let shows = next.shows in

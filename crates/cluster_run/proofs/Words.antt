@@ -12,18 +12,18 @@ pub use Rattle.std.proofs.Common.{ap, append_assoc, arith, below_more, cond, cou
 pub use Rattle.std.proofs.Common.{is_some, length, map, not, option_map, refl, replicate, set, subst, suc, sym, take}
 pub use Rattle.std.proofs.Common.{true, vec_capacity, vec_len, zero, zero-add, ℕ, ℤ, ⊎_elim, ◌&&◌, ◌*◌, ◌++◌, ◌+◌, ◌-◌}
 pub use Rattle.std.proofs.Common.{◌/◌, ◌<◌, ◌^◌, ◌||◌, ◌∙◌, ◌∷◌, ◌≡◌, ◌≢◌, ◌≤◌}
-pub use Rattle.cluster_run.specs.Choosing.{AreBytesBefore, HaveBegunFor, HaveChosen, MayChoose, next_slot, number_sent}
+pub use Rattle.cluster_run.specs.Choosing.{AreBytesBefore, HaveBegunFor, HaveChosen, MayChoose, next_slot, number_in_frame}
 pub use Rattle.cluster_run.specs.Ending.{HasPartEnded, HaveHandedOn, IsPartReady, MayEnd, MayHandOn, delivered_to}
 pub use Rattle.cluster_run.specs.Ending.{handed_on, number_handed, outcome_of}
 pub use Rattle.cluster_run.specs.Ends.{AreNewEnds, desk_ends, desk_numbers, end_at, host_at, rings_of}
 pub use Rattle.cluster_run.specs.Jobs.{HaveHostsDone}
 pub use Rattle.cluster_run.specs.Progress.{IsOnCourse, cluster_at}
 pub use Rattle.cluster_run.specs.Reading.{AllGot, AreDue, AreLentTo, AreLinesBy, AreLinesOf, AreQueuesOf}
-pub use Rattle.cluster_run.specs.Reading.{AreReadersLent, AreReadersOfAll, HaveRead, IsClear, IsRead, MayReadAll}
+pub use Rattle.cluster_run.specs.Reading.{AreReadersLent, AreReadersOfAll, HaveRead, IsClear, IsRead, HaveRoomForReads}
 pub use Rattle.cluster_run.specs.Reading.{ReadsMany, SettlesReads, SettlesReadsOf, calls_in, has_reads, is_host}
 pub use Rattle.cluster_run.specs.Reading.{lines_by, queue_of, read_of, reader_at, reader_in, readers_at, rings_in}
 pub use Rattle.cluster_run.specs.Reading.{reads_of_host}
-pub use Rattle.cluster_run.specs.Report.{HaveEndedSlot, ShowsSlot, message_named, node_shown, number_told, numbers_in}
+pub use Rattle.cluster_run.specs.Report.{HaveEndedSlot, ShowsSlot, message_named, node_shown, number_told, report_numbers}
 pub use Rattle.cluster_run.specs.Report.{read_shown, writes_shown}
 pub use Rattle.cluster_run.specs.Rings.{GotEach, IsRing, IsRingOf, SawAtMost, joined_pairs, pair_of, pair_read}
 pub use Rattle.cluster_run.specs.Rings.{pair_sent, pairs_read, pairs_read_in, pairs_sent, ring_words, words_read}
@@ -31,9 +31,9 @@ pub use Rattle.cluster_run.specs.Rings.{words_written}
 pub use Rattle.cluster_run.specs.Sending.{AreLent, FetchAll, Fetches, FetchesOne, MayFetchAll, MayFetchAlone, MayLend}
 pub use Rattle.cluster_run.specs.Sending.{MaySettle, MaySettleAfter, MayWriteAll, SettlesFetch, WritesBytes}
 pub use Rattle.cluster_run.specs.Sending.{after_writes, choice_by, choice_of, fetcher_lent, message_count, messages_by}
-pub use Rattle.cluster_run.specs.Sending.{with_messages, write_line, write_lines}
+pub use Rattle.cluster_run.specs.Sending.{with_messages, host_write_line, host_write_lines}
 pub use Rattle.cluster_run.specs.Slots.{ArePlannedNodes, AreReady, HavePlannedSlot, IsNext, IsNextOf, IsSlotEnded}
-pub use Rattle.cluster_run.specs.Slots.{IsSlotPlanned, MayEndSlot, StandsAt, StandsForSome, Steps, TellsReads}
+pub use Rattle.cluster_run.specs.Slots.{IsSlotPlanned, MayEndSlot, NodesStandAt, StandsForSome, ClusterSteps, TellsReads}
 pub use Rattle.cluster_run.specs.Standing.{ClusterStandsFor, ClusterView, HoldsRead, NodesStandFor, NodesView}
 pub use Rattle.cluster_run.specs.Standing.{cluster_of, nodes_view}
 pub use Rattle.cluster_run.specs.declared.current.CurrentSlot.{CurrentSlot}

@@ -97,7 +97,7 @@ pub record HaveRead (reads : List HostRead) (old new : List (Option ReadersState
       → reads_of_host k (calls_in (readers_at new k)) ≡ filter (is_host k) reads
 
 -- no host has read yet, and each has a reader of what it reads, with room for all its reads of it
-pub record MayReadAll (reads : List HostRead) (readers : List (Option ReadersState)) : Type 0 where
+pub record HaveRoomForReads (reads : List HostRead) (readers : List (Option ReadersState)) : Type 0 where
   pub calls : (k : ℕ) → calls_in (readers_at readers k) ≡ []
   pub room : (k : ℕ) (from : Source) → 1 ≤ reads_from reads k from
       → IsSomeAnd (reader_at readers k from) (λ r. reads_from reads k from ≤ r.spare)

@@ -65,14 +65,14 @@ abbrev pub message_count : HostState → ℕ
 message_count None = 0
 message_count (Some w) = length w.messages
 
-abbrev pub write_line : List HostState → ℕ → ℕ → WriteLine
-write_line ends k earlier = record { host = k; number = message_count (host_at ends k) + earlier }
+abbrev pub host_write_line : List HostState → ℕ → ℕ → WriteLine
+host_write_line ends k earlier = record { host = k; number = message_count (host_at ends k) + earlier }
 
 -- the lines of writes, where those came before them, by the ends before all of them
-abbrev pub write_lines : List HostState → List HostWrite → List HostWrite → List WriteLine
-write_lines ends earlier [] = []
-write_lines ends earlier (w ∷ ws) =
-    write_line ends w.host (count_by (λ e. e.host == w.host) earlier) ∷ write_lines ends (w ∷ earlier) ws
+abbrev pub host_write_lines : List HostState → List HostWrite → List HostWrite → List WriteLine
+host_write_lines ends earlier [] = []
+host_write_lines ends earlier (w ∷ ws) =
+    host_write_line ends w.host (count_by (λ e. e.host == w.host) earlier) ∷ host_write_lines ends (w ∷ earlier) ws
 
 -- it is of bytes
 abbrev pub WritesBytes : HostWrite → Type 0

@@ -15,7 +15,7 @@ use Rattle.ttp_world.proofs.Lists.{nodes-most}
 use Rattle.host_port.specs.declared.report.NodeLine.{NodeLine}
 use Rattle.host_port.specs.declared.report.SlotReport.{SlotReport}
 use Rattle.line_text.specs.LineParts.{HasDigits}
-use Rattle.cluster_run.specs.Report.{numbers_in, node_shown, writes_shown, read_shown, ShowsSlot}
+use Rattle.cluster_run.specs.Report.{report_numbers, node_shown, writes_shown, read_shown, ShowsSlot}
 use Rattle.ttp_top.specs.Samples.Counted.{with_report, SumsFit}
 use Rattle.ttp_top.specs.Samples.Totals.{no_totals, totals_with_slot}
 use Rattle.ttp_top.proofs.Samples.Bounds.{AreSmall, totals-small}
@@ -114,7 +114,7 @@ slot_counted old new s totals counted =
     let numbers = counted.numbers in
     let told = tells old new s numbers counted.stands counted.legal in
     let next = s.steps numbers counted.stands in
-    let more = numbers_in new.report ∷ numbers in
+    let more = report_numbers new.report ∷ numbers in
     let legal = next.legal (after (λ list script. IsLegal list script numbers) s counted.legal) in
     let before : totals ≡ totals_of new.list new.script (world new.list new.script numbers) =
     after (λ list script. totals ≡ totals_of list script (world list script numbers)) s counted.totals_are in
@@ -123,9 +123,9 @@ slot_counted old new s totals counted =
       stands = next.stands;
       legal = legal;
       totals_are =
-          report-adds new.list new.script (next_row new.list new.script (numbers_in new.report) numbers)
-          (world new.list new.script numbers) (numbers_in new.report) new.report totals next.shows
-          (reads-told new.list new.script (numbers_in new.report) numbers legal)
+          report-adds new.list new.script (next_row new.list new.script (report_numbers new.report) numbers)
+          (world new.list new.script numbers) (report_numbers new.report) new.report totals next.shows
+          (reads-told new.list new.script (report_numbers new.report) numbers legal)
           ∙ ap (λ (t : Totals).
           totals_with_slot t (states_after new.list new.script (world new.list new.script more))
           (length (writes_in new.script (length (world new.list new.script numbers))))
@@ -152,7 +152,7 @@ slot_fits old new s totals counted =
       arith,
       ap length next.shows.nodes,
       length-map (below (length new.list.slots)) (node_shown new.list new.script
-          (next_row new.list new.script (numbers_in new.report) numbers) (world new.list new.script numbers)),
+          (next_row new.list new.script (report_numbers new.report) numbers) (world new.list new.script numbers)),
       length-range_with_len 0 (length new.list.slots),
       ap (λ (list : Medl). length list.slots) s.list,
       nodes-most old.list s.valid,
@@ -173,10 +173,10 @@ slot_fits old new s totals counted =
     omega (
       arith,
       ap length next.shows.reads,
-      length-map (read_messages (reads_in new.script slot) (numbers_in new.report).read)
-          (read_shown new.list new.script (world new.list new.script (numbers_in new.report ∷ numbers))),
-      length-read_messages (reads_in new.script slot) (numbers_in new.report).read
-          (reads-told new.list new.script (numbers_in new.report) numbers legal),
+      length-map (read_messages (reads_in new.script slot) (report_numbers new.report).read)
+          (read_shown new.list new.script (world new.list new.script (report_numbers new.report ∷ numbers))),
+      length-read_messages (reads_in new.script slot) (report_numbers new.report).read
+          (reads-told new.list new.script (report_numbers new.report) numbers legal),
       filter_map-few (read_in slot) new.script.events,
       events,
     ) in
