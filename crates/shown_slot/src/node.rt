@@ -1,6 +1,6 @@
 //! What a trace shows of nodes after a slot.
 ghost use Rattle.std.specs.Prelude.{◌≡◌, ◌+◌, ◌^◌, ◌<◌, ◌≤◌, length};
-ghost use Rattle.shown_slot.specs.Nodes.{is_active, has_left, sends, is_holder, hold_members, agreement, spread_in};
+ghost use Rattle.shown_slot.specs.Nodes.{is_active_word, is_leaving_word, sends, is_holder, hold_members, agreement, spread_in};
 ghost use Rattle.shown_slot.specs.Nodes.{sender_among, bits_where, widened, clock_range};
 
 use line_reader::Word;
@@ -25,7 +25,7 @@ pub struct ClockRange {
 
 /// Whether a node whose line has this word takes part in the cluster.
 pub fn is_active(word: Word) -> bool
-    ensures { result ≡ is_active word }
+    ensures { result ≡ is_active_word word }
 {
     match word {
         Word::Start
@@ -42,7 +42,7 @@ pub fn is_active(word: Word) -> bool
 
 /// Whether it left the cluster in this slot.
 pub fn has_left(word: Word) -> bool
-    ensures { result ≡ has_left word }
+    ensures { result ≡ is_leaving_word word }
 {
     match word {
         Word::Denied | Word::Unacknowledged | Word::Clique => true,
@@ -120,7 +120,7 @@ pub fn sender_among(first: u8, nodes: &[NodeShown]) -> Sender
 /// The active nodes, at most 32, as a word in which bit k, the least significant first, stands for node k.
 pub fn active_bits(nodes: &[NodeShown]) -> u32
     requires { length nodes.now ≤ 32 }
-    ensures value { result ≡ bits_where is_active nodes.now }
+    ensures value { result ≡ bits_where is_active_word nodes.now }
     ensures few { result < 2 ^ length nodes.now }
 {
     match nodes {
@@ -132,7 +132,7 @@ pub fn active_bits(nodes: &[NodeShown]) -> u32
 /// The nodes that left, likewise.
 pub fn left_bits(nodes: &[NodeShown]) -> u32
     requires { length nodes.now ≤ 32 }
-    ensures value { result ≡ bits_where has_left nodes.now }
+    ensures value { result ≡ bits_where is_leaving_word nodes.now }
     ensures few { result < 2 ^ length nodes.now }
 {
     match nodes {
