@@ -126,7 +126,7 @@ fn put_script_fault(line: &mut Line, fault: ScriptError)
 /// The line that says what is wrong with a file, behind the word for the file, as `list`. Takes no
 /// memory.
 #[tactic(auto, unfolding(crate::specs::Faults::file_fault_line))]
-pub fn fault_line(file: &str, fault: FileFault) -> Line
+pub fn file_fault_line(file: &str, fault: FileFault) -> Line
     requires { length file.now ≤ 9 }
     ensures { result ≡ file_fault_line file.now fault }
 {

@@ -10,7 +10,7 @@ ghost use Rattle.host_port.specs.Queues.{all_lent, spare_of};
 
 use crate::ends::ControllerEnd;
 use crate::port::Port;
-use crate::source::place_of;
+use crate::source::source_place;
 use nbw_ring::{Reader, Try, Writer};
 use std::alloc::Global;
 use std::marker::Model;
@@ -46,7 +46,7 @@ fn reads_at(reads: &[HostRead], node: u8, place: usize) -> usize
 {
     reads
         .iter()
-        .filter(|read| read.host == node && place_of(read.source) == place)
+        .filter(|read| read.host == node && source_place(read.source) == place)
         .count()
 }
 
@@ -146,7 +146,7 @@ impl HostReaders {
             → at_source self.new.readers other ≡ at_source self.old.readers other }
         ensures calls { self.new.calls ≡ calls_after self.old.calls source (at_source self.new.readers source) }
     {
-        let place = place_of(source);
+        let place = source_place(source);
         if read_one(rt, &mut self.readers[place], gate) {
             self.calls.push_reserved(source);
         }

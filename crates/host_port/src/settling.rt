@@ -11,7 +11,7 @@ use crate::ends::ControllerEnd;
 use crate::port::Port;
 use crate::reading::HostReaders;
 use crate::report::ReadLine;
-use crate::source::place_of;
+use crate::source::source_place;
 use nbw_ring::{Pair, Reader, Writer};
 use std::alloc::Global;
 use std::vec::IntoIter;
@@ -90,7 +90,7 @@ fn lines_of(
     ensures pairs { (place : ℕ) → pairs_at place result.items ≡ queue_at (map into_iter_items queues.items) place }
 {
     for source in calls {
-        if let Some(pair) = next_pair(&mut queues, place_of(*source)) {
+        if let Some(pair) = next_pair(&mut queues, source_place(*source)) {
             lines.push_reserved(ReadLine {
                 host,
                 source: *source,

@@ -5,7 +5,7 @@ ghost use Rattle.host_port.specs.Rings.{source_place};
 use ttp_world::Source;
 
 /// The place of a source's ring among those that a host reads.
-pub(crate) fn place_of(source: Source) -> usize
+pub(crate) fn source_place(source: Source) -> usize
     ensures { result ≡ source_place source }
 {
     match source {

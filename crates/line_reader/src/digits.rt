@@ -91,7 +91,7 @@ fn is_even(word: &[u8]) -> bool
 
 /// The bytes of a message, two digits for each.
 #[tactic(auto, unfolding(crate::specs::Reading::hex_payload_in))]
-pub(crate) fn payload_in(word: &[u8]) -> Option<Payload>
+pub(crate) fn hex_payload_in(word: &[u8]) -> Option<Payload>
     ensures { result ≡ hex_payload_in word.now }
 {
     if !is_even(word) || 480 < word.len() {

@@ -9,7 +9,7 @@ use ttp_world::{Ack, Source};
 
 /// What a node did.
 #[tactic(auto, unfolding(crate::specs::Reading::node_word_in))]
-pub(crate) fn word_in(word: &[u8]) -> Option<Word>
+pub(crate) fn node_word_in(word: &[u8]) -> Option<Word>
     ensures { result ≡ node_word_in word.now }
 {
     if word == b"off".as_slice() {

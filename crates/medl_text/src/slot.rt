@@ -63,7 +63,7 @@ fn are_bare(kinds: &[Kind]) -> bool
 }
 
 // The largest payload that frames of these kinds may have.
-fn most_payload(kinds: &[Kind]) -> u8
+fn payload_limit(kinds: &[Kind]) -> u8
     ensures value { result ≡ payload_limit kinds.now }
     ensures within { result ≤ 240 }
 {
@@ -164,7 +164,7 @@ pub(crate) fn slot_of(
     ensures err { IfErr result (λ e. IsFirst e (slot_faults rounds modes k (table_view table.now))) }
 {
     let kinds = kinds_in(alloc, k, rounds, table)?;
-    let most = most_payload(kinds.as_slice());
+    let most = payload_limit(kinds.as_slice());
     let payload = number(table, at_slot(k, FieldName::DataSize), 0, u32::from(most))? as u8;
     let sync = flag(table, at_slot(k, FieldName::Sync))?;
     let start = flag(table, at_slot(k, FieldName::Start))?;

@@ -145,10 +145,10 @@ pub(crate) fn has_only(table: &Table, known: &[FieldName]) -> bool
 fn all_among(table: &Table, known: &[FieldName]) -> bool
     ensures { result ≡ list_all (λ key. is_known_key known.now (string_bytes key)) (keys table.now) }
 {
-    table.keys().all(|key| is_among(key.as_str(), known))
+    table.keys().all(|key| is_known_key(key.as_str(), known))
 }
 
-fn is_among(key: &str, known: &[FieldName]) -> bool
+fn is_known_key(key: &str, known: &[FieldName]) -> bool
     ensures { result ≡ is_known_key known.now key.now }
 {
     known.iter().any(|name| name.key() == key)

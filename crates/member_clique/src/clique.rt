@@ -26,7 +26,7 @@ impl Model for Clique {
 }
 
 // One more, where a frame is to be counted.
-fn counted(count: u8, more: bool) -> u8
+fn counted_if(count: u8, more: bool) -> u8
     requires { count < 255 }
     ensures { result ≡ counted_if more count }
 {
@@ -66,8 +66,8 @@ impl Clique {
             AckMove::Resolve { .. } => (true, true),
             AckMove::Hold | AckMove::Leave => (false, false),
         };
-        self.accepted = counted(self.accepted, accepts);
-        self.rejected = counted(self.rejected, rejects);
+        self.accepted = counted_if(self.accepted, accepts);
+        self.rejected = counted_if(self.rejected, rejects);
     }
 
     /// How many frames were accepted, the node's own among them.

@@ -26,7 +26,7 @@ use ttp_world::Ack;
 use whole_trace::{Head, NodeShown, SlotShown};
 
 // What stands for a node that a slot does not have.
-fn no_node() -> NodeShown
+fn no_shown_node() -> NodeShown
     ensures { result ≡ no_shown_node }
 {
     NodeShown {
@@ -47,7 +47,7 @@ pub(crate) fn node_at(slot: &SlotShown<'_>, number: u8) -> NodeShown
 {
     match slot.nodes().get(usize::from(number)) {
         Some(node) => *node,
-        None => no_node(),
+        None => no_shown_node(),
     }
 }
 

@@ -19,7 +19,7 @@ use crate::tables::{
     STYLES, WORDS, cell_colour, letter_colour, returning_meaning, rule_meaning, style, word_number,
 };
 use line_reader::Word;
-use shown_slot::{back_text, head_text, keep_text, word_text};
+use shown_slot::{back_text, header_text, keep_text, word_text};
 use ttp_base::{Line, Sink};
 use ttp_world::{Back, Keep};
 use whole_trace::Head;
@@ -51,7 +51,7 @@ fn make_title(line: &mut Line, head: &Head)
 {
     line.clear();
     line.put_text("<title>");
-    let text = head_text(head);
+    let text = header_text(head);
     line.put_bytes(text.bytes());
     line.put_text("</title>\n");
 }
@@ -144,7 +144,7 @@ fn make_shown(line: &mut Line, frame: Frame, strange: Option<u32>)
         ++ codes " to " ++ decimal frame.span.last ++ more_text strange) }
 {
     open_text(line, 12, 20);
-    let text = head_text(&frame.head);
+    let text = header_text(&frame.head);
     line.put_bytes(text.bytes());
     line.put_text(", shown: slots ");
     line.put_number(u64::from(frame.span.first));

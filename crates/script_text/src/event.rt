@@ -19,7 +19,7 @@ use ttp_world::{
 };
 
 /// The number that a line's word at a place is.
-pub(crate) fn number_at(words: &Words, i: usize) -> Result<u32, LineFault>
+pub(crate) fn number_at_word(words: &Words, i: usize) -> Result<u32, LineFault>
     requires low { 1 ≤ i }
     requires high { i ≤ 5 }
     ensures ok { IfOk result (λ number.
@@ -55,7 +55,7 @@ pub(crate) fn node_of(list: &Medl, number: u32) -> Result<u8, LineFault>
 }
 
 /// Whether a number of microticks lies within plus or minus a bound.
-pub(crate) fn is_within(bound: u32, value: i64) -> bool
+pub(crate) fn is_within_limit(bound: u32, value: i64) -> bool
     ensures { result ≡ is_within_limit bound value }
 {
     value.unsigned_abs() <= u64::from(bound)
@@ -95,8 +95,8 @@ pub(crate) fn on_in(words: &Words, list: &Medl, slots: u32) -> Result<SwitchedOn
     ensures err { IfErr result (λ fault.
         first_fault (statement_faults list.now slots words.now keyword.On) ≡ Some fault) }
 {
-    let number = number_at(words, 1)?;
-    let slot = number_at(words, 2)?;
+    let number = number_at_word(words, 1)?;
+    let slot = number_at_word(words, 2)?;
     let node = node_of(list, number)?;
     if slots <= slot {
         return Err(LineFault::Range);
@@ -125,10 +125,10 @@ pub(crate) fn drift_in(words: &Words, list: &Medl, slots: u32) -> Result<Drift, 
     ensures err { IfErr result (λ fault.
         first_fault (statement_faults list.now slots words.now keyword.Drift) ≡ Some fault) }
 {
-    let number = number_at(words, 1)?;
+    let number = number_at_word(words, 1)?;
     let value = value_at(words, 2)?;
     let node = node_of(list, number)?;
-    if !is_within(DRIFT_LIMIT, value) {
+    if !is_within_limit(DRIFT_LIMIT, value) {
         return Err(LineFault::Range);
     }
     Ok(Drift { node, value })
@@ -159,9 +159,9 @@ fn disturbance_in(words: &Words, list: &Medl, slots: u32) -> Result<Disturbance,
     ensures err { IfErr result (λ fault.
         first_fault (statement_faults list.now slots words.now keyword.Send) ≡ Some fault) }
 {
-    let number = number_at(words, 1)?;
-    let from = number_at(words, 4)?;
-    let to = number_at(words, 5)?;
+    let number = number_at_word(words, 1)?;
+    let from = number_at_word(words, 4)?;
+    let to = number_at_word(words, 5)?;
     let node = node_of(list, number)?;
     if !is_span(slots, from, to) {
         return Err(LineFault::Range);
@@ -213,9 +213,9 @@ pub(crate) fn flip_in(words: &Words, list: &Medl, slots: u32) -> Result<Event, L
     requires { IsValid list.now }
     ensures { ReadsEvent list.now slots words.now keyword.Flip result }
 {
-    let number = number_at(words, 1)?;
-    let bit = number_at(words, 3)?;
-    let slot = number_at(words, 4)?;
+    let number = number_at_word(words, 1)?;
+    let bit = number_at_word(words, 3)?;
+    let slot = number_at_word(words, 4)?;
     let node = node_of(list, number)?;
     if !is_flipped_bit(bit) || slots <= slot {
         return Err(LineFault::Range);
@@ -235,12 +235,12 @@ pub(crate) fn error_in(words: &Words, list: &Medl, slots: u32) -> Result<Event, 
     requires { IsValid list.now }
     ensures { ReadsEvent list.now slots words.now keyword.Error result }
 {
-    let number = number_at(words, 1)?;
+    let number = number_at_word(words, 1)?;
     let value = value_at(words, 2)?;
-    let from = number_at(words, 3)?;
-    let to = number_at(words, 4)?;
+    let from = number_at_word(words, 3)?;
+    let to = number_at_word(words, 4)?;
     let node = node_of(list, number)?;
-    if !is_within(ERROR_LIMIT, value) || !is_span(slots, from, to) {
+    if !is_within_limit(ERROR_LIMIT, value) || !is_span(slots, from, to) {
         return Err(LineFault::Range);
     }
     Ok(Event::Error {
@@ -257,11 +257,11 @@ pub(crate) fn jump_in(words: &Words, list: &Medl, slots: u32) -> Result<Event, L
     requires { IsValid list.now }
     ensures { ReadsEvent list.now slots words.now keyword.Jump result }
 {
-    let number = number_at(words, 1)?;
+    let number = number_at_word(words, 1)?;
     let value = value_at(words, 2)?;
-    let slot = number_at(words, 3)?;
+    let slot = number_at_word(words, 3)?;
     let node = node_of(list, number)?;
-    if !is_within(JUMP_LIMIT, value) || slots <= slot {
+    if !is_within_limit(JUMP_LIMIT, value) || slots <= slot {
         return Err(LineFault::Range);
     }
     Ok(Event::Jump { node, value, slot })
@@ -273,8 +273,8 @@ pub(crate) fn arm_in(words: &Words, list: &Medl, slots: u32) -> Result<Event, Li
     requires { IsValid list.now }
     ensures { ReadsEvent list.now slots words.now keyword.Arm result }
 {
-    let number = number_at(words, 1)?;
-    let slot = number_at(words, 2)?;
+    let number = number_at_word(words, 1)?;
+    let slot = number_at_word(words, 2)?;
     let node = node_of(list, number)?;
     if slots <= slot {
         return Err(LineFault::Range);

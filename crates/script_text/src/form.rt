@@ -55,7 +55,7 @@ pub(crate) fn keyword_of(word: &[u8]) -> Option<Keyword>
 }
 
 #[inline(always)]
-fn word_count(form: Keyword) -> usize
+fn form_word_count(form: Keyword) -> usize
     ensures { result ≡ form_word_count form }
 {
     match form {
@@ -121,5 +121,5 @@ fn has_channels(form: Keyword, words: &Words) -> bool
 pub(crate) fn is_spelled(form: Keyword, words: &Words) -> bool
     ensures { result ≡ is_spelled form words.now }
 {
-    words.len() == word_count(form) && has_channels(form, words)
+    words.len() == form_word_count(form) && has_channels(form, words)
 }

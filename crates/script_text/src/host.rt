@@ -12,9 +12,9 @@ ghost use Rattle.script_text.specs.Faults.{statement_faults};
 ghost use Rattle.script_text.specs.SoFar.{ReadsEvent};
 
 use crate::error::LineFault;
-use crate::event::{node_of, number_at};
+use crate::event::{node_of, number_at_word};
 use crate::form::is_text;
-use crate::hex::{front_payload, is_hex};
+use crate::hex::{front_payload, is_hex_word};
 use crate::words::Words;
 use ttp_world::{Event, Medl, PAYLOAD_LIMIT, Payload, Source};
 
@@ -29,7 +29,7 @@ pub(crate) fn payload_size(list: &Medl, node: u8) -> u8
 }
 
 /// Whether what a host reads is its status, or comes from a node that sends payload.
-pub(crate) fn sends_payload(list: &Medl, source: Source) -> bool
+pub(crate) fn node_sends_payload(list: &Medl, source: Source) -> bool
     requires valid { IsValid list.now }
     requires node { is_read_node (is_node list.now) source ≡ true }
     ensures { result ≡ is_read_node (node_sends_payload list.now) source }
@@ -76,11 +76,11 @@ pub(crate) fn read_in(words: &Words, list: &Medl, slots: u32) -> Result<Event, L
     requires { IsValid list.now }
     ensures { ReadsEvent list.now slots words.now keyword.Read result }
 {
-    let number = number_at(words, 1)?;
-    let slot = number_at(words, 2)?;
+    let number = number_at_word(words, 1)?;
+    let slot = number_at_word(words, 2)?;
     let source = source_at(words, 3, list)?;
     let node = node_of(list, number)?;
-    if !sends_payload(list, source) {
+    if !node_sends_payload(list, source) {
         return Err(LineFault::NoData);
     }
     if slots <= slot || !is_of_other(node, source) {
@@ -112,10 +112,10 @@ pub(crate) fn message_in(words: &Words, list: &Medl, slots: u32) -> Result<Messa
     ensures err { IfErr result (λ fault.
         first_fault (statement_faults list.now slots words.now keyword.Write) ≡ Some fault) }
 {
-    let number = number_at(words, 1)?;
-    let slot = number_at(words, 2)?;
+    let number = number_at_word(words, 1)?;
+    let slot = number_at_word(words, 2)?;
     let digits = words.at(3).text();
-    if !is_hex(digits) {
+    if !is_hex_word(digits) {
         return Err(LineFault::Number);
     }
     let node = node_of(list, number)?;

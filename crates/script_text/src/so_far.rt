@@ -10,7 +10,7 @@ ghost use Rattle.script_text.specs.SoFar.{LinesStandFor, HasNodes, writes_at, Co
 ghost use Rattle.script_text.specs.SoFar.{ReadsEvent, TakesStated, RefusesStated};
 
 use crate::error::{LineFault, Refusal};
-use crate::event::{drift_in, number_at, on_in};
+use crate::event::{drift_in, number_at_word, on_in};
 use crate::host::{Message, message_in};
 use crate::words::Words;
 use crate::writes::WriteCounts;
@@ -54,7 +54,7 @@ impl SoFar {
         ensures err { IfErr result (RefusesStated list.now words.now self.old keyword.Slots) }
         ensures nodes { HasNodes list.now self.new }
     {
-        let count = number_at(words, 1)?;
+        let count = number_at_word(words, 1)?;
         if count < 1 || SLOT_LIMIT < count {
             return Err(LineFault::Range.into());
         }

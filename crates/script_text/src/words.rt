@@ -7,7 +7,7 @@ ghost use Rattle.script_text.specs.Numbers.{is_number, decimal_value, is_value, 
 ghost use Rattle.script_text.specs.Words.{FrontDigits, CutsWord};
 
 use crate::lines::{Cut, cut_at, is_blank};
-use crate::number::{Digits, front_digits, number_in, whole_number};
+use crate::number::{Digits, decimal_value, front_digits, whole_number};
 use std::marker::Model;
 
 /// A word of a line, and the number that it is, if it is one. Contracts see it as its bytes.
@@ -49,7 +49,7 @@ impl<'a> Word<'a> {
         ensures { SomeIff result (IsTrue (is_value self.now)) (value_in self.now) }
     {
         match self.text.first() {
-            Some(b'-') => Some(-i64::from(number_in(&self.text[1..])?)),
+            Some(b'-') => Some(-i64::from(decimal_value(&self.text[1..])?)),
             _ => Some(i64::from(self.number?)),
         }
     }

@@ -88,7 +88,7 @@ fn read(
 }
 
 /// The message of a host's line, if it is this host and does this in it.
-pub fn message_of(host: u8, what: What, line: &HostLine) -> Option<Message>
+pub fn message_in_line(host: u8, what: What, line: &HostLine) -> Option<Message>
     ensures { result ≡ message_in_line host what line.now }
 {
     match line {

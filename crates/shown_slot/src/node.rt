@@ -24,7 +24,7 @@ pub struct ClockRange {
 }
 
 /// Whether a node whose line has this word takes part in the cluster.
-pub fn is_active(word: Word) -> bool
+pub fn is_active_word(word: Word) -> bool
     ensures { result ≡ is_active_word word }
 {
     match word {
@@ -41,7 +41,7 @@ pub fn is_active(word: Word) -> bool
 }
 
 /// Whether it left the cluster in this slot.
-pub fn has_left(word: Word) -> bool
+pub fn is_leaving_word(word: Word) -> bool
     ensures { result ≡ is_leaving_word word }
 {
     match word {
@@ -68,7 +68,7 @@ pub fn is_holder(node: &NodeShown) -> bool
         Ack::Doubt(_) => true,
         _ => false,
     };
-    is_active(node.word) && !is_doubt
+    is_active_word(node.word) && !is_doubt
 }
 
 // Whether all holders among nodes hold these members.
@@ -125,7 +125,7 @@ pub fn active_bits(nodes: &[NodeShown]) -> u32
 {
     match nodes {
         [] => 0,
-        [node, rest @ ..] => u32::from(is_active(node.word)) + 2 * active_bits(rest),
+        [node, rest @ ..] => u32::from(is_active_word(node.word)) + 2 * active_bits(rest),
     }
 }
 
@@ -137,7 +137,7 @@ pub fn left_bits(nodes: &[NodeShown]) -> u32
 {
     match nodes {
         [] => 0,
-        [node, rest @ ..] => u32::from(has_left(node.word)) + 2 * left_bits(rest),
+        [node, rest @ ..] => u32::from(is_leaving_word(node.word)) + 2 * left_bits(rest),
     }
 }
 
@@ -169,7 +169,7 @@ pub fn clock_range(nodes: &[NodeShown]) -> Option<ClockRange>
         [] => None,
         [node, rest @ ..] => {
             let others = clock_range(rest);
-            if is_active(node.word) {
+            if is_active_word(node.word) {
                 Some(widened(node.offset, others))
             } else {
                 others

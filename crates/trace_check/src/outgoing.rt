@@ -7,7 +7,7 @@ ghost use Rattle.ttp_world.specs.Medl.{IsValid};
 ghost use Rattle.ttp_world.specs.Script.{messages_written};
 ghost use Rattle.trace_check.specs.Outgoing.{Chooses, HoldsNewest, number_by_text, number_taken, oldest_number};
 
-use crate::text::number_named;
+use crate::text::number_by_line;
 use line_text::cut_line;
 use std::alloc::Global;
 use ttp_base::{List, Memory};
@@ -121,7 +121,7 @@ impl Outgoing {
             let (line, behind) = cut_line(rest);
             rest = behind;
             if written_in(script, slot, node, 0).is_some() {
-                if let Some(number) = number_named(line) {
+                if let Some(number) = number_by_line(line) {
                     self.take(script, slot, node, number);
                 }
             }

@@ -25,7 +25,7 @@ pub(crate) fn expect<'a>(behind: Option<&'a [u8]>, text: &'a [u8]) -> Result<&'a
 }
 
 /// The message that the line of a node names, if it names one.
-pub(crate) fn number_named(line: &[u8]) -> Option<u64>
+pub(crate) fn number_by_line(line: &[u8]) -> Option<u64>
     ensures { result ≡ number_by_line line.now }
 {
     match line.split(|byte| *byte == b' ').nth(8) {

@@ -53,7 +53,7 @@ fn put_writes<K: Sink>(
 }
 
 // How many bytes a payload of a source has.
-fn payload_size(list: &Medl, source: Source) -> u8
+fn source_payload_size(list: &Medl, source: Source) -> u8
     requires { IsListed list.now source }
     ensures { result ≡ source_payload_size list.now source }
 {
@@ -81,7 +81,7 @@ fn put_read<K: Sink>(
         source: read.source,
         number: read.pair.number(),
         words: read.pair.words(),
-        size: payload_size(list, read.source),
+        size: source_payload_size(list, read.source),
     };
     put_read_line(slot, read.host, &message, line, out)
 }

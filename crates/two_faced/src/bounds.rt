@@ -34,7 +34,7 @@ pub(crate) fn room(list: &Medl) -> i64
 }
 
 /// Slot 0 where the window is narrower than a deviation between two such nodes needs.
-pub(crate) fn window_broken(list: &Medl) -> Option<u32>
+pub(crate) fn faced_window_broken(list: &Medl) -> Option<u32>
     requires { IsValid list.now }
     ensures { result ≡ faced_window_broken list.now }
 {

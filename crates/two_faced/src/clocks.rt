@@ -57,7 +57,7 @@ fn errors_allowed_in(
 
 /// The slot that is named where a drift or a sum of reading errors is past its bound: 0 for a
 /// drift, else the first with such a sum.
-pub(crate) fn clocks_broken(
+pub(crate) fn faced_clocks_broken(
     list: &Medl,
     script: &Script,
     node: u8,

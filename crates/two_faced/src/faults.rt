@@ -6,7 +6,7 @@ use hypothesis::lesser;
 use ttp_world::{Event, Script};
 
 // The slot of such a fault, the first where it has two.
-fn fault_slot(event: &Event) -> Option<u32>
+fn first_fault_slot(event: &Event) -> Option<u32>
     ensures { result ≡ first_fault_slot event.now }
 {
     match event {
@@ -22,7 +22,7 @@ pub(crate) fn faults_broken(script: &Script) -> Option<u32>
 {
     let mut least = None;
     for event in script.events.as_slice() {
-        if let Some(slot) = fault_slot(event) {
+        if let Some(slot) = first_fault_slot(event) {
             least = Some(lesser(slot, least));
         }
     }

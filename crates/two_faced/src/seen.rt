@@ -68,7 +68,7 @@ fn apart_after(run: &Run, list: &Medl, script: &Script, node: u8, slot: u32) -> 
 }
 
 // Of what was seen and a later slot, from the start on the one that shows more.
-fn with_slot(start: u32, seen: Seen, later: Seen) -> Seen
+fn seen_with_slot(start: u32, seen: Seen, later: Seen) -> Seen
     ensures { result ≡ seen_with_slot start seen later }
 {
     if later.slot < start || later.value <= seen.value {
@@ -93,7 +93,7 @@ fn seen_in(run: Run, list: &Medl, script: &Script, node: u8, start: u32) -> Seen
     for slot in 0..script.slots {
         run.step(list, script, slot);
         let value = apart_after(&run, list, script, node, slot);
-        seen = with_slot(start, seen, Seen { value, slot });
+        seen = seen_with_slot(start, seen, Seen { value, slot });
     }
     seen
 }

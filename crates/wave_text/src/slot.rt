@@ -26,7 +26,7 @@ pub(crate) struct Moment<'a> {
 }
 
 // What stands for a node that a slot doesn't have.
-fn no_node() -> NodeShown
+fn no_shown_node() -> NodeShown
     ensures { result ≡ no_shown_node }
 {
     NodeShown {
@@ -46,7 +46,11 @@ fn node_at(slot: &SlotShown, node: u8) -> NodeShown
 {
     let nodes = slot.nodes();
     let k = usize::from(node);
-    if k < nodes.len() { nodes[k] } else { no_node() }
+    if k < nodes.len() {
+        nodes[k]
+    } else {
+        no_shown_node()
+    }
 }
 
 // Writes the changes of a port.

@@ -14,7 +14,7 @@ returns-in-Err-Told-clause-err g c =
       wrong = rw (c.as_slice.ensures.value, c.in-Err-Told.field-0-is) at c.in-Err-Told.ensures.err;
       said =
           same_said 4 _ (file_fault_line (codes "script") c.in-Err-Told.fault) _ _ _
-          (c.bytes.ensures ∙ c.fault_line.ensures)
+          (c.bytes.ensures ∙ c.file_fault_line.ensures)
           c.say.ensures;
     })
 

@@ -21,7 +21,7 @@ loop-slot-preserved c =
     let value = c.apart_after-value.result in
     let fits : FitsSigned w64 value = search rules in (
       c.step.ensures,
-      c.with_slot-seen.ensures
+      c.seen_with_slot-seen.ensures
           ∙ seen_more c.args.list.now c.args.script.now c.args.node c.args.start c.loop-slot.slot c.loop-slot.seen
           (to_z w64 (of_z w64 value)) c.loop-slot.invariant.1 (to_z-of_z w64 value fits ∙ c.apart_after-value.ensures),
     )
