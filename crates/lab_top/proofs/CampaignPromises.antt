@@ -14,7 +14,7 @@ use Rattle.commands.specs.Faults.{file_fault_line}
 use Rattle.commands.specs.Files.{refused_list, refused_script, script_plan}
 use Rattle.commands.specs.Outcome.{Showed, Refused, ShowsEnding}
 use Rattle.commands.specs.Plan.{Outside, ends, line_ending, said_ending, after, Comes, AsksFirst, told_ending}
-use Rattle.commands.specs.Promise.{IsUnfinished, NoneAskedRose, Promise as CallPromise}
+use Rattle.commands.specs.Promise.{IsUnfinished, NoneAskedRose, Promise}
 use Rattle.commands.specs.Read.{list_limit, list_from, script_limit, script_from}
 use Rattle.commands.specs.Right.{AreTold}
 use Rattle.commands.specs.Texts.{Texts, those, no_texts, WroteAmong, alone}
@@ -90,7 +90,7 @@ none_of medl right first last before now none =
     record { whole = []; next = _; rest = _; text = refl; wrote = none }
 
 module _ (list script : List ℕ) (first last : ℕ) (before now : Outside) (answer : LabAnswer)
-    (call : CallPromise ttplab (campaign_plan list script first last) before now answer) where
+    (call : Promise ttplab (campaign_plan list script first last) before now answer) where
   abbrev held : List ℕ → Held
   held = before.files.held
 
@@ -383,7 +383,7 @@ module _ (list script : List ℕ) (first last : ℕ) (before now : Outside) (ans
       (both_ask (Quiet before now) list script from_script file.quiet script_file.quiet (λ m r. tt)) call.in_order) sink
 
 pub campaign_promise : (list script : List ℕ) (first last : ℕ) (before now : Outside) (answer : LabAnswer)
-    → CallPromise ttplab (campaign_plan list script first last) before now answer
+    → Promise ttplab (campaign_plan list script first last) before now answer
     → CampaignPromise list script first last before now answer.status
 campaign_promise list script first last before now answer call = record {
   shown = wrote_campaign list script first last before now answer call;

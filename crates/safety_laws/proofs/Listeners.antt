@@ -9,7 +9,7 @@ use Rattle.safety_laws.proofs.Words.{next-entered, fate-told, enters-by}
 use Rattle.ttp_world.specs.declared.node.Phase.TheVariants as phase
 use Rattle.safety_laws.proofs.Listening.{listens-armed, listens-early}
 use Rattle.std.specs.List.{Contains}
-use Rattle.fault_plan.specs.Told.{IsListening as IsListeningTold}
+use Rattle.fault_plan.specs.Told.{IsListening}
 use Rattle.fault_plan.proofs.FateTells.{over}
 use Rattle.fault_plan.proofs.Returns.{armed-is, quiet-within, listens-until}
 
@@ -109,7 +109,7 @@ awaited-armed plan turn k good is =
 pub awaited-listening : (plan : FaultPlan) (turn k since : ℕ) → IsGoodPlan plan → suc turn < plan.slots
     → fate_of plan turn k ≡ Listening since → IsAwaited plan turn k since
 awaited-listening plan turn k since good within is =
-    let told : IsListeningTold plan turn k since = subst (IsTold plan turn k) is (fate-told plan turn k good) in
+    let told : IsListening plan turn k since = subst (IsTold plan turn k) is (fate-told plan turn k good) in
     let from = told.from in
     let waits = told.waits (omega (arith, within)) in
     record {

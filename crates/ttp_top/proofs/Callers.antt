@@ -9,7 +9,7 @@ use Rattle.std.proofs.lemmas.Bool.{true≢false}
 use Rattle.ttp_base.specs.Outside.{count_end}
 use Rattle.trace_check.proofs.OwnNumbers.{numbers-is_trace}
 use Rattle.commands.proofs.Sure.{HoldsSurely, none_rose, surely_told, unless_cut}
-use Rattle.commands.specs.Promise.{Promise as CallPromise}
+use Rattle.commands.specs.Promise.{Promise}
 
 -- no trace is longer than the file of one may be
 pub trace_within : (list : Medl) (script : Script) (lines : Lines) → IsTrace list script lines
@@ -26,7 +26,7 @@ own_text list script numbers valid valid_script legal =
     (record { numbers = numbers; legal = legal; whole = refl })
 
 module _ {plan : BenchPlan} {before now : Outside} {answer : BenchAnswer}
-    (call : CallPromise ttpbench plan before now answer)
+    (call : Promise ttpbench plan before now answer)
     {list script bytes script_bytes : List ℕ} {medl : Medl} {right : Script} (l : HoldsSurely before.files list bytes)
     (s : HoldsSurely before.files script script_bytes) (are : AreRight bytes script_bytes medl right)
     (can : before.output.faults < count_end) where

@@ -3,7 +3,7 @@ use Rattle.ttp_top.proofs.Terms.{◌≡◌, ◌≢◌, ◌⊎◌, ℕ, ◌<◌, 
 use Rattle.ttp_top.proofs.Terms.{arith, ◌==◌, ◌&&◌, is_some, cases_lt, Wrote, Outside, IsFinal, SaysLine, BenchAnswer}
 use Rattle.ttp_top.proofs.Terms.{ttpbench, plan_of, BenchPromise, Form, is_run, runs_cluster}
 use Rattle.commands.specs.Outcome.{Follows}
-use Rattle.commands.specs.Promise.{IsUnfinished, Promise as CallPromise}
+use Rattle.commands.specs.Promise.{IsUnfinished, Promise}
 use Rattle.commands.specs.Texts.{Texts, WroteAmong}
 use Rattle.commands.proofs.Plans.{all_come, every_weaker}
 use Rattle.commands.proofs.Promises.{wrote_nothing, promise as call_promise}
@@ -11,7 +11,7 @@ use Rattle.ttp_top.specs.Calls.Texts.{Sets}
 use Rattle.ttp_top.proofs.Calls.Forms.{IsOfForm, none_kept, forms}
 
 module _ (form : Option Form) (before now : Outside) (answer : BenchAnswer)
-    (call : CallPromise ttpbench (plan_of form) before now answer) where
+    (call : Promise ttpbench (plan_of form) before now answer) where
   -- the ending that it came to
   ended_of : (few : answer.status ≤ 4) → IsOfForm form (call.ended few).0
   ended_of few =
