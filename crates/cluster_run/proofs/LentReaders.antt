@@ -9,10 +9,11 @@ use Rattle.cluster_run.proofs.Words.{readers_at, rings_in, ◌+◌, ◌≤◌, B
 use Rattle.cluster_run.proofs.Words.{AllByRecursion, cases_lt, get_or_past, All-from_recursion, Message, WriterState}
 use Rattle.cluster_run.proofs.Words.{ReaderState, Medl, Script, IsSource, IsValidScript, lent, source_place, at_source}
 use Rattle.cluster_run.proofs.Words.{incoming_shape, reader_at, calls_in, IsRingOf, is_read_at, IsReadOf}
-use Rattle.cluster_run.proofs.Words.{reads_of_valid, HaveRoomForReads, zero, suc, recursion_from_All, ReadLine, IsReaderSettled}
-use Rattle.cluster_run.proofs.Words.{settled, got_of, pairs_from, desk_numbers, SettlesReads, SettlesReadsOf, read_of}
-use Rattle.cluster_run.proofs.Words.{AreLinesBy, queue_of, all_settled, get_or-map, replicate, length-replicate}
-use Rattle.cluster_run.proofs.Words.{outcomes_of, HaveHandedOn, reader_in, reads_of_host, is_host, filter, TellsReads}
+use Rattle.cluster_run.proofs.Words.{reads_of_valid, HaveRoomForReads, zero, suc, recursion_from_All, ReadLine}
+use Rattle.cluster_run.proofs.Words.{IsReaderSettled, settled, got_of, pairs_from, desk_numbers, SettlesReads}
+use Rattle.cluster_run.proofs.Words.{SettlesReadsOf, read_of, AreLinesBy, queue_of, all_settled, get_or-map, replicate}
+use Rattle.cluster_run.proofs.Words.{length-replicate, outcomes_of, HaveHandedOn, reader_in, reads_of_host, is_host}
+use Rattle.cluster_run.proofs.Words.{filter, TellsReads}
 use Rattle.std.proofs.lemmas.List.{get_or-map as get_or-map_within}
 use Rattle.cluster_run.proofs.Changes.{AreChanged}
 use Rattle.cluster_run.proofs.HandingOn.{no_desk}

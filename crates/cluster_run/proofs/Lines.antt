@@ -11,7 +11,8 @@ use Rattle.cluster_run.proofs.Words.{source_place, read_shown, pairs_read_in, no
 use Rattle.cluster_run.proofs.Words.{is_same_ring, is_not_older, is_line_from, pair_read, newest_number, get_or}
 use Rattle.cluster_run.proofs.Words.{slice_get, Entry, node_past, IsEnded, ShowsState, Seat, NodeLine, HaveEndedSlot}
 use Rattle.cluster_run.proofs.Words.{message_named, number_told, node_shown, zero-add, Diary, Surroundings, diary_of}
-use Rattle.cluster_run.proofs.Words.{past_of, state_of, message_shown, StandsAfter, IsControllerOf, ControllerStandsFor, Stands}
+use Rattle.cluster_run.proofs.Words.{past_of, state_of, message_shown, StandsAfter, IsControllerOf, ControllerStandsFor}
+use Rattle.cluster_run.proofs.Words.{Stands}
 use Rattle.std.proofs.lemmas.List.Folds.{list_all-append}
 use Rattle.ttp_world.proofs.LegalReads.{reverse-all}
 use Rattle.ttp_world.specs.declared.node.NodeState.{NodeState}

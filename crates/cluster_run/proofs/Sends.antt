@@ -5,17 +5,17 @@ use Rattle.cluster_run.proofs.Words.{◌∙◌, arith, ◌==◌, IsSome, filter_
 use Rattle.cluster_run.proofs.Words.{false_from_ne_true, append-nil, length-map, length-set, take_more}
 use Rattle.cluster_run.proofs.Words.{take-append-drop, get_or-set_same, get_or-set_other, HostWrite, payload_of_host}
 use Rattle.cluster_run.proofs.Words.{words_of_payload, WriteLine, HostState, written, Takes, HasRoom, host_at}
-use Rattle.cluster_run.proofs.Words.{with_messages, after_writes, message_count, host_write_line, host_write_lines, steps}
-use Rattle.cluster_run.proofs.Words.{cons_option, filter_map-append, most_number, messages_by, length-append, suc}
-use Rattle.cluster_run.proofs.Words.{IfSome, All, subst, ForSome, All-head, none-some, same_Some, Message, ReaderState}
-use Rattle.cluster_run.proofs.Words.{new_reader, Medl, Chosen, Script, EVENT_LIMIT, plan_at, messages_before}
-use Rattle.cluster_run.proofs.Words.{nothing_chosen, messages_written, writes_in, word_count, BegunSlot, Numbers}
-use Rattle.cluster_run.proofs.Words.{is_loaded, world, AreBytes, Seat, CurrentSlot, AreBytesBefore, HaveBegunFor}
-use Rattle.cluster_run.proofs.Words.{HaveChosen, next_slot, writes_shown, words_written, AreLent, Fetches, MaySettle}
-use Rattle.cluster_run.proofs.Words.{MayLend, MayWriteAll, FetchesOne, WritesBytes, fetcher_lent, add-one, cond_both}
-use Rattle.cluster_run.proofs.Words.{All-append, All-tail, write_in, pairs_sent, FetchAll, MayFetchAll, MayFetchAlone}
-use Rattle.cluster_run.proofs.Words.{IsValidWrite, few_messages, filter_map-each, valid_write_at, valid_writes}
-use Rattle.cluster_run.proofs.Words.{filter_map-few, HaveBegun, slice_get, unwrap_or, no_plan, plan_few}
+use Rattle.cluster_run.proofs.Words.{with_messages, after_writes, message_count, host_write_line, host_write_lines}
+use Rattle.cluster_run.proofs.Words.{steps, cons_option, filter_map-append, most_number, messages_by, length-append}
+use Rattle.cluster_run.proofs.Words.{suc, IfSome, All, subst, ForSome, All-head, none-some, same_Some, Message}
+use Rattle.cluster_run.proofs.Words.{ReaderState, new_reader, Medl, Chosen, Script, EVENT_LIMIT, plan_at}
+use Rattle.cluster_run.proofs.Words.{messages_before, nothing_chosen, messages_written, writes_in, word_count}
+use Rattle.cluster_run.proofs.Words.{BegunSlot, Numbers, is_loaded, world, AreBytes, Seat, CurrentSlot, AreBytesBefore}
+use Rattle.cluster_run.proofs.Words.{HaveBegunFor, HaveChosen, next_slot, writes_shown, words_written, AreLent, Fetches}
+use Rattle.cluster_run.proofs.Words.{MaySettle, MayLend, MayWriteAll, FetchesOne, WritesBytes, fetcher_lent, add-one}
+use Rattle.cluster_run.proofs.Words.{cond_both, All-append, All-tail, write_in, pairs_sent, FetchAll, MayFetchAll}
+use Rattle.cluster_run.proofs.Words.{MayFetchAlone, IsValidWrite, few_messages, filter_map-each, valid_write_at}
+use Rattle.cluster_run.proofs.Words.{valid_writes, filter_map-few, HaveBegun, slice_get, unwrap_or, no_plan, plan_few}
 use Rattle.std.proofs.lemmas.List.Sums.{count_by-le-length}
 use Rattle.ttp_world.specs.declared.medl.SlotPlan.{SlotPlan}
 use Rattle.cluster_run.proofs.Choices.{HasRing, has_ring, node_choice}

@@ -8,8 +8,8 @@ use Rattle.cluster_run.proofs.Words.{end_at, desk_ends, desk_numbers, steps, ⊎
 use Rattle.cluster_run.proofs.Words.{each-back, each-joined, IsPartReady, Outcome, zero-add, ◌≤◌, History, Numbers}
 use Rattle.cluster_run.proofs.Words.{world, length-world, IsPlanned, HaveBegun, StandAfter, AreSeats, AreIncidents}
 use Rattle.cluster_run.proofs.Words.{most_ahead_in, CurrentSlot, Nodes, HaveBegunFor, next_slot, pairs_read}
-use Rattle.cluster_run.proofs.Words.{IsSlotEnded, MayEndSlot, NodesStandAt, IsFromWithin, MayEnd, ArePlannedNodes, AreReady}
-use Rattle.cluster_run.proofs.Words.{NodesView, length-append}
+use Rattle.cluster_run.proofs.Words.{IsSlotEnded, MayEndSlot, NodesStandAt, IsFromWithin, MayEnd, ArePlannedNodes}
+use Rattle.cluster_run.proofs.Words.{AreReady, NodesView, length-append}
 use Rattle.medium.specs.Carried.{Carried}
 use Rattle.controller.specs.Parts.{EachFrom}
 use Rattle.cluster_run.proofs.HandingOn.{delivered-deliverable, HoldsCame, may_hand_on}

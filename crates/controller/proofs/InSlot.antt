@@ -7,10 +7,10 @@ use Rattle.controller.proofs.Words.{act, new_entry, delivery, node_frames, Histo
 use Rattle.controller.proofs.Words.{status_words, past_of, is_on, is_armed, jump_of, reading_error, BegunNode}
 use Rattle.controller.proofs.Words.{jump_taken, node_of, slot_after, chosen_of, frames_of, node_of-slot_after, Arrival}
 use Rattle.controller.proofs.Words.{Carried, Outcome, Seat, hearing_of, view_clock, view_intent, turn_jump, IsBegun}
-use Rattle.controller.proofs.Words.{kept, HasBegun, IsOutcomeOf, CarriesFrames, payload_handed, HaveBegun, IsPlannedFrom, SendsOne}
-use Rattle.controller.proofs.Words.{Stands, IsSameNode, Begins, Plans, Ends, view_past, frames_planned, most_slots}
-use Rattle.controller.proofs.Words.{message_planned, Turn, Ended, Begun, Planned, ControllerView, AreSeats}
-use Rattle.controller.proofs.Words.{IsFromWithin}
+use Rattle.controller.proofs.Words.{kept, HasBegun, IsOutcomeOf, CarriesFrames, payload_handed, HaveBegun}
+use Rattle.controller.proofs.Words.{IsPlannedFrom, SendsOne, Stands, IsSameNode, Begins, Plans, Ends, view_past}
+use Rattle.controller.proofs.Words.{frames_planned, most_slots, message_planned, Turn, Ended, Begun, Planned}
+use Rattle.controller.proofs.Words.{ControllerView, AreSeats, IsFromWithin}
 use Rattle.std.specs.Option.{option_map_or}
 use Rattle.std.proofs.lemmas.List.{append-nil, length-map}
 use Rattle.ttp_base.proofs.Below.{flat_map-next}

@@ -2,8 +2,8 @@
 use Rattle.fault_plan.proofs.Words.{◌≡◌, ℕ, suc, ◌+◌, ◌-◌, ◌*◌, ◌<◌, ◌≤◌, Bool, true, false, length, Some, ◌⊎◌, refl}
 use Rattle.fault_plan.proofs.Words.{ap, sym, subst, ◌∙◌, inl, inr, arith, if◌then◌else◌, filter, cases_lt, cases_eq}
 use Rattle.fault_plan.proofs.Words.{eqb-true, both_ways, and_parts, and_from, false_from_ne_true, below, same_Some}
-use Rattle.fault_plan.proofs.Words.{Change, Incident, FaultPlan, sender, incident_at, enters, Fate, Absent, Sound, Falling}
-use Rattle.fault_plan.proofs.Words.{Fallen, Listening, fate_of, is_good_slot, is_first_slot, is_shown_in}
+use Rattle.fault_plan.proofs.Words.{Change, Incident, FaultPlan, sender, incident_at, enters, Fate, Absent, Sound}
+use Rattle.fault_plan.proofs.Words.{Falling, Fallen, Listening, fate_of, is_good_slot, is_first_slot, is_shown_in}
 use Rattle.fault_plan.proofs.Words.{is_lasting_after, is_steady_after, steady_nodes, tally, IsGoodPlan, ledger_of}
 use Rattle.fault_plan.proofs.Words.{IsLossOf, IsTold}
 use Rattle.fault_plan.specs.Fates.{lasting_nodes}

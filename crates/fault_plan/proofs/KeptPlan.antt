@@ -4,8 +4,8 @@ use Rattle.fault_plan.proofs.Words.{◌++◌, length, Some, refl, ap, sym, subst
 use Rattle.fault_plan.proofs.Words.{AllByRecursion, filter, leb-true, not-false, or_parts, eqb-false, ne_eqb, eq-eqb}
 use Rattle.fault_plan.proofs.Words.{has_node, below, has_node-sieve, same_sieve, Medl, Script, ClusterStart, FaultyNode}
 use Rattle.fault_plan.proofs.Words.{numbers_of, faulty_nodes_before, start_of, has_four_steady, keeps, IsValid, plan_at}
-use Rattle.fault_plan.proofs.Words.{is_on, fault_plan_of, FaultPlan, fate_of, is_sound_after, is_steady_after, steady_nodes}
-use Rattle.fault_plan.proofs.Words.{lost_since, FollowsPlan, and-true, two_rounds}
+use Rattle.fault_plan.proofs.Words.{is_on, fault_plan_of, FaultPlan, fate_of, is_sound_after, is_steady_after}
+use Rattle.fault_plan.proofs.Words.{steady_nodes, lost_since, FollowsPlan, and-true, two_rounds}
 use Rattle.ttp_world.specs.Hypothesis.{faulty_nodes_after}
 use Rattle.ttp_world.specs.Hypothesis.{started_faulty_nodes, is_steady, breaks_in}
 use Rattle.ttp_world.specs.Hypothesis.{lacks_steady_after}

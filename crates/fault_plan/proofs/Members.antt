@@ -2,10 +2,11 @@
 use Rattle.fault_plan.proofs.Words.{◌≡◌, ◌≢◌, ℕ, zero, suc, ◌+◌, ◌%◌, ◌<◌, ◌≤◌, Bool, true, false, cond, not, ◌&&◌}
 use Rattle.fault_plan.proofs.Words.{◌||◌, refl, ap, sym, subst, ◌∙◌, inl, inr, mod-lt, arith, List, [], ◌∷◌, Option}
 use Rattle.fault_plan.proofs.Words.{Some, None, ◌==◌, cases_eq, eq-eqb, ne_eqb, mod-eq_of_lt, below, has_node, filter}
-use Rattle.fault_plan.proofs.Words.{has_node-sieve, same_sieve, Change, Receiving, Incident, FaultPlan, sender, incident_at}
-use Rattle.fault_plan.proofs.Words.{is_armed_by, enters, Fate, Absent, Sound, Falling, Fallen, Listening, fate_at_begin}
-use Rattle.fault_plan.proofs.Words.{struck, turned, fate_of, is_sound_fate, is_sound_after, is_good_slot, is_first_slot}
-use Rattle.fault_plan.proofs.Words.{IsGoodPlan, opened, with_slot, ledger_of, IsLossOf, IsTold, IsLedgerOf}
+use Rattle.fault_plan.proofs.Words.{has_node-sieve, same_sieve, Change, Receiving, Incident, FaultPlan, sender}
+use Rattle.fault_plan.proofs.Words.{incident_at, is_armed_by, enters, Fate, Absent, Sound, Falling, Fallen, Listening}
+use Rattle.fault_plan.proofs.Words.{fate_at_begin, struck, turned, fate_of, is_sound_fate, is_sound_after, is_good_slot}
+use Rattle.fault_plan.proofs.Words.{is_first_slot, IsGoodPlan, opened, with_slot, ledger_of, IsLossOf, IsTold}
+use Rattle.fault_plan.proofs.Words.{IsLedgerOf}
 use Rattle.ttp_base.specs.NodeSet.{most_nodes, with_node, without_node}
 use Rattle.ttp_base.proofs.NodeLists.{filter-none, with_node-filter, without_node-filter, with_node-nil}
 use Rattle.ttp_base.proofs.NodeSets.{has_node-with, has_node-without}

@@ -3,9 +3,10 @@
 use Rattle.fault_plan.proofs.Words.{◌≡◌, ℕ, zero, suc, ◌+◌, ◌<◌, ◌≤◌, Bool, true, false, cond, not, ◌&&◌, Option, Some}
 use Rattle.fault_plan.proofs.Words.{None, refl, ap, sym, subst, ◌∙◌, inl, inr, arith, [], ◌==◌, and_parts, and_from}
 use Rattle.fault_plan.proofs.Words.{not_from_false, not-true, eqb-true, eq-eqb, both_ways, false_from_ne_true, le-leb}
-use Rattle.fault_plan.proofs.Words.{lt-ltb, eq-or-lt_of_le, has_node, Incident, FaultPlan, incident_at, is_armed_by, enters}
-use Rattle.fault_plan.proofs.Words.{sender, Fate, Absent, Sound, Falling, Fallen, Listening, fate_at_begin, struck}
-use Rattle.fault_plan.proofs.Words.{fate_of, is_sound_fate, is_sound_after, is_lost, is_lasting_after, IsGoodPlan, and-true}
+use Rattle.fault_plan.proofs.Words.{lt-ltb, eq-or-lt_of_le, has_node, Incident, FaultPlan, incident_at, is_armed_by}
+use Rattle.fault_plan.proofs.Words.{enters, sender, Fate, Absent, Sound, Falling, Fallen, Listening, fate_at_begin}
+use Rattle.fault_plan.proofs.Words.{struck, fate_of, is_sound_fate, is_sound_after, is_lost, is_lasting_after}
+use Rattle.fault_plan.proofs.Words.{IsGoodPlan, and-true}
 use Rattle.fault_plan.specs.Fates.{is_absent, is_entry_near}
 use Rattle.fault_plan.proofs.FateTells.{none-first}
 use Rattle.fault_plan.proofs.FateSteps.{strikes, turned-same, next-same, next-entered, next-armed, sound-next}

@@ -2,9 +2,10 @@
 use Rattle.fault_plan.proofs.Words.{◌≡◌, ◌≢◌, ℕ, zero, suc, ◌+◌, ◌*◌, ◌<◌, ◌≤◌, Bool, true, false, ◌&&◌, List, []}
 use Rattle.fault_plan.proofs.Words.{Option, cond, Some, None, ◌⊎◌, refl, ap, sym, ◌∙◌, inl, inr, arith, length, ◌==◌}
 use Rattle.fault_plan.proofs.Words.{nat_lt, Contains, list_any, and_parts, and_from, eqb-true, eq-eqb, ltb-true, lt-ltb}
-use Rattle.fault_plan.proofs.Words.{false_from_ne_true, both_ways, eq-or-lt_of_le, has_node, Incident, Return, FaultPlan}
-use Rattle.fault_plan.proofs.Words.{sender, incident_at, is_armed_by, enters, Fate, Absent, Sound, Falling, Listening}
-use Rattle.fault_plan.proofs.Words.{fate_at_begin, struck, next_fate, fate_of, is_good_slot, is_lost, IsGoodPlan}
+use Rattle.fault_plan.proofs.Words.{false_from_ne_true, both_ways, eq-or-lt_of_le, has_node, Incident, Return}
+use Rattle.fault_plan.proofs.Words.{FaultPlan, sender, incident_at, is_armed_by, enters, Fate, Absent, Sound, Falling}
+use Rattle.fault_plan.proofs.Words.{Listening, fate_at_begin, struck, next_fate, fate_of, is_good_slot, is_lost}
+use Rattle.fault_plan.proofs.Words.{IsGoodPlan}
 use Rattle.std.proofs.lemmas.List.Folds.{Any-from_list_any, list_any_at}
 use Rattle.fault_plan.specs.Plan.{is_armed_there, enters_there}
 use Rattle.fault_plan.proofs.FateSteps.{turned-same, next-same, next-armed, next-listening}

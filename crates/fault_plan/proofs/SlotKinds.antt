@@ -2,10 +2,10 @@
 use Rattle.fault_plan.proofs.Words.{◌≡◌, ◌≢◌, ℕ, suc, ◌+◌, ◌≤◌, Bool, true, false, cond, Option, Some, None, refl, ap}
 use Rattle.fault_plan.proofs.Words.{sym, subst, ◌∙◌, arith, ◌⊎◌, inl, inr, ◌==◌, nat_lt, eqb-true, eqb-false, eq-eqb}
 use Rattle.fault_plan.proofs.Words.{ne_eqb, both_ways, lt-ltb, le-ltb, false_from_ne_true, none-some, Change, Sending}
-use Rattle.fault_plan.proofs.Words.{Receiving, Jumping, Incident, FaultPlan, sender, incident_at, is_armed_by, enters, Fate}
-use Rattle.fault_plan.proofs.Words.{Absent, Sound, Falling, Fallen, Listening, struck, turned, fate_of, is_sound_fate}
-use Rattle.fault_plan.proofs.Words.{is_sound_after, is_shown_in, is_good_slot, is_first_slot, may_stay, lost_since}
-use Rattle.fault_plan.proofs.Words.{IsGoodPlan, IsTold}
+use Rattle.fault_plan.proofs.Words.{Receiving, Jumping, Incident, FaultPlan, sender, incident_at, is_armed_by, enters}
+use Rattle.fault_plan.proofs.Words.{Fate, Absent, Sound, Falling, Fallen, Listening, struck, turned, fate_of}
+use Rattle.fault_plan.proofs.Words.{is_sound_fate, is_sound_after, is_shown_in, is_good_slot, is_first_slot, may_stay}
+use Rattle.fault_plan.proofs.Words.{lost_since, IsGoodPlan, IsTold}
 use Rattle.fault_plan.specs.Fates.{shown_in}
 use Rattle.fault_plan.specs.SlotKind.{SlotKind, Good, Idle, Lost, Shown, Last, kind_if_lost, kind_by_fate, slot_kind}
 use Rattle.fault_plan.specs.SlotKind.{is_good_kind, is_first_kind, IsIdle, IsGoodAfter, IsLostAfter, IsShownAfter}

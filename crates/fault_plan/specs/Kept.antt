@@ -16,7 +16,8 @@ use Rattle.ttp_world.specs.Returning.{carries_place, needed_back}
 use Rattle.ttp_world.specs.Script.{is_ever_on, is_on, is_armed, drift_of, reading_error, has_jump, jump_of}
 use Rattle.ttp_world.specs.Script.{flipped_bits}
 use Rattle.ttp_world.specs.Starts.{StartsAlone}
-use Rattle.fault_plan.specs.Plan.{Sending, Receiving, Jumping, Incident, Return, FaultPlan, sender, incident_at, fault_plan_of}
+use Rattle.fault_plan.specs.Plan.{Sending, Receiving, Jumping, Incident, Return, FaultPlan, sender, incident_at}
+use Rattle.fault_plan.specs.Plan.{fault_plan_of}
 use Rattle.fault_plan.specs.Fates.{Listening, fate_of, is_sound_after, is_good_slot, lost_since}
 use Rattle.fault_plan.specs.GoodPlan.{IsGoodPlan}
 use Rattle.fault_plan.specs.Places.{planned_place}

@@ -3,7 +3,8 @@ ghost use Rattle.std.specs.Prelude.{◌≡◌, ◌≢◌, ◌+◌, ◌≤◌, �
 ghost use Rattle.std.specs.Prelude.{vec_len, vec_capacity, option_map, IfOk, IfSome, IsSome, OnOk, OnErr};
 ghost use Rattle.ttp_world.specs.declared.script.Source.{Source};
 ghost use Rattle.host_port.specs.Rings.{at_source, IsControllerEndOf};
-ghost use Rattle.host_port.specs.Reading.{AreReadersOf, AreReadersOfEnd, AreTheirRings, IsItsRing, rings_read, settled, all_settled, HaveSomeSettled, IsReaderSettled, got_of, pairs_from};
+ghost use Rattle.host_port.specs.Reading.{AreReadersOf, AreReadersOfEnd, AreTheirRings, IsItsRing, rings_read, settled};
+ghost use Rattle.host_port.specs.Reading.{all_settled, HaveSomeSettled, IsReaderSettled, got_of, pairs_from};
 ghost use Rattle.std.specs.Vec.Iter.{into_iter_items};
 ghost use Rattle.host_port.specs.Queues.{pairs_at, queue_at, AreQueued};
 

@@ -13,12 +13,10 @@ use Rattle.line_reader.specs.Reading.{word_end, fields_in, word_at}
 use Rattle.line_text.specs.Labels.{after_label}
 use Rattle.line_reader.specs.Reading.{byte_in, offset_in, byte_or_dash_in, message_or_dash_in, node_word_in}
 use Rattle.line_text.specs.Numerals.{numeral_in}
-use Rattle.line_reader.specs.Reading.{ack_in}
-use Rattle.line_reader.specs.Reading.{source_in, schedule_in, members_word_in, hex_payload_in, has_size}
+use Rattle.line_reader.specs.Reading.{ack_in, source_in, schedule_in, members_word_in, hex_payload_in, has_size}
 use Rattle.line_reader.specs.Reading.{head_labels, node_labels, write_labels, read_labels, kept_labels, broken_labels}
-use Rattle.line_reader.specs.Reading.{owed_labels, refused_labels}
-use Rattle.line_reader.specs.Reading.{head_in, node_in, write_line_in, read_line_in, kept_in, broken_in, owed_in, refused_in}
-use Rattle.line_reader.specs.Reading.{or_else, line_in}
+use Rattle.line_reader.specs.Reading.{owed_labels, refused_labels, head_in, node_in, write_line_in, read_line_in}
+use Rattle.line_reader.specs.Reading.{kept_in, broken_in, owed_in, refused_in, or_else, line_in}
 use Rattle.line_reader.specs.TraceLines.{slot_digits, fits_word, text_of, Fits}
 use Rattle.line_text.specs.Numerals.{message_digits}
 use Rattle.line_reader.proofs.FieldLists.{fields_in-cons, fields_in-nil}

@@ -28,9 +28,8 @@ use Rattle.line_reader.specs.declared.trace_line.Word.TheVariants as word
 use Rattle.line_reader.specs.Reading.{◌>>=◌, is_space, word_end, fields_in, source_in, has_size}
 use Rattle.line_text.specs.Labels.{after_label}
 use Rattle.line_reader.specs.Reading.{head_labels, node_labels, write_labels, read_labels, kept_labels, broken_labels}
-use Rattle.line_reader.specs.Reading.{owed_labels, refused_labels}
-use Rattle.line_reader.specs.Reading.{head_in, node_in, write_line_in, read_line_in, kept_in, broken_in, owed_in, refused_in}
-use Rattle.line_reader.specs.Reading.{line_in}
+use Rattle.line_reader.specs.Reading.{owed_labels, refused_labels, head_in, node_in, write_line_in, read_line_in}
+use Rattle.line_reader.specs.Reading.{kept_in, broken_in, owed_in, refused_in, line_in}
 use Rattle.line_reader.specs.TraceLines.{slot_digits, word_text, text_of, Fits, FitsSource}
 use Rattle.line_text.specs.Numerals.{message_digits}
 use Rattle.line_reader.proofs.FieldLists.{fields_in-cons, fields_in-nil}

@@ -19,10 +19,10 @@ use Rattle.medl_text.specs.declared.error.MedlError.{MedlError}
 use Rattle.medl_text.specs.ListFile.{at_top, at_slot, held_at, kind_faults, key_faults, optional_faults, range_faults}
 use Rattle.medl_text.specs.ListFile.{number_faults, flag_faults, natural, number_at, flag_at, kind_of, letters_faults}
 use Rattle.medl_text.specs.ListFile.{kinds_faults, kinds_at, payload_limit, request_faults, requests_faults}
-use Rattle.medl_text.specs.ListFile.{answers_faults, live_faults, live_of, live_or_all, live_at, slot_faults, slot_plan_of}
-use Rattle.medl_text.specs.ListFile.{array_faults, slots_in, slot_limit, count_faults, slots_faults, plans_of}
-use Rattle.medl_text.specs.ListFile.{unknown_faults, sync_faults, modes_faults, modes_in, file_faults, list_in}
-use Rattle.medl_text.specs.ListFile.{list_unless, medl_in, medl_of_document, document_of, medl_of}
+use Rattle.medl_text.specs.ListFile.{answers_faults, live_faults, live_of, live_or_all, live_at, slot_faults}
+use Rattle.medl_text.specs.ListFile.{slot_plan_of, array_faults, slots_in, slot_limit, count_faults, slots_faults}
+use Rattle.medl_text.specs.ListFile.{plans_of, unknown_faults, sync_faults, modes_faults, modes_in, file_faults}
+use Rattle.medl_text.specs.ListFile.{list_in, list_unless, medl_in, medl_of_document, document_of, medl_of}
 use Rattle.medl_text.proofs.Counts.{length-plans_of}
 
 -- Where a file has no fault, no part of it has.

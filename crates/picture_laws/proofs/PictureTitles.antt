@@ -24,9 +24,10 @@ use Rattle.picture_text.specs.Cells.{attribute, title_element, cell, mark, write
 use Rattle.picture_text.specs.Cells.{shown_memberships, held_by_most, node_class, node_cell, members_title, count_of}
 use Rattle.picture_text.specs.Cells.{members_cell_of, members_cell, apart_text, apart_shown, clocks_cell, host_of, host_mark}
 use Rattle.picture_text.specs.Picture.{ended, class_of, text_line, size, svg_line, style_lines, said_line, back_said}
-use Rattle.picture_text.specs.Picture.{picture_head_lines, row_line, band_lines, number_lines, slot_at, cell_lines, why_lines}
-use Rattle.picture_text.specs.Picture.{why_box, why_word, beside_lines, is_shown, flag_pole, flag_lines, keep_flag, back_flag, legend_x, legend_y, legend_text}
-use Rattle.picture_text.specs.Picture.{word_entries, cell_entry, mark_entry, class_entries, shown_slots, picture_of}
+use Rattle.picture_text.specs.Picture.{picture_head_lines, row_line, band_lines, number_lines, slot_at, cell_lines}
+use Rattle.picture_text.specs.Picture.{why_lines, why_box, why_word, beside_lines, is_shown, flag_pole, flag_lines}
+use Rattle.picture_text.specs.Picture.{keep_flag, back_flag, legend_x, legend_y, legend_text, word_entries, cell_entry}
+use Rattle.picture_text.specs.Picture.{mark_entry, class_entries, shown_slots, picture_of}
 use Rattle.picture_text.specs.Tables.{words, letter, word_meaning, keep_meaning, back_meaning, keep_slot, keep_name}
 use Rattle.picture_text.specs.Tables.{back_slot, back_name}
 use Rattle.picture_text.specs.Window.{columns, bands, legend_top, height, column_x, row_y}

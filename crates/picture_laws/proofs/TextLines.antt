@@ -28,9 +28,9 @@ use Rattle.whole_trace.specs.declared.shown.HostLine.TheVariants as by_host
 use Rattle.whole_trace.specs.declared.shown.NodeShown.{NodeShown}
 use Rattle.whole_trace.specs.Due.{is_below, source_node, has_digits, are_members, doubted, is_node_line, is_head, is_keep, is_back}
 use Rattle.whole_trace.specs.Due.{next_node, after_node, due_after, ending}
-use Rattle.whole_trace.specs.Whole.{SlotLines, SlotsFrom, WholeTrace, value_of, one_line_later, or_missing, judged_behind, judged}
-use Rattle.whole_trace.specs.Whole.{no_lines, no_slots, with_shown_node, with_node_line, with_line, with_value, slots_from, with_slots}
-use Rattle.whole_trace.specs.Whole.{whole_or_line, whole_in}
+use Rattle.whole_trace.specs.Whole.{SlotLines, SlotsFrom, WholeTrace, value_of, one_line_later, or_missing}
+use Rattle.whole_trace.specs.Whole.{judged_behind, judged, no_lines, no_slots, with_shown_node, with_node_line}
+use Rattle.whole_trace.specs.Whole.{with_line, with_value, slots_from, with_slots, whole_or_line, whole_in}
 use Rattle.whole_trace.proofs.Heads.{few_slots, few_nodes}
 use Rattle.whole_trace.proofs.SlotCounts.{slot_count}
 use Rattle.shown_slot.specs.Trace.{no_shown_node, header_text, first_text, node_text, host_text}

@@ -4,8 +4,9 @@ use Rattle.picture_text.proofs.Words.{◌∷◌, ◌++◌, refl, ◌∙◌, Opti
 use Rattle.picture_text.proofs.Words.{list_any, flat_map, signed_decimal, set_bits, Lines, hex, Back, Keep}
 use Rattle.picture_text.proofs.Words.{number_or_dash, ack_word, word_text, keep_text, Head, HostLine, NodeShown}
 use Rattle.picture_text.proofs.Words.{SlotLines, WholeTrace, is_holder, header_text, node_text, host_text, Span}
-use Rattle.picture_text.proofs.Words.{shown_memberships, node_class, each_node, membership_text, members_title, count_of}
-use Rattle.picture_text.proofs.Words.{apart_text, apart_shown, more_text, words, letter, keep_meaning, strange_past}
+use Rattle.picture_text.proofs.Words.{shown_memberships, node_class, each_node, membership_text, members_title}
+use Rattle.picture_text.proofs.Words.{count_of, apart_text, apart_shown, more_text, words, letter, keep_meaning}
+use Rattle.picture_text.proofs.Words.{strange_past}
 use Rattle.std.proofs.Common.{zero, ◌&&◌, nat_lt}
 use Rattle.std.proofs.Common.{ℤ, pos, negsuc, decimal}
 use Rattle.std.specs.Prelude.{nat_le, is_some}

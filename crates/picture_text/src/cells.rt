@@ -5,8 +5,8 @@ ghost use Rattle.std.specs.Prelude.{◌≡◌, ◌+◌, ◌-◌, ◌*◌, ◌<�
 ghost use Rattle.ttp_base.specs.NodeSet.{below};
 ghost use Rattle.shown_slot.specs.Nodes.{clock_range};
 ghost use Rattle.shown_slot.specs.Trace.{no_shown_node, node_at};
-ghost use Rattle.picture_text.specs.Cells.{doubt_class, other_class, data_class, node_class, node_cell, shown_memberships};
-ghost use Rattle.picture_text.specs.Cells.{members_cell, apart_text, apart_shown, clocks_cell};
+ghost use Rattle.picture_text.specs.Cells.{doubt_class, other_class, data_class, node_class, node_cell};
+ghost use Rattle.picture_text.specs.Cells.{shown_memberships, members_cell, apart_text, apart_shown, clocks_cell};
 ghost use Rattle.picture_text.specs.Picture.{class_of, text_line, number_lines, cell_lines};
 ghost use Rattle.picture_text.specs.Sheet.{Puts};
 ghost use Rattle.picture_text.specs.Window.{row_y, column_x};

@@ -5,8 +5,9 @@ ghost use Rattle.std.specs.Prelude.{◌≡◌, ◌+◌, ◌<◌, ◌≤◌, [], 
 ghost use Rattle.std.specs.Prelude.{None, OnErr, IsTrue, position};
 ghost use Rattle.ttp_base.specs.Outside.{WroteLines, CutShort};
 ghost use Rattle.ttp_base.specs.Text.{lines_below};
-ghost use Rattle.picture_text.specs.Picture.{ended, band_lines, cell_lines, beside_lines, slot_at, shown_slots, keep_flag};
-ghost use Rattle.picture_text.specs.Picture.{back_flag, word_entries, class_entries, picture_of, picture_lines};
+ghost use Rattle.picture_text.specs.Picture.{ended, band_lines, cell_lines, beside_lines, slot_at, shown_slots};
+ghost use Rattle.picture_text.specs.Picture.{keep_flag, back_flag, word_entries, class_entries, picture_of};
+ghost use Rattle.picture_text.specs.Picture.{picture_lines};
 ghost use Rattle.picture_text.specs.Sheet.{Puts};
 ghost use Rattle.picture_text.specs.Tables.{words};
 ghost use Rattle.picture_text.specs.Window.{bands, legend_top, is_strange};

@@ -1,9 +1,9 @@
 -- A slot of the plan: who hears its frame, and who is sound before it.
 use Rattle.rejoin.proofs.Words.{◌≡◌, ◌≢◌, ℕ, suc, ◌+◌, ◌<◌, ◌≤◌, true, false, length, Some, refl, ap, subst, ◌∙◌, inl}
 use Rattle.rejoin.proofs.Words.{inr, arith, both_ways, cases_lt, has_node, Medl, Script, ClusterStart, loses}
-use Rattle.rejoin.proofs.Words.{expected_sender, four_rounds, is_ever_on, has_jump, Incident, FaultPlan, sender, incident_at}
-use Rattle.rejoin.proofs.Words.{fate_of, is_sound_after, is_good_slot, Fate, Listening, clear-loses, incident-made}
-use Rattle.rejoin.proofs.Words.{sender-less, sender-same, back_plan_of}
+use Rattle.rejoin.proofs.Words.{expected_sender, four_rounds, is_ever_on, has_jump, Incident, FaultPlan, sender}
+use Rattle.rejoin.proofs.Words.{incident_at, fate_of, is_sound_after, is_good_slot, Fate, Listening, clear-loses}
+use Rattle.rejoin.proofs.Words.{incident-made, sender-less, sender-same, back_plan_of}
 use Rattle.fault_plan.specs.Plan.{Sending}
 use Rattle.fault_plan.specs.Fates.{is_sound_fate}
 use Rattle.fault_plan.specs.Kept.{IsHeardByPlan}

@@ -4,8 +4,8 @@ use Rattle.safety_laws.proofs.Words.{◌∷◌, length, Some, refl, ap, sym, sub
 use Rattle.safety_laws.proofs.Words.{list_all, false≢true, not_from_false, and_from, same_Some, bytes_eq-Decides}
 use Rattle.safety_laws.proofs.Words.{most_nodes, has_node, Medl, Ack, Phase, Script, is_doubt, History, ClusterStart}
 use Rattle.safety_laws.proofs.Words.{is_left_phase, newest_slot, is_settled, has_left, are_same_members, is_in_among}
-use Rattle.safety_laws.proofs.Words.{is_out_among, node_past, nodes-most, Change, Sending, FaultPlan, Fate, Absent, Sound}
-use Rattle.safety_laws.proofs.Words.{Falling, Fallen, Listening, fate_of, is_sound_after, lost_since, IsGoodPlan}
+use Rattle.safety_laws.proofs.Words.{is_out_among, node_past, nodes-most, Change, Sending, FaultPlan, Fate, Absent}
+use Rattle.safety_laws.proofs.Words.{Sound, Falling, Fallen, Listening, fate_of, is_sound_after, lost_since, IsGoodPlan}
 use Rattle.safety_laws.proofs.Words.{planned_members, ledger_of, ledger-told, fallen-member, held_with, IsSoundAt}
 use Rattle.safety_laws.proofs.Words.{IsFallenAt, IsByFate, sound-fate}
 use Rattle.ttp_world.specs.declared.node.Ack.TheVariants as ack

@@ -3,8 +3,8 @@ use Rattle.safety_laws.proofs.Words.{◌≡◌, ℕ, zero, suc, ◌+◌, ◌<◌
 use Rattle.safety_laws.proofs.Words.{inl, inr, refl, ap, sym, ◌∙◌, arith, int_le, and_parts, and_from, both_ways}
 use Rattle.safety_laws.proofs.Words.{false≢true, ints, Medl, Script, History, next_place, Place, ClusterStart, needed}
 use Rattle.safety_laws.proofs.Words.{is_within_window, spread, clock_at, measured, IsUpTo, FaultPlan, sender, enters}
-use Rattle.safety_laws.proofs.Words.{fate_of, is_sound_after, sound-from, none-enters, NoneEnters, IsNewestEntry, IsSoundIn}
-use Rattle.safety_laws.proofs.Words.{GoesOnByPlan, IsTight}
+use Rattle.safety_laws.proofs.Words.{fate_of, is_sound_after, sound-from, none-enters, NoneEnters, IsNewestEntry}
+use Rattle.safety_laws.proofs.Words.{IsSoundIn, GoesOnByPlan, IsTight}
 use Rattle.ttp_world.specs.Returning.{needed_back}
 use Rattle.precision.specs.Spread.{spread_rejoining, needed_rejoining}
 use Rattle.precision.specs.Company.{IsCompanyRun, IsCompanySettled, slots_over, HoldsCompanyClocksWithin}

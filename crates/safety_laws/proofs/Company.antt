@@ -3,11 +3,11 @@ use Rattle.safety_laws.proofs.Words.{◌≡◌, ℕ, zero, suc, ◌+◌, ◌-◌
 use Rattle.safety_laws.proofs.Words.{length, ◌⊎◌, inl, inr, pos, refl, ap, sym, subst, ◌∙◌, arith, ◌==◌, IsTrue}
 use Rattle.safety_laws.proofs.Words.{list_any, eqb-true, eq-eqb, both_ways, false_from_ne_true, Medl, Entry, Script}
 use Rattle.safety_laws.proofs.Words.{stint_notes, History, entry_of, diary_of, next_place, place_of, ClusterStart}
-use Rattle.safety_laws.proofs.Words.{jump_of, BeginsOn, IsIn, BeganTogether, continued_active, Return, FaultPlan, sender}
-use Rattle.safety_laws.proofs.Words.{is_armed_by, enters, is_sound_fate, fate_of, is_sound_after, is_good_slot, is_measured}
-use Rattle.safety_laws.proofs.Words.{tally, IsGoodPlan, FollowsPlan, planned_place, four-measured, sound-from}
-use Rattle.safety_laws.proofs.Words.{enters-by, entry-is, entry-good, entry-from, armed-lost, sender-stays, NoneEnters}
-use Rattle.safety_laws.proofs.Words.{IsNewestEntry, IsSoundIn, NotedInSlot, NotedByPlan}
+use Rattle.safety_laws.proofs.Words.{jump_of, BeginsOn, IsIn, BeganTogether, continued_active, Return, FaultPlan}
+use Rattle.safety_laws.proofs.Words.{sender, is_armed_by, enters, is_sound_fate, fate_of, is_sound_after, is_good_slot}
+use Rattle.safety_laws.proofs.Words.{is_measured, tally, IsGoodPlan, FollowsPlan, planned_place, four-measured}
+use Rattle.safety_laws.proofs.Words.{sound-from, enters-by, entry-is, entry-good, entry-from, armed-lost, sender-stays}
+use Rattle.safety_laws.proofs.Words.{NoneEnters, IsNewestEntry, IsSoundIn, NotedInSlot, NotedByPlan}
 use Rattle.std.proofs.Math.Nat.{eq-or-lt_of_le}
 use Rattle.ttp_world.specs.Clock.{notes_of}
 use Rattle.ttp_world.specs.Diary.{ends_round}

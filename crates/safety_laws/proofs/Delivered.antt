@@ -6,10 +6,11 @@ use Rattle.safety_laws.proofs.Words.{delivery, message_sent, History, entry_of, 
 use Rattle.safety_laws.proofs.Words.{delivered_of, new_messages, message_of, NodePast, Hearing, expected_of}
 use Rattle.safety_laws.proofs.Words.{expected_header, expected_length, BegunNode, BegunSlot, SlotNumbers, Numbers}
 use Rattle.safety_laws.proofs.Words.{slot_after, frames_in, hearing_in, messages_chosen, world, legal-shapes}
-use Rattle.safety_laws.proofs.Words.{node_of-slot_after, row_of_world, length-world, FaultPlan, sender, is_good_slot, Sound}
-use Rattle.safety_laws.proofs.Words.{fate_of, planned_place, place-sender, payload_of_frame, delivery_at, entry_made}
-use Rattle.safety_laws.proofs.Words.{NodeSlot, IsSoundIn, NotesNothing, IsTurn, get_or-map, get_or-map-range_with_len}
-use Rattle.safety_laws.proofs.Words.{Chosen, frame, member_width, nothing_chosen, message_chosen, message_given}
+use Rattle.safety_laws.proofs.Words.{node_of-slot_after, row_of_world, length-world, FaultPlan, sender, is_good_slot}
+use Rattle.safety_laws.proofs.Words.{Sound, fate_of, planned_place, place-sender, payload_of_frame, delivery_at}
+use Rattle.safety_laws.proofs.Words.{entry_made, NodeSlot, IsSoundIn, NotesNothing, IsTurn, get_or-map}
+use Rattle.safety_laws.proofs.Words.{get_or-map-range_with_len, Chosen, frame, member_width, nothing_chosen}
+use Rattle.safety_laws.proofs.Words.{message_chosen, message_given}
 use Rattle.ttp_world.specs.declared.node.Entry.TheVariants as entry
 use Rattle.ttp_world.specs.Conduct.{own_cstate}
 use Rattle.ttp_world.specs.declared.node.Delivered.{Delivered}

@@ -5,11 +5,11 @@ use Rattle.safety_laws.proofs.Words.{Option, Some, None, mod-lt, ◌==◌, cases
 use Rattle.safety_laws.proofs.Words.{Script, notes_in, History, entry_of, diary_of, continues_stint, next_place}
 use Rattle.safety_laws.proofs.Words.{stint_place, ClusterStart, needed, drift_share, IsValid, drift_of, jump_of, spread}
 use Rattle.safety_laws.proofs.Words.{clock_at, IsUpTo, AreNear, drift_within, place_continued, clock_at-still, drift_in}
-use Rattle.safety_laws.proofs.Words.{correction, product_up, clock_after, round_notes, Jumping, FaultPlan, sender, Change}
-use Rattle.safety_laws.proofs.Words.{Incident, incident_at, is_armed_by, enters, Falling, fate_of, is_sound_after, Fate}
-use Rattle.safety_laws.proofs.Words.{Sound, Fallen, Listening, struck, turned, FollowsWithin, planned_place, IsSoundIn}
-use Rattle.safety_laws.proofs.Words.{NotesNothing, GoesOnByPlan, IsTight, IsGoodPlan, IsLossOf, IsTold, fate-told}
-use Rattle.safety_laws.proofs.Words.{entry-is, HasJumped}
+use Rattle.safety_laws.proofs.Words.{correction, product_up, clock_after, round_notes, Jumping, FaultPlan, sender}
+use Rattle.safety_laws.proofs.Words.{Change, Incident, incident_at, is_armed_by, enters, Falling, fate_of}
+use Rattle.safety_laws.proofs.Words.{is_sound_after, Fate, Sound, Fallen, Listening, struck, turned, FollowsWithin}
+use Rattle.safety_laws.proofs.Words.{planned_place, IsSoundIn, NotesNothing, GoesOnByPlan, IsTight, IsGoodPlan}
+use Rattle.safety_laws.proofs.Words.{IsLossOf, IsTold, fate-told, entry-is, HasJumped}
 use Rattle.fault_plan.specs.Fates.{armed_in}
 use Rattle.fault_plan.specs.Fates.{entered_in, changed}
 use Rattle.safety_laws.proofs.Apart.{noted_width, Apart, Fresh, Before, apart-next, same-near}

@@ -3,8 +3,9 @@ use Rattle.safety_laws.proofs.Words.{◌≡◌, ℕ, suc, ◌+◌, ◌-◌, ◌<
 use Rattle.safety_laws.proofs.Words.{◌∙◌, neg_ℤ, arith, false≢true, Medl, Script, diary_of, place_of, needed}
 use Rattle.safety_laws.proofs.Words.{is_correct_after, IsLegal, IsValid, newest_slot, IsSafe, IsValidScript, Numbers}
 use Rattle.safety_laws.proofs.Words.{node_past, world, length-world, spread, IsIn, clock_at, measured, is_sound_after}
-use Rattle.safety_laws.proofs.Words.{KeepsByPlan, FaultPlan, fault_plan_of, kept-plan, IsSoundIn, GoesOnByPlan, IsTight, IsSoundAt}
-use Rattle.safety_laws.proofs.Words.{FaultyLeave, IsBegunAlone, StandsWithFaults, IsByPlan, AcceptsAlikeSince, StandsAlikeSince}
+use Rattle.safety_laws.proofs.Words.{KeepsByPlan, FaultPlan, fault_plan_of, kept-plan, IsSoundIn, GoesOnByPlan, IsTight}
+use Rattle.safety_laws.proofs.Words.{IsSoundAt, FaultyLeave, IsBegunAlone, StandsWithFaults, IsByPlan}
+use Rattle.safety_laws.proofs.Words.{AcceptsAlikeSince, StandsAlikeSince}
 use Rattle.ttp_world.specs.declared.keep.Keep.TheVariants as keep
 use Rattle.ttp_world.specs.Hypothesis.{keeps}
 use Rattle.safety_laws.proofs.Bounds.{tight-clocks, tight-deviations}

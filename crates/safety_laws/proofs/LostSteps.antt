@@ -2,12 +2,12 @@
 use Rattle.safety_laws.proofs.Words.{◌≡◌, ◌≢◌, ℕ, suc, ◌+◌, ◌<◌, Bool, true, false, length, refl, ap, sym, subst, ◌∙◌}
 use Rattle.safety_laws.proofs.Words.{◌⊎◌, inl, inr, mod-lt, arith, cases_lt, lt-ltb, false_from_ne_true, with_node}
 use Rattle.safety_laws.proofs.Words.{Medl, Script, ClusterStart, loses, is_within_window, SlotNumbers, Numbers}
-use Rattle.safety_laws.proofs.Words.{slot_after, deviation_in, world, Change, Sending, Receiving, Jumping, FaultPlan, sender}
-use Rattle.safety_laws.proofs.Words.{is_armed_by, incident_at, Fate, Absent, Sound, Falling, Fallen, Listening, fate_of}
-use Rattle.safety_laws.proofs.Words.{is_lost, may_stay, is_sound_fate, planned_members, planned_place, loss-sending}
-use Rattle.safety_laws.proofs.Words.{one-stays, fallen-member, sender-lost, turns_apart, HearsNoAnswer, Lacks, HasThird}
-use Rattle.safety_laws.proofs.Words.{Outside, NoFrame, next_past, owner_of, HearsMembers, nodes-most, IsFallingAt}
-use Rattle.safety_laws.proofs.Words.{IsFallenAt, IsTurn, sound-fate, strikes}
+use Rattle.safety_laws.proofs.Words.{slot_after, deviation_in, world, Change, Sending, Receiving, Jumping, FaultPlan}
+use Rattle.safety_laws.proofs.Words.{sender, is_armed_by, incident_at, Fate, Absent, Sound, Falling, Fallen, Listening}
+use Rattle.safety_laws.proofs.Words.{fate_of, is_lost, may_stay, is_sound_fate, planned_members, planned_place}
+use Rattle.safety_laws.proofs.Words.{loss-sending, one-stays, fallen-member, sender-lost, turns_apart, HearsNoAnswer}
+use Rattle.safety_laws.proofs.Words.{Lacks, HasThird, Outside, NoFrame, next_past, owner_of, HearsMembers, nodes-most}
+use Rattle.safety_laws.proofs.Words.{IsFallingAt, IsFallenAt, IsTurn, sound-fate, strikes}
 use Rattle.ttp_world.specs.declared.node.Phase.TheVariants as phase
 use Rattle.safety_laws.proofs.GroupSets.{has_node-with_other, has_node-with_member}
 use Rattle.safety_laws.proofs.Idle.{idle-left}

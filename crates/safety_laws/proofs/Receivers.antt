@@ -2,11 +2,11 @@
 use Rattle.safety_laws.proofs.Words.{◌≡◌, ◌≢◌, ℕ, suc, ◌+◌, ◌<◌, pos, Bool, true, false, List, length, refl, ap, sym}
 use Rattle.safety_laws.proofs.Words.{subst, ◌∙◌, ◌⊎◌, inl, inr, mod-lt, arith, cases_eq, false≢true, has_node}
 use Rattle.safety_laws.proofs.Words.{with_node, Medl, Ack, Script, next_place, ClusterStart, loses, is_within_window}
-use Rattle.safety_laws.proofs.Words.{SlotNumbers, Numbers, slot_after, deviation_in, world, Receiving, Jumping, FaultPlan}
-use Rattle.safety_laws.proofs.Words.{sender, Sound, Falling, Fallen, fate_of, is_sound_after, may_stay, is_good_slot}
-use Rattle.safety_laws.proofs.Words.{is_first_slot, planned_members, ledger_of, one-stays, sender-lost, HearsNoFrame}
-use Rattle.safety_laws.proofs.Words.{HearsSilence, NodeSlot, next_past, IsJudgedAs, HearsMembers, HearsOutside}
-use Rattle.safety_laws.proofs.Words.{IsSoundAt, IsFallingAt, IsTurn}
+use Rattle.safety_laws.proofs.Words.{SlotNumbers, Numbers, slot_after, deviation_in, world, Receiving, Jumping}
+use Rattle.safety_laws.proofs.Words.{FaultPlan, sender, Sound, Falling, Fallen, fate_of, is_sound_after, may_stay}
+use Rattle.safety_laws.proofs.Words.{is_good_slot, is_first_slot, planned_members, ledger_of, one-stays, sender-lost}
+use Rattle.safety_laws.proofs.Words.{HearsNoFrame, HearsSilence, NodeSlot, next_past, IsJudgedAs, HearsMembers}
+use Rattle.safety_laws.proofs.Words.{HearsOutside, IsSoundAt, IsFallingAt, IsTurn}
 use Rattle.ttp_world.specs.declared.node.Ack.TheVariants as ack
 use Rattle.ttp_world.specs.declared.node.Verdict.TheVariants as verdict
 use Rattle.fault_plan.specs.Kept.{IsHeardByPlan}

@@ -2,9 +2,9 @@
 use Rattle.safety_laws.proofs.Words.{◌≡◌, ℕ, suc, ◌+◌, ◌<◌, Bool, true, false, List, length, refl, ap, sym, subst, ◌∙◌}
 use Rattle.safety_laws.proofs.Words.{arith, inl, inr, both_ways, false≢true, lt-ltb, with_node, Kind, Medl, Script}
 use Rattle.safety_laws.proofs.Words.{is_open, Place, next_place, header_of, is_explicit, ClusterStart, loses, NodePast}
-use Rattle.safety_laws.proofs.Words.{expected_header, SlotNumbers, Numbers, messages_chosen, world, node_past, FaultPlan}
-use Rattle.safety_laws.proofs.Words.{sender, enters, is_armed_by, Fate, Absent, Sound, Falling, Fallen, Listening}
-use Rattle.safety_laws.proofs.Words.{fate_of, is_sound_fate, is_good_slot, may_stay, is_lost, Ledger, opened}
+use Rattle.safety_laws.proofs.Words.{expected_header, SlotNumbers, Numbers, messages_chosen, world, node_past}
+use Rattle.safety_laws.proofs.Words.{FaultPlan, sender, enters, is_armed_by, Fate, Absent, Sound, Falling, Fallen}
+use Rattle.safety_laws.proofs.Words.{Listening, fate_of, is_sound_fate, is_good_slot, may_stay, is_lost, Ledger, opened}
 use Rattle.safety_laws.proofs.Words.{planned_members, planned_place, strikes, next-entered, sound-fate, entry-is}
 use Rattle.safety_laws.proofs.Words.{entry-good, armed-lost, entry-from, HearsPlace, next_past, StandsBy, joined_on}
 use Rattle.safety_laws.proofs.Words.{joined_standing, doubts, IsCounted, IsListeningAt, IsByFate, IsTurn, nat_lt}

@@ -4,9 +4,9 @@ use Rattle.safety_laws.proofs.Words.{length, Some, None, refl, ap, sym, subst, â
 use Rattle.safety_laws.proofs.Words.{false_from_ne_true, has_node, Medl, Entry, Script, notes_in, stint_notes, History}
 use Rattle.safety_laws.proofs.Words.{entry_of, diary_of, continues_stint, Place, next_place, stint_place, ClusterStart}
 use Rattle.safety_laws.proofs.Words.{plan_at, TellsOf, place_continued, notes_anew, notes_more, first_slot_first}
-use Rattle.safety_laws.proofs.Words.{later_slot_later, FaultPlan, sender, enters, fate_of, is_good_slot, is_measured, tally}
-use Rattle.safety_laws.proofs.Words.{FollowsPlan, planned_place, sound-from, place-sender, IsSoundIn, NotesNothing}
-use Rattle.safety_laws.proofs.Words.{NotedInSlot, IsTight}
+use Rattle.safety_laws.proofs.Words.{later_slot_later, FaultPlan, sender, enters, fate_of, is_good_slot, is_measured}
+use Rattle.safety_laws.proofs.Words.{tally, FollowsPlan, planned_place, sound-from, place-sender, IsSoundIn}
+use Rattle.safety_laws.proofs.Words.{NotesNothing, NotedInSlot, IsTight}
 use Rattle.std.proofs.lemmas.List.{length-append}
 use Rattle.ttp_world.specs.declared.node.Entry.TheVariants as entry
 use Rattle.precision.proofs.Frames.{begun_place, told_goes as goes-telling}

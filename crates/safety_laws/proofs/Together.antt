@@ -2,8 +2,8 @@
 -- clocks together.
 use Rattle.safety_laws.proofs.Words.{◌≡◌, ℕ, zero, suc, ◌+◌, ◌<◌, [], ◌∷◌, length, inl, inr, arith, Medl, Script}
 use Rattle.safety_laws.proofs.Words.{ClusterStart, IsLegal, IsValid, SlotNumbers, Numbers, slot_after, world}
-use Rattle.safety_laws.proofs.Words.{legal-older, FollowsWithin, FaultPlan, NotedByPlan, GoesOnByPlan, IsBegunAlone, IsTurn}
-use Rattle.safety_laws.proofs.Words.{IsByPlan}
+use Rattle.safety_laws.proofs.Words.{legal-older, FollowsWithin, FaultPlan, NotedByPlan, GoesOnByPlan, IsBegunAlone}
+use Rattle.safety_laws.proofs.Words.{IsTurn, IsByPlan}
 use Rattle.safety_laws.specs.ClocksHold.{ClocksHold}
 use Rattle.safety_laws.proofs.Bounds.{sound-inside}
 use Rattle.safety_laws.proofs.OutsideWindow.{jumped-outside}

@@ -17,8 +17,8 @@ pub use Rattle.fault_plan.specs.GoodPlan.{IsGoodPlan}
 pub use Rattle.fault_plan.specs.Kept.{FollowsPlan, FollowsWithin, KeepsByPlan}
 pub use Rattle.fault_plan.specs.Ledger.{Ledger, ledger_of, opened, planned_members, with_slot}
 pub use Rattle.fault_plan.specs.Places.{planned_place}
-pub use Rattle.fault_plan.specs.Plan.{Change, Incident, Jumping, FaultPlan, Receiving, Return, Sending, enters, incident_at}
-pub use Rattle.fault_plan.specs.Plan.{is_armed_by, fault_plan_of, sender}
+pub use Rattle.fault_plan.specs.Plan.{Change, Incident, Jumping, FaultPlan, Receiving, Return, Sending, enters}
+pub use Rattle.fault_plan.specs.Plan.{incident_at, is_armed_by, fault_plan_of, sender}
 pub use Rattle.fault_plan.specs.Told.{IsFalling, IsLossOf, IsTold}
 pub use Rattle.precision.proofs.Averages.{AreNear, IsUpTo}
 pub use Rattle.precision.proofs.ClockBounds.{drift_within, error_within}

@@ -6,13 +6,13 @@ use Rattle.safety_laws.proofs.Words.{Entry, Phase, Script, is_left_after, has_le
 use Rattle.safety_laws.proofs.Words.{has_sent_in_stint, ClusterStart, is_left_phase, NodePast, is_armed, SlotNumbers}
 use Rattle.safety_laws.proofs.Words.{Numbers, messages_chosen, world, slot_after, row_in, Change, FaultPlan, sender}
 use Rattle.safety_laws.proofs.Words.{incident_at, is_armed_by, enters, Fate, Absent, Sound, Falling, Fallen, Listening}
-use Rattle.safety_laws.proofs.Words.{fate_of, is_sound_fate, is_lost, is_sound_after, is_good_slot, is_first_slot, strikes}
-use Rattle.safety_laws.proofs.Words.{sound-from, sound-fate, next_past, NodeSlot, entry_made, is_there, IsByFate}
-use Rattle.safety_laws.proofs.Words.{IsSoundAt, HoldsAfter, IsTurn, Diary, entry_of, diary_of, is_active_phase}
-use Rattle.safety_laws.proofs.Words.{is_active, begins_stint, is_sending, has_ever_sent, Ledger, ledger_of, with_slot}
-use Rattle.safety_laws.proofs.Words.{IsJudging, is_correct, row_of_world, length-world, BeginsOn, TellsOf}
-use Rattle.safety_laws.proofs.Words.{planned_place, entry-good, none-enters, sender-stays, IsSoundIn, StartedByPlan}
-use Rattle.safety_laws.proofs.Words.{NotesNothing, NotedInSlot, IsBegunAlone}
+use Rattle.safety_laws.proofs.Words.{fate_of, is_sound_fate, is_lost, is_sound_after, is_good_slot, is_first_slot}
+use Rattle.safety_laws.proofs.Words.{strikes, sound-from, sound-fate, next_past, NodeSlot, entry_made, is_there}
+use Rattle.safety_laws.proofs.Words.{IsByFate, IsSoundAt, HoldsAfter, IsTurn, Diary, entry_of, diary_of}
+use Rattle.safety_laws.proofs.Words.{is_active_phase, is_active, begins_stint, is_sending, has_ever_sent, Ledger}
+use Rattle.safety_laws.proofs.Words.{ledger_of, with_slot, IsJudging, is_correct, row_of_world, length-world, BeginsOn}
+use Rattle.safety_laws.proofs.Words.{TellsOf, planned_place, entry-good, none-enters, sender-stays, IsSoundIn}
+use Rattle.safety_laws.proofs.Words.{StartedByPlan, NotesNothing, NotedInSlot, IsBegunAlone}
 use Rattle.safety_laws.proofs.Idle.{idle-off}
 use Rattle.safety_laws.proofs.NodeSlots.{entry_of-made, node_past-step}
 use Rattle.safety_laws.proofs.Returners.{listening-next, armed-next, entered-joins}

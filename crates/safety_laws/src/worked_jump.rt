@@ -9,7 +9,8 @@ ghost use Rattle.precision.specs.Together.{measured};
 ghost use Rattle.fault_plan.specs.Kept.{FollowsWithin};
 ghost use Rattle.safety_laws.specs.Jumps.{HasJumped};
 ghost use Rattle.safety_laws.specs.NotedByPlan.{NotedByPlan};
-ghost use Rattle.safety_laws.specs.WorkedJump.{five_clocks, late_jump, five_clocks_start, one_jump, no_numbers_in_jump, run_of_late_jump};
+ghost use Rattle.safety_laws.specs.WorkedJump.{five_clocks, late_jump, five_clocks_start, one_jump, no_numbers_in_jump};
+ghost use Rattle.safety_laws.specs.WorkedJump.{run_of_late_jump};
 
 /// Five nodes that start in slot 10. Two clocks drift apart, and node 3's jumps by 100 microticks in
 /// slot 24, where a round ends: so what it noted before the jump corrects it once. All that the laws

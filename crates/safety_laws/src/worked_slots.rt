@@ -16,8 +16,8 @@ ghost use Rattle.safety_laws.specs.NodeSlot.{entry_made, candidates_of};
 ghost use Rattle.safety_laws.specs.Senders.{SendsAlone};
 ghost use Rattle.safety_laws.specs.Start.{IsStartHeard};
 ghost use Rattle.safety_laws.specs.Turns.{IsJudging, HearsMembers, HearsOutside, IsAtOwnSlot, HasPayload};
-ghost use Rattle.safety_laws.specs.WorkedSlots.{four_kinds, early_start, faultless, first_frame_lost, silent_and_deaf, rearmed};
-ghost use Rattle.safety_laws.specs.WorkedSlots.{deaf, jumping, unheard_start, run, chosen_in, at};
+ghost use Rattle.safety_laws.specs.WorkedSlots.{four_kinds, early_start, faultless, first_frame_lost, silent_and_deaf};
+ghost use Rattle.safety_laws.specs.WorkedSlots.{rearmed, deaf, jumping, unheard_start, run, chosen_in, at};
 
 /// The start is known and heard.
 fn a_start()

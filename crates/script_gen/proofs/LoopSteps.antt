@@ -1,9 +1,9 @@
 -- One node, one fault and one slot more, as loops add them to the events before.
 use Rattle.script_gen.proofs.Words.{◌≡◌, ℕ, ◌+◌, ◌-◌, ◌*◌, ◌%◌, ◌<◌, ◌≤◌, ℤ, cond, List, [], ◌∷◌, ◌++◌, length, map, ap}
 use Rattle.script_gen.proofs.Words.{sym, ◌∙◌, replicate, Option, Some, flat_map, lt-ltb, le-ltb, append-nil, below}
-use Rattle.script_gen.proofs.Words.{map-next, Medl, Event, Script, drawn, spread_over, drift_by, error_by, fault_slot_of}
-use Rattle.script_gen.proofs.Words.{fault_by, fault_within, write_by, reads_by, host_events_in, error_events}
-use Rattle.script_gen.proofs.Words.{fault_events, host_events, all_events, generated}
+use Rattle.script_gen.proofs.Words.{map-next, Medl, Event, Script, drawn, spread_over, drift_by, error_by}
+use Rattle.script_gen.proofs.Words.{fault_slot_of, fault_by, fault_within, write_by, reads_by, host_events_in}
+use Rattle.script_gen.proofs.Words.{error_events, fault_events, host_events, all_events, generated}
 use Rattle.std.proofs.Common.{append_assoc}
 use Rattle.ttp_base.proofs.Below.{flat_map-next}
 use Rattle.ttp_world.specs.declared.script.Event.TheVariants as event

@@ -5,8 +5,8 @@ use Rattle.script_gen.proofs.Words.{inl, inr, mod-lt, length-append, arith, ◌=
 use Rattle.script_gen.proofs.Words.{filter_map, flat_map, leb-true, le-leb, ne_eqb, eq-eqb, cases_lt, ints, append-nil}
 use Rattle.script_gen.proofs.Words.{filter_map-append, below, map_each-below, Medl, Event, Script, EVENT_LIMIT}
 use Rattle.script_gen.proofs.Words.{IsBounded, IsValid, plan_at, IsValidScript, drawn, drift_by, error_by, most_faults}
-use Rattle.script_gen.proofs.Words.{fault_slot_of, fault_by, fault_within, has_payload, write_by, reads_by, host_events_in}
-use Rattle.script_gen.proofs.Words.{error_events, fault_events, host_events, all_events, generated}
+use Rattle.script_gen.proofs.Words.{fault_slot_of, fault_by, fault_within, has_payload, write_by, reads_by}
+use Rattle.script_gen.proofs.Words.{host_events_in, error_events, fault_events, host_events, all_events, generated}
 use Rattle.std.proofs.lemmas.Bool.{lt-leb}
 use Rattle.std.proofs.lemmas.List.{length-replicate}
 use Rattle.std.proofs.lemmas.List.Elements.{All-from_recursion, All-replicate}

@@ -4,9 +4,9 @@ use Rattle.script_text.proofs.Terms.{◌++◌, length, get_or, set, lit≤, coun
 use Rattle.script_text.proofs.Terms.{unwrap_or, Ok, Err, get_or-set_same, arith, refl, ap, sym, ◌∙◌, if◌then◌else◌}
 use Rattle.script_text.proofs.Terms.{option_or, common_steps, nat_tests, append-nil, first_fault, Medl, Event}
 use Rattle.script_text.proofs.Terms.{LineFault, Keyword, SoFar, Statement, says_slots, says_on, says_drift, says_event}
-use Rattle.script_text.proofs.Terms.{word_at, value_in, digit_bytes_in, number_at_word, is_spelled, statement_of, slots_of}
-use Rattle.script_text.proofs.Terms.{is_write_at, when, keyword_faults, statement_faults, stated_faults, is_after_slots}
-use Rattle.script_text.proofs.Terms.{form_faults, LinesStandFor, is_event_form, is_uncounted}
+use Rattle.script_text.proofs.Terms.{word_at, value_in, digit_bytes_in, number_at_word, is_spelled, statement_of}
+use Rattle.script_text.proofs.Terms.{slots_of, is_write_at, when, keyword_faults, statement_faults, stated_faults}
+use Rattle.script_text.proofs.Terms.{is_after_slots, form_faults, LinesStandFor, is_event_form, is_uncounted}
 use Rattle.std.proofs.Common.{nat_lt}
 use Rattle.std.proofs.Common.{get_or-set_other}
 use Rattle.std.proofs.lemmas.List.Sums.{sum_by-cons}

@@ -1,10 +1,10 @@
 -- A file that is read line by line.
 use Rattle.script_text.proofs.Terms.{◌≡◌, ◌⊎◌, ℕ, ◌+◌, ◌*◌, ◌<◌, ◌≤◌, List, [], ◌∷◌, ◌++◌, length, Some, Result, Err}
 use Rattle.script_text.proofs.Terms.{arith, refl, ap, sym, ◌∙◌, suc, inl, inr, All, first_fault, Medl, Script}
-use Rattle.script_text.proofs.Terms.{EVENT_LIMIT, IsValid, IsBounded, LineFault, ScriptError, SoFar, lines_of_file, words_of_line}
-use Rattle.script_text.proofs.Terms.{Statement, events_of, line_faults, statements_after, errors_at, script_faults}
-use Rattle.script_text.proofs.Terms.{end_faults, statements_of, stated_script, script_or_fault, lines_script, script_of}
-use Rattle.script_text.proofs.Terms.{LinesStandFor, HasNodes}
+use Rattle.script_text.proofs.Terms.{EVENT_LIMIT, IsValid, IsBounded, LineFault, ScriptError, SoFar, lines_of_file}
+use Rattle.script_text.proofs.Terms.{words_of_line, Statement, events_of, line_faults, statements_after, errors_at}
+use Rattle.script_text.proofs.Terms.{script_faults, end_faults, statements_of, stated_script, script_or_fault}
+use Rattle.script_text.proofs.Terms.{lines_script, script_of, LinesStandFor, HasNodes}
 use Rattle.std.proofs.Common.{add-one, subst}
 use Rattle.script_text.specs.declared.error.Refusal.{Refusal}
 use Rattle.script_text.specs.declared.error.Refusal.TheVariants as refusals

@@ -6,10 +6,10 @@ use Rattle.script_text.proofs.Terms.{count_by, common_steps, append-nil, length-
 use Rattle.script_text.proofs.Terms.{Script, SLOT_LIMIT, DRIFT_LIMIT, EVENT_LIMIT, IsValid, IsWithinSpan, IsBounded}
 use Rattle.script_text.proofs.Terms.{LineFault, ScriptError, Keyword, lines_of_file, words_of_line, word_at, Statement}
 use Rattle.script_text.proofs.Terms.{says_slots, says_on, says_drift, says_event, keyword_of, is_spelled, statement_of}
-use Rattle.script_text.proofs.Terms.{slots_of, on_of, drift_stated, events_of, is_write_at, is_after_slots, stated_faults}
-use Rattle.script_text.proofs.Terms.{form_faults, keyword_faults, line_faults, statements_after, errors_at, end_faults}
-use Rattle.script_text.proofs.Terms.{script_faults, statements_of, stated_script, script_or_fault, lines_script}
-use Rattle.script_text.proofs.Terms.{script_of, is_event_form}
+use Rattle.script_text.proofs.Terms.{slots_of, on_of, drift_stated, events_of, is_write_at, is_after_slots}
+use Rattle.script_text.proofs.Terms.{stated_faults, form_faults, keyword_faults, line_faults, statements_after}
+use Rattle.script_text.proofs.Terms.{errors_at, end_faults, script_faults, statements_of, stated_script}
+use Rattle.script_text.proofs.Terms.{script_or_fault, lines_script, script_of, is_event_form}
 use Rattle.std.proofs.Common.{length-append}
 use Rattle.std.proofs.Common.{option_to_list}
 use Rattle.std.specs.Prelude.{IfOk}

@@ -2,8 +2,8 @@
 use Rattle.script_text.proofs.Terms.{◌≡◌, ℕ, ◌+◌, ◌*◌, ◌≤◌, Bool, true, false, cond, List, [], ◌∷◌, length, map, filter}
 use Rattle.script_text.proofs.Terms.{Some, arith, refl, ap, lit≤, All, slice_split, common_steps, nat_tests}
 use Rattle.script_text.proofs.Terms.{bytes_eq-Decides, Keyword, is_line_feed, is_blank, has_bytes, without_return}
-use Rattle.script_text.proofs.Terms.{without_empty_end, lines_of_file, words_of_line, word_at, is_text, keyword_of, is_spelled}
-use Rattle.script_text.proofs.Terms.{is_event_form}
+use Rattle.script_text.proofs.Terms.{without_empty_end, lines_of_file, words_of_line, word_at, is_text, keyword_of}
+use Rattle.script_text.proofs.Terms.{is_spelled, is_event_form}
 use Rattle.std.proofs.Common.{codes}
 use Rattle.std.specs.List.{onto_first}
 use Rattle.std.proofs.Math.Nat.{le_refl}

@@ -1,8 +1,8 @@
 -- The script of what is kept, which is that of what the lines state.
 use Rattle.script_text.proofs.Terms.{◌≡◌, ℕ, ℤ, pos, List, length, map, get_or, Option, Some, None, Ok, unwrap_or}
 use Rattle.script_text.proofs.Terms.{arith, refl, sym, ◌∙◌, ext_get_or, length-map-range_with_len}
-use Rattle.script_text.proofs.Terms.{get_or-map-range_with_len, below, Medl, Event, SoFar, Statement, on_of, drift_stated}
-use Rattle.script_text.proofs.Terms.{end_faults, stated_script, script_or_fault, LinesStandFor, HasNodes}
+use Rattle.script_text.proofs.Terms.{get_or-map-range_with_len, below, Medl, Event, SoFar, Statement, on_of}
+use Rattle.script_text.proofs.Terms.{drift_stated, end_faults, stated_script, script_or_fault, LinesStandFor, HasNodes}
 use Rattle.std.proofs.lemmas.Simd.{map-map}
 
 -- what is kept of each node is what the lines say of it

@@ -4,9 +4,9 @@ use Rattle.script_text.proofs.Terms.{Some, None, is_some, unwrap_or, arith, refl
 use Rattle.script_text.proofs.Terms.{count_by, option_or, leb-true, nat_tests, common_steps, append-nil, Medl, Script}
 use Rattle.script_text.proofs.Terms.{SLOT_LIMIT, DRIFT_LIMIT, IsValid, IsValidEvent, IsWithinSpan, LineFault, Keyword}
 use Rattle.script_text.proofs.Terms.{word_at, value_in, digit_bytes_in, Statement, says_slots, says_event, statement_of}
-use Rattle.script_text.proofs.Terms.{number_at_word, slots_of, on_of, drift_stated, events_of, statement_has_payload, is_write_at, when}
-use Rattle.script_text.proofs.Terms.{event_has_nodes, event_is_in_range, is_after_slots, statement_faults}
-use Rattle.script_text.proofs.Terms.{stated_faults, is_event_form, is_uncounted}
+use Rattle.script_text.proofs.Terms.{number_at_word, slots_of, on_of, drift_stated, events_of, statement_has_payload}
+use Rattle.script_text.proofs.Terms.{is_write_at, when, event_has_nodes, event_is_in_range, is_after_slots}
+use Rattle.script_text.proofs.Terms.{statement_faults, stated_faults, is_event_form, is_uncounted}
 use Rattle.std.proofs.lemmas.Bool.{leb-false}
 use Rattle.std.proofs.lemmas.List.Elements.{All-nil, All-cons, All-append}
 use Rattle.ttp_world.specs.declared.script.Event.TheVariants as event

@@ -13,7 +13,8 @@ use Rattle.script_text.specs.declared.error.ScriptError.{ScriptError}
 use Rattle.script_text.specs.declared.error.ScriptError.TheVariants as errors
 use Rattle.script_text.specs.Lines.{lines_of_file, words_of_line}
 use Rattle.script_text.specs.Statement.{Statement}
-use Rattle.script_text.specs.Faults.{slots_of, stated_slots, on_of, drift_stated, events_of, line_faults, statements_after}
+use Rattle.script_text.specs.Faults.{slots_of, stated_slots, on_of, drift_stated, events_of, line_faults}
+use Rattle.script_text.specs.Faults.{statements_after}
 
 -- The faults of all lines.
 

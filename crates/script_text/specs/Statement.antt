@@ -8,8 +8,9 @@ use Rattle.ttp_world.specs.declared.script.Event.TheVariants as event
 use Rattle.script_text.specs.declared.keyword.Keyword.{Keyword}
 use Rattle.script_text.specs.declared.keyword.Keyword.TheVariants as keyword
 use Rattle.script_text.specs.Lines.{word_at}
-use Rattle.script_text.specs.Numbers.{is_text, is_number, decimal_value, is_value, value_in, is_hex_word, digit_bytes_in}
-use Rattle.script_text.specs.Numbers.{is_source, source_named, is_channels, channels_in, is_fault, fault_in}
+use Rattle.script_text.specs.Numbers.{is_text, is_number, decimal_value, is_value, value_in, is_hex_word}
+use Rattle.script_text.specs.Numbers.{digit_bytes_in, is_source, source_named, is_channels, channels_in, is_fault}
+use Rattle.script_text.specs.Numbers.{fault_in}
 
 -- the form that a line's first word names
 abbrev pub keyword_of : List ℕ → Option Keyword

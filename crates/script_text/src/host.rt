@@ -59,7 +59,8 @@ fn source_at(words: &Words, i: usize, list: &Medl) -> Result<Source, LineFault>
         × (source ≡ source_named (word_at words.now i)) × (is_read_node (is_node list.now) source ≡ true)) }
     ensures err { IfErr result (λ fault.
         first_fault (fault_unless (is_source (word_at words.now i)) faults.Number
-        ++ fault_unless (is_read_node (is_node list.now) (source_named (word_at words.now i))) faults.NoNode) ≡ Some fault) }
+        ++ fault_unless (is_read_node (is_node list.now) (source_named (word_at words.now i))) faults.NoNode)
+        ≡ Some fault) }
 {
     let word = words.at(i);
     if is_text(b"status", word.text()) {

@@ -1,7 +1,7 @@
 //! What a trace shows of nodes after a slot.
 ghost use Rattle.std.specs.Prelude.{◌≡◌, ◌+◌, ◌^◌, ◌<◌, ◌≤◌, length};
-ghost use Rattle.shown_slot.specs.Nodes.{is_active_word, is_leaving_word, sends, is_holder, hold_members, agreement, spread_in};
-ghost use Rattle.shown_slot.specs.Nodes.{sender_among, bits_where, widened, clock_range};
+ghost use Rattle.shown_slot.specs.Nodes.{is_active_word, is_leaving_word, sends, is_holder, hold_members, agreement};
+ghost use Rattle.shown_slot.specs.Nodes.{spread_in, sender_among, bits_where, widened, clock_range};
 
 use line_reader::Word;
 use ttp_world::Ack;

@@ -1,7 +1,7 @@
 -- A follower after some slots whose lines a text has.
 use Rattle.trace_check.proofs.Words.{◌≡◌, ℕ, ◌+◌, List, [], ◌∷◌, ◌++◌, length, Some, refl, ap, sym, ◌∙◌, arith, Medl}
-use Rattle.trace_check.proofs.Words.{Script, IsLegal, trace_head, Numbers, legal-none, after_label, Follower, BeginsWith}
-use Rattle.trace_check.proofs.Words.{FollowerStandsFor, StandsAt, GoesOnTo}
+use Rattle.trace_check.proofs.Words.{Script, IsLegal, trace_head, Numbers, legal-none, after_label, Follower}
+use Rattle.trace_check.proofs.Words.{BeginsWith, FollowerStandsFor, StandsAt, GoesOnTo}
 use Rattle.std.proofs.Common.{append-nil}
 use Rattle.trace_check.proofs.Wholes.{lines_so_far, goes_on-begins}
 use Rattle.line_text.proofs.LabelTexts.{label-takes as behind-line}

@@ -8,8 +8,8 @@ use Rattle.trace_check.proofs.Words.{Script, History, entry_of, is_legal_message
 use Rattle.trace_check.proofs.Words.{out_messages, state_of, IsValidScript, history_lines, test_lines, member_digits}
 use Rattle.trace_check.proofs.Words.{message_shown, node_line_of, read_lines, write_lines, Numbers, SlotNumbers}
 use Rattle.trace_check.proofs.Words.{node_past, world, few_messages, trace_lines-each, row_of_world, numeral_in}
-use Rattle.trace_check.proofs.Words.{message_digits, lines_of_slot, number_by_text, number_taken, oldest_number, AreLines}
-use Rattle.trace_check.proofs.Words.{lines_of-behind}
+use Rattle.trace_check.proofs.Words.{message_digits, lines_of_slot, number_by_text, number_taken, oldest_number}
+use Rattle.trace_check.proofs.Words.{AreLines, lines_of-behind}
 use Rattle.std.proofs.lemmas.List.{append-nil}
 use Rattle.ttp_world.specs.declared.node.Entry.TheVariants as entry
 use Rattle.ttp_world.specs.Trace.{number_or_dash}

@@ -5,8 +5,8 @@ use Rattle.trace_check.proofs.Words.{AllByRecursion, list_all, mul_comm, and_par
 use Rattle.trace_check.proofs.Words.{le-leb, leb-true, get_or-set_other, get_or-set_same, mul-add-lt, same_from_place}
 use Rattle.trace_check.proofs.Words.{none-some, HostRead, Medl, Chosen, Script, Source, History, ReadMessage}
 use Rattle.trace_check.proofs.Words.{is_not_older, newest_read, Incoming, KnowsReads, MayRead, ReadsNone, ReadsOne}
-use Rattle.trace_check.proofs.Words.{behind_new_read, behind_read, line_of_read, row_after, HasPlaces, IsHostAndSource, floor_of}
-use Rattle.trace_check.proofs.Words.{floor_place, newest_before}
+use Rattle.trace_check.proofs.Words.{behind_new_read, behind_read, line_of_read, row_after, HasPlaces, IsHostAndSource}
+use Rattle.trace_check.proofs.Words.{floor_of, floor_place, newest_before}
 use Rattle.std.proofs.Common.{◌↔◌, ◌||◌, not}
 use Rattle.ttp_world.specs.declared.script.Source.TheVariants as source
 use Rattle.ttp_world.specs.Legal.{is_same_ring, is_same_source}

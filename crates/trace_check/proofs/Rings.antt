@@ -5,8 +5,8 @@ use Rattle.trace_check.proofs.Words.{get_or-append_seam, le-ltb, lt-ltb, same_So
 use Rattle.trace_check.proofs.Words.{Entry, StatusWords, Script, Source, History, delivered_of, in_messages}
 use Rattle.trace_check.proofs.Words.{new_messages, newest_number, ring_messages, status_messages, in_messages-some}
 use Rattle.trace_check.proofs.Words.{outcome_at, PlantView, Incoming, HasEnded, behind_new_read, behind_read}
-use Rattle.trace_check.proofs.Words.{line_of_read, row_after, IsNewestMessage, IsHostAndSource, TellsRings, newest_before}
-use Rattle.trace_check.proofs.Words.{newest_message, in_messages-few}
+use Rattle.trace_check.proofs.Words.{line_of_read, row_after, IsNewestMessage, IsHostAndSource, TellsRings}
+use Rattle.trace_check.proofs.Words.{newest_before, newest_message, in_messages-few}
 use Rattle.ttp_world.specs.declared.script.Source.TheVariants as source
 use Rattle.line_text.specs.HostLines.{message_line}
 use Rattle.trace_check.proofs.Ended.{delivered-number, delivered-own, ended-status}

@@ -5,8 +5,8 @@ use Rattle.trace_check.proofs.Words.{length-append, is_some, nat_lt, slice_get, 
 use Rattle.trace_check.proofs.Words.{cases_order, le-ltb, lt-ltb, mul-add-lt, same_from_place, same_Some}
 use Rattle.trace_check.proofs.Words.{slice_get-get_or, Medl, Chosen, Delivered, Entry, StatusWords, Script, History}
 use Rattle.trace_check.proofs.Words.{delivered_of, in_messages, newest_number, ring_messages, status_messages}
-use Rattle.trace_check.proofs.Words.{status_words, nothing_chosen, node_past, Incoming, HasPlaces, IsNewestMessage, TellsRings}
-use Rattle.trace_check.proofs.Words.{newest_message}
+use Rattle.trace_check.proofs.Words.{status_words, nothing_chosen, node_past, Incoming, HasPlaces, IsNewestMessage}
+use Rattle.trace_check.proofs.Words.{TellsRings, newest_message}
 use Rattle.ttp_world.specs.declared.script.Source.TheVariants as source
 use Rattle.trace_check.proofs.Ended.{delivered-none, delivered-number, delivered-other, delivered-own}
 use Rattle.ttp_world.proofs.ListFacts.{slice_get-set_same as set_same}

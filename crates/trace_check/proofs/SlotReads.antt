@@ -3,9 +3,9 @@ use Rattle.trace_check.proofs.Words.{◌≡◌, ℕ, zero, suc, ◌+◌, ◌*◌
 use Rattle.trace_check.proofs.Words.{subst, arith, append_assoc, length-append, map, reverse, slice_get, AllByRecursion}
 use Rattle.trace_check.proofs.Words.{reverse_onto, map-append, none-some, same_Some, slice_get_within, Lines, HostRead}
 use Rattle.trace_check.proofs.Words.{Medl, Chosen, Script, Source, History, ReadMessage, read_messages, IsValidScript}
-use Rattle.trace_check.proofs.Words.{reads_in, newest_read, PlantView, Incoming, BeginsWith, HasEnded, IsPast, KnowsReads}
-use Rattle.trace_check.proofs.Words.{MayRead, MayReadAll, ReadsAmiss, ReadsNone, ReadsOn, ReadsOne, line_of_read}
-use Rattle.trace_check.proofs.Words.{row_after, AreFloorsWithin, HasPlaces, IsHostAndSource, TellsRings}
+use Rattle.trace_check.proofs.Words.{reads_in, newest_read, PlantView, Incoming, BeginsWith, HasEnded, IsPast}
+use Rattle.trace_check.proofs.Words.{KnowsReads, MayRead, MayReadAll, ReadsAmiss, ReadsNone, ReadsOn, ReadsOne}
+use Rattle.trace_check.proofs.Words.{line_of_read, row_after, AreFloorsWithin, HasPlaces, IsHostAndSource, TellsRings}
 use Rattle.std.proofs.Common.{append-nil}
 use Rattle.ttp_world.specs.declared.script.Source.TheVariants as source
 use Rattle.ttp_world.proofs.HostPayloads.{IsReadOf, reads_of_valid}

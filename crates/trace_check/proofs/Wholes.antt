@@ -4,8 +4,8 @@ use Rattle.trace_check.proofs.Words.{get_or, refl, ap, sym, subst, ◌∙◌, ar
 use Rattle.trace_check.proofs.Words.{get_or-append-add, concat-append, get_or-append, take-append_seam}
 use Rattle.trace_check.proofs.Words.{get_or-append_seam, Lines, Medl, Script, IsLegal, IsLegalRun, IsValid}
 use Rattle.trace_check.proofs.Words.{IsValidScript, trace_head, history_lines, test_lines, trace_lines, SlotNumbers}
-use Rattle.trace_check.proofs.Words.{Numbers, world, legal-none, legal-older, BeginsWith, Departs, DepartsAfter, IsTraceAnd}
-use Rattle.trace_check.proofs.Words.{IsAmissAt, lines_of_slot}
+use Rattle.trace_check.proofs.Words.{Numbers, world, legal-none, legal-older, BeginsWith, Departs, DepartsAfter}
+use Rattle.trace_check.proofs.Words.{IsTraceAnd, IsAmissAt, lines_of_slot}
 use Rattle.std.proofs.Common.{append-nil}
 use Rattle.std.proofs.lemmas.List.{take-append-le, length-drop}
 use Rattle.std.proofs.Math.Seq.{take-append-add}

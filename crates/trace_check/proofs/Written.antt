@@ -7,8 +7,8 @@ use Rattle.trace_check.proofs.Words.{get_or-set_same, length-set, filter_map-app
 use Rattle.trace_check.proofs.Words.{Lines, Medl, Chosen, Script, is_legal_message, IsValid, newest_number}
 use Rattle.trace_check.proofs.Words.{messages_before, out_messages, message_chosen, nothing_chosen, HostWrite}
 use Rattle.trace_check.proofs.Words.{IsValidScript, messages_written, payload_of_host, writes_in, more_write_lines}
-use Rattle.trace_check.proofs.Words.{write_lines, chosen_of, few_messages, some_message, after_label, Outgoing, BeginsWith}
-use Rattle.trace_check.proofs.Words.{Departs, Chooses, HasChosen, HoldsNewest, oldest_number}
+use Rattle.trace_check.proofs.Words.{write_lines, chosen_of, few_messages, some_message, after_label, Outgoing}
+use Rattle.trace_check.proofs.Words.{BeginsWith, Departs, Chooses, HasChosen, HoldsNewest, oldest_number}
 use Rattle.std.proofs.lemmas.List.{append-nil}
 use Rattle.std.proofs.lemmas.List.Sums.{sum_by-cons}
 use Rattle.ttp_world.specs.Trace.{write_line}

@@ -6,7 +6,8 @@ ghost use Rattle.ttp_world.specs.declared.node.Chosen.{Chosen};
 ghost use Rattle.ttp_world.specs.Diary.{History};
 ghost use Rattle.ttp_world.specs.declared.script.Script.{Script as Said};
 ghost use Rattle.ttp_world.specs.Medl.{IsValid};
-ghost use Rattle.trace_check.specs.Incoming.{TellsRings, AreFloorsWithin, IsHostAndSource, IsRingKept, first_payloads, newest_before, zeros_of_all, floor_of, floor_place};
+ghost use Rattle.trace_check.specs.Incoming.{TellsRings, AreFloorsWithin, IsHostAndSource, IsRingKept, first_payloads};
+ghost use Rattle.trace_check.specs.Incoming.{newest_before, zeros_of_all, floor_of, floor_place};
 
 use crate::outgoing::zeros;
 use std::alloc::Global;

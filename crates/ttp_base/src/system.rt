@@ -113,7 +113,8 @@ impl<W: Write> StreamSink<W> {
 
     /// A sink over a writer, with what that has written and no faults.
     pub fn new(writer: W) -> StreamSink<W>
-        ensures { stream_output W.contents result ≡ record { written = W.contents writer; pieces = []; faults = 0; takes = 0 } }
+        ensures { stream_output W.contents result
+            ≡ record { written = W.contents writer; pieces = []; faults = 0; takes = 0 } }
     {
         StreamSink {
             onto: Onto { writer },

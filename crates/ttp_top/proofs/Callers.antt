@@ -2,9 +2,9 @@
 -- or memory was refused, or the sink cut a text short that it was not sure to take. No count is asked for.
 use Rattle.ttp_top.proofs.Terms.{◌≡◌, ◌⊎◌, ℕ, ◌<◌, ◌≤◌, true, List, length, refl, ap, sym, subst, ◌∙◌, inl, inr, arith}
 use Rattle.ttp_top.proofs.Terms.{concat, Lines, Medl, Script, IsLegalRun, IsValid, IsValidScript, trace_lines, Numbers}
-use Rattle.ttp_top.proofs.Terms.{is_trace, trace-short, Outside, trace_limit, AreRight, BenchAnswer, BenchPlan, ttpbench, CutOf}
-use Rattle.ttp_top.proofs.Terms.{traces, IsTrace, WroteTraceOf, RunPromise, WroteSuch, CutSuch, TestPromise, OfTrace}
-use Rattle.ttp_top.proofs.Terms.{HasJudged, CutVerdict, AreAllTold, TextPromise}
+use Rattle.ttp_top.proofs.Terms.{is_trace, trace-short, Outside, trace_limit, AreRight, BenchAnswer, BenchPlan}
+use Rattle.ttp_top.proofs.Terms.{ttpbench, CutOf, traces, IsTrace, WroteTraceOf, RunPromise, WroteSuch, CutSuch}
+use Rattle.ttp_top.proofs.Terms.{TestPromise, OfTrace, HasJudged, CutVerdict, AreAllTold, TextPromise}
 use Rattle.std.proofs.lemmas.Bool.{true≢false}
 use Rattle.ttp_base.specs.Outside.{count_end}
 use Rattle.trace_check.proofs.OwnNumbers.{numbers-is_trace}

@@ -4,8 +4,9 @@ use Rattle.two_faced.proofs.Words.{cond, ◌&&◌, List, [], ◌∷◌, ◌++◌
 use Rattle.two_faced.proofs.Words.{◌==◌, int_max, ne_eqb, ints, has_node, Medl, Entry, Script, notes_in, History}
 use Rattle.two_faced.proofs.Words.{entry_of, ClusterStart, IsValid, plan_at, drift_of, jump_of, reading_error, TellsOf}
 use Rattle.two_faced.proofs.Words.{measured, IsUpTo, clock_at-still, frame_of, frame_of-node, drift_in, product_more}
-use Rattle.two_faced.proofs.Words.{HaveDrifted, clock_after, FaultPlan, sender, is_good_slot, FollowsPlan, planned_place}
-use Rattle.two_faced.proofs.Words.{none-enters, IsSoundIn, NotedInSlot, clock_moved, sender-in, bound, HasFacedClocks}
+use Rattle.two_faced.proofs.Words.{HaveDrifted, clock_after, FaultPlan, sender, is_good_slot, FollowsPlan}
+use Rattle.two_faced.proofs.Words.{planned_place, none-enters, IsSoundIn, NotedInSlot, clock_moved, sender-in, bound}
+use Rattle.two_faced.proofs.Words.{HasFacedClocks}
 use Rattle.std.proofs.Common.{◌%◌}
 use Rattle.std.specs.Prelude.{nat_le}
 use Rattle.std.proofs.lemmas.Bool.{and_left, and_right}

@@ -3,8 +3,8 @@ use Rattle.two_faced.proofs.Words.{◌≡◌, ◌≢◌, ℕ, suc, ◌+◌, ◌-
 use Rattle.two_faced.proofs.Words.{length, refl, ap, sym, ◌∙◌, inl, inr, arith, both_ways, cases_eq, has_node, Medl}
 use Rattle.two_faced.proofs.Words.{Entry, Script, History, entry_of, ClusterStart, IsLegal, IsValid, newest_slot}
 use Rattle.two_faced.proofs.Words.{IsValidScript, is_on, Numbers, node_past, world, legal-older, length-world, TellsOf}
-use Rattle.two_faced.proofs.Words.{FaultPlan, sender, Fate, Absent, Sound, Falling, Fallen, fate_of, is_sound_fate, is_lost}
-use Rattle.two_faced.proofs.Words.{is_sound_after, is_good_slot, never-listens, NotedInSlot, bound}
+use Rattle.two_faced.proofs.Words.{FaultPlan, sender, Fate, Absent, Sound, Falling, Fallen, fate_of, is_sound_fate}
+use Rattle.two_faced.proofs.Words.{is_lost, is_sound_after, is_good_slot, never-listens, NotedInSlot, bound}
 use Rattle.ttp_world.specs.declared.node.Ack.{Ack}
 use Rattle.ttp_world.specs.declared.node.Ack.TheVariants as ack
 use Rattle.ttp_world.specs.declared.node.Entry.TheVariants as entry

@@ -3,10 +3,10 @@ use Rattle.two_faced.proofs.Words.{◌≡◌, ℕ, ◌+◌, ◌<◌, ◌≤◌, 
 use Rattle.two_faced.proofs.Words.{arith, pos, false, Bool, List, ◌∷◌, Option, zero, suc, cond, ◌&&◌, int_le, ◌+ℤ◌}
 use Rattle.two_faced.proofs.Words.{◌==◌, AllByRecursion, filter_map, both_ways, none-some, below, has_node, Medl}
 use Rattle.two_faced.proofs.Words.{Script, ClusterStart, is_within_bound, drifts_hold, start_of, IsValid, plan_at}
-use Rattle.two_faced.proofs.Words.{IsValidScript, is_on, drift_of, reading_error, jump_of, sole_start, FaultPlan, sender}
-use Rattle.two_faced.proofs.Words.{fate_of, is_sound_after, is_lost, Fate, Absent, Sound, Falling, Fallen, is_sound_fate}
-use Rattle.two_faced.proofs.Words.{FollowsPlan, never-listens, none-enters, bound, HasFacedClocks, errors_allowed_in}
-use Rattle.two_faced.proofs.Words.{faced_clocks_broken, first_fault_slot, faults_broken}
+use Rattle.two_faced.proofs.Words.{IsValidScript, is_on, drift_of, reading_error, jump_of, sole_start, FaultPlan}
+use Rattle.two_faced.proofs.Words.{sender, fate_of, is_sound_after, is_lost, Fate, Absent, Sound, Falling, Fallen}
+use Rattle.two_faced.proofs.Words.{is_sound_fate, FollowsPlan, never-listens, none-enters, bound, HasFacedClocks}
+use Rattle.two_faced.proofs.Words.{errors_allowed_in, faced_clocks_broken, first_fault_slot, faults_broken}
 use Rattle.std.specs.Prelude.{find, is_some}
 use Rattle.std.specs.List.{filter, list_any, Contains}
 use Rattle.std.proofs.lemmas.Bool.{not-false, leb-true}

@@ -1,7 +1,7 @@
 -- The words of this crate's proofs, from one place.
 pub use Rattle.fault_plan.proofs.Returns.{never-listens, none-enters}
-pub use Rattle.fault_plan.specs.Fates.{Absent, Fallen, Falling, Fate, Sound, fate_of, is_good_slot, is_lost, is_sound_fate}
-pub use Rattle.fault_plan.specs.Fates.{is_sound_after}
+pub use Rattle.fault_plan.specs.Fates.{Absent, Fallen, Falling, Fate, Sound, fate_of, is_good_slot, is_lost}
+pub use Rattle.fault_plan.specs.Fates.{is_sound_fate, is_sound_after}
 pub use Rattle.fault_plan.specs.Kept.{FollowsPlan}
 pub use Rattle.fault_plan.specs.Places.{planned_place}
 pub use Rattle.fault_plan.specs.Plan.{FaultPlan, sender}

@@ -6,7 +6,8 @@ ghost use Rattle.ttp_world.specs.declared.script.Fault.TheVariants as fault;
 ghost use Rattle.two_faced.specs.declared.faced.Faced.TheVariants as faced;
 ghost use Rattle.two_faced.specs.Faced.{bound, faced_of};
 ghost use Rattle.two_faced.specs.Seen.{seen_of};
-ghost use Rattle.two_faced.specs.WorkedCases.{one_starter, two_starters, four_on_script, gaining_script, both, no_numbers_in_run};
+ghost use Rattle.two_faced.specs.WorkedCases.{one_starter, two_starters, four_on_script, gaining_script, both};
+ghost use Rattle.two_faced.specs.WorkedCases.{no_numbers_in_run};
 
 /// Two receivers see node 3's clock 28 microticks apart in its slot 19, each 14 off, which is the window
 /// less the bound.

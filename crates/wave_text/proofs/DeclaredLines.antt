@@ -6,7 +6,8 @@ use Rattle.wave_text.proofs.Words.{first_text, keeps_text, returns_text, member_
 use Rattle.wave_text.proofs.Words.{PortVariable, cluster_variables, node_variables, port_variables, cluster_letter}
 use Rattle.wave_text.proofs.Words.{node_code, port_code, cluster_declaration, node_declaration, port_declaration}
 use Rattle.wave_text.proofs.Words.{port_declarations, scope_line, upscope_line, ports_at, host_scope, node_scope}
-use Rattle.wave_text.proofs.Words.{declarations, comment_line, comment_lines, wave_head_lines, all_slots_lines, wave_lines}
+use Rattle.wave_text.proofs.Words.{declarations, comment_line, comment_lines, wave_head_lines, all_slots_lines}
+use Rattle.wave_text.proofs.Words.{wave_lines}
 use Rattle.ttp_base.proofs.Numerals.{has-hex}
 use Rattle.ttp_world.specs.declared.keep.Back.{Back}
 use Rattle.ttp_world.specs.declared.keep.Back.TheVariants as back

@@ -2,9 +2,10 @@
 use Rattle.wave_text.proofs.Words.{◌≡◌, ℕ, zero, suc, ◌+◌, ◌-◌, ◌/◌, ◌%◌, ◌<◌, Bool, true, false, List, [], ◌∷◌, ◌++◌}
 use Rattle.wave_text.proofs.Words.{refl, Option, Some, None, arith, codes, decimal, nat_lt, ◌==◌, if◌then◌else◌}
 use Rattle.wave_text.proofs.Words.{signed_decimal, flat_map, Source, ack_word, source_word, Word, word_text, NodeShown}
-use Rattle.wave_text.proofs.Words.{Message, is_active_word, sends, set_bits, ClusterVariable, NodeVariable, PortVariable}
-use Rattle.wave_text.proofs.Words.{binary, binary_number, most_binary_digits, number_text, wires_text, number_or_nothing}
-use Rattle.wave_text.proofs.Words.{bit_text, cluster_value, phase_text, unless_off, held_text, node_value, port_value}
+use Rattle.wave_text.proofs.Words.{Message, is_active_word, sends, set_bits, ClusterVariable, NodeVariable}
+use Rattle.wave_text.proofs.Words.{PortVariable, binary, binary_number, most_binary_digits, number_text, wires_text}
+use Rattle.wave_text.proofs.Words.{number_or_nothing, bit_text, cluster_value, phase_text, unless_off, held_text}
+use Rattle.wave_text.proofs.Words.{node_value, port_value}
 use Rattle.ttp_base.proofs.Numerals.{has, has-append, has-decimal, has-signed}
 use Rattle.ttp_world.specs.declared.script.Source.TheVariants as source
 use Rattle.ttp_world.proofs.TraceWords.{has-ack_word}

@@ -1,9 +1,9 @@
 -- Tables of what hosts do, with one line more.
 use Rattle.wave_text.proofs.Words.{◌≡◌, ℕ, ◌+◌, ◌<◌, List, [], ◌∷◌, ◌++◌, Option, Some, None, length, set, refl, sym}
 use Rattle.wave_text.proofs.Words.{ap, subst, ◌∙◌, arith, inl, inr, length-set, slice_get, slice_get-get_or}
-use Rattle.wave_text.proofs.Words.{get_or_from_slice_get, eqb_tells, HostLine, Message, What, larger, later, message_in_line}
-use Rattle.wave_text.proofs.Words.{most_bytes, newest_host_message, size_of, HasMost, HasNewest, HasPlace, host_in}
-use Rattle.wave_text.proofs.Words.{message_said, table_place, what_in, HasSourceLetter}
+use Rattle.wave_text.proofs.Words.{get_or_from_slice_get, eqb_tells, HostLine, Message, What, larger, later}
+use Rattle.wave_text.proofs.Words.{message_in_line, most_bytes, newest_host_message, size_of, HasMost, HasNewest}
+use Rattle.wave_text.proofs.Words.{HasPlace, host_in, message_said, table_place, what_in, HasSourceLetter}
 use Rattle.std.proofs.Common.{◌≢◌}
 use Rattle.std.proofs.lemmas.List.{get_or-set_other}
 use Rattle.std.proofs.lemmas.Option.{slice_get_within}

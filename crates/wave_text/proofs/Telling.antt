@@ -2,8 +2,8 @@
 use Rattle.wave_text.proofs.Words.{◌≡◌, ℕ, zero, suc, ◌+◌, ◌-◌, ◌*◌, ◌/◌, ◌%◌, ◌<◌, Bool, true, false, List, [], ◌∷◌}
 use Rattle.wave_text.proofs.Words.{◌++◌, refl, sym, ap, ◌∙◌, Option, Some, None, arith, codes, nat_lt, decimal, ◌==◌}
 use Rattle.wave_text.proofs.Words.{if◌then◌else◌, signed_decimal, list_any, set_bits, hex, ack_word, Word, word_text}
-use Rattle.wave_text.proofs.Words.{Head, NodeShown, is_active_word, binary, binary_number, most_binary_digits, number_text}
-use Rattle.wave_text.proofs.Words.{wires_text, number_or_nothing, unless_off, held_text, node_value}
+use Rattle.wave_text.proofs.Words.{Head, NodeShown, is_active_word, binary, binary_number, most_binary_digits}
+use Rattle.wave_text.proofs.Words.{number_text, wires_text, number_or_nothing, unless_off, held_text, node_value}
 use Rattle.std.proofs.Common.{◌^◌}
 use Rattle.std.specs.Prelude.{fold, IfSome, unwrap_or}
 use Rattle.std.proofs.lemmas.Bool.{ltb-true}

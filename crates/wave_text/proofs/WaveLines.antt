@@ -6,8 +6,8 @@ use Rattle.wave_text.proofs.Words.{NodeShown, SlotLines, Message, Port, What, no
 use Rattle.wave_text.proofs.Words.{PortVariable, cluster_value, node_value, port_value, cluster_variables}
 use Rattle.wave_text.proofs.Words.{node_variables, port_variables, cluster_letter, node_code, port_code, ports_at}
 use Rattle.wave_text.proofs.Words.{change_line, change_lines, changes_by, cluster_changes, node_changes, port_changes}
-use Rattle.wave_text.proofs.Words.{port_message, scope_changes, slot_changes, time_line, first_slot_lines, slot_change_lines}
-use Rattle.wave_text.proofs.Words.{later_lines, all_slots_lines}
+use Rattle.wave_text.proofs.Words.{port_message, scope_changes, slot_changes, time_line, first_slot_lines}
+use Rattle.wave_text.proofs.Words.{slot_change_lines, later_lines, all_slots_lines}
 use Rattle.std.specs.Str.{bytes_eq}
 use Rattle.ttp_base.specs.Text.{is_line}
 use Rattle.ttp_world.specs.declared.script.Source.TheVariants as source

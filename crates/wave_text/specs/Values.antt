@@ -14,8 +14,8 @@ use Rattle.shown_slot.specs.declared.node.ClockRange.{ClockRange}
 use Rattle.whole_trace.specs.declared.shown.NodeShown.{NodeShown}
 use Rattle.shown_slot.specs.declared.node.Sender.{Sender}
 use Rattle.shown_slot.specs.declared.node.Sender.TheVariants as sent_by
-use Rattle.shown_slot.specs.Nodes.{is_active_word, is_leaving_word, sends, agreement, sender_among, bits_where, clock_range}
-use Rattle.shown_slot.specs.Nodes.{spread_in}
+use Rattle.shown_slot.specs.Nodes.{is_active_word, is_leaving_word, sends, agreement, sender_among, bits_where}
+use Rattle.shown_slot.specs.Nodes.{clock_range, spread_in}
 use Rattle.wave_text.specs.declared.variable.ClusterVariable.{ClusterVariable}
 use Rattle.wave_text.specs.declared.variable.ClusterVariable.TheVariants as of_cluster
 use Rattle.wave_text.specs.declared.variable.NodeVariable.{NodeVariable}

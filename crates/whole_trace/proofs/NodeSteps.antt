@@ -17,10 +17,11 @@ use Rattle.whole_trace.specs.declared.due.Outline.{Outline}
 use Rattle.whole_trace.specs.declared.shown.Head.{Head}
 use Rattle.whole_trace.specs.declared.shown.NodeShown.{NodeShown}
 use Rattle.whole_trace.specs.Due.{is_below, source_node, is_node_line, next_node, after_node, due_after}
-use Rattle.whole_trace.specs.Steps.{IsLineStep, is_taken, GoesOn, node_due, behind_node, IsNodeStep, is_due_in_slot, IsInSlot}
-use Rattle.whole_trace.specs.Steps.{are_few, is_due_between, is_host_line, IsHostPlace, IsHostStep, IsSlotPlace}
-use Rattle.whole_trace.specs.Whole.{due_behind, one_line_later, judged_behind, judged, with_line, with_value, with_shown_node, with_node_line}
-use Rattle.whole_trace.specs.Whole.{SlotLines, SlotsFrom, value_of, slots_from}
+use Rattle.whole_trace.specs.Steps.{IsLineStep, is_taken, GoesOn, node_due, behind_node, IsNodeStep, is_due_in_slot}
+use Rattle.whole_trace.specs.Steps.{IsInSlot, are_few, is_due_between, is_host_line, IsHostPlace, IsHostStep}
+use Rattle.whole_trace.specs.Steps.{IsSlotPlace}
+use Rattle.whole_trace.specs.Whole.{due_behind, one_line_later, judged_behind, judged, with_line, with_value}
+use Rattle.whole_trace.specs.Whole.{with_shown_node, with_node_line, SlotLines, SlotsFrom, value_of, slots_from}
 use Rattle.whole_trace.proofs.Texts.{cut-front, rest-shorter}
 
 -- Any line.

@@ -13,8 +13,8 @@ use Rattle.whole_trace.specs.declared.due.Outline.{Outline}
 use Rattle.whole_trace.specs.declared.shown.Head.{Head}
 use Rattle.whole_trace.specs.declared.shown.NodeShown.{NodeShown}
 use Rattle.whole_trace.specs.Due.{is_below, source_node, is_head, is_keep, is_back, next_node, due_after, ending}
-use Rattle.whole_trace.specs.Whole.{one_line_later, or_missing, judged_behind, judged, with_line, with_value, with_shown_node, with_node_line, no_lines}
-use Rattle.whole_trace.specs.Whole.{SlotsFrom, value_of, slots_from}
+use Rattle.whole_trace.specs.Whole.{one_line_later, or_missing, judged_behind, judged, with_line, with_value}
+use Rattle.whole_trace.specs.Whole.{with_shown_node, with_node_line, no_lines, SlotsFrom, value_of, slots_from}
 use Rattle.whole_trace.proofs.NodeSteps.{is_next}
 
 -- the slots of the trace are so many, where this many begin in what is left

@@ -149,7 +149,8 @@ impl<'a> Place<'a> {
     /// What the line of a node says, and the place behind it, where it is the first line that is left and is due.
     #[inline(always)]
     pub(crate) fn next_shown(self, alike: &mut Alike) -> Option<(NodeShown, Place<'a>)>
-        ensures step { IfSome result (λ r. (v : Line) × IsLineStep self.entry.due self.entry.rest.now v r.1.due r.1.rest.now) }
+        ensures step { IfSome result (λ r. (v : Line)
+            × IsLineStep self.entry.due self.entry.rest.now v r.1.due r.1.rest.now) }
         ensures node { IfSome result (λ r. IsNodeStep self.entry.due self.entry.rest.now r.0 r.1.due r.1.rest.now) }
     {
         match self.due {
@@ -165,7 +166,8 @@ impl<'a> Place<'a> {
 
     /// The place behind the first line that is left, if it is due.
     pub(crate) fn behind_next(self, alike: &mut Alike) -> Option<Place<'a>>
-        ensures some { IfSome result (λ p. (v : Line) × IsLineStep self.entry.due self.entry.rest.now v p.due p.rest.now) }
+        ensures some { IfSome result (λ p. (v : Line)
+            × IsLineStep self.entry.due self.entry.rest.now v p.due p.rest.now) }
         ensures none { IsNone result → 0 < length self.entry.rest.now
             → judged self.entry.due (lines_of self.entry.rest.now) ≡ Err 1 }
     {
@@ -179,7 +181,8 @@ impl<'a> Place<'a> {
     /// The first line that is left, if it is due. It stands apart, since its values are large and few lines need it.
     #[inline(never)]
     pub(crate) fn next(self) -> Option<Step<'a>>
-        ensures some { IfSome result (λ s. IsLineStep self.entry.due self.entry.rest.now s.line s.behind.due s.behind.rest.now) }
+        ensures some { IfSome result (λ s.
+            IsLineStep self.entry.due self.entry.rest.now s.line s.behind.due s.behind.rest.now) }
         ensures none { IsNone result → 0 < length self.entry.rest.now
             → judged self.entry.due (lines_of self.entry.rest.now) ≡ Err 1 }
     {

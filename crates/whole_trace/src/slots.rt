@@ -2,7 +2,8 @@
 ghost use Rattle.std.specs.Prelude.{◌≡◌, ◌∷◌, ◌≤◌, [], length, is_some, IfSome, IsNone, IsTrue};
 ghost use Rattle.ttp_base.specs.Text.{lines_of};
 ghost use Rattle.line_text.specs.Labels.{after_label};
-ghost use Rattle.whole_trace.specs.Steps.{GoesOn, host_front, is_node_due, IsHostPlace, IsHostStep, IsInSlot, IsNodeStep, IsSlotPlace};
+ghost use Rattle.whole_trace.specs.Steps.{GoesOn, host_front, is_node_due, IsHostPlace, IsHostStep, IsInSlot};
+ghost use Rattle.whole_trace.specs.Steps.{IsNodeStep, IsSlotPlace};
 ghost use Rattle.whole_trace.specs.Whole.{SlotLines, slots_from, with_shown_node};
 
 use crate::alike::Alike;

@@ -8,11 +8,11 @@ ghost use Rattle.medl_text.specs.declared.error.FieldName.TheVariants as names;
 ghost use Rattle.medl_text.specs.declared.error.MedlError.TheVariants as errors;
 ghost use Rattle.medl_text.specs.ListFile.{at_top, at_slot, element_of, slot_faults, slot_plan_of, medl_in, medl_of};
 ghost use Rattle.medl_text.specs.Schedule.{slot_table};
-ghost use Rattle.world_rows.specs.ListFiles.{four_in_one_mode, modal_nodes, many_nodes, mixed_nodes, short_list, one_mode_slot};
-ghost use Rattle.world_rows.specs.ListFiles.{live_slot, payload_slot};
-ghost use Rattle.world_rows.specs.ListFiles.{four_nodes_table, mixed_nodes_table, four_nodes_text, modal_nodes_text};
-ghost use Rattle.world_rows.specs.ListFiles.{file_of, many_slots, four_slots, two_slots, one, slots_mean, modes_mean};
-ghost use Rattle.world_rows.specs.ListFiles.{slot_of, modal_slot, first_slot, other_slot, fast_slot, slot_live_in, answers, asking};
+ghost use Rattle.world_rows.specs.ListFiles.{four_in_one_mode, modal_nodes, many_nodes, mixed_nodes, short_list};
+ghost use Rattle.world_rows.specs.ListFiles.{one_mode_slot, live_slot, payload_slot, four_nodes_table};
+ghost use Rattle.world_rows.specs.ListFiles.{mixed_nodes_table, four_nodes_text, modal_nodes_text, file_of, many_slots};
+ghost use Rattle.world_rows.specs.ListFiles.{four_slots, two_slots, one, slots_mean, modes_mean, slot_of, modal_slot};
+ghost use Rattle.world_rows.specs.ListFiles.{first_slot, other_slot, fast_slot, slot_live_in, answers, asking};
 ghost use Rattle.world_rows.specs.ListFiles.{asking_slot, asking_plan, numbered_slot};
 
 /// Slot tables: four nodes in one round, and a slot with every kind of frame.

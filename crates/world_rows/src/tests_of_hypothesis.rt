@@ -4,8 +4,8 @@ ghost use Rattle.ttp_world.specs.declared.keep.Keep.TheVariants as keep;
 ghost use Rattle.ttp_world.specs.declared.script.Event.TheVariants as event;
 ghost use Rattle.ttp_world.specs.declared.script.Fault.TheVariants as fault;
 ghost use Rattle.ttp_world.specs.Hypothesis.{keeps};
-ghost use Rattle.world_rows.specs.Cases.{bare_list, bare_list_of, drifting_list, drifting_script, all_on_script, script_on};
-ghost use Rattle.world_rows.specs.Cases.{both, only_a};
+ghost use Rattle.world_rows.specs.Cases.{bare_list, bare_list_of, drifting_list, drifting_script, all_on_script};
+ghost use Rattle.world_rows.specs.Cases.{script_on, both, only_a};
 
 /// Drifts and reading errors past their bounds. Errors of one slot add up, and a drift is named
 /// before an error.

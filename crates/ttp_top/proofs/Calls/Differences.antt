@@ -2,7 +2,8 @@
 use Rattle.ttp_top.proofs.Terms.{◌≡◌, ℕ, Bool, true, false, List, ◌++◌, refl, sym, subst, inl, inr, arith, ◌==◌, codes}
 use Rattle.ttp_top.proofs.Terms.{decimal, if◌then◌else◌, list_any-append, Output, Lines, newline, is_line}
 use Rattle.ttp_top.proofs.Terms.{is_line-append, has, has-decimal, Medl, Script, is_trace, IsFirstWrong, AreLines, Says}
-use Rattle.ttp_top.proofs.Terms.{line_ending, whole_ending, those, BenchAnswer, BenchEnding, ttpbench, differs_line, differences}
+use Rattle.ttp_top.proofs.Terms.{line_ending, whole_ending, those, BenchAnswer, BenchEnding, ttpbench, differs_line}
+use Rattle.ttp_top.proofs.Terms.{differences}
 use Rattle.std.specs.Prelude.{◌↔◌}
 use Rattle.trace_check.specs.declared.answer.Outcome.TheVariants as outcome
 use Rattle.ttp_top.specs.Calls.Differences.{IsDifference}

@@ -3,8 +3,8 @@ use Rattle.ttp_top.proofs.Terms.{◌≡◌, ◌≢◌, ℕ, Bool, true, false, �
 use Rattle.ttp_top.proofs.Terms.{arith, List, [], ◌∷◌, inl, inr, ◌==◌, is_some, if◌then◌else◌, Lines, lines_of, Medl}
 use Rattle.ttp_top.proofs.Terms.{Script, test_lines, trace_lines-each, slot_table, ClusterView, is_trace, mode_lines}
 use Rattle.ttp_top.proofs.Terms.{refused_list, both_plan, trace_plan, AreLines, ends, whole_ending, line_ending, one}
-use Rattle.ttp_top.proofs.Terms.{those, IsFinal, SaysLine, list_every, BenchEnding, BenchPlan, ttpbench, same_line, usage_line}
-use Rattle.ttp_top.proofs.Terms.{table_ending, trace_ending, keep_ending, verify_ending, precision_ending}
+use Rattle.ttp_top.proofs.Terms.{those, IsFinal, SaysLine, list_every, BenchEnding, BenchPlan, ttpbench, same_line}
+use Rattle.ttp_top.proofs.Terms.{usage_line, table_ending, trace_ending, keep_ending, verify_ending, precision_ending}
 use Rattle.ttp_top.proofs.Terms.{sample_ending, modes_ending, plan_of, fronts, differences, Form, schedule, run, verify}
 use Rattle.ttp_top.proofs.Terms.{precision, sample, modes, is_run, runs_cluster}
 use Rattle.std.specs.Prelude.{IsSomeAnd}

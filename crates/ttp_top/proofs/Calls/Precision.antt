@@ -2,8 +2,8 @@
 use Rattle.ttp_top.proofs.Terms.{◌≡◌, ℕ, true, false, List, [], ◌∷◌, ◌++◌, length, refl, ap, sym, subst, ◌∙◌, inl, inr}
 use Rattle.ttp_top.proofs.Terms.{arith, ◌==◌, codes, decimal, list_any-append, Output, Lines, newline, is_line}
 use Rattle.ttp_top.proofs.Terms.{is_line-append, has, has-decimal, Medl, Script, IsLegalRun, Numbers, legal-none}
-use Rattle.ttp_top.proofs.Terms.{legal-whole, Faced, faced_of, seen_of, AreLines, Says, line_ending, BenchAnswer, ttpbench}
-use Rattle.ttp_top.proofs.Terms.{precision_ending, faced_line, broken_line, answer_line, IsPrecision}
+use Rattle.ttp_top.proofs.Terms.{legal-whole, Faced, faced_of, seen_of, AreLines, Says, line_ending, BenchAnswer}
+use Rattle.ttp_top.proofs.Terms.{ttpbench, precision_ending, faced_line, broken_line, answer_line, IsPrecision}
 use Rattle.std.specs.Fmt.{signed_decimal}
 use Rattle.ttp_base.proofs.Numerals.{has-signed}
 use Rattle.two_faced.specs.declared.faced.Faced.TheVariants as faced

@@ -2,8 +2,8 @@
 use Rattle.ttp_top.proofs.Terms.{◌≡◌, ◌⊎◌, ℕ, List, [], Some, refl, sym, subst, inl, inr, arith, HasRisen, Output}
 use Rattle.ttp_top.proofs.Terms.{Wrote, WroteLines, CutShort, Lines, Medl, slot_table, list_from-front, list_came}
 use Rattle.ttp_top.proofs.Terms.{AllAsk, list_every, end_comes, list_from-right, Quiet, told_shows, told_cut, Showed}
-use Rattle.ttp_top.proofs.Terms.{Outside, ends, told_ending, BenchAnswer, BenchEnding, BenchPlan, ttpbench, table_ending, plan_of}
-use Rattle.ttp_top.proofs.Terms.{BenchPromise, schedule, HoldsRightList}
+use Rattle.ttp_top.proofs.Terms.{Outside, ends, told_ending, BenchAnswer, BenchEnding, BenchPlan, ttpbench}
+use Rattle.ttp_top.proofs.Terms.{table_ending, plan_of, BenchPromise, schedule, HoldsRightList}
 use Rattle.ttp_top.specs.Lists.Promise.{WroteTable, SchedulePromise}
 
 -- the plan from a list on

@@ -1,8 +1,8 @@
 -- The promise of `sample`, from the promise of every form.
 use Rattle.ttp_top.proofs.Terms.{◌≡◌, ◌⊎◌, ℕ, List, [], Some, refl, sym, subst, inl, inr, arith, HasRisen, Output}
 use Rattle.ttp_top.proofs.Terms.{Wrote, Medl, list_from-front, list_came, list_every, end_comes, list_from-right, Quiet}
-use Rattle.ttp_top.proofs.Terms.{told_shows, Showed, Outside, ends, told_ending, BenchAnswer, BenchEnding, BenchPlan, ttpbench}
-use Rattle.ttp_top.proofs.Terms.{sample_ending, plan_of, BenchPromise, sample, HoldsRightList}
+use Rattle.ttp_top.proofs.Terms.{told_shows, Showed, Outside, ends, told_ending, BenchAnswer, BenchEnding, BenchPlan}
+use Rattle.ttp_top.proofs.Terms.{ttpbench, sample_ending, plan_of, BenchPromise, sample, HoldsRightList}
 use Rattle.ttp_top.specs.Samples.Promise.{WroteSampleOf, WroteSample, SamplePromise}
 
 -- the plan from a list on

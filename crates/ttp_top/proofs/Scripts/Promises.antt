@@ -2,8 +2,9 @@
 use Rattle.ttp_top.proofs.Terms.{◌≡◌, ◌⊎◌, ℕ, List, [], Some, refl, ap, sym, subst, ◌∙◌, inl, inr, arith, HasRisen}
 use Rattle.ttp_top.proofs.Terms.{Output, Lines, Medl, Script, IsLegalRun, trace_lines, Numbers, world, numbers_in-trace}
 use Rattle.ttp_top.proofs.Terms.{both_came, both_told, both_ask, end_comes, AllAsk, Quiet, told_shows, told_cut, Showed}
-use Rattle.ttp_top.proofs.Terms.{Outside, ends, told_ending, AreTold, BenchAnswer, BenchEnding, BenchPlan, WroteOf, CutOf, ttpbench}
-use Rattle.ttp_top.proofs.Terms.{trace_ending, plan_of, BenchPromise, traces, fronts, IsTrace, run, WroteTraceOf, RunPromise}
+use Rattle.ttp_top.proofs.Terms.{Outside, ends, told_ending, AreTold, BenchAnswer, BenchEnding, BenchPlan, WroteOf}
+use Rattle.ttp_top.proofs.Terms.{CutOf, ttpbench, trace_ending, plan_of, BenchPromise, traces, fronts, IsTrace, run}
+use Rattle.ttp_top.proofs.Terms.{WroteTraceOf, RunPromise}
 use Rattle.ttp_world.specs.TraceNumbers.{numbers_in}
 use Rattle.theorems.specs.KeptRun.{IsKeptRun, IsBackRun}
 use Rattle.theorems.proofs.Runs.{kept-run, back-run}

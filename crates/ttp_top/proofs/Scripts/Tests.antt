@@ -1,8 +1,8 @@
 -- The lines of the tests: that of the hypothesis, and the one on armed nodes where a node is armed.
 use Rattle.ttp_top.proofs.Terms.{◌≡◌, ℕ, true, false, [], ◌∷◌, refl, subst, ap, sym, inl, inr, Output, WroteLines}
 use Rattle.ttp_top.proofs.Terms.{CutShort, Wrote-none, Wrote-join, CutShort-after, CutShort-more, Medl, Script}
-use Rattle.ttp_top.proofs.Terms.{keep_line, back_lines, test_lines, Says, whole_ending, alone, one, BenchEnding, ttpbench}
-use Rattle.ttp_top.proofs.Terms.{keep_ending}
+use Rattle.ttp_top.proofs.Terms.{keep_line, back_lines, test_lines, Says, whole_ending, alone, one, BenchEnding}
+use Rattle.ttp_top.proofs.Terms.{ttpbench, keep_ending}
 use Rattle.ttp_world.specs.Hypothesis.{keeps}
 use Rattle.ttp_world.specs.Returning.{has_arm, returns}
 use Rattle.ttp_world.specs.Trace.{back_line, back_lines_if}

@@ -1,8 +1,8 @@
 -- A trace: the lines of a run, and then those of the tests.
 use Rattle.ttp_top.proofs.Terms.{◌≡◌, ℕ, refl, sym, subst, ◌∙◌, inl, inr, Output, WroteLines, CutShort, Wrote-join}
 use Rattle.ttp_top.proofs.Terms.{CutShort-after, Medl, Script, IsLegal, IsLegalRun, IsValid, IsValidScript, run_lines}
-use Rattle.ttp_top.proofs.Terms.{test_lines, trace_lines, Numbers, numbers_in-trace, ClusterView, Says, ShowsEnding, answer}
-use Rattle.ttp_top.proofs.Terms.{alone, ttpbench, trace_ending, keep_ending, HasWritten}
+use Rattle.ttp_top.proofs.Terms.{test_lines, trace_lines, Numbers, numbers_in-trace, ClusterView, Says, ShowsEnding}
+use Rattle.ttp_top.proofs.Terms.{answer, alone, ttpbench, trace_ending, keep_ending, HasWritten}
 use Rattle.ttp_world.specs.TraceNumbers.{numbers_in}
 use Rattle.ttp_top.specs.Calls.Answer.{HasRun, kept_after}
 use Rattle.ttp_top.proofs.Scripts.Fronts.{is_trace}

@@ -3,9 +3,9 @@ use Rattle.ttp_top.proofs.Terms.{◌≡◌, ◌⊎◌, ℕ, List, [], ◌∷◌,
 use Rattle.ttp_top.proofs.Terms.{arith, HasRisen, Wrote, Lines, Medl, Script, IsValid, IsValidScript, medl_of-valid}
 use Rattle.ttp_top.proofs.Terms.{script_of-valid, Faced, faced_of, seen_of, both_came, both_told, both_ask, AllAsk}
 use Rattle.ttp_top.proofs.Terms.{end_comes, Quiet, told_shows, told_cut, both_plan, Showed, Outside, ends, Comes}
-use Rattle.ttp_top.proofs.Terms.{told_ending, AreRight, AreTold, IsAmong, BenchAnswer, BenchEnding, BenchPlan, ttpbench, keep_ending}
-use Rattle.ttp_top.proofs.Terms.{precision_ending, plan_of, answer_line, BenchPromise, IsPrecision, Form, is_run, precision}
-use Rattle.ttp_top.proofs.Terms.{WroteSuch, CutSuch, TestPromise}
+use Rattle.ttp_top.proofs.Terms.{told_ending, AreRight, AreTold, IsAmong, BenchAnswer, BenchEnding, BenchPlan, ttpbench}
+use Rattle.ttp_top.proofs.Terms.{keep_ending, precision_ending, plan_of, answer_line, BenchPromise, IsPrecision, Form}
+use Rattle.ttp_top.proofs.Terms.{is_run, precision, WroteSuch, CutSuch, TestPromise}
 use Rattle.two_faced.specs.declared.faced.Faced.TheVariants as faced
 use Rattle.two_faced.proofs.Rules.{rules-hold}
 use Rattle.two_faced.proofs.SeenWithin.{runs-seen}

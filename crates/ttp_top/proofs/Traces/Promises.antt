@@ -5,9 +5,9 @@ use Rattle.ttp_top.proofs.Terms.{Lines, lines_of, Medl, Script, IsLegalRun, IsVa
 use Rattle.ttp_top.proofs.Terms.{trace_lines-each, numbers_in-trace, medl_of-valid, script_of-valid, is_trace}
 use Rattle.ttp_top.proofs.Terms.{is_trace-numbers, trace-short, both_came, both_told, both_ask, end_comes, AllAsk}
 use Rattle.ttp_top.proofs.Terms.{Quiet, told_shows, told_cut, both_plan, trace_plan, Showed, Outside, whole_ending}
-use Rattle.ttp_top.proofs.Terms.{ends, Comes, told_ending, trace_limit, AreRight, one, those, IsAmong, BenchAnswer, BenchEnding}
-use Rattle.ttp_top.proofs.Terms.{BenchPlan, ttpbench, plan_of, BenchPromise, differences, Form, is_run, verify, modes, OfTrace}
-use Rattle.ttp_top.proofs.Terms.{HasJudged, CutVerdict, AreAllTold, TextPromise}
+use Rattle.ttp_top.proofs.Terms.{ends, Comes, told_ending, trace_limit, AreRight, one, those, IsAmong, BenchAnswer}
+use Rattle.ttp_top.proofs.Terms.{BenchEnding, BenchPlan, ttpbench, plan_of, BenchPromise, differences, Form, is_run}
+use Rattle.ttp_top.proofs.Terms.{verify, modes, OfTrace, HasJudged, CutVerdict, AreAllTold, TextPromise}
 use Rattle.ttp_base.specs.Outside.{Held, untold, absent, holds, Load, Gives}
 use Rattle.ttp_world.specs.TraceNumbers.{numbers_in}
 use Rattle.ttp_base.proofs.Lines.{lines_of-concat}

@@ -1,6 +1,6 @@
 use Rattle.controller.proofs.Words.{◌≡◌, ℕ, length, get_or, sym, subst, arith, flat_map, below, Incidents}
-use Rattle.controller.proofs.Words.{nothing_chosen, slot_after, frames_of, Chosen, CarriesFrames, IsPayloadFor, SendsOne}
-use Rattle.controller.proofs.Words.{IsIncidentsOf}
+use Rattle.controller.proofs.Words.{nothing_chosen, slot_after, frames_of, Chosen, CarriesFrames, IsPayloadFor}
+use Rattle.controller.proofs.Words.{SendsOne, IsIncidentsOf}
 use Rattle.std.proofs.lemmas.List.{get_or_read}
 use Rattle.controller.proofs.InSlot.{AreSent-none, AreSent-more, AreSent-slot, AreSent-near}
 use Rattle.controller.proofs.Near.{planned-controller}

@@ -1,4 +1,5 @@
-use Rattle.picture_text.proofs.Words.{◌∙◌, ap, List, ℕ, ◌+◌, ◌++◌, codes, members_title, place_attributes, count_of, NodeShown}
+use Rattle.picture_text.proofs.Words.{◌∙◌, ap, List, ℕ, ◌+◌, ◌++◌, codes, members_title, place_attributes, count_of}
+use Rattle.picture_text.proofs.Words.{NodeShown}
 use Rattle.picture_text.proofs.LongCell.{long_cell}
 use Rattle.picture_text.proofs.members_cell.make_agreed.Goals as goal
 

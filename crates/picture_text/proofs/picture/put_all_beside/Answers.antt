@@ -1,4 +1,5 @@
-use Rattle.picture_text.proofs.Words.{◌≡◌, ◌∙◌, ap, sym, refl, ℕ, ◌+◌, drop, arith, beside_lines, slot_at, no_slot_lines}
+use Rattle.picture_text.proofs.Words.{◌≡◌, ◌∙◌, ap, sym, refl, ℕ, ◌+◌, drop, arith, beside_lines, slot_at}
+use Rattle.picture_text.proofs.Words.{no_slot_lines}
 use Rattle.picture_text.proofs.Rows.{slot_more}
 use Rattle.picture_text.proofs.Sought.{at_place, next_place, not_all}
 use Rattle.picture_text.proofs.picture.put_all_beside.Goals as goal
