@@ -20,7 +20,7 @@ ROWS = ((0, 0, 2_000_000), (0, 16, 1_000_000), (0, 240, 200_000), (1, 0, 2_000_0
 RATTLE = """//! Prints for each row and run: header, size, times, nanoseconds of encode, nanoseconds of judge.
 #![tactic(auto)]
 ghost use Rattle.std.specs.Prelude.{◌≡◌, false, [], length};
-ghost use Rattle.ttp_frame.specs.Shape.{IsShape};
+ghost use Rattle.ttp_frame.specs.Shape.{IsFrameShape};
 
 use std::io;
 use std::time::{Clock, Instant};
@@ -41,7 +41,7 @@ fn state(k: u32) -> CState
 
 #[inline(never)]
 fn encode_all(out: &mut [u8; 256], header: u8, payload: &[u8], times: u32) -> usize
-    requires { IsShape header (length payload.now) }
+    requires { IsFrameShape header (length payload.now) }
 {
     let mut last = 0;
     for k in 0..times {
@@ -58,7 +58,7 @@ fn encode_all(out: &mut [u8; 256], header: u8, payload: &[u8], times: u32) -> us
 
 #[inline(never)]
 fn judge_all(bytes: &[u8], expect: &Expect, times: u32) -> u32
-    requires shape { IsShape expect.now.header expect.now.payload }
+    requires shape { IsFrameShape expect.now.header expect.now.payload }
     requires wide { expect.now.wide ≡ false }
 {
     let mut matches = 0u32;
@@ -71,7 +71,7 @@ fn judge_all(bytes: &[u8], expect: &Expect, times: u32) -> u32
 }
 
 fn time_of(rt: &(impl Print + Clock), header: u8, size: u8, times: u32) -> io::Result<()>
-    requires { IsShape header size }
+    requires { IsFrameShape header size }
 {
     let payload = [0x5au8; 240];
     let mut out = [0u8; 256];

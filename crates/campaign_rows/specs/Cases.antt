@@ -12,8 +12,8 @@ use Rattle.campaign.specs.Tried.{both_channels, only_a}
 
 -- Lists of nodes that send bare frames in one round, of which node 0 starts.
 
-abbrev pub bare_slot : ℕ → SlotPlan
-bare_slot k = record {
+abbrev pub bare_slot_at : ℕ → SlotPlan
+bare_slot_at k = record {
   kinds = kind.I ∷ [];
   payload = 0;
   sync = true;
@@ -23,8 +23,8 @@ bare_slot k = record {
 }
 
 -- so many, with a window of so much
-abbrev pub bare_list : ℕ → ℕ → Medl
-bare_list n window = record {
+abbrev pub bare_list_within : ℕ → ℕ → Medl
+bare_list_within n window = record {
   version = 1;
   rounds = 1;
   schedule = 0;
@@ -33,27 +33,28 @@ bare_list n window = record {
   error = pos 0;
   window = pos window;
   modes = 1;
-  slots = map bare_slot (below n);
+  slots = map bare_slot_at (below n);
 }
 
 -- all n nodes are on from slot 0, so that node 0 starts in slot 2n
-abbrev pub script_of : ℕ → ℕ → List Event → Script
-script_of n slots events =
+abbrev pub started_script : ℕ → ℕ → List Event → Script
+started_script n slots events =
     record { slots = slots; on = replicate n (Some 0); drift = replicate n (pos 0); events = events }
 
 abbrev pub five : Medl
-five = bare_list 5 1
+five = bare_list_within 5 1
 
-abbrev pub quiet : Script
-quiet = script_of 5 45 []
+abbrev pub eventless_script : Script
+eventless_script = started_script 5 45 []
 
 -- the receivers of nodes 3 and 4 are dead on channel A from the beginning
 abbrev pub latent : Script
-latent = script_of 5 45 (event.Receive 3 only_a fault.Silence 0 44 ∷ event.Receive 4 only_a fault.Silence 0 44 ∷ [])
+latent =
+    started_script 5 45 (event.Receive 3 only_a fault.Silence 0 44 ∷ event.Receive 4 only_a fault.Silence 0 44 ∷ [])
 
 -- node 2 of six leaves since its frame of slot 26 is noise, and is armed in slot 40
 abbrev pub six : Medl
-six = bare_list 6 2
+six = bare_list_within 6 2
 
 abbrev pub armed : Script
-armed = script_of 6 66 (event.Send 2 both_channels fault.Noise 26 26 ∷ event.Arm 2 40 ∷ [])
+armed = started_script 6 66 (event.Send 2 both_channels fault.Noise 26 26 ∷ event.Arm 2 40 ∷ [])

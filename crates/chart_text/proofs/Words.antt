@@ -13,7 +13,7 @@ pub use Rattle.picture_text.proofs.Joined.{mark_parts, three_parts}
 pub use Rattle.picture_text.proofs.Pairs.{puts_both, puts_first, puts_one, puts_two}
 pub use Rattle.picture_text.proofs.Puts.{puts_below}
 pub use Rattle.picture_text.proofs.Rows.{one_more}
-pub use Rattle.picture_text.specs.Cells.{place}
+pub use Rattle.picture_text.specs.Cells.{place_attributes}
 pub use Rattle.picture_text.specs.Picture.{ended, row_line}
 pub use Rattle.picture_text.specs.Sheet.{Puts}
 pub use Rattle.picture_text.specs.declared.window.Span.{Span}

@@ -1,7 +1,7 @@
 -- The elements of a chart beside those of a picture.
 use Rattle.std.specs.Prelude.{ℕ, ◌+◌, List, ◌++◌, codes, decimal}
 use Rattle.ttp_base.specs.Text.{newline}
-use Rattle.picture_text.specs.Cells.{attribute, place, title_element, mark}
+use Rattle.picture_text.specs.Cells.{attribute, place_attributes, title_element, mark}
 use Rattle.picture_text.specs.Picture.{class_of, ended}
 use Rattle.chart_text.specs.declared.look.Look.{Look}
 use Rattle.chart_text.specs.Looks.{look_text, look_letter}
@@ -10,8 +10,8 @@ use Rattle.chart_text.specs.Looks.{look_text, look_letter}
 abbrev pub wide_cell : List ℕ → ℕ → ℕ → List ℕ → List ℕ → List ℕ
 wide_cell class x y title shown =
     codes "<g" ++ class_of class ++ codes ">" ++ title_element title
-    ++ codes "<rect" ++ place x y ++ codes " width=\"19\" height=\"17\"/>"
-    ++ codes "<text" ++ place (x + 9) (y + 13) ++ codes ">" ++ shown ++ codes "</text></g>" ++ newline
+    ++ codes "<rect" ++ place_attributes x y ++ codes " width=\"19\" height=\"17\"/>"
+    ++ codes "<text" ++ place_attributes (x + 9) (y + 13) ++ codes ">" ++ shown ++ codes "</text></g>" ++ newline
 
 -- the cell that stands for a look
 abbrev pub look_cell : Look → ℕ → ℕ → List ℕ

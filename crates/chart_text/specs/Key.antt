@@ -9,7 +9,7 @@ use Rattle.whole_campaign.specs.declared.shown.Doing.TheVariants as doing
 use Rattle.whole_campaign.specs.declared.shown.FaultShown.{FaultShown}
 use Rattle.whole_campaign.specs.Faults.{first_place}
 use Rattle.whole_campaign.specs.Whole.{FaultTold}
-use Rattle.picture_text.specs.Cells.{place, mark}
+use Rattle.picture_text.specs.Cells.{place_attributes, mark}
 use Rattle.picture_text.specs.Picture.{class_of, ended, text_line}
 use Rattle.chart_text.specs.declared.look.Look.{Look}
 use Rattle.chart_text.specs.declared.look.Look.TheVariants as look
@@ -33,8 +33,9 @@ key_said p = if nat_lt p 12 then loss_said p else jump_said p
 
 abbrev pub key_square : ℕ → ℕ → List ℕ
 key_square top p =
-    ended (codes "<g" ++ class_of (codes "key") ++ codes "><rect" ++ place (key_x p) (key_y top p)
-    ++ codes " width=\"59\" height=\"19\"/><text" ++ place (key_x p + 29) (key_y top p + 13) ++ codes ">" ++ key_said p
+    ended (codes "<g" ++ class_of (codes "key") ++ codes "><rect" ++ place_attributes (key_x p) (key_y top p)
+    ++ codes " width=\"59\" height=\"19\"/><text" ++ place_attributes (key_x p + 29)
+    (key_y top p + 13) ++ codes ">" ++ key_said p
     ++ codes "</text></g>")
 
 abbrev pub key_row : ℕ → ℕ → List ℕ → List ℕ

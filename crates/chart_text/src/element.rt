@@ -2,7 +2,7 @@
 #![tactic(auto, using(ttp_base::proofs::Room::room))]
 
 ghost use Rattle.std.specs.Prelude.{◌≡◌, ◌+◌, ◌^◌, ◌≤◌, [], ◌++◌, length, codes, decimal};
-ghost use Rattle.picture_text.specs.Cells.{place, mark};
+ghost use Rattle.picture_text.specs.Cells.{place_attributes, mark};
 ghost use Rattle.picture_text.specs.Picture.{class_of, text_line};
 ghost use Rattle.chart_text.specs.Elements.{wide_cell, look_cell, pole};
 
@@ -16,8 +16,9 @@ use ttp_base::Line;
 /// What stands between the title of a wide cell and what is shown.
 pub(crate) fn close_wide_title(line: &mut Line, at: Corner)
     requires { length line.old ≤ 450 }
-    ensures text { line.new ≡ line.old ++ (codes "</title><rect" ++ place at.x at.y
-        ++ codes " width=\"19\" height=\"17\"/>" ++ codes "<text" ++ place (at.x + 9) (at.y + 13) ++ codes ">") }
+    ensures text { line.new ≡ line.old ++ (codes "</title><rect" ++ place_attributes at.x at.y
+        ++ codes " width=\"19\" height=\"17\"/>"
+        ++ codes "<text" ++ place_attributes (at.x + 9) (at.y + 13) ++ codes ">") }
     ensures short { length line.new ≤ length line.old + 150 }
 {
     line.put_text("</title><rect");

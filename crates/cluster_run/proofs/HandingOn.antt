@@ -7,7 +7,7 @@ use Rattle.cluster_run.proofs.Words.{joinable, NodePast, Hearing, expected_lengt
 use Rattle.cluster_run.proofs.Words.{is_armed, is_on, BegunNode, hearing_in, node_after, node_of, sends_payload}
 use Rattle.cluster_run.proofs.Words.{carries, taken_size, node_of-slot_after, entry_of-row_in, ◌+◌, [], ◌∷◌, map, set}
 use Rattle.cluster_run.proofs.Words.{get_or, ap, ◌∙◌, arith, get_or-set_same, map-set, WriterState, Source}
-use Rattle.cluster_run.proofs.Words.{words_of_payload, Outcome, ControllerState, place_of, at_source, written}
+use Rattle.cluster_run.proofs.Words.{words_of_payload, Outcome, ControllerState, source_place, at_source, written}
 use Rattle.cluster_run.proofs.Words.{written_at, HasRoom, IsNewest, Desk, HaveHandedOn, delivered_to, handed_on}
 use Rattle.cluster_run.proofs.Words.{number_handed, outcome_of, rings_of, desk_ends, desk_numbers, message_count, ◌++◌}
 use Rattle.cluster_run.proofs.Words.{is_some, map-append, get_or-set_other, Message, Shape, delivered_of, new_messages}
@@ -121,7 +121,13 @@ newest_of_written (Some w) words n newest = omega (arith, newest, length-append 
 pub number_written : (end : ControllerState) (from : Source) (words : List ℕ) (n : ℕ) → HasRoom (at_source end from)
     → IsNewest (at_source (written_at end from words) from) n → n ≡ message_count (at_source end from)
 number_written end from words n room newest =
-    grind (steps, get_or-set_same, newest_of_written, within_list HasRoom None end (place_of from) (λ none. none) room)
+    grind (
+      steps,
+      get_or-set_same,
+      newest_of_written,
+      within_list HasRoom None end (source_place from)
+          (λ none. none) room,
+    )
 
 rings_delivered : (end : ControllerState) (delivered : Option Delivered)
     → rings_of (delivered_to end delivered) ≡ rings_of end
@@ -169,10 +175,10 @@ at_written : (end : ControllerState) (from : Source) (words : List ℕ)
     → at_source (written_at end from words) from ≡ written (at_source end from) words
 at_written end from words = grind steps
 
-at_other : (end : ControllerState) (from other : Source) (words : List ℕ) → place_of other ≢ place_of from
+at_other : (end : ControllerState) (from other : Source) (words : List ℕ) → source_place other ≢ source_place from
     → at_source (written_at end from words) other ≡ at_source end other
 at_other end from other words ne =
-    get_or-set_other end (place_of from) (place_of other) (written (at_source end from) words) None ne
+    get_or-set_other end (source_place from) (source_place other) (written (at_source end from) words) None ne
 
 -- One message more.
 

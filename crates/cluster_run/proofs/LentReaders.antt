@@ -7,12 +7,13 @@ use Rattle.cluster_run.proofs.Words.{get_or, Some, None, sym, ap, ◌∙◌, ari
 use Rattle.cluster_run.proofs.Words.{AreReadersOfEnd, rings_read, end_at, rings_of, AreReadersOfAll, HaveRead}
 use Rattle.cluster_run.proofs.Words.{readers_at, rings_in, ◌+◌, ◌≤◌, Bool, true, cond, IsSomeAnd, All, inl, inr}
 use Rattle.cluster_run.proofs.Words.{AllByRecursion, cases_lt, get_or_past, All-from_recursion, Message, WriterState}
-use Rattle.cluster_run.proofs.Words.{ReaderState, Medl, Script, IsSource, IsValidScript, lent, place_of, at_source}
+use Rattle.cluster_run.proofs.Words.{ReaderState, Medl, Script, IsSource, IsValidScript, lent, source_place, at_source}
 use Rattle.cluster_run.proofs.Words.{incoming_shape, reader_at, calls_in, IsRingOf, is_read_at, IsReadOf}
-use Rattle.cluster_run.proofs.Words.{reads_of_valid, MayReadAll, zero, suc, recursion_from_All, ReadLine, IsSettled}
-use Rattle.cluster_run.proofs.Words.{settled, got_of, pairs_from, desk_numbers, SettlesReads, SettlesReadsOf, read_of}
-use Rattle.cluster_run.proofs.Words.{AreLinesBy, queue_of, all_settled, get_or-map, replicate, length-replicate}
-use Rattle.cluster_run.proofs.Words.{outcomes_of, HaveHandedOn, reader_in, reads_of_host, is_host, filter, TellsReads}
+use Rattle.cluster_run.proofs.Words.{reads_of_valid, HaveRoomForReads, zero, suc, recursion_from_All, ReadLine}
+use Rattle.cluster_run.proofs.Words.{IsReaderSettled, settled, got_of, pairs_from, desk_numbers, SettlesReads}
+use Rattle.cluster_run.proofs.Words.{SettlesReadsOf, read_of, AreLinesBy, queue_of, all_settled, get_or-map, replicate}
+use Rattle.cluster_run.proofs.Words.{length-replicate, outcomes_of, HaveHandedOn, reader_in, reads_of_host, is_host}
+use Rattle.cluster_run.proofs.Words.{filter, TellsReads}
 use Rattle.std.proofs.lemmas.List.{get_or-map as get_or-map_within}
 use Rattle.cluster_run.proofs.Changes.{AreChanged}
 use Rattle.cluster_run.proofs.HandingOn.{no_desk}
@@ -79,18 +80,19 @@ hosts_within list script slot valid =
 -- What holds of each read holds of a host and source that are read.
 
 one_more : (k : ℕ) (from : Source) (r : HostRead) (reads : List HostRead) (b : Bool)
-    → is_read_at k (place_of from) r ≡ b → 1 ≤ reads_from (r ∷ reads) k from → 1 ≤ cond b 1 0 + reads_from reads k from
+    → is_read_at k (source_place from) r ≡ b → 1 ≤ reads_from (r ∷ reads) k from
+    → 1 ≤ cond b 1 0 + reads_from reads k from
 one_more k from r reads b is some = grind steps
 
 read_here : (Q : ℕ → Source → Type 0) (k : ℕ) (from : Source) (r : HostRead) (b : Bool)
-    → is_read_at k (place_of from) r ≡ b → Q r.host r.source → (b ≡ false → Q k from) → Q k from
+    → is_read_at k (source_place from) r ≡ b → Q r.host r.source → (b ≡ false → Q k from) → Q k from
 read_here Q k from r true is here later = grind steps
 read_here Q k from r false is here later = later refl
 
 read_there : (Q : ℕ → Source → Type 0) (k : ℕ) (from : Source) (reads : List HostRead)
     → AllByRecursion (λ (r : HostRead). Q r.host r.source) reads → 1 ≤ reads_from reads k from → Q k from
 read_there Q k from [] all some = absurd (omega arith)
-read_there Q k from (r ∷ reads) all some = read_here Q k from r (is_read_at k (place_of from) r) refl all.0
+read_there Q k from (r ∷ reads) all some = read_here Q k from r (is_read_at k (source_place from) r) refl all.0
     (λ not_here. read_there Q k from reads all.1 (omega (arith, one_more k from r reads false not_here some)))
 
 -- The ring of a source is there, so is its reader.
@@ -119,7 +121,7 @@ module _ {at : CurrentSlot} {numbers : Numbers} {ends : List ControllerState} {r
       rw ((are.lent.each k (omega (arith, is.0, are.ends_count))).readers from)
       (lent_room list k from _ _ (at_source (end_at ends k) from) n is.1 (are.rings k is.0 from) some)
 
-  pub may_read_all : MayReadAll reads readers
+  pub may_read_all : HaveRoomForReads reads readers
   may_read_all = record {
     calls = λ k.
         elim (cases_lt k (length ends)) [
@@ -135,7 +137,7 @@ pub settled-none : (w : Option WriterState) → w ≡ settled w None
 settled-none None = refl
 settled-none (Some w) = refl
 
-pub is_settled-none : (w : Option WriterState) → IsSettled w None
+pub is_settled-none : (w : Option WriterState) → IsReaderSettled w None
 is_settled-none None = tt
 is_settled-none (Some w) = tt
 
@@ -153,12 +155,13 @@ all_settled-at (w ∷ ws) (r ∷ rs) (suc i) = all_settled-at ws rs i
 
 -- one that does
 pub settles_readers : (old new : ControllerState) (r : ReadersState)
-    → ((from : Source) → IsSettled (at_source old from) (at_source r.readers from)) → new ≡ all_settled old r.readers
+    → ((from : Source) → IsReaderSettled (at_source old from) (at_source r.readers from))
+    → new ≡ all_settled old r.readers
     → SettlesReadsOf old (Some r) new
 settles_readers old new r whole joined = record {
   whole = whole;
   settled_is = λ from.
-      ap (λ (e : ControllerState). at_source e from) joined ∙ all_settled-at old r.readers (place_of from);
+      ap (λ (e : ControllerState). at_source e from) joined ∙ all_settled-at old r.readers (source_place from);
 }
 
 hosted : (k : ℕ) (lines : List ReadLine) → AllByRecursion (λ (line : ReadLine). line.host ≡ k) lines

@@ -7,11 +7,12 @@ use Rattle.cluster_run.proofs.Words.{arith, ◌==◌, cases_lt, get_or_past, Sou
 use Rattle.cluster_run.proofs.Words.{AllGot, AreLinesOf, AreQueuesOf, ◌+◌, ◌&&◌, ◌||◌, subst, nat_le, reverse}
 use Rattle.cluster_run.proofs.Words.{AllByRecursion, list_all, and_parts, le-leb, Message, Medl, Script, History}
 use Rattle.cluster_run.proofs.Words.{ring_messages, ReadMessage, read_messages, never_fall, is_legal_read, pairs_from}
-use Rattle.cluster_run.proofs.Words.{place_of, read_shown, pairs_read_in, not, reverse-append, is_same_source}
+use Rattle.cluster_run.proofs.Words.{source_place, read_shown, pairs_read_in, not, reverse-append, is_same_source}
 use Rattle.cluster_run.proofs.Words.{is_same_ring, is_not_older, is_line_from, pair_read, newest_number, get_or}
 use Rattle.cluster_run.proofs.Words.{slice_get, Entry, node_past, IsEnded, ShowsState, Seat, NodeLine, HaveEndedSlot}
 use Rattle.cluster_run.proofs.Words.{message_named, number_told, node_shown, zero-add, Diary, Surroundings, diary_of}
-use Rattle.cluster_run.proofs.Words.{past_of, state_of, message_shown, StandsAfter, IsControllerOf, StandsFor, Stands}
+use Rattle.cluster_run.proofs.Words.{past_of, state_of, message_shown, StandsAfter, IsControllerOf, ControllerStandsFor}
+use Rattle.cluster_run.proofs.Words.{Stands}
 use Rattle.std.proofs.lemmas.List.Folds.{list_all-append}
 use Rattle.ttp_world.proofs.LegalReads.{reverse-all}
 use Rattle.ttp_world.specs.declared.node.NodeState.{NodeState}
@@ -150,7 +151,7 @@ each_line P (line ∷ lines) all = (
 
 -- No number falls.
 
-same_by_place : (a b : Source) → is_same_source a b ≡ (place_of a == place_of b)
+same_by_place : (a b : Source) → is_same_source a b ≡ (source_place a == source_place b)
 same_by_place source.Status source.Status = refl
 same_by_place (source.Node j) (source.Node k) = grind steps
 same_by_place a b = grind steps
@@ -237,7 +238,8 @@ named_shown : (list : Medl) (script : Script) (row : List Entry) (before : Histo
 named_shown list script row before k entry.Off = refl
 named_shown list script row before k e = refl
 
-stands_now : {view : ControllerView} {diary : Diary} {surroundings : Surroundings} → StandsFor view diary surroundings
+stands_now : {view : ControllerView} {diary : Diary} {surroundings : Surroundings}
+    → ControllerStandsFor view diary surroundings
     → Stands view diary surroundings view.turn
 stands_now stands = record { past = stands.past; slots = stands.slots; turn = refl }
 

@@ -6,8 +6,8 @@ use Rattle.cluster_run.proofs.Words.{Message, ReaderState, Reads, buffers_of, go
 use Rattle.cluster_run.proofs.Words.{lt-ltb, limit, RingState, cond, set, take, get_or, inl, inr, cases_eq, take_more}
 use Rattle.cluster_run.proofs.Words.{HostRead, Source, ReadersState, reads_from, readers_at, reader_in, reader_at}
 use Rattle.cluster_run.proofs.Words.{calls_in, rings_in, IsRead, reads_of_host, is_host, filter, filter-append}
-use Rattle.cluster_run.proofs.Words.{append-nil, map-append, HaveRead, MayReadAll, ◌⊎◌, at_any, length-append, IsLeft}
-use Rattle.cluster_run.proofs.Words.{within_list}
+use Rattle.cluster_run.proofs.Words.{append-nil, map-append, HaveRead, HaveRoomForReads, ◌⊎◌, at_any, length-append}
+use Rattle.cluster_run.proofs.Words.{IsLeft, within_list}
 use Rattle.nbw_ring.specs.Attempts.{Gets}
 use Rattle.ttp_world.proofs.LineLists.{each-append}
 
@@ -249,7 +249,7 @@ pub record IsNextRead (reads : List HostRead) (i : ℕ) (d : HostRead) (start no
     : Type 0 where
   pub near : i < length reads
   pub host : h ≡ (get_or reads i d).host
-  pub may : MayReadAll reads start
+  pub may : HaveRoomForReads reads start
   pub so : HaveRead (take i reads) start now
 
 module _ {reads : List HostRead} {i : ℕ} {d : HostRead} {start now : List (Option ReadersState)} {h : ℕ}

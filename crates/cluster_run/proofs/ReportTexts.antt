@@ -4,11 +4,11 @@ use Rattle.cluster_run.proofs.Words.{append_assoc, arith, AllByRecursion, length
 use Rattle.cluster_run.proofs.Words.{All-from_recursion, All-nil, below, Medl, Entry, Script, Source, History, IsLegal}
 use Rattle.cluster_run.proofs.Words.{ReadMessage, read_messages, IsValid, HostWrite, IsSource, IsValidScript, reads_in}
 use Rattle.cluster_run.proofs.Words.{words_of_payload, Numbers, SlotNumbers, world, length-world, NodeLine, SlotReport}
-use Rattle.cluster_run.proofs.Words.{bytes_in, words_tell, AreBytesBefore, node_shown, numbers_in, writes_shown}
+use Rattle.cluster_run.proofs.Words.{bytes_in, words_tell, AreBytesBefore, node_shown, report_numbers, writes_shown}
 use Rattle.cluster_run.proofs.Words.{read_shown, ring_words, IsNext, steps, range_with_len, map_each-below}
 use Rattle.cluster_run.proofs.Words.{node_line_of, more_write_lines, read_line, slot_lines, HasRead, messages_read}
-use Rattle.cluster_run.proofs.Words.{HasWords, message_in, HasMessage, IsListed, node_texts, payload_size, read_text}
-use Rattle.cluster_run.proofs.Words.{report_lines, write_text, ShowsSlot, ClusterView, plan_few}
+use Rattle.cluster_run.proofs.Words.{HasWords, message_in, HasMessage, IsListed, node_texts, source_payload_size}
+use Rattle.cluster_run.proofs.Words.{read_text, report_lines, write_text, ShowsSlot, ClusterView, plan_few}
 use Rattle.ttp_world.proofs.HostPayloads.{IsMessageOf}
 use Rattle.line_text.specs.LineParts.{HasDigits}
 use Rattle.line_text.proofs.MemberDigits.{state_of-digits}
@@ -32,7 +32,7 @@ writes_told list script slot earlier (w ∷ ws) = grind (steps, writes_told list
 
 -- the words of a message tell it
 message_again : (list : Medl) (from : Source) (message : List ℕ) → IsMessageOf list from message
-    → message_in from (payload_size list from) (ring_words from message) ≡ message
+    → message_in from (source_payload_size list from) (ring_words from message) ≡ message
 message_again list source.Status message is = refl
 message_again list (source.Node p) message is =
     (λ i. bytes_in (sym is.1 i) (words_of_payload message)) ∙ words_tell message is.0
@@ -58,7 +58,7 @@ listed list host source.Status is = tt
 listed list host (source.Node p) is = is.0
 
 words_of : (list : Medl) (from : Source) (message : List ℕ) → IsValid list → IsMessageOf list from message
-    → HasWords from (payload_size list from) (ring_words from message)
+    → HasWords from (source_payload_size list from) (ring_words from message)
 words_of list source.Status message valid is = is
 words_of list (source.Node p) message valid is = grind (steps, length-map, length-range_with_len, plan_few)
 
@@ -83,7 +83,7 @@ tells_next cluster numbers valid valid_script bytes next legal =
     let list = cluster.list in
     let script = cluster.script in
     let report = cluster.report in
-    let new = numbers_in report in
+    let new = report_numbers report in
     let before = world list script numbers in
     let row = next_row list script new numbers in
     let shows = next.shows in

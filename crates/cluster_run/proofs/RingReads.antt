@@ -1,7 +1,7 @@
 -- What the reads of a slot got of one ring, and the ring once its reader is settled.
 use Rattle.cluster_run.proofs.Words.{◌≡◌, ℕ, ◌+◌, ◌≤◌, List, [], ◌++◌, length, Option, Some, None, refl, sym, ap, ◌∙◌}
 use Rattle.cluster_run.proofs.Words.{subst, arith, AllByRecursion, ForSome, append-nil, recursion_from_All, Message}
-use Rattle.cluster_run.proofs.Words.{Shape, WriterState, ReaderState, new_reader, with_joined, IsSettled, settled}
+use Rattle.cluster_run.proofs.Words.{Shape, WriterState, ReaderState, new_reader, with_joined, IsReaderSettled, settled}
 use Rattle.cluster_run.proofs.Words.{got_of, ReadsMany, IsClear, IsRing, IsRingOf, steps}
 use Rattle.nbw_ring.specs.Numbers.{newest_number, IsMessageOf}
 use Rattle.cluster_run.proofs.Rings.{settled_ring}
@@ -40,7 +40,7 @@ pub record RingSlot : Type 0 where
   pub is : IsRingOf shape before pairs writer
   pub be : IsRingOf shape after pairs later
   pub lent_by : IsLentBy writer lent
-  pub settles : IsSettled later read
+  pub settles : IsReaderSettled later read
 
 -- it is there where it has a reader
 record IsThere (r : RingSlot) (old : ReaderState) : Type 0 where
@@ -76,7 +76,7 @@ there_for r old lent =
     is_there r old r.shape r.writer r.later refl refl r.is r.be (subst (IsLentBy r.writer) lent r.lent_by)
 
 settles_in : (r : RingSlot) {last : WriterState} {new : ReaderState} → r.later ≡ Some last → r.read ≡ Some new
-    → IsSettled (Some last) (Some new)
+    → IsReaderSettled (Some last) (Some new)
 settles_in r {new = new} later read = grind steps
 
 -- With two buffers or more its reader is clear, as the slot brought one message at most.
@@ -100,7 +100,7 @@ clear_of r = clear_if r r.lent r.read refl refl
 
 got_ring : (before after : List (List ℕ)) {shape : Shape} {pairs : List Message} {w v : WriterState} {n : ℕ}
     {old new : ReaderState} → IsRing shape before pairs w → IsRing shape after pairs v → IsLentBy (Some w) (Some old)
-    → GotEvery n old new → IsSettled (Some v) (Some new) → AreGotOf before after new.got
+    → GotEvery n old new → IsReaderSettled (Some v) (Some new) → AreGotOf before after new.got
 got_ring before after {v = v} {new = new} is be lent got settles = grind (steps, recursion_from_All)
 
 -- what its reader got, and its writer once the reader is settled

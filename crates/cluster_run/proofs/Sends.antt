@@ -5,17 +5,17 @@ use Rattle.cluster_run.proofs.Words.{◌∙◌, arith, ◌==◌, IsSome, filter_
 use Rattle.cluster_run.proofs.Words.{false_from_ne_true, append-nil, length-map, length-set, take_more}
 use Rattle.cluster_run.proofs.Words.{take-append-drop, get_or-set_same, get_or-set_other, HostWrite, payload_of_host}
 use Rattle.cluster_run.proofs.Words.{words_of_payload, WriteLine, HostState, written, Takes, HasRoom, host_at}
-use Rattle.cluster_run.proofs.Words.{with_messages, after_writes, message_count, write_line, write_lines, steps}
-use Rattle.cluster_run.proofs.Words.{cons_option, filter_map-append, most_number, messages_by, length-append, suc}
-use Rattle.cluster_run.proofs.Words.{IfSome, All, subst, ForSome, All-head, none-some, same_Some, Message, ReaderState}
-use Rattle.cluster_run.proofs.Words.{new_reader, Medl, Chosen, Script, EVENT_LIMIT, plan_at, messages_before}
-use Rattle.cluster_run.proofs.Words.{nothing_chosen, messages_written, writes_in, word_count, BegunSlot, Numbers}
-use Rattle.cluster_run.proofs.Words.{is_loaded, world, AreBytes, Seat, CurrentSlot, AreBytesBefore, HaveBegunFor}
-use Rattle.cluster_run.proofs.Words.{HaveChosen, next_slot, writes_shown, words_written, AreLent, Fetches, MaySettle}
-use Rattle.cluster_run.proofs.Words.{MayLend, MayWriteAll, FetchesOne, WritesBytes, fetcher_lent, add-one, cond_both}
-use Rattle.cluster_run.proofs.Words.{All-append, All-tail, write_in, pairs_sent, FetchAll, MayFetchAll, MayFetchAlone}
-use Rattle.cluster_run.proofs.Words.{IsValidWrite, few_messages, filter_map-each, valid_write_at, valid_writes}
-use Rattle.cluster_run.proofs.Words.{filter_map-few, HaveBegun, slice_get, unwrap_or, no_plan, plan_few}
+use Rattle.cluster_run.proofs.Words.{with_messages, after_writes, message_count, host_write_line, host_write_lines}
+use Rattle.cluster_run.proofs.Words.{steps, cons_option, filter_map-append, most_number, messages_by, length-append}
+use Rattle.cluster_run.proofs.Words.{suc, IfSome, All, subst, ForSome, All-head, none-some, same_Some, Message}
+use Rattle.cluster_run.proofs.Words.{ReaderState, new_reader, Medl, Chosen, Script, EVENT_LIMIT, plan_at}
+use Rattle.cluster_run.proofs.Words.{messages_before, nothing_chosen, messages_written, writes_in, word_count}
+use Rattle.cluster_run.proofs.Words.{BegunSlot, Numbers, is_loaded, world, AreBytes, Seat, CurrentSlot, AreBytesBefore}
+use Rattle.cluster_run.proofs.Words.{HaveBegunFor, HaveChosen, next_slot, writes_shown, words_written, AreLent, Fetches}
+use Rattle.cluster_run.proofs.Words.{MaySettle, MayLend, MayWriteAll, FetchesOne, WritesBytes, fetcher_lent, add-one}
+use Rattle.cluster_run.proofs.Words.{cond_both, All-append, All-tail, write_in, pairs_sent, FetchAll, MayFetchAll}
+use Rattle.cluster_run.proofs.Words.{MayFetchAlone, IsValidWrite, few_messages, filter_map-each, valid_write_at}
+use Rattle.cluster_run.proofs.Words.{valid_writes, filter_map-few, HaveBegun, slice_get, unwrap_or, no_plan, plan_few}
 use Rattle.std.proofs.lemmas.List.Sums.{count_by-le-length}
 use Rattle.ttp_world.specs.declared.medl.SlotPlan.{SlotPlan}
 use Rattle.cluster_run.proofs.Choices.{HasRing, has_ring, node_choice}
@@ -28,7 +28,7 @@ pub record AreWritten (old : List HostState) (writes : List HostWrite) (ends : L
     : Type 0 where
   pub count : length ends ≡ length old
   pub each : (k : ℕ) → host_at ends k ≡ after_writes writes k (host_at old k)
-  pub lines_are : lines ≡ write_lines old [] writes
+  pub lines_are : lines ≡ host_write_lines old [] writes
 
 -- Of one more: its host's ring has one message more.
 
@@ -50,10 +50,11 @@ after_more writes w k end =
 -- The line: its number follows those of the messages before it.
 
 write_lines-more : (old : List HostState) (earlier writes : List HostWrite) (w : HostWrite)
-    → write_lines old earlier (writes ++ w ∷ [])
-    ≡ write_lines old earlier writes
-    ++ write_line old w.host (count_by (λ e. e.host == w.host) earlier + count_by (λ e. e.host == w.host) writes) ∷ []
-write_lines-more old earlier [] w = ap (λ n. write_line old w.host n ∷ []) (omega arith)
+    → host_write_lines old earlier (writes ++ w ∷ [])
+    ≡ host_write_lines old earlier writes
+    ++ host_write_line old w.host
+    (count_by (λ e. e.host == w.host) earlier + count_by (λ e. e.host == w.host) writes) ∷ []
+write_lines-more old earlier [] w = ap (λ n. host_write_line old w.host n ∷ []) (omega arith)
 write_lines-more old earlier (v ∷ writes) w = grind (steps, write_lines-more old (v ∷ earlier) writes w)
 
 counted : (k : ℕ) (writes : List HostWrite) → length (messages_by k writes) ≡ count_by (λ e. e.host == k) writes
@@ -74,7 +75,7 @@ pub written_more : (old ends : List HostState) (writes : List HostWrite) (lines 
     → AreWritten old writes ends lines → w.host < length ends → IsSome (host_at ends w.host)
     → AreWritten old (writes ++ w ∷ [])
     (set ends w.host (written (host_at ends w.host) (words_of_payload w.payload)))
-    (lines ++ write_line ends w.host 0 ∷ [])
+    (lines ++ host_write_line ends w.host 0 ∷ [])
 written_more old ends writes lines w so within some =
     grind (
       steps,
@@ -150,7 +151,7 @@ lines_of : (list : Medl) (script : Script) (slot : ℕ) (ends : List HostState) 
     → ((k : ℕ) → k < length list.slots → 1 ≤ (plan_at list k).payload
     → message_count (host_at ends k) ≡ length (messages_before list script k slot))
     → All (IsValidWrite list) writes
-    → write_lines ends earlier writes ≡ writes_shown list script slot earlier writes
+    → host_write_lines ends earlier writes ≡ writes_shown list script slot earlier writes
 lines_of list script slot ends earlier [] counts valid = refl
 lines_of list script slot ends earlier (w ∷ writes) counts valid =
     let write = All-head (IsValidWrite list) w writes valid in
@@ -242,7 +243,8 @@ module _ {at : CurrentSlot} {numbers : Numbers} {seats : List Seat} {ends : List
       }
 
   -- the lines of what they write
-  pub lines_shown : write_lines ends [] (writes_in script at.slot) ≡ writes_shown list script at.slot [] (writes_in script at.slot)
+  pub lines_shown : host_write_lines ends [] (writes_in script at.slot) ≡ writes_shown list script at.slot []
+      (writes_in script at.slot)
   lines_shown = lines_of list script at.slot ends [] (writes_in script at.slot)
       (λ k node some.
       ring_count _ _ _ (host_at ends k) (has_ring list k _ _ (host_at ends k) some (begun.written k node)).there

@@ -8,8 +8,8 @@ use Rattle.cluster_run.proofs.Words.{end_at, desk_ends, desk_numbers, steps, ⊎
 use Rattle.cluster_run.proofs.Words.{each-back, each-joined, IsPartReady, Outcome, zero-add, ◌≤◌, History, Numbers}
 use Rattle.cluster_run.proofs.Words.{world, length-world, IsPlanned, HaveBegun, StandAfter, AreSeats, AreIncidents}
 use Rattle.cluster_run.proofs.Words.{most_ahead_in, CurrentSlot, Nodes, HaveBegunFor, next_slot, pairs_read}
-use Rattle.cluster_run.proofs.Words.{IsSlotEnded, MayEndSlot, StandsAt, IsFromWithin, MayEnd, ArePlannedNodes, AreReady}
-use Rattle.cluster_run.proofs.Words.{NodesView, length-append}
+use Rattle.cluster_run.proofs.Words.{IsSlotEnded, MayEndSlot, NodesStandAt, IsFromWithin, MayEnd, ArePlannedNodes}
+use Rattle.cluster_run.proofs.Words.{AreReady, NodesView, length-append}
 use Rattle.medium.specs.Carried.{Carried}
 use Rattle.controller.specs.Parts.{EachFrom}
 use Rattle.cluster_run.proofs.HandingOn.{delivered-deliverable, HoldsCame, may_hand_on}
@@ -155,7 +155,7 @@ module _ {half : ℕ} {ss ss1 ss2 : List Seat} {ds ds1 ds2 : List Desk} (c : Are
 -- Once the controllers have begun the slot.
 
 module _ (at : CurrentSlot) {numbers : Numbers} {view : NodesView} {old begun now : List Seat} (is : now ≡ begun)
-    (stands : StandsAt at.list.now at.script.now at.slot view numbers) (was : old ≡ view.seats)
+    (stands : NodesStandAt at.list.now at.script.now at.slot view numbers) (was : old ≡ view.seats)
     (begin : (history : History) → length history ≡ at.slot → StandAfter at.script.now history 0 old
     → HaveBegun (slot_after at.list.now at.script.now history) 0 begun) where
   pub has_begun : HaveBegun (next_slot at.list.now at.script.now numbers) 0 now

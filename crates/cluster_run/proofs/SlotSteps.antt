@@ -11,15 +11,15 @@ use Rattle.cluster_run.proofs.Words.{ReadLine, WriteLine, ReadersState, reads_fr
 use Rattle.cluster_run.proofs.Words.{CurrentSlot, Desk, Nodes, next_slot, outcome_of, desk_ends, desk_numbers, end_at}
 use Rattle.cluster_run.proofs.Words.{reader_in, reader_at, IsClear, AreLinesOf, read_of, number_told, read_shown}
 use Rattle.cluster_run.proofs.Words.{ring_words, words_read, pair_of, pairs_read, pairs_read_in, IsRingOf, IsSlotEnded}
-use Rattle.cluster_run.proofs.Words.{StandsAt, TellsReads, nodes_view, steps, AreOfHosts, delivered_of-row_in}
+use Rattle.cluster_run.proofs.Words.{NodesStandAt, TellsReads, nodes_view, steps, AreOfHosts, delivered_of-row_in}
 use Rattle.cluster_run.proofs.Words.{HaveEnded, HavePlannedSlot, IsSlotPlanned, below, IsLegal, is_legal_message}
 use Rattle.cluster_run.proofs.Words.{writes_in, SlotNumbers, legal-after, most_ahead, NodeLine, SlotReport}
-use Rattle.cluster_run.proofs.Words.{HaveEndedSlot, node_shown, numbers_in, writes_shown, IsNextOf, NodesStandFor}
+use Rattle.cluster_run.proofs.Words.{HaveEndedSlot, node_shown, report_numbers, writes_shown, IsNextOf, NodesStandFor}
 use Rattle.cluster_run.proofs.Words.{fill_by_all, all-below, entry_of, are_legal_messages, are_same_numbers}
 use Rattle.cluster_run.proofs.Words.{is_legal_slot, message_of, message_of-row_in, length-row_in, row_of_world}
-use Rattle.cluster_run.proofs.Words.{row_of_world-told, number_sent, newest_number, get_or-map}
+use Rattle.cluster_run.proofs.Words.{row_of_world-told, number_in_frame, newest_number, get_or-map}
 use Rattle.nbw_ring.specs.Numbers.{newest_number as newest_in, IsMessageOf}
-use Rattle.controller.specs.Passes.{IsLeft}
+use Rattle.controller.specs.Passes.{IsOutcomeOf}
 use Rattle.controller.proofs.Plants.{left_at}
 use Rattle.ttp_world.proofs.LegalRuns.{are_same_numbers-refl as same_numbers}
 use Rattle.ttp_world.proofs.LineLists.{map_of_map}
@@ -122,7 +122,7 @@ pub record TakenSlot : Type 0 where
   pub new : Nodes
   pub writes : List WriteLine
   pub reads : List ReadLine
-  pub stands : StandsAt at.list.now at.script.now at.slot (nodes_view old) numbers
+  pub stands : NodesStandAt at.list.now at.script.now at.slot (nodes_view old) numbers
   pub plans : IsSlotPlanned at old mid writes
   pub ends : IsSlotEnded at mid new
   pub tells : TellsReads at mid new reads
@@ -183,7 +183,7 @@ module _ (so : TakenSlot) where
   abbrev outcome : ℕ → Outcome
   outcome = outcome_of (outcomes_of so.new.seats.items)
 
-  left_here : (k : ℕ) → k < length list.slots → IsLeft list script before so.mid.chosen.items k (outcome k)
+  left_here : (k : ℕ) → k < length list.slots → IsOutcomeOf list script before so.mid.chosen.items k (outcome k)
   left_here k node = left_at ended.left k (omega (arith, node, so.ends.are.seats_count))
 
   handed_of : (k : ℕ) → k < length list.slots → IsHandedOf list script row before k (outcome k)
@@ -324,7 +324,7 @@ module _ (so : TakenSlot) where
   module _ (nodes : List NodeLine)
       (are : nodes ≡ map (node_shown list script row before) (below (length list.slots))) where
     abbrev told : SlotNumbers
-    told = numbers_in (report_of nodes)
+    told = report_numbers (report_of nodes)
 
     row_count : length row ≡ length list.slots
     row_count = length-row_in (next_slot list script numbers) so.mid.chosen.items
@@ -338,7 +338,7 @@ module _ (so : TakenSlot) where
         ∙ row_of_world-told list script numbers so.mid.chosen.items told.read of_hosts
 
     sent_at : (k : ℕ) → k < length list.slots
-        → get_or told.sent k None ≡ number_sent (next_slot list script numbers) so.mid.chosen.items k
+        → get_or told.sent k None ≡ number_in_frame (next_slot list script numbers) so.mid.chosen.items k
     sent_at k node = ap (λ (ns : List (Option ℕ)). get_or ns k None) sent ∙ get_or-map message_of row k entry.Off
         ∙ message_of-row_in (next_slot list script numbers) so.mid.chosen.items k node
 
@@ -355,7 +355,8 @@ module _ (so : TakenSlot) where
         → is_legal_message list script (length before) k (message_of (entry_of row k)) ≡ true
     legal_at k node = ap (is_legal_message list script (length before) k)
         (message_of-row_in (next_slot list script numbers) so.mid.chosen.items k node)
-        ∙ ap (λ n. is_legal_message list script n k (number_sent (next_slot list script numbers) so.mid.chosen.items k))
+        ∙ ap (λ n. is_legal_message list script n k (number_in_frame
+        (next_slot list script numbers) so.mid.chosen.items k))
         (length-world list script numbers) ∙ planned.chosen.legal k node
 
     messages_legal : are_legal_messages list script (length before) row told.sent ≡ true

@@ -3,37 +3,39 @@ pub use Rattle.host_port.proofs.ReaderLists.{read_alike, within_list, written_ri
 pub use Rattle.ttp_world.proofs.WorldFacts.{payload_few, plan-short as plan_few}
 pub use Rattle.ttp_world.specs.Messages.{newest_number, delivered_of, in_messages, message_of, new_messages}
 pub use Rattle.ttp_world.specs.Messages.{ring_messages, status_words}
-pub use Rattle.host_port.specs.Reading.{IsLeft, AreReadersOfEnd, Attempts, IsSettled, ReadersState, Reads, all_settled}
-pub use Rattle.host_port.specs.Reading.{buffers_of, got_of, got_one, is_intact, is_line_from, is_read_at, lent}
-pub use Rattle.host_port.specs.Reading.{pairs_from, reads_from, rings_read, settled}
+pub use Rattle.host_port.specs.Reading.{IsLeft, AreReadersOfEnd, Attempts, IsReaderSettled, ReadersState, Reads}
+pub use Rattle.host_port.specs.Reading.{all_settled, buffers_of, got_of, got_one, is_intact, is_line_from, is_read_at}
+pub use Rattle.host_port.specs.Reading.{lent, pairs_from, reads_from, rings_read, settled}
 pub use Rattle.std.proofs.Math.ListN.{get_or-map}
 pub use Rattle.std.proofs.Common.{length-append, All, Bool, IfSome, IsSomeAnd, List, None, Option, Some, [], add-one}
 pub use Rattle.std.proofs.Common.{ap, append_assoc, arith, below_more, cond, count_by, drop, false, get_or, inl, inr}
 pub use Rattle.std.proofs.Common.{is_some, length, map, not, option_map, refl, replicate, set, subst, suc, sym, take}
 pub use Rattle.std.proofs.Common.{true, vec_capacity, vec_len, zero, zero-add, ℕ, ℤ, ⊎_elim, ◌&&◌, ◌*◌, ◌++◌, ◌+◌, ◌-◌}
 pub use Rattle.std.proofs.Common.{◌/◌, ◌<◌, ◌^◌, ◌||◌, ◌∙◌, ◌∷◌, ◌≡◌, ◌≢◌, ◌≤◌}
-pub use Rattle.cluster_run.specs.Choosing.{AreBytesBefore, HaveBegunFor, HaveChosen, MayChoose, next_slot, number_sent}
+pub use Rattle.cluster_run.specs.Choosing.{AreBytesBefore, HaveBegunFor, HaveChosen, MayChoose, next_slot}
+pub use Rattle.cluster_run.specs.Choosing.{number_in_frame}
 pub use Rattle.cluster_run.specs.Ending.{HasPartEnded, HaveHandedOn, IsPartReady, MayEnd, MayHandOn, delivered_to}
 pub use Rattle.cluster_run.specs.Ending.{handed_on, number_handed, outcome_of}
 pub use Rattle.cluster_run.specs.Ends.{AreNewEnds, desk_ends, desk_numbers, end_at, host_at, rings_of}
 pub use Rattle.cluster_run.specs.Jobs.{HaveHostsDone}
 pub use Rattle.cluster_run.specs.Progress.{IsOnCourse, cluster_at}
 pub use Rattle.cluster_run.specs.Reading.{AllGot, AreDue, AreLentTo, AreLinesBy, AreLinesOf, AreQueuesOf}
-pub use Rattle.cluster_run.specs.Reading.{AreReadersLent, AreReadersOfAll, HaveRead, IsClear, IsRead, MayReadAll}
+pub use Rattle.cluster_run.specs.Reading.{AreReadersLent, AreReadersOfAll, HaveRead, IsClear, IsRead, HaveRoomForReads}
 pub use Rattle.cluster_run.specs.Reading.{ReadsMany, SettlesReads, SettlesReadsOf, calls_in, has_reads, is_host}
 pub use Rattle.cluster_run.specs.Reading.{lines_by, queue_of, read_of, reader_at, reader_in, readers_at, rings_in}
 pub use Rattle.cluster_run.specs.Reading.{reads_of_host}
-pub use Rattle.cluster_run.specs.Report.{HaveEndedSlot, ShowsSlot, message_named, node_shown, number_told, numbers_in}
-pub use Rattle.cluster_run.specs.Report.{read_shown, writes_shown}
+pub use Rattle.cluster_run.specs.Report.{HaveEndedSlot, ShowsSlot, message_named, node_shown, number_told}
+pub use Rattle.cluster_run.specs.Report.{report_numbers, read_shown, writes_shown}
 pub use Rattle.cluster_run.specs.Rings.{GotEach, IsRing, IsRingOf, SawAtMost, joined_pairs, pair_of, pair_read}
 pub use Rattle.cluster_run.specs.Rings.{pair_sent, pairs_read, pairs_read_in, pairs_sent, ring_words, words_read}
 pub use Rattle.cluster_run.specs.Rings.{words_written}
 pub use Rattle.cluster_run.specs.Sending.{AreLent, FetchAll, Fetches, FetchesOne, MayFetchAll, MayFetchAlone, MayLend}
 pub use Rattle.cluster_run.specs.Sending.{MaySettle, MaySettleAfter, MayWriteAll, SettlesFetch, WritesBytes}
 pub use Rattle.cluster_run.specs.Sending.{after_writes, choice_by, choice_of, fetcher_lent, message_count, messages_by}
-pub use Rattle.cluster_run.specs.Sending.{with_messages, write_line, write_lines}
+pub use Rattle.cluster_run.specs.Sending.{with_messages, host_write_line, host_write_lines}
 pub use Rattle.cluster_run.specs.Slots.{ArePlannedNodes, AreReady, HavePlannedSlot, IsNext, IsNextOf, IsSlotEnded}
-pub use Rattle.cluster_run.specs.Slots.{IsSlotPlanned, MayEndSlot, StandsAt, StandsForSome, Steps, TellsReads}
+pub use Rattle.cluster_run.specs.Slots.{IsSlotPlanned, MayEndSlot, NodesStandAt, StandsForSome, ClusterSteps}
+pub use Rattle.cluster_run.specs.Slots.{TellsReads}
 pub use Rattle.cluster_run.specs.Standing.{ClusterStandsFor, ClusterView, HoldsRead, NodesStandFor, NodesView}
 pub use Rattle.cluster_run.specs.Standing.{cluster_of, nodes_view}
 pub use Rattle.cluster_run.specs.declared.current.CurrentSlot.{CurrentSlot}
@@ -47,12 +49,12 @@ pub use Rattle.controller.specs.Passes.{AreChosen, HaveBegun, HaveEnded, StandAf
 pub use Rattle.controller.specs.PlantStands.{no_outcome, outcomes_of}
 pub use Rattle.controller.specs.PlantWithin.{AreIncidents, AreSeats, IsControllerOf, IsEnded, IsFromWithin, most_ahead}
 pub use Rattle.controller.specs.PlantWithin.{most_ahead_in}
-pub use Rattle.controller.specs.StandsFor.{ShowsState, Stands, StandsFor}
+pub use Rattle.controller.specs.StandsFor.{ShowsState, Stands, ControllerStandsFor}
 pub use Rattle.controller.specs.declared.controller.Outcome.{Outcome}
 pub use Rattle.controller.specs.declared.seat.Seat.{Seat}
 pub use Rattle.host_port.specs.Fetching.{HasSeen, IsWhole}
 pub use Rattle.host_port.specs.Rings.{ControllerState, HostState, IsNew, at_source, incoming_shape, message_shape}
-pub use Rattle.host_port.specs.Rings.{place_of, shape_of}
+pub use Rattle.host_port.specs.Rings.{source_place, shape_of}
 pub use Rattle.host_port.specs.Writing.{HasRoom, IsNewest, Takes, written, written_at}
 pub use Rattle.host_port.specs.declared.report.NodeLine.{NodeLine}
 pub use Rattle.host_port.specs.declared.report.ReadLine.{ReadLine}
@@ -85,8 +87,8 @@ pub use Rattle.std.specs.Option.{ForSome}
 pub use Rattle.std.specs.Prelude.{IfNone, IsSome, filter, nat_le, reverse, slice_get, unwrap_or, ◌==◌, ◌↔◌, ◌⊎◌}
 pub use Rattle.std.specs.Vec.{with_items}
 pub use Rattle.std.specs.Vec.Iter.{into_iter_items, into_iter_len}
-pub use Rattle.trace_text.specs.ReportText.{HasMessage, IsListed, node_texts, payload_size, read_text, report_lines}
-pub use Rattle.trace_text.specs.ReportText.{write_text}
+pub use Rattle.trace_text.specs.ReportText.{HasMessage, IsListed, node_texts, source_payload_size, read_text}
+pub use Rattle.trace_text.specs.ReportText.{report_lines, write_text}
 pub use Rattle.ttp_base.proofs.Below.{all-below, map-next, map_agree-below, map_each-below}
 pub use Rattle.ttp_base.specs.NodeSet.{below}
 pub use Rattle.ttp_world.proofs.Carried.{AreOfHosts, delivered_of-row_in, message_of-row_in}

@@ -46,8 +46,8 @@ pub record MayChoose (at : CurrentSlot) (seats : List Seat) (ends : List HostSta
     pub begun : HaveBegunFor at numbers seats ends
 
 -- the number of the message in node k's frame, if it carries one
-abbrev pub number_sent : BegunSlot → List Chosen → ℕ → Option ℕ
-number_sent s chosen k = if is_loaded s k then Some (chosen_of chosen k).number else None
+abbrev pub number_in_frame : BegunSlot → List Chosen → ℕ → Option ℕ
+number_in_frame s chosen k = if is_loaded s k then Some (chosen_of chosen k).number else None
 
 -- what node k's host wrote up to the end of the slot is in its ring, and what its frame carries was settled there
 abbrev pub HoldsSent : Medl → Script → Numbers → Option ℕ → List HostState → ℕ → Type 0
@@ -61,9 +61,9 @@ pub record HaveChosen (list : Medl) (script : Script) (numbers : Numbers) (chose
   pub messages : (k : ℕ) → k < length list.slots → is_loaded (next_slot list script numbers) k ≡ true
       → chosen_of chosen k ≡ message_chosen list script (length numbers) k (Some (chosen_of chosen k).number)
   pub legal : (k : ℕ) → k < length list.slots → IsTrue (is_legal_message list script (length numbers) k
-      (number_sent (next_slot list script numbers) chosen k))
+      (number_in_frame (next_slot list script numbers) chosen k))
   pub written : (k : ℕ) → k < length list.slots
-      → HoldsSent list script numbers (number_sent (next_slot list script numbers) chosen k) ends k
+      → HoldsSent list script numbers (number_in_frame (next_slot list script numbers) chosen k) ends k
 
 -- hosts have written what they write in the slot, with these lines, and so each frame carries one of theirs
 pub record ChoosesAll (at : CurrentSlot) (seats : List Seat) (old new : List HostState) (chosen : List Chosen)

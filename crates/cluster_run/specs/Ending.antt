@@ -16,7 +16,7 @@ use Rattle.ttp_world.specs.Words.{words_of_payload}
 use Rattle.ttp_world.specs.World.{slot_after, frames_in}
 use Rattle.controller.specs.declared.controller.Outcome.{Outcome}
 use Rattle.controller.specs.Limits.{IsPlanned}
-use Rattle.controller.specs.Passes.{HavePlanned, Carries, HaveEnded, delivered_at}
+use Rattle.controller.specs.Passes.{HavePlanned, CarriesFrames, HaveEnded, delivered_at}
 use Rattle.controller.specs.PlantWithin.{most_ahead, most_ahead_in, IsEnded, AreSeats, AreIncidents, IsFromWithin}
 use Rattle.controller.specs.PlantStands.{no_outcome, outcomes_of}
 use Rattle.controller.specs.declared.seat.Seat.{Seat}
@@ -54,7 +54,8 @@ pub record MayEnd (list : Medl) (script : Script) (carried : Carried) (first : �
   pub history : History
   pub chosen : List Chosen
   pub planned : HavePlanned (slot_after list script history) chosen first seats
-  pub carries : Carries (slot_after list script history) (frames_in (slot_after list script history) chosen) carried
+  pub carries : CarriesFrames (slot_after list script history)
+      (frames_in (slot_after list script history) chosen) carried
   pub hands_on : (j : ℕ) → j < length ends
       → MayHandOn (end_at ends j) (delivered_at (slot_after list script history) chosen (first + j))
 
@@ -90,7 +91,7 @@ pub record HasPartEnded (l : Medl) (sc : Script) (carried : Carried) (first : �
   pub count : length seats' ≡ length seats
   pub seats_are : AreSeats l IsEnded (most_ahead (carried.slot + 1)) first seats'
   pub end : (history : History) (chosen : List Chosen) → HavePlanned (slot_after l sc history) chosen first seats
-      → Carries (slot_after l sc history) (frames_in (slot_after l sc history) chosen) carried
+      → CarriesFrames (slot_after l sc history) (frames_in (slot_after l sc history) chosen) carried
       → HaveEnded l sc history chosen first seats'
   pub rings : map rings_of (desk_ends desks') ≡ map rings_of (desk_ends desks)
   pub handed : HaveHandedOn (outcomes_of seats') (desk_ends desks) (desk_ends desks') (desk_numbers desks')

@@ -8,12 +8,12 @@ use Rattle.host_port.specs.Rings.{message_shape, incoming_shape, IsNew}
 use Rattle.cluster_run.specs.declared.nodes.Desk.{Desk}
 
 -- the ring of a writer, if there is one
-abbrev pub ring_of : Option WriterState → Option RingState
-ring_of = option_map (λ w. w.ring)
+abbrev pub writer_ring : Option WriterState → Option RingState
+writer_ring = option_map (λ w. w.ring)
 
 -- the rings of a controller's end
 abbrev pub rings_of : ControllerState → List (Option RingState)
-rings_of end = map ring_of end
+rings_of end = map writer_ring end
 
 -- the controllers' ends of desks, and the numbers of what was delivered there
 abbrev pub desk_ends : List Desk → List ControllerState

@@ -11,8 +11,8 @@ use Rattle.cluster_run.specs.declared.jobs.HostJob.{HostJob}
 use Rattle.cluster_run.specs.declared.jobs.HostJob.TheVariants as job
 use Rattle.cluster_run.specs.Ending.{IsPartReady, HasPartEnded}
 use Rattle.cluster_run.specs.Ends.{host_at}
-use Rattle.cluster_run.specs.Reading.{HaveRead, MayReadAll}
-use Rattle.cluster_run.specs.Sending.{MayWriteAll, WritesBytes, after_writes, write_lines}
+use Rattle.cluster_run.specs.Reading.{HaveRead, HaveRoomForReads}
+use Rattle.cluster_run.specs.Sending.{MayWriteAll, WritesBytes, after_writes, host_write_lines}
 
 -- the part of a job may end the slot
 abbrev pub IsJobReady : EndJob → Type 0
@@ -37,14 +37,14 @@ pub record HaveWrittenAt (script : Script) (places : List ℕ) (old new : List H
     : Type 0 where
   pub count : length new ≡ length old
   pub ends : (k : ℕ) → host_at new k ≡ after_writes (filter_map (write_at script) places) k (host_at old k)
-  pub lines_are : lines ≡ write_lines old [] (filter_map (write_at script) places)
+  pub lines_are : lines ≡ host_write_lines old [] (filter_map (write_at script) places)
   pub bytes : All WritesBytes (filter_map (write_at script) places)
 
 -- hosts may do what a job says
 abbrev pub MayHostsDo : HostJob → Type 0
 MayHostsDo (job.Write script places ends lines) =
     MayWriteAt script.now places.now ends.items lines.items (vec_capacity lines)
-MayHostsDo (job.Read reads readers) = MayReadAll reads.now readers.items
+MayHostsDo (job.Read reads readers) = HaveRoomForReads reads.now readers.items
 
 -- they have done it
 abbrev pub HaveHostsDone : HostJob → HostJob → Type 0

@@ -8,9 +8,9 @@ use Rattle.nbw_ring.specs.States.{RingState, ReaderState}
 use Rattle.ttp_world.specs.declared.host_lines.HostRead.{HostRead}
 use Rattle.ttp_world.specs.declared.script.Source.{Source}
 use Rattle.host_port.specs.declared.report.ReadLine.{ReadLine}
-use Rattle.host_port.specs.Reading.{ReadersState, AreReadersOfEnd, rings_read, Reads, reads_from, lent, IsSettled}
+use Rattle.host_port.specs.Reading.{ReadersState, AreReadersOfEnd, rings_read, Reads, reads_from, lent, IsReaderSettled}
 use Rattle.host_port.specs.Reading.{settled, got_of, pairs_from, buffers_of, calls_after}
-use Rattle.host_port.specs.Rings.{ControllerState, at_source, place_of}
+use Rattle.host_port.specs.Rings.{ControllerState, at_source, source_place}
 use Rattle.cluster_run.specs.Ends.{end_at}
 
 -- Readers.
@@ -68,7 +68,8 @@ pub record AreReadersLent (reads : List HostRead) (ends : List ControllerState) 
 pub record IsRead (read : HostRead) (old new : Option ReadersState) : Type 0 where
   pub rings : rings_in new ≡ rings_in old
   pub reads : Reads (buffers_of (reader_in old read.source)) (reader_in old read.source) (reader_in new read.source)
-  pub others : (other : Source) → place_of other ≢ place_of read.source → reader_in new other ≡ reader_in old other
+  pub others : (other : Source) → source_place other ≢ source_place read.source
+      → reader_in new other ≡ reader_in old other
   pub calls : calls_in new ≡ calls_after (calls_in old) read.source (reader_in new read.source)
 
 -- so many reads of a reader, one after another
@@ -96,7 +97,7 @@ pub record HaveRead (reads : List HostRead) (old new : List (Option ReadersState
       → reads_of_host k (calls_in (readers_at new k)) ≡ filter (is_host k) reads
 
 -- no host has read yet, and each has a reader of what it reads, with room for all its reads of it
-pub record MayReadAll (reads : List HostRead) (readers : List (Option ReadersState)) : Type 0 where
+pub record HaveRoomForReads (reads : List HostRead) (readers : List (Option ReadersState)) : Type 0 where
   pub calls : (k : ℕ) → calls_in (readers_at readers k) ≡ []
   pub room : (k : ℕ) (from : Source) → 1 ≤ reads_from reads k from
       → IsSomeAnd (reader_at readers k from) (λ r. reads_from reads k from ≤ r.spare)
@@ -105,7 +106,7 @@ pub record MayReadAll (reads : List HostRead) (readers : List (Option ReadersSta
 
 -- what each reader of a host got is its end's messages, and it is settled there
 pub record SettlesReadsOf (old : ControllerState) (readers : Option ReadersState) (new : ControllerState) : Type 0 where
-  pub whole : (from : Source) → IsSettled (at_source old from) (reader_in readers from)
+  pub whole : (from : Source) → IsReaderSettled (at_source old from) (reader_in readers from)
   pub settled_is : (from : Source) → at_source new from ≡ settled (at_source old from) (reader_in readers from)
 
 -- so it is of all hosts

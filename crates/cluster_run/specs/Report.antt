@@ -25,8 +25,8 @@ use Rattle.cluster_run.specs.NextSlots.{next_row}
 use Rattle.cluster_run.specs.Rings.{pair_read}
 
 -- the numbers in a report: those of the messages in frames, and of the messages that were read
-abbrev pub numbers_in : SlotReport → SlotNumbers
-numbers_in report = record {
+abbrev pub report_numbers : SlotReport → SlotNumbers
+report_numbers report = record {
   sent = map (λ line. message_of line.state.entry) report.nodes;
   read = map (λ line. line.pair.number) report.reads;
 }
@@ -89,5 +89,5 @@ pub record ShowsSlot (list : Medl) (script : Script) (row : List Entry) (before 
 -- the report of the slot after the world of some numbers is the world's for the numbers in it
 abbrev pub ShowsNext : Medl → Script → Numbers → SlotReport → Type 0
 ShowsNext list script numbers report =
-    ShowsSlot list script (next_row list script (numbers_in report) numbers) (world list script numbers)
-    (numbers_in report) report
+    ShowsSlot list script (next_row list script (report_numbers report) numbers) (world list script numbers)
+    (report_numbers report) report

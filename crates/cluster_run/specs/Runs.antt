@@ -5,7 +5,7 @@ use Rattle.ttp_world.specs.Medl.{IsValid}
 use Rattle.ttp_world.specs.Script.{IsValidScript}
 use Rattle.host_port.specs.declared.report.SlotReport.{SlotReport}
 use Rattle.cluster_run.specs.Choosing.{AreBytesBefore}
-use Rattle.cluster_run.specs.Slots.{Steps}
+use Rattle.cluster_run.specs.Slots.{ClusterSteps}
 use Rattle.cluster_run.specs.Standing.{ClusterView}
 
 -- a cluster did a slot, and the list and the script are as they were
@@ -16,7 +16,7 @@ pub record HasDoneSlot (old new : ClusterView) : Type 0 where
   pub valid_script : IsValidScript old.list old.script
   pub done : new.done ≡ old.done + 1
   pub within : old.done < old.script.slots
-  pub steps : Steps old new
+  pub steps : ClusterSteps old new
   pub bytes : AreBytesBefore new.list new.script new.done
 
 -- what is told after a slot is its list and its report

@@ -17,7 +17,7 @@ use Rattle.controller.specs.Passes.{HaveBegun}
 use Rattle.controller.specs.declared.seat.Seat.{Seat}
 use Rattle.host_port.specs.declared.report.WriteLine.{WriteLine}
 use Rattle.host_port.specs.Rings.{HostState}
-use Rattle.host_port.specs.Reading.{lent, Attempts, IsSettled, settled}
+use Rattle.host_port.specs.Reading.{lent, Attempts, IsReaderSettled, settled}
 use Rattle.line_text.specs.HostLines.{AreBytes, bytes_in}
 use Rattle.ttp_world.specs.declared.node.Chosen.{Chosen}
 use Rattle.host_port.specs.Writing.{Takes}
@@ -65,14 +65,14 @@ abbrev pub message_count : HostState → ℕ
 message_count None = 0
 message_count (Some w) = length w.messages
 
-abbrev pub write_line : List HostState → ℕ → ℕ → WriteLine
-write_line ends k earlier = record { host = k; number = message_count (host_at ends k) + earlier }
+abbrev pub host_write_line : List HostState → ℕ → ℕ → WriteLine
+host_write_line ends k earlier = record { host = k; number = message_count (host_at ends k) + earlier }
 
 -- the lines of writes, where those came before them, by the ends before all of them
-abbrev pub write_lines : List HostState → List HostWrite → List HostWrite → List WriteLine
-write_lines ends earlier [] = []
-write_lines ends earlier (w ∷ ws) =
-    write_line ends w.host (count_by (λ e. e.host == w.host) earlier) ∷ write_lines ends (w ∷ earlier) ws
+abbrev pub host_write_lines : List HostState → List HostWrite → List HostWrite → List WriteLine
+host_write_lines ends earlier [] = []
+host_write_lines ends earlier (w ∷ ws) =
+    host_write_line ends w.host (count_by (λ e. e.host == w.host) earlier) ∷ host_write_lines ends (w ∷ earlier) ws
 
 -- it is of bytes
 abbrev pub WritesBytes : HostWrite → Type 0
@@ -127,7 +127,7 @@ choice_of (Some fetcher) len before = choice_by len (slice_get fetcher.got 0) be
 -- what a fetcher got is the end's messages, it is settled there, and its message is chosen
 pub record SettlesFetch (len : ℕ) (fetcher : Option ReaderState) (old new : HostState) (before after : Chosen) : Type 0
   where
-    pub whole : IsSettled old fetcher
+    pub whole : IsReaderSettled old fetcher
     pub settled_is : new ≡ settled old fetcher
     pub choice_is : after ≡ choice_of fetcher len before
 

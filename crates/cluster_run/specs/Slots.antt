@@ -7,7 +7,7 @@ use Rattle.ttp_world.specs.Legal.{IsLegal}
 use Rattle.ttp_world.specs.Script.{reads_in, writes_in}
 use Rattle.ttp_world.specs.World.{Numbers, world, frames_in}
 use Rattle.controller.specs.Limits.{IsPlanned}
-use Rattle.controller.specs.Passes.{HavePlanned, Carries, HaveEnded}
+use Rattle.controller.specs.Passes.{HavePlanned, CarriesFrames, HaveEnded}
 use Rattle.controller.specs.PlantStands.{outcomes_of}
 use Rattle.controller.specs.PlantWithin.{AreSeats, AreIncidents, IsFromWithin, most_ahead_in}
 use Rattle.host_port.specs.declared.report.ReadLine.{ReadLine}
@@ -22,20 +22,21 @@ use Rattle.cluster_run.specs.Ending.{IsPartReady, HasPartEnded, HaveHandedOn}
 use Rattle.cluster_run.specs.Ends.{desk_ends, desk_numbers}
 use Rattle.cluster_run.specs.Nodes.{AreNodesOf}
 use Rattle.cluster_run.specs.Reading.{AllGot, AreLinesOf, AreReadersLent, HaveRead, SettlesReads}
-use Rattle.cluster_run.specs.Report.{numbers_in, writes_shown, ShowsNext}
+use Rattle.cluster_run.specs.Report.{report_numbers, writes_shown, ShowsNext}
 use Rattle.cluster_run.specs.Standing.{ClusterView, ClusterStandsFor, NodesView, NodesStandFor, HoldsRead, nodes_view}
 
 -- Before the slot of this number.
 
 -- the nodes stand for the numbers of as many slots
-pub record StandsAt (list : Medl) (script : Script) (slot : ℕ) (nodes : NodesView) (numbers : Numbers) : Type 0 where
+pub record NodesStandAt (list : Medl) (script : Script) (slot : ℕ) (nodes : NodesView) (numbers : Numbers)
+    : Type 0 where
   pub count : length numbers ≡ slot
   pub stands : NodesStandFor list script nodes numbers
 
 -- so they do for some
 pub record StandsForSome (list : Medl) (script : Script) (slot : ℕ) (nodes : NodesView) : Type 0 where
   pub numbers : Numbers
-  pub at : StandsAt list script slot nodes numbers
+  pub at : NodesStandAt list script slot nodes numbers
 
 -- Once the slot is planned.
 
@@ -55,7 +56,7 @@ pub record ArePlannedNodes (at : CurrentSlot) (nodes : Nodes) : Type 0 where
 pub record HavePlannedSlot (at : CurrentSlot) (numbers : Numbers) (nodes : Nodes) : Type 0 where
   pub chosen : HaveChosen at.list.now at.script.now numbers nodes.chosen.items nodes.host_ends.items
   pub planned : HavePlanned (next_slot at.list.now at.script.now numbers) nodes.chosen.items 0 nodes.seats.items
-  pub carries : Carries (next_slot at.list.now at.script.now numbers)
+  pub carries : CarriesFrames (next_slot at.list.now at.script.now numbers)
       (frames_in (next_slot at.list.now at.script.now numbers) nodes.chosen.items) nodes.medium
 
 -- Hosts have written what they write in the slot, with these lines, and the slot is planned for whatever numbers the
@@ -65,7 +66,7 @@ pub record IsSlotPlanned (at : CurrentSlot) (old new : Nodes) (lines : List Writ
   pub desks : new.desks ≡ old.desks
   pub bytes : AreBytesBefore at.list.now at.script.now (at.slot + 1)
   pub lines_are : lines ≡ writes_shown at.list.now at.script.now at.slot [] (writes_in at.script.now at.slot)
-  pub plans : (numbers : Numbers) → StandsAt at.list.now at.script.now at.slot (nodes_view old) numbers
+  pub plans : (numbers : Numbers) → NodesStandAt at.list.now at.script.now at.slot (nodes_view old) numbers
       → HavePlannedSlot at numbers new
 
 -- the slot is planned for some numbers, and the rings that hosts read are those of the world of these
@@ -116,17 +117,17 @@ pub record TellsReads (at : CurrentSlot) (old new : Nodes) (lines : List ReadLin
 -- ones were legal, all are.
 pub record IsNextOf (list : Medl) (script : Script) (numbers : Numbers) (nodes : NodesView) (report : SlotReport)
     : Type 0 where
-  pub stands : NodesStandFor list script nodes (numbers_in report ∷ numbers)
+  pub stands : NodesStandFor list script nodes (report_numbers report ∷ numbers)
   pub shows : ShowsNext list script numbers report
-  pub legal : IsLegal list script numbers → IsLegal list script (numbers_in report ∷ numbers)
+  pub legal : IsLegal list script numbers → IsLegal list script (report_numbers report ∷ numbers)
 
 -- Whatever numbers it stood for, it stands for these and those in its report, which shows the world's slot for
 -- them, and where the older ones were legal, all are.
 
 pub record IsNext (new : ClusterView) (numbers : Numbers) : Type 0 where
-  pub stands : ClusterStandsFor new (numbers_in new.report ∷ numbers)
+  pub stands : ClusterStandsFor new (report_numbers new.report ∷ numbers)
   pub shows : ShowsNext new.list new.script numbers new.report
-  pub legal : IsLegal new.list new.script numbers → IsLegal new.list new.script (numbers_in new.report ∷ numbers)
+  pub legal : IsLegal new.list new.script numbers → IsLegal new.list new.script (report_numbers new.report ∷ numbers)
 
-abbrev pub Steps : ClusterView → ClusterView → Type 0
-Steps old new = (numbers : Numbers) → ClusterStandsFor old numbers → IsNext new numbers
+abbrev pub ClusterSteps : ClusterView → ClusterView → Type 0
+ClusterSteps old new = (numbers : Numbers) → ClusterStandsFor old numbers → IsNext new numbers

@@ -9,7 +9,7 @@ use Rattle.host_port.specs.declared.report.SlotReport.{SlotReport}
 use Rattle.line_text.specs.LineParts.{HasDigits}
 use Rattle.trace_text.specs.ReportText.{HasMessage, report_lines}
 use Rattle.cluster_run.specs.NextSlots.{next_row}
-use Rattle.cluster_run.specs.Report.{numbers_in}
+use Rattle.cluster_run.specs.Report.{report_numbers}
 
 -- A report may be written, and its text is that of the slot after the world of some numbers, by the numbers in it.
 pub record TellsNext (list : Medl) (script : Script) (numbers : Numbers) (report : SlotReport) : Type 0 where
@@ -17,5 +17,5 @@ pub record TellsNext (list : Medl) (script : Script) (numbers : Numbers) (report
   pub digits : All (λ line. HasDigits list line.state) report.nodes
   pub reads : All (HasMessage list) report.reads
   pub lines : report_lines list report
-      ≡ slot_lines list script (next_row list script (numbers_in report) numbers) (world list script numbers)
-      (numbers_in report)
+      ≡ slot_lines list script (next_row list script (report_numbers report) numbers) (world list script numbers)
+      (report_numbers report)

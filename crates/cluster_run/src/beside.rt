@@ -4,7 +4,7 @@ ghost use Rattle.std.specs.Arc.{arc_value};
 ghost use Rattle.cluster_run.specs.Ending.{IsPartReady, HasPartEnded};
 ghost use Rattle.cluster_run.specs.Jobs.{IsJobReady, HasJobEnded, MayHostsDo, HaveHostsDone};
 ghost use Rattle.cluster_run.specs.Jobs.{MayWriteAt, HaveWrittenAt};
-ghost use Rattle.cluster_run.specs.Reading.{MayReadAll, HaveRead};
+ghost use Rattle.cluster_run.specs.Reading.{HaveRoomForReads, HaveRead};
 ghost use Rattle.cluster_run.specs.Sending.{MayFetchAll, FetchAll};
 ghost use Rattle.cluster_run.specs.Slots.{AreReady, AllHaveEnded};
 
@@ -171,7 +171,7 @@ pub(crate) fn end_staying<'b, 'a, R: Wait, G: Gate>(
     gate: &G,
 ) -> Result<(Hired<'b, 'a>, Vec<Option<HostReaders>>), Memory>
     requires ready { AreReady at.now nodes.old }
-    requires left { MayReadAll reads.now readers.items }
+    requires left { HaveRoomForReads reads.now readers.items }
     ensures ended { OnOk result (AllHaveEnded at.now nodes.old nodes.new) }
     ensures read { IfOk result (λ r. HaveRead reads.now readers.items r.1.items) }
 {

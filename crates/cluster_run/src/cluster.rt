@@ -3,7 +3,7 @@ ghost use Rattle.std.specs.Prelude.{◌≡◌, ◌+◌, ◌<◌, [], None, IfOk,
 ghost use Rattle.ttp_world.specs.Medl.{IsValid};
 ghost use Rattle.ttp_world.specs.Script.{IsValidScript};
 ghost use Rattle.cluster_run.specs.Choosing.{AreBytesBefore};
-ghost use Rattle.cluster_run.specs.Slots.{Steps};
+ghost use Rattle.cluster_run.specs.Slots.{ClusterSteps};
 ghost use Rattle.cluster_run.specs.Standing.{ClusterStandsFor};
 
 use crate::making::nodes_of;
@@ -88,7 +88,7 @@ impl Cluster {
         requires { self.old.done < self.old.script.slots }
         ensures list { self.new.list ≡ self.old.list }
         ensures script { self.new.script ≡ self.old.script }
-        ensures steps { OnOk result (Steps self.old self.new) }
+        ensures steps { OnOk result (ClusterSteps self.old self.new) }
         ensures bytes { OnOk result (AreBytesBefore self.new.list self.new.script self.new.done) }
         ensures done { OnOk result (self.new.done ≡ self.old.done + 1) }
         ensures undone { OnErr result (self.new.done ≡ self.old.done) }

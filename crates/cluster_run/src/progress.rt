@@ -2,7 +2,7 @@
 ghost use Rattle.std.specs.Prelude.{◌≡◌, ◌+◌, ◌<◌, None, IsErr, OnOk, OnErr};
 ghost use Rattle.cluster_run.specs.Choosing.{AreBytesBefore};
 ghost use Rattle.cluster_run.specs.Progress.{cluster_at, IsOnCourse};
-ghost use Rattle.cluster_run.specs.Slots.{Steps};
+ghost use Rattle.cluster_run.specs.Slots.{ClusterSteps};
 
 use crate::current::CurrentSlot;
 use crate::nodes::Nodes;
@@ -52,7 +52,7 @@ impl Progress {
         requires within { IsOnCourse course.now self.old }
         requires slot { self.old.done < course.now.script.now.slots }
         ensures within { IsOnCourse course.now self.new }
-        ensures steps { OnOk result (Steps (cluster_at course.now self.old) (cluster_at course.now self.new)) }
+        ensures steps { OnOk result (ClusterSteps (cluster_at course.now self.old) (cluster_at course.now self.new)) }
         ensures bytes { OnOk result (AreBytesBefore course.now.list.now course.now.script.now self.new.done) }
         ensures done { OnOk result (self.new.done ≡ self.old.done + 1) }
         ensures undone { OnErr result (self.new.done ≡ self.old.done) }

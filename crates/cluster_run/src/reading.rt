@@ -6,7 +6,7 @@ ghost use Rattle.std.specs.Vec.Iter.{into_iter_items};
 ghost use Rattle.host_port.specs.Reading.{AreReadersOfEnd, IsLeft};
 ghost use Rattle.cluster_run.specs.Ends.{desk_ends, desk_numbers};
 ghost use Rattle.cluster_run.specs.Reading.{AreReadersOfAll, has_reads, AreLentTo, IsRead, HaveRead};
-ghost use Rattle.cluster_run.specs.Reading.{AreReadersLent, reader_in, MayReadAll, SettlesReadsOf};
+ghost use Rattle.cluster_run.specs.Reading.{AreReadersLent, reader_in, HaveRoomForReads, SettlesReadsOf};
 ghost use Rattle.cluster_run.specs.Reading.{SettlesReads, AllGot, read_of, lines_by};
 ghost use Rattle.cluster_run.specs.Reading.{AreLinesBy, AreLinesOf, queue_of, AreQueuesOf, AreDue};
 
@@ -74,7 +74,7 @@ pub(crate) fn read_all<R: Wait, G: Gate>(
     reads: &[HostRead],
     gate: &G,
 )
-    requires { MayReadAll reads.now readers.old }
+    requires { HaveRoomForReads reads.now readers.old }
     ensures { HaveRead reads.now readers.old readers.new }
 {
     for read in reads {

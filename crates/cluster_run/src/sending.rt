@@ -6,14 +6,14 @@ ghost use Rattle.ttp_world.specs.Script.{host_write};
 ghost use Rattle.ttp_world.specs.Words.{words_of_payload, word_count};
 ghost use Rattle.ttp_world.specs.World.{BegunSlot};
 ghost use Rattle.controller.specs.Passes.{HaveBegun};
-ghost use Rattle.host_port.specs.Reading.{IsSettled, settled};
+ghost use Rattle.host_port.specs.Reading.{IsReaderSettled, settled};
 ghost use Rattle.line_text.specs.HostLines.{AreBytes, bytes_in};
 ghost use Rattle.ttp_world.specs.Medl.{IsValid, plan_at};
 ghost use Rattle.ttp_world.specs.Outgoing.{nothing_chosen};
 ghost use Rattle.host_port.specs.Writing.{written, Takes, HasRoom};
 ghost use Rattle.cluster_run.specs.Ends.{host_at};
 ghost use Rattle.cluster_run.specs.Jobs.{MayWriteAt, HaveWrittenAt};
-ghost use Rattle.cluster_run.specs.Sending.{fetcher_lent, AreLent, MayLend, write_line, WritesBytes};
+ghost use Rattle.cluster_run.specs.Sending.{fetcher_lent, AreLent, MayLend, host_write_line, WritesBytes};
 ghost use Rattle.cluster_run.specs.Sending.{Fetches, MayFetch, MayFetchAll, FetchAll, MaySettle, choice_of};
 ghost use Rattle.cluster_run.specs.Sending.{SettlesFetch};
 
@@ -71,7 +71,7 @@ fn write_one<G: Gate>(ends: &mut [HostEnd], write: &Written<'_>, gate: &G) -> Wr
     requires room { HasRoom (host_at ends.old write.now.host) }
     ensures ends { ends.new ≡ slice_set ends.old write.now.host
         (written (host_at ends.old write.now.host) (words_of_payload write.now.payload.now)) }
-    ensures line { result ≡ write_line ends.old write.now.host 0 }
+    ensures line { result ≡ host_write_line ends.old write.now.host 0 }
     ensures bytes { WritesBytes (host_write write.now) }
 {
     let k = usize::from(write.host);
@@ -208,7 +208,7 @@ pub(crate) fn settle_one(end: &mut HostEnd, fetcher: Option<Fetcher>, len: u8, c
     requires limit { len ≤ PAYLOAD_LIMIT }
     requires fetcher { ForSome fetcher (MaySettle end.old len) }
     ensures chosen { chosen.new ≡ choice_of fetcher len chosen.old }
-    ensures whole { IsSettled end.old fetcher }
+    ensures whole { IsReaderSettled end.old fetcher }
     ensures settled { end.new ≡ settled end.old fetcher }
 {
     if let Some(fetcher) = fetcher {

@@ -6,8 +6,8 @@ ghost use Rattle.cluster_run.specs.Choosing.{AreBytesBefore};
 ghost use Rattle.cluster_run.specs.Clusters.{AreClusterNodes};
 ghost use Rattle.cluster_run.specs.Ending.{IsPartReady, HasPartEnded};
 ghost use Rattle.cluster_run.specs.Nodes.{AreNodesOf};
-ghost use Rattle.cluster_run.specs.Reading.{MayReadAll, HaveRead};
-ghost use Rattle.cluster_run.specs.Slots.{StandsAt, AreReady, AllHaveEnded, MayEndSlot, IsSlotPlanned, IsSlotEnded};
+ghost use Rattle.cluster_run.specs.Reading.{HaveRoomForReads, HaveRead};
+ghost use Rattle.cluster_run.specs.Slots.{NodesStandAt, AreReady, AllHaveEnded, MayEndSlot, IsSlotPlanned, IsSlotEnded};
 ghost use Rattle.cluster_run.specs.Slots.{TellsReads, IsNextOf};
 ghost use Rattle.cluster_run.specs.Standing.{nodes_view};
 
@@ -37,7 +37,7 @@ fn end_started<R: Threads + Wait + Sync, G: Gate>(
     gate: &G,
 )
     requires ready { IsPartReady common.now.list.now common.now.script.now common.now.medium.now 0 seats.old desks.old }
-    requires left { MayReadAll reads.now readers.old }
+    requires left { HaveRoomForReads reads.now readers.old }
     ensures ended { HasPartEnded common.now.list.now common.now.script.now common.now.medium.now 0 seats.old seats.new
         desks.old desks.new }
     ensures read { HaveRead reads.now readers.old readers.new }
@@ -48,7 +48,7 @@ fn end_started<R: Threads + Wait + Sync, G: Gate>(
             seats.entry.now seats.exit.now desks.entry.now desks.exit.now }
     { end_halves(rt, seats, desks, common, gate) };
     let mut read = ||
-        requires { MayReadAll reads.now readers.now }
+        requires { HaveRoomForReads reads.now readers.now }
         ensures { HaveRead reads.entry.now readers.entry.now readers.exit.now }
     { read_all(rt, readers, reads, gate) };
     join_mut(rt, &mut end, &mut read);
@@ -64,7 +64,7 @@ fn end_with_started<'a, R: Threads + Wait + Sync, G: Gate>(
     gate: &G,
 ) -> Vec<Option<HostReaders>>
     requires ready { AreReady at.now nodes.old }
-    requires left { MayReadAll reads.now readers.items }
+    requires left { HaveRoomForReads reads.now readers.items }
     ensures ended { AllHaveEnded at.now nodes.old nodes.new }
     ensures read { HaveRead reads.now readers.items result.items }
 {
@@ -97,7 +97,7 @@ fn end_and_read<'b, 'a, R: Threads + Wait + Sync, G: Gate>(
     gate: &G,
 ) -> Result<Vec<Option<HostReaders>>, Memory>
     requires ready { AreReady at.now nodes.old }
-    requires left { MayReadAll reads.now readers.items }
+    requires left { HaveRoomForReads reads.now readers.items }
     ensures ended { OnOk result (AllHaveEnded at.now nodes.old nodes.new) }
     ensures read { IfOk result (λ left. HaveRead reads.now readers.items left.items) }
 {
@@ -210,7 +210,7 @@ pub(crate) fn slot_of<'b, 'a, R: Threads + Wait + Sync, G: Gate>(
     ensures nodes { OnOk result (AreNodesOf at.now.list.now (at.now.slot + 1) nodes.new) }
     ensures bytes { OnOk result (AreBytesBefore at.now.list.now at.now.script.now (at.now.slot + 1)) }
     ensures steps { IfOk result (λ report. (numbers : Numbers)
-        → StandsAt at.now.list.now at.now.script.now at.now.slot (nodes_view nodes.old) numbers
+        → NodesStandAt at.now.list.now at.now.script.now at.now.slot (nodes_view nodes.old) numbers
         → IsNextOf at.now.list.now at.now.script.now numbers (nodes_view nodes.new) report) }
 {
     let writes = plan(rt, staff, at, nodes, gate)?;

@@ -10,7 +10,7 @@ use Rattle.medl_text.specs.declared.error.FieldName.{FieldName}
 use Rattle.medl_text.specs.declared.error.FieldName.TheVariants as names
 use Rattle.medl_text.specs.declared.error.MedlError.{MedlError}
 use Rattle.medl_text.specs.declared.error.MedlError.TheVariants as errors
-use Rattle.medl_text.specs.ListFile.{key_of}
+use Rattle.medl_text.specs.ListFile.{key_text}
 use Rattle.script_text.specs.declared.error.LineFault.{LineFault}
 use Rattle.script_text.specs.declared.error.LineFault.TheVariants as faults
 use Rattle.script_text.specs.declared.error.ScriptError.{ScriptError}
@@ -18,10 +18,10 @@ use Rattle.script_text.specs.declared.error.ScriptError.TheVariants as script_er
 use Rattle.commands.specs.declared.read.FileFault.{FileFault}
 use Rattle.commands.specs.declared.read.FileFault.TheVariants as wrong
 use Rattle.commands.specs.Faults.{place_text, field_text, unknown_text, list_fault_text, line_fault_text}
-use Rattle.commands.specs.Faults.{script_fault_text, fault_text, fault_line}
+use Rattle.commands.specs.Faults.{script_fault_text, fault_text, file_fault_line}
 use Rattle.ttp_world.proofs.TraceLines.{feed_is_low as low}
 
-key_lines : (name : FieldName) → has 10 (key_of name) ≡ false
+key_lines : (name : FieldName) → has 10 (key_text name) ≡ false
 key_lines names.Version = refl
 key_lines names.Rounds = refl
 key_lines names.Schedule = refl
@@ -46,7 +46,7 @@ place_lines (Some k) =
 
 field_lines : (field : Field) → has 10 (field_text field) ≡ false
 field_lines field =
-    has-append 10 (place_text field.slot) (key_of field.name) (place_lines field.slot) (key_lines field.name)
+    has-append 10 (place_text field.slot) (key_text field.name) (place_lines field.slot) (key_lines field.name)
 
 unknown_lines : (slot : Option ℕ) → has 10 (unknown_text slot) ≡ false
 unknown_lines None = refl
@@ -96,8 +96,8 @@ fault_lines (wrong.List fault) = list_lines fault
 fault_lines (wrong.Script fault) = script_lines fault
 
 pub fault_line-is_line : (file : List ℕ) (fault : FileFault) → has 10 file ≡ false
-    → is_line (fault_line file fault) ≡ true
-unfolding fault_line
+    → is_line (file_fault_line file fault) ≡ true
+unfolding file_fault_line
 fault_line-is_line file fault none =
     is_line-append file (codes ": " ++ (fault_text fault ++ newline)) none
     (is_line-append (codes ": ") (fault_text fault ++ newline) refl

@@ -3,7 +3,7 @@ use Rattle.std.proofs.Common.{◌≡◌, ◌≤◌, ℕ, List, [], ◌∷◌, �
 use Rattle.std.specs.Prelude.{codes}
 use Rattle.ttp_base.specs.Text.{Lines, is_line}
 use Rattle.commands.specs.declared.read.FileFault.{FileFault}
-use Rattle.commands.specs.Faults.{fault_line}
+use Rattle.commands.specs.Faults.{file_fault_line}
 use Rattle.commands.specs.Files.{refused_list, refused_script}
 use Rattle.commands.specs.Lines.{AreLines}
 use Rattle.commands.specs.Plan.{Ending, File, said_ending, line_ending}
@@ -44,8 +44,9 @@ line_final p status line few is = text_final p status (line ∷ []) few (is, tt)
 
 pub refused_list-final : (p : Program) (fault : FileFault) → IsFinal p (said_ending (refused_list fault))
 refused_list-final p fault =
-    line_final p 3 (fault_line (codes "list") fault) (omega arith) (fault_line-is_line (codes "list") fault refl)
+    line_final p 3 (file_fault_line (codes "list") fault) (omega arith) (fault_line-is_line (codes "list") fault refl)
 
 pub refused_script-final : (p : Program) (fault : FileFault) → IsFinal p (said_ending (refused_script fault))
 refused_script-final p fault =
-    line_final p 4 (fault_line (codes "script") fault) (omega arith) (fault_line-is_line (codes "script") fault refl)
+    line_final p 4 (file_fault_line (codes "script") fault) (omega arith)
+    (fault_line-is_line (codes "script") fault refl)

@@ -11,7 +11,7 @@ use Rattle.commands.specs.Loads.{Loaded, GaveNone, Took, TookNone}
 use Rattle.commands.specs.Outcome.{Says, Refused, Follows}
 use Rattle.commands.specs.Plan.{Outside, outside, File, Plan, asks, line_ending, said_ending, after, read_plan}
 use Rattle.commands.specs.Read.{list_from, script_from}
-use Rattle.commands.specs.Texts.{Program, nothing, Answer, alone}
+use Rattle.commands.specs.Texts.{Program, no_texts, Answer, alone}
 
 -- a line that was said, under another name
 pub same_said : (status : ℕ) (line text : List ℕ) (before now : Output) (answer : ℕ) → line ≡ text
@@ -46,7 +46,7 @@ module _ (p : Program) where
       said (notice status text) before now answer (same_said status line text before now answer same told)
 
   silent : (before now : Output) (status : ℕ) → status ≡ 7 → now ≡ before
-      → Refused p nothing before now (alone status)
+      → Refused p no_texts before now (alone status)
   silent before now status seven same = record {
     status = seven;
     text = record { lines = []; among = refl; wrote = subst (λ (o : Output). Wrote before o []) (sym same) (Wrote-none before) };

@@ -4,11 +4,11 @@ use Rattle.std.proofs.Common.{inl, inr, append_assoc, append-nil, arith}
 use Rattle.ttp_base.specs.Outside.{Held, Load, Files, Gives, HasRisen, NoneRose, NoneFell, HoldsTheSame}
 use Rattle.ttp_base.specs.Outside.{Output, Wrote}
 use Rattle.commands.specs.Lines.{AreLines, GaveLines}
-use Rattle.commands.specs.Outcome.{Showed, Refused, Says, Shows, Asked, Follows}
+use Rattle.commands.specs.Outcome.{Showed, Refused, Says, ShowsEnding, Asked, Follows}
 use Rattle.commands.specs.Plan.{Outside, outside, Ending, File, Plan, ends, asks, load_of, unloaded}
 use Rattle.commands.specs.Plan.{Comes, AsksFirst, told_ending}
 use Rattle.commands.specs.Promise.{Reached, Unloaded, IsDue, IsUnfinished, EachName, NoneAskedRose, Promise}
-use Rattle.commands.specs.Texts.{Program, nothing, IsKeptBeside, WroteAmong, CutAmong, Answer}
+use Rattle.commands.specs.Texts.{Program, no_texts, IsKeptBeside, WroteAmong, CutAmong, Answer}
 use Rattle.commands.proofs.Lines.{AreOfLines, IsFinal, SaysLine, one_text, lines_front}
 use Rattle.commands.proofs.Plans.{Every, all_come, file_comes, told_comes}
 
@@ -118,9 +118,10 @@ module _ (p : Program) where
     pub in_order : AsksFirst before.files.held plan loads
     pub keeps : HoldsTheSame before.files now.files
     pub count : NoneFell before.files now.files
-    pub how : ((ending : Ending p.Sets) × Reached plan before now loads ending × Shows p ending before.output now.output answer)
+    pub how : ((ending : Ending p.Sets) × Reached plan before now loads ending
+        × ShowsEnding p ending before.output now.output answer)
         ⊎ (((ending : Ending p.Sets) × Unloaded plan before now loads ending × Says p ending before.output now.output answer)
-        ⊎ (NoneRose before.files now.files × Refused p nothing before.output now.output answer))
+        ⊎ (NoneRose before.files now.files × Refused p no_texts before.output now.output answer))
 
   -- a call that went on by a file's bytes
   goes_on : (file : File) (next : List ℕ → Plan p.Sets) (before now : Outside) (answer : Answer p.Kept) (bytes : List ℕ) (files : Files)
@@ -229,7 +230,7 @@ module _ (p : Program) where
       ((answer.kept ≡ None) × (NoneRose before.files now.files × IsUnfinished p plan before now loads))
 
   -- a text without lines
-  pub wrote_nothing : (before now : Output) → WroteAmong p nothing before now → Wrote before now []
+  pub wrote_nothing : (before now : Output) → WroteAmong p no_texts before now → Wrote before now []
   wrote_nothing before now w = subst (Wrote before now) w.among w.wrote
 
   ways : (plan : Plan p.Sets) (before now : Outside) (answer : Answer p.Kept) → Every (IsFinal p) SaysLine plan → (e : Ended plan before now answer)

@@ -5,7 +5,7 @@ use Rattle.ttp_base.specs.Text.{newline}
 use Rattle.medl_text.specs.declared.error.Field.{Field}
 use Rattle.medl_text.specs.declared.error.MedlError.{MedlError}
 use Rattle.medl_text.specs.declared.error.MedlError.TheVariants as errors
-use Rattle.medl_text.specs.ListFile.{key_of}
+use Rattle.medl_text.specs.ListFile.{key_text}
 use Rattle.script_text.specs.declared.error.LineFault.{LineFault}
 use Rattle.script_text.specs.declared.error.LineFault.TheVariants as faults
 use Rattle.script_text.specs.declared.error.ScriptError.{ScriptError}
@@ -19,7 +19,7 @@ place_text None = []
 place_text (Some k) = codes "slot " ++ (decimal k ++ codes " ")
 
 abbrev pub field_text : Field → List ℕ
-field_text field = place_text field.slot ++ key_of field.name
+field_text field = place_text field.slot ++ key_text field.name
 
 -- a key that no list has
 abbrev pub unknown_text : Option ℕ → List ℕ
@@ -68,5 +68,5 @@ fault_text (wrong.List fault) = list_fault_text fault
 fault_text (wrong.Script fault) = script_fault_text fault
 
 -- the line that says so, behind the word for the file
-unfoldable pub fault_line : List ℕ → FileFault → List ℕ
-fault_line file fault = file ++ (codes ": " ++ (fault_text fault ++ newline))
+unfoldable pub file_fault_line : List ℕ → FileFault → List ℕ
+file_fault_line file fault = file ++ (codes ": " ++ (fault_text fault ++ newline))

@@ -3,7 +3,7 @@ use Rattle.std.specs.Prelude.{◌⊎◌, ℕ, List, codes}
 use Rattle.ttp_world.specs.declared.medl.Medl.{Medl}
 use Rattle.ttp_world.specs.declared.script.Script.{Script}
 use Rattle.commands.specs.declared.read.FileFault.{FileFault}
-use Rattle.commands.specs.Faults.{fault_line}
+use Rattle.commands.specs.Faults.{file_fault_line}
 use Rattle.commands.specs.Lines.{Notice, notice}
 use Rattle.commands.specs.Loads.{Took, TookNone}
 use Rattle.commands.specs.Plan.{Outside, File, Plan, asks, read_plan}
@@ -17,7 +17,7 @@ list_file name = record { name = name; limit = list_limit; missing = codes "load
 
 -- the notice on a list that is refused: status 3 and a line
 abbrev pub refused_list : FileFault → Notice
-refused_list fault = notice 3 (fault_line (codes "list") fault)
+refused_list fault = notice 3 (file_fault_line (codes "list") fault)
 
 -- a command that asks for a list and goes on by it
 abbrev pub list_plan : {Sets : Type 0} → List ℕ → (Medl → Plan Sets) → Plan Sets
@@ -31,7 +31,7 @@ script_file name = record { name = name; limit = script_limit; missing = codes "
 
 -- the notice on a script that is refused: status 4 and a line
 abbrev pub refused_script : FileFault → Notice
-refused_script fault = notice 4 (fault_line (codes "script") fault)
+refused_script fault = notice 4 (file_fault_line (codes "script") fault)
 
 -- a command that asks for a script for a list and goes on by it
 abbrev pub script_plan : {Sets : Type 0} → Medl → List ℕ → (Script → Plan Sets) → Plan Sets

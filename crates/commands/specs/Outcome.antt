@@ -2,7 +2,7 @@
 use Rattle.std.specs.Prelude.{◌≡◌, ◌⊎◌, ℕ, List, None}
 use Rattle.ttp_base.specs.Outside.{Gives, Files, AskedFor, HasRisen, NoneRose, NoneFell, HoldsTheSame, Output}
 use Rattle.commands.specs.Plan.{Outside, outside, Ending, File, Plan, ends, asks, unloaded}
-use Rattle.commands.specs.Texts.{Program, Texts, nothing, IsKeptBeside, WroteAmong, CutAmong, Answer}
+use Rattle.commands.specs.Texts.{Program, Texts, no_texts, IsKeptBeside, WroteAmong, CutAmong, Answer}
 
 -- this ending was shown: its status was answered, one of its texts was written, a piece a line, and what belongs to
 -- that text was kept
@@ -29,8 +29,8 @@ abbrev pub Says : (p : Program) → Ending p.Sets → Output → Output → Answ
 Says p ending before now answer = Showed p ending before now answer ⊎ Stopped p ending before now answer
 
 -- the same, or it was refused memory as it wrote
-abbrev pub Shows : (p : Program) → Ending p.Sets → Output → Output → Answer p.Kept → Type 0
-Shows p ending before now answer = Says p ending before now answer ⊎ Refused p ending.unfinished before now answer
+abbrev pub ShowsEnding : (p : Program) → Ending p.Sets → Output → Output → Answer p.Kept → Type 0
+ShowsEnding p ending before now answer = Says p ending before now answer ⊎ Refused p ending.unfinished before now answer
 
 -- a file was asked for, once, and its library has no fault to tell; or it has one
 pub record Asked (file : File) (before now : Files) : Type 0 where
@@ -49,10 +49,10 @@ pub record Failed (file : File) (before now : Files) : Type 0 where
 -- the file could not be loaded, or wanted memory; and it showed the ending that it came to.
 abbrev pub Follows : (p : Program) → Plan p.Sets → Outside → Outside → Answer p.Kept → Type 0
 Follows p (ends ending) before now answer =
-    (now.files ≡ before.files) × Shows p ending before.output now.output answer
+    (now.files ≡ before.files) × ShowsEnding p ending before.output now.output answer
 Follows p (asks file next) before now answer =
     ((bytes : List ℕ) × ((files : Files) × (Asked file before.files files
     × Gives (before.files.held file.name) file.limit bytes
     × Follows p (next bytes) (outside files before.output) now answer)))
     ⊎ ((Failed file before.files now.files × Says p (unloaded file) before.output now.output answer)
-    ⊎ (Asked file before.files now.files × Refused p nothing before.output now.output answer))
+    ⊎ (Asked file before.files now.files × Refused p no_texts before.output now.output answer))

@@ -2,7 +2,7 @@
 use Rattle.std.specs.Prelude.{◌≡◌, ℕ, ◌+◌, List, [], ◌∷◌, take, Option, Some, None, Result, Ok, Err}
 use Rattle.ttp_base.specs.Outside.{Held, untold, absent, holds, Load, Files, Gives, Output}
 use Rattle.commands.specs.Lines.{Notice, notice}
-use Rattle.commands.specs.Texts.{Texts, one, nothing}
+use Rattle.commands.specs.Texts.{Texts, one, no_texts}
 
 -- what a call sees of the outside, and leaves of it
 pub record Outside : Type 0 where
@@ -21,7 +21,7 @@ pub record Ending (Sets : Type 0) : Type 0 where
 
 -- an ending for which all memory is taken before anything is written
 abbrev pub whole_ending : {Sets : Type 0} → ℕ → Texts Sets → Ending Sets
-whole_ending status texts = record { status = status; texts = texts; unfinished = nothing }
+whole_ending status texts = record { status = status; texts = texts; unfinished = no_texts }
 
 -- one with this line alone
 abbrev pub line_ending : {Sets : Type 0} → ℕ → List ℕ → Ending Sets

@@ -17,8 +17,8 @@ pub data Texts (Sets : Type 0) : Type 0 where
   those : (set : Sets) → Texts Sets
 
 -- no lines
-abbrev pub nothing : {Sets : Type 0} → Texts Sets
-nothing = one []
+abbrev pub no_texts : {Sets : Type 0} → Texts Sets
+no_texts = one []
 
 -- some lines are one of the texts
 abbrev pub IsAmong : (p : Program) → Texts p.Sets → Lines → Type 0

@@ -1,7 +1,7 @@
 //! The lines that refuse a file.
 ghost use Rattle.std.specs.Prelude.{◌≡◌, ◌+◌, ◌≤◌, ◌++◌, length};
 ghost use Rattle.commands.specs.Faults.{field_text, unknown_text, list_fault_text, line_fault_text};
-ghost use Rattle.commands.specs.Faults.{script_fault_text, fault_line};
+ghost use Rattle.commands.specs.Faults.{script_fault_text, file_fault_line};
 
 use crate::read::FileFault;
 use medl_text::{Field, MedlError};
@@ -125,10 +125,10 @@ fn put_script_fault(line: &mut Line, fault: ScriptError)
 
 /// The line that says what is wrong with a file, behind the word for the file, as `list`. Takes no
 /// memory.
-#[tactic(auto, unfolding(crate::specs::Faults::fault_line))]
-pub fn fault_line(file: &str, fault: FileFault) -> Line
+#[tactic(auto, unfolding(crate::specs::Faults::file_fault_line))]
+pub fn file_fault_line(file: &str, fault: FileFault) -> Line
     requires { length file.now ≤ 9 }
-    ensures { result ≡ fault_line file.now fault }
+    ensures { result ≡ file_fault_line file.now fault }
 {
     let mut line = Line::new();
     line.put_text(file);

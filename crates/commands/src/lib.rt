@@ -32,7 +32,7 @@ mod read;
 mod said;
 mod words;
 
-pub use faults::fault_line;
+pub use faults::file_fault_line;
 pub use load::{load_both, load_list, load_script, load_trace};
 pub use read::FileFault;
 pub use said::say;

@@ -8,7 +8,7 @@ ghost use Rattle.commands.specs.Files.{trace_file};
 ghost use Rattle.commands.specs.Loads.{Loaded, GaveNone};
 ghost use Rattle.commands.specs.Plan.{outside};
 
-use crate::faults::fault_line;
+use crate::faults::file_fault_line;
 use crate::read::{LIST_LIMIT, Refusal, SCRIPT_LIMIT, TRACE_LIMIT, list_from, script_from};
 use crate::said::say;
 use std::alloc::Global;
@@ -32,7 +32,7 @@ pub fn load_list<L: Library, K: Sink>(
     match library.load(alloc, name, LIST_LIMIT) {
         Ok(bytes) => match list_from(alloc, bytes.as_slice()) {
             Ok(list) => Ok(list),
-            Err(Refusal::Told(fault)) => Err(say(out, fault_line("list", fault).bytes(), 3)),
+            Err(Refusal::Told(fault)) => Err(say(out, file_fault_line("list", fault).bytes(), 3)),
             Err(Refusal::Memory) => Err(7),
         },
         Err(LoadError::Failed) => Err(say(out, b"load: list\n", 5)),
@@ -59,7 +59,7 @@ pub fn load_script<L: Library, K: Sink>(
     match library.load(alloc, name, SCRIPT_LIMIT) {
         Ok(bytes) => match script_from(alloc, list, bytes.as_slice()) {
             Ok(script) => Ok(script),
-            Err(Refusal::Told(fault)) => Err(say(out, fault_line("script", fault).bytes(), 4)),
+            Err(Refusal::Told(fault)) => Err(say(out, file_fault_line("script", fault).bytes(), 4)),
             Err(Refusal::Memory) => Err(7),
         },
         Err(LoadError::Failed) => Err(say(out, b"load: script\n", 5)),

@@ -10,7 +10,7 @@ use Rattle.controller.proofs.Words.{carried, is_joinable_state, Signal, Bits, pl
 use Rattle.controller.proofs.Words.{Expected, Hearing, entry_deviation, expected_of, heard_deviation, is_taken_from_a}
 use Rattle.controller.proofs.Words.{verdict_of, view_of, jump_taken, IsDeviation, Arrival, EndsAs, hearing_of, kept}
 use Rattle.controller.proofs.Words.{loaded_length, offset_of_arrival, ArrivalFits, IsPossible, IsPlannedWithin}
-use Rattle.controller.proofs.Words.{IsEntryWithin, IsNearEnough, IsWithin}
+use Rattle.controller.proofs.Words.{IsEntryWithin, IsNearEnough, IsPastWithin}
 use Rattle.std.proofs.Common.{◌⊎◌, inl}
 use Rattle.std.proofs.Common.{inr, neg_ℤ, ◌≤ℤ◌, IsTrue}
 use Rattle.std.proofs.Common.{max}
@@ -244,7 +244,7 @@ slot_change-on _ s corrected on = refl
 
 -- what an entry corrects
 past_after-corrected : (list : Medl) (k : ℕ) (past : NodePast) (e : Entry) (s : SlotSurroundings) → IsValid list
-    → k < length list.slots → IsWithin list k past → IsEntryWithin list k past e
+    → k < length list.slots → IsPastWithin list k past → IsEntryWithin list k past e
     → IsNearEnough list (correction_after list (past_after list k past e s).place (past_after list k past e s).notes e)
 past_after-corrected list k past e s valid node within next =
     let after = past_after list k past e s in
@@ -272,7 +272,7 @@ change_near (entry.Joined sender cstate deviation) offset s corrected w a b erro
 change_near _ offset s corrected w a b error near lands = omega (arith, ints, near.0, near.1)
 
 pub past_after-near : (list : Medl) (k : ℕ) (past : NodePast) (e : Entry) (s : SlotSurroundings) (a b : Arrival)
-    (error : ℤ) → IsValid list → k < length list.slots → IsWithin list k past
+    (error : ℤ) → IsValid list → k < length list.slots → IsPastWithin list k past
     → IsMade list k past a b error s.jump e
     → unsigned_abs (past_after list k past e s).offset
     ≤ furthest (past.offset +ℤ s.jump) (offset_of_arrival a) (offset_of_arrival b) + unsigned_abs error

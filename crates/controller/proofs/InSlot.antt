@@ -7,10 +7,10 @@ use Rattle.controller.proofs.Words.{act, new_entry, delivery, node_frames, Histo
 use Rattle.controller.proofs.Words.{status_words, past_of, is_on, is_armed, jump_of, reading_error, BegunNode}
 use Rattle.controller.proofs.Words.{jump_taken, node_of, slot_after, chosen_of, frames_of, node_of-slot_after, Arrival}
 use Rattle.controller.proofs.Words.{Carried, Outcome, Seat, hearing_of, view_clock, view_intent, turn_jump, IsBegun}
-use Rattle.controller.proofs.Words.{kept, HasBegun, IsLeft, Carries, payload_handed, HaveBegun, IsPlannedFrom, SendsOne}
-use Rattle.controller.proofs.Words.{Stands, IsSameNode, Begins, Plans, Ends, view_past, frames_planned, most_slots}
-use Rattle.controller.proofs.Words.{message_planned, Turn, Ended, Begun, Planned, ControllerView, AreSeats}
-use Rattle.controller.proofs.Words.{IsFromWithin}
+use Rattle.controller.proofs.Words.{kept, HasBegun, IsOutcomeOf, CarriesFrames, payload_handed, HaveBegun}
+use Rattle.controller.proofs.Words.{IsPlannedFrom, SendsOne, Stands, IsSameNode, Begins, Plans, Ends, view_past}
+use Rattle.controller.proofs.Words.{frames_planned, most_slots, message_planned, Turn, Ended, Begun, Planned}
+use Rattle.controller.proofs.Words.{ControllerView, AreSeats, IsFromWithin}
 use Rattle.std.specs.Option.{option_map_or}
 use Rattle.std.proofs.lemmas.List.{append-nil, length-map}
 use Rattle.ttp_base.proofs.Below.{flat_map-next}
@@ -20,7 +20,7 @@ use Rattle.ttp_world.specs.Medium.{surroundings_in, SentFrame}
 use Rattle.ttp_world.specs.World.{frames_in, hearing_in, row_in}
 use Rattle.ttp_world.proofs.Silences.{is_silent_to-row_in}
 use Rattle.ttp_world.proofs.Slots.{entry_of-row_in}
-use Rattle.medium.specs.StandsFor as medium
+use Rattle.medium.specs.StandsFor.{MediumStandsFor, ShowsHeard, StandsAtBeginning}
 use Rattle.controller.specs.Passes.{StandsAfter, StandsForNode, jump_begun, HasPlanned, frames_by}
 use Rattle.controller.specs.Passes.{IsFromClocks, PlansIn}
 use Rattle.controller.specs.StandsFor.{clock_begun}
@@ -115,10 +115,10 @@ module _ (list : Medl) (script : Script) (history : History) (k : ℕ) (node : k
   pub ended-node : {planned new : ControllerView} {outcome : Outcome} {carried : Carried} {error drift : ℤ}
       (chosen : List Chosen) (a b : Arrival) → carried.slot < SLOT_LIMIT → IsSameNode planned new
       → Ends planned new outcome a b error drift → AreHanded script carried.slot k error drift
-      → medium.ShowsHeard carried script k channel.A a → medium.ShowsHeard carried script k channel.B b →
+      → ShowsHeard carried script k channel.A a → ShowsHeard carried script k channel.B b →
       let s = slot_after list script history in
-      Carries s (frames_in s chosen) carried → HasPlanned s (chosen_of chosen k) k planned
-      → StandsAfter script (row_in s chosen ∷ history) k new × IsLeft list script history chosen k outcome
+      CarriesFrames s (frames_in s chosen) carried → HasPlanned s (chosen_of chosen k) k planned
+      → StandsAfter script (row_in s chosen ∷ history) k new × IsOutcomeOf list script history chosen k outcome
   ended-node {planned = planned} {new = new} {error = error} chosen a b early same ends handed on_a on_b carries has =
       let s = slot_after list script history in
       let diary = diary_of history k in
@@ -167,7 +167,7 @@ sends-nothing {list = list} {script = script} {carried = carried} old new planne
   plans = λ history begun. (plans history begun).0;
   incidents = same;
   puts = λ history frames begun carries. subst
-      (λ (sent : List SentFrame). Carries (slot_after list script history) sent carried)
+      (λ (sent : List SentFrame). CarriesFrames (slot_after list script history) sent carried)
       (sym (append-nil frames) ∙ ap (λ (sent : List SentFrame). frames ++ sent) (plans history begun).1) carries;
   clocks = λ slot clock is from. from;
 }
@@ -190,18 +190,18 @@ pub record AreSent (list : Medl) (script : Script) (slot : ℕ) (chosen : List C
   pub passed : ArePassed (IsSentBy list script chosen) k old new
   pub from : IsFromClocks carried script slot (clock_in old)
   pub carries : (history : History) → length history ≡ slot → HaveBegun (slot_after list script history) 0 old
-      → Carries (slot_after list script history)
+      → CarriesFrames (slot_after list script history)
       (flat_map (frames_of (slot_after list script history) chosen) (below k)) carried
 
 module _ {list : Medl} {script : Script} {slot : ℕ} {chosen : List Chosen} where
-  pub AreSent-none : {seats : List Seat} {carried : Carried} → medium.StandsAtBeginning carried slot
+  pub AreSent-none : {seats : List Seat} {carried : Carried} → StandsAtBeginning carried slot
       → AreSent list script slot chosen 0 seats seats carried
   AreSent-none {seats = seats} {carried = carried} begins = record {
     passed = ArePassed-none seats;
     from = record { frames = []; stands = begins script (clock_in seats) };
     carries = λ history long begun.
         let clock = λ (p : ℕ). (node_of (slot_after list script history) p).clock in
-        subst (λ (t : ℕ). medium.StandsFor carried script t [] clock) (sym long) (begins script clock);
+        subst (λ (t : ℕ). MediumStandsFor carried script t [] clock) (sym long) (begins script clock);
   }
 
   pub AreSent-more : {k : ℕ} {old new : List Seat} {before after : Carried} (d planned : Seat)
@@ -217,7 +217,8 @@ module _ {list : Medl} {script : Script} {slot : ℕ} {chosen : List Chosen} whe
             sent.from;
         carries = λ history long begun.
             let s = slot_after list script history in
-            subst (λ (frames : List SentFrame). Carries s frames after) (sym (flat_map-next (frames_of s chosen) k))
+            subst (λ (frames : List SentFrame). CarriesFrames s frames after)
+            (sym (flat_map-next (frames_of s chosen) k))
             (sends.puts history _ (each-of begun k coming) (sent.carries history long begun));
       }
 
@@ -234,7 +235,7 @@ module _ {list : Medl} {script : Script} {slot : ℕ} {chosen : List Chosen} whe
       record {
         frames = sent.from.frames;
         clock = clock_in old;
-        stands = subst (λ (t : ℕ). medium.StandsFor carried script t sent.from.frames (clock_in old))
+        stands = subst (λ (t : ℕ). MediumStandsFor carried script t sent.from.frames (clock_in old))
             (sym sent.from.stands.slot) sent.from.stands;
         near = λ p. near (slice_get old p) p refl;
       }

@@ -4,7 +4,7 @@ use Rattle.controller.proofs.Words.{of_z, ap, sym, ◌∙◌, subst, arith, slic
 use Rattle.controller.proofs.Words.{Incidents, Medl, Channel, Script, SLOT_LIMIT, Signal, Bits, heard, IsValid}
 use Rattle.controller.proofs.Words.{reading_error, Arrival, Carried, Shows, ArrivalFits, IsBegun, offset_of_arrival}
 use Rattle.controller.proofs.Words.{view_clock, turn_jump, IsPlannedFrom, most_ahead, most_ahead_in, IsEnded}
-use Rattle.controller.proofs.Words.{IsControllerOf, IsFromWithin, IsIncidentsOf, IsSameNode, StandsFor, Ended}
+use Rattle.controller.proofs.Words.{IsControllerOf, IsFromWithin, IsIncidentsOf, IsSameNode, ControllerStandsFor, Ended}
 use Rattle.controller.proofs.Words.{ControllerView}
 use Rattle.std.proofs.lemmas.Int.{fits_signed_from_abs}
 use Rattle.std.proofs.lemmas.Option.{get_or_from_slice_get}
@@ -58,7 +58,8 @@ module _ {list : Medl} {k : ℕ} {old : ControllerView} {incidents : Incidents} 
   }
 
 -- before the first slot it is at 0
-pub first-controller : {list : Medl} {k : ℕ} {view : ControllerView} → view.list ≡ list → view.node ≡ k → StandsFor view [] []
+pub first-controller : {list : Medl} {k : ℕ} {view : ControllerView} → view.list ≡ list → view.node ≡ k
+    → ControllerStandsFor view [] []
     → IsControllerOf list IsEnded (most_ahead 0) k view
 first-controller list_is node_is stands = record {
   list = list_is;

@@ -1,8 +1,8 @@
 -- What a slot makes of a plant, and leaves for the hosts of its nodes.
 use Rattle.controller.proofs.Words.{◌≡◌, ℕ, zero, suc, ◌+◌, ◌<◌, List, [], ◌∷◌, length, get_or, Some, refl, sym, ap}
 use Rattle.controller.proofs.Words.{◌∙◌, subst, arith, slice_get, none-some, same_Some, Medl, Chosen, Script, History}
-use Rattle.controller.proofs.Words.{Seat, IsLeft, PlantStandsFor, no_outcome, outcomes_of, plant_of, AreSeats, IsEnded}
-use Rattle.controller.proofs.Words.{most_ahead}
+use Rattle.controller.proofs.Words.{Seat, IsOutcomeOf, PlantStandsFor, no_outcome, outcomes_of, plant_of, AreSeats}
+use Rattle.controller.proofs.Words.{IsEnded, most_ahead}
 use Rattle.std.proofs.Common.{add-one}
 use Rattle.controller.specs.Passes.{AreLeft, HaveEnded}
 use Rattle.controller.specs.PlantStands.{IsStep}
@@ -23,10 +23,10 @@ outcome_there (x ∷ seats) (suc k) seat here = outcome_there seats k seat here
 
 pub left_at : {list : Medl} {script : Script} {history : History} {chosen : List Chosen} {seats : List Seat}
     → AreLeft list script history chosen 0 seats → (k : ℕ) → k < length seats
-    → IsLeft list script history chosen k (get_or (outcomes_of seats) k no_outcome)
+    → IsOutcomeOf list script history chosen k (get_or (outcomes_of seats) k no_outcome)
 left_at {list = list} {script = script} {history = history} {chosen = chosen} {seats = seats} left k less =
     let found = some_at seats k less in
-    subst (IsLeft list script history chosen k) (sym (outcome_there seats k found.0 found.1)) (each-of left k found.1)
+    subst (IsOutcomeOf list script history chosen k) (sym (outcome_there seats k found.0 found.1)) (each-of left k found.1)
 
 -- So the three passes step a plant: each node stands for what the world's slot makes of the history.
 pub is-step : {list : Medl} {script : Script} {slot : ℕ} {history : History} {chosen : List Chosen} {old new : List Seat}

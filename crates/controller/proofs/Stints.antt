@@ -4,7 +4,7 @@ use Rattle.controller.proofs.Words.{◌++◌, length, take, Option, Some, None, 
 use Rattle.controller.proofs.Words.{IfSome, nat_tests, ints, length-take, Medl, Ack, Entry, Verdict, is_correct}
 use Rattle.controller.proofs.Words.{past_after, correction_after, is_corrected, Place, Diary, SlotSurroundings}
 use Rattle.controller.proofs.Words.{phase_after, IsValid, plan_at, AreNodes, NodePast, nodes-most, IsMoveOf, kept_notes}
-use Rattle.controller.proofs.Words.{kept, IsAckWithin, IsNearEnough, IsWithin, IsEntryWithin}
+use Rattle.controller.proofs.Words.{kept, IsAckWithin, IsNearEnough, IsPastWithin, IsEntryWithin}
 use Rattle.std.specs.Option.{option_to_list}
 use Rattle.std.proofs.lemmas.List.Elements.{All-nil, All-cons, All-take}
 use Rattle.ttp_world.specs.declared.node.Ack.TheVariants as ack
@@ -93,7 +93,7 @@ begun : (list : Medl) (k : ℕ) (past : NodePast) → k < length list.slots → 
     → IsPlaceOf list past.place
     → AreNodes list past.members → past.accepted ≤ 1 → past.rejected ≡ 0 → IsAckWithin list k past.place.slot past.ack
     → past.limit ≤ 3 * length list.slots
-    → AreFewNear list past.notes → IsWithin list k past
+    → AreFewNear list past.notes → IsPastWithin list k past
 begun list k past node phase place members accepted rejected acked limit notes =
     let own = to_own-round list k past.place.slot node in
     record {
@@ -114,7 +114,7 @@ pub idle : (list : Medl) (k : ℕ) (past : NodePast) → IsValid list → k < le
     → past.phase ≡ phase_after past.entry → past.place.round ≡ 0 → past.place.slot ≡ 0
     → past.members ≡ [] → past.accepted ≡ 0 → past.rejected ≡ 0 → past.ack ≡ ack.Closed
     → past.limit ≤ 3 * length list.slots → past.notes ≡ []
-    → IsWithin list k past
+    → IsPastWithin list k past
 idle list k past valid node phase round slot members accepted rejected acked limit notes =
     begun list k past node phase
     (record { round = omega (arith, round, valid.rounds); slot = omega (arith, slot, node) })
@@ -124,14 +124,14 @@ idle list k past valid node phase round slot members accepted rejected acked lim
 
 -- With one more entry, a node's past stays within what it can keep of it.
 module _ (list : Medl) (k : ℕ) (past : NodePast) (valid : IsValid list) (node : k < length list.slots)
-    (within : IsWithin list k past) where
+    (within : IsPastWithin list k past) where
   -- what a node that sends, starts or joins notes of its own slot
   noted_itself : (slot : ℕ) (begins : Bool) → AreFewNear list
       (take kept_notes (cond (plan_at list slot).sync (pos 0 ∷ []) [] ++ cond begins [] past.notes))
   noted_itself slot begins = noted_near list slot begins (Some (pos 0)) past.notes (zero_near list valid) within.notes
 
   pub kept_after-within : (e : Entry) (s : SlotSurroundings) → IsEntryWithin list k past e
-      → IsWithin list k (kept (past_after list k past e s))
+      → IsPastWithin list k (kept (past_after list k past e s))
   kept_after-within entry.Started s next =
       begun list k _ node refl (record { round = omega (arith, valid.rounds); slot = node }) (AreNodes-filter list _)
       (omega arith) refl tt within.limit (noted_itself k _)
@@ -181,7 +181,7 @@ doubt_of_another list k place _ slot node another within = tt
 -- the move of a judgement leads to the members after it
 pub moved_members-after : (list : Medl) (k : ℕ) (past : NodePast) (sender : ℕ) (v : Verdict) (deviation : ℤ)
     (move : AckMove) → IsValid list → k < length list.slots
-    → IsWithin list k past → IsJudgedWithin list k past sender v deviation → IsMoveOf move past.ack v sender
+    → IsPastWithin list k past → IsJudgedWithin list k past sender v deviation → IsMoveOf move past.ack v sender
     → moved_members move past.members sender
     ≡ members_after list k past.members past.ack (entry.Judged sender v deviation)
 moved_members-after list k past sender v deviation move valid node within judged moves =

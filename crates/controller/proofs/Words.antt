@@ -10,14 +10,14 @@ pub use Rattle.controller.specs.KnownFrame.{BytesAre, found_by}
 pub use Rattle.controller.specs.KnownFrames.{AreKnownOf}
 pub use Rattle.controller.specs.Limits.{ArrivalFits, IsBegun, intent_by, loaded_length, message_carried}
 pub use Rattle.controller.specs.Limits.{offset_of_arrival, turn_intent, turn_jump, view_clock, view_intent}
-pub use Rattle.controller.specs.Passes.{Carries, HasBegun, HaveBegun, IsLeft, IsPayloadBefore, IsPayloadFor}
+pub use Rattle.controller.specs.Passes.{CarriesFrames, HasBegun, HaveBegun, IsOutcomeOf, IsPayloadBefore, IsPayloadFor}
 pub use Rattle.controller.specs.Passes.{IsPlannedFrom, SendsOne, payload_handed}
 pub use Rattle.controller.specs.PlantStands.{PlantStandsFor, no_outcome, outcomes_of, plant_of}
 pub use Rattle.controller.specs.PlantWithin.{AreSeats, IsControllerOf, IsEnded, IsFromWithin, IsIncidentsOf, most_ahead}
 pub use Rattle.controller.specs.PlantWithin.{most_ahead_in}
-pub use Rattle.controller.specs.StandsFor.{Begins, Ends, IsSameNode, Plans, Stands, StandsFor, frames_planned}
+pub use Rattle.controller.specs.StandsFor.{Begins, Ends, IsSameNode, Plans, Stands, ControllerStandsFor, frames_planned}
 pub use Rattle.controller.specs.StandsFor.{message_planned, most_slots, payload_planned, view_past}
-pub use Rattle.controller.specs.Within.{IsAckWithin, IsEntryWithin, IsNearEnough, IsWithin}
+pub use Rattle.controller.specs.Within.{IsAckWithin, IsEntryWithin, IsNearEnough, IsPastWithin}
 pub use Rattle.controller.specs.declared.controller.Outcome.{Outcome}
 pub use Rattle.controller.specs.declared.seat.Seat.{Seat}
 pub use Rattle.fta_sync.specs.StandsFor.{IsDeviation, kept_notes}

@@ -11,7 +11,7 @@ use Rattle.controller.specs.declared.controller.Intent.{Intent}
 use Rattle.controller.specs.Limits.{most_clock, JumpFits, turn_intent}
 use Rattle.controller.specs.StandsFor.{message_planned}
 use Rattle.controller.specs.ControllerView.{Turn, Ended, Begun, Planned}
-use Rattle.controller.specs.Within.{IsWithin}
+use Rattle.controller.specs.Within.{IsPastWithin}
 
 -- node k can do this in the coming slot, be it switched on and armed or not
 pub record IsPossible (list : Medl) (k : ℕ) (past : NodePast) (does : Act) : Type 0 where
@@ -42,7 +42,7 @@ IsTurnWithin list k past (Planned does jump message) = IsPlannedWithin list k pa
 pub record IsControllerWithin (list : Medl) (k : ℕ) (past : NodePast) (now : Turn) (sends : Intent) : Type 0 where
   pub valid : IsValid list
   pub node : k < length list.slots
-  pub within : IsWithin list k past
+  pub within : IsPastWithin list k past
   pub clock : unsigned_abs past.offset ≤ most_clock
   pub turn : IsTurnWithin list k past now
   pub intent : sends ≡ turn_intent list past now

@@ -1,7 +1,7 @@
 -- What a node hears, by what comes to it, and what it makes of it.
 use Rattle.std.specs.Prelude.{◌≡◌, ℕ, ◌+◌, ◌<◌, ◌≤◌, ℤ, ◌+ℤ◌, ◌-ℤ◌, Bool, true, false, length, IfSome, unsigned_abs}
 use Rattle.ttp_frame.specs.declared.judging.Expect.{Expect}
-use Rattle.ttp_frame.specs.Shape.{HaveRoom, IsShape}
+use Rattle.ttp_frame.specs.Shape.{HaveRoom, IsFrameShape}
 use Rattle.ttp_world.specs.declared.medl.Medl.{Medl}
 use Rattle.ttp_world.specs.declared.node.Ack.{Ack}
 use Rattle.ttp_world.specs.declared.node.Ack.TheVariants as ack
@@ -17,7 +17,7 @@ use Rattle.ttp_world.specs.Reception.{Expected as Awaited}
 use Rattle.medium.specs.declared.arrival.Arrival.{Arrival}
 use Rattle.medium.specs.declared.arrival.Arrival.TheVariants as arrival
 use Rattle.medium.specs.Shows.{Shows}
-use Rattle.slot_clock.specs.StandsFor.{StandsFor}
+use Rattle.slot_clock.specs.StandsFor.{ClockStandsFor}
 use Rattle.controller.specs.declared.hearing.Expected.{Expected}
 use Rattle.controller.specs.declared.hearing.Judgement.{Judgement}
 use Rattle.controller.specs.declared.hearing.Receiver.{Receiver}
@@ -62,18 +62,18 @@ pub record IsFormOf (list : Medl) (place : Place) (form : Expect) : Type 0 where
   pub wide : form.wide ≡ is_wide list
   pub header : form.header ≡ expected_header list place
   pub payload : form.payload ≡ expected_length list place
-  pub shape : IsShape form.header form.payload
+  pub shape : IsFrameShape form.header form.payload
 
 -- it is a node of the list, and so are its members and the one that it doubts; its clock goes by the list
 pub record IsReceiver (list : Medl) (receiver : Receiver) : Type 0 where
   pub number : receiver.number < length list.slots
-  pub coming : StandsFor receiver.coming list receiver.coming.place
+  pub coming : ClockStandsFor receiver.coming list receiver.coming.place
   pub doubt : (x : ℕ) → receiver.ack ≡ ack.Doubt x → x < length list.slots
   pub members : AreNodes list receiver.members
 
 -- a node with this past judges the coming slot by these
 pub record Receives (list : Medl) (past : NodePast) (receiver : Receiver) : Type 0 where
-  pub coming : StandsFor receiver.coming list (coming_place list past)
+  pub coming : ClockStandsFor receiver.coming list (coming_place list past)
   pub ack : receiver.ack ≡ past.ack
   pub members : receiver.members ≡ past.members
 
@@ -93,7 +93,7 @@ awaited_meant expected = record {
 
 -- the list has the place, and its frames have room for the members of the candidates
 pub record IsExpected (list : Medl) (expected : Expected) : Type 0 where
-  pub place : StandsFor expected.place list expected.place.place
+  pub place : ClockStandsFor expected.place list expected.place.place
   pub first : HaveRoom (is_wide list) expected.first
   pub second : IfSome expected.second (HaveRoom (is_wide list))
 

@@ -15,7 +15,7 @@ use Rattle.ttp_world.specs.World.{BegunSlot, jump_taken, node_of, node_past, slo
 use Rattle.ttp_world.specs.World.{frames_in}
 use Rattle.ttp_world.specs.World.{delivered_in, row_in}
 use Rattle.medium.specs.Carried.{Carried}
-use Rattle.medium.specs.StandsFor as medium
+use Rattle.medium.specs.StandsFor.{MediumStandsFor}
 use Rattle.controller.specs.declared.controller.Intent.{Intent}
 use Rattle.controller.specs.declared.controller.Intent.TheVariants as intent
 use Rattle.controller.specs.declared.controller.Outcome.{Outcome}
@@ -23,14 +23,14 @@ use Rattle.controller.specs.declared.seat.Seat.{Seat}
 use Rattle.controller.specs.Kept.{kept}
 use Rattle.controller.specs.Limits.{IsPlanned, intent_by, view_clock, view_intent}
 use Rattle.controller.specs.Parts.{EachFrom}
-use Rattle.controller.specs.StandsFor.{StandsFor, IsSameNode, message_planned, frames_planned, most_slots}
+use Rattle.controller.specs.StandsFor.{ControllerStandsFor, IsSameNode, message_planned, frames_planned, most_slots}
 use Rattle.controller.specs.ControllerView.{Turn, Begun, Planned, ControllerView}
 
 -- Between two slots.
 
 -- node k's controller stands for its diary in a history, and for what came to the node from outside
 abbrev pub StandsAfter : Script → History → ℕ → ControllerView → Type 0
-StandsAfter script history k view = StandsFor view (diary_of history k) (surroundings_of script history k)
+StandsAfter script history k view = ControllerStandsFor view (diary_of history k) (surroundings_of script history k)
 
 -- so do the controllers of the nodes from a first one on
 abbrev pub StandAfter : Script → History → ℕ → List Seat → Type 0
@@ -119,8 +119,8 @@ abbrev pub frames_by : BegunSlot → Chosen → ℕ → List SentFrame
 frames_by s chosen k = node_frames s.list k (node_of s k).past chosen (node_of s k).act
 
 -- the medium stands for frames that were sent in the slot, with the clocks of its nodes
-abbrev pub Carries : BegunSlot → List SentFrame → Carried → Type 0
-Carries s frames carried = medium.StandsFor carried s.script s.number frames (λ p. (node_of s p).clock)
+abbrev pub CarriesFrames : BegunSlot → List SentFrame → Carried → Type 0
+CarriesFrames s frames carried = MediumStandsFor carried s.script s.number frames (λ p. (node_of s p).clock)
 
 -- The third: each stands for its diary with the slot's entry, and leaves what its node's host is to get.
 
@@ -129,7 +129,7 @@ abbrev pub delivered_at : BegunSlot → List Chosen → ℕ → Option Delivered
 delivered_at s chosen r = delivered_in s (frames_in s chosen) r (entry_of (row_in s chosen) r)
 
 -- the payload that node k delivers, and its status after the slot
-pub record IsLeft (list : Medl) (script : Script) (history : History) (chosen : List Chosen) (k : ℕ)
+pub record IsOutcomeOf (list : Medl) (script : Script) (history : History) (chosen : List Chosen) (k : ℕ)
     (outcome : Outcome) : Type 0 where
   pub delivered : outcome.delivered ≡ delivered_at (slot_after list script history) chosen k
   pub status : outcome.status.words
@@ -140,7 +140,7 @@ pub record IsLeft (list : Medl) (script : Script) (history : History) (chosen : 
 -- the same for the nodes of some seats, from a first one on
 abbrev pub AreLeft : Medl → Script → History → List Chosen → ℕ → List Seat → Type 0
 AreLeft list script history chosen first seats =
-    EachFrom first (λ k seat. IsLeft list script history chosen k seat.outcome) seats
+    EachFrom first (λ k seat. IsOutcomeOf list script history chosen k seat.outcome) seats
 
 -- the nodes from a first one on, after a slot
 pub record HaveEnded (list : Medl) (script : Script) (history : History) (chosen : List Chosen) (first : ℕ)
@@ -175,7 +175,7 @@ abbrev pub PutsFrames : Medl → Script → ℕ → ControllerView → Chosen �
 PutsFrames list script k old chosen before after =
     (history : History) (frames : List SentFrame) →
     let s = slot_after list script history in
-    HasBegun s k old → Carries s frames before → Carries s (frames ++ frames_by s chosen k) after
+    HasBegun s k old → CarriesFrames s frames before → CarriesFrames s (frames ++ frames_by s chosen k) after
 
 -- whatever slot it has planned, and whatever was chosen in it, if this medium carries the frames of that slot, it
 -- stands for its diary after it, and leaves what its host is to get
@@ -183,13 +183,13 @@ abbrev pub EndsSlot : Medl → Script → Carried → ℕ → ControllerView →
 EndsSlot list script carried k old new outcome =
     (history : History) (chosen : List Chosen) →
     let s = slot_after list script history in
-    HasPlanned s (chosen_of chosen k) k old → Carries s (frames_in s chosen) carried
-    → StandsAfter script (row_in s chosen ∷ history) k new × IsLeft list script history chosen k outcome
+    HasPlanned s (chosen_of chosen k) k old → CarriesFrames s (frames_in s chosen) carried
+    → StandsAfter script (row_in s chosen ∷ history) k new × IsOutcomeOf list script history chosen k outcome
 
 -- what is on the medium was sent in a slot, by nodes whose clocks are so far ahead
 pub record IsFromClocks (carried : Carried) (script : Script) (slot : ℕ) (clock : ℕ → ℤ) : Type 0 where
   pub frames : List SentFrame
-  pub stands : medium.StandsFor carried script slot frames clock
+  pub stands : MediumStandsFor carried script slot frames clock
 
 -- so it is still, once what node k sends is put
 abbrev pub KeepsClocks : Script → ℕ → ControllerView → Carried → Carried → Type 0

@@ -10,10 +10,10 @@ use Rattle.ttp_world.specs.World.{slot_after, row_in, node_past}
 use Rattle.controller.specs.declared.controller.Outcome.{Outcome}
 use Rattle.controller.specs.declared.seat.Seat.{Seat}
 use Rattle.controller.specs.Parts.{EachFrom}
-use Rattle.controller.specs.Passes.{ArePayloadsBefore, IsLeft, StandAfter}
+use Rattle.controller.specs.Passes.{ArePayloadsBefore, IsOutcomeOf, StandAfter}
 use Rattle.controller.specs.PlantView.{PlantView}
 use Rattle.controller.specs.PlantWithin.{AreSeats, IsEnded, most_ahead}
-use Rattle.controller.specs.StandsFor.{StandsFor}
+use Rattle.controller.specs.StandsFor.{ControllerStandsFor}
 
 -- each controller is its node's, and stands for the node's diary and for what came to the node from outside
 pub record PlantStandsFor (plant : PlantView) (script : Script) (history : History) : Type 0 where
@@ -54,7 +54,7 @@ MayStep plant script chosen = ArePayloadsBefore script plant.slot chosen 0 plant
 -- a slot takes a plant from a history to the history with one row more
 pub record IsStep (new : PlantView) (script : Script) (history : History) (chosen : List Chosen) : Type 0 where
   pub stands : PlantStandsFor new script (row_in (slot_after new.list script history) chosen ∷ history)
-  pub left : (k : ℕ) → k < length new.list.slots → IsLeft new.list script history chosen k (outcome_at new k)
+  pub left : (k : ℕ) → k < length new.list.slots → IsOutcomeOf new.list script history chosen k (outcome_at new k)
 
 -- whatever history it stood for
 abbrev pub Steps : PlantView → PlantView → Script → List Chosen → Type 0
@@ -64,7 +64,7 @@ Steps old new script chosen = (history : History) → PlantStandsFor old script 
 
 -- each controller stands for no entry
 abbrev pub AllStandAtFirst : List Seat → Type 0
-AllStandAtFirst seats = EachFrom 0 (λ k seat. StandsFor seat.controller [] []) seats
+AllStandAtFirst seats = EachFrom 0 (λ k seat. ControllerStandsFor seat.controller [] []) seats
 
 -- node k's state, whatever history it stands for
 abbrev pub ShowsNode : PlantView → ℕ → NodeState → Type 0

@@ -9,7 +9,7 @@ use Rattle.ttp_world.specs.Medium.{SentFrame}
 use Rattle.ttp_world.specs.Medl.{IsValid}
 use Rattle.ttp_world.specs.Script.{AreBounded, incidents_of}
 use Rattle.medium.specs.Carried.{Carried}
-use Rattle.medium.specs.StandsFor as medium
+use Rattle.medium.specs.StandsFor.{MediumStandsFor}
 use Rattle.controller.specs.declared.seat.Seat.{Seat}
 use Rattle.controller.specs.Limits.{view_clock}
 use Rattle.controller.specs.Parts.{EachFrom}
@@ -68,7 +68,7 @@ AreIncidents script slot first seats = EachFrom first (λ k seat. IsIncidentsOf 
 pub record IsFromWithin (carried : Carried) (script : Script) (bound : ℕ) : Type 0 where
   pub frames : List SentFrame
   pub clock : ℕ → ℤ
-  pub stands : medium.StandsFor carried script carried.slot frames clock
+  pub stands : MediumStandsFor carried script carried.slot frames clock
   pub near : (p : ℕ) → unsigned_abs (clock p) ≤ bound
 
 -- a plant between two slots: a seat for each node, and no clock further than so many slots can take it

@@ -38,8 +38,8 @@ pub record Stands (view : ControllerView) (diary : Diary) (surroundings : Surrou
   pub turn : view.turn ≡ now
 
 -- between two slots
-abbrev pub StandsFor : ControllerView → Diary → Surroundings → Type 0
-StandsFor view diary surroundings = Stands view diary surroundings Ended
+abbrev pub ControllerStandsFor : ControllerView → Diary → Surroundings → Type 0
+ControllerStandsFor view diary surroundings = Stands view diary surroundings Ended
 
 -- the list and the node stay
 pub record IsSameNode (old new : ControllerView) : Type 0 where
@@ -55,7 +55,7 @@ act_begun view diary surroundings on armed = act view.list view.node on armed (v
 -- the beginning of a slot: what the node does is settled, whatever diary the controller stood for
 abbrev pub Begins : ControllerView → ControllerView → Bool → Bool → ℤ → Type 0
 Begins old new on armed jump =
-    (diary : Diary) (surroundings : Surroundings) → StandsFor old diary surroundings
+    (diary : Diary) (surroundings : Surroundings) → ControllerStandsFor old diary surroundings
     → Stands new diary surroundings
     (Begun (act_begun old diary surroundings on armed) (jump_taken (act_begun old diary surroundings on armed) jump))
 
@@ -109,7 +109,7 @@ pub record AreSurroundings (s : SlotSurroundings) (a : Act) (jumped drifts : ℤ
 -- outside; what is delivered and the status are those of the world
 pub record IsEnd (old new : ControllerView) (outcome : Outcome) (diary : Diary) (surroundings : Surroundings) (e : Entry)
     (s : SlotSurroundings) (handed : Option Delivered) : Type 0 where
-  pub stands : StandsFor new (e ∷ diary) (s ∷ surroundings)
+  pub stands : ControllerStandsFor new (e ∷ diary) (s ∷ surroundings)
   pub delivered : outcome.delivered ≡ handed
   pub status : length diary ≤ most_slots
       → outcome.status.words

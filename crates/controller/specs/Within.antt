@@ -32,7 +32,7 @@ abbrev pub IsNearEnough : Medl → ℤ → Type 0
 IsNearEnough list deviation = (neg_ℤ list.window ≤ℤ deviation) × (deviation ≤ℤ list.window)
 
 -- what node k can keep of its past: its counts begin anew with its own slot
-pub record IsWithin (list : Medl) (k : ℕ) (past : NodePast) : Type 0 where
+pub record IsPastWithin (list : Medl) (k : ℕ) (past : NodePast) : Type 0 where
   pub phase : past.phase ≡ phase_after past.entry
   pub round : past.place.round < list.rounds
   pub slot : past.place.slot < length list.slots

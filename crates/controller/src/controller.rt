@@ -7,7 +7,7 @@ ghost use Rattle.controller.specs.Hearing.{is_silent_arrival};
 ghost use Rattle.controller.specs.KnownFrames.{AreKnownOf};
 ghost use Rattle.controller.specs.Limits.{JumpFits, ArrivalFits, StaysNear, IsBegun, IsPlanned, view_clock};
 ghost use Rattle.controller.specs.Limits.{intent_by, view_intent, payload_wanted};
-ghost use Rattle.controller.specs.StandsFor.{StandsFor, IsSameNode, Begins, Plans, Ends, ShowsState};
+ghost use Rattle.controller.specs.StandsFor.{ControllerStandsFor, IsSameNode, Begins, Plans, Ends, ShowsState};
 ghost use Rattle.controller.specs.ControllerView.{Ended};
 
 use crate::ending::ending_of;
@@ -107,7 +107,7 @@ impl Controller {
         ensures made { IsOk result }
         ensures list { IfOk result (λ c. c.list ≡ list.now) }
         ensures node { IfOk result (λ c. c.node ≡ node) }
-        ensures stands { IfOk result (λ c. StandsFor c [] []) }
+        ensures stands { IfOk result (λ c. ControllerStandsFor c [] []) }
     {
         Ok(Controller {
             given: Snapshot::of(list),

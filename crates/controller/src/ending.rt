@@ -4,7 +4,7 @@ ghost use Rattle.ttp_world.specs.Medl.{IsValid};
 ghost use Rattle.controller.specs.Ending.{EndsAs};
 ghost use Rattle.controller.specs.Hearing.{ReadingFits};
 ghost use Rattle.controller.specs.KnownFrames.{AreKnownOf};
-ghost use Rattle.controller.specs.Within.{IsWithin};
+ghost use Rattle.controller.specs.Within.{IsPastWithin};
 
 use crate::hearing::{
     Reading, deliver, judged_entry, judging, listening_entry, receiver_of, take_away,
@@ -28,7 +28,7 @@ fn judged(
 ) -> Entry
     requires valid { IsValid list.now }
     requires node { k < length list.now.slots }
-    requires within { IsWithin list.now k node.now }
+    requires within { IsPastWithin list.now k node.now }
     requires a { ReadingFits reading.now.own a.now reading.now.error }
     requires b { ReadingFits reading.now.own b.now reading.now.error }
     requires known { AreKnownOf list.now a.now b.now known.old }
@@ -60,7 +60,7 @@ pub(crate) fn ending_of(
 ) -> Entry
     requires valid { IsValid list.now }
     requires node { k < length list.now.slots }
-    requires within { IsWithin list.now k node.now }
+    requires within { IsPastWithin list.now k node.now }
     requires a { ReadingFits reading.now.own a.now reading.now.error }
     requires b { ReadingFits reading.now.own b.now reading.now.error }
     requires known { AreKnownOf list.now a.now b.now known.old }

@@ -1,5 +1,5 @@
 //! The form of the frame that the list gives for a slot.
-ghost use Rattle.slot_clock.specs.StandsFor.{StandsFor};
+ghost use Rattle.slot_clock.specs.StandsFor.{ClockStandsFor};
 ghost use Rattle.ttp_world.specs.Medl.{IsValid};
 ghost use Rattle.controller.specs.Hearing.{IsFormOf};
 
@@ -10,7 +10,7 @@ use ttp_world::Medl;
 /// The form of the frame that the list gives for the slot of a place.
 pub(crate) fn form_of(list: &Medl, place: &SlotClock) -> Expect
     requires valid { IsValid list.now }
-    requires place { StandsFor place.now list.now place.now.place }
+    requires place { ClockStandsFor place.now list.now place.now.place }
     ensures { IsFormOf list.now place.now.place result }
 {
     let round = place.round();

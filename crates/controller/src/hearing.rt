@@ -11,7 +11,7 @@ ghost use Rattle.ttp_world.specs.Past.{NodePast};
 ghost use Rattle.ttp_world.specs.Reception.{Hearing, entry_deviation, expected_of, fits_members, fits_second};
 ghost use Rattle.ttp_world.specs.Reception.{is_expected_form, is_first_view, is_within_window, payload_heard};
 ghost use Rattle.ttp_world.specs.Reception.{view_of_bits, view_of_frame};
-ghost use Rattle.slot_clock.specs.StandsFor.{StandsFor};
+ghost use Rattle.slot_clock.specs.StandsFor.{ClockStandsFor};
 ghost use Rattle.controller.specs.Hearing.{ForSignals, ForHearings, ReadingFits, IsReceiver, Receives, awaited_by};
 ghost use Rattle.controller.specs.Hearing.{awaited_meant, IsExpected, IsFormOf, IsSeen, IsJudgement};
 ghost use Rattle.controller.specs.KnownFrame.{IsKnownOf};
@@ -19,7 +19,7 @@ ghost use Rattle.controller.specs.KnownFrames.{AreKnownOf};
 ghost use Rattle.ttp_world.specs.declared.medl.Medl.{Medl};
 ghost use Rattle.ttp_world.specs.Diary.{Place};
 ghost use Rattle.controller.specs.Limits.{most_clock};
-ghost use Rattle.controller.specs.Within.{IsWithin};
+ghost use Rattle.controller.specs.Within.{IsPastWithin};
 
 use crate::form::form_of;
 use crate::known_frames::{KnownFrame, KnownFrames};
@@ -135,7 +135,7 @@ pub(crate) fn listening_entry(list: &Medl, reading: &Reading, a: &Arrival, b: &A
 pub(crate) fn receiver_of(list: &Medl, k: u8, node: &Node) -> Receiver
     requires valid { IsValid list.now }
     requires number { k < length list.now.slots }
-    requires within { IsWithin list.now k node.now }
+    requires within { IsPastWithin list.now k node.now }
     ensures number { result.number ≡ k }
     ensures receives { Receives list.now node.now result }
     ensures receiver { IsReceiver list.now result }
@@ -176,7 +176,7 @@ fn match_with(
     known: &mut KnownFrame,
 ) -> FrameMatch
     requires valid { IsValid list.now }
-    requires place { StandsFor expected.now.place list.now expected.now.place.place }
+    requires place { ClockStandsFor expected.now.place list.now expected.now.place.place }
     requires members { HaveRoom (is_wide list.now) members }
     requires known { known.old.list ≡ list.now }
     ensures keeps { known.new ≡ known.old }
@@ -440,7 +440,7 @@ pub(crate) fn deliver(
     requires valid { IsValid list.now }
     requires receiver { IsReceiver list.now receiver.now }
     ensures { (k : ℕ) (past : NodePast) (own error : ℤ)
-        → StandsFor receiver.now.coming list.now (coming_place list.now past)
+        → ClockStandsFor receiver.now.coming list.now (coming_place list.now past)
         → ForHearings a.now b.now own error (λ h.
         IsJudgement judgement.now list.now (expected_of list.now k past) past.ack h
         → delivered.new ≡ delivery list.now k past h (judging_entry list.now k past h)) }

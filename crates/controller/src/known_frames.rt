@@ -6,7 +6,7 @@ ghost use Rattle.std.specs.Prelude.{◌≡◌, true};
 ghost use Rattle.ttp_frame.specs.Shape.{HaveRoom};
 ghost use Rattle.ttp_world.specs.Diary.{cstate_at, joined_place};
 ghost use Rattle.ttp_world.specs.Medl.{IsValid, is_wide};
-ghost use Rattle.slot_clock.specs.StandsFor.{StandsFor};
+ghost use Rattle.slot_clock.specs.StandsFor.{ClockStandsFor};
 ghost use Rattle.controller.specs.KnownFrame.{BytesAre, IsKnownOf, IsSameState, found_by};
 ghost use Rattle.controller.specs.KnownFrames.{AreKnownOf};
 
@@ -91,7 +91,7 @@ impl<'a> KnownFrame<'a> {
     fn judge_anew(&mut self, list: &Medl, place: &SlotClock, cstate: CState) -> FrameMatch
         requires list { self.old.list ≡ list.now }
         requires valid { IsValid list.now }
-        requires place { StandsFor place.now list.now place.now.place }
+        requires place { ClockStandsFor place.now list.now place.now.place }
         requires at { joined_place cstate ≡ place.now.place }
         requires members { HaveRoom (is_wide list.now) cstate.members }
         ensures keeps { self.new ≡ self.old }
@@ -112,7 +112,7 @@ impl<'a> KnownFrame<'a> {
     pub(crate) fn judge(&mut self, list: &Medl, place: &SlotClock, members: NodeSet) -> FrameMatch
         requires list { self.old.list ≡ list.now }
         requires valid { IsValid list.now }
-        requires place { StandsFor place.now list.now place.now.place }
+        requires place { ClockStandsFor place.now list.now place.now.place }
         requires members { HaveRoom (is_wide list.now) members }
         ensures keeps { self.new ≡ self.old }
         ensures answer { result ≡ found_by self.old.list self.old.bytes (cstate_at place.now.place members) }

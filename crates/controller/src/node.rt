@@ -9,9 +9,9 @@ ghost use Rattle.ttp_world.specs.Messages.{has_averaged};
 ghost use Rattle.ttp_world.specs.Past.{state_of, no_past};
 ghost use Rattle.cold_start.specs.Listening.{most_silent, is_silent};
 ghost use Rattle.fta_sync.specs.StandsFor.{IsDeviation};
-ghost use Rattle.slot_clock.specs.StandsFor.{StandsFor};
+ghost use Rattle.slot_clock.specs.StandsFor.{ClockStandsFor};
 ghost use Rattle.controller.specs.Kept.{kept};
-ghost use Rattle.controller.specs.Within.{IsWithin, IsEntryWithin, AreChangesWithin, IsChange};
+ghost use Rattle.controller.specs.Within.{IsPastWithin, IsEntryWithin, AreChangesWithin, IsChange};
 
 mod acting;
 mod stint;
@@ -164,7 +164,7 @@ impl Node {
         requires valid { IsValid list.now }
         requires node { k < length list.now.slots }
         ensures value { result ≡ no_past list.now k }
-        ensures within { IsWithin list.now k result }
+        ensures within { IsPastWithin list.now k result }
     {
         Node {
             entry: Entry::Off,
@@ -253,7 +253,7 @@ impl Node {
         requires valid { IsValid list.now }
         requires round { self.now.place.round < list.now.rounds }
         requires slot { self.now.place.slot < length list.now.slots }
-        ensures { StandsFor result list.now (coming_place list.now self.now) }
+        ensures { ClockStandsFor result list.now (coming_place list.now self.now) }
     {
         next_clock(list, &self.cstate)
     }
@@ -314,12 +314,12 @@ impl Node {
     pub(crate) fn enter(&mut self, list: &Medl, k: u8, entry: &Entry, outside: &Outside)
         requires valid { IsValid list.now }
         requires node { k < length list.now.slots }
-        requires within { IsWithin list.now k self.old }
+        requires within { IsPastWithin list.now k self.old }
         requires entry { IsEntryWithin list.now k self.old entry.now }
         requires offset { IsDeviation self.old.offset }
         requires changes { AreChangesWithin outside.now }
         ensures value { self.new ≡ kept (past_after list.now k self.old entry.now outside.now) }
-        ensures within { IsWithin list.now k self.new }
+        ensures within { IsPastWithin list.now k self.new }
     {
         self.enter_stint(list, k, entry);
         self.listener = listener_after(self.listener, list, k, entry, outside.silent);

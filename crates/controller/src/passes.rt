@@ -21,7 +21,7 @@ ghost use Rattle.medium.specs.StandsFor.{ShowsCarried};
 ghost use Rattle.ttp_world.specs.declared.script.Channel.TheVariants as ScriptChannel;
 ghost use Rattle.controller.specs.KnownFrames.{AreKnownOf};
 ghost use Rattle.controller.specs.Limits.{IsBegun, IsPlanned};
-ghost use Rattle.controller.specs.Passes.{StandAfter, HasBegun, HaveBegun, HavePlanned, Carries, HaveEnded};
+ghost use Rattle.controller.specs.Passes.{StandAfter, HasBegun, HaveBegun, HavePlanned, CarriesFrames, HaveEnded};
 ghost use Rattle.controller.specs.Passes.{BeginsSlot, PlansSlot, SendsOne, EndsSlot, IsPlannedFrom};
 ghost use Rattle.controller.specs.Passes.{ArePayloadsBefore, ArePayloadsFor, IsPayloadBefore, IsPayloadFor};
 ghost use Rattle.controller.specs.Passes.{payload_handed};
@@ -181,7 +181,7 @@ pub fn plan_all(
         → HavePlanned (slot_after list.now script.now history) chosen.now 0 seats.new }
     ensures carries { (history : History) → length history ≡ slot
         → HaveBegun (slot_after list.now script.now history) 0 seats.old
-        → Carries (slot_after list.now script.now history)
+        → CarriesFrames (slot_after list.now script.now history)
         (frames_in (slot_after list.now script.now history) chosen.now) medium.new }
 {
     medium.begin(slot);
@@ -247,7 +247,7 @@ pub fn take_all(seats: &mut [Seat], medium: &Medium, list: &Medl, script: &Scrip
     ensures seats { AreSeats list.now IsEnded (most_ahead (medium.now.slot + 1)) first seats.new }
     ensures end { (history : History) (chosen : List Choice)
         → HavePlanned (slot_after list.now script.now history) chosen first seats.old
-        → Carries (slot_after list.now script.now history)
+        → CarriesFrames (slot_after list.now script.now history)
         (frames_in (slot_after list.now script.now history) chosen) medium.now
         → HaveEnded list.now script.now history chosen first seats.new }
 {

@@ -5,14 +5,14 @@ ghost use Rattle.ttp_world.specs.declared.node.Chosen.{Chosen as ChosenValue};
 ghost use Rattle.ttp_world.specs.Conduct.{cold_start_frame, node_frames};
 ghost use Rattle.ttp_world.specs.Medl.{IsValid, payload_length, schedule_limit};
 ghost use Rattle.ttp_world.specs.Membership.{AreNodes};
-ghost use Rattle.slot_clock.specs.StandsFor.{StandsFor};
+ghost use Rattle.slot_clock.specs.StandsFor.{ClockStandsFor};
 ghost use Rattle.ttp_frame.specs.FrameBytes.{bytes_of};
-ghost use Rattle.ttp_frame.specs.Shape.{IsShape, HaveRoom};
+ghost use Rattle.ttp_frame.specs.Shape.{IsFrameShape, HaveRoom};
 ghost use Rattle.controller.specs.Limits.{intent_by, loaded_length, message_carried};
 ghost use Rattle.controller.specs.ControllerWithin.{IsPossible};
 ghost use Rattle.controller.specs.Sending.{frame_at};
 ghost use Rattle.controller.specs.StandsFor.{frames_planned, payload_planned};
-ghost use Rattle.controller.specs.Within.{IsWithin};
+ghost use Rattle.controller.specs.Within.{IsPastWithin};
 
 use crate::controller::Intent;
 use crate::form::form_of;
@@ -27,7 +27,7 @@ const COLD_START: u8 = 3;
 
 // The bytes of a frame, ready to be sent.
 fn outgoing(frame: &FrameIn, start: u32) -> Outgoing
-    requires shape { IsShape frame.now.header (length frame.now.payload.now) }
+    requires shape { IsFrameShape frame.now.header (length frame.now.payload.now) }
     requires start { start < schedule_limit }
     requires members { HaveRoom frame.now.wide frame.now.cstate.members }
     ensures { result ≡ bytes_of frame.now start }
@@ -65,7 +65,7 @@ fn own_frame(list: &Medl, k: u8, coming: &SlotClock, members: NodeSet, payload: 
     requires valid { IsValid list.now }
     requires node { k < length list.now.slots }
     requires members { AreNodes list.now members }
-    requires place { StandsFor coming.now list.now coming.now.place }
+    requires place { ClockStandsFor coming.now list.now coming.now.place }
     requires payload { length payload.now ≡ payload_length list.now coming.now.place.round coming.now.place.slot }
     ensures { result ≡ frame_at list.now coming.now.place (with_node members k) payload.now }
 {
@@ -82,7 +82,7 @@ fn own_frame(list: &Medl, k: u8, coming: &SlotClock, members: NodeSet, payload: 
 /// Whether node k sends nothing, a frame without payload, or one with payload, by what it does.
 pub(crate) fn intent_of(list: &Medl, k: u8, node: &Node, act: Act) -> Intent
     requires valid { IsValid list.now }
-    requires within { IsWithin list.now k node.now }
+    requires within { IsPastWithin list.now k node.now }
     ensures { result ≡ intent_by list.now node.now act }
 {
     match act {
@@ -114,7 +114,7 @@ pub(crate) fn frame_of(
 ) -> Option<Outgoing>
     requires valid { IsValid list.now }
     requires node { k < length list.now.slots }
-    requires within { IsWithin list.now k node.now }
+    requires within { IsPastWithin list.now k node.now }
     requires possible { IsPossible list.now k node.now act }
     requires payload { length payload.now ≡ loaded_length list.now k (intent_by list.now node.now act) }
     ensures { (chosen : ChosenValue) → payload_planned list.now node.now chosen act ≡ payload.now

@@ -9,7 +9,7 @@ ghost use Rattle.ttp_world.specs.Medium.{is_sending};
 ghost use Rattle.ttp_world.specs.Medl.{IsValid, member_limit, member_width};
 ghost use Rattle.ttp_world.specs.Messages.{flags_of, is_left_phase, is_listening_phase, status_words};
 ghost use Rattle.ttp_world.specs.Past.{state_of};
-ghost use Rattle.controller.specs.Within.{IsWithin};
+ghost use Rattle.controller.specs.Within.{IsPastWithin};
 
 use crate::node::Node;
 use bitflags::{Flag, Flags, bitflag_items};
@@ -134,7 +134,7 @@ pub(crate) fn status_words(
     delivers: bool,
 ) -> StatusWords
     requires valid { IsValid list.now }
-    requires within { IsWithin list.now k node.now }
+    requires within { IsPastWithin list.now k node.now }
     ensures { result.words ≡ status_words list.now slot node.now delivers }
 {
     let state = node.state();

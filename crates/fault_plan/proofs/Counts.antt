@@ -2,8 +2,8 @@
 use Rattle.fault_plan.proofs.Words.{◌≡◌, ℕ, suc, ◌+◌, ◌-◌, ◌*◌, ◌<◌, ◌≤◌, Bool, true, false, length, Some, ◌⊎◌, refl}
 use Rattle.fault_plan.proofs.Words.{ap, sym, subst, ◌∙◌, inl, inr, arith, if◌then◌else◌, filter, cases_lt, cases_eq}
 use Rattle.fault_plan.proofs.Words.{eqb-true, both_ways, and_parts, and_from, false_from_ne_true, below, same_Some}
-use Rattle.fault_plan.proofs.Words.{Change, Incident, Plan, sender, incident_at, enters, Fate, Absent, Sound, Falling}
-use Rattle.fault_plan.proofs.Words.{Fallen, Listening, fate_of, is_good_slot, is_first_slot, is_shown_in}
+use Rattle.fault_plan.proofs.Words.{Change, Incident, FaultPlan, sender, incident_at, enters, Fate, Absent, Sound}
+use Rattle.fault_plan.proofs.Words.{Falling, Fallen, Listening, fate_of, is_good_slot, is_first_slot, is_shown_in}
 use Rattle.fault_plan.proofs.Words.{is_lasting_after, is_steady_after, steady_nodes, tally, IsGoodPlan, ledger_of}
 use Rattle.fault_plan.proofs.Words.{IsLossOf, IsTold}
 use Rattle.fault_plan.specs.Fates.{lasting_nodes}
@@ -17,14 +17,14 @@ use Rattle.fault_plan.proofs.Turns.{turns_apart}
 
 -- First own slots of lost nodes.
 
-record IsFirstOf (plan : Plan) (slot : ℕ) : Type 0 where
+record IsFirstOf (plan : FaultPlan) (slot : ℕ) : Type 0 where
   change : Change
   since : ℕ
   loss : IsLossOf plan (sender plan slot) change since
   from : since ≤ slot
   soon : slot < since + plan.nodes
 
-first-is : (plan : Plan) (slot : ℕ) (fate : Fate) → IsTold plan slot (sender plan slot) fate
+first-is : (plan : FaultPlan) (slot : ℕ) (fate : Fate) → IsTold plan slot (sender plan slot) fate
     → is_shown_in slot fate ≡ true → IsFirstOf plan slot
 first-is plan slot Absent told first = absurd (both_ways _ refl first)
 first-is plan slot Sound told first = absurd (both_ways _ refl first)
@@ -40,12 +40,12 @@ first-is plan slot (Fallen change since shown) told first =
       soon = omega (arith, told.soon, now);
     }
 
-first-of : (plan : Plan) (slot : ℕ) → IsGoodPlan plan → is_first_slot plan slot ≡ true → IsFirstOf plan slot
+first-of : (plan : FaultPlan) (slot : ℕ) → IsGoodPlan plan → is_first_slot plan slot ≡ true → IsFirstOf plan slot
 first-of plan slot good first =
     first-is plan slot (fate_of plan slot (sender plan slot)) (fate-told plan slot (sender plan slot) good) first
 
 -- two of them lie a round apart
-firsts-apart : (plan : Plan) (slot later : ℕ) → IsGoodPlan plan → slot < later → later < slot + plan.nodes
+firsts-apart : (plan : FaultPlan) (slot later : ℕ) → IsGoodPlan plan → slot < later → later < slot + plan.nodes
     → is_first_slot plan slot ≡ true → is_first_slot plan later ≡ true → ⊥
 firsts-apart plan slot later good less near one two =
     let first = first-of plan slot good one in
@@ -72,7 +72,7 @@ firsts-apart plan slot later good less near one two =
       ]
     ]
 
-pub bad-own : (plan : Plan) (slot k : ℕ) → IsGoodPlan plan → k < plan.nodes → (ledger_of plan slot k).bad ≤ 1
+pub bad-own : (plan : FaultPlan) (slot k : ℕ) → IsGoodPlan plan → k < plan.nodes → (ledger_of plan slot k).bad ≤ 1
 bad-own plan slot k good less =
     let ledger = ledger_of plan slot k in
     let told = ledger-told plan slot k good less in
@@ -81,7 +81,7 @@ bad-own plan slot k good less =
     firsts-apart plan u v good before (omega (arith, told.near, told.within)) one two))
 
 -- In a first round, after the start or after an entry, no loss is near.
-loss-far : (plan : Plan) (slot base k since : ℕ) (incident : Incident) → IsGoodPlan plan
+loss-far : (plan : FaultPlan) (slot base k since : ℕ) (incident : Incident) → IsGoodPlan plan
     → incident_at plan since ≡ Some incident → (base ≡ 0) ⊎ (enters plan base k ≡ true) → slot < base + plan.nodes
     → since ≤ slot → since + 2 * plan.nodes ≤ base
 loss-far plan slot base k since incident good found (inl start) near from =
@@ -97,7 +97,7 @@ loss-far plan slot base k since incident good found (inr enter) near from =
       | inr late ↦ absurd (omega (arith, late, at, near, from, good.count))
     ]
 
-pub bad-first : (plan : Plan) (slot k : ℕ) → IsGoodPlan plan → k < plan.nodes → (ledger_of plan slot k).own ≡ false
+pub bad-first : (plan : FaultPlan) (slot k : ℕ) → IsGoodPlan plan → k < plan.nodes → (ledger_of plan slot k).own ≡ false
     → (ledger_of plan slot k).bad ≡ 0
 bad-first plan slot k good less none =
     let ledger = ledger_of plan slot k in
@@ -113,7 +113,7 @@ bad-first plan slot k good less none =
 -- Good slots.
 
 -- in each round there are as many good slots, whose senders pass a test, as nodes that pass it and last to its end
-good-round : (plan : Plan) (p q : ℕ → Bool) (slot from : ℕ) → from + plan.nodes ≡ suc slot
+good-round : (plan : FaultPlan) (p q : ℕ → Bool) (slot from : ℕ) → from + plan.nodes ≡ suc slot
     → ((u : ℕ) → u ≤ slot → slot < u + plan.nodes → p (sender plan u) ≡ true → q u ≡ true)
     → length (filter p (below plan.nodes)) ≤ tally q from plan.nodes
 good-round plan p q slot from is tells =
@@ -123,7 +123,8 @@ good-round plan p q slot from is tells =
     (λ u above to passes. tells u (omega (arith, is)) (omega (arith, is, above)) passes) in
     omega (arith, all, fewer)
 
-pub four-measured : (plan : Plan) (slot from : ℕ) → IsGoodPlan plan → slot < plan.slots → from + plan.nodes ≡ suc slot
+pub four-measured : (plan : FaultPlan) (slot from : ℕ) → IsGoodPlan plan → slot < plan.slots
+    → from + plan.nodes ≡ suc slot
     → 4 ≤ tally (is_measured plan) from plan.nodes
 four-measured plan slot from good within is =
     let steady = good.steady slot within in
@@ -142,7 +143,7 @@ count-front : (p : ℕ → Bool) (from many nodes : ℕ) → nodes ≡ suc many 
 count-front p from many nodes is =
     subst (λ n. tally p from n ≤ suc (tally p from many)) (sym is) (one-more (p (from + many)) (tally p from many))
 
-pub seen-round : (plan : Plan) (slot k : ℕ) → IsGoodPlan plan → k < plan.nodes → sender plan (suc slot) ≡ k
+pub seen-round : (plan : FaultPlan) (slot k : ℕ) → IsGoodPlan plan → k < plan.nodes → sender plan (suc slot) ≡ k
     → (ledger_of plan slot k).own ≡ true → length (lasting_nodes plan slot) ≤ suc (ledger_of plan slot k).seen
 seen-round plan slot k good less turn own =
     let ledger = ledger_of plan slot k in
@@ -163,7 +164,7 @@ seen-round plan slot k good less turn own =
     omega (arith, all, front, fewer, told.seen)
 
 -- of which there are four or more
-steady-lasting : (plan : Plan) (slot : ℕ) → length (steady_nodes plan slot) ≤ length (lasting_nodes plan slot)
+steady-lasting : (plan : FaultPlan) (slot : ℕ) → length (steady_nodes plan slot) ≤ length (lasting_nodes plan slot)
 steady-lasting plan slot =
     let few =
     count-fewer (is_steady_after plan slot) (is_lasting_after plan slot) 0 plan.nodes (λ u above to steady.
@@ -172,7 +173,8 @@ steady-lasting plan slot =
     let two = count-below (is_lasting_after plan slot) plan.nodes in
     omega (arith, few, one, two)
 
-pub four-lasting : (plan : Plan) (slot : ℕ) → IsGoodPlan plan → slot < plan.slots → 4 ≤ length (lasting_nodes plan slot)
+pub four-lasting : (plan : FaultPlan) (slot : ℕ) → IsGoodPlan plan → slot < plan.slots
+    → 4 ≤ length (lasting_nodes plan slot)
 four-lasting plan slot good within =
     let steady = good.steady slot within in
     let few = steady-lasting plan slot in

@@ -4,7 +4,7 @@ use Rattle.fault_plan.proofs.Words.{sym, true, ℕ, ◌*◌, ◌+◌, ◌-◌, �
 use Rattle.fault_plan.proofs.Words.{none-some, Contains, filter, is_some, ◌==◌, has_node-sieve, has_node, ClusterStart}
 use Rattle.fault_plan.proofs.Words.{FaultyNode, expected_sender, loses, plan_at, two_rounds, flipped_bits, has_jump}
 use Rattle.fault_plan.proofs.Words.{is_ever_on, is_on, on_slot, Medl, Channel, Script, is_sound_after, steady_nodes}
-use Rattle.fault_plan.proofs.Words.{IsGoodPlan, FollowsPlan, IsHeardByPlan, IsWithinBounds, Incident, Plan, Return}
+use Rattle.fault_plan.proofs.Words.{IsGoodPlan, FollowsPlan, IsHeardByPlan, IsWithinBounds, Incident, FaultPlan, Return}
 use Rattle.fault_plan.proofs.Words.{incident_at, planned_incident, sender}
 use Rattle.std.proofs.Common.{option_map}
 use Rattle.ttp_world.proofs.Lists.{nodes-most}
@@ -20,7 +20,7 @@ use Rattle.fault_plan.proofs.Members.{first-good, first-sender}
 use Rattle.fault_plan.proofs.Persists.{sound-first}
 
 -- the plan of some faulty nodes and returns
-abbrev pub plan_with : Medl → Script → ClusterStart → List FaultyNode → List Return → Plan
+abbrev pub plan_with : Medl → Script → ClusterStart → List FaultyNode → List Return → FaultPlan
 plan_with list script start faulty returns = record {
   nodes = length list.slots;
   starter = start.node;
@@ -56,7 +56,7 @@ enough false found slot none = absurd (none-some _ (sym none))
 
 module _ {list : Medl} {script : Script} {start : ClusterStart} {at : ℕ → List ℕ} {all : ℕ → List FaultyNode}
     (course : IsCourse list script start at all) (returns : List Return) where
-  abbrev plan : Plan
+  abbrev plan : FaultPlan
   plan = plan_with list script start (all script.slots) returns
 
   loss-after : (turn : ℕ) (incident : Incident) → ((slot k : ℕ) → slot ≡ start.slot + turn → suc slot < script.slots
@@ -138,7 +138,7 @@ module _ {list : Medl} {script : Script} {start : ClusterStart} {at : ℕ → Li
   }
 
 -- the cold start is heard
-pub start-heard : (list : Medl) (script : Script) (start : ClusterStart) (plan : Plan) (k : ℕ)
+pub start-heard : (list : Medl) (script : Script) (start : ClusterStart) (plan : FaultPlan) (k : ℕ)
     → FollowsPlan list script start plan → start.slot < script.slots → k < length list.slots → k ≢ start.node
     → is_on script k start.slot ≡ true → loses script start.node start.slot k ≡ false
 start-heard list script start plan k follows within less other on =

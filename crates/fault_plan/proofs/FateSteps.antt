@@ -1,8 +1,8 @@
 -- What a slot makes of a fate.
 use Rattle.fault_plan.proofs.Words.{◌≡◌, ℕ, Bool, true, false, cond, not, ◌&&◌, ◌||◌, Option, Some, None, refl, ap, sym}
-use Rattle.fault_plan.proofs.Words.{◌∙◌, both_ways, and_parts, ◌==◌, Change, Incident, Plan, sender, incident_at}
+use Rattle.fault_plan.proofs.Words.{◌∙◌, both_ways, and_parts, ◌==◌, Change, Incident, FaultPlan, sender, incident_at}
 use Rattle.fault_plan.proofs.Words.{is_armed_by, enters, Fate, Absent, Sound, Falling, Fallen, Listening, struck}
-use Rattle.fault_plan.proofs.Words.{turned, next_fate, is_sound, is_lost, lost_since, and-true}
+use Rattle.fault_plan.proofs.Words.{turned, next_fate, is_sound_fate, is_lost, lost_since, and-true}
 use Rattle.fault_plan.specs.Fates.{armed_in, entered_in}
 
 -- an incident is that of a node
@@ -28,7 +28,7 @@ turned-same read true slot (Listening since) alike = refl
 turned-same read false slot fate alike = refl
 
 -- the fate of a sound node
-pub sound-fate : (fate : Fate) → is_sound fate ≡ true → fate ≡ Sound
+pub sound-fate : (fate : Fate) → is_sound_fate fate ≡ true → fate ≡ Sound
 sound-fate Sound sound = refl
 sound-fate Absent sound = absurd (both_ways _ refl sound)
 sound-fate (Falling change since) sound = absurd (both_ways _ refl sound)
@@ -36,7 +36,7 @@ sound-fate (Fallen change since shown) sound = absurd (both_ways _ refl sound)
 sound-fate (Listening since) sound = absurd (both_ways _ refl sound)
 
 sound-hit : (hit : Bool) (change : Change) (slot : ℕ) (fate : Fate)
-    → is_sound (cond hit (Falling change slot) fate) ≡ (is_sound fate && not hit)
+    → is_sound_fate (cond hit (Falling change slot) fate) ≡ (is_sound_fate fate && not hit)
 sound-hit true change slot Absent = refl
 sound-hit true change slot Sound = refl
 sound-hit true change slot (Falling c since) = refl
@@ -54,8 +54,8 @@ lost-hit true change slot fate = refl
 lost-hit false change slot fate = refl
 
 sound-struck : (slot k : ℕ) (fate : Fate) (found : Option Incident)
-    → is_sound (struck slot k fate found) ≡ (is_sound fate && not (strikes found k))
-sound-struck slot k fate None = and-true (is_sound fate)
+    → is_sound_fate (struck slot k fate found) ≡ (is_sound_fate fate && not (strikes found k))
+sound-struck slot k fate None = and-true (is_sound_fate fate)
 sound-struck slot k fate (Some incident) = sound-hit (incident.node == k) incident.change slot fate
 
 lost-struck : (slot k : ℕ) (fate : Fate) (found : Option Incident)
@@ -64,7 +64,8 @@ lost-struck slot k fate None = refl
 lost-struck slot k fate (Some incident) = lost-hit (incident.node == k) incident.change slot fate
 
 -- A node that neither listens again from a slot on nor enters in it is as the incident and its turn make it.
-pub next-same : (plan : Plan) (slot k : ℕ) (fate : Fate) → is_armed_by plan slot k ≡ false → enters plan slot k ≡ false
+pub next-same : (plan : FaultPlan) (slot k : ℕ) (fate : Fate) → is_armed_by plan slot k ≡ false
+    → enters plan slot k ≡ false
     → next_fate plan slot k fate ≡ turned (sender plan slot == k) slot (struck slot k fate (incident_at plan slot))
 next-same plan slot k fate armed entered =
     λ i. turned (sender plan slot == k) slot
@@ -75,7 +76,7 @@ turned-sound true slot = refl
 turned-sound false slot = refl
 
 -- one that enters is sound
-pub next-entered : (plan : Plan) (slot k : ℕ) (fate : Fate) → enters plan slot k ≡ true
+pub next-entered : (plan : FaultPlan) (slot k : ℕ) (fate : Fate) → enters plan slot k ≡ true
     → next_fate plan slot k fate ≡ Sound
 next-entered plan slot k fate entered =
     ap (λ b. turned (sender plan slot == k) slot
@@ -87,7 +88,8 @@ turned-listening true slot since = refl
 turned-listening false slot since = refl
 
 -- one that is armed listens
-pub next-armed : (plan : Plan) (slot k : ℕ) (fate : Fate) → is_armed_by plan slot k ≡ true → enters plan slot k ≡ false
+pub next-armed : (plan : FaultPlan) (slot k : ℕ) (fate : Fate) → is_armed_by plan slot k ≡ true
+    → enters plan slot k ≡ false
     → incident_at plan slot ≡ None → next_fate plan slot k fate ≡ Listening slot
 next-armed plan slot k fate armed entered quiet =
     (λ i. turned (sender plan slot == k) slot
@@ -95,36 +97,39 @@ next-armed plan slot k fate armed entered quiet =
     ∙ turned-listening (sender plan slot == k) slot slot
 
 -- and goes on to
-pub next-listening : (plan : Plan) (slot k since : ℕ) → is_armed_by plan slot k ≡ false → enters plan slot k ≡ false
+pub next-listening : (plan : FaultPlan) (slot k since : ℕ) → is_armed_by plan slot k ≡ false
+    → enters plan slot k ≡ false
     → incident_at plan slot ≡ None → next_fate plan slot k (Listening since) ≡ Listening since
 next-listening plan slot k since armed entered quiet =
     (λ i. turned (sender plan slot == k) slot
     (entered_in (entered i) (struck slot k (armed_in (armed i) slot (Listening since)) (quiet i))))
     ∙ turned-listening (sender plan slot == k) slot since
 
-pub sound-next : (plan : Plan) (slot k : ℕ) (fate : Fate) → is_armed_by plan slot k ≡ false → enters plan slot k ≡ false
-    → is_sound (next_fate plan slot k fate) ≡ (is_sound fate && not (strikes (incident_at plan slot) k))
+pub sound-next : (plan : FaultPlan) (slot k : ℕ) (fate : Fate) → is_armed_by plan slot k ≡ false
+    → enters plan slot k ≡ false
+    → is_sound_fate (next_fate plan slot k fate) ≡ (is_sound_fate fate && not (strikes (incident_at plan slot) k))
 sound-next plan slot k fate armed entered =
-    ap is_sound (next-same plan slot k fate armed entered)
-    ∙ turned-same is_sound (sender plan slot == k) slot (struck slot k fate (incident_at plan slot))
+    ap is_sound_fate (next-same plan slot k fate armed entered)
+    ∙ turned-same is_sound_fate (sender plan slot == k) slot (struck slot k fate (incident_at plan slot))
     (λ change since shown. refl) ∙ sound-struck slot k fate (incident_at plan slot)
 
 -- only an entry makes a node sound
-pub sound-from : (plan : Plan) (slot k : ℕ) (fate : Fate) → enters plan slot k ≡ false
-    → is_sound (next_fate plan slot k fate) ≡ true → is_sound fate ≡ true
+pub sound-from : (plan : FaultPlan) (slot k : ℕ) (fate : Fate) → enters plan slot k ≡ false
+    → is_sound_fate (next_fate plan slot k fate) ≡ true → is_sound_fate fate ≡ true
 sound-from plan slot k fate entered sound = by (is_armed_by plan slot k) refl
   where
-    by : (armed : Bool) → is_armed_by plan slot k ≡ armed → is_sound fate ≡ true
+    by : (armed : Bool) → is_armed_by plan slot k ≡ armed → is_sound_fate fate ≡ true
     by true armed =
         let listens = struck slot k (Listening slot) (incident_at plan slot) in
         absurd (both_ways _ (sound-struck slot k (Listening slot) (incident_at plan slot))
-        (sym (turned-same is_sound (sender plan slot == k) slot listens (λ change since shown. refl))
-        ∙ (λ i. is_sound (turned (sender plan slot == k) slot
+        (sym (turned-same is_sound_fate (sender plan slot == k) slot listens (λ change since shown. refl))
+        ∙ (λ i. is_sound_fate (turned (sender plan slot == k) slot
         (entered_in (sym entered i) (struck slot k (armed_in (sym armed i) slot fate) (incident_at plan slot)))))
         ∙ sound))
     by false armed = (and_parts _ _ (sym (sound-next plan slot k fate armed entered) ∙ sound)).0
 
-pub lost-next : (plan : Plan) (slot k : ℕ) (fate : Fate) → is_armed_by plan slot k ≡ false → enters plan slot k ≡ false
+pub lost-next : (plan : FaultPlan) (slot k : ℕ) (fate : Fate) → is_armed_by plan slot k ≡ false
+    → enters plan slot k ≡ false
     → is_lost (next_fate plan slot k fate) ≡ (strikes (incident_at plan slot) k || is_lost fate)
 lost-next plan slot k fate armed entered =
     ap is_lost (next-same plan slot k fate armed entered)
@@ -141,14 +146,16 @@ since-hit : (slot k : ℕ) (fate : Fate) (found : Option Incident) → strikes f
 since-hit slot k fate None hit = cc
 since-hit slot k fate (Some incident) hit = rw hit
 
-pub since-kept : (plan : Plan) (slot k : ℕ) (fate : Fate) → is_armed_by plan slot k ≡ false → enters plan slot k ≡ false
+pub since-kept : (plan : FaultPlan) (slot k : ℕ) (fate : Fate) → is_armed_by plan slot k ≡ false
+    → enters plan slot k ≡ false
     → strikes (incident_at plan slot) k ≡ false → lost_since (next_fate plan slot k fate) ≡ lost_since fate
 since-kept plan slot k fate armed entered missed =
     ap lost_since (next-same plan slot k fate armed entered)
     ∙ turned-same lost_since (sender plan slot == k) slot (struck slot k fate (incident_at plan slot))
     (λ change since shown. refl) ∙ since-struck slot k fate (incident_at plan slot) missed
 
-pub since-now : (plan : Plan) (slot k : ℕ) (fate : Fate) → is_armed_by plan slot k ≡ false → enters plan slot k ≡ false
+pub since-now : (plan : FaultPlan) (slot k : ℕ) (fate : Fate) → is_armed_by plan slot k ≡ false
+    → enters plan slot k ≡ false
     → strikes (incident_at plan slot) k ≡ true → lost_since (next_fate plan slot k fate) ≡ Some slot
 since-now plan slot k fate armed entered hit =
     ap lost_since (next-same plan slot k fate armed entered)

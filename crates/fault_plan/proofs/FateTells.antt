@@ -2,7 +2,7 @@
 use Rattle.fault_plan.proofs.Words.{◌≡◌, ◌≢◌, ℕ, zero, suc, ◌+◌, ◌*◌, ◌<◌, ◌≤◌, Bool, true, false, cond, Option, Some}
 use Rattle.fault_plan.proofs.Words.{None, refl, ap, sym, subst, ◌∙◌, inl, inr, arith, ◌==◌, cases_lt, cases_eq}
 use Rattle.fault_plan.proofs.Words.{eqb-true, eqb-false, both_ways, ltb-true, le-ltb, false_from_ne_true, Contains}
-use Rattle.fault_plan.proofs.Words.{same_Some, eq-or-lt_of_le, has_node, Change, Sending, Incident, Return, Plan}
+use Rattle.fault_plan.proofs.Words.{same_Some, eq-or-lt_of_le, has_node, Change, Sending, Incident, Return, FaultPlan}
 use Rattle.fault_plan.proofs.Words.{sender, incident_at, is_armed_by, enters, Fate, Absent, Sound, Falling, Fallen}
 use Rattle.fault_plan.proofs.Words.{Listening, fate_at_begin, struck, turned, fate_of, is_lost, lost_since, may_stay}
 use Rattle.fault_plan.proofs.Words.{IsGoodPlan, IsLossOf, IsTold}
@@ -13,20 +13,20 @@ use Rattle.fault_plan.proofs.Tests.{never-found}
 use Rattle.fault_plan.proofs.Turns.{next_turn}
 
 -- no incident comes at the start
-pub none-first : (plan : Plan) → IsGoodPlan plan → incident_at plan 0 ≡ None
+pub none-first : (plan : FaultPlan) → IsGoodPlan plan → incident_at plan 0 ≡ None
 none-first plan good =
     never-found (incident_at plan 0) (λ incident found.
     let late = good.late 0 incident found in
     omega (arith, late, good.count))
 
 -- the losses of a good plan
-pub loss-sending : (plan : Plan) (k since : ℕ) (change : Change) → IsGoodPlan plan → IsLossOf plan k change since
+pub loss-sending : (plan : FaultPlan) (k since : ℕ) (change : Change) → IsGoodPlan plan → IsLossOf plan k change since
     → change ≡ Sending → sender plan since ≡ k
 loss-sending plan k zero change good loss is = absurd (omega (arith, loss.late, good.count))
 loss-sending plan k (suc slot) change good loss is =
     (good.losses slot loss.incident loss.found).sending (loss.how ∙ is) ∙ loss.node
 
-pub loss-node : (plan : Plan) (k since : ℕ) (change : Change) → IsGoodPlan plan → IsLossOf plan k change since
+pub loss-node : (plan : FaultPlan) (k since : ℕ) (change : Change) → IsGoodPlan plan → IsLossOf plan k change since
     → k < plan.nodes
 loss-node plan k zero change good loss = absurd (omega (arith, loss.late, good.count))
 loss-node plan k (suc slot) change good loss =
@@ -34,13 +34,13 @@ loss-node plan k (suc slot) change good loss =
 
 -- One slot.
 
-told-begin : (plan : Plan) (k : ℕ) (own begins : Bool) → IsTold plan 0 k (turned own 0 (cond begins Sound Absent))
+told-begin : (plan : FaultPlan) (k : ℕ) (own begins : Bool) → IsTold plan 0 k (turned own 0 (cond begins Sound Absent))
 told-begin plan k true true = tt
 told-begin plan k true false = tt
 told-begin plan k false true = tt
 told-begin plan k false false = tt
 
-fallen-kept : (plan : Plan) (slot k since shown : ℕ) (change : Change) → IsFallen plan slot k change since shown
+fallen-kept : (plan : FaultPlan) (slot k since shown : ℕ) (change : Change) → IsFallen plan slot k change since shown
     → IsFallen plan (suc slot) k change since shown
 fallen-kept plan slot k since shown change told = record {
   loss = told.loss;
@@ -51,7 +51,7 @@ fallen-kept plan slot k since shown change told = record {
 }
 
 -- the slot in which a node enters is still to come, where it does not enter in this one
-not-yet : (plan : Plan) (r : Return) (slot k : ℕ) → Contains plan.returns r → r.node ≡ k → slot ≤ r.entered
+not-yet : (plan : FaultPlan) (r : Return) (slot k : ℕ) → Contains plan.returns r → r.node ≡ k → slot ≤ r.entered
     → enters plan slot k ≡ false → slot < plan.slots → slot < r.entered
 not-yet plan r slot k among node to none within = elim (eq-or-lt_of_le to) [
   | inl same ↦
@@ -60,7 +60,8 @@ not-yet plan r slot k among node to none within = elim (eq-or-lt_of_le to) [
   | inr less ↦ less
 ]
 
-listening-kept : (plan : Plan) (slot k since : ℕ) → enters plan (suc slot) k ≡ false → IsListening plan slot k since
+listening-kept : (plan : FaultPlan) (slot k since : ℕ) → enters plan (suc slot) k ≡ false
+    → IsListening plan slot k since
     → IsListening plan (suc slot) k since
 listening-kept plan slot k since none told =
     let r = told.return in
@@ -77,7 +78,8 @@ listening-kept plan slot k since none told =
     }
 
 -- of a node that no incident loses, and that neither listens again nor enters in this slot
-told-kept : (plan : Plan) (slot k : ℕ) (own : Bool) (fate : Fate) → IsGoodPlan plan → enters plan (suc slot) k ≡ false
+told-kept : (plan : FaultPlan) (slot k : ℕ) (own : Bool) (fate : Fate) → IsGoodPlan plan
+    → enters plan (suc slot) k ≡ false
     → (sender plan (suc slot) == k) ≡ own → IsTold plan slot k fate
     → IsTold plan (suc slot) k (turned own (suc slot) fate)
 told-kept plan slot k true Absent good none turn told = tt
@@ -118,7 +120,7 @@ told-kept plan slot k false (Fallen change since shown) good none turn told =
     fallen-kept plan slot k since shown change told
 
 -- of a node that one loses
-told-lost : (plan : Plan) (slot k : ℕ) (own : Bool) (incident : Incident) → IsGoodPlan plan
+told-lost : (plan : FaultPlan) (slot k : ℕ) (own : Bool) (incident : Incident) → IsGoodPlan plan
     → (sender plan (suc slot) == k) ≡ own → incident_at plan (suc slot) ≡ Some incident → incident.node ≡ k
     → IsTold plan (suc slot) k (turned own (suc slot) (Falling incident.change (suc slot)))
 told-lost plan slot k own incident good turn found node =
@@ -150,7 +152,7 @@ told-lost plan slot k own incident good turn found node =
           eqb-false _ _ turn (ap (sender plan) (sym same) ∙ at);
     }
 
-told-hit : (plan : Plan) (slot k : ℕ) (fate : Fate) (incident : Incident) (hit : Bool) → IsGoodPlan plan
+told-hit : (plan : FaultPlan) (slot k : ℕ) (fate : Fate) (incident : Incident) (hit : Bool) → IsGoodPlan plan
     → enters plan (suc slot) k ≡ false → incident_at plan (suc slot) ≡ Some incident → (incident.node == k) ≡ hit
     → IsTold plan slot k fate
     → IsTold plan (suc slot) k
@@ -160,7 +162,7 @@ told-hit plan slot k fate incident true good none found hit told =
 told-hit plan slot k fate incident false good none found hit told =
     told-kept plan slot k (sender plan (suc slot) == k) fate good none refl told
 
-told-next : (plan : Plan) (slot k : ℕ) (fate : Fate) (found : Option Incident) → IsGoodPlan plan
+told-next : (plan : FaultPlan) (slot k : ℕ) (fate : Fate) (found : Option Incident) → IsGoodPlan plan
     → enters plan (suc slot) k ≡ false → incident_at plan (suc slot) ≡ found → IsTold plan slot k fate
     → IsTold plan (suc slot) k (turned (sender plan (suc slot) == k) (suc slot) (struck (suc slot) k fate found))
 told-next plan slot k fate None good none is told =
@@ -169,7 +171,8 @@ told-next plan slot k fate (Some incident) good none is told =
     told-hit plan slot k fate incident (incident.node == k) good none is refl told
 
 -- of a node that listens again
-armed-told : (plan : Plan) (slot k : ℕ) → IsGoodPlan plan → is_armed_by plan slot k ≡ true → enters plan slot k ≡ false
+armed-told : (plan : FaultPlan) (slot k : ℕ) → IsGoodPlan plan → is_armed_by plan slot k ≡ true
+    → enters plan slot k ≡ false
     → IsListening plan slot k slot
 armed-told plan slot k good is none =
     let found = armed-is plan slot k is in
@@ -185,7 +188,7 @@ armed-told plan slot k good is none =
       waits = not-yet plan found.return slot k found.among found.node (omega (arith, at, after)) none;
     }
 
-pub fate-told : (plan : Plan) (slot k : ℕ) → IsGoodPlan plan → IsTold plan slot k (fate_of plan slot k)
+pub fate-told : (plan : FaultPlan) (slot k : ℕ) → IsGoodPlan plan → IsTold plan slot k (fate_of plan slot k)
 fate-told plan zero k good =
     let own = sender plan 0 == k in
     subst (IsTold plan 0 k)
@@ -209,14 +212,14 @@ fate-told plan (suc slot) k good =
 
 -- A lost node that may still stay after a slot was lost less than two rounds before the next.
 
-pub record StaysSince (plan : Plan) (slot k : ℕ) : Type 0 where
+pub record StaysSince (plan : FaultPlan) (slot k : ℕ) : Type 0 where
   pub change : Change
   pub since : ℕ
   pub loss : IsLossOf plan k change since
   pub from : since ≤ slot
   pub near : suc slot < since + 2 * plan.nodes
 
-stays : (plan : Plan) (slot k : ℕ) (fate : Fate) → IsTold plan slot k fate → may_stay plan.nodes slot fate ≡ true
+stays : (plan : FaultPlan) (slot k : ℕ) (fate : Fate) → IsTold plan slot k fate → may_stay plan.nodes slot fate ≡ true
     → StaysSince plan slot k
 stays plan slot k Absent told may = absurd (both_ways _ refl may)
 stays plan slot k Sound told may = absurd (both_ways _ refl may)
@@ -237,13 +240,15 @@ stays plan slot k (Fallen change since shown) told may = record {
 }
 
 -- two losses of one slot are one
-same-loss : (plan : Plan) (j k since : ℕ) (one other : Change) → IsLossOf plan j one since → IsLossOf plan k other since
+same-loss : (plan : FaultPlan) (j k since : ℕ) (one other : Change) → IsLossOf plan j one since
+    → IsLossOf plan k other since
     → j ≡ k
 same-loss plan j k since one other first second =
     let same : first.incident ≡ second.incident = same_Some _ _ (sym first.found ∙ second.found) in
     sym first.node ∙ ap (λ (i : Incident). i.node) same ∙ second.node
 
-pub one-stays : (plan : Plan) (slot j k : ℕ) → IsGoodPlan plan → may_stay plan.nodes slot (fate_of plan slot j) ≡ true
+pub one-stays : (plan : FaultPlan) (slot j k : ℕ) → IsGoodPlan plan
+    → may_stay plan.nodes slot (fate_of plan slot j) ≡ true
     → may_stay plan.nodes slot (fate_of plan slot k) ≡ true → j ≡ k
 one-stays plan slot j k good first second =
     let one = stays plan slot j (fate_of plan slot j) (fate-told plan slot j good) first in
@@ -266,7 +271,7 @@ one-stays plan slot j k good first second =
     ]
 
 -- none that was lost before still stays when another is
-pub none-stays : (plan : Plan) (slot k : ℕ) (incident : Incident) → IsGoodPlan plan
+pub none-stays : (plan : FaultPlan) (slot k : ℕ) (incident : Incident) → IsGoodPlan plan
     → incident_at plan (suc slot) ≡ Some incident → may_stay plan.nodes slot (fate_of plan slot k) ≡ false
 none-stays plan slot k incident good found =
     false_from_ne_true _ (λ may.
@@ -277,7 +282,7 @@ none-stays plan slot k incident good found =
 
 -- Two rounds after its loss it does not stay.
 
-over-by : (plan : Plan) (slot k since : ℕ) (fate : Fate) → IsTold plan slot k fate → lost_since fate ≡ Some since
+over-by : (plan : FaultPlan) (slot k since : ℕ) (fate : Fate) → IsTold plan slot k fate → lost_since fate ≡ Some since
     → since + 2 * plan.nodes ≤ suc slot → may_stay plan.nodes slot fate ≡ false
 over-by plan slot k since Absent told is over = refl
 over-by plan slot k since Sound told is over = refl
@@ -289,21 +294,21 @@ over-by plan slot k since (Fallen change at shown) told is over =
     let same : at ≡ since = same_Some _ _ is in
     le-ltb _ _ (omega (arith, told.soon))
 
-pub over : (plan : Plan) (slot k since : ℕ) → IsGoodPlan plan → lost_since (fate_of plan slot k) ≡ Some since
+pub over : (plan : FaultPlan) (slot k since : ℕ) → IsGoodPlan plan → lost_since (fate_of plan slot k) ≡ Some since
     → since + 2 * plan.nodes ≤ suc slot → may_stay plan.nodes slot (fate_of plan slot k) ≡ false
 over plan slot k since good is after =
     over-by plan slot k since (fate_of plan slot k) (fate-told plan slot k good) is after
 
 -- A node that is armed was lost two rounds before, so that its first own slot since then has come.
 
-pub record WasFallen (plan : Plan) (slot k : ℕ) : Type 0 where
+pub record WasFallen (plan : FaultPlan) (slot k : ℕ) : Type 0 where
   pub change : Change
   pub since : ℕ
   pub shown : ℕ
   pub was : fate_of plan slot k ≡ Fallen change since shown
   pub early : since + 2 * plan.nodes ≤ suc slot
 
-loss-early : (plan : Plan) (slot k since : ℕ) (change : Change) → IsGoodPlan plan → IsLossOf plan k change since
+loss-early : (plan : FaultPlan) (slot k since : ℕ) (change : Change) → IsGoodPlan plan → IsLossOf plan k change since
     → since ≤ slot → is_armed_by plan (suc slot) k ≡ true → since + 2 * plan.nodes ≤ suc slot
 loss-early plan slot k since change good loss from is =
     let found = armed-is plan (suc slot) k is in
@@ -315,7 +320,7 @@ loss-early plan slot k since change good loss from is =
       | inr late ↦ absurd (omega (arith, late, at, after, from))
     ]
 
-pub armed-fallen : (plan : Plan) (slot k : ℕ) → IsGoodPlan plan → is_armed_by plan (suc slot) k ≡ true
+pub armed-fallen : (plan : FaultPlan) (slot k : ℕ) → IsGoodPlan plan → is_armed_by plan (suc slot) k ≡ true
     → WasFallen plan slot k
 armed-fallen plan slot k good is =
     by (fate_of plan slot k) refl (fate-told plan slot k good) (armed-lost plan slot k good is)

@@ -3,8 +3,8 @@ use Rattle.fault_plan.proofs.Words.{Bool, List, [], ap, arith, cond, false, leng
 use Rattle.fault_plan.proofs.Words.{zero, ℕ, ◌&&◌, ◌+◌, ◌<◌, ◌||◌, ◌∙◌, ◌≡◌, ◌≤◌, filter, has_node-sieve, below}
 use Rattle.fault_plan.proofs.Words.{has_node, and-true, has_node-append, ClusterStart, faulty_nodes_before}
 use Rattle.fault_plan.proofs.Words.{has_four_steady, numbers_of, flipped_bits, is_ever_on, Medl, Channel, Script}
-use Rattle.fault_plan.proofs.Words.{Absent, Fate, Sound, fate_at_begin, fate_of, is_lost, is_sound, next_fate}
-use Rattle.fault_plan.proofs.Words.{IsWithinBounds, Plan, plan_of}
+use Rattle.fault_plan.proofs.Words.{Absent, Fate, Sound, fate_at_begin, fate_of, is_lost, is_sound_fate, next_fate}
+use Rattle.fault_plan.proofs.Words.{IsWithinBounds, FaultPlan, fault_plan_of}
 use Rattle.fault_plan.proofs.Courses.{IsCourse, made_of}
 use Rattle.fault_plan.proofs.FateSteps.{lost-next, sound-next}
 use Rattle.fault_plan.proofs.Incidents.{all-early, strikes-slot}
@@ -34,7 +34,7 @@ faulty-next list script start slot k =
 
 -- The fates after a slot.
 
-pub sound-begin : (b : Bool) → is_sound (cond b Sound Absent) ≡ b
+pub sound-begin : (b : Bool) → is_sound_fate (cond b Sound Absent) ≡ b
 sound-begin true = refl
 sound-begin false = refl
 
@@ -51,11 +51,11 @@ still-sound false made faulty = refl
 
 pub record FateIsKnown (list : Medl) (script : Script) (faulty : List ℕ) (k : ℕ) (fate : Fate) : Type 0 where
   pub lost : is_lost fate ≡ has_node faulty k
-  pub sound : is_sound fate ≡ (is_ever_on script k && not (has_node faulty k))
+  pub sound : is_sound_fate fate ≡ (is_ever_on script k && not (has_node faulty k))
 
 module _ {list : Medl} {script : Script} {start : ClusterStart} (run : IsSingleFault list script start) where
-  abbrev plan : Plan
-  plan = plan_of list script start
+  abbrev plan : FaultPlan
+  plan = fault_plan_of list script start
 
   abbrev IsKnown : ℕ → ℕ → Fate → Type 0
   IsKnown slot k fate = FateIsKnown list script (faulty_before list script start slot) k fate
@@ -84,7 +84,7 @@ module _ {list : Medl} {script : Script} {start : ClusterStart} (run : IsSingleF
 
   pub fates-known : (turn slot k : ℕ) → slot ≡ start.slot + turn → slot < script.slots → k < length list.slots
       → FateIsKnown list script (faulty_before list script start (suc slot)) k
-      (fate_of (plan_of list script start) turn k)
+      (fate_of (fault_plan_of list script start) turn k)
   fates-known zero slot k is within less =
       known-next 0 slot k (fate_at_begin plan k) is within
       (subst (λ faulty. FateIsKnown list script (numbers_of faulty) k (fate_at_begin plan k))

@@ -4,8 +4,8 @@ use Rattle.fault_plan.proofs.Words.{◌++◌, length, Some, refl, ap, sym, subst
 use Rattle.fault_plan.proofs.Words.{AllByRecursion, filter, leb-true, not-false, or_parts, eqb-false, ne_eqb, eq-eqb}
 use Rattle.fault_plan.proofs.Words.{has_node, below, has_node-sieve, same_sieve, Medl, Script, ClusterStart, FaultyNode}
 use Rattle.fault_plan.proofs.Words.{numbers_of, faulty_nodes_before, start_of, has_four_steady, keeps, IsValid, plan_at}
-use Rattle.fault_plan.proofs.Words.{is_on, plan_of, Plan, fate_of, is_sound_after, is_steady_after, steady_nodes}
-use Rattle.fault_plan.proofs.Words.{lost_since, FollowsPlan, and-true, two_rounds}
+use Rattle.fault_plan.proofs.Words.{is_on, fault_plan_of, FaultPlan, fate_of, is_sound_after, is_steady_after}
+use Rattle.fault_plan.proofs.Words.{steady_nodes, lost_since, FollowsPlan, and-true, two_rounds}
 use Rattle.ttp_world.specs.Hypothesis.{faulty_nodes_after}
 use Rattle.ttp_world.specs.Hypothesis.{started_faulty_nodes, is_steady, breaks_in}
 use Rattle.ttp_world.specs.Hypothesis.{lacks_steady_after}
@@ -29,7 +29,7 @@ use Rattle.ttp_world.specs.declared.keep.Keep.TheVariants as keep
 abbrev AreLostSince : Medl → Script → ClusterStart → ℕ → List FaultyNode → Type 0
 AreLostSince list script start turn faulty =
     AllByRecursion
-    (λ f. lost_since (fate_of (plan_of list script start) turn f.node) ≡ Some (f.slot - start.slot)) faulty
+    (λ f. lost_since (fate_of (fault_plan_of list script start) turn f.node) ≡ Some (f.slot - start.slot)) faulty
 
 apart-all : (k : ℕ) (faulty : List FaultyNode) → has_node (numbers_of faulty) k ≡ false
     → AllByRecursion (λ f. has_node (k ∷ []) f.node ≡ false) faulty
@@ -44,8 +44,8 @@ none-all [] = tt
 none-all (f ∷ faulty) = (refl, none-all faulty)
 
 module _ {list : Medl} {script : Script} {start : ClusterStart} (run : IsSingleFault list script start) where
-  abbrev plan : Plan
-  plan = plan_of list script start
+  abbrev plan : FaultPlan
+  plan = fault_plan_of list script start
 
   -- those of earlier slots stay as they are
   older-stay : (turn slot : ℕ) (faulty : List FaultyNode) → slot ≡ start.slot + suc turn → slot < script.slots
@@ -178,5 +178,5 @@ kept-plan list script slot valid keeps =
       };
       faults = plan-of-faults run rules.started;
       heard = λ k within less other on.
-          start-heard list script start (plan_of list script start) k (follows-plan run) within less other on;
+          start-heard list script start (fault_plan_of list script start) k (follows-plan run) within less other on;
     }

@@ -1,7 +1,7 @@
 -- What the ledgers of a good plan tell.
 use Rattle.fault_plan.proofs.Words.{◌≡◌, ◌≢◌, ℕ, zero, suc, ◌+◌, ◌-◌, ◌<◌, ◌≤◌, Bool, true, false, cond, refl, ap, sym}
 use Rattle.fault_plan.proofs.Words.{◌∙◌, inl, inr, arith, ◌==◌, if◌then◌else◌, cases_lt, eqb-true, eqb-false, both_ways}
-use Rattle.fault_plan.proofs.Words.{eq-or-lt_of_le, Plan, sender, enters, is_good_slot, is_first_slot, tally}
+use Rattle.fault_plan.proofs.Words.{eq-or-lt_of_le, FaultPlan, sender, enters, is_good_slot, is_first_slot, tally}
 use Rattle.fault_plan.proofs.Words.{IsGoodPlan, opened, with_slot, ledger_of, IsLedgerOf}
 use Rattle.fault_plan.specs.Ledger.{Ledger}
 use Rattle.fault_plan.proofs.Turns.{next_turn}
@@ -18,7 +18,7 @@ counted-next p base slot within =
     (λ i. (if p (last i) then 1 else 0) + tally p (suc base) (slot - base)) ∙ ap (tally p (suc base)) more
 
 -- at an own slot
-opened-told : (plan : Plan) (slot k : ℕ) → IsGoodPlan plan → sender plan slot ≡ k
+opened-told : (plan : FaultPlan) (slot k : ℕ) → IsGoodPlan plan → sender plan slot ≡ k
     → IsLedgerOf plan slot k (opened true slot)
 opened-told plan slot k good own = record {
   within = omega arith;
@@ -31,7 +31,7 @@ opened-told plan slot k good own = record {
 }
 
 -- at its entry
-entered-told : (plan : Plan) (slot k : ℕ) → IsGoodPlan plan → enters plan slot k ≡ true
+entered-told : (plan : FaultPlan) (slot k : ℕ) → IsGoodPlan plan → enters plan slot k ≡ true
     → IsLedgerOf plan slot k (opened false slot)
 entered-told plan slot k good is = record {
   within = omega arith;
@@ -44,7 +44,7 @@ entered-told plan slot k good is = record {
 }
 
 -- at another's, or before the first
-kept-near : (plan : Plan) (slot base k : ℕ) → IsGoodPlan plan → k < plan.nodes → base ≤ slot
+kept-near : (plan : FaultPlan) (slot base k : ℕ) → IsGoodPlan plan → k < plan.nodes → base ≤ slot
     → ((turn : ℕ) → base < turn → turn ≤ slot → sender plan turn ≢ k) → slot < base + plan.nodes
 kept-near plan slot base k good less within none =
     let next = next_turn plan (suc base) k (omega (arith, good.count)) less in
@@ -54,7 +54,8 @@ kept-near plan slot base k good less within none =
     ] in
     omega (arith, later, next.1.1)
 
-kept-told : (plan : Plan) (slot k : ℕ) (ledger : Ledger) → IsGoodPlan plan → k < plan.nodes → sender plan (suc slot) ≢ k
+kept-told : (plan : FaultPlan) (slot k : ℕ) (ledger : Ledger) → IsGoodPlan plan → k < plan.nodes
+    → sender plan (suc slot) ≢ k
     → IsLedgerOf plan slot k ledger
     → IsLedgerOf plan (suc slot) k (with_slot (is_good_slot plan (suc slot)) (is_first_slot plan (suc slot)) ledger)
 kept-told plan slot k ledger good less other told =
@@ -76,7 +77,7 @@ kept-told plan slot k ledger good less other told =
           ∙ counted-next (is_first_slot plan) ledger.base slot told.within;
     }
 
-next-told : (plan : Plan) (slot k : ℕ) (ledger : Ledger) (own entered : Bool) → IsGoodPlan plan → k < plan.nodes
+next-told : (plan : FaultPlan) (slot k : ℕ) (ledger : Ledger) (own entered : Bool) → IsGoodPlan plan → k < plan.nodes
     → (sender plan (suc slot) == k) ≡ own → enters plan (suc slot) k ≡ entered → IsLedgerOf plan slot k ledger
     → IsLedgerOf plan (suc slot) k
     (cond own (opened true (suc slot))
@@ -88,7 +89,7 @@ next-told plan slot k ledger false true good less turn enter told = entered-told
 next-told plan slot k ledger false false good less turn enter told =
     kept-told plan slot k ledger good less (eqb-false _ _ turn) told
 
-first-told : (plan : Plan) (k : ℕ) (own : Bool) → IsGoodPlan plan → (sender plan 0 == k) ≡ own
+first-told : (plan : FaultPlan) (k : ℕ) (own : Bool) → IsGoodPlan plan → (sender plan 0 == k) ≡ own
     → IsLedgerOf plan 0 k (opened own 0)
 first-told plan k true good turn = opened-told plan 0 k good (eqb-true _ _ turn)
 first-told plan k false good turn = record {
@@ -103,7 +104,7 @@ first-told plan k false good turn = record {
   bad = none-counted (is_first_slot plan) 0;
 }
 
-pub ledger-told : (plan : Plan) (slot k : ℕ) → IsGoodPlan plan → k < plan.nodes
+pub ledger-told : (plan : FaultPlan) (slot k : ℕ) → IsGoodPlan plan → k < plan.nodes
     → IsLedgerOf plan slot k (ledger_of plan slot k)
 ledger-told plan zero k good less = first-told plan k (sender plan 0 == k) good refl
 ledger-told plan (suc slot) k good less =

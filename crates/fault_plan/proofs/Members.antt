@@ -2,10 +2,11 @@
 use Rattle.fault_plan.proofs.Words.{◌≡◌, ◌≢◌, ℕ, zero, suc, ◌+◌, ◌%◌, ◌<◌, ◌≤◌, Bool, true, false, cond, not, ◌&&◌}
 use Rattle.fault_plan.proofs.Words.{◌||◌, refl, ap, sym, subst, ◌∙◌, inl, inr, mod-lt, arith, List, [], ◌∷◌, Option}
 use Rattle.fault_plan.proofs.Words.{Some, None, ◌==◌, cases_eq, eq-eqb, ne_eqb, mod-eq_of_lt, below, has_node, filter}
-use Rattle.fault_plan.proofs.Words.{has_node-sieve, same_sieve, Change, Receiving, Incident, Plan, sender, incident_at}
-use Rattle.fault_plan.proofs.Words.{is_armed_by, enters, Fate, Absent, Sound, Falling, Fallen, Listening, fate_at_begin}
-use Rattle.fault_plan.proofs.Words.{struck, turned, fate_of, is_sound, is_sound_after, is_good_slot, is_first_slot}
-use Rattle.fault_plan.proofs.Words.{IsGoodPlan, opened, with_slot, ledger_of, IsLossOf, IsTold, IsLedgerOf}
+use Rattle.fault_plan.proofs.Words.{has_node-sieve, same_sieve, Change, Receiving, Incident, FaultPlan, sender}
+use Rattle.fault_plan.proofs.Words.{incident_at, is_armed_by, enters, Fate, Absent, Sound, Falling, Fallen, Listening}
+use Rattle.fault_plan.proofs.Words.{fate_at_begin, struck, turned, fate_of, is_sound_fate, is_sound_after, is_good_slot}
+use Rattle.fault_plan.proofs.Words.{is_first_slot, IsGoodPlan, opened, with_slot, ledger_of, IsLossOf, IsTold}
+use Rattle.fault_plan.proofs.Words.{IsLedgerOf}
 use Rattle.ttp_base.specs.NodeSet.{most_nodes, with_node, without_node}
 use Rattle.ttp_base.proofs.NodeLists.{filter-none, with_node-filter, without_node-filter, with_node-nil}
 use Rattle.ttp_base.proofs.NodeSets.{has_node-with, has_node-without}
@@ -19,12 +20,12 @@ use Rattle.fault_plan.proofs.Returns.{entry-is, entry-from, armed-quiet, armed-l
 use Rattle.fault_plan.proofs.Tests.{or-false, never-found}
 use Rattle.fault_plan.proofs.Turns.{turns_apart}
 
-pub first-sender : (plan : Plan) → IsGoodPlan plan → sender plan 0 ≡ plan.starter
+pub first-sender : (plan : FaultPlan) → IsGoodPlan plan → sender plan 0 ≡ plan.starter
 first-sender plan good =
     let none : plan.starter + 0 ≡ plan.starter = omega arith in
     ap (λ t. t % plan.nodes) none ∙ mod-eq_of_lt good.starter.0
 
-pub first-good : (plan : Plan) → IsGoodPlan plan → is_good_slot plan 0 ≡ true
+pub first-good : (plan : FaultPlan) → IsGoodPlan plan → is_good_slot plan 0 ≡ true
 first-good plan good =
     ap (is_sound_after plan 0) (first-sender plan good) ∙ sound-first plan plan.starter good ∙ good.starter.1
 
@@ -38,10 +39,10 @@ IsMemberBy member own (Falling change since) = Unit {0}
 IsMemberBy member own (Fallen change since shown) = member ≡ false
 IsMemberBy member own (Listening since) = member ≡ false
 
-abbrev IsMember : Plan → ℕ → ℕ → Fate → Type 0
+abbrev IsMember : FaultPlan → ℕ → ℕ → Fate → Type 0
 IsMember plan slot k fate = IsMemberBy (has_node (planned_members plan slot) k) (ledger_of plan slot k).own fate
 
-member-begin : (plan : Plan) (k : ℕ) (begins : Bool) → IsGoodPlan plan
+member-begin : (plan : FaultPlan) (k : ℕ) (begins : Bool) → IsGoodPlan plan
     → IsMember plan 0 k (turned (sender plan 0 == k) 0 (cond begins Sound Absent))
 member-begin plan k begins good = by (sender plan 0 == k) begins
   where
@@ -53,7 +54,7 @@ member-begin plan k begins good = by (sender plan 0 == k) begins
 
 -- what a slot makes of members
 
-members-other : (plan : Plan) (slot k : ℕ) → k < 24 → sender plan (suc slot) ≢ k
+members-other : (plan : FaultPlan) (slot k : ℕ) → k < 24 → sender plan (suc slot) ≢ k
     → has_node (planned_members plan (suc slot)) k ≡ has_node (planned_members plan slot) k
 members-other plan slot k small other = by (is_good_slot plan (suc slot))
   where
@@ -72,7 +73,7 @@ members-other plan slot k small other = by (is_good_slot plan (suc slot))
         has_node-without (planned_members plan slot) (sender plan (suc slot)) k
         ∙ ap (λ b. not b && has_node (planned_members plan slot) k) off
 
-members-own : (plan : Plan) (slot k : ℕ) → k < 24 → sender plan (suc slot) ≡ k
+members-own : (plan : FaultPlan) (slot k : ℕ) → k < 24 → sender plan (suc slot) ≡ k
     → has_node (planned_members plan (suc slot)) k ≡ is_sound_after plan (suc slot) k
 members-own plan slot k small own = by (is_good_slot plan (suc slot)) refl
   where
@@ -94,7 +95,7 @@ members-own plan slot k small own = by (is_good_slot plan (suc slot)) refl
 
 -- from slot to slot, by what becomes of the node
 
-by-own : (member own : Bool) (fate : Fate) → member ≡ is_sound fate → own ≡ true → IsMemberBy member own fate
+by-own : (member own : Bool) (fate : Fate) → member ≡ is_sound_fate fate → own ≡ true → IsMemberBy member own fate
 by-own member own Absent is owns = tt
 by-own member own Sound is owns = is ∙ sym owns
 by-own member own (Falling change since) is owns = tt
@@ -116,26 +117,26 @@ by-struck member own slot k fate (Some incident) by = hit (incident.node == k)
     hit false = by
 
 -- a node that is armed, or enters, was no member
-armed-out : (plan : Plan) (slot k : ℕ) → IsGoodPlan plan → IsMember plan slot k (fate_of plan slot k)
+armed-out : (plan : FaultPlan) (slot k : ℕ) → IsGoodPlan plan → IsMember plan slot k (fate_of plan slot k)
     → is_armed_by plan (suc slot) k ≡ true → has_node (planned_members plan slot) k ≡ false
 armed-out plan slot k good by is =
     let fallen = armed-fallen plan slot k good is in
     subst (IsMember plan slot k) fallen.was by
 
-entry-out : (plan : Plan) (slot k : ℕ) → IsGoodPlan plan → IsMember plan slot k (fate_of plan slot k)
+entry-out : (plan : FaultPlan) (slot k : ℕ) → IsGoodPlan plan → IsMember plan slot k (fate_of plan slot k)
     → enters plan (suc slot) k ≡ true → has_node (planned_members plan slot) k ≡ false
 entry-out plan slot k good by is = elim (entry-from plan slot k good is) [
   | inl armed ↦ armed-out plan slot k good by armed
   | inr listens ↦ subst (IsMember plan slot k) listens.1 by
 ]
 
-own-after : (plan : Plan) (slot k : ℕ) → sender plan (suc slot) ≡ k → (ledger_of plan (suc slot) k).own ≡ true
+own-after : (plan : FaultPlan) (slot k : ℕ) → sender plan (suc slot) ≡ k → (ledger_of plan (suc slot) k).own ≡ true
 own-after plan slot k own =
     let other = with_slot (is_good_slot plan (suc slot)) (is_first_slot plan (suc slot)) (ledger_of plan slot k) in
     ap (λ b. (cond b (opened true (suc slot)) (cond (enters plan (suc slot) k) (opened false (suc slot)) other)).own)
     (eq-eqb _ _ own)
 
-other-after : (plan : Plan) (slot k : ℕ) (entered : Bool) → sender plan (suc slot) ≢ k
+other-after : (plan : FaultPlan) (slot k : ℕ) (entered : Bool) → sender plan (suc slot) ≢ k
     → enters plan (suc slot) k ≡ entered
     → (ledger_of plan (suc slot) k).own ≡ cond entered false (ledger_of plan slot k).own
 other-after plan slot k entered other is =
@@ -150,7 +151,8 @@ other-after plan slot k entered other is =
     by true = refl
     by false = refl
 
-member-other : (plan : Plan) (slot k : ℕ) (armed entered : Bool) → IsGoodPlan plan → k < 24 → sender plan (suc slot) ≢ k
+member-other : (plan : FaultPlan) (slot k : ℕ) (armed entered : Bool) → IsGoodPlan plan → k < 24
+    → sender plan (suc slot) ≢ k
     → is_armed_by plan (suc slot) k ≡ armed → enters plan (suc slot) k ≡ entered
     → IsMember plan slot k (fate_of plan slot k) → IsMember plan (suc slot) k (fate_of plan (suc slot) k)
 member-other plan slot k armed true good small other arms enter by =
@@ -171,7 +173,7 @@ member-other plan slot k false false good small other arms none by =
     (members-other plan slot k small other) (other-after plan slot k false other none)
     (by-struck member own (suc slot) k (fate_of plan slot k) (incident_at plan (suc slot)) by))
 
-member-next : (plan : Plan) (slot k : ℕ) → IsGoodPlan plan → k < 24 → IsMember plan slot k (fate_of plan slot k)
+member-next : (plan : FaultPlan) (slot k : ℕ) → IsGoodPlan plan → k < 24 → IsMember plan slot k (fate_of plan slot k)
     → IsMember plan (suc slot) k (fate_of plan (suc slot) k)
 member-next plan slot k good small by = elim (cases_eq (sender plan (suc slot)) k) [
   | inl own ↦
@@ -181,7 +183,7 @@ member-next plan slot k good small by = elim (cases_eq (sender plan (suc slot)) 
       member-other plan slot k (is_armed_by plan (suc slot) k) (enters plan (suc slot) k) good small other refl refl by
 ]
 
-member-told : (plan : Plan) (slot k : ℕ) → IsGoodPlan plan → k < 24 → IsMember plan slot k (fate_of plan slot k)
+member-told : (plan : FaultPlan) (slot k : ℕ) → IsGoodPlan plan → k < 24 → IsMember plan slot k (fate_of plan slot k)
 member-told plan zero k good small =
     subst (IsMember plan 0 k)
     (sym (next-same plan 0 k (fate_at_begin plan k) (armed-late plan k good) (enters-late plan k good)
@@ -190,21 +192,22 @@ member-told plan zero k good small =
 member-told plan (suc slot) k good small = member-next plan slot k good small (member-told plan slot k good small)
 
 -- So a sound node with a slot of its own is a member,
-pub sound-member : (plan : Plan) (slot k : ℕ) → IsGoodPlan plan → k < plan.nodes → is_sound_after plan slot k ≡ true
+pub sound-member : (plan : FaultPlan) (slot k : ℕ) → IsGoodPlan plan → k < plan.nodes
+    → is_sound_after plan slot k ≡ true
     → (ledger_of plan slot k).own ≡ true → has_node (planned_members plan slot) k ≡ true
 sound-member plan slot k good less sound own =
     subst (IsMember plan slot k) (sound-fate (fate_of plan slot k) sound)
     (member-told plan slot k good (omega (arith, good.count))) ∙ own
 
 -- and a fallen one is not.
-pub fallen-member : (plan : Plan) (slot k since shown : ℕ) (change : Change) → IsGoodPlan plan → k < plan.nodes
+pub fallen-member : (plan : FaultPlan) (slot k since shown : ℕ) (change : Change) → IsGoodPlan plan → k < plan.nodes
     → fate_of plan slot k ≡ Fallen change since shown → has_node (planned_members plan slot) k ≡ false
 fallen-member plan slot k since shown change good less is =
     subst (IsMember plan slot k) is (member-told plan slot k good (omega (arith, good.count)))
 
 -- The sender whose frame a falling receiver lost.
 
-sender-then : (plan : Plan) (k since : ℕ) → IsGoodPlan plan → IsLossOf plan k Receiving since
+sender-then : (plan : FaultPlan) (k since : ℕ) → IsGoodPlan plan → IsLossOf plan k Receiving since
     → is_sound_after plan since (sender plan since) ≡ true
 sender-then plan k zero good loss = absurd (omega (arith, loss.late, good.count))
 sender-then plan k (suc since) good loss =
@@ -214,7 +217,8 @@ sender-then plan k (suc since) good loss =
     sound-on plan since (sender plan (suc since)) good by.1 missed
 
 -- it had its slot then, so that it owns one: neither did it begin since, nor did it enter
-sender-owns : (plan : Plan) (slot k since : ℕ) → IsGoodPlan plan → IsFalling plan slot k Receiving since → (own : Bool)
+sender-owns : (plan : FaultPlan) (slot k since : ℕ) → IsGoodPlan plan → IsFalling plan slot k Receiving since
+    → (own : Bool)
     → (ledger_of plan slot (sender plan since)).own ≡ own
     → IsLedgerOf plan slot (sender plan since) (ledger_of plan slot (sender plan since))
     → (ledger_of plan slot (sender plan since)).own ≡ true
@@ -235,7 +239,7 @@ sender-owns plan slot k since good falling false owns told =
           ]
     ]
 
-sender-lost-by : (plan : Plan) (slot k since : ℕ) → IsGoodPlan plan → IsFalling plan slot k Receiving since
+sender-lost-by : (plan : FaultPlan) (slot k since : ℕ) → IsGoodPlan plan → IsFalling plan slot k Receiving since
     → IsSenderLost plan slot since
 sender-lost-by plan slot k since good falling =
     let p = sender plan since in
@@ -264,7 +268,8 @@ sender-lost-by plan slot k since good falling =
       base = base;
     }
 
-pub sender-lost : (plan : Plan) (slot k since : ℕ) → IsGoodPlan plan → fate_of plan slot k ≡ Falling Receiving since
+pub sender-lost : (plan : FaultPlan) (slot k since : ℕ) → IsGoodPlan plan
+    → fate_of plan slot k ≡ Falling Receiving since
     → IsSenderLost plan slot since
 sender-lost plan slot k since good is =
     sender-lost-by plan slot k since good (subst (IsTold plan slot k) is (fate-told plan slot k good))
@@ -295,7 +300,7 @@ nodes-next members n k false less few are =
     sieved (without_node members k) (λ j. has_node members j && not (j == k)) n
     (ap (λ ks. without_node ks k) are ∙ without_node-filter (has_node members) n k)
 
-pub members-nodes : (plan : Plan) (slot : ℕ) → IsGoodPlan plan
+pub members-nodes : (plan : FaultPlan) (slot : ℕ) → IsGoodPlan plan
     → planned_members plan slot ≡ filter (has_node (planned_members plan slot)) (below plan.nodes)
 members-nodes plan zero good = alone-nodes plan.nodes plan.starter good.starter.0 good.count.1
 members-nodes plan (suc slot) good =

@@ -1,7 +1,7 @@
 -- At the place of a slot it is the turn of the slot's node.
 use Rattle.fault_plan.proofs.Words.{◌≡◌, ◌≢◌, ℕ, zero, suc, ◌+◌, ◌*◌, ◌/◌, ◌%◌, ◌<◌, ◌≤◌, Bool, true, false, cond}
 use Rattle.fault_plan.proofs.Words.{length, refl, ap, sym, ◌∙◌, mod-lt, arith, ◌==◌, mod-add-div', mod-eq_of_lt}
-use Rattle.fault_plan.proofs.Words.{eqb-true, eqb-false, mod-mul-add, Medl, Plan, sender}
+use Rattle.fault_plan.proofs.Words.{eqb-true, eqb-false, mod-mul-add, Medl, FaultPlan, sender}
 use Rattle.ttp_world.specs.Diary.{Place, next_place}
 use Rattle.fault_plan.specs.Places.{planned_place}
 
@@ -34,7 +34,8 @@ slot-next list place n false same inside =
     let next : place.slot + 1 ≡ suc place.slot = omega arith in
     rw here next
 
-pub place-sender : (list : Medl) (plan : Plan) (slot : ℕ) → plan.nodes ≡ length list.slots → plan.starter < plan.nodes
+pub place-sender : (list : Medl) (plan : FaultPlan) (slot : ℕ) → plan.nodes ≡ length list.slots
+    → plan.starter < plan.nodes
     → (planned_place list plan slot).slot ≡ sender plan slot
 place-sender list plan zero same less =
     let none : plan.starter + 0 ≡ plan.starter = omega arith in

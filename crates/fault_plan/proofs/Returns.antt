@@ -2,9 +2,10 @@
 use Rattle.fault_plan.proofs.Words.{◌≡◌, ◌≢◌, ℕ, zero, suc, ◌+◌, ◌*◌, ◌<◌, ◌≤◌, Bool, true, false, ◌&&◌, List, []}
 use Rattle.fault_plan.proofs.Words.{Option, cond, Some, None, ◌⊎◌, refl, ap, sym, ◌∙◌, inl, inr, arith, length, ◌==◌}
 use Rattle.fault_plan.proofs.Words.{nat_lt, Contains, list_any, and_parts, and_from, eqb-true, eq-eqb, ltb-true, lt-ltb}
-use Rattle.fault_plan.proofs.Words.{false_from_ne_true, both_ways, eq-or-lt_of_le, has_node, Incident, Return, Plan}
-use Rattle.fault_plan.proofs.Words.{sender, incident_at, is_armed_by, enters, Fate, Absent, Sound, Falling, Listening}
-use Rattle.fault_plan.proofs.Words.{fate_at_begin, struck, next_fate, fate_of, is_good_slot, is_lost, IsGoodPlan}
+use Rattle.fault_plan.proofs.Words.{false_from_ne_true, both_ways, eq-or-lt_of_le, has_node, Incident, Return}
+use Rattle.fault_plan.proofs.Words.{FaultPlan, sender, incident_at, is_armed_by, enters, Fate, Absent, Sound, Falling}
+use Rattle.fault_plan.proofs.Words.{Listening, fate_at_begin, struck, next_fate, fate_of, is_good_slot, is_lost}
+use Rattle.fault_plan.proofs.Words.{IsGoodPlan}
 use Rattle.std.proofs.lemmas.List.Folds.{Any-from_list_any, list_any_at}
 use Rattle.fault_plan.specs.Plan.{is_armed_there, enters_there}
 use Rattle.fault_plan.proofs.FateSteps.{turned-same, next-same, next-armed, next-listening}
@@ -24,20 +25,20 @@ of-any test xs x among passes = list_any_at test xs among.0 x among.1 (ap test a
 
 -- A node is armed in a slot, or enters in it.
 
-pub record IsArmed (plan : Plan) (slot k : ℕ) : Type 0 where
+pub record IsArmed (plan : FaultPlan) (slot k : ℕ) : Type 0 where
   pub return : Return
   pub among : Contains plan.returns return
   pub armed : return.armed ≡ slot
   pub node : return.node ≡ k
 
-pub record IsEntry (plan : Plan) (slot k : ℕ) : Type 0 where
+pub record IsEntry (plan : FaultPlan) (slot k : ℕ) : Type 0 where
   pub return : Return
   pub among : Contains plan.returns return
   pub entered : return.entered ≡ slot
   pub node : return.node ≡ k
   pub within : slot < plan.slots
 
-pub armed-is : (plan : Plan) (slot k : ℕ) → is_armed_by plan slot k ≡ true → IsArmed plan slot k
+pub armed-is : (plan : FaultPlan) (slot k : ℕ) → is_armed_by plan slot k ≡ true → IsArmed plan slot k
 armed-is plan slot k is =
     let found = any-of (is_armed_there slot k) plan.returns is in
     let r = found.0 in
@@ -49,7 +50,7 @@ armed-is plan slot k is =
       node = eqb-true _ _ parts.1;
     }
 
-pub entry-is : (plan : Plan) (slot k : ℕ) → enters plan slot k ≡ true → IsEntry plan slot k
+pub entry-is : (plan : FaultPlan) (slot k : ℕ) → enters plan slot k ≡ true → IsEntry plan slot k
 entry-is plan slot k is =
     let whole = and_parts _ _ is in
     let found = any-of (enters_there slot k) plan.returns whole.0 in
@@ -63,26 +64,26 @@ entry-is plan slot k is =
       within = ltb-true _ _ whole.1;
     }
 
-pub enters-by : (plan : Plan) (r : Return) → Contains plan.returns r → r.entered < plan.slots
+pub enters-by : (plan : FaultPlan) (r : Return) → Contains plan.returns r → r.entered < plan.slots
     → enters plan r.entered r.node ≡ true
 enters-by plan r among within =
     and_from _ _ (of-any (enters_there r.entered r.node) plan.returns r among
     (and_from _ _ (eq-eqb r.entered r.entered refl) (eq-eqb r.node r.node refl))) (lt-ltb _ _ within)
 
-pub armed-by : (plan : Plan) (r : Return) → Contains plan.returns r → is_armed_by plan r.armed r.node ≡ true
+pub armed-by : (plan : FaultPlan) (r : Return) → Contains plan.returns r → is_armed_by plan r.armed r.node ≡ true
 armed-by plan r among =
     of-any (is_armed_there r.armed r.node) plan.returns r among
     (and_from _ _ (eq-eqb r.armed r.armed refl) (eq-eqb r.node r.node refl))
 
 -- Where nothing returns, nothing is armed and nothing enters.
 
-pub none-armed : (plan : Plan) (slot k : ℕ) → plan.returns ≡ [] → is_armed_by plan slot k ≡ false
+pub none-armed : (plan : FaultPlan) (slot k : ℕ) → plan.returns ≡ [] → is_armed_by plan slot k ≡ false
 none-armed plan slot k none = ap (list_any (is_armed_there slot k)) none
 
-pub none-enters : (plan : Plan) (slot k : ℕ) → plan.returns ≡ [] → enters plan slot k ≡ false
+pub none-enters : (plan : FaultPlan) (slot k : ℕ) → plan.returns ≡ [] → enters plan slot k ≡ false
 none-enters plan slot k none = ap (λ rs. list_any (enters_there slot k) rs && nat_lt slot plan.slots) none
 
-pub none-among : (plan : Plan) (r : Return) → plan.returns ≡ [] → Contains plan.returns r → ⊥
+pub none-among : (plan : FaultPlan) (r : Return) → plan.returns ≡ [] → Contains plan.returns r → ⊥
 none-among plan r none among =
     let empty : length plan.returns ≡ 0 = ap length none in
     omega (arith, among.1, empty)
@@ -101,7 +102,7 @@ struck-listens slot k fate (Some incident) deaf = by (incident.node == k)
     by true = refl
     by false = deaf
 
-listens-next : (plan : Plan) (slot k : ℕ) (fate : Fate) → plan.returns ≡ [] → is_listening fate ≡ false
+listens-next : (plan : FaultPlan) (slot k : ℕ) (fate : Fate) → plan.returns ≡ [] → is_listening fate ≡ false
     → is_listening (next_fate plan slot k fate) ≡ false
 listens-next plan slot k fate none deaf =
     ap is_listening (next-same plan slot k fate (none-armed plan slot k none) (none-enters plan slot k none))
@@ -112,23 +113,24 @@ begin-deaf : (b : Bool) → is_listening (cond b Sound Absent) ≡ false
 begin-deaf true = refl
 begin-deaf false = refl
 
-deaf-always : (plan : Plan) (slot k : ℕ) → plan.returns ≡ [] → is_listening (fate_of plan slot k) ≡ false
+deaf-always : (plan : FaultPlan) (slot k : ℕ) → plan.returns ≡ [] → is_listening (fate_of plan slot k) ≡ false
 deaf-always plan zero k none = listens-next plan 0 k (fate_at_begin plan k) none (begin-deaf (has_node plan.begin k))
 deaf-always plan (suc slot) k none =
     listens-next plan (suc slot) k (fate_of plan slot k) none (deaf-always plan slot k none)
 
-pub never-listens : (plan : Plan) (slot k since : ℕ) → plan.returns ≡ [] → fate_of plan slot k ≡ Listening since → ⊥
+pub never-listens : (plan : FaultPlan) (slot k since : ℕ) → plan.returns ≡ [] → fate_of plan slot k ≡ Listening since
+    → ⊥
 never-listens plan slot k since none is = both_ways _ (deaf-always plan slot k none) (ap is_listening is)
 
 -- Of a good plan.
 
 -- What comes by another return comes two rounds before this one's arm slot, or two rounds after its entry.
-pub data Beside (plan : Plan) (r : Return) (slot at : ℕ) : Type 0 where
+pub data Beside (plan : FaultPlan) (r : Return) (slot at : ℕ) : Type 0 where
   Itself : (is : slot ≡ at) → Beside plan r slot at
   Before : (early : slot + 2 * plan.nodes ≤ r.armed) → Beside plan r slot at
   After : (late : r.entered + 2 * plan.nodes ≤ slot) → Beside plan r slot at
 
-pub armed-beside : (plan : Plan) (r : Return) (slot k : ℕ) → IsGoodPlan plan → Contains plan.returns r
+pub armed-beside : (plan : FaultPlan) (r : Return) (slot k : ℕ) → IsGoodPlan plan → Contains plan.returns r
     → is_armed_by plan slot k ≡ true → Beside plan r slot r.armed
 armed-beside plan r slot k good among is =
     let found = armed-is plan slot k is in
@@ -141,7 +143,7 @@ armed-beside plan r slot k good among is =
       | inr (inr late) ↦ After (omega (arith, late, at))
     ]
 
-pub entry-beside : (plan : Plan) (r : Return) (slot k : ℕ) → IsGoodPlan plan → Contains plan.returns r
+pub entry-beside : (plan : FaultPlan) (r : Return) (slot k : ℕ) → IsGoodPlan plan → Contains plan.returns r
     → enters plan slot k ≡ true → Beside plan r slot r.entered
 entry-beside plan r slot k good among is =
     let found = entry-is plan slot k is in
@@ -155,7 +157,8 @@ entry-beside plan r slot k good among is =
     ]
 
 -- No loss comes from an arm slot to the entry.
-pub quiet-within : (plan : Plan) (r : Return) (slot : ℕ) → IsGoodPlan plan → Contains plan.returns r → r.armed ≤ slot
+pub quiet-within : (plan : FaultPlan) (r : Return) (slot : ℕ) → IsGoodPlan plan → Contains plan.returns r
+    → r.armed ≤ slot
     → slot ≤ r.entered → incident_at plan slot ≡ None
 quiet-within plan r slot good among from to =
     never-found (incident_at plan slot) (λ incident found.
@@ -164,7 +167,7 @@ quiet-within plan r slot good among from to =
       | inr late ↦ omega (arith, late, good.count)
     ])
 
-pub armed-quiet : (plan : Plan) (slot k : ℕ) → IsGoodPlan plan → is_armed_by plan slot k ≡ true
+pub armed-quiet : (plan : FaultPlan) (slot k : ℕ) → IsGoodPlan plan → is_armed_by plan slot k ≡ true
     → incident_at plan slot ≡ None
 armed-quiet plan slot k good is =
     let found = armed-is plan slot k is in
@@ -172,7 +175,7 @@ armed-quiet plan slot k good is =
     let after = (good.returns found.return found.among).after in
     quiet-within plan found.return slot good found.among (omega (arith, at)) (omega (arith, at, after))
 
-pub entry-quiet : (plan : Plan) (slot k : ℕ) → IsGoodPlan plan → enters plan slot k ≡ true
+pub entry-quiet : (plan : FaultPlan) (slot k : ℕ) → IsGoodPlan plan → enters plan slot k ≡ true
     → incident_at plan slot ≡ None
 entry-quiet plan slot k good is =
     let found = entry-is plan slot k is in
@@ -181,7 +184,7 @@ entry-quiet plan slot k good is =
     quiet-within plan found.return slot good found.among (omega (arith, at, after)) (omega (arith, at))
 
 -- the slot of an entry is a good one, of another node
-pub entry-good : (plan : Plan) (slot k : ℕ) → IsGoodPlan plan → enters plan slot k ≡ true
+pub entry-good : (plan : FaultPlan) (slot k : ℕ) → IsGoodPlan plan → enters plan slot k ≡ true
     → (is_good_slot plan slot ≡ true) × (sender plan slot ≢ k)
 entry-good plan slot k good is =
     let found = entry-is plan slot k is in
@@ -191,7 +194,7 @@ entry-good plan slot k good is =
     (ap (is_good_slot plan) (sym at) ∙ entry.0, λ own. entry.1 (ap (sender plan) at ∙ own ∙ sym found.node))
 
 -- a node that is armed was lost
-pub armed-lost : (plan : Plan) (slot k : ℕ) → IsGoodPlan plan → is_armed_by plan (suc slot) k ≡ true
+pub armed-lost : (plan : FaultPlan) (slot k : ℕ) → IsGoodPlan plan → is_armed_by plan (suc slot) k ≡ true
     → is_lost (fate_of plan slot k) ≡ true
 armed-lost plan slot k good is =
     let found = armed-is plan (suc slot) k is in
@@ -202,14 +205,14 @@ armed-lost plan slot k good is =
     (λ i. is_lost (fate_of plan (sym same i) (sym found.node i))) ∙ was.1.1
 
 -- nothing returns in the first slot
-pub armed-late : (plan : Plan) (k : ℕ) → IsGoodPlan plan → is_armed_by plan 0 k ≡ false
+pub armed-late : (plan : FaultPlan) (k : ℕ) → IsGoodPlan plan → is_armed_by plan 0 k ≡ false
 armed-late plan k good = false_from_ne_true _ (λ is.
     let found = armed-is plan 0 k is in
     let next = (good.returns found.return found.among).was.1.0 in
     let at = found.armed in
     omega (arith, at, next))
 
-pub enters-late : (plan : Plan) (k : ℕ) → IsGoodPlan plan → enters plan 0 k ≡ false
+pub enters-late : (plan : FaultPlan) (k : ℕ) → IsGoodPlan plan → enters plan 0 k ≡ false
 enters-late plan k good = false_from_ne_true _ (λ is.
     let found = entry-is plan 0 k is in
     let of_r = good.returns found.return found.among in
@@ -221,7 +224,7 @@ enters-late plan k good = false_from_ne_true _ (λ is.
 -- A node listens from its arm slot until it enters.
 
 -- it enters in no other slot in between
-enters-not : (plan : Plan) (r : Return) (slot : ℕ) → IsGoodPlan plan → Contains plan.returns r → r.armed ≤ slot
+enters-not : (plan : FaultPlan) (r : Return) (slot : ℕ) → IsGoodPlan plan → Contains plan.returns r → r.armed ≤ slot
     → slot < r.entered → enters plan slot r.node ≡ false
 enters-not plan r slot good among from to = false_from_ne_true _ (λ is.
     elim (entry-beside plan r slot r.node good among is) [
@@ -230,7 +233,7 @@ enters-not plan r slot good among from to = false_from_ne_true _ (λ is.
       | After late ↦ omega (arith, late, to)
     ])
 
-armed-not : (plan : Plan) (r : Return) (slot : ℕ) → IsGoodPlan plan → Contains plan.returns r → r.armed < slot
+armed-not : (plan : FaultPlan) (r : Return) (slot : ℕ) → IsGoodPlan plan → Contains plan.returns r → r.armed < slot
     → slot < r.entered → is_armed_by plan slot r.node ≡ false
 armed-not plan r slot good among from to = false_from_ne_true _ (λ is.
     elim (armed-beside plan r slot r.node good among is) [
@@ -239,7 +242,8 @@ armed-not plan r slot good among from to = false_from_ne_true _ (λ is.
       | After late ↦ omega (arith, late, to)
     ])
 
-pub listens-until : (plan : Plan) (r : Return) (slot : ℕ) → IsGoodPlan plan → Contains plan.returns r → r.armed ≤ slot
+pub listens-until : (plan : FaultPlan) (r : Return) (slot : ℕ) → IsGoodPlan plan → Contains plan.returns r
+    → r.armed ≤ slot
     → slot < r.entered → fate_of plan slot r.node ≡ Listening r.armed
 listens-until plan r zero good among from to =
     let next = (good.returns r among).was.1.0 in
@@ -260,7 +264,7 @@ listens-until plan r (suc slot) good among from to =
     ]
 
 -- so a node that enters was listening, or lost and armed in that very slot
-pub entry-from : (plan : Plan) (slot k : ℕ) → IsGoodPlan plan → enters plan (suc slot) k ≡ true
+pub entry-from : (plan : FaultPlan) (slot k : ℕ) → IsGoodPlan plan → enters plan (suc slot) k ≡ true
     → (is_armed_by plan (suc slot) k ≡ true) ⊎ ((since : ℕ) × (fate_of plan slot k ≡ Listening since))
 entry-from plan slot k good is =
     let found = entry-is plan (suc slot) k is in

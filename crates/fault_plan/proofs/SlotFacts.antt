@@ -2,15 +2,15 @@
 use Rattle.fault_plan.proofs.Words.{ap, arith, false, length, refl, subst, suc, sym, true, ℕ, ◌+◌, ◌<◌, ◌∙◌, ◌≡◌}
 use Rattle.fault_plan.proofs.Words.{and_from, and_parts, not-true, not_from_false, or_parts, has_node, ClusterStart}
 use Rattle.fault_plan.proofs.Words.{expected_sender, loses, is_ever_on, Medl, Script, is_sound_after, IsHeardByPlan}
-use Rattle.fault_plan.proofs.Words.{Plan, plan_of, sender}
+use Rattle.fault_plan.proofs.Words.{FaultPlan, fault_plan_of, sender}
 use Rattle.fault_plan.proofs.FaultySets.{IsSingleFault, fates-known, faulty-next, faulty_before}
 use Rattle.fault_plan.proofs.Hearing.{IsClear, clear-still, clear-after, clear-loses, sender-less, deaf-in, jumps-in}
 use Rattle.fault_plan.proofs.Hearing.{sender-same, unheard-in}
 use Rattle.fault_plan.proofs.Returns.{never-listens}
 
 module _ {list : Medl} {script : Script} {start : ClusterStart} (run : IsSingleFault list script start) where
-  abbrev plan : Plan
-  plan = plan_of list script start
+  abbrev plan : FaultPlan
+  plan = fault_plan_of list script start
 
   -- one that is sound after a slot
   sound-clear : (turn slot k : ℕ) → slot ≡ start.slot + turn → slot < script.slots → k < length list.slots
@@ -23,12 +23,12 @@ module _ {list : Medl} {script : Script} {start : ClusterStart} (run : IsSingleF
   -- and one that was sound before it
   pub sound-before : (turn slot k : ℕ) → slot ≡ start.slot + turn → slot < script.slots → k < length list.slots
       → is_ever_on script k ≡ true → has_node (faulty_before list script start (suc slot)) k ≡ false
-      → is_sound_after (plan_of list script start) turn k ≡ true
+      → is_sound_after (fault_plan_of list script start) turn k ≡ true
   sound-before turn slot k is within less ever none =
       (fates-known run turn slot k is within less).sound ∙ and_from _ _ ever (not_from_false _ none)
 
   pub heard-slot : (turn : ℕ) → start.slot + turn < script.slots
-      → IsHeardByPlan script start (plan_of list script start) turn
+      → IsHeardByPlan script start (fault_plan_of list script start) turn
   heard-slot turn within =
       let slot = start.slot + turn in
       let course = run.course in

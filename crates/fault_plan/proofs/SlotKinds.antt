@@ -2,10 +2,10 @@
 use Rattle.fault_plan.proofs.Words.{◌≡◌, ◌≢◌, ℕ, suc, ◌+◌, ◌≤◌, Bool, true, false, cond, Option, Some, None, refl, ap}
 use Rattle.fault_plan.proofs.Words.{sym, subst, ◌∙◌, arith, ◌⊎◌, inl, inr, ◌==◌, nat_lt, eqb-true, eqb-false, eq-eqb}
 use Rattle.fault_plan.proofs.Words.{ne_eqb, both_ways, lt-ltb, le-ltb, false_from_ne_true, none-some, Change, Sending}
-use Rattle.fault_plan.proofs.Words.{Receiving, Jumping, Incident, Plan, sender, incident_at, is_armed_by, enters, Fate}
-use Rattle.fault_plan.proofs.Words.{Absent, Sound, Falling, Fallen, Listening, struck, turned, fate_of, is_sound}
-use Rattle.fault_plan.proofs.Words.{is_sound_after, is_shown_in, is_good_slot, is_first_slot, may_stay, lost_since}
-use Rattle.fault_plan.proofs.Words.{IsGoodPlan, IsTold}
+use Rattle.fault_plan.proofs.Words.{Receiving, Jumping, Incident, FaultPlan, sender, incident_at, is_armed_by, enters}
+use Rattle.fault_plan.proofs.Words.{Fate, Absent, Sound, Falling, Fallen, Listening, struck, turned, fate_of}
+use Rattle.fault_plan.proofs.Words.{is_sound_fate, is_sound_after, is_shown_in, is_good_slot, is_first_slot, may_stay}
+use Rattle.fault_plan.proofs.Words.{lost_since, IsGoodPlan, IsTold}
 use Rattle.fault_plan.specs.Fates.{shown_in}
 use Rattle.fault_plan.specs.SlotKind.{SlotKind, Good, Idle, Lost, Shown, Last, kind_if_lost, kind_by_fate, slot_kind}
 use Rattle.fault_plan.specs.SlotKind.{is_good_kind, is_first_kind, IsIdle, IsGoodAfter, IsLostAfter, IsShownAfter}
@@ -18,7 +18,8 @@ use Rattle.fault_plan.proofs.Tests.{never-found}
 use Rattle.fault_plan.proofs.Turns.{turns_apart}
 
 -- while a lost node may stay, no incident comes
-pub quiet-while : (plan : Plan) (slot k : ℕ) → IsGoodPlan plan → may_stay plan.nodes slot (fate_of plan slot k) ≡ true
+pub quiet-while : (plan : FaultPlan) (slot k : ℕ) → IsGoodPlan plan
+    → may_stay plan.nodes slot (fate_of plan slot k) ≡ true
     → incident_at plan (suc slot) ≡ None
 quiet-while plan slot k good may =
     never-found (incident_at plan (suc slot)) (λ incident found.
@@ -26,7 +27,7 @@ quiet-while plan slot k good may =
 
 -- The incident of another node than the sender.
 
-other-struck : (plan : Plan) (slot k : ℕ) (incident : Incident) → strikes (incident_at plan slot) k ≡ false
+other-struck : (plan : FaultPlan) (slot k : ℕ) (incident : Incident) → strikes (incident_at plan slot) k ≡ false
     → incident_at plan slot ≡ Some incident → incident.node ≢ k
 other-struck plan slot k incident missed found same =
     both_ways _ missed (ap (λ found. strikes found k) found ∙ eq-eqb _ _ same)
@@ -36,7 +37,7 @@ jumping-left Sending silent deaf = absurd (silent refl)
 jumping-left Receiving silent deaf = absurd (deaf refl)
 jumping-left Jumping silent deaf = refl
 
-idle-told : (plan : Plan) (slot : ℕ) → IsGoodPlan plan
+idle-told : (plan : FaultPlan) (slot : ℕ) → IsGoodPlan plan
     → strikes (incident_at plan (suc slot)) (sender plan (suc slot)) ≡ false
     → is_sound_after plan slot (sender plan (suc slot)) ≡ false
     → may_stay plan.nodes slot (fate_of plan slot (sender plan (suc slot))) ≡ false → IsIdle plan slot
@@ -54,7 +55,7 @@ idle-told plan slot good missed was left =
           );
     }
 
-good-told : (plan : Plan) (slot : ℕ) → IsGoodPlan plan
+good-told : (plan : FaultPlan) (slot : ℕ) → IsGoodPlan plan
     → strikes (incident_at plan (suc slot)) (sender plan (suc slot)) ≡ false
     → is_sound_after plan slot (sender plan (suc slot)) ≡ true → IsGoodAfter plan slot
 good-told plan slot good missed was =
@@ -89,7 +90,7 @@ kind-later nodes slot since shown change last other apart is =
 
 -- The slot of a node that is not lost in it.
 
-fallen-told : (plan : Plan) (slot since shown : ℕ) (change : Change) (last : Bool) → IsGoodPlan plan
+fallen-told : (plan : FaultPlan) (slot since shown : ℕ) (change : Change) (last : Bool) → IsGoodPlan plan
     → strikes (incident_at plan (suc slot)) (sender plan (suc slot)) ≡ false
     → fate_of plan slot (sender plan (suc slot)) ≡ Fallen change since shown → shown + plan.nodes ≤ suc slot
     → (shown + plan.nodes == suc slot) ≡ last → IsKindAfter plan slot (cond last (Last change since shown) Idle)
@@ -104,17 +105,17 @@ fallen-told plan slot since shown change true good missed is past last =
     }
 fallen-told plan slot since shown change false good missed is past last =
     let other : shown + plan.nodes ≢ suc slot = eqb-false _ _ last in
-    idle-told plan slot good missed (ap is_sound is) (ap (may_stay plan.nodes slot) is ∙ le-ltb _ _ (omega arith))
+    idle-told plan slot good missed (ap is_sound_fate is) (ap (may_stay plan.nodes slot) is ∙ le-ltb _ _ (omega arith))
 
-missed-told : (plan : Plan) (slot : ℕ) (fate : Fate) → IsGoodPlan plan
+missed-told : (plan : FaultPlan) (slot : ℕ) (fate : Fate) → IsGoodPlan plan
     → strikes (incident_at plan (suc slot)) (sender plan (suc slot)) ≡ false
     → fate_of plan slot (sender plan (suc slot)) ≡ fate → IsTold plan slot (sender plan (suc slot)) fate
     → IsKindAfter plan slot (kind_by_fate plan.nodes (suc slot) (shown_in (suc slot) fate))
 missed-told plan slot Absent good missed is told =
-    idle-told plan slot good missed (ap is_sound is) (ap (may_stay plan.nodes slot) is)
-missed-told plan slot Sound good missed is told = good-told plan slot good missed (ap is_sound is)
+    idle-told plan slot good missed (ap is_sound_fate is) (ap (may_stay plan.nodes slot) is)
+missed-told plan slot Sound good missed is told = good-told plan slot good missed (ap is_sound_fate is)
 missed-told plan slot (Listening since) good missed is told =
-    idle-told plan slot good missed (ap is_sound is) (ap (may_stay plan.nodes slot) is)
+    idle-told plan slot good missed (ap is_sound_fate is) (ap (may_stay plan.nodes slot) is)
 missed-told plan slot (Falling change since) good missed is told =
     let e = sender plan (suc slot) in
     let from : since ≤ slot = told.from in
@@ -136,7 +137,7 @@ missed-told plan slot (Fallen change since shown) good missed is told =
 
 -- Each slot.
 
-struck-told : (plan : Plan) (slot : ℕ) (fate : Fate) (found : Option Incident) (hit : Bool) → IsGoodPlan plan
+struck-told : (plan : FaultPlan) (slot : ℕ) (fate : Fate) (found : Option Incident) (hit : Bool) → IsGoodPlan plan
     → incident_at plan (suc slot) ≡ found → strikes found (sender plan (suc slot)) ≡ hit
     → fate_of plan slot (sender plan (suc slot)) ≡ fate → IsTold plan slot (sender plan (suc slot)) fate
     → IsKindAfter plan slot
@@ -163,23 +164,24 @@ struck-told plan slot fate (Some incident) false good at strike is told =
     (missed-told plan slot fate good (ap (λ found. strikes found (sender plan (suc slot))) at ∙ strike) is told)
 
 -- the slot of a node that is armed in it
-armed-told : (plan : Plan) (slot : ℕ) → IsGoodPlan plan → is_armed_by plan (suc slot) (sender plan (suc slot)) ≡ true
+armed-told : (plan : FaultPlan) (slot : ℕ) → IsGoodPlan plan → is_armed_by plan (suc slot)
+    (sender plan (suc slot)) ≡ true
     → IsIdle plan slot
 armed-told plan slot good arms =
     let e = sender plan (suc slot) in
     let fallen = armed-fallen plan slot e good arms in
     record {
-      was = ap is_sound fallen.was;
+      was = ap is_sound_fate fallen.was;
       left = over plan slot e fallen.since good (ap lost_since fallen.was) fallen.early;
       jumps = λ incident found.
           absurd (none-some _ (sym (armed-quiet plan (suc slot) e good arms) ∙ found));
     }
 
 -- no node enters in its own slot
-pub sender-stays : (plan : Plan) (slot : ℕ) → IsGoodPlan plan → enters plan slot (sender plan slot) ≡ false
+pub sender-stays : (plan : FaultPlan) (slot : ℕ) → IsGoodPlan plan → enters plan slot (sender plan slot) ≡ false
 sender-stays plan slot good = false_from_ne_true _ (λ is. (entry-good plan slot (sender plan slot) good is).1 refl)
 
-pub kind-told : (plan : Plan) (slot : ℕ) → IsGoodPlan plan → IsKindAfter plan slot (slot_kind plan (suc slot))
+pub kind-told : (plan : FaultPlan) (slot : ℕ) → IsGoodPlan plan → IsKindAfter plan slot (slot_kind plan (suc slot))
 kind-told plan slot good = by (is_armed_by plan (suc slot) (sender plan (suc slot))) refl
   where
     e : ℕ
@@ -213,7 +215,7 @@ fallen-bad false true third change since shown = refl
 fallen-bad false false true change since shown = refl
 fallen-bad false false false change since shown = refl
 
-good-by : (nodes slot : ℕ) (fate : Fate) → is_sound fate ≡ is_good_kind (kind_by_fate nodes slot fate)
+good-by : (nodes slot : ℕ) (fate : Fate) → is_sound_fate fate ≡ is_good_kind (kind_by_fate nodes slot fate)
 good-by nodes slot Absent = refl
 good-by nodes slot Sound = refl
 good-by nodes slot (Falling change since) = refl
@@ -221,7 +223,7 @@ good-by nodes slot (Listening since) = refl
 good-by nodes slot (Fallen change since shown) =
     fallen-bad (since == slot) (shown == slot) (shown + nodes == slot) change since shown
 
-pub good-kind : (plan : Plan) (slot : ℕ) → is_good_slot plan slot ≡ is_good_kind (slot_kind plan slot)
+pub good-kind : (plan : FaultPlan) (slot : ℕ) → is_good_slot plan slot ≡ is_good_kind (slot_kind plan slot)
 good-kind plan slot = good-by plan.nodes slot (fate_of plan slot (sender plan slot))
 
 fallen-first : (first second third : Bool) (change : Change) (since shown : ℕ) → (first ≡ true → second ≡ true)
@@ -233,7 +235,7 @@ fallen-first false true third change since shown both = refl
 fallen-first false false true change since shown both = refl
 fallen-first false false false change since shown both = refl
 
-first-by : (plan : Plan) (slot k : ℕ) (fate : Fate) → IsTold plan slot k fate
+first-by : (plan : FaultPlan) (slot k : ℕ) (fate : Fate) → IsTold plan slot k fate
     → is_shown_in slot fate ≡ is_first_kind (kind_by_fate plan.nodes slot fate)
 first-by plan slot k Absent told = refl
 first-by plan slot k Sound told = refl
@@ -244,7 +246,7 @@ first-by plan slot k (Fallen change since shown) told =
     let same : since ≡ slot = eqb-true _ _ now in
     eq-eqb _ _ (omega (arith, told.from.0, told.from.1)))
 
-pub first-kind : (plan : Plan) (slot : ℕ) → IsGoodPlan plan
+pub first-kind : (plan : FaultPlan) (slot : ℕ) → IsGoodPlan plan
     → is_first_slot plan slot ≡ is_first_kind (slot_kind plan slot)
 first-kind plan slot good =
     let e = sender plan slot in
@@ -252,7 +254,7 @@ first-kind plan slot good =
 
 -- While a lost node may stay, each slot that is not its own is good or idle.
 
-only-good : (plan : Plan) (slot k : ℕ) (kind : SlotKind) → IsGoodPlan plan
+only-good : (plan : FaultPlan) (slot k : ℕ) (kind : SlotKind) → IsGoodPlan plan
     → may_stay plan.nodes slot (fate_of plan slot k) ≡ true → sender plan (suc slot) ≢ k → IsKindAfter plan slot kind
     → (kind ≡ Good) ⊎ (kind ≡ Idle)
 only-good plan slot k Idle good may other told = inr refl
@@ -267,7 +269,8 @@ only-good plan slot k (Last change since shown) good may other told =
     let stays : nat_lt slot (shown + plan.nodes) ≡ true = lt-ltb _ _ (omega (arith, told.round)) in
     absurd (other (one-stays plan slot e k good (ap (may_stay plan.nodes slot) told.was ∙ stays) may))
 
-pub others-good : (plan : Plan) (slot k : ℕ) → IsGoodPlan plan → may_stay plan.nodes slot (fate_of plan slot k) ≡ true
+pub others-good : (plan : FaultPlan) (slot k : ℕ) → IsGoodPlan plan
+    → may_stay plan.nodes slot (fate_of plan slot k) ≡ true
     → sender plan (suc slot) ≢ k → (slot_kind plan (suc slot) ≡ Good) ⊎ (slot_kind plan (suc slot) ≡ Idle)
 others-good plan slot k good may other =
     only-good plan slot k (slot_kind plan (suc slot)) good may other (kind-told plan slot good)

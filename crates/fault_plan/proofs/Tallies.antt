@@ -1,7 +1,7 @@
 -- Counts of slots in a row.
 use Rattle.fault_plan.proofs.Words.{◌≡◌, ℕ, zero, suc, ◌+◌, ◌%◌, ◌<◌, ◌≤◌, Bool, true, false, [], ◌∷◌, ◌++◌, length}
 use Rattle.fault_plan.proofs.Words.{refl, ap, subst, ◌∙◌, arith, filter, if◌then◌else◌, mod-eq_of_lt, both_ways}
-use Rattle.fault_plan.proofs.Words.{false_from_ne_true, below, Plan, sender, tally}
+use Rattle.fault_plan.proofs.Words.{false_from_ne_true, below, FaultPlan, sender, tally}
 use Rattle.std.proofs.Common.{add-one}
 use Rattle.std.proofs.Math.Nat.{add-mod_right}
 use Rattle.std.proofs.lemmas.List.{length-append}
@@ -104,7 +104,7 @@ count-below p (suc n) =
     omega (arith, whole, last, rest, same)
 
 -- in each round a test of the sender passes as often as there are nodes that pass it
-pub count-round : (plan : Plan) (p : ℕ → Bool) (from : ℕ)
+pub count-round : (plan : FaultPlan) (p : ℕ → Bool) (from : ℕ)
     → tally (λ u. p (sender plan u)) from plan.nodes ≡ length (filter p (below plan.nodes))
 count-round plan p from =
     let n = plan.nodes in

@@ -1,6 +1,6 @@
 -- Whose slot it is: each node has one slot in a round.
 use Rattle.fault_plan.proofs.Words.{◌≡◌, ℕ, ◌+◌, ◌-◌, ◌*◌, ◌/◌, ◌%◌, ◌<◌, ◌≤◌, ap, ◌∙◌, inl, inr, mod-lt, arith}
-use Rattle.fault_plan.proofs.Words.{mod-add-div', cases_lt, mod-mul-add, Plan, sender}
+use Rattle.fault_plan.proofs.Words.{mod-add-div', cases_lt, mod-mul-add, FaultPlan, sender}
 use Rattle.std.proofs.Math.Nat.{mul-le-mul_right}
 
 -- the first turn of k among those from a on
@@ -36,7 +36,7 @@ turns-apart n a b some less same =
 -- Of a plan.
 
 -- each node has a slot in each round
-pub next_turn : (plan : Plan) (from k : ℕ) → 0 < plan.nodes → k < plan.nodes
+pub next_turn : (plan : FaultPlan) (from k : ℕ) → 0 < plan.nodes → k < plan.nodes
     → (turn : ℕ) × ((from ≤ turn) × (turn < from + plan.nodes) × (sender plan turn ≡ k))
 next_turn plan from k some small =
     let found = own_turn plan.nodes (plan.starter + from) k some small in
@@ -46,7 +46,8 @@ next_turn plan from k some small =
     )
 
 -- and its slots are a round apart
-pub turns_apart : (plan : Plan) (turn later : ℕ) → 0 < plan.nodes → turn < later → sender plan turn ≡ sender plan later
+pub turns_apart : (plan : FaultPlan) (turn later : ℕ) → 0 < plan.nodes → turn < later
+    → sender plan turn ≡ sender plan later
     → turn + plan.nodes ≤ later
 turns_apart plan turn later some less same =
     let apart = turns-apart plan.nodes (plan.starter + turn) (plan.starter + later) some (omega arith) same in

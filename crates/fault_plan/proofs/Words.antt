@@ -1,13 +1,13 @@
 -- The words of this crate's proofs, from one place.
 pub use Rattle.fault_plan.specs.Fates.{Absent, Fallen, Falling, Fate, Listening, Sound, fate_at_begin, fate_of}
-pub use Rattle.fault_plan.specs.Fates.{is_first_slot, is_good_slot, is_lasting_after, is_lost, is_shown_in, is_sound}
-pub use Rattle.fault_plan.specs.Fates.{is_sound_after, is_steady_after, lost_since, may_stay, next_fate, steady_nodes}
-pub use Rattle.fault_plan.specs.Fates.{struck, tally, turned}
+pub use Rattle.fault_plan.specs.Fates.{is_first_slot, is_good_slot, is_lasting_after, is_lost, is_shown_in}
+pub use Rattle.fault_plan.specs.Fates.{is_sound_fate, is_sound_after, is_steady_after, lost_since, may_stay, next_fate}
+pub use Rattle.fault_plan.specs.Fates.{steady_nodes, struck, tally, turned}
 pub use Rattle.fault_plan.specs.GoodPlan.{IsGoodPlan}
 pub use Rattle.fault_plan.specs.Kept.{FollowsPlan, IsHeardByPlan, IsWithinBounds}
 pub use Rattle.fault_plan.specs.Ledger.{ledger_of, opened, with_slot}
-pub use Rattle.fault_plan.specs.Plan.{Change, Incident, Jumping, Plan, Receiving, Return, Sending, enters, incident_at}
-pub use Rattle.fault_plan.specs.Plan.{is_armed_by, plan_of, planned_incident, sender}
+pub use Rattle.fault_plan.specs.Plan.{Change, Incident, Jumping, FaultPlan, Receiving, Return, Sending, enters}
+pub use Rattle.fault_plan.specs.Plan.{incident_at, is_armed_by, fault_plan_of, planned_incident, sender}
 pub use Rattle.fault_plan.specs.Told.{IsLedgerOf, IsLossOf, IsTold}
 pub use Rattle.std.proofs.Common.{Bool, List, None, Option, Some, [], ap, arith, cond, false, inl, inr, length, map}
 pub use Rattle.std.proofs.Common.{mod-lt, not, refl, subst, suc, sym, true, zero, ℕ, ◌%◌, ◌&&◌, ◌*◌, ◌++◌, ◌+◌, ◌-◌}

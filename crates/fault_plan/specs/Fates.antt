@@ -3,7 +3,7 @@ use Rattle.std.specs.Prelude.{ℕ, zero, suc, ◌+◌, nat_le, nat_lt, Bool, tru
 use Rattle.std.specs.Prelude.{Option, Some, None, if◌then◌else◌}
 use Rattle.std.specs.List.{list_any}
 use Rattle.ttp_base.specs.NodeSet.{below, has_node}
-use Rattle.fault_plan.specs.Plan.{Change, Incident, Return, Plan, sender, incident_at, is_armed_by, enters}
+use Rattle.fault_plan.specs.Plan.{Change, Incident, Return, FaultPlan, sender, incident_at, is_armed_by, enters}
 
 -- what has become of a node by a plan; slots are counted from the start
 pub data Fate : Type 0 where
@@ -18,7 +18,7 @@ pub data Fate : Type 0 where
   Listening : (since : ℕ) → Fate
 
 -- the fate of node k at the start
-abbrev pub fate_at_begin : Plan → ℕ → Fate
+abbrev pub fate_at_begin : FaultPlan → ℕ → Fate
 fate_at_begin plan k = if has_node plan.begin k then Sound else Absent
 
 -- where it listens again from a slot on
@@ -44,28 +44,28 @@ abbrev pub turned : Bool → ℕ → Fate → Fate
 turned own slot fate = if own then shown_in slot fate else fate
 
 -- before the turn of its slot
-abbrev pub changed : Plan → ℕ → ℕ → Fate → Fate
+abbrev pub changed : FaultPlan → ℕ → ℕ → Fate → Fate
 changed plan slot k fate =
     entered_in (enters plan slot k)
     (struck slot k (armed_in (is_armed_by plan slot k) slot fate) (incident_at plan slot))
 
 -- the fate of node k after a slot, by that before it
-abbrev pub next_fate : Plan → ℕ → ℕ → Fate → Fate
+abbrev pub next_fate : FaultPlan → ℕ → ℕ → Fate → Fate
 next_fate plan slot k fate = turned (sender plan slot == k) slot (changed plan slot k fate)
 
 -- the fate of node k after a slot
-abbrev pub fate_of : Plan → ℕ → ℕ → Fate
+abbrev pub fate_of : FaultPlan → ℕ → ℕ → Fate
 fate_of plan zero k = next_fate plan 0 k (fate_at_begin plan k)
 fate_of plan (suc slot) k = next_fate plan (suc slot) k (fate_of plan slot k)
 
 -- a fate is that of a sound node
-abbrev pub is_sound : Fate → Bool
-is_sound Sound = true
-is_sound _ = false
+abbrev pub is_sound_fate : Fate → Bool
+is_sound_fate Sound = true
+is_sound_fate _ = false
 
 -- node k is sound after a slot
-abbrev pub is_sound_after : Plan → ℕ → ℕ → Bool
-is_sound_after plan slot k = is_sound (fate_of plan slot k)
+abbrev pub is_sound_after : FaultPlan → ℕ → ℕ → Bool
+is_sound_after plan slot k = is_sound_fate (fate_of plan slot k)
 
 -- a fate is that of an absent node
 abbrev pub is_absent : Fate → Bool
@@ -93,7 +93,7 @@ may_stay nodes slot _ = false
 -- Slots.
 
 -- the sender is sound, so that its frame is one of the group's
-abbrev pub is_good_slot : Plan → ℕ → Bool
+abbrev pub is_good_slot : FaultPlan → ℕ → Bool
 is_good_slot plan slot = is_sound_after plan slot (sender plan slot)
 
 -- a lost node has shown it in this slot, its first own one
@@ -102,7 +102,7 @@ is_shown_in slot (Fallen change since shown) = shown == slot
 is_shown_in slot _ = false
 
 -- it is the first own slot of a lost node
-abbrev pub is_first_slot : Plan → ℕ → Bool
+abbrev pub is_first_slot : FaultPlan → ℕ → Bool
 is_first_slot plan slot = is_shown_in slot (fate_of plan slot (sender plan slot))
 
 -- Counts.
@@ -111,22 +111,22 @@ is_first_slot plan slot = is_shown_in slot (fate_of plan slot (sender plan slot)
 abbrev pub is_entry_near : ℕ → ℕ → ℕ → Return → Bool
 is_entry_near nodes slot k r = (r.node == k) && (nat_le r.entered slot && nat_lt slot (r.entered + nodes))
 
-abbrev pub is_new_after : Plan → ℕ → ℕ → Bool
+abbrev pub is_new_after : FaultPlan → ℕ → ℕ → Bool
 is_new_after plan slot k = list_any (is_entry_near plan.nodes slot k) plan.returns
 
 -- it is sound after a slot, and was so in all of the last round, as far as the start
-abbrev pub is_lasting_after : Plan → ℕ → ℕ → Bool
+abbrev pub is_lasting_after : FaultPlan → ℕ → ℕ → Bool
 is_lasting_after plan slot k = is_sound_after plan slot k && not (is_new_after plan slot k)
 
 -- and is measured
-abbrev pub is_steady_after : Plan → ℕ → ℕ → Bool
+abbrev pub is_steady_after : FaultPlan → ℕ → ℕ → Bool
 is_steady_after plan slot k = has_node plan.measured k && is_lasting_after plan slot k
 
 -- those nodes after a slot, and those of them by whose frames clocks are measured
-abbrev pub lasting_nodes : Plan → ℕ → List ℕ
+abbrev pub lasting_nodes : FaultPlan → ℕ → List ℕ
 lasting_nodes plan slot = filter (is_lasting_after plan slot) (below plan.nodes)
 
-abbrev pub steady_nodes : Plan → ℕ → List ℕ
+abbrev pub steady_nodes : FaultPlan → ℕ → List ℕ
 steady_nodes plan slot = filter (is_steady_after plan slot) (below plan.nodes)
 
 -- how many of some slots in a row, from one on, pass a test
@@ -135,5 +135,5 @@ tally test from zero = 0
 tally test from (suc many) = (if test (from + many) then 1 else 0) + tally test from many
 
 -- a good slot by whose frame clocks are measured
-abbrev pub is_measured : Plan → ℕ → Bool
+abbrev pub is_measured : FaultPlan → ℕ → Bool
 is_measured plan slot = is_good_slot plan slot && has_node plan.measured (sender plan slot)

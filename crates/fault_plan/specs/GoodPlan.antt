@@ -2,11 +2,11 @@
 use Rattle.std.specs.Prelude.{◌≡◌, ◌≢◌, ℕ, suc, ◌+◌, ◌*◌, ◌<◌, ◌≤◌, true, length, Some, ◌⊎◌}
 use Rattle.std.specs.List.{Contains}
 use Rattle.ttp_base.specs.NodeSet.{most_nodes, has_node}
-use Rattle.fault_plan.specs.Plan.{Sending, Receiving, Incident, Return, Plan, sender, incident_at}
+use Rattle.fault_plan.specs.Plan.{Sending, Receiving, Incident, Return, FaultPlan, sender, incident_at}
 use Rattle.fault_plan.specs.Fates.{fate_of, is_sound_after, is_good_slot, is_lost, steady_nodes}
 
 -- an incident of the slot after this one loses a node that is sound after this one, by the turn of that slot
-pub record IsLossAfter (plan : Plan) (slot : ℕ) (incident : Incident) : Type 0 where
+pub record IsLossAfter (plan : FaultPlan) (slot : ℕ) (incident : Incident) : Type 0 where
   pub node : incident.node < plan.nodes
   pub was : is_sound_after plan slot incident.node ≡ true
   -- a sender loses its own frame
@@ -16,7 +16,7 @@ pub record IsLossAfter (plan : Plan) (slot : ℕ) (incident : Incident) : Type 0
       → (sender plan (suc slot) ≢ incident.node) × (is_sound_after plan slot (sender plan (suc slot)) ≡ true)
 
 -- a lost node returns by the good slot of another node
-pub record IsReturn (plan : Plan) (r : Return) : Type 0 where
+pub record IsReturn (plan : FaultPlan) (r : Return) : Type 0 where
   pub node : r.node < plan.nodes
   pub was : (slot : ℕ) × ((r.armed ≡ suc slot) × (is_lost (fate_of plan slot r.node) ≡ true))
   pub after : r.armed ≤ r.entered
@@ -29,7 +29,7 @@ pub record IsReturn (plan : Plan) (r : Return) : Type 0 where
       → (q ≡ r) ⊎ ((q.entered + 2 * plan.nodes ≤ r.armed) ⊎ (r.entered + 2 * plan.nodes ≤ q.armed))
 
 -- a plan is good: incidents lie two rounds apart, each loses a sound node, and four nodes that last are measured
-pub record IsGoodPlan (plan : Plan) : Type 0 where
+pub record IsGoodPlan (plan : FaultPlan) : Type 0 where
   pub count : (4 ≤ plan.nodes) × (plan.nodes ≤ most_nodes)
   pub starter : (plan.starter < plan.nodes) × (has_node plan.begin plan.starter ≡ true)
   -- the first incident comes two rounds after the start, and each next one two rounds after the one before

@@ -16,7 +16,8 @@ use Rattle.ttp_world.specs.Returning.{carries_place, needed_back}
 use Rattle.ttp_world.specs.Script.{is_ever_on, is_on, is_armed, drift_of, reading_error, has_jump, jump_of}
 use Rattle.ttp_world.specs.Script.{flipped_bits}
 use Rattle.ttp_world.specs.Starts.{StartsAlone}
-use Rattle.fault_plan.specs.Plan.{Sending, Receiving, Jumping, Incident, Return, Plan, sender, incident_at, plan_of}
+use Rattle.fault_plan.specs.Plan.{Sending, Receiving, Jumping, Incident, Return, FaultPlan, sender, incident_at}
+use Rattle.fault_plan.specs.Plan.{fault_plan_of}
 use Rattle.fault_plan.specs.Fates.{Listening, fate_of, is_sound_after, is_good_slot, lost_since}
 use Rattle.fault_plan.specs.GoodPlan.{IsGoodPlan}
 use Rattle.fault_plan.specs.Places.{planned_place}
@@ -34,7 +35,7 @@ pub record IsWithinBounds (list : Medl) (script : Script) : Type 0 where
   pub still : (k slot : ℕ) → has_jump script k slot ≡ false → jump_of script k slot ≡ pos 0
 
 -- Who hears whom in a slot from the start on, and whose clock jumps.
-pub record IsHeardByPlan (script : Script) (start : ClusterStart) (plan : Plan) (slot : ℕ) : Type 0 where
+pub record IsHeardByPlan (script : Script) (start : ClusterStart) (plan : FaultPlan) (slot : ℕ) : Type 0 where
   -- the frame of a sound sender reaches each other sound node undisturbed on some channel
   pub heard : (r : ℕ) → r < plan.nodes → r ≢ sender plan slot → is_good_slot plan slot ≡ true
       → is_sound_after plan slot r ≡ true → loses script (sender plan slot) (start.slot + slot) r ≡ false
@@ -55,18 +56,18 @@ pub record IsHeardByPlan (script : Script) (start : ClusterStart) (plan : Plan) 
       → has_jump script incident.node (start.slot + slot) ≡ true
 
 -- the kind of the frame of a slot
-abbrev pub kind_in : Medl → Plan → ℕ → Kind
+abbrev pub kind_in : Medl → FaultPlan → ℕ → Kind
 kind_in list plan slot = kind_at list (planned_place list plan slot).round (planned_place list plan slot).slot
 
 -- A node that returns enters by the first frame of a sound node that it can join on, from the slot on from which it
 -- listens.
-pub record IsOffered (list : Medl) (plan : Plan) (r : Return) : Type 0 where
+pub record IsOffered (list : Medl) (plan : FaultPlan) (r : Return) : Type 0 where
   pub place : r.entered < plan.slots → carries_place (kind_in list plan r.entered) ≡ true
   pub none : (slot : ℕ) → r.armed ≤ slot → slot < r.entered → slot < plan.slots → is_good_slot plan slot ≡ true
       → carries_place (kind_in list plan slot) ≡ false
 
 -- A script does from a start on what a good plan says: all that an induction on members asks of the two.
-pub record FollowsPlan (list : Medl) (script : Script) (start : ClusterStart) (plan : Plan) : Type 0 where
+pub record FollowsPlan (list : Medl) (script : Script) (start : ClusterStart) (plan : FaultPlan) : Type 0 where
   pub good : IsGoodPlan plan
   -- no bit is flipped in the whole run
   pub flips : (k slot : ℕ) (c : Channel) → flipped_bits script k c slot ≡ []
@@ -85,7 +86,7 @@ pub record FollowsPlan (list : Medl) (script : Script) (start : ClusterStart) (p
       → jump_of script k (start.slot + slot) ≡ pos 0
 
 -- It does so, and keeps the list's bounds on clocks: all that an induction on members and clocks asks.
-pub record FollowsWithin (list : Medl) (script : Script) (start : ClusterStart) (plan : Plan) : Type 0 where
+pub record FollowsWithin (list : Medl) (script : Script) (start : ClusterStart) (plan : FaultPlan) : Type 0 where
   pub planned : FollowsPlan list script start plan
   pub bounds : IsWithinBounds list script
   -- the window is wider where a node returns
@@ -93,7 +94,7 @@ pub record FollowsWithin (list : Medl) (script : Script) (start : ClusterStart) 
 
 -- The plan is that of the script's faulty nodes: none of them returns, the sound nodes after a slot of the run are the
 -- correct ones, and each faulty node is lost in the slot in which it became faulty.
-pub record IsPlanOfFaults (list : Medl) (script : Script) (start : ClusterStart) (plan : Plan) : Type 0 where
+pub record IsPlanOfFaults (list : Medl) (script : Script) (start : ClusterStart) (plan : FaultPlan) : Type 0 where
   pub returns : plan.returns ≡ []
   pub sound : (slot k : ℕ) → k < length list.slots → start.slot + slot < script.slots
       → is_sound_after plan slot k ≡ is_correct_after list script (start.slot + slot) k
@@ -110,8 +111,8 @@ pub record KeepsByPlan (list : Medl) (script : Script) (slot : ℕ) : Type 0 whe
   pub alone : StartsAlone list script start
   pub on : (k : ℕ) → k < length list.slots → is_ever_on script k ≡ true → is_on script k start.slot ≡ true
   pub arms : (k slot : ℕ) → is_armed script k slot ≡ false
-  pub follows : FollowsWithin list script start (plan_of list script start)
-  pub faults : IsPlanOfFaults list script start (plan_of list script start)
+  pub follows : FollowsWithin list script start (fault_plan_of list script start)
+  pub faults : IsPlanOfFaults list script start (fault_plan_of list script start)
   -- each other node that is on then hears the cold start undisturbed on some channel
   pub heard : (k : ℕ) → start.slot < script.slots → k < length list.slots → k ≢ start.node
       → is_on script k start.slot ≡ true → loses script start.node start.slot k ≡ false

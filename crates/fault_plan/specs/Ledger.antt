@@ -1,11 +1,11 @@
 -- What a sound node's members and counts come from, by a plan alone.
 use Rattle.std.specs.Prelude.{ℕ, zero, suc, ◌+◌, Bool, true, false, ◌==◌, List, [], ◌∷◌, if◌then◌else◌}
 use Rattle.ttp_base.specs.NodeSet.{with_node, without_node}
-use Rattle.fault_plan.specs.Plan.{Plan, sender, enters}
+use Rattle.fault_plan.specs.Plan.{FaultPlan, sender, enters}
 use Rattle.fault_plan.specs.Fates.{is_good_slot, is_first_slot}
 
 -- the members after a slot, as every sound node has them that is not in doubt
-abbrev pub planned_members : Plan → ℕ → List ℕ
+abbrev pub planned_members : FaultPlan → ℕ → List ℕ
 planned_members plan zero = plan.starter ∷ []
 planned_members plan (suc slot) =
     if is_good_slot plan (suc slot) then with_node (planned_members plan slot) (sender plan (suc slot))
@@ -36,7 +36,7 @@ with_slot good first ledger = record {
 }
 
 -- node k's after a slot
-abbrev pub ledger_of : Plan → ℕ → ℕ → Ledger
+abbrev pub ledger_of : FaultPlan → ℕ → ℕ → Ledger
 ledger_of plan zero k = opened (sender plan 0 == k) 0
 ledger_of plan (suc slot) k =
     if sender plan (suc slot) == k then opened true (suc slot)

@@ -2,9 +2,9 @@
 use Rattle.std.specs.Prelude.{ℕ, zero, suc}
 use Rattle.ttp_world.specs.declared.medl.Medl.{Medl}
 use Rattle.ttp_world.specs.Diary.{Place, start_place, next_place}
-use Rattle.fault_plan.specs.Plan.{Plan}
+use Rattle.fault_plan.specs.Plan.{FaultPlan}
 
 -- counted from the cold start
-abbrev pub planned_place : Medl → Plan → ℕ → Place
+abbrev pub planned_place : Medl → FaultPlan → ℕ → Place
 planned_place list plan zero = start_place plan.starter
 planned_place list plan (suc slot) = next_place list (planned_place list plan slot)

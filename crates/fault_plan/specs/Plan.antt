@@ -30,7 +30,7 @@ pub record Return : Type 0 where
   pub entered : ℕ
 
 -- a plan of faults; slots are counted from the start
-pub record Plan : Type 0 where
+pub record FaultPlan : Type 0 where
   -- how many nodes take turns
   pub nodes : ℕ
   -- the node whose slot the start is
@@ -47,7 +47,7 @@ pub record Plan : Type 0 where
   pub returns : List Return
 
 -- whose slot it is
-abbrev pub sender : Plan → ℕ → ℕ
+abbrev pub sender : FaultPlan → ℕ → ℕ
 sender plan slot = (plan.starter + slot) % plan.nodes
 
 -- an incident is of a slot
@@ -55,7 +55,7 @@ abbrev pub is_in_slot : ℕ → Incident → Bool
 is_in_slot slot incident = incident.slot == slot
 
 -- the incident of a slot, if there is one
-abbrev pub incident_at : Plan → ℕ → Option Incident
+abbrev pub incident_at : FaultPlan → ℕ → Option Incident
 incident_at plan slot = find (is_in_slot slot) plan.incidents
 
 -- a return of node k begins in a slot
@@ -67,11 +67,11 @@ abbrev pub enters_there : ℕ → ℕ → Return → Bool
 enters_there slot k r = (r.entered == slot) && (r.node == k)
 
 -- node k listens again from a slot on
-abbrev pub is_armed_by : Plan → ℕ → ℕ → Bool
+abbrev pub is_armed_by : FaultPlan → ℕ → ℕ → Bool
 is_armed_by plan slot k = list_any (is_armed_there slot k) plan.returns
 
 -- node k enters in a slot
-abbrev pub enters : Plan → ℕ → ℕ → Bool
+abbrev pub enters : FaultPlan → ℕ → ℕ → Bool
 enters plan slot k = list_any (enters_there slot k) plan.returns && nat_lt slot plan.slots
 
 -- The plan of the single-fault hypothesis, by which no node returns.
@@ -91,8 +91,8 @@ planned_incident list script start faulty = record {
 }
 
 -- the plan of the nodes that the hypothesis calls faulty, of whom none returns
-abbrev pub plan_of : Medl → Script → ClusterStart → Plan
-plan_of list script start = record {
+abbrev pub fault_plan_of : Medl → Script → ClusterStart → FaultPlan
+fault_plan_of list script start = record {
   nodes = length list.slots;
   starter = start.node;
   slots = script.slots - start.slot;

@@ -7,11 +7,11 @@ use Rattle.ttp_world.specs.BackSafety.{is_armed_among}
 use Rattle.ttp_world.specs.Hypothesis.{ClusterStart}
 use Rattle.ttp_world.specs.Returning.{back_faulty_after, is_back_correct_after}
 use Rattle.ttp_world.specs.Script.{is_armed}
-use Rattle.fault_plan.specs.Plan.{Plan, incident_at, enters}
+use Rattle.fault_plan.specs.Plan.{FaultPlan, incident_at, enters}
 use Rattle.fault_plan.specs.Fates.{fate_of, is_sound_after, lost_since}
 
 -- after a slot node k is sound again: in the round up to it it did not enter, and no node was lost
-pub record IsSoundAgain (plan : Plan) (slot k : ℕ) : Type 0 where
+pub record IsSoundAgain (plan : FaultPlan) (slot k : ℕ) : Type 0 where
   pub late : plan.nodes ≤ slot
   pub sound : is_sound_after plan slot k ≡ true
   pub quiet : (turn : ℕ) → turn ≤ slot → slot < turn + plan.nodes → incident_at plan turn ≡ None
@@ -20,7 +20,7 @@ pub record IsSoundAgain (plan : Plan) (slot k : ℕ) : Type 0 where
 -- The plan is that of the script's faulty nodes and of its arm lines: the nodes that are correct after a slot of the
 -- run are sound, each faulty node that was not armed since is lost in the slot in which it became faulty, and each node
 -- that was armed four rounds ago is sound again for a round.
-pub record IsPlanOfReturns (list : Medl) (script : Script) (start : ClusterStart) (plan : Plan) : Type 0 where
+pub record IsPlanOfReturns (list : Medl) (script : Script) (start : ClusterStart) (plan : FaultPlan) : Type 0 where
   pub sound : (slot k : ℕ) → k < length list.slots → start.slot + slot < script.slots
       → is_back_correct_after list script (start.slot + slot) k ≡ true
       → is_sound_after plan slot k ≡ true

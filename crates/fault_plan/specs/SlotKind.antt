@@ -1,6 +1,6 @@
 -- What a slot is by the fate of the node whose slot it is.
 use Rattle.std.specs.Prelude.{◌≡◌, ◌≢◌, ℕ, suc, ◌+◌, Bool, true, false, ◌==◌, Some, None, if◌then◌else◌}
-use Rattle.fault_plan.specs.Plan.{Change, Sending, Receiving, Jumping, Incident, Plan, sender, incident_at}
+use Rattle.fault_plan.specs.Plan.{Change, Sending, Receiving, Jumping, Incident, FaultPlan, sender, incident_at}
 use Rattle.fault_plan.specs.Fates.{Fate, Sound, Falling, Fallen, fate_of, is_sound_after, may_stay}
 
 -- what a slot is by the fate of its node
@@ -31,7 +31,7 @@ kind_by_fate nodes slot (Fallen change since shown) = kind_if_lost nodes slot ch
 kind_by_fate nodes slot _ = Idle
 
 -- that of a slot of a plan, counted from the start
-abbrev pub slot_kind : Plan → ℕ → SlotKind
+abbrev pub slot_kind : FaultPlan → ℕ → SlotKind
 slot_kind plan slot = kind_by_fate plan.nodes slot (fate_of plan slot (sender plan slot))
 
 -- its node's frame is one of the group's
@@ -49,7 +49,7 @@ is_first_kind _ = false
 -- sender comes only where the sender is sound or sends nothing.
 
 -- of a slot in which nothing is sent: its node was not sound, and an incident in it is the jump of another node
-pub record IsIdle (plan : Plan) (slot : ℕ) : Type 0 where
+pub record IsIdle (plan : FaultPlan) (slot : ℕ) : Type 0 where
   pub was : is_sound_after plan slot (sender plan (suc slot)) ≡ false
   pub left : may_stay plan.nodes slot (fate_of plan slot (sender plan (suc slot))) ≡ false
   -- nobody loses a frame
@@ -57,14 +57,14 @@ pub record IsIdle (plan : Plan) (slot : ℕ) : Type 0 where
       → (incident.change ≡ Jumping) × (incident.node ≢ sender plan (suc slot))
 
 -- of a good slot: its node stays sound, and an incident in it is of another node, and not by sending
-pub record IsGoodAfter (plan : Plan) (slot : ℕ) : Type 0 where
+pub record IsGoodAfter (plan : FaultPlan) (slot : ℕ) : Type 0 where
   pub was : is_sound_after plan slot (sender plan (suc slot)) ≡ true
   pub is : is_sound_after plan (suc slot) (sender plan (suc slot)) ≡ true
   pub others : (incident : Incident) → incident_at plan (suc slot) ≡ Some incident
       → (incident.change ≢ Sending) × (incident.node ≢ sender plan (suc slot))
 
 -- of a slot in which its node is lost, which was sound: by sending or by a jump
-pub record IsLostAfter (plan : Plan) (slot : ℕ) (change : Change) : Type 0 where
+pub record IsLostAfter (plan : FaultPlan) (slot : ℕ) (change : Change) : Type 0 where
   pub was : is_sound_after plan slot (sender plan (suc slot)) ≡ true
   pub incident : Incident
   pub found : incident_at plan (suc slot) ≡ Some incident
@@ -73,19 +73,19 @@ pub record IsLostAfter (plan : Plan) (slot : ℕ) (change : Change) : Type 0 whe
   pub not_deaf : change ≢ Receiving
 
 -- of the first own slot of a node that was lost before: nobody is lost in it
-pub record IsShownAfter (plan : Plan) (slot : ℕ) (change : Change) (since : ℕ) : Type 0 where
+pub record IsShownAfter (plan : FaultPlan) (slot : ℕ) (change : Change) (since : ℕ) : Type 0 where
   pub was : fate_of plan slot (sender plan (suc slot)) ≡ Falling change since
   pub quiet : incident_at plan (suc slot) ≡ None
   pub not_silent : change ≢ Sending
 
 -- of its second, a round later: nobody is lost in it
-pub record IsLastAfter (plan : Plan) (slot : ℕ) (change : Change) (since shown : ℕ) : Type 0 where
+pub record IsLastAfter (plan : FaultPlan) (slot : ℕ) (change : Change) (since shown : ℕ) : Type 0 where
   pub was : fate_of plan slot (sender plan (suc slot)) ≡ Fallen change since shown
   pub round : shown + plan.nodes ≡ suc slot
   pub quiet : incident_at plan (suc slot) ≡ None
 
 -- what the kind of the slot after this one tells
-abbrev pub IsKindAfter : Plan → ℕ → SlotKind → Type 0
+abbrev pub IsKindAfter : FaultPlan → ℕ → SlotKind → Type 0
 IsKindAfter plan slot Idle = IsIdle plan slot
 IsKindAfter plan slot Good = IsGoodAfter plan slot
 IsKindAfter plan slot (Lost change) = IsLostAfter plan slot change

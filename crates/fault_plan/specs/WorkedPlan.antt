@@ -7,7 +7,7 @@ use Rattle.ttp_world.specs.declared.script.Event.TheVariants as event
 use Rattle.ttp_world.specs.declared.script.Fault.TheVariants as fault
 use Rattle.ttp_world.specs.declared.script.Script.{Script}
 use Rattle.ttp_world.specs.Hypothesis.{ClusterStart}
-use Rattle.fault_plan.specs.Plan.{Plan, Sending, Receiving, Jumping}
+use Rattle.fault_plan.specs.Plan.{FaultPlan, Sending, Receiving, Jumping}
 
 abbrev bare_slot : SlotPlan
 bare_slot = record { kinds = kind.I ∷ []; payload = 0; sync = true; start = true; requests = false; live = 1 }
@@ -42,7 +42,7 @@ abbrev pub first_start : ClusterStart
 first_start = record { slot = 14; node = 0 }
 
 -- the plan of the script with three faults
-abbrev pub three_losses : Plan
+abbrev pub three_losses : FaultPlan
 three_losses = record {
   nodes = 7;
   starter = 0;
@@ -55,7 +55,7 @@ three_losses = record {
 }
 
 -- node 2 alone is lost, in its own slot 16; it is armed in its own slot 30, and enters in slot 31, which is node 3's
-abbrev pub one_return : Plan
+abbrev pub one_return : FaultPlan
 one_return = record three_losses {
   incidents = record { slot = 16; node = 2; change = Sending } ∷ [];
   returns = record { node = 2; armed = 30; entered = 31 } ∷ [];

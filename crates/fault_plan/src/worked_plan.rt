@@ -3,7 +3,7 @@
 ghost use Rattle.std.specs.Prelude.{◌≡◌, true, false, [], ◌∷◌, map, Some};
 ghost use Rattle.ttp_world.specs.declared.keep.Keep.TheVariants as keep;
 ghost use Rattle.ttp_world.specs.Hypothesis.{keeps, start_of};
-ghost use Rattle.fault_plan.specs.Plan.{Sending, Receiving, Jumping, plan_of};
+ghost use Rattle.fault_plan.specs.Plan.{Sending, Receiving, Jumping, fault_plan_of};
 ghost use Rattle.fault_plan.specs.Fates.{Sound, Falling, Fallen, Listening, fate_of, lasting_nodes};
 ghost use Rattle.fault_plan.specs.Ledger.{planned_members, ledger_of};
 ghost use Rattle.fault_plan.specs.SlotKind.{Idle, Good, Lost, Shown, Last, slot_kind};
@@ -19,7 +19,7 @@ ghost use Rattle.fault_plan.specs.WorkedPlan.{seven_nodes, three_faults, first_s
 fn one_of_each()
     ensures keeps { keeps seven_nodes three_faults ≡ keep.Yes 14 }
     ensures start { start_of seven_nodes three_faults ≡ Some first_start }
-    ensures plan { plan_of seven_nodes three_faults first_start ≡ three_losses }
+    ensures plan { fault_plan_of seven_nodes three_faults first_start ≡ three_losses }
     ensures sender { fate_of three_losses 20 2 ≡ Fallen Sending 16 16 }
     ensures receiver { fate_of three_losses 32 5 ≡ Falling Receiving 31 }
     ensures receiver_shown { fate_of three_losses 33 5 ≡ Fallen Receiving 31 33 }

@@ -6,7 +6,7 @@ use Rattle.std.specs.Int.{int_min, int_max}
 use Rattle.std.proofs.lemmas.Int.{ints, clamps}
 use Rattle.ttp_world.specs.Clock.{middle_half}
 use Rattle.ttp_world.proofs.Averages.{Between, half_between}
-use Rattle.fta_sync.specs.StandsFor.{most_deviation, IsDeviation, is_between}
+use Rattle.fta_sync.specs.StandsFor.{most_deviation, IsDeviation, is_value_between}
 use Rattle.fta_sync.proofs.MiddleTwo.{paired_sum, middle_half-paired}
 
 -- The sum of the middle two, where one of the four may be anything.
@@ -46,12 +46,13 @@ without_first low high a b c d p q r =
     (omega (arith, ints, clamps, q.0, r.0), omega (arith, ints, clamps, p.1, q.1))
     (omega (arith, ints, clamps, p.0, q.0), omega (arith, ints, clamps, q.1, r.1))
 
-both_of_test : (low high z : ℤ) → is_between low high z ≡ true → Between low high z
+both_of_test : (low high z : ℤ) → is_value_between low high z ≡ true → Between low high z
 both_of_test low high z h = (grind (arith, ints), grind (arith, ints))
 
 -- three of four lie between the bounds
-three_between : (low high a b c d : ℤ) (w x y z : Bool) → is_between low high a ≡ w → is_between low high b ≡ x
-    → is_between low high c ≡ y → is_between low high d ≡ z
+three_between : (low high a b c d : ℤ) (w x y z : Bool) → is_value_between low high a ≡ w
+    → is_value_between low high b ≡ x
+    → is_value_between low high c ≡ y → is_value_between low high d ≡ z
     → 3 ≤ (((0 + cond w 1 0) + cond x 1 0) + cond y 1 0) + cond z 1 0
     → HalfBetween low high (paired_sum a b (int_min c d) (int_max c d))
 three_between low high a b c d true true true z p q r s enough =
@@ -75,13 +76,14 @@ three_between low high a b c d false false false true p q r s enough = absurd (o
 three_between low high a b c d false false false false p q r s enough = absurd (omega (arith, enough))
 
 -- so does the average of four
-pub middle_half-between : (low high a b c d : ℤ) → 3 ≤ count_by (is_between low high) (a ∷ b ∷ c ∷ d ∷ [])
+pub middle_half-between : (low high a b c d : ℤ) → 3 ≤ count_by (is_value_between low high) (a ∷ b ∷ c ∷ d ∷ [])
     → (low ≤ℤ middle_half (a ∷ b ∷ c ∷ d ∷ [])) × (middle_half (a ∷ b ∷ c ∷ d ∷ []) ≤ℤ high)
 middle_half-between low high a b c d enough =
     let sum = paired_sum a b (int_min c d) (int_max c d) in
     let holds : HalfBetween low high sum =
-    three_between low high a b c d (is_between low high a) (is_between low high b) (is_between low high c)
-    (is_between low high d) refl refl refl refl enough in
+    three_between low high a b c d (is_value_between low high a) (is_value_between low high b)
+    (is_value_between low high c)
+    (is_value_between low high d) refl refl refl refl enough in
     subst (Between low high) (sym (middle_half-paired a b c d)) (half_between low high sum holds.0 holds.1)
 
 -- Four deviations: the sum of the middle two fits 64 bits, and half of it is a deviation.

@@ -28,11 +28,11 @@ abbrev pub IsAverage : List ℤ → ℤ → Type 0
 IsAverage measures average = (notes : List ℤ) → measures ≡ take kept_notes notes → average ≡ fta notes
 
 -- a value lies between two numbers, both included
-abbrev pub is_between : ℤ → ℤ → ℤ → Bool
-is_between low high z = int_le low z && int_le z high
+abbrev pub is_value_between : ℤ → ℤ → ℤ → Bool
+is_value_between low high z = int_le low z && int_le z high
 
 -- where there are four and three of them lie between two numbers, so does this
 abbrev pub LiesBetween : List ℤ → ℤ → Type 0
 LiesBetween measures average =
-    (low high : ℤ) → kept_notes ≤ length measures → 3 ≤ count_by (is_between low high) measures
+    (low high : ℤ) → kept_notes ≤ length measures → 3 ≤ count_by (is_value_between low high) measures
     → (low ≤ℤ average) × (average ≤ℤ high)

@@ -11,7 +11,7 @@ use Rattle.nbw_ring.specs.declared.view.Message.{Message}
 use Rattle.nbw_ring.specs.States.{ReaderState}
 use Rattle.ttp_world.specs.declared.script.Source.{Source}
 use Rattle.host_port.specs.declared.report.ReadLine.{ReadLine}
-use Rattle.host_port.specs.Rings.{place_of}
+use Rattle.host_port.specs.Rings.{source_place}
 use Rattle.host_port.specs.Reading.{got_of}
 use Rattle.host_port.specs.Queues.{calls_at, pairs_at, queue_at, AreQueued}
 use Rattle.host_port.proofs.ReaderLists.{within_list}
@@ -58,28 +58,28 @@ pub record AreLined (calls : List Source) (whole : List (List Message)) (host i 
   pub pairs : (place : ℕ) → pairs_at place lines ++ queue_at queues place ≡ queue_at whole place
   pub queued : AreQueued (drop i calls) queues
 
-calls_at-here : (place : ℕ) (from : Source) (calls : List Source) → place_of from ≡ place
+calls_at-here : (place : ℕ) (from : Source) (calls : List Source) → source_place from ≡ place
     → calls_at place (from ∷ calls) ≡ 1 + calls_at place calls
 calls_at-here place from calls same = grind (arith, common_steps, nat_tests)
 
-calls_at-other : (place : ℕ) (from : Source) (calls : List Source) → place_of from ≢ place
+calls_at-other : (place : ℕ) (from : Source) (calls : List Source) → source_place from ≢ place
     → calls_at place (from ∷ calls) ≡ calls_at place calls
 calls_at-other place from calls apart = grind (arith, common_steps, nat_tests)
 
 -- there is a pair for the next read
 pub next_some : (calls : List Source) (i : ℕ) (from : Source) (queues : List (List Message)) → i < length calls
-    → from ≡ get_or calls i from → AreQueued (drop i calls) queues → 0 < length (queue_at queues (place_of from))
+    → from ≡ get_or calls i from → AreQueued (drop i calls) queues → 0 < length (queue_at queues (source_place from))
 next_some calls i from queues within here queued =
     let next : drop i calls ≡ from ∷ drop (i + 1) calls =
     drop_more calls i from within ∙ ap (λ f. f ∷ drop (i + 1) calls) (sym here) in
-    let counted = ap (calls_at (place_of from)) next ∙ calls_at-here (place_of from) from (drop (i + 1) calls) refl in
-    omega (arith, queued (place_of from), counted)
+    let counted = ap (calls_at (source_place from)) next ∙ calls_at-here (source_place from) from (drop (i + 1) calls) refl in
+    omega (arith, queued (source_place from), counted)
 
-pairs_at-here : (place : ℕ) (lines : List ReadLine) (line : ReadLine) → place_of line.source ≡ place
+pairs_at-here : (place : ℕ) (lines : List ReadLine) (line : ReadLine) → source_place line.source ≡ place
     → pairs_at place (lines ++ line ∷ []) ≡ pairs_at place lines ++ line.pair ∷ []
 pairs_at-here place lines line same = grind (arith, common_steps, nat_tests, filter-append, map-append)
 
-pairs_at-other : (place : ℕ) (lines : List ReadLine) (line : ReadLine) → place_of line.source ≢ place
+pairs_at-other : (place : ℕ) (lines : List ReadLine) (line : ReadLine) → source_place line.source ≢ place
     → pairs_at place (lines ++ line ∷ []) ≡ pairs_at place lines
 pairs_at-other place lines line apart = grind (arith, common_steps, nat_tests, filter-append, append-nil)
 
@@ -87,8 +87,8 @@ pairs_at-other place lines line apart = grind (arith, common_steps, nat_tests, f
 pub lined_more : {calls : List Source} {whole before after : List (List Message)} {host i : ℕ} {lines : List ReadLine}
     (line : ReadLine) → AreLined calls whole host i lines before → i < length calls
     → line.source ≡ get_or calls i line.source → line.host ≡ host
-    → queue_at before (place_of line.source) ≡ line.pair ∷ queue_at after (place_of line.source)
-    → ((other : ℕ) → other ≢ place_of line.source → queue_at after other ≡ queue_at before other)
+    → queue_at before (source_place line.source) ≡ line.pair ∷ queue_at after (source_place line.source)
+    → ((other : ℕ) → other ≢ source_place line.source → queue_at after other ≡ queue_at before other)
     → AreLined calls whole host (i + 1) (lines ++ line ∷ []) after
 lined_more {calls} {whole} {before} {after} {host} {i} {lines} line so within from hosted first others =
     let next : drop i calls ≡ line.source ∷ drop (i + 1) calls =

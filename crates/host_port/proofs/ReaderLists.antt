@@ -7,10 +7,10 @@ use Rattle.std.proofs.lemmas.List.{map-set, set-get_or, get_or-set_same, get_or_
 use Rattle.nbw_ring.specs.States.{RingState, WriterState, ReaderState, new_reader}
 use Rattle.ttp_world.specs.declared.host_lines.HostRead.{HostRead}
 use Rattle.ttp_world.specs.declared.script.Source.{Source}
-use Rattle.host_port.specs.Rings.{ControllerState, place_of, at_source, HaveBuffers}
+use Rattle.host_port.specs.Rings.{ControllerState, source_place, at_source, HaveBuffers}
 use Rattle.host_port.specs.Writing.{written}
 use Rattle.host_port.specs.Reading.{rings_read, IsItsRing, AreTheirRings, reads_at, lent, IsLeft, Reads, buffers_of}
-use Rattle.host_port.specs.Reading.{got_of, settled, all_settled, IsSettled}
+use Rattle.host_port.specs.Reading.{got_of, settled, all_settled, IsReaderSettled}
 use Rattle.host_port.specs.Queues.{all_lent}
 
 -- a place lies within a list where something is so of what is there that is not so of what is told for no place
@@ -143,12 +143,13 @@ still_rings readers buffers place old new here reads =
 
 -- and the one that read is found where it was
 pub reads_there : {shown readers : List (Option ReaderState)} (from : Source) {place : ℕ} {old : Option ReaderState}
-    (new : Option ReaderState) → readers ≡ shown → place ≡ place_of from → old ≡ get_or readers place old → IsLeft (at_source shown from)
+    (new : Option ReaderState) → readers ≡ shown → place ≡ source_place from → old ≡ get_or readers place old
+    → IsLeft (at_source shown from)
     → Reads (buffers_of old) old new
     → Reads (buffers_of (at_source shown from)) (at_source shown from) (at_source (set readers place new) from)
 reads_there {shown} {readers} from {place} {old} new same placed here left reads =
     let within : place < length readers = rw (same, placed)
-    (within_list IsLeft None shown (place_of from) (λ none. none) left) in
+    (within_list IsLeft None shown (source_place from) (λ none. none) left) in
     let after : get_or (set readers place new) place None ≡ new = get_or-set_same readers place new None within in
     let before : old ≡ at_source shown from =
     get_or_read readers place old within here None ∙ (λ k. get_or (same k) (placed k) None) in
@@ -248,15 +249,16 @@ next_settled {ws} {now} {rs} {i} {writer} {reader} next new done =
     (λ k. set (next.settled_so k) i ((done ∙ (λ j. settled (next_writer next j) (next.reader_is j))) k))
     ∙ rw add-one (all_settled-more ws rs i next.writers next.readers)
 
-pub settled_along : {w v : Option WriterState} {r q : Option ReaderState} → w ≡ v → r ≡ q → IsSettled w r
-    → IsSettled v q
+pub settled_along : {w v : Option WriterState} {r q : Option ReaderState} → w ≡ v → r ≡ q → IsReaderSettled w r
+    → IsReaderSettled v q
 settled_along ws rs settled_so = rw (← ws, ← rs) settled_so
 
 -- one more
 pub settled_next : (ws : List (Option WriterState)) (rs : List (Option ReaderState)) (i : ℕ)
     {writer : Option WriterState} {reader : Option ReaderState} → writer ≡ get_or ws i None → reader ≡ get_or rs i None
-    → IsSettled writer reader → ((j : ℕ) → j < i → IsSettled (get_or ws j None) (get_or rs j None)) → (j : ℕ)
-    → j < i + 1 → IsSettled (get_or ws j None) (get_or rs j None)
+    → IsReaderSettled writer reader → ((j : ℕ) → j < i → IsReaderSettled (get_or ws j None) (get_or rs j None))
+    → (j : ℕ)
+    → j < i + 1 → IsReaderSettled (get_or ws j None) (get_or rs j None)
 settled_next ws rs i here there settled_one below =
     below_more _ _ below (rw (← here, ← there) settled_one)
 

@@ -7,7 +7,7 @@ use Rattle.ttp_world.specs.declared.host_lines.HostRead.{HostRead}
 use Rattle.ttp_world.specs.declared.script.Source.{Source}
 use Rattle.host_port.specs.declared.report.ReadLine.{ReadLine}
 use Rattle.host_port.specs.declared.reading.HostReaders.TheInside.{Inside}
-use Rattle.host_port.specs.Rings.{ControllerState, place_of}
+use Rattle.host_port.specs.Rings.{ControllerState, source_place}
 use Rattle.host_port.specs.Reading.{ReadersState, reads_at, lent, got_of}
 
 -- a reader of each ring that is read, at its source's place, and the sources of the reads that got a message
@@ -26,7 +26,7 @@ spare_of None = 0
 
 -- how many reads are of the source at a place
 abbrev pub calls_at : ℕ → List Source → ℕ
-calls_at place calls = count_by (λ from. place_of from == place) calls
+calls_at place calls = count_by (λ from. source_place from == place) calls
 
 -- each read that got a message is counted, and there is room for those that are left
 pub record AreCounted (r : Inside) : Type 0 where
@@ -35,7 +35,7 @@ pub record AreCounted (r : Inside) : Type 0 where
 
 -- the pairs of the lines of the source at a place
 abbrev pub pairs_at : ℕ → List ReadLine → List Message
-pairs_at place lines = map (λ line. line.pair) (filter (λ line. place_of line.source == place) lines)
+pairs_at place lines = map (λ line. line.pair) (filter (λ line. source_place line.source == place) lines)
 
 -- the pairs that wait for the lines of the source at a place
 abbrev pub queue_at : List (List Message) → ℕ → List Message

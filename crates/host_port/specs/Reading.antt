@@ -9,7 +9,7 @@ use Rattle.nbw_ring.specs.States.{RingState, WriterState, ReaderState, new_reade
 use Rattle.ttp_world.specs.declared.host_lines.HostRead.{HostRead}
 use Rattle.ttp_world.specs.declared.script.Source.{Source}
 use Rattle.host_port.specs.declared.report.ReadLine.{ReadLine}
-use Rattle.host_port.specs.Rings.{PortState, ControllerState, place_of}
+use Rattle.host_port.specs.Rings.{PortState, ControllerState, source_place}
 use Rattle.host_port.specs.Fetching.{IsWhole, HasSeen}
 
 -- a reader of each ring that is read, at the place of its source, and the sources of the reads that got a message, in
@@ -44,7 +44,7 @@ AreReadersOfEnd end r = AreTheirRings (map (option_map (λ w. w.ring)) end) (rin
 
 -- a read is of a node's host, and of the ring at this place
 abbrev pub is_read_at : ℕ → ℕ → HostRead → Bool
-is_read_at node place read = (read.host == node) && (place_of read.source == place)
+is_read_at node place read = (read.host == node) && (source_place read.source == place)
 
 -- how often a node's host reads the source at a place, by the reads of a slot
 abbrev pub reads_at : List HostRead → ℕ → ℕ → ℕ
@@ -52,7 +52,7 @@ reads_at reads node place = count_by (is_read_at node place) reads
 
 -- the same by the source
 abbrev pub reads_from : List HostRead → ℕ → Source → ℕ
-reads_from reads node from = reads_at reads node (place_of from)
+reads_from reads node from = reads_at reads node (source_place from)
 
 -- a ring's new reader with room for so many messages, if there is a ring, and any is read
 abbrev pub lent : Option WriterState → ℕ → Option ReaderState
@@ -131,9 +131,9 @@ pub record HaveSomeSettled (before : ControllerState) (readers : List (Option Re
     pub wanted : (count ≡ 0) ⊎ IsSome (get_or readers count None)
 
 -- what the reader got is the writer's messages, and it loaded no counter above twice the writer's number
-abbrev pub IsSettled : Option WriterState → Option ReaderState → Type 0
-IsSettled (Some w) (Some r) = IsWhole w r × HasSeen w r
-IsSettled _ _ = Unit {0}
+abbrev pub IsReaderSettled : Option WriterState → Option ReaderState → Type 0
+IsReaderSettled (Some w) (Some r) = IsWhole w r × HasSeen w r
+IsReaderSettled _ _ = Unit {0}
 
 -- what a reader got, if there is one
 abbrev pub got_of : Option ReaderState → List Message
@@ -142,7 +142,7 @@ got_of None = []
 
 -- the pairs of the lines of one source, in their order
 abbrev pub is_line_from : Source → ReadLine → Bool
-is_line_from from line = place_of line.source == place_of from
+is_line_from from line = source_place line.source == source_place from
 
 abbrev pub pairs_from : Source → List ReadLine → List Message
 pairs_from from lines = map (λ line. line.pair) (filter (is_line_from from) lines)

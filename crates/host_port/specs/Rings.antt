@@ -11,13 +11,13 @@ use Rattle.ttp_world.specs.Words.{word_count}
 
 -- Each source has a place among the rings that a host reads: the status the first one, and then each node, by its
 -- number.
-abbrev pub place_of : Source → ℕ
-place_of source.Status = 0
-place_of (source.Node k) = k + 1
+abbrev pub source_place : Source → ℕ
+source_place source.Status = 0
+source_place (source.Node k) = k + 1
 
 -- what is there for a source, if anything is
 abbrev pub at_source : {A : Type 0} → List (Option A) → Source → Option A
-at_source xs from = get_or xs (place_of from) None
+at_source xs from = get_or xs (source_place from) None
 
 -- the node, how many buffers each ring has, the rings that its host reads, each at the place of its source, and the
 -- ring that its host writes, if there is one

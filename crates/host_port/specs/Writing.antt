@@ -5,7 +5,7 @@ use Rattle.nbw_ring.specs.States.{WriterState, with_message}
 use Rattle.ttp_world.specs.declared.script.Source.{Source}
 use Rattle.ttp_world.specs.declared.script.TheConstants.{PAYLOAD_LIMIT}
 use Rattle.ttp_world.specs.Words.{word_count}
-use Rattle.host_port.specs.Rings.{ControllerState, at_source, place_of}
+use Rattle.host_port.specs.Rings.{ControllerState, at_source, source_place}
 
 -- a ring's writer with one message more, if there is one
 abbrev pub written : Option WriterState → List ℕ → Option WriterState
@@ -13,7 +13,7 @@ written writer words = option_map (λ w. with_message w words) writer
 
 -- the ring of this source has one message more, and every other is as it was
 abbrev pub written_at : ControllerState → Source → List ℕ → ControllerState
-written_at end from words = slice_set end (place_of from) (written (at_source end from) words)
+written_at end from words = slice_set end (source_place from) (written (at_source end from) words)
 
 -- there is a ring, which takes one message more
 abbrev pub HasRoom : Option WriterState → Type 0

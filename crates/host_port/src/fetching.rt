@@ -1,6 +1,6 @@
 //! How a controller takes its host's newest message.
 ghost use Rattle.std.specs.Prelude.{◌≡◌, ◌+◌, ◌/◌, ◌≤◌, length, slice_get, IsSome, IsSomeAnd, IfOk, IsOk, OnOk};
-ghost use Rattle.nbw_ring.specs.Attempts.{number_of, attempt_steps, OnGot, OnOverrun};
+ghost use Rattle.nbw_ring.specs.Attempts.{number_answered, attempt_steps, OnGot, OnOverrun};
 ghost use Rattle.nbw_ring.specs.States.{new_reader};
 ghost use Rattle.host_port.specs.Rings.{IsHostEndOf};
 ghost use Rattle.host_port.specs.Fetching.{IsFetcherOf, IsWhole, HasSeen, joined};
@@ -70,8 +70,8 @@ impl Fetcher {
         ensures steps { self.new.steps ≡ self.old.steps + attempt_steps self.new }
         ensures later { self.old.seen ≤ self.new.first }
         ensures forward { self.new.first ≤ self.new.seen }
-        ensures number { number_of result ≡ self.new.first / 2 }
-        ensures floor { self.old.floor ≤ number_of result }
+        ensures number { number_answered result ≡ self.new.first / 2 }
+        ensures floor { self.old.floor ≤ number_answered result }
         ensures got { OnGot self.old self.new result }
         ensures overrun { OnOverrun self.old self.new result }
     {
@@ -102,8 +102,8 @@ impl Port {
         ensures steps { f.new.steps ≡ f.old.steps + attempt_steps f.new }
         ensures later { f.old.seen ≤ f.new.first }
         ensures forward { f.new.first ≤ f.new.seen }
-        ensures number { number_of result ≡ f.new.first / 2 }
-        ensures floor { f.old.floor ≤ number_of result }
+        ensures number { number_answered result ≡ f.new.first / 2 }
+        ensures floor { f.old.floor ≤ number_answered result }
         ensures got { OnGot f.old f.new result }
         ensures overrun { OnOverrun f.old f.new result }
     {

@@ -3,14 +3,14 @@ ghost use Rattle.std.specs.Prelude.{◌≡◌, ◌≢◌, ◌^◌, ◌<◌, ◌�
 ghost use Rattle.std.specs.Prelude.{IfOk, IfSome, IsNone};
 ghost use Rattle.ttp_world.specs.declared.script.Source.{Source};
 ghost use Rattle.ttp_world.specs.Script.{reads_in};
-ghost use Rattle.host_port.specs.Rings.{at_source, place_of, IsControllerEndOf};
+ghost use Rattle.host_port.specs.Rings.{at_source, source_place, IsControllerEndOf};
 ghost use Rattle.host_port.specs.Reading.{AreReadersOf, AreReadersOfEnd, buffers_of, rings_read, reads_at, reads_from, lent, IsLeft, Reads, got_one};
 ghost use Rattle.host_port.specs.Reading.{calls_after};
 ghost use Rattle.host_port.specs.Queues.{all_lent, spare_of};
 
 use crate::ends::ControllerEnd;
 use crate::port::Port;
-use crate::source::place_of;
+use crate::source::source_place;
 use nbw_ring::{Reader, Try, Writer};
 use std::alloc::Global;
 use std::marker::Model;
@@ -46,7 +46,7 @@ fn reads_at(reads: &[HostRead], node: u8, place: usize) -> usize
 {
     reads
         .iter()
-        .filter(|read| read.host == node && place_of(read.source) == place)
+        .filter(|read| read.host == node && source_place(read.source) == place)
         .count()
 }
 
@@ -142,11 +142,11 @@ impl HostReaders {
         ensures rings { rings_read self.new.readers ≡ rings_read self.old.readers }
         ensures reads { let old = at_source self.old.readers source in
             Reads (buffers_of old) old (at_source self.new.readers source) }
-        ensures others { (other : Source) → place_of other ≢ place_of source
+        ensures others { (other : Source) → source_place other ≢ source_place source
             → at_source self.new.readers other ≡ at_source self.old.readers other }
         ensures calls { self.new.calls ≡ calls_after self.old.calls source (at_source self.new.readers source) }
     {
-        let place = place_of(source);
+        let place = source_place(source);
         if read_one(rt, &mut self.readers[place], gate) {
             self.calls.push_reserved(source);
         }
@@ -182,7 +182,7 @@ impl Port {
         requires left { IsLeft (at_source r.old.readers source) }
         ensures own { AreReadersOf self.now r.new }
         ensures reads { Reads self.now.buffers (at_source r.old.readers source) (at_source r.new.readers source) }
-        ensures others { (other : Source) → place_of other ≢ place_of source
+        ensures others { (other : Source) → source_place other ≢ source_place source
             → at_source r.new.readers other ≡ at_source r.old.readers other }
         ensures calls { r.new.calls ≡ calls_after r.old.calls source (at_source r.new.readers source) }
     {

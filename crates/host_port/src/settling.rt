@@ -3,7 +3,8 @@ ghost use Rattle.std.specs.Prelude.{◌≡◌, ◌≢◌, ◌+◌, ◌≤◌, �
 ghost use Rattle.std.specs.Prelude.{vec_len, vec_capacity, option_map, IfOk, IfSome, IsSome, OnOk, OnErr};
 ghost use Rattle.ttp_world.specs.declared.script.Source.{Source};
 ghost use Rattle.host_port.specs.Rings.{at_source, IsControllerEndOf};
-ghost use Rattle.host_port.specs.Reading.{AreReadersOf, AreReadersOfEnd, AreTheirRings, IsItsRing, rings_read, settled, all_settled, HaveSomeSettled, IsSettled, got_of, pairs_from};
+ghost use Rattle.host_port.specs.Reading.{AreReadersOf, AreReadersOfEnd, AreTheirRings, IsItsRing, rings_read, settled};
+ghost use Rattle.host_port.specs.Reading.{all_settled, HaveSomeSettled, IsReaderSettled, got_of, pairs_from};
 ghost use Rattle.std.specs.Vec.Iter.{into_iter_items};
 ghost use Rattle.host_port.specs.Queues.{pairs_at, queue_at, AreQueued};
 
@@ -11,7 +12,7 @@ use crate::ends::ControllerEnd;
 use crate::port::Port;
 use crate::reading::HostReaders;
 use crate::report::ReadLine;
-use crate::source::place_of;
+use crate::source::source_place;
 use nbw_ring::{Pair, Reader, Writer};
 use std::alloc::Global;
 use std::vec::IntoIter;
@@ -26,7 +27,7 @@ fn settle_one(
 ) -> Result<IntoIter<Pair>, Memory>
     requires { IsItsRing (option_map (λ w. w.ring) writer.old) (option_map (λ r. r.ring) reader) }
     ensures pairs { IfOk result (λ pairs. into_iter_items pairs ≡ got_of reader) }
-    ensures whole { OnOk result (IsSettled writer.old reader) }
+    ensures whole { OnOk result (IsReaderSettled writer.old reader) }
     ensures settled { OnOk result (writer.new ≡ settled writer.old reader) }
     ensures err { OnErr result (writer.new ≡ writer.old) }
     ensures cause { OnErr result (IsSome reader) }
@@ -49,7 +50,7 @@ fn settle_all(
     ensures own { map (option_map (λ w. w.ring)) writers.new ≡ map (option_map (λ w. w.ring)) writers.old }
     ensures pairs { IfOk result (λ queues. map into_iter_items queues.items ≡ map got_of readers.items) }
     ensures whole { OnOk result ((place : ℕ)
-        → IsSettled (get_or writers.old place None) (get_or readers.items place None)) }
+        → IsReaderSettled (get_or writers.old place None) (get_or readers.items place None)) }
     ensures settled { OnOk result (writers.new ≡ all_settled writers.old readers.items) }
     ensures err { OnErr result (HaveSomeSettled writers.old readers.items writers.new) }
 {
@@ -90,7 +91,7 @@ fn lines_of(
     ensures pairs { (place : ℕ) → pairs_at place result.items ≡ queue_at (map into_iter_items queues.items) place }
 {
     for source in calls {
-        if let Some(pair) = next_pair(&mut queues, place_of(*source)) {
+        if let Some(pair) = next_pair(&mut queues, source_place(*source)) {
             lines.push_reserved(ReadLine {
                 host,
                 source: *source,
@@ -116,7 +117,7 @@ impl ControllerEnd {
         ensures pairs { IfOk result (λ lines. (source : Source) → pairs_from source lines
             ≡ got_of (at_source r.readers source)) }
         ensures whole { OnOk result ((source : Source)
-            → IsSettled (at_source self.old source) (at_source r.readers source)) }
+            → IsReaderSettled (at_source self.old source) (at_source r.readers source)) }
         ensures joined { OnOk result (self.new ≡ all_settled self.old r.readers) }
         ensures err { OnErr result (HaveSomeSettled self.old r.readers self.new) }
     {
@@ -148,7 +149,7 @@ impl Port {
         ensures pairs { IfOk result (λ lines. (source : Source) → pairs_from source lines
             ≡ got_of (at_source r.readers source)) }
         ensures whole { OnOk result ((source : Source)
-            → IsSettled (at_source end.old source) (at_source r.readers source)) }
+            → IsReaderSettled (at_source end.old source) (at_source r.readers source)) }
         ensures joined { OnOk result (end.new ≡ all_settled end.old r.readers) }
         ensures err { OnErr result (HaveSomeSettled end.old r.readers end.new) }
     {

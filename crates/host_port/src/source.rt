@@ -1,12 +1,12 @@
 //! The places of sources.
 ghost use Rattle.std.specs.Prelude.{◌≡◌};
-ghost use Rattle.host_port.specs.Rings.{place_of};
+ghost use Rattle.host_port.specs.Rings.{source_place};
 
 use ttp_world::Source;
 
 /// The place of a source's ring among those that a host reads.
-pub(crate) fn place_of(source: Source) -> usize
-    ensures { result ≡ place_of source }
+pub(crate) fn source_place(source: Source) -> usize
+    ensures { result ≡ source_place source }
 {
     match source {
         Source::Status => 0,

@@ -7,7 +7,7 @@ ghost use Rattle.host_port.specs.Writing.{written, written_at, HasRoom, Takes, I
 
 use crate::ends::{ControllerEnd, HostEnd};
 use crate::port::Port;
-use crate::source::place_of;
+use crate::source::source_place;
 use crate::words::{MOST_WORDS, put_words};
 use nbw_ring::Writer;
 use ttp_base::Gate;
@@ -74,7 +74,7 @@ impl ControllerEnd {
             self.new ≡ written_at self.old (source.Node got.now.sender) words }
         ensures number { IsNewest (at_source self.new (source.Node got.now.sender)) result }
     {
-        let place = place_of(Source::Node(got.sender));
+        let place = source_place(Source::Node(got.sender));
         write_payload(&mut self.writers[place], got.payload.bytes(), gate)
     }
 }

@@ -10,14 +10,14 @@ use Rattle.script_text.proofs.RightFiles.{script_of-valid}
 use Rattle.campaign.specs.Lines.{campaign_lines}
 use Rattle.fault_runs.specs.Ends.{WroteFewer}
 use Rattle.commands.specs.declared.read.FileFault.{FileFault}
-use Rattle.commands.specs.Faults.{fault_line}
+use Rattle.commands.specs.Faults.{file_fault_line}
 use Rattle.commands.specs.Files.{refused_list, refused_script, script_plan}
-use Rattle.commands.specs.Outcome.{Showed, Refused, Shows}
+use Rattle.commands.specs.Outcome.{Showed, Refused, ShowsEnding}
 use Rattle.commands.specs.Plan.{Outside, ends, line_ending, said_ending, after, Comes, AsksFirst, told_ending}
-use Rattle.commands.specs.Promise.{IsUnfinished, NoneAskedRose, Promise as CallPromise}
+use Rattle.commands.specs.Promise.{IsUnfinished, NoneAskedRose, Promise}
 use Rattle.commands.specs.Read.{list_limit, list_from, script_limit, script_from}
 use Rattle.commands.specs.Right.{AreTold}
-use Rattle.commands.specs.Texts.{Texts, those, nothing, WroteAmong, alone}
+use Rattle.commands.specs.Texts.{Texts, those, no_texts, WroteAmong, alone}
 use Rattle.commands.proofs.Both.{CameBoth, both_came, both_told, both_ask}
 use Rattle.commands.proofs.Fronts.{list_from-front, script_from-front}
 use Rattle.commands.proofs.Plans.{AllAsk, all_asked, all_come, both_every, end_comes, told_comes}
@@ -59,7 +59,7 @@ wants text before now some = record {
 
 pub shows_all : (medl : Medl) (right : Script) (first last : ℕ) (before now : Output)
     → WroteLines before now (campaign_lines medl right first last)
-    → Shows ttplab (campaign_ending medl right first last) before now (alone 0)
+    → ShowsEnding ttplab (campaign_ending medl right first last) before now (alone 0)
 shows_all medl right first last before now wrote =
     inl (inl (record {
       status = refl;
@@ -69,7 +69,7 @@ shows_all medl right first last before now wrote =
 
 pub shows_cut : (medl : Medl) (right : Script) (first last : ℕ) (before now : Output)
     → CutShort before now (campaign_lines medl right first last)
-    → Shows ttplab (campaign_ending medl right first last) before now (alone 6)
+    → ShowsEnding ttplab (campaign_ending medl right first last) before now (alone 6)
 shows_cut medl right first last before now cut =
     inl (inr (record {
       status = refl;
@@ -79,7 +79,7 @@ shows_cut medl right first last before now cut =
 
 pub shows_fewer : (medl : Medl) (right : Script) (first last : ℕ) (before now : Output)
     → WroteFewer before now (campaign_lines medl right first last)
-    → Shows ttplab (campaign_ending medl right first last) before now (alone 7)
+    → ShowsEnding ttplab (campaign_ending medl right first last) before now (alone 7)
 shows_fewer medl right first last before now some =
     inr (wants (campaign_lines medl right first last) before now some)
 
@@ -90,7 +90,7 @@ none_of medl right first last before now none =
     record { whole = []; next = _; rest = _; text = refl; wrote = none }
 
 module _ (list script : List ℕ) (first last : ℕ) (before now : Outside) (answer : LabAnswer)
-    (call : CallPromise ttplab (campaign_plan list script first last) before now answer) where
+    (call : Promise ttplab (campaign_plan list script first last) before now answer) where
   abbrev held : List ℕ → Held
   held = before.files.held
 
@@ -191,16 +191,16 @@ module _ (list script : List ℕ) (first last : ℕ) (before now : Outside) (ans
   begun_by (inr some) = by_status some.0 some.1.comes some.2 (few_or_refused some.0 some.1.comes)
     where
       few_or_refused : (ending : LabEnding) → Comes held (campaign_plan list script first last) call.loads (ends ending)
-          → (ending.status ≤ 2) ⊎ (ending.unfinished ≡ nothing)
+          → (ending.status ≤ 2) ⊎ (ending.unfinished ≡ no_texts)
       few_or_refused ending comes =
-          all_come (λ (e : LabEnding). (e.status ≤ 2) ⊎ (e.unfinished ≡ nothing)) (λ file. Unit {0}) held
+          all_come (λ (e : LabEnding). (e.status ≤ 2) ⊎ (e.unfinished ≡ no_texts)) (λ file. Unit {0}) held
           (campaign_plan list script first last) call.loads ending
-          (both_every (λ (e : LabEnding). (e.status ≤ 2) ⊎ (e.unfinished ≡ nothing)) (λ file. Unit {0}) list script
+          (both_every (λ (e : LabEnding). (e.status ≤ 2) ⊎ (e.unfinished ≡ no_texts)) (λ file. Unit {0}) list script
           from_script tt tt (λ fault. inr refl) (λ fault. inr refl) (λ medl right. inl (omega arith))) comes
 
       by_status : (ending : LabEnding) → Comes held (campaign_plan list script first last) call.loads (ends ending)
           → WroteAmong ttplab ending.unfinished before.output now.output
-          → (ending.status ≤ 2) ⊎ (ending.unfinished ≡ nothing)
+          → (ending.status ≤ 2) ⊎ (ending.unfinished ≡ no_texts)
           → Wrote before.output now.output [] ⊎ BeganCampaign list script first last before now
       by_status ending comes wrote (inl few) =
           let came = both_came held ending few list script from_script call.loads comes in
@@ -256,7 +256,7 @@ module _ (list script : List ℕ) (first last : ℕ) (before now : Outside) (ans
           fault = fault;
           wrong = read;
           wrote =
-              wrote_line (fault_line (codes "script") fault) 4
+              wrote_line (file_fault_line (codes "script") fault) 4
               (subst (λ (e : LabEnding). Showed ttplab e before.output now.output answer) (sym same) showed);
         };
       }
@@ -283,7 +283,7 @@ module _ (list script : List ℕ) (first last : ℕ) (before now : Outside) (ans
           fault = fault;
           wrong = read;
           wrote =
-              wrote_line (fault_line (codes "list") fault) 3
+              wrote_line (file_fault_line (codes "list") fault) 3
               (subst (λ (e : LabEnding). Showed ttplab e before.output now.output answer) (sym same) showed);
         };
         no_script = λ four showed. absurd (omega (arith, status, four));
@@ -347,21 +347,21 @@ module _ (list script : List ℕ) (first last : ℕ) (before now : Outside) (ans
 
   list_end : (bytes : List ℕ) (fault : FileFault) → HoldsText list before now bytes → list_from bytes ≡ Err fault
       → told_ending before.files.held (campaign_plan list script first last)
-      ≡ Some (line_ending 3 (fault_line (codes "list") fault))
+      ≡ Some (line_ending 3 (file_fault_line (codes "list") fault))
   list_end bytes fault file wrong = rw (file.file, list_from-front bytes, wrong) refl
 
   list_due : (bytes : List ℕ) (fault : FileFault) → HoldsText list before now bytes
       → ¬ HasRisen before.output.faults now.output.faults → list_from bytes ≡ Err fault
-      → WroteOrNone 3 (fault_line (codes "list") fault ∷ []) before.output now.output answer.status
+      → WroteOrNone 3 (file_fault_line (codes "list") fault ∷ []) before.output now.output answer.status
   list_due bytes fault file sink wrong =
-      line_due 3 (fault_line (codes "list") fault) (list_end bytes fault file wrong)
+      line_due 3 (file_fault_line (codes "list") fault) (list_end bytes fault file wrong)
       (list_asked bytes fault file wrong call.loads call.in_order) sink
 
   script_end : (bytes : List ℕ) (medl : Medl) (script_bytes : List ℕ) (fault : FileFault)
       → HoldsText list before now bytes → list_from bytes ≡ Ok medl → HoldsText script before now script_bytes
       → script_from medl script_bytes ≡ Err fault
       → told_ending before.files.held (campaign_plan list script first last)
-      ≡ Some (line_ending 4 (fault_line (codes "script") fault))
+      ≡ Some (line_ending 4 (file_fault_line (codes "script") fault))
   script_end bytes medl script_bytes fault file right script_file wrong =
       rw (
         file.file,
@@ -375,15 +375,15 @@ module _ (list script : List ℕ) (first last : ℕ) (before now : Outside) (ans
   script_due : (bytes : List ℕ) (medl : Medl) (script_bytes : List ℕ) (fault : FileFault)
       → HoldsText list before now bytes → list_from bytes ≡ Ok medl → HoldsText script before now script_bytes
       → ¬ HasRisen before.output.faults now.output.faults → script_from medl script_bytes ≡ Err fault
-      → WroteOrNone 4 (fault_line (codes "script") fault ∷ []) before.output now.output answer.status
+      → WroteOrNone 4 (file_fault_line (codes "script") fault ∷ []) before.output now.output answer.status
   script_due bytes medl script_bytes fault file right script_file sink wrong =
-      line_due 4 (fault_line (codes "script") fault)
+      line_due 4 (file_fault_line (codes "script") fault)
       (script_end bytes medl script_bytes fault file right script_file wrong)
       (all_asked (Quiet before now) held (campaign_plan list script first last) call.loads
       (both_ask (Quiet before now) list script from_script file.quiet script_file.quiet (λ m r. tt)) call.in_order) sink
 
 pub campaign_promise : (list script : List ℕ) (first last : ℕ) (before now : Outside) (answer : LabAnswer)
-    → CallPromise ttplab (campaign_plan list script first last) before now answer
+    → Promise ttplab (campaign_plan list script first last) before now answer
     → CampaignPromise list script first last before now answer.status
 campaign_promise list script first last before now answer call = record {
   shown = wrote_campaign list script first last before now answer call;

@@ -11,8 +11,8 @@ use Rattle.chart_text.specs.declared.chart.ChartFault.TheVariants as none
 use Rattle.chart_text.specs.Columns.{slots_shown}
 use Rattle.chart_text.specs.Walks.{LeftOfChart}
 use Rattle.commands.specs.Lines.{HasSaid}
-use Rattle.commands.specs.Outcome.{Refused, Shows}
-use Rattle.commands.specs.Texts.{Texts, nothing, alone}
+use Rattle.commands.specs.Outcome.{Refused, ShowsEnding}
+use Rattle.commands.specs.Texts.{Texts, no_texts, alone}
 use Rattle.commands.proofs.Loads.{said}
 use Rattle.lab_top.specs.declared.refusal.TextFault.{TextFault}
 use Rattle.lab_top.specs.declared.refusal.TextFault.TheVariants as fault
@@ -32,25 +32,26 @@ pub shows_none : (asked : Option Span) (text : List ℕ) (campaign : WholeCampai
     (before now later : Output) (status : ℕ) → Ok campaign ≡ value_from campaign_in text → why ≡ none.NoSlot
     → LeftOfChart why (slots_shown campaign asked) before now lines
     → HasSaid (refused_text (codes "campaign") fault.NoSlot) now later status
-    → Shows ttplab (viewed_ending (chart_view asked) (viewed (chart_view asked) text)) before later (alone status)
+    → ShowsEnding ttplab (viewed_ending (chart_view asked) (viewed (chart_view asked) text)) before later (alone status)
 shows_none asked text campaign none.NoSlot lines before now later status read is left told =
     let view = chart_view asked in
     let notice = refused_text (codes "campaign") fault.NoSlot in
-    subst (λ (r : Result WholeCampaign TextFault). Shows ttplab (viewed_ending view r) before later (alone status))
+    subst (λ (r : Result WholeCampaign TextFault). ShowsEnding ttplab (viewed_ending view r) before later
+    (alone status))
     (sym (no-slot asked text campaign read left.0))
     (inl (said ttplab notice before later status (subst (λ (o : Output). HasSaid notice o later status) left.1 told)))
 shows_none asked text campaign none.Memory lines before now later status read is left told = absurd (cc)
 shows_none asked text campaign none.Failed lines before now later status read is left told = absurd (cc)
 
 unfinished-none : {Value : Type 0} (view : View Value) (read : Result Value TextFault)
-    → (viewed_ending view read).unfinished ≡ nothing
+    → (viewed_ending view read).unfinished ≡ no_texts
 unfinished-none view (Ok value) = refl
 unfinished-none view (Err fault) = refl
 
 -- nothing was written
 pub shows_nothing : {Value : Type 0} (view : View Value) (read : Result Value TextFault) (why : ChartFault) (shown : List ℕ)
     (lines : Lines) (before now : Output) → why ≡ none.Memory → LeftOfChart why shown before now lines
-    → Shows ttplab (viewed_ending view read) before now (alone 7)
+    → ShowsEnding ttplab (viewed_ending view read) before now (alone 7)
 shows_nothing view read none.Memory shown lines before now is left =
     inr (subst (λ texts. Refused ttplab texts before now (alone 7)) (sym (unfinished-none view read)) (record {
       status = refl;

@@ -15,7 +15,7 @@ use Rattle.commands.specs.declared.read.FileFault.{FileFault}
 use Rattle.commands.specs.Files.{refused_list, refused_script}
 use Rattle.commands.specs.Lines.{AreLines}
 use Rattle.commands.specs.Plan.{ends, said_ending}
-use Rattle.commands.specs.Texts.{those, nothing}
+use Rattle.commands.specs.Texts.{those, no_texts}
 use Rattle.commands.proofs.Lines.{AreOfLines, IsFinal, SaysLine, one_text, lines_front, text_final, line_final}
 use Rattle.commands.proofs.Lines.{refused_list-final, refused_script-final}
 use Rattle.commands.proofs.Plans.{Every, both_every}
@@ -37,7 +37,7 @@ pub record IsOfForm (form : Option LabForm) (ending : LabEnding) : Type 0 where
   -- only a campaign reads a list
   pub lists : ending.status ≡ 3 → is_campaign form ≡ true
   -- but for a campaign, nothing stands where memory is refused
-  pub lets : is_campaign form ≡ false → ending.unfinished ≡ nothing
+  pub lets : is_campaign form ≡ false → ending.unfinished ≡ no_texts
 
 -- each line of a view of what a text is taken for is one line, and so is the line that refuses a text
 record IsOfLines {Value : Type 0} (view : View Value) : Type 0 where

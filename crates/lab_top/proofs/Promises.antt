@@ -3,7 +3,7 @@ use Rattle.std.proofs.Common.{◌≡◌, ◌≢◌, ◌≤◌, [], false, Option
 use Rattle.ttp_base.specs.Outside.{Wrote}
 use Rattle.commands.specs.Outcome.{Follows}
 use Rattle.commands.specs.Plan.{Outside}
-use Rattle.commands.specs.Promise.{IsUnfinished, Promise as CallPromise}
+use Rattle.commands.specs.Promise.{IsUnfinished, Promise}
 use Rattle.commands.specs.Texts.{Texts, WroteAmong}
 use Rattle.commands.proofs.Lines.{IsFinal, SaysLine}
 use Rattle.commands.proofs.Plans.{all_come, every_weaker}
@@ -15,7 +15,7 @@ use Rattle.lab_top.specs.Words.{LabForm, is_campaign}
 use Rattle.lab_top.proofs.Forms.{IsOfForm, lab_forms}
 
 module _ (form : Option LabForm) (before now : Outside) (answer : LabAnswer)
-    (call : CallPromise ttplab (lab_plan_of form) before now answer) where
+    (call : Promise ttplab (lab_plan_of form) before now answer) where
   -- the ending that it came to
   ended_of : (few : answer.status ≤ 4) → IsOfForm form (call.ended few).0
   ended_of few =

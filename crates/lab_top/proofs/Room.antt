@@ -12,8 +12,8 @@ use Rattle.medl_text.proofs.Valid.{medl_of-valid}
 use Rattle.script_text.specs.declared.error.LineFault.{LineFault}
 use Rattle.script_text.specs.declared.error.ScriptError.{ScriptError}
 use Rattle.script_text.specs.Faults.{slots_of, events_of, line_faults, keyword_statements, statements_after}
-use Rattle.script_text.specs.Lines.{lines_of, words_of, word_at, says_nothing}
-use Rattle.script_text.specs.ScriptFile.{errors_at, file_faults, statements_of, stated_script}
+use Rattle.script_text.specs.Lines.{lines_of_file, words_of_line, word_at, says_nothing}
+use Rattle.script_text.specs.ScriptFile.{errors_at, script_faults, statements_of, stated_script}
 use Rattle.script_text.specs.ScriptFile.{script_or_fault, lines_script, script_of}
 use Rattle.script_text.specs.Statement.{Statement, says_slots, says_on, says_drift, says_event, keyword_of, statement_of}
 use Rattle.script_text.proofs.RightFiles.{line_right}
@@ -39,12 +39,12 @@ grown_by said words size false None bytes = inl refl
 grown_by said words size false (Some form) bytes = inr (statement_of form words, (refl, bytes))
 
 grown : (said : List Statement) (line : List ℕ)
-    → (statements_after said (words_of line) ≡ said)
-    ⊎ ((statement : Statement) × ((statements_after said (words_of line) ≡ statement ∷ said) × (1 ≤ length line)))
-unfolding statements_after words_of
+    → (statements_after said (words_of_line line) ≡ said)
+    ⊎ ((statement : Statement) × ((statements_after said (words_of_line line) ≡ statement ∷ said) × (1 ≤ length line)))
+unfolding statements_after words_of_line
 grown said [] = inl refl
 grown said (b ∷ line) =
-    let words = words_of (b ∷ line) in
+    let words = words_of_line (b ∷ line) in
     grown_by said words (length (b ∷ line)) (says_nothing words) (keyword_of (word_at words 0)) (omega arith)
 
 -- it takes the bytes of its event, or of what was owed
@@ -60,9 +60,9 @@ first_room (says_drift node value) said line before bytes size = rw before (omeg
 first_room (says_event e) said line before bytes size = rw before (omega (arith, size))
 
 line_room : (list : Medl) (said : List Statement) (line : List ℕ) (slots : Option ℕ) → slots_of said ≡ slots
-    → 8 * length (events_of (statements_after said (words_of line))) ≤ 8 * length (events_of said) + with_end line
-    → 8 * length (events_of (statements_after said (words_of line))) + owed slots
-    ≤ 8 * length (events_of said) + with_end line + owed (slots_of (statements_after said (words_of line)))
+    → 8 * length (events_of (statements_after said (words_of_line line))) ≤ 8 * length (events_of said) + with_end line
+    → 8 * length (events_of (statements_after said (words_of_line line))) + owed slots
+    ≤ 8 * length (events_of said) + with_end line + owed (slots_of (statements_after said (words_of_line line)))
 line_room list said line (Some count) before size = omega (arith, size)
 line_room list said line None before size =
     elim (grown said line) [
@@ -84,14 +84,14 @@ no_debt None is = absurd (cc)
 no_debt (Some count) is = refl
 
 lines_room : (list : Medl) (number : ℕ) (said : List Statement) (lines : List (List ℕ))
-    → file_faults list number said lines ≡ [] → AreValid list said
+    → script_faults list number said lines ≡ [] → AreValid list said
     → 8 * length (events_of (statements_of said lines)) + owed (slots_of said)
     ≤ 8 * length (events_of said) + size_of lines
 lines_room list number said [] none valid =
     let said_so : is_some (slots_of said) ≡ true = grind (arith, common_steps) in
     omega (arith, no_debt (slots_of said) said_so)
 lines_room list number said (line ∷ lines) none valid =
-    let words = words_of line in
+    let words = words_of_line line in
     from_none number (line_faults list said words) _ none
     (λ line_none lines_none.
     let right = line_right list said line line_none valid in
@@ -113,8 +113,8 @@ pub script_of-room : (list : Medl) (text : List ℕ) (script : Script) → IsVal
     → script_of list text ≡ Ok script → length script.events < EVENT_LIMIT
 unfolding script_of lines_script stated_script
 script_of-room list text script valid size is =
-    let lines = lines_of text in
-    of_lines (file_faults list 1 [] lines) script (stated_script list (statements_of [] lines)) is
+    let lines = lines_of_file text in
+    of_lines (script_faults list 1 [] lines) script (stated_script list (statements_of [] lines)) is
     (λ none. omega (arith, size, size-lines_of text, lines_room list 1 [] lines none (AreValid-none list valid)))
 
 -- so has one that was loaded

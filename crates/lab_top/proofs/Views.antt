@@ -5,7 +5,7 @@ use Rattle.ttp_base.specs.Outside.{Held, Load, Gives, HasRisen, Wrote, WroteLine
 use Rattle.ttp_base.specs.Text.{Lines}
 use Rattle.commands.specs.Outcome.{Showed}
 use Rattle.commands.specs.Plan.{Outside, ends, Comes, told_ending}
-use Rattle.commands.specs.Promise.{Promise as CallPromise}
+use Rattle.commands.specs.Promise.{Promise}
 use Rattle.commands.specs.Read.{trace_limit}
 use Rattle.commands.proofs.Plans.{AllAsk, end_comes}
 use Rattle.commands.proofs.Right.{may_be}
@@ -34,7 +34,7 @@ came view name held (load ∷ loads) ending comes = record {
 }
 
 module _ {Value : Type 0} (view : View Value) (name : List ℕ) (before now : Outside) (answer : LabAnswer)
-    (call : CallPromise ttplab (view_plan view name) before now answer) where
+    (call : Promise ttplab (view_plan view name) before now answer) where
   abbrev ShowedBy : Result Value TextFault → Type 0
   ShowedBy read = Showed ttplab (viewed_ending view read) before.output now.output answer
 
@@ -128,7 +128,7 @@ module _ {Value : Type 0} (view : View Value) (name : List ℕ) (before now : Ou
         subst (λ (lines : Lines). CutShort before.output now.output lines) cut.among cut.cut
 
 pub view_promise : {Value : Type 0} (view : View Value) (name : List ℕ) (before now : Outside) (answer : LabAnswer)
-    → CallPromise ttplab (view_plan view name) before now answer
+    → Promise ttplab (view_plan view name) before now answer
     → (answer.status ≡ 7 → Wrote before.output now.output []) → ViewPromise view name before now answer.status
 view_promise view name before now answer call empty = record {
   shown = λ zero.

@@ -10,7 +10,7 @@ use Rattle.campaign.specs.Lines.{campaign_lines}
 use Rattle.campaign_laws.specs.SafeLines.{IsSafeLine}
 use Rattle.fault_runs.specs.Ends.{WroteFewer}
 use Rattle.commands.specs.declared.read.FileFault.{FileFault}
-use Rattle.commands.specs.Faults.{fault_line}
+use Rattle.commands.specs.Faults.{file_fault_line}
 use Rattle.commands.specs.Plan.{Outside}
 use Rattle.commands.specs.Read.{list_limit, list_from, script_limit, script_from}
 use Rattle.commands.specs.Right.{MayBe, AreRight, AreTold}
@@ -53,7 +53,7 @@ pub record ToldList (list : List ℕ) (before now : Outside) : Type 0 where
   pub gives : Gives (before.files.held list) list_limit bytes
   pub fault : FileFault
   pub wrong : list_from bytes ≡ Err fault
-  pub wrote : WroteLines before.output now.output (fault_line (codes "list") fault ∷ [])
+  pub wrote : WroteLines before.output now.output (file_fault_line (codes "list") fault ∷ [])
 
 -- or with the script that was loaded, for the list that was loaded before
 pub record ToldScript (list script : List ℕ) (before now : Outside) : Type 0 where
@@ -65,7 +65,7 @@ pub record ToldScript (list script : List ℕ) (before now : Outside) : Type 0 w
   pub gives : Gives (before.files.held script) script_limit bytes
   pub fault : FileFault
   pub wrong : script_from medl bytes ≡ Err fault
-  pub wrote : WroteLines before.output now.output (fault_line (codes "script") fault ∷ [])
+  pub wrote : WroteLines before.output now.output (file_fault_line (codes "script") fault ∷ [])
 
 -- a call that is asked for a campaign promises
 pub record CampaignPromise (list script : List ℕ) (first last : ℕ) (before now : Outside) (status : ℕ) : Type 0 where
@@ -86,11 +86,11 @@ pub record CampaignPromise (list script : List ℕ) (first last : ℕ) (before n
   -- Any other list, however long, gives the line on it, and any other script for a right list.
   pub list_told : (bytes : List ℕ) (fault : FileFault) → HoldsText list before now bytes
       → ¬ HasRisen before.output.faults now.output.faults → list_from bytes ≡ Err fault
-      → WroteOrNone 3 (fault_line (codes "list") fault ∷ []) before.output now.output status
+      → WroteOrNone 3 (file_fault_line (codes "list") fault ∷ []) before.output now.output status
   pub script_told : (bytes : List ℕ) (medl : Medl) (script_bytes : List ℕ) (fault : FileFault)
       → HoldsText list before now bytes → list_from bytes ≡ Ok medl → HoldsText script before now script_bytes
       → ¬ HasRisen before.output.faults now.output.faults → script_from medl script_bytes ≡ Err fault
-      → WroteOrNone 4 (fault_line (codes "script") fault ∷ []) before.output now.output status
+      → WroteOrNone 4 (file_fault_line (codes "script") fault ∷ []) before.output now.output status
   -- With status 6 the campaign was cut short.
   pub cut : (medl : Medl) (right : Script) → AreTold list script before now medl right → status ≡ 6
       → CutShort before.output now.output (campaign_lines medl right first last)

@@ -2,7 +2,7 @@
 use Rattle.std.specs.Prelude.{◌≡◌, ◌≢◌, false, true, [], Option, None}
 use Rattle.ttp_base.specs.Outside.{Wrote}
 use Rattle.commands.specs.Plan.{Outside}
-use Rattle.commands.specs.Promise.{Promise as CallPromise}
+use Rattle.commands.specs.Promise.{Promise}
 use Rattle.lab_top.specs.Forms.{lab_plan_of}
 use Rattle.lab_top.specs.Texts.{LabAnswer, ttplab}
 use Rattle.lab_top.specs.Words.{LabForm, is_campaign}
@@ -10,7 +10,7 @@ use Rattle.lab_top.specs.Words.{LabForm, is_campaign}
 -- a call by words of this form promises
 pub record LabPromise (form : Option LabForm) (before now : Outside) (answer : LabAnswer) : Type 0 where
   -- What every call promises that follows a plan: what it asked for, how it ended and what it wrote.
-  pub call : CallPromise ttplab (lab_plan_of form) before now answer
+  pub call : Promise ttplab (lab_plan_of form) before now answer
   pub open call use *
   -- With status 7 what is written may be some first lines of what was due for `campaign`, and for every other form it is
   -- nothing.

@@ -1,7 +1,7 @@
 //! The command `chart CAMPAIGN [FIRST LAST]`.
 ghost use Rattle.std.specs.Prelude.{Some, IfOk, IfErr, codes};
 ghost use Rattle.commands.specs.Loads.{Loaded, GaveNone};
-ghost use Rattle.commands.specs.Outcome.{Follows, Shows};
+ghost use Rattle.commands.specs.Outcome.{Follows, ShowsEnding};
 ghost use Rattle.commands.specs.Plan.{outside};
 ghost use Rattle.commands.specs.Texts.{alone};
 ghost use Rattle.lab_top.specs.Forms.{viewed_ending, lab_plan_of};
@@ -37,7 +37,8 @@ fn load_campaign<L: Library, K: Sink>(
 
 // The chart of a text, if it is a campaign with slots to be shown.
 fn show_chart<K: Sink>(alloc: Global, text: &[u8], asked: Option<Span>, out: &mut K) -> u8
-    ensures { Shows ttplab (viewed_ending (chart_view asked) (viewed (chart_view asked) text.now)) (K.output out.old)
+    ensures { ShowsEnding ttplab (viewed_ending (chart_view asked) (viewed (chart_view asked) text.now))
+        (K.output out.old)
         (K.output out.new) (alone result) }
 {
     match campaign_from(text) {

@@ -3,7 +3,7 @@ ghost use Rattle.std.specs.Prelude.{◌<◌, length, Some};
 ghost use Rattle.ttp_world.specs.declared.script.TheConstants.{EVENT_LIMIT};
 ghost use Rattle.ttp_world.specs.Medl.{IsValid};
 ghost use Rattle.ttp_world.specs.Script.{IsValidScript};
-ghost use Rattle.commands.specs.Outcome.{Follows, Shows};
+ghost use Rattle.commands.specs.Outcome.{Follows, ShowsEnding};
 ghost use Rattle.commands.specs.Plan.{outside};
 ghost use Rattle.commands.specs.Texts.{alone};
 ghost use Rattle.lab_top.specs.Forms.{campaign_ending, lab_plan_of};
@@ -30,7 +30,7 @@ fn show_campaign<R: Threads + Sync, K: Sink>(
     requires valid { IsValid list.now }
     requires script { IsValidScript list.now script.now }
     requires room { length script.now.events < EVENT_LIMIT }
-    ensures { Shows ttplab (campaign_ending list.now script.now first last) (K.output out.old) (K.output out.new)
+    ensures { ShowsEnding ttplab (campaign_ending list.now script.now first last) (K.output out.old) (K.output out.new)
         (alone result) }
 {
     match put_campaign(rt, alloc, list, script, first, last, processors(rt), out) {

@@ -1,6 +1,6 @@
 //! The command `picture TRACE [FIRST LAST]`.
 ghost use Rattle.std.specs.Prelude.{◌≡◌, Some, IfOk, IsTrue};
-ghost use Rattle.commands.specs.Outcome.{Follows, Shows};
+ghost use Rattle.commands.specs.Outcome.{Follows, ShowsEnding};
 ghost use Rattle.commands.specs.Plan.{outside};
 ghost use Rattle.commands.specs.Texts.{alone};
 ghost use Rattle.lab_top.specs.Forms.{viewed_ending, lab_plan_of};
@@ -35,7 +35,8 @@ fn with_slots_asked<'a>(asked: Option<Span>, text: &'a [u8]) -> Result<Whole<'a>
 
 // The picture of a text, if it is a trace with the slots that are asked for.
 fn show_picture<K: Sink>(text: &[u8], asked: Option<Span>, out: &mut K) -> u8
-    ensures { Shows ttplab (viewed_ending (picture_view asked) (viewed (picture_view asked) text.now)) (K.output out.old)
+    ensures { ShowsEnding ttplab (viewed_ending (picture_view asked) (viewed (picture_view asked) text.now))
+        (K.output out.old)
         (K.output out.new) (alone result) }
 {
     match with_slots_asked(asked, text) {

@@ -1,6 +1,6 @@
 //! The command `wave TRACE`.
 ghost use Rattle.std.specs.Prelude.{Some};
-ghost use Rattle.commands.specs.Outcome.{Follows, Shows};
+ghost use Rattle.commands.specs.Outcome.{Follows, ShowsEnding};
 ghost use Rattle.commands.specs.Plan.{outside};
 ghost use Rattle.commands.specs.Texts.{alone};
 ghost use Rattle.lab_top.specs.Forms.{viewed_ending, lab_plan_of};
@@ -16,7 +16,8 @@ use wave_text::{WaveFault, put_wave};
 
 // The waveform of a text, if it is a trace.
 fn show_wave<K: Sink>(alloc: Global, text: &[u8], out: &mut K) -> u8
-    ensures { Shows ttplab (viewed_ending wave_view (viewed wave_view text.now)) (K.output out.old) (K.output out.new)
+    ensures { ShowsEnding ttplab (viewed_ending wave_view (viewed wave_view text.now)) (K.output out.old)
+        (K.output out.new)
         (alone result) }
 {
     match trace_from(text) {

@@ -11,14 +11,12 @@ use Rattle.ttp_base.specs.NodeSet.{below}
 use Rattle.line_reader.specs.declared.trace_line.TraceLine.{TraceLine}
 use Rattle.line_reader.specs.Reading.{word_end, fields_in, word_at}
 use Rattle.line_text.specs.Labels.{after_label}
-use Rattle.line_reader.specs.Reading.{byte_in, offset_in, byte_or_dash_in, message_or_dash_in, word_in}
+use Rattle.line_reader.specs.Reading.{byte_in, offset_in, byte_or_dash_in, message_or_dash_in, node_word_in}
 use Rattle.line_text.specs.Numerals.{numeral_in}
-use Rattle.line_reader.specs.Reading.{ack_in}
-use Rattle.line_reader.specs.Reading.{source_in, schedule_in, members_word_in, payload_in, has_size}
+use Rattle.line_reader.specs.Reading.{ack_in, source_in, schedule_in, members_word_in, hex_payload_in, has_size}
 use Rattle.line_reader.specs.Reading.{head_labels, node_labels, write_labels, read_labels, kept_labels, broken_labels}
-use Rattle.line_reader.specs.Reading.{owed_labels, refused_labels}
-use Rattle.line_reader.specs.Reading.{head_in, node_in, write_in, read_in, kept_in, broken_in, owed_in, refused_in}
-use Rattle.line_reader.specs.Reading.{or_else, line_in}
+use Rattle.line_reader.specs.Reading.{owed_labels, refused_labels, head_in, node_in, write_line_in, read_line_in}
+use Rattle.line_reader.specs.Reading.{kept_in, broken_in, owed_in, refused_in, or_else, line_in}
 use Rattle.line_reader.specs.TraceLines.{slot_digits, fits_word, text_of, Fits}
 use Rattle.line_text.specs.Numerals.{message_digits}
 use Rattle.line_reader.proofs.FieldLists.{fields_in-cons, fields_in-nil}
@@ -159,8 +157,8 @@ refused-takes bytes v e =
           ∙ (λ i. codes "returns no Q" ++ r.text i ++ codes " " ++ t.text i),
     )
 
-pub write-takes : (bytes : List ℕ) (v : TraceLine) → write_in bytes ≡ Some v → IsRead bytes v
-unfolding write_in
+pub write-takes : (bytes : List ℕ) (v : TraceLine) → write_line_in bytes ≡ Some v → IsRead bytes v
+unfolding write_line_in
 write-takes bytes v e =
     let b = bound (fields_in write_labels bytes) _ v e in
     let slot = bound (numeral_in slot_digits (word_at b.value 0)) _ v b.gives in
@@ -206,15 +204,15 @@ pub read_nested : (a v b w c x d y e z : List ℕ)
     ≡ (a ++ v ++ b ++ w) ++ c ++ x ++ d ++ y ++ e ++ z
 read_nested a v b w c x d y e z = simp (append_assoc, append-nil)
 
-pub read-takes : (bytes : List ℕ) (v : TraceLine) → read_in bytes ≡ Some v → IsRead bytes v
-unfolding read_in
+pub read-takes : (bytes : List ℕ) (v : TraceLine) → read_line_in bytes ≡ Some v → IsRead bytes v
+unfolding read_line_in
 read-takes bytes v e =
     let b = bound (fields_in read_labels bytes) _ v e in
     let slot = bound (numeral_in slot_digits (word_at b.value 0)) _ v b.gives in
     let host = bound (byte_in (word_at b.value 1)) _ v slot.gives in
     let from = bound (source_in (word_at b.value 2)) _ v host.gives in
     let number = bound (numeral_in message_digits (word_at b.value 3)) _ v from.gives in
-    let payload = bound (payload_in (word_at b.value 4)) _ v number.gives in
+    let payload = bound (hex_payload_in (word_at b.value 4)) _ v number.gives in
     let g = guarded (has_size from.value (length payload.value)) _ v payload.gives in
     let t = numeral-takes slot_digits (word_at b.value 0) slot.value slots_are_few slot.read in
     let k = byte-takes (word_at b.value 1) host.value host.read in
@@ -242,7 +240,7 @@ node-takes bytes v e =
     let b = bound (fields_in node_labels bytes) _ v e in
     let slot = bound (numeral_in slot_digits (word_at b.value 0)) _ v b.gives in
     let node = bound (byte_in (word_at b.value 1)) _ v slot.gives in
-    let does = bound (word_in (word_at b.value 2)) _ v node.gives in
+    let does = bound (node_word_in (word_at b.value 2)) _ v node.gives in
     let peer = bound (byte_or_dash_in (word_at b.value 3)) _ v does.gives in
     let message = bound (message_or_dash_in (word_at b.value 4)) _ v peer.gives in
     let members = bound (members_word_in (word_at b.value 5)) _ v message.gives in
@@ -297,8 +295,8 @@ unfolding line_in
 line-takes bytes v =
     let P : Type 0 = IsRead bytes v in
     one_or P (node_in bytes) _ v (node-takes bytes v)
-    (one_or P (read_in bytes) _ v (read-takes bytes v)
-    (one_or P (write_in bytes) _ v (write-takes bytes v)
+    (one_or P (read_line_in bytes) _ v (read-takes bytes v)
+    (one_or P (write_line_in bytes) _ v (write-takes bytes v)
     (one_or P (head_in bytes) _ v (head-takes bytes v)
     (one_or P (kept_in bytes) _ v (kept-takes bytes v)
     (one_or P (broken_in bytes) _ v (broken-takes bytes v)

@@ -32,8 +32,8 @@ use Rattle.line_reader.specs.Reading.{◌>>=◌, byte_in, offset_in, byte_or_das
 use Rattle.line_text.specs.Numerals.{has_leading_zero, numeral_in}
 use Rattle.line_reader.specs.Reading.{message_or_dash_in}
 use Rattle.line_reader.specs.Reading.{is_hex, hex_value, append_hex, hex_in, schedule_in, is_six, members_word_in}
-use Rattle.line_reader.specs.Reading.{payload_in, hex_bytes_in, is_even}
-use Rattle.line_reader.specs.Reading.{word_in, ack_in, source_in, has_size, is_doubt_word}
+use Rattle.line_reader.specs.Reading.{hex_payload_in, hex_bytes_in, is_even}
+use Rattle.line_reader.specs.Reading.{node_word_in, ack_in, source_in, has_size, is_doubt_word}
 use Rattle.line_reader.specs.TraceLines.{word_text, offset_digits, FitsAck, FitsOffset, FitsMembers}
 use Rattle.line_text.specs.Numerals.{message_digits}
 use Rattle.line_reader.specs.TraceLines.{FitsSource}
@@ -143,8 +143,8 @@ offset-takes word z e =
 
 -- Names.
 
-pub word-takes : (w : List ℕ) (v : Word) → word_in w ≡ Some v → w ≡ word_text v
-unfolding word_in
+pub word-takes : (w : List ℕ) (v : Word) → node_word_in w ≡ Some v → w ≡ word_text v
+unfolding node_word_in
 word-takes w v =
     let P : Word → Type 0 = λ u. w ≡ word_text u in
     chosen P _ word.Off _ v (spelled w (codes "off"))
@@ -318,9 +318,9 @@ members-takes word members e =
     )
 
 -- two digits for each byte
-pub payload-takes : (word bytes : List ℕ) → payload_in word ≡ Some bytes
+pub payload-takes : (word bytes : List ℕ) → hex_payload_in word ≡ Some bytes
     → (word ≡ hex_bytes bytes) × AreBytes bytes × (length bytes ≤ 240)
-unfolding payload_in
+unfolding hex_payload_in
 payload-takes word bytes e =
     let g =
     guarded (is_even word && (nat_le (length word) 480 && list_all is_hex word)) (Some (hex_bytes_in word)) bytes e in

@@ -28,9 +28,8 @@ use Rattle.line_reader.specs.declared.trace_line.Word.TheVariants as word
 use Rattle.line_reader.specs.Reading.{◌>>=◌, is_space, word_end, fields_in, source_in, has_size}
 use Rattle.line_text.specs.Labels.{after_label}
 use Rattle.line_reader.specs.Reading.{head_labels, node_labels, write_labels, read_labels, kept_labels, broken_labels}
-use Rattle.line_reader.specs.Reading.{owed_labels, refused_labels}
-use Rattle.line_reader.specs.Reading.{head_in, node_in, write_in, read_in, kept_in, broken_in, owed_in, refused_in}
-use Rattle.line_reader.specs.Reading.{line_in}
+use Rattle.line_reader.specs.Reading.{owed_labels, refused_labels, head_in, node_in, write_line_in, read_line_in}
+use Rattle.line_reader.specs.Reading.{kept_in, broken_in, owed_in, refused_in, line_in}
 use Rattle.line_reader.specs.TraceLines.{slot_digits, word_text, text_of, Fits, FitsSource}
 use Rattle.line_text.specs.Numerals.{message_digits}
 use Rattle.line_reader.proofs.FieldLists.{fields_in-cons, fields_in-nil}
@@ -170,9 +169,9 @@ no_node slot rest =
 
 -- what a host wrote it did not read
 no_read : (slot host : ℕ) (rest : List ℕ)
-    → read_in (codes "slot " ++ (decimal slot ++ (codes " host " ++ (decimal host ++ (codes " write " ++ rest)))))
+    → read_line_in (codes "slot " ++ (decimal slot ++ (codes " host " ++ (decimal host ++ (codes " write " ++ rest)))))
     ≡ None
-unfolding read_in begins
+unfolding read_line_in begins
 no_read slot host rest =
     rw (
       slot_first (drop 1 read_labels) slot (codes " host " ++ (decimal host ++ (codes " write " ++ rest))) refl,
@@ -190,7 +189,7 @@ abbrev pub IsRead : TraceLine → Type 0
 IsRead v = line_in (text_of v) ≡ Some v
 
 write-again : (slot host number : ℕ) → Fits (line.Write slot host number) → IsRead (line.Write slot host number)
-unfolding line_in write_in begins
+unfolding line_in write_line_in begins
 write-again slot host number fits =
     let text = host_nested (codes "slot ") (decimal slot) (codes " host ") (decimal host) (codes " write ")
     (decimal number) in
@@ -207,7 +206,7 @@ write-again slot host number fits =
     ) refl
 
 kept-again : (start : ℕ) → start < 10 ^ slot_digits → IsRead (line.Keep (keep.Yes start))
-unfolding line_in node_in read_in write_in head_in kept_in begins
+unfolding line_in node_in read_line_in write_line_in head_in kept_in begins
 kept-again start small =
     let rest = decimal start ++ [] in
     let text = codes "keeps yes start " ++ rest in
@@ -222,7 +221,7 @@ kept-again start small =
     ) refl
 
 broken-again : (rule slot : ℕ) → rule < 256 → slot < 10 ^ slot_digits → IsRead (line.Keep (keep.No rule slot))
-unfolding line_in node_in read_in write_in head_in kept_in broken_in begins
+unfolding line_in node_in read_line_in write_line_in head_in kept_in broken_in begins
 broken-again rule slot few small =
     let text = codes "keeps no H" ++ (decimal rule ++ (codes " " ++ (decimal slot ++ []))) in
     sym (ap line_in (two_nested (codes "keeps no H") (decimal rule) (codes " ") (decimal slot)))
@@ -239,7 +238,7 @@ broken-again rule slot few small =
     ) refl
 
 owed-again : (start : ℕ) → start < 10 ^ slot_digits → IsRead (line.Back (back.Yes start))
-unfolding line_in node_in read_in write_in head_in kept_in broken_in owed_in begins
+unfolding line_in node_in read_line_in write_line_in head_in kept_in broken_in owed_in begins
 owed-again start small =
     let text = codes "returns yes start " ++ (decimal start ++ []) in
     sym (ap line_in (one_nested (codes "returns yes start ") (decimal start)))
@@ -255,7 +254,7 @@ owed-again start small =
     ) refl
 
 refused-again : (rule slot : ℕ) → rule < 256 → slot < 10 ^ slot_digits → IsRead (line.Back (back.No rule slot))
-unfolding line_in node_in read_in write_in head_in kept_in broken_in owed_in refused_in begins
+unfolding line_in node_in read_line_in write_line_in head_in kept_in broken_in owed_in refused_in begins
 refused-again rule slot few small =
     let text = codes "returns no Q" ++ (decimal rule ++ (codes " " ++ (decimal slot ++ []))) in
     sym (ap line_in (two_nested (codes "returns no Q") (decimal rule) (codes " ") (decimal slot)))
@@ -275,7 +274,7 @@ refused-again rule slot few small =
 
 head-again : (version nodes rounds slots schedule : ℕ) → Fits (line.Header version nodes rounds slots schedule)
     → IsRead (line.Header version nodes rounds slots schedule)
-unfolding line_in node_in read_in write_in head_in begins
+unfolding line_in node_in read_line_in write_line_in head_in begins
 head-again version nodes rounds slots schedule fits =
     let number = hex 6 schedule in
     let text = codes "ttpbench trace " ++ (decimal version ++ (codes " nodes " ++ (decimal nodes ++ (codes " rounds "
@@ -309,7 +308,7 @@ source_reads (source.Node p) size fits = (node-again p fits.0, (is_some size fit
 
 read-again : (slot host : ℕ) (from : Source) (number : ℕ) (payload : List ℕ)
     → Fits (line.Read slot host from number payload) → IsRead (line.Read slot host from number payload)
-unfolding line_in read_in begins
+unfolding line_in read_line_in begins
 read-again slot host from number payload fits =
     let name = source_word from in
     let bytes = hex_bytes payload in

@@ -31,7 +31,7 @@ use Rattle.line_text.proofs.WrittenNumbers.{is_le, numeral-again, within_64}
 use Rattle.line_reader.specs.Reading.{◌>>=◌, byte_in, offset_in, byte_or_dash_in}
 use Rattle.line_reader.specs.Reading.{message_or_dash_in}
 use Rattle.line_reader.specs.Reading.{is_hex, hex_value, append_hex, hex_in, schedule_in, is_six, members_word_in}
-use Rattle.line_reader.specs.Reading.{payload_in, hex_bytes_in, is_even, word_in, ack_in, source_in}
+use Rattle.line_reader.specs.Reading.{hex_payload_in, hex_bytes_in, is_even, node_word_in, ack_in, source_in}
 use Rattle.line_reader.specs.TraceLines.{word_text, offset_digits, FitsAck, FitsOffset, FitsMembers}
 use Rattle.line_text.specs.Numerals.{message_digits}
 use Rattle.ttp_base.proofs.Hex.{length-hex_bytes}
@@ -87,8 +87,8 @@ offset-again (negsuc n) small =
 
 -- Names.
 
-pub word-again : (v : Word) → word_in (word_text v) ≡ Some v
-unfolding word_in
+pub word-again : (v : Word) → node_word_in (word_text v) ≡ Some v
+unfolding node_word_in
 word-again word.Off = refl
 word-again word.Wait = refl
 word-again word.Retry = refl
@@ -185,8 +185,9 @@ hex_bytes-again (b ∷ bytes) small =
     ap (λ (x : ℕ). x ∷ hex_bytes_in (hex_bytes bytes)) back
     ∙ ap (λ (l : List ℕ). b ∷ l) (hex_bytes-again bytes (All-tail (λ x. x < 256) b bytes small))
 
-pub payload-again : (bytes : List ℕ) → AreBytes bytes → length bytes ≤ 240 → payload_in (hex_bytes bytes) ≡ Some bytes
-unfolding payload_in
+pub payload-again : (bytes : List ℕ) → AreBytes bytes → length bytes ≤ 240
+    → hex_payload_in (hex_bytes bytes) ≡ Some bytes
+unfolding hex_payload_in
 payload-again bytes small few =
     let short : nat_le (length (hex_bytes bytes)) 480 ≡ true =
     is_le (length (hex_bytes bytes)) 480 (omega (arith, length-hex_bytes bytes, few)) in

@@ -89,15 +89,15 @@ abbrev pub is_even : List ℕ → Bool
 is_even word = length word % 2 == 0
 
 -- two digits for each byte, of at most 240
-unfoldable pub payload_in : List ℕ → Option (List ℕ)
-payload_in word =
+unfoldable pub hex_payload_in : List ℕ → Option (List ℕ)
+hex_payload_in word =
     if is_even word && (nat_le (length word) 480 && list_all is_hex word) then Some (hex_bytes_in word) else None
 
 -- Words.
 
 -- what a node did, by the word of its line
-unfoldable pub word_in : List ℕ → Option Word
-word_in w =
+unfoldable pub node_word_in : List ℕ → Option Word
+node_word_in w =
     if bytes_eq w (codes "off") then Some word.Off else (
     if bytes_eq w (codes "wait") then Some word.Wait else (
     if bytes_eq w (codes "retry") then Some word.Retry else (
@@ -208,7 +208,7 @@ node_in bytes = do
   words ← fields_in node_labels bytes
   slot ← numeral_in slot_digits (word_at words 0)
   k ← byte_in (word_at words 1)
-  w ← word_in (word_at words 2)
+  w ← node_word_in (word_at words 2)
   peer ← byte_or_dash_in (word_at words 3)
   message ← message_or_dash_in (word_at words 4)
   members ← members_word_in (word_at words 5)
@@ -220,8 +220,8 @@ node_in bytes = do
   if fits_word w peer message then Some v else None
 
 -- that of a message that a host wrote
-unfoldable pub write_in : List ℕ → Option TraceLine
-write_in bytes = do
+unfoldable pub write_line_in : List ℕ → Option TraceLine
+write_line_in bytes = do
   words ← fields_in write_labels bytes
   slot ← numeral_in slot_digits (word_at words 0)
   host ← byte_in (word_at words 1)
@@ -229,14 +229,14 @@ write_in bytes = do
   Some (line.Write slot host number)
 
 -- that of one that a host read
-unfoldable pub read_in : List ℕ → Option TraceLine
-read_in bytes = do
+unfoldable pub read_line_in : List ℕ → Option TraceLine
+read_line_in bytes = do
   words ← fields_in read_labels bytes
   slot ← numeral_in slot_digits (word_at words 0)
   host ← byte_in (word_at words 1)
   from ← source_in (word_at words 2)
   number ← numeral_in message_digits (word_at words 3)
-  payload ← payload_in (word_at words 4)
+  payload ← hex_payload_in (word_at words 4)
   if has_size from (length payload) then Some (line.Read slot host from number payload) else None
 
 -- that of the hypothesis test, where it says yes
@@ -277,6 +277,6 @@ or_else (Some v) other = Some v
 -- the value of a line, if it is one
 unfoldable pub line_in : List ℕ → Option TraceLine
 line_in bytes =
-    or_else (node_in bytes) (or_else (read_in bytes) (or_else (write_in bytes) (
+    or_else (node_in bytes) (or_else (read_line_in bytes) (or_else (write_line_in bytes) (
     or_else (head_in bytes) (or_else (kept_in bytes) (or_else (broken_in bytes) (
     or_else (owed_in bytes) (refused_in bytes)))))))

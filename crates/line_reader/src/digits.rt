@@ -2,7 +2,7 @@
 ghost use Rattle.std.specs.Prelude.{◌≡◌, ◌^◌, ◌+◌, ◌<◌, ◌≤◌, length, IfSome, IsTrue};
 ghost use Rattle.ttp_base.specs.NodeSet.{members_in};
 ghost use Rattle.line_reader.specs.Reading.{is_hex, hex_value, hex_in, schedule_in, is_six, members_word_in};
-ghost use Rattle.line_reader.specs.Reading.{payload_in, is_even};
+ghost use Rattle.line_reader.specs.Reading.{hex_payload_in, is_even};
 
 use ttp_base::NodeSet;
 use ttp_world::{PAYLOAD_LIMIT, Payload};
@@ -90,9 +90,9 @@ fn is_even(word: &[u8]) -> bool
 }
 
 /// The bytes of a message, two digits for each.
-#[tactic(auto, unfolding(crate::specs::Reading::payload_in))]
-pub(crate) fn payload_in(word: &[u8]) -> Option<Payload>
-    ensures { result ≡ payload_in word.now }
+#[tactic(auto, unfolding(crate::specs::Reading::hex_payload_in))]
+pub(crate) fn hex_payload_in(word: &[u8]) -> Option<Payload>
+    ensures { result ≡ hex_payload_in word.now }
 {
     if !is_even(word) || 480 < word.len() {
         return None;

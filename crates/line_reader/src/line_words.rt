@@ -1,16 +1,16 @@
 //! The words of a line that are no numbers.
 ghost use Rattle.std.specs.Prelude.{◌≡◌};
 ghost use Rattle.line_reader.specs.TraceLines.{names_peer, may_name_message, fits_word};
-ghost use Rattle.line_reader.specs.Reading.{word_in, ack_in, source_in, has_size};
+ghost use Rattle.line_reader.specs.Reading.{node_word_in, ack_in, source_in, has_size};
 
 use crate::numerals::byte_in;
 use crate::trace_line::Word;
 use ttp_world::{Ack, Source};
 
 /// What a node did.
-#[tactic(auto, unfolding(crate::specs::Reading::word_in))]
-pub(crate) fn word_in(word: &[u8]) -> Option<Word>
-    ensures { result ≡ word_in word.now }
+#[tactic(auto, unfolding(crate::specs::Reading::node_word_in))]
+pub(crate) fn node_word_in(word: &[u8]) -> Option<Word>
+    ensures { result ≡ node_word_in word.now }
 {
     if word == b"off".as_slice() {
         Some(Word::Off)

@@ -3,12 +3,12 @@ ghost use Rattle.std.specs.Prelude.{◌≡◌, IfSome, option_map};
 ghost use Rattle.line_reader.specs.TraceLines.{text_of, Fits};
 ghost use Rattle.line_reader.specs.declared.trace_line.TraceLine.{TraceLine as Line};
 ghost use Rattle.line_reader.specs.declared.trace_line.TraceLine.TheVariants as said;
-ghost use Rattle.line_reader.specs.Reading.{head_in, node_in, write_in, read_in, kept_in, broken_in, owed_in};
+ghost use Rattle.line_reader.specs.Reading.{head_in, node_in, write_line_in, read_line_in, kept_in, broken_in, owed_in};
 ghost use Rattle.line_reader.specs.Reading.{refused_in, line_in};
 
-use crate::digits::{is_wide, members_in, payload_in, schedule_in};
+use crate::digits::{hex_payload_in, is_wide, members_in, schedule_in};
 use crate::fields::fields_in;
-use crate::line_words::{ack_in, fits_word, has_size, source_in, word_in};
+use crate::line_words::{ack_in, fits_word, has_size, node_word_in, source_in};
 use crate::numerals::{byte_in, byte_or_dash_in, message_or_dash_in, offset_in, slot_in};
 use crate::trace_line::{NodeLine, TraceLine};
 use line_text::message_in;
@@ -58,7 +58,7 @@ pub fn read_node_line(bytes: &[u8]) -> Option<NodeLine>
     )?;
     let slot = slot_in(words.at(0))?;
     let node = byte_in(words.at(1))?;
-    let word = word_in(words.at(2))?;
+    let word = node_word_in(words.at(2))?;
     let peer = byte_or_dash_in(words.at(3))?;
     let message = message_or_dash_in(words.at(4))?;
     let wide = is_wide(words.at(5));
@@ -106,9 +106,9 @@ fn node_in(bytes: &[u8]) -> Option<TraceLine>
 }
 
 // The line of a message that a host wrote.
-#[tactic(auto, unfolding(crate::specs::Reading::write_in))]
-fn write_in(bytes: &[u8]) -> Option<TraceLine>
-    ensures { result ≡ write_in bytes.now }
+#[tactic(auto, unfolding(crate::specs::Reading::write_line_in))]
+fn write_line_in(bytes: &[u8]) -> Option<TraceLine>
+    ensures { result ≡ write_line_in bytes.now }
 {
     let words = fields_in(&["slot ", " host ", " write "], bytes)?;
     let slot = slot_in(words.at(0))?;
@@ -118,16 +118,16 @@ fn write_in(bytes: &[u8]) -> Option<TraceLine>
 }
 
 // The line of a message that a host read.
-#[tactic(auto, unfolding(crate::specs::Reading::read_in))]
-fn read_in(bytes: &[u8]) -> Option<TraceLine>
-    ensures { result ≡ read_in bytes.now }
+#[tactic(auto, unfolding(crate::specs::Reading::read_line_in))]
+fn read_line_in(bytes: &[u8]) -> Option<TraceLine>
+    ensures { result ≡ read_line_in bytes.now }
 {
     let words = fields_in(&["slot ", " host ", " read ", " ", " "], bytes)?;
     let slot = slot_in(words.at(0))?;
     let host = byte_in(words.at(1))?;
     let source = source_in(words.at(2))?;
     let number = message_in(words.at(3))?;
-    let payload = payload_in(words.at(4))?;
+    let payload = hex_payload_in(words.at(4))?;
     if !has_size(source, payload.bytes().len()) {
         return None;
     }
@@ -190,10 +190,10 @@ fn line_in(bytes: &[u8]) -> Option<TraceLine>
     if let Some(line) = node_in(bytes) {
         return Some(line);
     }
-    if let Some(line) = read_in(bytes) {
+    if let Some(line) = read_line_in(bytes) {
         return Some(line);
     }
-    if let Some(line) = write_in(bytes) {
+    if let Some(line) = write_line_in(bytes) {
         return Some(line);
     }
     if let Some(line) = head_in(bytes) {

@@ -60,8 +60,8 @@ with_rest begun list k state message =
     ++ codes " ack " ++ ack_word state.ack ++ codes " clock " ++ signed_decimal state.offset ++ newline
 
 -- what is shown of a node that judged the slot so
-abbrev pub text_of : Judged → List ℕ
-text_of j =
+abbrev pub text_of_judged : Judged → List ℕ
+text_of_judged j =
     codes " " ++ verdict_word j.verdict ++ codes " peer " ++ decimal j.sender ++ codes " msg "
     ++ number_or_dash j.message ++ codes " mem " ++ hex (2 * member_bytes j.wide) j.bits ++ codes " acc "
 
@@ -71,12 +71,12 @@ pub record ToldState : Type 0 where
   pub text : List ℕ
 
 -- a text of this length tells a judgement, if there is one, and is short
-pub record IsTold (judged : Option Judged) (len : ℕ) (text : List ℕ) : Type 0 where
-  pub tells : IfSome judged (λ j. text ≡ text_of j)
+pub record TellsJudgement (judged : Option Judged) (len : ℕ) (text : List ℕ) : Type 0 where
+  pub tells : IfSome judged (λ j. text ≡ text_of_judged j)
   pub short : len ≤ 64
 
 -- so much of a line is what the lines of a slot begin with
-pub record IsBegun (slot head : ℕ) (line : List ℕ) : Type 0 where
+pub record IsLineBegun (slot head : ℕ) (line : List ℕ) : Type 0 where
   pub begins : take head line ≡ head_text slot
   pub within : head ≤ length line
   pub short : head ≤ 40

@@ -5,7 +5,7 @@ ghost use Rattle.ttp_base.specs.Text.{hex};
 ghost use Rattle.ttp_world.specs.declared.node.Ack.TheVariants as ack;
 ghost use Rattle.ttp_world.specs.Trace.{number_or_dash, ack_word, member_digits};
 ghost use Rattle.line_text.specs.LineParts.{HasDigits, listed_line, head_text, shown_text, ack_text, end_text};
-ghost use Rattle.line_text.specs.LineParts.{entry_text, message_text, members_text, text_of, with_rest};
+ghost use Rattle.line_text.specs.LineParts.{entry_text, message_text, members_text, text_of_judged, with_rest};
 ghost use Rattle.line_text.specs.Labels.{after_label};
 
 use crate::labels::after_label;
@@ -40,13 +40,13 @@ struct Told {
 
 impl Model for Told {
     ghost use Rattle.std.specs.Prelude.{take};
-    ghost use Rattle.line_text.specs.LineParts.{ToldState, IsTold};
+    ghost use Rattle.line_text.specs.LineParts.{ToldState, TellsJudgement};
 
     ghost Value = { ToldState };
 
     ghost view = { λ t. record { judged = t.judged; text = take t.len t.text } };
 
-    ghost invariant = { λ t. IsTold t.judged t.len (take t.len t.text) };
+    ghost invariant = { λ t. TellsJudgement t.judged t.len (take t.len t.text) };
 }
 
 /// Where the lines of nodes are formed, one after another. Contracts see it as the slot whose lines they
@@ -65,13 +65,13 @@ pub struct NodeLines {
 
 impl Model for NodeLines {
     ghost use Rattle.std.specs.Prelude.{ℕ};
-    ghost use Rattle.line_text.specs.LineParts.{IsBegun};
+    ghost use Rattle.line_text.specs.LineParts.{IsLineBegun};
 
     ghost Value = { ℕ };
 
     ghost view = { λ l. l.slot };
 
-    ghost invariant = { λ l. IsBegun l.slot l.head l.line };
+    ghost invariant = { λ l. IsLineBegun l.slot l.head l.line };
 }
 
 #[tactic(auto, using(ttp_base::proofs::Room::room))]
@@ -191,7 +191,7 @@ impl Told {
 
     // Keeps the text of a judgement, if there is room for it.
     fn keep(&mut self, judged: Judged, text: &[u8])
-        requires { text.now ≡ text_of judged }
+        requires { text.now ≡ text_of_judged judged }
     {
         if text.len() <= KEPT {
             self.text[..text.len()].copy_from_slice(text);
@@ -205,7 +205,7 @@ impl Told {
     fn put(&self, line: &mut Line)
         requires { length line.old + 64 ≤ 640 }
         ensures text { line.new ≡ line.old ++ self.now.text }
-        ensures told { IfSome self.now.judged (λ j. self.now.text ≡ text_of j) }
+        ensures told { IfSome self.now.judged (λ j. self.now.text ≡ text_of_judged j) }
         ensures short { length line.new ≤ length line.old + 64 }
     {
         let end = line.len() + self.len;
@@ -227,7 +227,7 @@ fn put_judged(
 )
     requires room { length line.old + 130 ≤ 640 }
     requires digits { HasDigits list.now state.now }
-    requires judged { shown_text list.now node state.now judged.message ≡ text_of judged }
+    requires judged { shown_text list.now node state.now judged.message ≡ text_of_judged judged }
     ensures text { line.new ≡ line.old ++ shown_text list.now node state.now judged.message }
     ensures short { length line.new ≤ length line.old + 115 }
 {

@@ -21,14 +21,15 @@ pub record Carries (there : OnChannel) (s : Signal) (clock : ℕ → ℤ) : Type
 
 -- A medium stands for the frames that were sent in a slot, in the order in which they were put, by nodes whose clocks
 -- are so far ahead: on each channel is what the script's faults make of them.
-pub record StandsFor (m : Carried) (script : Script) (t : ℕ) (frames : List SentFrame) (clock : ℕ → ℤ) : Type 0 where
+pub record MediumStandsFor (m : Carried) (script : Script) (t : ℕ) (frames : List SentFrame) (clock : ℕ → ℤ)
+    : Type 0 where
   pub slot : m.slot ≡ t
   pub a : Carries m.a (channel_signal script t channel.A frames) clock
   pub b : Carries m.b (channel_signal script t channel.B frames) clock
 
 -- nothing was sent in this slot yet, whatever the script and the clocks are
 abbrev pub StandsAtBeginning : Carried → ℕ → Type 0
-StandsAtBeginning medium slot = (script : Script) (clock : ℕ → ℤ) → StandsFor medium script slot [] clock
+StandsAtBeginning medium slot = (script : Script) (clock : ℕ → ℤ) → MediumStandsFor medium script slot [] clock
 
 -- the frame of a node with these bytes
 abbrev pub sent_by : ℕ → List ℕ → SentFrame
@@ -38,16 +39,17 @@ sent_by node bytes = record { sender = node; bytes = bytes }
 abbrev pub StandsAfterPut : Carried → Carried → Script → SentFrame → ℤ → Type 0
 StandsAfterPut old new script sent offset =
     (slot : ℕ) (frames : List SentFrame) (clock : ℕ → ℤ) → offset ≡ clock sent.sender
-    → StandsFor old script slot frames clock → StandsFor new script slot (frames ++ sent ∷ []) clock
+    → MediumStandsFor old script slot frames clock → MediumStandsFor new script slot (frames ++ sent ∷ []) clock
 
 -- whatever frames a medium stands for, the arrival shows what is made of them on a channel
 abbrev pub ShowsCarried : Carried → Channel → Arrival → Type 0
 ShowsCarried medium c arrival =
-    (script : Script) (slot : ℕ) (frames : List SentFrame) (clock : ℕ → ℤ) → StandsFor medium script slot frames clock
+    (script : Script) (slot : ℕ) (frames : List SentFrame) (clock : ℕ → ℤ)
+    → MediumStandsFor medium script slot frames clock
     → Shows arrival (channel_signal script slot c frames) clock
 
 -- whatever frames a medium stands for, the arrival shows what the node hears of them on a channel
 abbrev pub ShowsHeard : Carried → Script → ℕ → Channel → Arrival → Type 0
 ShowsHeard medium script node c arrival =
-    (slot : ℕ) (frames : List SentFrame) (clock : ℕ → ℤ) → StandsFor medium script slot frames clock
+    (slot : ℕ) (frames : List SentFrame) (clock : ℕ → ℤ) → MediumStandsFor medium script slot frames clock
     → Shows arrival (heard script slot node c frames) clock

@@ -10,7 +10,7 @@ use Rattle.toml.specs.declared.value.Value.{Value}
 use Rattle.toml.proofs.Views.{items_view-drop}
 use Rattle.ttp_world.specs.declared.medl.SlotPlan.{SlotPlan}
 use Rattle.medl_text.specs.declared.error.FieldName.{FieldName}
-use Rattle.medl_text.specs.ListFile.{are_tables, tables_of, slots_faults, plans_of, is_among, has_only}
+use Rattle.medl_text.specs.ListFile.{are_tables, tables_of, slots_faults, plans_of, is_known_key, has_only}
 
 -- one value more is a table, and the rest are
 pub are_tables-drop : (vs : List Value) (i : ℕ) (v : Value) → i < length vs → v ≡ get_or vs i v
@@ -21,9 +21,9 @@ are_tables-drop vs i v h here =
 
 -- the keys of a table are those of its entries
 pub has_only-entries : (known : List FieldName) (es : List (String Global × Value))
-    → list_all (λ key. is_among known (string_bytes key)) (keys_of es) ≡ has_only known (members_view es)
+    → list_all (λ key. is_known_key known (string_bytes key)) (keys_of es) ≡ has_only known (members_view es)
 has_only-entries known [] = refl
-has_only-entries known (e ∷ es) = ap (λ rest. is_among known (string_bytes e.0) && rest) (has_only-entries known es)
+has_only-entries known (e ∷ es) = ap (λ rest. is_known_key known (string_bytes e.0) && rest) (has_only-entries known es)
 
 -- The first slots have no fault and were read, so that what is left decides.
 pub record AreRead (rounds modes : ℕ) (vs : List Value) (plans : List SlotPlan) (k : ℕ) : Type 0 where

@@ -18,11 +18,11 @@ use Rattle.medl_text.specs.declared.error.FieldName.TheVariants as names
 use Rattle.medl_text.specs.declared.error.MedlError.{MedlError}
 use Rattle.medl_text.specs.ListFile.{at_top, at_slot, held_at, kind_faults, key_faults, optional_faults, range_faults}
 use Rattle.medl_text.specs.ListFile.{number_faults, flag_faults, natural, number_at, flag_at, kind_of, letters_faults}
-use Rattle.medl_text.specs.ListFile.{kinds_faults, kinds_at, most_payload, request_faults, requests_faults}
-use Rattle.medl_text.specs.ListFile.{answers_faults, live_faults, live_of, live_or_all, live_at, slot_faults, plan_of}
-use Rattle.medl_text.specs.ListFile.{array_faults, slots_in, slot_limit, count_faults, slots_faults, plans_of}
-use Rattle.medl_text.specs.ListFile.{unknown_faults, sync_faults, modes_faults, modes_in, file_faults, list_in}
-use Rattle.medl_text.specs.ListFile.{list_unless, medl_in, medl_of_document, document_of, medl_of}
+use Rattle.medl_text.specs.ListFile.{kinds_faults, kinds_at, payload_limit, request_faults, requests_faults}
+use Rattle.medl_text.specs.ListFile.{answers_faults, live_faults, live_of, live_or_all, live_at, slot_faults}
+use Rattle.medl_text.specs.ListFile.{slot_plan_of, array_faults, slots_in, slot_limit, count_faults, slots_faults}
+use Rattle.medl_text.specs.ListFile.{plans_of, unknown_faults, sync_faults, modes_faults, modes_in, file_faults}
+use Rattle.medl_text.specs.ListFile.{list_in, list_unless, medl_in, medl_of_document, document_of, medl_of}
 use Rattle.medl_text.proofs.Counts.{length-plans_of}
 
 -- Where a file has no fault, no part of it has.
@@ -167,11 +167,11 @@ live_right modes k table none = live_held (at_slot k names.Live) modes k (held_a
 -- A slot, and all of them.
 
 slot_valid : (rounds modes k : ℕ) (table : Members) → slot_faults rounds modes k table ≡ []
-    → IsValidSlot rounds modes (plan_of modes k table)
-unfolding slot_faults plan_of
+    → IsValidSlot rounds modes (slot_plan_of modes k table)
+unfolding slot_faults slot_plan_of
 slot_valid rounds modes k table none =
     let kinds = none_both (kinds_faults rounds k table) _ none in
-    let most = most_payload (kinds_at k table) in
+    let most = payload_limit (kinds_at k table) in
     let size = none_both (number_faults (at_slot k names.DataSize) 0 most table) _ kinds.1 in
     let sync = none_both (flag_faults (at_slot k names.Sync) table) _ size.1 in
     let start = none_both (flag_faults (at_slot k names.Start) table) _ sync.1 in

@@ -25,22 +25,22 @@ use Rattle.medl_text.specs.declared.error.MedlError.{MedlError}
 use Rattle.medl_text.specs.declared.error.MedlError.TheVariants as errors
 
 -- a key as it is spelled
-abbrev pub key_of : FieldName → List ℕ
-key_of names.Version = codes "version"
-key_of names.Rounds = codes "rounds"
-key_of names.Schedule = codes "schedule"
-key_of names.Buffers = codes "buffers"
-key_of names.Drift = codes "drift"
-key_of names.Error = codes "error"
-key_of names.Window = codes "window"
-key_of names.Slot = codes "slot"
-key_of names.Modes = codes "modes"
-key_of names.Kinds = codes "kinds"
-key_of names.DataSize = codes "data"
-key_of names.Sync = codes "sync"
-key_of names.Start = codes "start"
-key_of names.Requests = codes "requests"
-key_of names.Live = codes "live"
+abbrev pub key_text : FieldName → List ℕ
+key_text names.Version = codes "version"
+key_text names.Rounds = codes "rounds"
+key_text names.Schedule = codes "schedule"
+key_text names.Buffers = codes "buffers"
+key_text names.Drift = codes "drift"
+key_text names.Error = codes "error"
+key_text names.Window = codes "window"
+key_text names.Slot = codes "slot"
+key_text names.Modes = codes "modes"
+key_text names.Kinds = codes "kinds"
+key_text names.DataSize = codes "data"
+key_text names.Sync = codes "sync"
+key_text names.Start = codes "start"
+key_text names.Requests = codes "requests"
+key_text names.Live = codes "live"
 
 -- the keys at the top, and those of a slot, in their order
 abbrev pub top_keys : List FieldName
@@ -60,7 +60,7 @@ at_slot k name = record { name = name; slot = Some k }
 
 -- what a table holds at a field's key
 abbrev pub held_at : Field → Members → Option Data
-held_at field table = get_member (key_of field.name) table
+held_at field table = get_member (key_text field.name) table
 
 -- The faults of one key. It is there, it is of its kind, and what it holds is right.
 
@@ -152,8 +152,8 @@ abbrev pub kinds_at : ℕ → Members → List Kind
 kinds_at k table = map kind_of (text_at (at_slot k names.Kinds) table)
 
 -- the largest payload that frames of these kinds may have
-abbrev pub most_payload : List Kind → ℕ
-most_payload kinds = if list_all is_bare kinds then 0 else 240
+abbrev pub payload_limit : List Kind → ℕ
+payload_limit kinds = if list_all is_bare kinds then 0 else 240
 
 -- a slot asks for modes by the first byte of its payload, so it has one
 abbrev pub request_faults : ℕ → ℕ → Bool → List MedlError
@@ -205,15 +205,15 @@ live_at modes k table = live_or_all modes (option_and_then as_str (held_at (at_s
 unfoldable pub slot_faults : ℕ → ℕ → ℕ → Members → List MedlError
 slot_faults rounds modes k table =
     kinds_faults rounds k table
-    ++ (number_faults (at_slot k names.DataSize) 0 (most_payload (kinds_at k table)) table
+    ++ (number_faults (at_slot k names.DataSize) 0 (payload_limit (kinds_at k table)) table
     ++ (flag_faults (at_slot k names.Sync) table
     ++ (flag_faults (at_slot k names.Start) table
     ++ (requests_faults k (number_at (at_slot k names.DataSize) table) table
     ++ live_faults modes k table))))
 
 -- the slot that a table without faults says
-unfoldable pub plan_of : ℕ → ℕ → Members → SlotPlan
-plan_of modes k table = record {
+unfoldable pub slot_plan_of : ℕ → ℕ → Members → SlotPlan
+slot_plan_of modes k table = record {
   kinds = kinds_at k table;
   payload = number_at (at_slot k names.DataSize) table;
   sync = flag_at (at_slot k names.Sync) table;
@@ -267,18 +267,18 @@ slots_faults rounds modes k (table ∷ tables) =
 -- the slots from number k on
 abbrev pub plans_of : ℕ → ℕ → List Members → List SlotPlan
 plans_of modes k [] = []
-plans_of modes k (table ∷ tables) = plan_of modes k table ∷ plans_of modes (suc k) tables
+plans_of modes k (table ∷ tables) = slot_plan_of modes k table ∷ plans_of modes (suc k) tables
 
 -- Keys that no list has.
 
 -- a key is one of some
-abbrev pub is_among : List FieldName → List ℕ → Bool
-is_among known key = list_any (λ name. bytes_eq (key_of name) key) known
+abbrev pub is_known_key : List FieldName → List ℕ → Bool
+is_known_key known key = list_any (λ name. bytes_eq (key_text name) key) known
 
 -- a table has no other keys than these
 abbrev pub has_only : List FieldName → Members → Bool
 has_only known no_members = true
-has_only known (member key d table) = is_among known key && has_only known table
+has_only known (member key d table) = is_known_key known key && has_only known table
 
 -- the fault of a file with a key at its top that no list has
 abbrev pub unknown_at_top : Members → List MedlError

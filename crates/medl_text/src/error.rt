@@ -28,11 +28,11 @@ pub enum FieldName {
 
 impl FieldName {
     ghost use Rattle.std.specs.Prelude.{◌≡◌, ◌≤◌, length};
-    ghost use Rattle.medl_text.specs.ListFile.{key_of};
+    ghost use Rattle.medl_text.specs.ListFile.{key_text};
 
     /// The key as it is spelled in the file, of at most 8 bytes.
     pub fn key(self) -> &'static str
-        ensures text { result.now ≡ key_of self }
+        ensures text { result.now ≡ key_text self }
         ensures short { length result.now ≤ 8 }
     {
         match self {

@@ -7,8 +7,8 @@ ghost use Rattle.ttp_world.specs.Medl.{is_bare};
 ghost use Rattle.medl_text.specs.declared.error.FieldName.TheVariants as names;
 ghost use Rattle.medl_text.specs.Fault.{IsFirst};
 ghost use Rattle.medl_text.specs.ListFile.{at_slot, flag_at, is_kind, kind_of, letters_faults, kinds_faults};
-ghost use Rattle.medl_text.specs.ListFile.{kinds_at, most_payload, requests_faults, is_answer};
-ghost use Rattle.medl_text.specs.ListFile.{live_faults, live_of, all_live, live_at, slot_faults, plan_of};
+ghost use Rattle.medl_text.specs.ListFile.{kinds_at, payload_limit, requests_faults, is_answer};
+ghost use Rattle.medl_text.specs.ListFile.{live_faults, live_of, all_live, live_at, slot_faults, slot_plan_of};
 
 use crate::error::{FieldName, MedlError};
 use crate::table::{at_slot, flag, flag_in, member, number, text, text_in};
@@ -63,8 +63,8 @@ fn are_bare(kinds: &[Kind]) -> bool
 }
 
 // The largest payload that frames of these kinds may have.
-fn most_payload(kinds: &[Kind]) -> u8
-    ensures value { result ≡ most_payload kinds.now }
+fn payload_limit(kinds: &[Kind]) -> u8
+    ensures value { result ≡ payload_limit kinds.now }
     ensures within { result ≤ 240 }
 {
     if are_bare(kinds) { 0 } else { 240 }
@@ -150,7 +150,7 @@ fn live_in(k: u8, modes: u8, table: &Table) -> Result<u8, MedlError>
 }
 
 /// The plan of a slot, as its table gives it.
-#[tactic(auto, unfolding(crate::specs::ListFile::slot_faults, crate::specs::ListFile::plan_of))]
+#[tactic(auto, unfolding(crate::specs::ListFile::slot_faults, crate::specs::ListFile::slot_plan_of))]
 pub(crate) fn slot_of(
     alloc: Global,
     k: u8,
@@ -160,11 +160,11 @@ pub(crate) fn slot_of(
 ) -> Result<SlotPlan, MedlError>
     requires { modes ≤ 8 }
     ensures ok { IfOk result (λ plan. slot_faults rounds modes k (table_view table.now) ≡ []) }
-    ensures value { IfOk result (λ plan. plan ≡ plan_of modes k (table_view table.now)) }
+    ensures value { IfOk result (λ plan. plan ≡ slot_plan_of modes k (table_view table.now)) }
     ensures err { IfErr result (λ e. IsFirst e (slot_faults rounds modes k (table_view table.now))) }
 {
     let kinds = kinds_in(alloc, k, rounds, table)?;
-    let most = most_payload(kinds.as_slice());
+    let most = payload_limit(kinds.as_slice());
     let payload = number(table, at_slot(k, FieldName::DataSize), 0, u32::from(most))? as u8;
     let sync = flag(table, at_slot(k, FieldName::Sync))?;
     let start = flag(table, at_slot(k, FieldName::Start))?;

@@ -7,7 +7,7 @@ ghost use Rattle.toml.specs.View.{view, table_view, array_view, items_view};
 ghost use Rattle.ttp_base.specs.Faults.{first_fault};
 ghost use Rattle.medl_text.specs.ListFile.{at_top, at_slot, held_at, kind_faults, range_faults, key_faults, none_of};
 ghost use Rattle.medl_text.specs.ListFile.{number_faults, number_at, flag_faults, flag_at, text_at, array_faults};
-ghost use Rattle.medl_text.specs.ListFile.{items_at, are_tables, is_among, has_only};
+ghost use Rattle.medl_text.specs.ListFile.{items_at, are_tables, is_known_key, has_only};
 
 use crate::error::{Field, FieldName, MedlError};
 use toml::value::Array;
@@ -143,13 +143,13 @@ pub(crate) fn has_only(table: &Table, known: &[FieldName]) -> bool
 }
 
 fn all_among(table: &Table, known: &[FieldName]) -> bool
-    ensures { result ≡ list_all (λ key. is_among known.now (string_bytes key)) (keys table.now) }
+    ensures { result ≡ list_all (λ key. is_known_key known.now (string_bytes key)) (keys table.now) }
 {
-    table.keys().all(|key| is_among(key.as_str(), known))
+    table.keys().all(|key| is_known_key(key.as_str(), known))
 }
 
-fn is_among(key: &str, known: &[FieldName]) -> bool
-    ensures { result ≡ is_among known.now key.now }
+fn is_known_key(key: &str, known: &[FieldName]) -> bool
+    ensures { result ≡ is_known_key known.now key.now }
 {
     known.iter().any(|name| name.key() == key)
 }

@@ -9,20 +9,20 @@ pub record FrameCounts : Type 0 where
   pub rejected : ℕ
 
 -- those of a node that is not active
-abbrev pub no_counts : FrameCounts
-no_counts = record { accepted = 0; rejected = 0 }
+abbrev pub no_frame_counts : FrameCounts
+no_frame_counts = record { accepted = 0; rejected = 0 }
 
 -- those of a node that has just sent, started or joined: its own frame is accepted
 abbrev pub first_counts : FrameCounts
 first_counts = record { accepted = 1; rejected = 0 }
 
 -- one more where a frame is to be counted
-abbrev pub counted : Bool → ℕ → ℕ
-counted more count = (if more then 1 else 0) + count
+abbrev pub counted_if : Bool → ℕ → ℕ
+counted_if more count = (if more then 1 else 0) + count
 
 -- after a move
 abbrev pub moved_counts : AckMove → FrameCounts → FrameCounts
 moved_counts move counts = record {
-  accepted = counted (adds_accepted move) counts.accepted;
-  rejected = counted (adds_rejected move) counts.rejected;
+  accepted = counted_if (adds_accepted move) counts.accepted;
+  rejected = counted_if (adds_rejected move) counts.rejected;
 }

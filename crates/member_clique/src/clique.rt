@@ -1,6 +1,6 @@
 //! The frames that an active node accepted and rejected.
 ghost use Rattle.std.specs.Prelude.{◌≡◌, ◌<◌, ◌↔◌, IsTrue};
-ghost use Rattle.member_clique.specs.FrameCounts.{FrameCounts, no_counts, first_counts, counted, moved_counts};
+ghost use Rattle.member_clique.specs.FrameCounts.{FrameCounts, no_frame_counts, first_counts, counted_if, moved_counts};
 
 use ack_check::AckMove;
 use std::marker::Model;
@@ -26,9 +26,9 @@ impl Model for Clique {
 }
 
 // One more, where a frame is to be counted.
-fn counted(count: u8, more: bool) -> u8
+fn counted_if(count: u8, more: bool) -> u8
     requires { count < 255 }
-    ensures { result ≡ counted more count }
+    ensures { result ≡ counted_if more count }
 {
     u8::from(more) + count
 }
@@ -46,7 +46,7 @@ impl Clique {
 
     /// The counts of a node that is not active.
     pub fn none() -> Clique
-        ensures { result ≡ no_counts }
+        ensures { result ≡ no_frame_counts }
     {
         Clique {
             accepted: 0,
@@ -66,8 +66,8 @@ impl Clique {
             AckMove::Resolve { .. } => (true, true),
             AckMove::Hold | AckMove::Leave => (false, false),
         };
-        self.accepted = counted(self.accepted, accepts);
-        self.rejected = counted(self.rejected, rejects);
+        self.accepted = counted_if(self.accepted, accepts);
+        self.rejected = counted_if(self.rejected, rejects);
     }
 
     /// How many frames were accepted, the node's own among them.

@@ -15,11 +15,11 @@ use Rattle.ttp_world.specs.After.{place_after}
 use Rattle.ttp_world.specs.Diary.{History, entry_of, diary_of, Place, no_place, place_of}
 use Rattle.ttp_world.specs.Outgoing.{nothing_chosen}
 use Rattle.ttp_world.specs.World.{chosen_of}
-use Rattle.slot_clock.specs.StandsFor as clock
+use Rattle.slot_clock.specs.StandsFor.{ClockStandsFor}
 use Rattle.controller.specs.PlantStands.{outcome_at, ShowsNode}
 use Rattle.controller.specs.PlantView.{PlantView}
 use Rattle.mode_change.specs.declared.node.NodeModes.{NodeModes}
-use Rattle.mode_change.specs.Knowing.{AreSmall, IsFromList, mode_by, Knows, KnowAll, IsPast}
+use Rattle.mode_change.specs.Knowing.{AreSmall, IsFromList, mode_by, KnowsModes, KnowAll, IsPastRow}
 use Rattle.mode_change.specs.ModeText.{mode_line, mode_line_of}
 use Rattle.mode_change.specs.Modes.{no_modes, modes_of, modes_with, with_request, ends_cycle, switched_at}
 use Rattle.mode_change.specs.Modes.{is_delivery_live}
@@ -29,10 +29,10 @@ use Rattle.mode_change.specs.Modes.{is_delivery_live}
 pub record AreNew (nodes : List NodeModes) (list : Medl) (many : ℕ) : Type 0 where
   pub count : length nodes ≡ many
   pub each : (script : Script) (k : ℕ) (node : NodeModes) → k < many → node ≡ get_or nodes k node
-      → Knows node list script [] k
+      → KnowsModes node list script [] k
 
-new-knows : (list : Medl) (script : Script) (k : ℕ) (new : NodeModes) → clock.StandsFor new.clock list no_place
-    → new.modes ≡ no_modes → new.live ≡ None → Knows new list script [] k
+new-knows : (list : Medl) (script : Script) (k : ℕ) (new : NodeModes) → ClockStandsFor new.clock list no_place
+    → new.modes ≡ no_modes → new.live ≡ None → KnowsModes new list script [] k
 new-knows list script k new stands modes live = record {
   clock = stands;
   modes = modes;
@@ -41,7 +41,7 @@ new-knows list script k new stands modes live = record {
 }
 
 pub new-more : (nodes : List NodeModes) (list : Medl) (many : ℕ) (new : NodeModes) → AreNew nodes list many
-    → clock.StandsFor new.clock list no_place → new.modes ≡ no_modes → new.live ≡ None
+    → ClockStandsFor new.clock list no_place → new.modes ≡ no_modes → new.live ≡ None
     → AreNew (nodes ++ new ∷ []) list (many + 1)
 new-more nodes list many new are stands modes live = record {
   count = length_push nodes new ∙ ap (λ n. n + 1) are.count;
@@ -49,7 +49,7 @@ new-more nodes list many new are stands modes live = record {
     | inl last ↦
         let seam : get_or (nodes ++ new ∷ []) k node ≡ new =
         ap (λ i. get_or (nodes ++ new ∷ []) i node) (last ∙ sym are.count) ∙ get_or-append_seam nodes new [] node in
-        subst (λ (n : NodeModes). Knows n list script [] k) (sym (is ∙ seam))
+        subst (λ (n : NodeModes). KnowsModes n list script [] k) (sym (is ∙ seam))
         (new-knows list script k new stands modes live)
     | inr other ↦
         let count = are.count in
@@ -64,9 +64,9 @@ new-more nodes list many new are stands modes live = record {
 pub record IsEntering (plant : PlantView) (chosen : List Chosen) (before nodes : List NodeModes) (list : Medl) (i : ℕ)
     : Type 0 where
   pub count : length nodes ≡ length before
-  pub done : (script : Script) (row : List Entry) (history : History) → IsPast plant chosen list script row history
+  pub done : (script : Script) (row : List Entry) (history : History) → IsPastRow plant chosen list script row history
       → KnowAll before list script history → (k : ℕ) (node : NodeModes) → k < i → node ≡ get_or nodes k node
-      → Knows node list script (row ∷ history) k
+      → KnowsModes node list script (row ∷ history) k
   pub left : (k : ℕ) (node : NodeModes) → i ≤ k → node ≡ get_or nodes k node → node ≡ get_or before k node
 
 pub entering-first : (plant : PlantView) (chosen : List Chosen) (nodes : List NodeModes) (list : Medl)
@@ -78,7 +78,7 @@ entering-first plant chosen nodes list = record {
 }
 
 module _ (plant : PlantView) (chosen : List Chosen) (list : Medl) (script : Script) (row : List Entry)
-    (history : History) (past : IsPast plant chosen list script row history) (k : ℕ) (node : k < length list.slots)
+    (history : History) (past : IsPastRow plant chosen list script row history) (k : ℕ) (node : k < length list.slots)
   where
     -- the entry that the plant shows
     pub entry-shown : (state : NodeState) → ShowsNode plant k state → state.entry ≡ entry_of row k
@@ -95,21 +95,21 @@ module _ (plant : PlantView) (chosen : List Chosen) (list : Medl) (script : Scri
 
     -- one node after the slot
     pub knows-next : (old new : NodeModes) (e : Entry) (c : Chosen) (delivered : Option Delivered)
-        → Knows old list script history k → e ≡ entry_of row k → c ≡ chosen_of chosen k
+        → KnowsModes old list script history k → e ≡ entry_of row k → c ≡ chosen_of chosen k
         → delivered ≡ (outcome_at plant k).delivered
-        → ((place : Place) → clock.StandsFor old.clock list place
-        → clock.StandsFor new.clock list (place_after list k place e))
-        → ((place : Place) → clock.StandsFor old.clock list place
+        → ((place : Place) → ClockStandsFor old.clock list place
+        → ClockStandsFor new.clock list (place_after list k place e))
+        → ((place : Place) → ClockStandsFor old.clock list place
         → new.modes ≡ switched_at (ends_cycle list (place_after list k place e))
         (with_request (mode_by list k e c.payload delivered) (modes_with e old.modes)))
         → new.live ≡ is_delivery_live list delivered old.modes.mode → AreSmall new.modes
-        → Knows new list script (row ∷ history) k
+        → KnowsModes new list script (row ∷ history) k
     knows-next old new e c delivered knows entry_is chosen_as delivered_as stands modes live small =
         let place = place_of list k (diary_of history k) in
         let there : place_after list k place e ≡ place_of list k (diary_of (row ∷ history) k) =
         ap (place_after list k place) entry_is ∙ sym (past.place k node) in
         record {
-          clock = subst (λ (p : Place). clock.StandsFor new.clock list p) there (stands place knows.clock);
+          clock = subst (λ (p : Place). ClockStandsFor new.clock list p) there (stands place knows.clock);
           modes =
               modes place knows.clock
               ∙ (λ i. switched_at (ends_cycle list (there i))
@@ -128,7 +128,7 @@ module _ (plant : PlantView) (chosen : List Chosen) (before nodes : List NodeMod
     (entering : IsEntering plant chosen before nodes list i) (inside : i < length list.slots) where
   -- the node that is next is still as it was
   pub old-knows : (script : Script) (history : History) (old : NodeModes) → KnowAll before list script history
-      → old ≡ get_or nodes i old → Knows old list script history i
+      → old ≡ get_or nodes i old → KnowsModes old list script history i
   old-knows script history old known is =
       known.each i old inside (entering.left i old (omega arith) is)
 
@@ -139,8 +139,8 @@ module _ (plant : PlantView) (chosen : List Chosen) (before nodes : List NodeMod
       ap (λ k. get_or nodes k old) is ∙ get_or_default nodes i old (get_or nodes j old) (omega (arith, inside, count, long))
 
   pub entering-next : (old new : NodeModes) → length before ≡ length list.slots → old ≡ get_or nodes i old
-      → ((script : Script) (row : List Entry) (history : History) → IsPast plant chosen list script row history
-      → Knows old list script history i → Knows new list script (row ∷ history) i)
+      → ((script : Script) (row : List Entry) (history : History) → IsPastRow plant chosen list script row history
+      → KnowsModes old list script history i → KnowsModes new list script (row ∷ history) i)
       → IsEntering plant chosen before (set nodes i new) list (i + 1)
   entering-next old new long is next = record {
     count = length-set nodes i new ∙ entering.count;
@@ -150,8 +150,8 @@ module _ (plant : PlantView) (chosen : List Chosen) (before nodes : List NodeMod
           let here : node ≡ new =
           at ∙ ap (λ j. get_or (set nodes i new) j node) same
           ∙ get_or-set_same nodes i new node (omega (arith, inside, count, long)) in
-          subst (λ (n : NodeModes). Knows n list script (row ∷ history) k) (sym here)
-          (subst (Knows new list script (row ∷ history)) (sym same)
+          subst (λ (n : NodeModes). KnowsModes n list script (row ∷ history) k) (sym here)
+          (subst (KnowsModes new list script (row ∷ history)) (sym same)
           (next script row history past (old-knows script history old known is)))
       | inr other ↦
           entering.done script row history past known k node (omega (arith, less, other))
@@ -164,7 +164,7 @@ module _ (plant : PlantView) (chosen : List Chosen) (before nodes : List NodeMod
 
 pub entering-all : (plant : PlantView) (chosen : List Chosen) (before nodes : List NodeModes) (list : Medl) (i : ℕ)
     → IsEntering plant chosen before nodes list i → length list.slots ≤ i → (script : Script) (row : List Entry)
-    (history : History) → IsPast plant chosen list script row history → KnowAll before list script history
+    (history : History) → IsPastRow plant chosen list script row history → KnowAll before list script history
     → KnowAll nodes list script (row ∷ history)
 entering-all plant chosen before nodes list i entering all script row history past known = record {
   count = entering.count ∙ known.count;

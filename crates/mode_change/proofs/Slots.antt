@@ -27,19 +27,19 @@ use Rattle.ttp_world.proofs.LegalShapes.{legal-message, legal-older, legal-shape
 use Rattle.ttp_world.proofs.NextPasts.{node_past-next}
 use Rattle.ttp_world.proofs.Places.{IsOfList, delivered_of-sender, entry_of-row_after-of_list}
 use Rattle.ttp_world.proofs.Worlds.{row_of_world, world-of_list}
-use Rattle.controller.specs.Passes.{AreChosen, IsLeft}
+use Rattle.controller.specs.Passes.{AreChosen, IsOutcomeOf}
 use Rattle.controller.specs.PlantStands.{PlantStandsFor, MayStep, IsStep, Steps, outcome_at}
 use Rattle.controller.specs.PlantView.{PlantView}
 use Rattle.controller.proofs.Payloads.{chosen-step}
 use Rattle.trace_check.specs.declared.outgoing.Outgoing.{Outgoing}
 use Rattle.trace_check.specs.Following.{lines_of_slot}
-use Rattle.trace_check.specs.Outgoing.{Chooses, HoldsNewest, number_in, number_named}
+use Rattle.trace_check.specs.Outgoing.{Chooses, HoldsNewest, number_by_text, number_by_line}
 use Rattle.trace_check.proofs.Counts.{lines_in, length-legal_slot}
 use Rattle.trace_check.proofs.NodesDepart.{legal-small, line-names, node-at, taken-named}
 use Rattle.trace_check.proofs.SlotChosen.{chosen-of_hosts, chosen-sizes, taken-legal}
 use Rattle.trace_check.proofs.Wholes.{trace-cut, legal-drop as legal-first}
 use Rattle.mode_change.specs.declared.run.Run.{Run}
-use Rattle.mode_change.specs.Knowing.{IsJoinOfList, mode_by, KnowAll, IsPast, StandsFor, first_numbers}
+use Rattle.mode_change.specs.Knowing.{IsJoinOfList, mode_by, KnowAll, IsPastRow, RunStandsFor, first_numbers}
 use Rattle.mode_change.specs.Knowing.{first_lines, IsAt}
 use Rattle.mode_change.specs.Modes.{mode_asked, mode_sent, mode_delivered}
 use Rattle.mode_change.proofs.Requests.{asked-nothing, or-none, sends-nothing}
@@ -77,7 +77,7 @@ some-loaded false i n is = cc
 
 module _ (list : Medl) (script : Script) (valid : IsValid list) (valid_script : IsValidScript list script)
     (numbers : Numbers) (legal : IsLegal list script numbers) (o : Outgoing) (text : List ℕ)
-    (chooses : Chooses o list script (length numbers) (number_in list script (length numbers) text))
+    (chooses : Chooses o list script (length numbers) (number_by_text list script (length numbers) text))
     (chosen : List Chosen) (is : chosen ≡ o.chosen.items) where
   abbrev history : History
   history = world list script numbers
@@ -86,18 +86,19 @@ module _ (list : Medl) (script : Script) (valid : IsValid list) (valid_script : 
   row = row_in (slot_after list script (world list script numbers)) chosen
 
   number_legal : (k : ℕ)
-      → IsTrue (is_legal_message list script (length numbers) k (Some (number_in list script (length numbers) text k)))
-  number_legal k = taken-legal list script (length numbers) k (number_named (get_or (lines_of text) k []))
+      → IsTrue (is_legal_message list script (length numbers) k
+      (Some (number_by_text list script (length numbers) text k)))
+  number_legal k = taken-legal list script (length numbers) k (number_by_line (get_or (lines_of text) k []))
 
   chosen_at : (k : ℕ) → k < length list.slots
       → chosen_of chosen k
-      ≡ message_chosen list script (length numbers) k (Some (number_in list script (length numbers) text k))
+      ≡ message_chosen list script (length numbers) k (Some (number_by_text list script (length numbers) text k))
   chosen_at k node = ap (λ (cs : List Chosen). chosen_of cs k) is ∙ chooses.chosen k node
 
   of_hosts : AreOfHosts (slot_after list script (world list script numbers)) chosen
   of_hosts = record {
     message = chosen-of_hosts list script valid valid_script numbers legal chosen
-        (number_in list script (length numbers) text) number_legal chosen_at;
+        (number_by_text list script (length numbers) text) number_legal chosen_at;
   }
 
   pub may-step : (plant : PlantView) → plant.list ≡ list → PlantStandsFor plant script (world list script numbers)
@@ -106,7 +107,7 @@ module _ (list : Medl) (script : Script) (valid : IsValid list) (valid_script : 
       chosen-step chosen (subst IsValid (sym same) valid) stands
       (subst (λ (l : Medl). AreChosen (slot_after l script (world list script numbers)) chosen) (sym same)
       (chosen-sizes list script valid valid_script numbers legal chosen
-      (number_in list script (length numbers) text) number_legal chosen_at))
+      (number_by_text list script (length numbers) text) number_legal chosen_at))
 
   -- what a node was asked for, by its entry
   asked-by : (delivered : Option Delivered) (k : ℕ) → k < length list.slots
@@ -135,12 +136,12 @@ module _ (list : Medl) (script : Script) (valid : IsValid list) (valid_script : 
     delivered-told : (k : ℕ) → k < length list.slots
         → (outcome_at plant k).delivered ≡ delivered_of list script history row k
     delivered-told k node =
-        let left : IsLeft list script history chosen k (outcome_at plant k) =
-        subst (λ (l : Medl). IsLeft l script history chosen k (outcome_at plant k)) same
+        let left : IsOutcomeOf list script history chosen k (outcome_at plant k) =
+        subst (λ (l : Medl). IsOutcomeOf l script history chosen k (outcome_at plant k)) same
         (step.left k (subst (λ (l : Medl). k < length l.slots) (sym same) node)) in
         left.delivered ∙ sym (delivered_of-row_in list script history chosen k of_hosts)
 
-    pub is-past : IsPast plant chosen list script
+    pub is-past : IsPastRow plant chosen list script
         (row_in (slot_after list script (world list script numbers)) chosen) (world list script numbers)
     is-past = record {
       same = same;
@@ -190,10 +191,10 @@ module _ (list : Medl) (script : Script) (valid : IsValid list) (valid_script : 
         ap (λ (ls : Lines). get_or ls k []) lines
         ∙ get_or_append_left (lines_of_slot list script new numbers) later [] k (omega (arith, many, node))
         ∙ node-at list script new numbers k node in
-        let named : number_named (node_line_of list script row_new history k) ≡ Some i =
+        let named : number_by_line (node_line_of list script row_new history k) ≡ Some i =
         line-names list script row_new history k i told
         (legal-small list script (length numbers) k i valid valid_script inside ok) in
-        let taken : number_in list script (length numbers) text k ≡ i =
+        let taken : number_by_text list script (length numbers) text k ≡ i =
         taken-named list script (length numbers) k i text (node_line_of list script row_new history k) line named ok in
         let sent : get_or new.sent k None ≡ Some i =
         ap (λ (ns : List (Option ℕ)). get_or ns k None) (legal-shapes list script (new ∷ numbers) legal_new).0.sent
@@ -258,10 +259,10 @@ module _ (list : Medl) (script : Script) (whole : Numbers) (slot : ℕ) (new : S
 pub at-next : (list : Medl) (script : Script) (run next_run : Run) (whole : Numbers) (slot : ℕ) (text rest : List ℕ)
     (o : Outgoing) (chosen : List Chosen) → IsValid list → IsValidScript list script
     → IsAt run list script whole slot text → slot < script.slots
-    → Chooses o list script slot (number_in list script slot text) → chosen ≡ o.chosen.items
+    → Chooses o list script slot (number_by_text list script slot text) → chosen ≡ o.chosen.items
     → next_run.plant.list ≡ run.plant.list → Steps run.plant next_run.plant script chosen
     → HoldsNewest next_run.outgoing list script (slot + 1)
-    → ((said : Script) (row : List Entry) (history : History) → IsPast next_run.plant chosen list said row history
+    → ((said : Script) (row : List Entry) (history : History) → IsPastRow next_run.plant chosen list said row history
     → KnowAll run.nodes.items list said history → KnowAll next_run.nodes.items list said (row ∷ history))
     → lines_of rest ≡ drop (lines_in list script slot) (lines_of text)
     → IsAt next_run list script whole (slot + 1) rest
@@ -274,8 +275,8 @@ at-next list script run next_run whole slot text rest o chosen valid valid_scrip
     let legal_new : IsLegal list script (new ∷ older) =
     subst (IsLegal list script) next.1 (legal-first list script whole (script.slots - (slot + 1)) at.legal.legal) in
     let legal = legal-older list script new older legal_new in
-    let chooses_here : Chooses o list script (length older) (number_in list script (length older) text) =
-    subst (λ n. Chooses o list script n (number_in list script n text)) (sym long) chooses in
+    let chooses_here : Chooses o list script (length older) (number_by_text list script (length older) text) =
+    subst (λ n. Chooses o list script n (number_by_text list script n text)) (sym long) chooses in
     let lines = slot-lines list script whole slot new next.1 text at.left in
     let list_is = same ∙ at.stands.same in
     let step = steps (world list script older) at.stands.plant in
@@ -283,7 +284,7 @@ at-next list script run next_run whole slot text rest o chosen valid valid_scrip
     step in
     let row_is = same-row list script valid valid_script older legal o text chooses_here chosen is new lines.0 legal_new
     (omega (arith, less, long)) lines.1 in
-    let stands : StandsFor next_run list script (new ∷ older) = record {
+    let stands : RunStandsFor next_run list script (new ∷ older) = record {
       same = list_is;
       plant = subst (λ (row : List Entry). PlantStandsFor next_run.plant script (row ∷ world list script older)) row_is
           past.stands;
@@ -294,6 +295,6 @@ at-next list script run next_run whole slot text rest o chosen valid valid_scrip
     } in
     record {
       legal = at.legal;
-      stands = subst (StandsFor next_run list script) (sym next.1) stands;
+      stands = subst (RunStandsFor next_run list script) (sym next.1) stands;
       left = left-next list script whole slot new next.1 text rest legal_new long at.left skipped;
     }

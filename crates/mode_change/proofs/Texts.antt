@@ -24,7 +24,7 @@ use Rattle.trace_check.proofs.OwnNumbers.{IsTrace, is_trace-numbers}
 use Rattle.mode_change.specs.declared.node.NodeModes.{NodeModes}
 use Rattle.mode_change.specs.declared.run.Run.{Run}
 use Rattle.mode_change.specs.Knowing.{first_lines, first_numbers, IsAt, IsKnownAfter, KnowAll}
-use Rattle.mode_change.specs.Knowing.{StandsFor}
+use Rattle.mode_change.specs.Knowing.{RunStandsFor}
 use Rattle.mode_change.specs.ModeText.{mode_head, mode_history_lines, mode_lines, mode_slot_lines}
 use Rattle.mode_change.proofs.Slots.{first-length, first-next}
 
@@ -54,11 +54,11 @@ module _ (list : Medl) (script : Script) (text : List ℕ) (valid : IsValid list
       drop_all (script.slots - 0) (numbers_in list script (lines_of text)) (omega (arith, count))
 
   -- behind its first line
-  pub at-first : (run : Run) (rest : List ℕ) → StandsFor run list script [] → drop 1 (lines_of text) ≡ lines_of rest
+  pub at-first : (run : Run) (rest : List ℕ) → RunStandsFor run list script [] → drop 1 (lines_of text) ≡ lines_of rest
       → IsAt run list script (numbers_in list script (lines_of text)) 0 rest
   at-first run rest stands behind = record {
     legal = legal;
-    stands = subst (StandsFor run list script) (sym none-first) stands;
+    stands = subst (RunStandsFor run list script) (sym none-first) stands;
     left = sym behind ∙ ap (drop 1) (traced ∙ ap (trace_lines list script) (sym named))
         ∙ ap (λ (ns : Numbers). drop (length (first_lines list script ns))
         (trace_lines list script (numbers_in list script (lines_of text)))) (sym none-first);

@@ -13,7 +13,7 @@ use Rattle.ttp_world.specs.Legal.{IsLegalRun}
 use Rattle.ttp_world.specs.Messages.{delivered_of}
 use Rattle.ttp_world.specs.Trace.{trace_head, history_lines, trace_lines}
 use Rattle.ttp_world.specs.World.{Numbers, chosen_of, world}
-use Rattle.slot_clock.specs.StandsFor as clock
+use Rattle.slot_clock.specs.StandsFor.{ClockStandsFor}
 use Rattle.controller.specs.PlantStands.{PlantStandsFor, outcome_at}
 use Rattle.controller.specs.PlantView.{PlantView}
 use Rattle.trace_check.specs.Outgoing.{HoldsNewest}
@@ -48,8 +48,8 @@ newest_live list script [] k = None
 newest_live list script (row ∷ before) k = live_in list script row before k
 
 -- all of this is known of node k after a history
-pub record Knows (node : NodeModes) (list : Medl) (script : Script) (history : History) (k : ℕ) : Type 0 where
-  pub clock : clock.StandsFor node.clock list (place_of list k (diary_of history k))
+pub record KnowsModes (node : NodeModes) (list : Medl) (script : Script) (history : History) (k : ℕ) : Type 0 where
+  pub clock : ClockStandsFor node.clock list (place_of list k (diary_of history k))
   pub modes : node.modes ≡ modes_of list script history k
   pub live : node.live ≡ newest_live list script history k
   pub small : AreSmall node.modes
@@ -60,10 +60,10 @@ pub record Knows (node : NodeModes) (list : Medl) (script : Script) (history : H
 pub record KnowAll (nodes : List NodeModes) (list : Medl) (script : Script) (history : History) : Type 0 where
   pub count : length nodes ≡ length list.slots
   pub each : (k : ℕ) (node : NodeModes) → k < length list.slots → node ≡ get_or nodes k node
-      → Knows node list script history k
+      → KnowsModes node list script history k
 
 -- A plant is past the slot of a row after a history, in which these messages were chosen.
-pub record IsPast (plant : PlantView) (chosen : List Chosen) (list : Medl) (script : Script) (row : List Entry)
+pub record IsPastRow (plant : PlantView) (chosen : List Chosen) (list : Medl) (script : Script) (row : List Entry)
     (history : History) : Type 0 where
   pub same : plant.list ≡ list
   pub stands : PlantStandsFor plant script (row ∷ history)
@@ -86,7 +86,7 @@ pub record HasStepped (plant : PlantView) (chosen : List Chosen) (nodes : List N
   pub script : Script
   pub row : List Entry
   pub history : History
-  pub past : IsPast plant chosen list script row history
+  pub past : IsPastRow plant chosen list script row history
   pub known : KnowAll nodes list script history
 
 -- all is known of the nodes after a slot of this number, for some script and history
@@ -100,7 +100,7 @@ pub record IsKnownAfter (nodes : List NodeModes) (list : Medl) (slot : ℕ) : Ty
 -- The run.
 
 -- a run stands for these numbers
-pub record StandsFor (run : Run) (list : Medl) (script : Script) (numbers : Numbers) : Type 0 where
+pub record RunStandsFor (run : Run) (list : Medl) (script : Script) (numbers : Numbers) : Type 0 where
   pub same : run.plant.list ≡ list
   pub plant : PlantStandsFor run.plant script (world list script numbers)
   pub outgoing : HoldsNewest run.outgoing list script (length numbers)
@@ -118,7 +118,7 @@ first_lines list script numbers = trace_head list script ∷ history_lines list 
 pub record IsAt (run : Run) (list : Medl) (script : Script) (whole : Numbers) (slot : ℕ) (rest : List ℕ)
     : Type 0 where
   pub legal : IsLegalRun list script whole
-  pub stands : StandsFor run list script (first_numbers script whole slot)
+  pub stands : RunStandsFor run list script (first_numbers script whole slot)
   pub left : lines_of rest
       ≡ drop (length (first_lines list script (first_numbers script whole slot))) (trace_lines list script whole)
 

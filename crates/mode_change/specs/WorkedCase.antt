@@ -50,8 +50,8 @@ abbrev sending : ℕ → SlotNumbers
 sending i = record { sent = None ∷ Some i ∷ None ∷ None ∷ []; read = [] }
 
 -- the numbers of that run
-abbrev pub numbers : Numbers
-numbers =
+abbrev pub request_numbers : Numbers
+request_numbers =
     quiet ∷ quiet ∷ sending 1 ∷ quiet ∷ quiet ∷ quiet ∷ sending 1 ∷ quiet ∷ quiet ∷ quiet ∷ sending 0
     ∷ replicate 9 quiet
 
@@ -60,5 +60,6 @@ newest_line list script [] k = []
 newest_line list script (row ∷ before) k = mode_line_of list script row before k
 
 -- the line of node k after a slot
-abbrev pub line_after : ℕ → ℕ → List ℕ
-line_after slot k = newest_line two_modes one_request (world two_modes one_request (drop (19 - slot) numbers)) k
+abbrev pub line_after_slot : ℕ → ℕ → List ℕ
+line_after_slot slot k =
+    newest_line two_modes one_request (world two_modes one_request (drop (19 - slot) request_numbers)) k

@@ -4,7 +4,7 @@ ghost use Rattle.std.specs.Option.{option_copied};
 ghost use Rattle.ttp_world.specs.After.{place_after};
 ghost use Rattle.ttp_world.specs.Diary.{Place, no_place, start_place};
 ghost use Rattle.ttp_world.specs.Medl.{IsValid};
-ghost use Rattle.slot_clock.specs.StandsFor.{StandsFor, StandsAtNext};
+ghost use Rattle.slot_clock.specs.StandsFor.{ClockStandsFor, StandsAtNext};
 ghost use Rattle.mode_change.specs.Knowing.{IsJoinOfList, IsFromList, AreSmall, mode_by};
 ghost use Rattle.mode_change.specs.Modes.{mode_asked, mode_delivered, no_modes, modes_with, with_request, ends_cycle};
 ghost use Rattle.mode_change.specs.Modes.{switched_at, is_live, is_delivery_live};
@@ -154,7 +154,7 @@ fn switched_at(ends: bool, modes: Modes) -> Modes
 fn clock_at(list: &Medl, slot: u8) -> SlotClock
     requires valid { IsValid list.now }
     requires slot { slot < length list.now.slots }
-    ensures { StandsFor result list.now (start_place slot) }
+    ensures { ClockStandsFor result list.now (start_place slot) }
 {
     let members = NodeSet::empty();
     let cstate = CState {
@@ -180,8 +180,8 @@ fn clock_after(old: SlotClock, list: &Medl, node: u8, entry: &Entry) -> SlotCloc
     requires valid { IsValid list.now }
     requires node { node < length list.now.slots }
     requires join { IsJoinOfList list.now entry.now }
-    ensures { (place : Place) → StandsFor old list.now place
-        → StandsFor result list.now (place_after list.now node place entry.now) }
+    ensures { (place : Place) → ClockStandsFor old list.now place
+        → ClockStandsFor result list.now (place_after list.now node place entry.now) }
 {
     match entry {
         Entry::Started => clock_at(list, node),
@@ -194,7 +194,7 @@ fn clock_after(old: SlotClock, list: &Medl, node: u8, entry: &Entry) -> SlotCloc
 
 // Whether a place is the last of a cluster cycle.
 fn ends_cycle(clock: &SlotClock, list: &Medl) -> bool
-    ensures { (place : Place) → StandsFor clock.now list.now place → result ≡ ends_cycle list.now place }
+    ensures { (place : Place) → ClockStandsFor clock.now list.now place → result ≡ ends_cycle list.now place }
 {
     clock.ends_round() && u16::from(clock.round()) + 1 == u16::from(list.rounds)
 }
@@ -212,7 +212,7 @@ pub(crate) struct NodeModes {
 /// A node that has done nothing yet.
 pub(crate) fn new_node(list: &Medl) -> NodeModes
     requires { IsValid list.now }
-    ensures clock { StandsFor result.clock list.now no_place }
+    ensures clock { ClockStandsFor result.clock list.now no_place }
     ensures modes { result.modes ≡ no_modes }
     ensures live { result.live ≡ None }
 {
@@ -241,9 +241,9 @@ pub(crate) fn node_after(
     requires join { IsJoinOfList list.now entry.now }
     requires from { IsFromList list.now (option_copied delivered) }
     requires small { AreSmall old.now.modes }
-    ensures clock { (place : Place) → StandsFor old.now.clock list.now place
-        → StandsFor result.clock list.now (place_after list.now node place entry.now) }
-    ensures modes { (place : Place) → StandsFor old.now.clock list.now place
+    ensures clock { (place : Place) → ClockStandsFor old.now.clock list.now place
+        → ClockStandsFor result.clock list.now (place_after list.now node place entry.now) }
+    ensures modes { (place : Place) → ClockStandsFor old.now.clock list.now place
         → result.modes ≡ switched_at (ends_cycle list.now (place_after list.now node place entry.now))
         (with_request (mode_by list.now node entry.now chosen.now.payload (option_copied delivered.entry))
         (modes_with entry.now old.now.modes)) }

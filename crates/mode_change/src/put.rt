@@ -9,7 +9,7 @@ ghost use Rattle.ttp_world.specs.Medl.{IsValid};
 ghost use Rattle.ttp_world.specs.Script.{IsValidScript};
 ghost use Rattle.ttp_world.specs.TraceNumbers.{numbers_in};
 ghost use Rattle.trace_check.specs.Answer.{is_trace};
-ghost use Rattle.mode_change.specs.Knowing.{IsKnownAfter, KnowAll, StandsFor};
+ghost use Rattle.mode_change.specs.Knowing.{IsKnownAfter, KnowAll, RunStandsFor};
 ghost use Rattle.mode_change.specs.ModeText.{mode_slot_lines, mode_lines};
 
 use crate::line::{head_line, make_line};
@@ -58,7 +58,7 @@ fn put_all<K: Sink>(
     requires list { IsValid list.now }
     requires script { IsValidScript list.now script.now }
     requires trace { IsTrue (is_trace list.now script.now text.now) }
-    requires begun { StandsFor run list.now script.now [] }
+    requires begun { RunStandsFor run list.now script.now [] }
     ensures ok { OnOk result (WroteLines (K.output out.old) (K.output out.new)
         (mode_lines list.now script.now (numbers_in list.now script.now (lines_of text.now)))) }
     ensures failed { OnErr result (CutShort (K.output out.old) (K.output out.new)

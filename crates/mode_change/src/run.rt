@@ -8,7 +8,7 @@ ghost use Rattle.ttp_world.specs.Medl.{IsValid};
 ghost use Rattle.ttp_world.specs.Script.{writes_in, reads_in, IsValidScript};
 ghost use Rattle.ttp_world.specs.World.{Numbers};
 ghost use Rattle.trace_check.specs.Outgoing.{HasChosen, HoldsNewest};
-ghost use Rattle.mode_change.specs.Knowing.{HasStepped, IsPast, IsAt, IsSomewhere, KnowAll, StandsFor};
+ghost use Rattle.mode_change.specs.Knowing.{HasStepped, IsPastRow, IsAt, IsSomewhere, KnowAll, RunStandsFor};
 
 use crate::node::{NodeModes, new_node, node_after};
 use controller::Plant;
@@ -73,7 +73,7 @@ fn know_slot(plant: &Plant, chosen: &[Chosen], nodes: &mut [NodeModes], list: &M
     requires list { IsValid list.now }
     requires stepped { HasStepped plant.now chosen.now nodes.old list.now }
     ensures { (script : Said) (row : Items Entry) (history : History)
-        → IsPast plant.now chosen.now list.now script row history → KnowAll nodes.old list.now script history
+        → IsPastRow plant.now chosen.now list.now script row history → KnowAll nodes.old list.now script history
         → KnowAll nodes.new list.now script (row ∷ history) }
 {
     for node in 0..list.nodes() {
@@ -95,7 +95,7 @@ impl Run {
     /// The run of a list before its first slot. Only this call takes memory.
     pub(crate) fn new(alloc: Global, list: &Medl) -> Result<Run, Memory>
         requires { IsValid list.now }
-        ensures { (script : Said) → IfOk result (λ run. StandsFor run list.now script []) }
+        ensures { (script : Said) → IfOk result (λ run. RunStandsFor run list.now script []) }
     {
         let mut nodes = List::new(alloc);
         for _ in 0..list.nodes() {

@@ -10,7 +10,7 @@ use Rattle.nbw_ring.specs.declared.view.Message.{Message}
 use Rattle.nbw_ring.specs.declared.view.Reading.{Reading}
 use Rattle.nbw_ring.specs.declared.view.View.TheVariants.{Reader}
 use Rattle.nbw_ring.specs.declared.reader.Reader.TheInside.{Inside}
-use Rattle.nbw_ring.specs.Pairs.{numbers_in, words_in, pairs_of}
+use Rattle.nbw_ring.specs.Pairs.{pair_numbers, words_in, pairs_of}
 use Rattle.nbw_ring.specs.Seats.{RingSeat, reading_of, ring_of}
 use Rattle.nbw_ring.specs.Shelves.{IsShelved}
 
@@ -25,28 +25,28 @@ wide_tail width p pairs wide k d inside = wide (suc k) d (omega arith)
 
 -- so many pairs have so many words
 pub words_count : (width : ℕ) (pairs : List Message) → Wide width pairs
-    → length (words_in pairs) ≡ length (numbers_in pairs) * width
+    → length (words_in pairs) ≡ length (pair_numbers pairs) * width
 words_count width [] wide = omega arith
 words_count width (p ∷ pairs) wide =
     let here = wide_head width p pairs wide in
     let rest = words_count width pairs (wide_tail width p pairs wide) in
-    omega (arith, length-append p.words (words_in pairs), suc-mul (length (numbers_in pairs)) width)
+    omega (arith, length-append p.words (words_in pairs), suc-mul (length (pair_numbers pairs)) width)
 
 -- pairs are the pairs of their numbers and words
 pub pairs_again : (width : ℕ) (pairs : List Message) → Wide width pairs
-    → pairs_of (numbers_in pairs) (words_in pairs) width ≡ pairs
+    → pairs_of (pair_numbers pairs) (words_in pairs) width ≡ pairs
 pairs_again width [] wide = refl
 pairs_again width (p ∷ pairs) wide =
     let here = wide_head width p pairs wide in
     let front : take width (p.words ++ words_in pairs) ≡ p.words = take_at p.words (words_in pairs) width here in
     let back : drop width (p.words ++ words_in pairs) ≡ words_in pairs = drop_at p.words (words_in pairs) width here in
-    let rest : pairs_of (numbers_in pairs) (drop width (p.words ++ words_in pairs)) width ≡ pairs =
-    ap (λ ws. pairs_of (numbers_in pairs) ws width) back ∙ pairs_again width pairs (wide_tail width p pairs wide) in
+    let rest : pairs_of (pair_numbers pairs) (drop width (p.words ++ words_in pairs)) width ≡ pairs =
+    ap (λ ws. pairs_of (pair_numbers pairs) ws width) back ∙ pairs_again width pairs (wide_tail width p pairs wide) in
     λ i. record { number = p.number; words = front i } ∷ rest i
 
 -- a pair alone takes all words
 pub only_pair : (pairs : List Message) → length pairs ≤ 1
-    → slice_get (pairs_of (numbers_in pairs) (words_in pairs) (length (words_in pairs))) 0 ≡ slice_get pairs 0
+    → slice_get (pairs_of (pair_numbers pairs) (words_in pairs) (length (words_in pairs))) 0 ≡ slice_get pairs 0
 only_pair [] few = refl
 only_pair (p ∷ []) few =
     let long : length p.words ≡ length (p.words ++ []) = omega (arith, length-append p.words []) in
@@ -114,7 +114,7 @@ shelved_more r seat numbers words y p shelved some_room table shape got is wide 
       numbers = more_numbers
           ∙ (ap (λ l. l ++ p.number ∷ []) shelved.numbers
           ∙ (sym (map_push (λ q. q.number) v.got p)
-          ∙ ap numbers_in (sym got ∙ ap (λ (z : Reading). z.got) (sym known))));
+          ∙ ap pair_numbers (sym got ∙ ap (λ (z : Reading). z.got) (sym known))));
       words = more_words
           ∙ (ap (λ l. l ++ p.words) shelved.words
           ∙ (flat_map_more (λ q. q.words) [] v.got p

@@ -6,9 +6,9 @@ use Rattle.nbw_ring.specs.Numbers.{limit}
 use Rattle.nbw_ring.specs.States.{ReaderState}
 
 -- the number that an attempt answers
-abbrev pub number_of : Try → ℕ
-number_of (Got number) = number
-number_of (Overrun number begin end) = number
+abbrev pub number_answered : Try → ℕ
+number_answered (Got number) = number
+number_answered (Overrun number begin end) = number
 
 -- the message of this number was intact at the last load: a pair of that number was added to what the reader got, and
 -- the floor was raised to it

@@ -4,8 +4,8 @@ use Rattle.std.specs.List.{flat_map}
 use Rattle.nbw_ring.specs.declared.view.Message.{Message}
 
 -- the numbers of the messages of pairs, in their order
-abbrev pub numbers_in : List Message → List ℕ
-numbers_in pairs = map (λ p. p.number) pairs
+abbrev pub pair_numbers : List Message → List ℕ
+pair_numbers pairs = map (λ p. p.number) pairs
 
 -- the words of the pairs, pair after pair
 abbrev pub words_in : List Message → List ℕ

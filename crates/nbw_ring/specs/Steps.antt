@@ -110,10 +110,10 @@ pub record IsLater (counter : ℕ) (v : Reading) : Type 0 where
   pub small : counter ≤ 2 * most_number + 1
 
 -- the same of a thread, if it is a reader
-abbrev pub Follows : ℕ → View → Type 0
-Follows counter (Writer w) = Unit {0}
-Follows counter (Reader v) = IsLater counter v
-Follows counter Spent = Unit {0}
+abbrev pub FollowsCounter : ℕ → View → Type 0
+FollowsCounter counter (Writer w) = Unit {0}
+FollowsCounter counter (Reader v) = IsLater counter v
+FollowsCounter counter Spent = Unit {0}
 
 -- what the load of the counter tells the writer once a reader was joined
 abbrev pub Confirms : ℕ → View → Type 0
@@ -137,7 +137,7 @@ tells_end st m found m' = m' ≡ (as_writer with_new_message m.0, m.1)
 
 -- an attempt begins
 abbrev pub tells_first_load : Step (Unit {0}) → Sat → ℕ → Sat → Type 0
-tells_first_load st m found m' = (m' ≡ (as_reader (with_first found) m.0, m.1)) × Follows found m.0
+tells_first_load st m found m' = (m' ≡ (as_reader (with_first found) m.0, m.1)) × FollowsCounter found m.0
 
 -- a word is loaded
 abbrev pub tells_word_load : Step (Unit {0}) → Sat → ℕ → Sat → Type 0
@@ -145,7 +145,7 @@ tells_word_load st m found m' = m' ≡ (as_reader (with_loaded found) m.0, m.1)
 
 -- an attempt ends
 abbrev pub tells_last_load : Step (Unit {0}) → Sat → ℕ → Sat → Type 0
-tells_last_load st m found m' = (m' ≡ (as_reader (with_last found) m.0, m.1)) × Follows found m.0
+tells_last_load st m found m' = (m' ≡ (as_reader (with_last found) m.0, m.1)) × FollowsCounter found m.0
 
 -- the counter is loaded once a reader was joined
 abbrev pub tells_settle_load : Step (Unit {0}) → Sat → ℕ → Sat → Type 0

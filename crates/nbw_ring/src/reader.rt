@@ -1,6 +1,6 @@
 //! The one who reads a ring.
 ghost use Rattle.std.specs.Prelude.{◌≡◌, ◌+◌, ◌-◌, ◌*◌, ◌/◌, ◌<◌, ◌≤◌, length, slice_get, IsSomeAnd};
-ghost use Rattle.nbw_ring.specs.Attempts.{number_of, attempt_steps, RepeatSteps, Gets, OnGot, OnOverrun};
+ghost use Rattle.nbw_ring.specs.Attempts.{number_answered, attempt_steps, RepeatSteps, Gets, OnGot, OnOverrun};
 
 use crate::plays::{FirstLoad, LastLoad};
 use crate::shared::RingWords;
@@ -79,8 +79,8 @@ impl Reader {
         ensures steps { self.new.steps ≡ self.old.steps + attempt_steps self.new }
         ensures later { self.old.seen ≤ self.new.first }
         ensures forward { self.new.first ≤ self.new.seen }
-        ensures number { number_of result ≡ self.new.first / 2 }
-        ensures floor { self.old.floor ≤ number_of result }
+        ensures number { number_answered result ≡ self.new.first / 2 }
+        ensures floor { self.old.floor ≤ number_answered result }
         ensures got { OnGot self.old self.new result }
         ensures overrun { OnOverrun self.old self.new result }
     {

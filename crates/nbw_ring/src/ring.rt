@@ -3,7 +3,7 @@ ghost use Rattle.std.specs.Prelude.{◌≡◌, ◌+◌, ◌*◌, ◌/◌, ◌<�
 ghost use Rattle.std.specs.Prelude.{slice_get};
 ghost use Rattle.nbw_ring.specs.Numbers.{most_number, newest_number, IsMessageOf};
 ghost use Rattle.nbw_ring.specs.States.{new_writer, new_reader, with_message, with_joined};
-ghost use Rattle.nbw_ring.specs.Attempts.{number_of, attempt_steps, RepeatSteps, Gets, OnGot, OnOverrun};
+ghost use Rattle.nbw_ring.specs.Attempts.{number_answered, attempt_steps, RepeatSteps, Gets, OnGot, OnOverrun};
 
 use crate::reader::{Reader, Try};
 use crate::receipts::{Pair, Receipts};
@@ -96,8 +96,8 @@ impl Ring {
         ensures steps { reader.new.steps ≡ reader.old.steps + attempt_steps reader.new }
         ensures later { reader.old.seen ≤ reader.new.first }
         ensures forward { reader.new.first ≤ reader.new.seen }
-        ensures number { number_of result ≡ reader.new.first / 2 }
-        ensures floor { reader.old.floor ≤ number_of result }
+        ensures number { number_answered result ≡ reader.new.first / 2 }
+        ensures floor { reader.old.floor ≤ number_answered result }
         ensures got { OnGot reader.old reader.new result }
         ensures overrun { OnOverrun reader.old reader.new result }
     {

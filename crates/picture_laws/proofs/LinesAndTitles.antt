@@ -13,8 +13,8 @@ use Rattle.whole_trace.specs.Whole.{SlotLines, WholeTrace, whole_in}
 use Rattle.shown_slot.specs.Nodes.{clock_range}
 use Rattle.shown_slot.specs.Trace.{node_at, first_text, node_text, host_text}
 use Rattle.picture_text.specs.declared.window.Span.{Span}
-use Rattle.picture_text.specs.Cells.{memberships}
-use Rattle.picture_text.specs.Picture.{slot_at, slots_in, is_shown, picture_lines}
+use Rattle.picture_text.specs.Cells.{shown_memberships}
+use Rattle.picture_text.specs.Picture.{slot_at, shown_slots, is_shown, picture_lines}
 use Rattle.picture_text.specs.Window.{span_shown}
 use Rattle.picture_laws.specs.Titles.{begins_with, titles, is_of_slot, node_start, texts_of_lines, shown_of, picture_titles}
 use Rattle.picture_laws.specs.Titles.{is_markup, texts_of_nodes, texts_of_hosts, members_said, clocks_said, cell_titles, legend_titles}
@@ -65,7 +65,7 @@ plain-cells : (trace : WholeTrace) (t : ℕ) → AllByRecursion Unmarked (cell_t
 plain-cells trace t =
     let head = trace.head in
     let slot = slot_at trace t in
-    let held = memberships slot.nodes in
+    let held = shown_memberships slot.nodes in
     each-append Unmarked (texts_of_nodes trace t) (members_said head t slot held ∷ clocks_said t slot ∷ [])
     (plain-map (λ k. node_text head t k (node_at slot k)) (below head.nodes) (λ k. plain-node head t k (node_at slot k))) (
       unmarked (members_said head t slot held) (plain-said head t slot held),
@@ -81,7 +81,7 @@ plain-all (text ∷ texts) are =
 pub picture_lines-plain : (trace : WholeTrace) (asked : Option Span)
     → AllByRecursion Unmarked (titles (picture_lines trace asked))
 picture_lines-plain trace asked =
-    let shown = slots_in (shown_of trace asked) in
+    let shown = shown_slots (shown_of trace asked) in
     let cells = flat_map (cell_titles trace) shown in
     let hosts = flat_map (texts_of_hosts trace) shown in
     subst (AllByRecursion Unmarked) (sym (picture_lines-titles trace asked)) (

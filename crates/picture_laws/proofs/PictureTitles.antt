@@ -17,16 +17,17 @@ use Rattle.whole_trace.specs.declared.shown.HostLine.TheVariants as by_host
 use Rattle.whole_trace.specs.declared.shown.Head.{Head}
 use Rattle.whole_trace.specs.declared.shown.NodeShown.{NodeShown}
 use Rattle.whole_trace.specs.Whole.{SlotLines, WholeTrace}
-use Rattle.shown_slot.specs.Nodes.{has_left, clock_range}
+use Rattle.shown_slot.specs.Nodes.{is_leaving_word, clock_range}
 use Rattle.shown_slot.specs.Trace.{node_at, first_text, node_text, host_text}
 use Rattle.picture_text.specs.declared.window.Span.{Span}
 use Rattle.picture_text.specs.Cells.{attribute, title_element, cell, mark, write_shape, read_shape, status_shape}
-use Rattle.picture_text.specs.Cells.{memberships, held_by_most, node_class, node_cell, members_title, count_of}
+use Rattle.picture_text.specs.Cells.{shown_memberships, held_by_most, node_class, node_cell, members_title, count_of}
 use Rattle.picture_text.specs.Cells.{members_cell_of, members_cell, apart_text, apart_shown, clocks_cell, host_of, host_mark}
 use Rattle.picture_text.specs.Picture.{ended, class_of, text_line, size, svg_line, style_lines, said_line, back_said}
-use Rattle.picture_text.specs.Picture.{head_lines, row_line, band_lines, number_lines, slot_at, cell_lines, why_lines}
-use Rattle.picture_text.specs.Picture.{why_box, why_word, beside_lines, is_shown, flag_pole, flag_lines, keep_flag, back_flag, legend_x, legend_y, legend_text}
-use Rattle.picture_text.specs.Picture.{word_entries, cell_entry, mark_entry, class_entries, slots_in, picture_of}
+use Rattle.picture_text.specs.Picture.{picture_head_lines, row_line, band_lines, number_lines, slot_at, cell_lines}
+use Rattle.picture_text.specs.Picture.{why_lines, why_box, why_word, beside_lines, is_shown, flag_pole, flag_lines}
+use Rattle.picture_text.specs.Picture.{keep_flag, back_flag, legend_x, legend_y, legend_text, word_entries, cell_entry}
+use Rattle.picture_text.specs.Picture.{mark_entry, class_entries, shown_slots, picture_of}
 use Rattle.picture_text.specs.Tables.{words, letter, word_meaning, keep_meaning, back_meaning, keep_slot, keep_name}
 use Rattle.picture_text.specs.Tables.{back_slot, back_name}
 use Rattle.picture_text.specs.Window.{columns, bands, legend_top, height, column_x, row_y}
@@ -77,7 +78,7 @@ back_said-titles (Some b) =
 styles-titles : Have style_lines []
 styles-titles = bare style_lines (bare-lines style_lines refl refl)
 
-head-titles : (trace : WholeTrace) (span : Span) → Have (head_lines trace span) (first_text trace ∷ [])
+head-titles : (trace : WholeTrace) (span : Span) → Have (picture_head_lines trace span) (first_text trace ∷ [])
 head-titles trace span =
     let h = height trace.head.nodes span in
     let first = first_text trace in
@@ -156,13 +157,13 @@ slot-titles trace span t =
     let node : ℕ → List ℕ = λ k. node_cell head t k (node_at slot k) most x (row_y n span t k) in
     let members = members_cell head t slot x (row_y n span t n + 4) in
     let clocks = clocks_cell t slot x (row_y n span t (n + 1) + 4) in
-    let said = members_said head t slot (memberships slot.nodes) in
+    let said = members_said head t slot (shown_memberships slot.nodes) in
     let apart = clocks_said t slot in
     let all =
     number-titles n span t
     ▹ map-each node name (below n) (λ k. node-titles head t k (node_at slot k) most x (row_y n span t k))
     ▹ titled members (clocks ∷ []) said (apart ∷ [])
-    (members-titles head slot (memberships slot.nodes) t x (row_y n span t n + 4))
+    (members-titles head slot (shown_memberships slot.nodes) t x (row_y n span t n + 4))
     (titled clocks [] apart [] (clocks-titles t slot x (row_y n span t (n + 1) + 4)) no-lines) in
     record { are = all.are; once = all.once; each = all.each }
 
@@ -183,7 +184,7 @@ why-titles n span t slot k =
     let y = row_y n span t k in
     let box = why_box w (x + 18) y in
     let word = why_word w (x + 21) (y + 13) in
-    if-none (has_left w) (box ∷ word ∷ [])
+    if-none (is_leaving_word w) (box ∷ word ∷ [])
     (untitled box (word ∷ []) [] (why_box-titles w (x + 18) y)
     (untitled word [] [] (classed-titles (codes "why") (x + 21) (y + 13) (word_text w) refl (plain-word w)) no-lines))
 
@@ -295,19 +296,20 @@ classes-titles top =
 
 pub picture_of-titles : (trace : WholeTrace) (span : Span)
     → Have (picture_of trace span) (first_text trace
-    ∷ (flat_map (cell_titles trace) (slots_in span) ++ (flat_map (texts_of_hosts trace) (slots_in span) ++ legend_titles)))
+    ∷ (flat_map (cell_titles trace) (shown_slots span) ++
+    (flat_map (texts_of_hosts trace) (shown_slots span) ++ legend_titles)))
 picture_of-titles trace span =
     let n = trace.head.nodes in
     let top = legend_top n span in
     let cells : ℕ → Lines = λ t. cell_lines trace.head span t (slot_at trace t) in
     let beside : ℕ → Lines = λ t. beside_lines n span t (slot_at trace t) in
-    let shown = flat_map (cell_titles trace) (slots_in span) in
-    let done = flat_map (texts_of_hosts trace) (slots_in span) in
+    let shown = flat_map (cell_titles trace) (shown_slots span) in
+    let done = flat_map (texts_of_hosts trace) (shown_slots span) in
     let all =
     head-titles trace span
     ▹ flat-none (band_lines n span) (below (bands n span)) (band-titles n span)
-    ▹ flat-each cells (cell_titles trace) (slots_in span) (slot-titles trace span)
-    ▹ flat-each beside (texts_of_hosts trace) (slots_in span) (beside-titles trace span)
+    ▹ flat-each cells (cell_titles trace) (shown_slots span) (slot-titles trace span)
+    ▹ flat-each beside (texts_of_hosts trace) (shown_slots span) (beside-titles trace span)
     ▹ keep-titles n span trace.keep ▹ back-titles n span trace.back ▹ words-titles top 0 words
     ▹ classes-titles (top + 118) ▹ untitled (ended (codes "</svg>")) [] [] (record { titled = refl; one = refl }) no-lines in record {
       are = all.are ∙ nested (first_text trace ∷ []) shown done (map word_text words) class_titles;

@@ -21,8 +21,8 @@ use Rattle.whole_trace.specs.Whole.{SlotLines, WholeTrace}
 use Rattle.shown_slot.specs.Nodes.{clock_range}
 use Rattle.shown_slot.specs.Trace.{node_at, first_text, node_text, host_text}
 use Rattle.picture_text.specs.declared.window.Span.{Span}
-use Rattle.picture_text.specs.Cells.{memberships, membership_text, apart_text}
-use Rattle.picture_text.specs.Picture.{slot_at, slots_in, is_shown}
+use Rattle.picture_text.specs.Cells.{shown_memberships, membership_text, apart_text}
+use Rattle.picture_text.specs.Picture.{slot_at, shown_slots, is_shown}
 use Rattle.picture_text.specs.Window.{columns, span_shown, slot_of_interest}
 use Rattle.picture_laws.specs.Titles.{begins_with, texts_of_nodes, texts_of_hosts, is_of_slot, node_start, members_said, clocks_said}
 use Rattle.picture_laws.specs.Titles.{cell_titles, legend_titles, shown_of, picture_titles}
@@ -139,7 +139,8 @@ host-begins t (by_host.Read host from number payload) =
 -- and behind the number of the slot in the titles under those of the nodes
 abbrev said_rest : Head → SlotLines → List ℕ → List ℕ
 said_rest head slot [] = codes "members -"
-said_rest head slot (members ∷ others) = codes "members" ++ flat_map (membership_text head slot) (memberships slot.nodes)
+said_rest head slot (members ∷ others) = codes "members" ++ flat_map (membership_text head slot)
+    (shown_memberships slot.nodes)
 
 three : (a b c d : List ℕ) → a ++ b ++ c ++ d ≡ a ++ (b ++ (c ++ d))
 three a b c d = simp append_assoc
@@ -148,7 +149,8 @@ members-begin : (head : Head) (t : ℕ) (slot : SlotLines) (held : List ℕ)
     → members_said head t slot held ≡ codes "slot " ++ (decimal t ++ 32 ∷ said_rest head slot held)
 members-begin head t slot [] = refl
 members-begin head t slot (members ∷ others) =
-    three (codes "slot ") (decimal t) (codes " members") (flat_map (membership_text head slot) (memberships slot.nodes))
+    three (codes "slot ") (decimal t) (codes " members")
+    (flat_map (membership_text head slot) (shown_memberships slot.nodes))
 
 abbrev clocks_rest : SlotLines → List ℕ
 clocks_rest slot = codes "clocks apart " ++ apart_text (clock_range slot.nodes)
@@ -189,7 +191,7 @@ cells-own : (trace : WholeTrace) (t : ℕ) → filter (is_of_slot t) (cell_title
 cells-own trace t =
     let head = trace.head in
     let slot = slot_at trace t in
-    let held = memberships slot.nodes in
+    let held = shown_memberships slot.nodes in
     two-left (is_of_slot t) (texts_of_nodes trace t) (texts_of_nodes trace t) (members_said head t slot held) (clocks_said t slot)
     (nodes-own trace t)
     (ap (is_of_slot t) (members-begin head t slot held) ∙ of-own t (32 ∷ said_rest head slot held) ∙ no-line head slot held)
@@ -209,7 +211,7 @@ nodes-other trace p s none =
 cells-other : (trace : WholeTrace) (p : List ℕ → Bool) (s : ℕ) → FailsIn p s → filter p (cell_titles trace s) ≡ []
 cells-other trace p s none =
     let slot = slot_at trace s in
-    let held = memberships slot.nodes in
+    let held = shown_memberships slot.nodes in
     two-left p (texts_of_nodes trace s) [] (members_said trace.head s slot held) (clocks_said s slot) (nodes-other trace p s none)
     (ap p (members-begin trace.head s slot held) ∙ none (said_rest trace.head slot held))
     (ap p (clocks-begin s slot) ∙ none (clocks_rest slot))
@@ -261,15 +263,15 @@ passed trace asked p t nodes hosts few shows first legend cells marks others =
     let low = leb-true span.first t parts.0 in
     let high = leb-true t span.last parts.1 in
     let last = last-shown trace.head.nodes trace.slots asked in
-    let upper : Lines = flat_map (cell_titles trace) (slots_in span) in
-    let lower : Lines = flat_map (texts_of_hosts trace) (slots_in span) in
+    let upper : Lines = flat_map (cell_titles trace) (shown_slots span) in
+    let lower : Lines = flat_map (texts_of_hosts trace) (shown_slots span) in
     let above : filter p upper ≡ nodes =
-    filter-flat p (cell_titles trace) (slots_in span)
+    filter-flat p (cell_titles trace) (shown_slots span)
     ∙ one-alone (λ s. filter p (cell_titles trace s)) span.first n t low (omega (arith, low, high)) (λ s less ne.
     cells-other trace p s (others s (below_limit span.first span.last s t (length trace.slots) low high last few less) ne))
     ∙ cells in
     let below : filter p lower ≡ hosts =
-    filter-flat p (texts_of_hosts trace) (slots_in span)
+    filter-flat p (texts_of_hosts trace) (shown_slots span)
     ∙ one-alone (λ s. filter p (texts_of_hosts trace s)) span.first n t low (omega (arith, low, high)) (λ s less ne.
     hosts-other trace p s (others s (below_limit span.first span.last s t (length trace.slots) low high last few less) ne))
     ∙ marks in
@@ -289,16 +291,16 @@ pub none-passed : (trace : WholeTrace) (asked : Option Span) (p : List ℕ → B
 none-passed trace asked p first legend others =
     let span = shown_of trace asked in
     let n = span.last + 1 - span.first in
-    let upper : Lines = flat_map (cell_titles trace) (slots_in span) in
-    let lower : Lines = flat_map (texts_of_hosts trace) (slots_in span) in
+    let upper : Lines = flat_map (cell_titles trace) (shown_slots span) in
+    let lower : Lines = flat_map (texts_of_hosts trace) (shown_slots span) in
     let is : (s : ℕ) → span.first ≤ s → s < span.first + n → is_shown span s ≡ true = λ s low high.
     and_from (nat_le span.first s) (nat_le s span.last) (le-leb span.first s low) (le-leb s span.last (omega (arith, low, high))) in
     let above : filter p upper ≡ [] =
-    filter-flat p (cell_titles trace) (slots_in span)
+    filter-flat p (cell_titles trace) (shown_slots span)
     ∙ none-past (λ s. filter p (cell_titles trace s)) span.first n (λ s low high.
     cells-other trace p s (others s (is s low high))) in
     let below : filter p lower ≡ [] =
-    filter-flat p (texts_of_hosts trace) (slots_in span)
+    filter-flat p (texts_of_hosts trace) (shown_slots span)
     ∙ none-past (λ s. filter p (texts_of_hosts trace s)) span.first n (λ s low high.
     hosts-other trace p s (others s (is s low high))) in
     left_out (p (first_text trace)) (first_text trace) (filter p (upper ++ (lower ++ legend_titles))) first
@@ -342,7 +344,7 @@ pub title-of_node : (trace : WholeTrace) (asked : Option Span) (t k : ℕ) → l
 title-of_node trace asked t k few small shows within =
     let head = trace.head in
     let slot = slot_at trace t in
-    let held = memberships slot.nodes in
+    let held = shown_memberships slot.nodes in
     let text : ℕ → List ℕ = λ j. node_text head t j (node_at slot j) in
     let p = begins_with (node_start t k) in
     let nodes : filter p (texts_of_nodes trace t) ≡ text k ∷ [] =

@@ -28,13 +28,13 @@ use Rattle.whole_trace.specs.declared.shown.HostLine.TheVariants as by_host
 use Rattle.whole_trace.specs.declared.shown.NodeShown.{NodeShown}
 use Rattle.whole_trace.specs.Due.{is_below, source_node, has_digits, are_members, doubted, is_node_line, is_head, is_keep, is_back}
 use Rattle.whole_trace.specs.Due.{next_node, after_node, due_after, ending}
-use Rattle.whole_trace.specs.Whole.{SlotLines, SlotsFrom, WholeTrace, value_of, one_line_later, or_missing, judged_behind, judged}
-use Rattle.whole_trace.specs.Whole.{no_lines, no_slots, with_node, with_node_line, with_line, with_value, slots_from, with_slots}
-use Rattle.whole_trace.specs.Whole.{whole_or_line, whole_in}
+use Rattle.whole_trace.specs.Whole.{SlotLines, SlotsFrom, WholeTrace, value_of, one_line_later, or_missing}
+use Rattle.whole_trace.specs.Whole.{judged_behind, judged, no_lines, no_slots, with_shown_node, with_node_line}
+use Rattle.whole_trace.specs.Whole.{with_line, with_value, slots_from, with_slots, whole_or_line, whole_in}
 use Rattle.whole_trace.proofs.Heads.{few_slots, few_nodes}
 use Rattle.whole_trace.proofs.SlotCounts.{slot_count}
-use Rattle.shown_slot.specs.Trace.{no_node, head_text, first_text, node_text, host_text}
-use Rattle.picture_text.specs.Picture.{ended, no_slot, slot_at}
+use Rattle.shown_slot.specs.Trace.{no_shown_node, header_text, first_text, node_text, host_text}
+use Rattle.picture_text.specs.Picture.{ended, no_slot_lines, slot_at}
 use Rattle.picture_laws.specs.Titles.{texts_of_hosts, texts_of_slot, texts_of_trace}
 use Rattle.ttp_world.proofs.SmallTests.{spelled}
 
@@ -53,14 +53,16 @@ value-says text v is =
 -- of nodes from one on, so many, and of slots from one on
 abbrev nodes_left : Head → ℕ → ℕ → ℕ → List NodeShown → Lines
 nodes_left head t k zero nodes = []
-nodes_left head t k (suc n) nodes = node_text head t k (get_or nodes 0 no_node) ∷ nodes_left head t (k + 1) n (drop 1 nodes)
+nodes_left head t k (suc n) nodes = node_text head t k (get_or nodes 0 no_shown_node) ∷ nodes_left head t (k + 1) n
+    (drop 1 nodes)
 
 abbrev slot_left : Head → ℕ → SlotLines → Lines
 slot_left head t slot = nodes_left head t 0 head.nodes slot.nodes ++ map (host_text t) slot.hosts
 
 abbrev slots_left : Head → ℕ → ℕ → List SlotLines → Lines
 slots_left head t zero slots = []
-slots_left head t (suc n) slots = slot_left head t (get_or slots 0 no_slot) ++ slots_left head (t + 1) n (drop 1 slots)
+slots_left head t (suc n) slots = slot_left head t (get_or slots 0 no_slot_lines) ++ slots_left head (t + 1) n
+    (drop 1 slots)
 
 abbrev ends_left : Outline → Lines
 ends_left o = keep_text o.keep ∷ option_to_list (option_map back_text o.back)
@@ -184,11 +186,11 @@ say-node head t k node text lines from o within is says = by (k == 0) refl
     by : (b : Bool) → (k == 0) ≡ b
         → SaysSlots head (text ∷ lines)
         (cond b (from_slot head t (cond b
-        (let begun : SlotsFrom = record { front = no_lines; slots = with_node node from.front ∷ from.slots } in begun)
-        (record { front = with_node node from.front; slots = from.slots })).slots o)
+        (let begun : SlotsFrom = record { front = no_lines; slots = with_shown_node node from.front ∷ from.slots } in begun)
+        (record { front = with_shown_node node from.front; slots = from.slots })).slots o)
         (from_node head t k (cond b
-        (let begun : SlotsFrom = record { front = no_lines; slots = with_node node from.front ∷ from.slots } in begun)
-        (record { front = with_node node from.front; slots = from.slots })) o)) o
+        (let begun : SlotsFrom = record { front = no_lines; slots = with_shown_node node from.front ∷ from.slots } in begun)
+        (record { front = with_shown_node node from.front; slots = from.slots })) o)) o
     by false other = node-says head t k node text lines from o within is says
     by true same =
         let all = node-says head t k node text lines from o within is says in
@@ -258,7 +260,8 @@ begun-slot head t j node text lines from o is count says =
       are =
           says.are
           ∙ ap (λ (m : ℕ). map ended (from_slot head (t + 1) (with_node_line m node from).slots o)) is
-          ∙ ap (λ (n : ℕ). map ended (slots_left head (t + 1) n (with_node node from.front ∷ from.slots) ++ ends_left o)) count;
+          ∙ ap (λ (n : ℕ). map ended (slots_left head (t + 1) n
+          (with_shown_node node from.front ∷ from.slots) ++ ends_left o)) count;
     })
 
 step : (at then : Due) (v : TraceLine) (text : List ℕ) (lines : Lines) (from : SlotsFrom) (o : Outline)
@@ -364,21 +367,23 @@ lines-say at (text ∷ lines) o e =
 -- In numbers.
 
 nodes-numbered : (head : Head) (t k n : ℕ) (nodes : List NodeShown)
-    → nodes_left head t k n (drop k nodes) ≡ map (λ j. node_text head t j (get_or nodes j no_node)) (range_with_len k n)
+    → nodes_left head t k n (drop k nodes) ≡ map (λ j. node_text head t j (get_or nodes j no_shown_node))
+    (range_with_len k n)
 nodes-numbered head t k zero nodes = refl
 nodes-numbered head t k (suc n) nodes =
-    let here : get_or (drop k nodes) 0 no_node ≡ get_or nodes k no_node =
-    get_or-drop k nodes 0 no_node ∙ (let e : k + 0 ≡ k = omega arith in ap (λ (j : ℕ). get_or nodes j no_node) e) in
+    let here : get_or (drop k nodes) 0 no_shown_node ≡ get_or nodes k no_shown_node =
+    get_or-drop k nodes 0 no_shown_node ∙ (let e : k + 0 ≡ k = omega arith in ap (λ (j : ℕ). get_or nodes j no_shown_node) e) in
     let rest : drop 1 (drop k nodes) ≡ drop (k + 1) nodes = drop-drop 1 k nodes in
     λ i. node_text head t k (here i)
     ∷ (ap (nodes_left head t (k + 1) n) rest ∙ nodes-numbered head t (k + 1) n nodes) i
 
 slots-numbered : (head : Head) (t n : ℕ) (slots : List SlotLines)
-    → slots_left head t n (drop t slots) ≡ flat_map (λ s. slot_left head s (get_or slots s no_slot)) (range_with_len t n)
+    → slots_left head t n (drop t slots) ≡ flat_map (λ s. slot_left head s (get_or slots s no_slot_lines))
+    (range_with_len t n)
 slots-numbered head t zero slots = refl
 slots-numbered head t (suc n) slots =
-    let here : get_or (drop t slots) 0 no_slot ≡ get_or slots t no_slot =
-    get_or-drop t slots 0 no_slot ∙ (let e : t + 0 ≡ t = omega arith in ap (λ (j : ℕ). get_or slots j no_slot) e) in
+    let here : get_or (drop t slots) 0 no_slot_lines ≡ get_or slots t no_slot_lines =
+    get_or-drop t slots 0 no_slot_lines ∙ (let e : t + 0 ≡ t = omega arith in ap (λ (j : ℕ). get_or slots j no_slot_lines) e) in
     let rest : drop 1 (drop t slots) ≡ drop (t + 1) slots = drop-drop 1 t slots in
     λ i. slot_left head t (here i)
     ++ (ap (slots_left head (t + 1) n) rest ∙ slots-numbered head (t + 1) n slots) i
@@ -400,7 +405,7 @@ pub record IsTextOf (lines : Lines) (trace : WholeTrace) : Type 0 where
   pub slots : length trace.slots ≤ 20000
   pub nodes : trace.head.nodes ≤ 24
 
-header-says : (first : List ℕ) (lines : Lines) (o : Outline) (head : Head) → first ≡ ended (head_text head)
+header-says : (first : List ℕ) (lines : Lines) (o : Outline) (head : Head) → first ≡ ended (header_text head)
     → is_head head ≡ true → Say (due.Node head 0 0) lines (slots_from lines) o → length (slots_from lines).slots ≡ o.head.slots
     → IsTextOf (first ∷ lines) (with_slots (first ∷ lines) o)
 header-says first lines o head is right says counted =
@@ -411,10 +416,10 @@ header-says first lines o head is right says counted =
     let count : suc (head.slots - (0 + 1)) ≡ length slots = omega (arith, few.0, counted, same) in
     let numbered : slots_left head 0 (suc (head.slots - (0 + 1))) slots ≡ flat_map (texts_of_slot whole) (below (length slots)) =
     (λ i. slots_left (sym says.of i) 0 (count i) slots) ∙ slots-numbered o.head 0 (length slots) slots
-    ∙ flat-same (λ s. slot_left o.head s (get_or slots s no_slot)) (texts_of_slot whole) (below (length slots))
+    ∙ flat-same (λ s. slot_left o.head s (get_or slots s no_slot_lines)) (texts_of_slot whole) (below (length slots))
     (slot-numbered whole) in record {
       are =
-          (λ i. (is ∙ (λ j. ended (head_text (sym says.of j)))) i ∷ says.are i)
+          (λ i. (is ∙ (λ j. ended (header_text (sym says.of j)))) i ∷ says.are i)
           ∙ (λ i. ended (first_text whole) ∷ map ended (numbered i ++ ends_left o));
       some = omega (arith, counted, same, few.0);
       slots = omega (arith, counted, same, few.1);

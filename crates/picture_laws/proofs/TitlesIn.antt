@@ -11,7 +11,7 @@ use Rattle.ttp_base.proofs.Lines.{is_line-append}
 use Rattle.ttp_base.proofs.Numerals.{has, has-append}
 use Rattle.ttp_world.proofs.LineLists.{each-append}
 use Rattle.ttp_world.proofs.TraceLines.{IsLine}
-use Rattle.picture_text.specs.Cells.{attribute, place, title_element, cell, mark}
+use Rattle.picture_text.specs.Cells.{attribute, place_attributes, title_element, cell, mark}
 use Rattle.picture_text.specs.Picture.{class_of, text_line}
 use Rattle.picture_laws.specs.Titles.{begins_with, text_before, titles_in, titles}
 use Rattle.picture_text.proofs.PlainTexts.{is_special, Plain, parts}
@@ -102,8 +102,8 @@ line_of {bytes} {names} adds = record {
 pub attribute-adds : (name value : List ℕ) → Plain name → Plain value → Adds (attribute name value) []
 attribute-adds name value n v = plain (attribute name value) (simp (parts, n, v))
 
-pub place-adds : (x y : ℕ) → Adds (place x y) []
-place-adds x y = plain (place x y) (simp parts)
+pub place-adds : (x y : ℕ) → Adds (place_attributes x y) []
+place-adds x y = plain (place_attributes x y) (simp parts)
 
 -- Lines.
 

@@ -9,8 +9,8 @@ use Rattle.whole_trace.specs.Whole.{SlotLines, WholeTrace}
 use Rattle.shown_slot.specs.Nodes.{clock_range}
 use Rattle.shown_slot.specs.Trace.{node_at, first_text, keeps_text, returns_text, node_text, host_text}
 use Rattle.picture_text.specs.declared.window.Span.{Span}
-use Rattle.picture_text.specs.Cells.{memberships, members_title, apart_text}
-use Rattle.picture_text.specs.Picture.{slot_at, slots_in}
+use Rattle.picture_text.specs.Cells.{shown_memberships, members_title, apart_text}
+use Rattle.picture_text.specs.Picture.{slot_at, shown_slots}
 use Rattle.picture_text.specs.Tables.{words}
 use Rattle.picture_text.specs.Window.{span_shown}
 
@@ -91,7 +91,7 @@ clocks_said t slot = codes "slot " ++ decimal t ++ codes " clocks apart " ++ apa
 abbrev pub cell_titles : WholeTrace → ℕ → Lines
 cell_titles trace t =
     let slot = slot_at trace t in
-    texts_of_nodes trace t ++ (members_said trace.head t slot (memberships slot.nodes) ∷ clocks_said t slot ∷ [])
+    texts_of_nodes trace t ++ (members_said trace.head t slot (shown_memberships slot.nodes) ∷ clocks_said t slot ∷ [])
 
 -- the titles of the legend: what its classes and marks mean, and these behind its words
 abbrev pub class_titles : Lines
@@ -116,5 +116,5 @@ shown_of trace asked = span_shown trace.head.nodes trace.slots asked
 
 abbrev pub picture_titles : WholeTrace → Option Span → Lines
 picture_titles trace asked =
-    let shown = slots_in (shown_of trace asked) in
+    let shown = shown_slots (shown_of trace asked) in
     first_text trace ∷ (flat_map (cell_titles trace) shown ++ (flat_map (texts_of_hosts trace) shown ++ legend_titles))

@@ -2,7 +2,7 @@
 use Rattle.picture_text.proofs.Words.{◌≡◌, ℕ, ◌+◌, ◌<◌, ◌≤◌, Bool, true, false, cond, not, List, [], ◌∷◌, ◌++◌, length}
 use Rattle.picture_text.proofs.Words.{take, get_or, refl, sym, ap, ◌∙◌, subst, arith, length-append, ◌==◌, ◌||◌, filter}
 use Rattle.picture_text.proofs.Words.{map, list_any, append-nil, filter-append, set_bits, NodeShown, is_holder}
-use Rattle.picture_text.proofs.Words.{memberships}
+use Rattle.picture_text.proofs.Words.{shown_memberships}
 use Rattle.std.proofs.lemmas.Bool.{eqb-true, eqb-false, eq-eqb, ne_eqb}
 use Rattle.std.proofs.lemmas.List.{map-append, take_more}
 use Rattle.picture_text.specs.Cells.{distinct, noted}
@@ -43,15 +43,15 @@ distinct-next (x ∷ xs) y =
         let other : (y == x) ≡ false = ne_eqb y x (λ e. eqb-false x y is (sym e)) in
         rw (has-others x y (distinct xs) is, has, filter-append (λ z. not (z == x)) (distinct xs) (y ∷ []), other) refl
 
-pub memberships-next : (nodes : List NodeShown) (node : NodeShown) → memberships (nodes ++ node ∷ [])
-    ≡ cond (is_holder node) (noted (memberships nodes) (set_bits node.members)) (memberships nodes)
+pub memberships-next : (nodes : List NodeShown) (node : NodeShown) → shown_memberships (nodes ++ node ∷ [])
+    ≡ cond (is_holder node) (noted (shown_memberships nodes) (set_bits node.members)) (shown_memberships nodes)
 memberships-next nodes node =
     ap (λ (ns : List NodeShown). distinct (map (λ n. set_bits n.members) ns))
     (filter-append is_holder nodes (node ∷ []))
     ∙ go (is_holder node)
   where
     go : (b : Bool) → distinct (map (λ n. set_bits n.members) (filter is_holder nodes ++ cond b (node ∷ []) []))
-        ≡ cond b (noted (memberships nodes) (set_bits node.members)) (memberships nodes)
+        ≡ cond b (noted (shown_memberships nodes) (set_bits node.members)) (shown_memberships nodes)
     go true =
         ap distinct (map-append (λ n. set_bits n.members) (filter is_holder nodes) (node ∷ []))
         ∙ distinct-next (map (λ n. set_bits n.members) (filter is_holder nodes)) (set_bits node.members)
@@ -62,20 +62,20 @@ memberships-next nodes node =
 -- one node more
 pub taken-holder : (nodes : List NodeShown) (i : ℕ) (node : NodeShown) → node ≡ get_or nodes i node → i < length nodes
     → is_holder node ≡ true
-    → memberships (take (i + 1) nodes) ≡ noted (memberships (take i nodes)) (set_bits node.members)
+    → shown_memberships (take (i + 1) nodes) ≡ noted (shown_memberships (take i nodes)) (set_bits node.members)
 taken-holder nodes i node at inside good =
-    ap memberships (take_more nodes i node inside ∙ ap (λ (n : NodeShown). take i nodes ++ n ∷ []) (sym at))
+    ap shown_memberships (take_more nodes i node inside ∙ ap (λ (n : NodeShown). take i nodes ++ n ∷ []) (sym at))
     ∙ memberships-next (take i nodes) node
-    ∙ ap (λ (b : Bool). cond b (noted (memberships (take i nodes)) (set_bits node.members))
-    (memberships (take i nodes))) good
+    ∙ ap (λ (b : Bool). cond b (noted (shown_memberships (take i nodes)) (set_bits node.members))
+    (shown_memberships (take i nodes))) good
 
 pub taken-other : (nodes : List NodeShown) (i : ℕ) (node : NodeShown) → node ≡ get_or nodes i node → i < length nodes
-    → is_holder node ≡ false → memberships (take (i + 1) nodes) ≡ memberships (take i nodes)
+    → is_holder node ≡ false → shown_memberships (take (i + 1) nodes) ≡ shown_memberships (take i nodes)
 taken-other nodes i node at inside bad =
-    ap memberships (take_more nodes i node inside ∙ ap (λ (n : NodeShown). take i nodes ++ n ∷ []) (sym at))
+    ap shown_memberships (take_more nodes i node inside ∙ ap (λ (n : NodeShown). take i nodes ++ n ∷ []) (sym at))
     ∙ memberships-next (take i nodes) node
-    ∙ ap (λ (b : Bool). cond b (noted (memberships (take i nodes)) (set_bits node.members))
-    (memberships (take i nodes))) bad
+    ∙ ap (λ (b : Bool). cond b (noted (shown_memberships (take i nodes)) (set_bits node.members))
+    (shown_memberships (take i nodes))) bad
 
 pub noted-few : (words : List ℕ) (members : ℕ) → length (noted words members) ≤ length words + 1
 noted-few words members = go (list_any (λ word. word == members) words)

@@ -5,7 +5,7 @@ use Rattle.picture_text.proofs.Words.{NodeShown, SlotLines, node_at, each_node}
 use Rattle.std.proofs.Common.{decimal}
 use Rattle.std.proofs.lemmas.List.{get_or_default}
 use Rattle.ttp_base.proofs.Below.{below-next}
-use Rattle.shown_slot.specs.Trace.{no_node}
+use Rattle.shown_slot.specs.Trace.{no_shown_node}
 use Rattle.ttp_world.proofs.ListFacts.{one-more as passes}
 
 filter-next : (p : ℕ → Bool) (n : ℕ) → filter p (below (n + 1)) ≡ filter p (below n) ++ cond (p n) (n ∷ []) []
@@ -22,4 +22,5 @@ text-passes p n good =
 pub read_node : (slot : SlotLines) (nodes : List NodeShown) (k : ℕ) (node : NodeShown) → nodes ≡ slot.nodes
     → node ≡ get_or nodes k node → k < length nodes → node_at slot k ≡ node
 read_node slot nodes k node same at inside =
-    ap (λ (ns : List NodeShown). get_or ns k no_node) (sym same) ∙ get_or_default nodes k no_node node inside ∙ sym at
+    ap (λ (ns : List NodeShown). get_or ns k no_shown_node) (sym same)
+    ∙ get_or_default nodes k no_shown_node node inside ∙ sym at

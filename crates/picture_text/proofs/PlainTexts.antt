@@ -3,9 +3,10 @@ use Rattle.picture_text.proofs.Words.{◌≡◌, ℕ, suc, ◌+◌, ◌-◌, ◌
 use Rattle.picture_text.proofs.Words.{◌∷◌, ◌++◌, refl, ◌∙◌, Option, Some, None, arith, codes, length, get_or, ◌==◌}
 use Rattle.picture_text.proofs.Words.{list_any, flat_map, signed_decimal, set_bits, Lines, hex, Back, Keep}
 use Rattle.picture_text.proofs.Words.{number_or_dash, ack_word, word_text, keep_text, Head, HostLine, NodeShown}
-use Rattle.picture_text.proofs.Words.{SlotLines, WholeTrace, is_holder, head_text, node_text, host_text, Span}
-use Rattle.picture_text.proofs.Words.{memberships, node_class, each_node, membership_text, members_title, count_of}
-use Rattle.picture_text.proofs.Words.{apart_text, apart_shown, more_text, words, letter, keep_meaning, strange_past}
+use Rattle.picture_text.proofs.Words.{SlotLines, WholeTrace, is_holder, header_text, node_text, host_text, Span}
+use Rattle.picture_text.proofs.Words.{shown_memberships, node_class, each_node, membership_text, members_title}
+use Rattle.picture_text.proofs.Words.{count_of, apart_text, apart_shown, more_text, words, letter, keep_meaning}
+use Rattle.picture_text.proofs.Words.{strange_past}
 use Rattle.std.proofs.Common.{zero, ◌&&◌, nat_lt}
 use Rattle.std.proofs.Common.{ℤ, pos, negsuc, decimal}
 use Rattle.std.specs.Prelude.{nat_le, is_some}
@@ -26,12 +27,13 @@ use Rattle.line_reader.specs.declared.trace_line.Word.TheVariants as word
 use Rattle.line_reader.specs.TraceLines.{back_text}
 use Rattle.whole_trace.specs.declared.shown.HostLine.TheVariants as by_host
 use Rattle.shown_slot.specs.declared.node.ClockRange.{ClockRange}
-use Rattle.shown_slot.specs.Nodes.{is_doubt, spread_in}
+use Rattle.shown_slot.specs.Nodes.{spread_in}
 use Rattle.shown_slot.specs.Trace.{first_text}
 use Rattle.picture_text.specs.Cells.{holders_of, doubt_class, other_class, data_class}
-use Rattle.picture_text.specs.Cells.{member_digits}
+use Rattle.picture_text.specs.Cells.{head_member_digits}
 use Rattle.picture_text.specs.Tables.{word_meaning, rule_meanings, returning_meanings, back_meaning}
 use Rattle.picture_text.specs.Tables.{keep_name, back_name}
+use Rattle.ttp_world.specs.Acknowledgement.{is_doubt}
 
 -- a line feed, `<` or `&`
 abbrev pub is_special : ℕ → Bool
@@ -147,7 +149,7 @@ plain-if false x y p q = q
 
 -- Lines of the trace.
 
-pub plain-head : (head : Head) → Plain (head_text head)
+pub plain-head : (head : Head) → Plain (header_text head)
 plain-head head =
     plain-append (codes "ttpbench trace " ++ decimal head.version ++ codes " nodes " ++ decimal head.nodes
     ++ codes " rounds " ++ decimal head.rounds ++ codes " slots " ++ decimal head.slots ++ codes " schedule ")
@@ -223,14 +225,14 @@ plain-flat f (x ∷ xs) are = plain-append (f x) (flat_map f xs) (are x) (plain-
 
 plain-membership : (head : Head) (slot : SlotLines) (members : ℕ) → Plain (membership_text head slot members)
 plain-membership head slot members =
-    plain-append (codes " " ++ hex (member_digits head) members ++ codes " of") (each_node (holders_of members slot))
+    plain-append (codes " " ++ hex (head_member_digits head) members ++ codes " of") (each_node (holders_of members slot))
     (simp parts) (plain-flat (λ k. codes " " ++ decimal k) (holders_of members slot) (λ k. simp parts))
 
 pub plain-members : (head : Head) (t : ℕ) (slot : SlotLines) → Plain (members_title head t slot)
 plain-members head t slot =
     plain-append (codes "slot " ++ decimal t ++ codes " members")
-    (flat_map (membership_text head slot) (memberships slot.nodes)) (simp parts)
-    (plain-flat (membership_text head slot) (memberships slot.nodes) (plain-membership head slot))
+    (flat_map (membership_text head slot) (shown_memberships slot.nodes)) (simp parts)
+    (plain-flat (membership_text head slot) (shown_memberships slot.nodes) (plain-membership head slot))
 
 pub plain-no_members : (t : ℕ) → Plain (codes "slot " ++ decimal t ++ codes " members -")
 plain-no_members t = simp parts

@@ -1,7 +1,7 @@
 -- The first slot that is sought, and slots one after another.
 use Rattle.picture_text.proofs.Words.{◌≡◌, ℕ, ◌+◌, ◌<◌, ◌≤◌, Bool, List, [], ◌∷◌, length, drop, get_or, Some, None}
 use Rattle.picture_text.proofs.Words.{refl, sym, ap, ◌∙◌, arith, length-drop, ◌-◌, position, Option, unwrap_or}
-use Rattle.picture_text.proofs.Words.{position_or_len, SlotLines, no_slot, is_strange, has_start, strange_past}
+use Rattle.picture_text.proofs.Words.{position_or_len, SlotLines, no_slot_lines, is_strange, has_start, strange_past}
 use Rattle.std.specs.Prelude.{option_map}
 use Rattle.std.proofs.lemmas.Bool.{lt-ltb, le-ltb}
 use Rattle.std.proofs.lemmas.Bool.Decides.{nat_tests}
@@ -63,8 +63,9 @@ past-calm slots last e =
     let later = drop (last + 1) slots in
     let all : length slots ≤ position_or_len is_strange slots = grind (arith, nat_tests) in
     let none : position_or_len is_strange later ≡ length later =
-    position_or_len_is is_strange later (length later) no_slot (omega arith)
-    (λ k below. ap is_strange (get_or-drop (last + 1) slots k no_slot)
-    ∙ fails_before_first is_strange slots (last + 1 + k) no_slot (omega (arith, all, below, length-drop (last + 1) slots)))
+    position_or_len_is is_strange later (length later) no_slot_lines (omega arith)
+    (λ k below. ap is_strange (get_or-drop (last + 1) slots k no_slot_lines)
+    ∙ fails_before_first is_strange slots (last + 1 + k) no_slot_lines
+    (omega (arith, all, below, length-drop (last + 1) slots)))
     (λ within. absurd (omega (arith, within))) in
     ap (option_map (λ s. last + 1 + s)) (sym (found_nowhere is_strange later none))

@@ -1,17 +1,17 @@
 -- The words of this crate's proofs, from one place.
 pub use Rattle.line_reader.specs.TraceLines.{keep_text, word_text}
 pub use Rattle.picture_text.specs.Cells.{apart_shown, apart_text, attribute, count_of, each_node, holds, host_mark}
-pub use Rattle.picture_text.specs.Cells.{host_of, members_title, membership_text, memberships, node_cell, node_class}
-pub use Rattle.picture_text.specs.Cells.{place, title_element}
+pub use Rattle.picture_text.specs.Cells.{host_of, members_title, membership_text, shown_memberships, node_cell}
+pub use Rattle.picture_text.specs.Cells.{node_class, place_attributes, title_element}
 pub use Rattle.picture_text.specs.Picture.{back_flag, band_lines, beside_lines, cell_lines, class_entries, ended}
-pub use Rattle.picture_text.specs.Picture.{keep_flag, more_text, no_slot, picture_of, row_line, size, slot_at, svg_line}
-pub use Rattle.picture_text.specs.Picture.{word_entries, word_entry}
+pub use Rattle.picture_text.specs.Picture.{keep_flag, more_text, no_slot_lines, picture_of, row_line, size, slot_at}
+pub use Rattle.picture_text.specs.Picture.{svg_line, word_entries, word_entry}
 pub use Rattle.picture_text.specs.Sheet.{Puts}
 pub use Rattle.picture_text.specs.Tables.{keep_meaning, letter, words}
 pub use Rattle.picture_text.specs.Window.{column_x, has_start, is_strange, row_y, strange_past}
 pub use Rattle.picture_text.specs.declared.window.Span.{Span}
 pub use Rattle.shown_slot.specs.Nodes.{is_holder}
-pub use Rattle.shown_slot.specs.Trace.{head_text, host_text, node_at, node_text}
+pub use Rattle.shown_slot.specs.Trace.{header_text, host_text, node_at, node_text}
 pub use Rattle.std.proofs.Common.{Bool, List, None, Option, Some, [], ap, append_assoc, arith, codes, cond, drop, false}
 pub use Rattle.std.proofs.Common.{get_or, length, length-append, length-drop, map, not, refl, subst, suc, sym, take}
 pub use Rattle.std.proofs.Common.{true, ℕ, ◌%◌, ◌*◌, ◌++◌, ◌+◌, ◌-◌, ◌/◌, ◌<◌, ◌^◌, ◌||◌, ◌∙◌, ◌∷◌, ◌≡◌, ◌≤◌}

@@ -12,17 +12,18 @@ use Rattle.whole_trace.specs.declared.shown.HostLine.TheVariants as line
 use Rattle.whole_trace.specs.declared.shown.NodeShown.{NodeShown}
 use Rattle.whole_trace.specs.Whole.{SlotLines}
 use Rattle.shown_slot.specs.declared.node.ClockRange.{ClockRange}
-use Rattle.shown_slot.specs.Nodes.{is_holder, is_doubt, clock_range, spread_in}
+use Rattle.shown_slot.specs.Nodes.{is_holder, clock_range, spread_in}
 use Rattle.shown_slot.specs.Trace.{node_at, node_text, host_text}
 use Rattle.picture_text.specs.Tables.{letter}
+use Rattle.ttp_world.specs.Acknowledgement.{is_doubt}
 
 -- Elements.
 
 abbrev pub attribute : List ℕ → List ℕ → List ℕ
 attribute name value = codes " " ++ name ++ codes "=\"" ++ value ++ codes "\""
 
-abbrev pub place : ℕ → ℕ → List ℕ
-place x y = attribute (codes "x") (decimal x) ++ attribute (codes "y") (decimal y)
+abbrev pub place_attributes : ℕ → ℕ → List ℕ
+place_attributes x y = attribute (codes "x") (decimal x) ++ attribute (codes "y") (decimal y)
 
 abbrev pub title_element : List ℕ → List ℕ
 title_element title = codes "<title>" ++ title ++ codes "</title>"
@@ -31,8 +32,8 @@ title_element title = codes "<title>" ++ title ++ codes "</title>"
 abbrev pub cell : List ℕ → ℕ → ℕ → List ℕ → List ℕ → List ℕ
 cell class x y title shown =
     codes "<g" ++ attribute (codes "class") class ++ codes ">" ++ title_element title
-    ++ codes "<rect" ++ place x y ++ codes " width=\"17\" height=\"17\"/>"
-    ++ codes "<text" ++ place (x + 8) (y + 13) ++ codes ">" ++ shown ++ codes "</text></g>" ++ newline
+    ++ codes "<rect" ++ place_attributes x y ++ codes " width=\"17\" height=\"17\"/>"
+    ++ codes "<text" ++ place_attributes (x + 8) (y + 13) ++ codes ">" ++ shown ++ codes "</text></g>" ++ newline
 
 -- a mark of this class and shape
 abbrev pub mark : List ℕ → List ℕ → ℕ → ℕ → List ℕ → List ℕ
@@ -62,8 +63,8 @@ abbrev pub noted : List ℕ → ℕ → List ℕ
 noted words members = if list_any (λ word. word == members) words then words else words ++ members ∷ []
 
 -- the memberships that holders hold, that of the lowest one first
-abbrev pub memberships : List NodeShown → List ℕ
-memberships nodes = distinct (map (λ node. set_bits node.members) (filter is_holder nodes))
+abbrev pub shown_memberships : List NodeShown → List ℕ
+shown_memberships nodes = distinct (map (λ node. set_bits node.members) (filter is_holder nodes))
 
 -- the node holds these members, and they count
 abbrev pub holds : ℕ → NodeShown → Bool
@@ -85,7 +86,7 @@ most_held slot (members ∷ others) = Some (more_held slot members (most_held sl
 
 -- the members that most holders of a slot hold
 abbrev pub held_by_most : SlotLines → Option ℕ
-held_by_most slot = most_held slot (memberships slot.nodes)
+held_by_most slot = most_held slot (shown_memberships slot.nodes)
 
 -- Nodes.
 
@@ -110,19 +111,20 @@ node_cell head t k node most x y = cell (node_class node most) x y (node_text he
 
 -- What all nodes hold.
 
-abbrev pub member_digits : Head → ℕ
-member_digits head = if head.version == 2 then 6 else 4
+abbrev pub head_member_digits : Head → ℕ
+head_member_digits head = if head.version == 2 then 6 else 4
 
 abbrev pub each_node : List ℕ → List ℕ
 each_node nodes = flat_map (λ k. codes " " ++ decimal k) nodes
 
 abbrev pub membership_text : Head → SlotLines → ℕ → List ℕ
 membership_text head slot members =
-    codes " " ++ hex (member_digits head) members ++ codes " of" ++ each_node (holders_of members slot)
+    codes " " ++ hex (head_member_digits head) members ++ codes " of" ++ each_node (holders_of members slot)
 
 abbrev pub members_title : Head → ℕ → SlotLines → List ℕ
 members_title head t slot =
-    codes "slot " ++ decimal t ++ codes " members" ++ flat_map (membership_text head slot) (memberships slot.nodes)
+    codes "slot " ++ decimal t ++ codes " members" ++ flat_map (membership_text head slot)
+    (shown_memberships slot.nodes)
 
 -- how many nodes a number of members stands for
 abbrev pub count_of : List NodeShown → List ℕ
@@ -137,7 +139,7 @@ members_cell_of (one ∷ other ∷ more) nodes t x y title = cell (codes "differ
 
 abbrev pub members_cell : Head → ℕ → SlotLines → ℕ → ℕ → List ℕ
 members_cell head t slot x y =
-    members_cell_of (memberships slot.nodes) slot.nodes t x y (members_title head t slot)
+    members_cell_of (shown_memberships slot.nodes) slot.nodes t x y (members_title head t slot)
 
 -- Clocks.
 

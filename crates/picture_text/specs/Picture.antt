@@ -10,11 +10,12 @@ use Rattle.line_reader.specs.declared.trace_line.Word.{Word}
 use Rattle.line_reader.specs.TraceLines.{word_text, keep_text, back_text}
 use Rattle.whole_trace.specs.declared.shown.Head.{Head}
 use Rattle.whole_trace.specs.Whole.{SlotLines, WholeTrace}
-use Rattle.shown_slot.specs.Nodes.{has_left}
+use Rattle.shown_slot.specs.Nodes.{is_leaving_word}
 use Rattle.shown_slot.specs.Trace.{node_at, first_text}
 use Rattle.picture_text.specs.declared.window.Span.{Span}
-use Rattle.picture_text.specs.Cells.{attribute, place, title_element, cell, mark, write_shape, read_shape, status_shape}
-use Rattle.picture_text.specs.Cells.{held_by_most, node_cell, members_cell, clocks_cell, host_of, host_mark}
+use Rattle.picture_text.specs.Cells.{attribute, place_attributes, title_element, cell, mark, write_shape, read_shape}
+use Rattle.picture_text.specs.Cells.{status_shape, held_by_most, node_cell, members_cell, clocks_cell, host_of}
+use Rattle.picture_text.specs.Cells.{host_mark}
 use Rattle.picture_text.specs.Tables.{words, letter, cell_colour, letter_colour, word_meaning, styles, keep_meaning}
 use Rattle.picture_text.specs.Tables.{back_meaning, keep_slot, keep_name, back_slot, back_name}
 use Rattle.picture_text.specs.Window.{span_shown, strange_past, columns, bands, legend_top, height, column_x, row_y}
@@ -27,7 +28,8 @@ abbrev pub class_of : List ℕ → List ℕ
 class_of class = attribute (codes "class") class
 
 abbrev pub text_line : List ℕ → ℕ → ℕ → List ℕ → List ℕ
-text_line class x y shown = ended (codes "<text" ++ class ++ place x y ++ codes ">" ++ shown ++ codes "</text>")
+text_line class x y shown =
+    ended (codes "<text" ++ class ++ place_attributes x y ++ codes ">" ++ shown ++ codes "</text>")
 
 -- The head.
 
@@ -62,8 +64,8 @@ abbrev pub back_said : Option Back → Lines
 back_said None = []
 back_said (Some b) = said_line 58 (back_text b) (back_meaning b) ∷ []
 
-abbrev pub head_lines : WholeTrace → Span → Lines
-head_lines trace span =
+abbrev pub picture_head_lines : WholeTrace → Span → Lines
+picture_head_lines trace span =
     let h = height trace.head.nodes span in
     svg_line h ∷ ended (title_element (first_text trace)) ∷ style_lines
     ++ ended (codes "<rect" ++ size h ++ attribute (codes "fill") (codes "#ffffff") ++ codes "/>")
@@ -93,11 +95,11 @@ number_lines n span t =
     then text_line (class_of (codes "slot")) (column_x n span t + 8) (row_y n span t 0 - 5) (decimal t) ∷ []
     else []
 
-abbrev pub no_slot : SlotLines
-no_slot = record { nodes = []; hosts = [] }
+abbrev pub no_slot_lines : SlotLines
+no_slot_lines = record { nodes = []; hosts = [] }
 
 abbrev pub slot_at : WholeTrace → ℕ → SlotLines
-slot_at trace t = get_or trace.slots t no_slot
+slot_at trace t = get_or trace.slots t no_slot_lines
 
 abbrev pub cell_lines : Head → Span → ℕ → SlotLines → Lines
 cell_lines head span t slot =
@@ -114,7 +116,7 @@ cell_lines head span t slot =
 
 abbrev pub why_box : Word → ℕ → ℕ → List ℕ
 why_box w x y =
-    ended (codes "<rect" ++ class_of (codes "why") ++ place x y
+    ended (codes "<rect" ++ class_of (codes "why") ++ place_attributes x y
     ++ attribute (codes "width") (decimal (7 * length (word_text w) + 6)) ++ codes " height=\"17\"/>")
 
 abbrev pub why_word : Word → ℕ → ℕ → List ℕ
@@ -125,7 +127,7 @@ why_lines n span t slot k =
     let w = (node_at slot k).word in
     let x = column_x n span t in
     let y = row_y n span t k in
-    if has_left w then why_box w (x + 18) y ∷ why_word w (x + 21) (y + 13) ∷ [] else []
+    if is_leaving_word w then why_box w (x + 18) y ∷ why_word w (x + 21) (y + 13) ∷ [] else []
 
 abbrev pub beside_lines : ℕ → Span → ℕ → SlotLines → Lines
 beside_lines n span t slot =
@@ -204,17 +206,17 @@ class_entries top =
 -- The whole.
 
 -- the numbers of the slots that are shown
-abbrev pub slots_in : Span → List ℕ
-slots_in span = range_with_len span.first (span.last + 1 - span.first)
+abbrev pub shown_slots : Span → List ℕ
+shown_slots span = range_with_len span.first (span.last + 1 - span.first)
 
 abbrev pub picture_of : WholeTrace → Span → Lines
 picture_of trace span =
     let n = trace.head.nodes in
     let top = legend_top n span in
-    head_lines trace span
+    picture_head_lines trace span
     ++ lines_below (band_lines n span) (bands n span)
-    ++ flat_map (λ t. cell_lines trace.head span t (slot_at trace t)) (slots_in span)
-    ++ flat_map (λ t. beside_lines n span t (slot_at trace t)) (slots_in span)
+    ++ flat_map (λ t. cell_lines trace.head span t (slot_at trace t)) (shown_slots span)
+    ++ flat_map (λ t. beside_lines n span t (slot_at trace t)) (shown_slots span)
     ++ keep_flag n span trace.keep ++ back_flag n span trace.back
     ++ word_entries top 0 words ++ class_entries (top + 118) ++ ended (codes "</svg>") ∷ []
 

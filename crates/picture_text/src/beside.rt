@@ -17,7 +17,7 @@ use crate::grid::{beside, corner};
 use crate::sheet::Sheet;
 use crate::titles::put_host_text;
 use line_reader::Word;
-use shown_slot::{has_left, word_text};
+use shown_slot::{is_leaving_word, word_text};
 use ttp_base::{Line, Sink};
 use ttp_world::Source;
 use whole_trace::{HostLine, SlotShown};
@@ -88,7 +88,7 @@ fn put_why<K: Sink>(
         (why_lines frame.head.nodes frame.span slot shown.now number) }
 {
     let word = node_at(shown, number).word;
-    if has_left(word) {
+    if is_leaving_word(word) {
         put_why_parts(frame, slot, number, word, sheet, out);
     }
 }

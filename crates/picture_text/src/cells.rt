@@ -4,9 +4,9 @@
 ghost use Rattle.std.specs.Prelude.{◌≡◌, ◌+◌, ◌-◌, ◌*◌, ◌<◌, ◌≤◌, [], ◌∷◌, ◌++◌, length, map, codes, decimal};
 ghost use Rattle.ttp_base.specs.NodeSet.{below};
 ghost use Rattle.shown_slot.specs.Nodes.{clock_range};
-ghost use Rattle.shown_slot.specs.Trace.{no_node, node_at};
-ghost use Rattle.picture_text.specs.Cells.{doubt_class, other_class, data_class, node_class, node_cell, memberships};
-ghost use Rattle.picture_text.specs.Cells.{members_cell, apart_text, apart_shown, clocks_cell};
+ghost use Rattle.shown_slot.specs.Trace.{no_shown_node, node_at};
+ghost use Rattle.picture_text.specs.Cells.{doubt_class, other_class, data_class, node_class, node_cell};
+ghost use Rattle.picture_text.specs.Cells.{shown_memberships, members_cell, apart_text, apart_shown, clocks_cell};
 ghost use Rattle.picture_text.specs.Picture.{class_of, text_line, number_lines, cell_lines};
 ghost use Rattle.picture_text.specs.Sheet.{Puts};
 ghost use Rattle.picture_text.specs.Window.{row_y, column_x};
@@ -26,8 +26,8 @@ use ttp_world::Ack;
 use whole_trace::{Head, NodeShown, SlotShown};
 
 // What stands for a node that a slot does not have.
-fn no_node() -> NodeShown
-    ensures { result ≡ no_node }
+fn no_shown_node() -> NodeShown
+    ensures { result ≡ no_shown_node }
 {
     NodeShown {
         word: Word::Off,
@@ -47,7 +47,7 @@ pub(crate) fn node_at(slot: &SlotShown<'_>, number: u8) -> NodeShown
 {
     match slot.nodes().get(usize::from(number)) {
         Some(node) => *node,
-        None => no_node(),
+        None => no_shown_node(),
     }
 }
 
@@ -238,7 +238,7 @@ fn put_members<K: Sink>(
     sheet: &mut Sheet,
     out: &mut K,
 )
-    requires { found.now ≡ memberships shown.now.nodes }
+    requires { found.now ≡ shown_memberships shown.now.nodes }
     ensures { Puts sheet.old.failed (K.output out.old) sheet.new.failed (K.output out.new)
         (members_cell frame.head slot shown.now (column_x frame.head.nodes frame.span slot)
         (row_y frame.head.nodes frame.span slot frame.head.nodes + 4) ∷ []) }

@@ -3,7 +3,7 @@
 
 ghost use Rattle.std.specs.Prelude.{◌≡◌, ◌+◌, ◌≤◌, [], ◌++◌, length, codes, decimal};
 ghost use Rattle.ttp_base.specs.Text.{newline};
-ghost use Rattle.picture_text.specs.Cells.{place, cell};
+ghost use Rattle.picture_text.specs.Cells.{place_attributes, cell};
 ghost use Rattle.picture_text.specs.Picture.{class_of};
 
 use crate::frame::Corner;
@@ -12,7 +12,7 @@ use ttp_base::Line;
 /// Adds a place.
 pub fn put_place(line: &mut Line, x: u64, y: u64)
     requires { length line.old ≤ 590 }
-    ensures text { line.new ≡ line.old ++ place x y }
+    ensures text { line.new ≡ line.old ++ place_attributes x y }
     ensures short { length line.new ≤ length line.old + 50 }
 {
     line.put_text(" x=\"");
@@ -42,8 +42,9 @@ pub fn open_title(line: &mut Line)
 /// What stands between the title of a cell and what is shown.
 pub(crate) fn close_title(line: &mut Line, at: Corner)
     requires { length line.old ≤ 450 }
-    ensures text { line.new ≡ line.old ++ (codes "</title><rect" ++ place at.x at.y
-        ++ codes " width=\"17\" height=\"17\"/>" ++ codes "<text" ++ place (at.x + 8) (at.y + 13) ++ codes ">") }
+    ensures text { line.new ≡ line.old ++ (codes "</title><rect" ++ place_attributes at.x at.y
+        ++ codes " width=\"17\" height=\"17\"/>"
+        ++ codes "<text" ++ place_attributes (at.x + 8) (at.y + 13) ++ codes ">") }
     ensures short { length line.new ≤ length line.old + 150 }
 {
     line.put_text("</title><rect");
@@ -112,7 +113,7 @@ pub fn close_mark(line: &mut Line)
 
 /// Begins a text without a class, before what it shows.
 pub fn open_text(line: &mut Line, x: u64, y: u64)
-    ensures text { line.new ≡ codes "<text" ++ place x y ++ codes ">" }
+    ensures text { line.new ≡ codes "<text" ++ place_attributes x y ++ codes ">" }
     ensures short { length line.new ≤ 56 }
 {
     line.clear();
@@ -124,7 +125,7 @@ pub fn open_text(line: &mut Line, x: u64, y: u64)
 /// Begins a text of a class.
 pub fn open_text_of(line: &mut Line, class: &str, x: u64, y: u64)
     requires { length class.now ≤ 10 }
-    ensures text { line.new ≡ codes "<text" ++ class_of class.now ++ place x y ++ codes ">" }
+    ensures text { line.new ≡ codes "<text" ++ class_of class.now ++ place_attributes x y ++ codes ">" }
     ensures short { length line.new ≤ 85 }
 {
     line.clear();

@@ -3,7 +3,7 @@
 
 ghost use Rattle.std.specs.Prelude.{◌≡◌, ◌+◌, ◌<◌, ◌≤◌, [], ◌∷◌, ◌++◌, length, get_or, map, codes, decimal};
 ghost use Rattle.line_reader.specs.TraceLines.{keep_text, back_text};
-ghost use Rattle.shown_slot.specs.Trace.{head_text};
+ghost use Rattle.shown_slot.specs.Trace.{header_text};
 ghost use Rattle.picture_text.specs.Cells.{title_element};
 ghost use Rattle.picture_text.specs.Picture.{ended, size, svg_line, word_style, style_lines, more_text, said_line};
 ghost use Rattle.picture_text.specs.Picture.{back_said, text_line};
@@ -19,7 +19,7 @@ use crate::tables::{
     STYLES, WORDS, cell_colour, letter_colour, returning_meaning, rule_meaning, style, word_number,
 };
 use line_reader::Word;
-use shown_slot::{back_text, head_text, keep_text, word_text};
+use shown_slot::{back_text, header_text, keep_text, word_text};
 use ttp_base::{Line, Sink};
 use ttp_world::{Back, Keep};
 use whole_trace::Head;
@@ -47,11 +47,11 @@ fn make_svg(line: &mut Line, height: u64)
 }
 
 fn make_title(line: &mut Line, head: &Head)
-    ensures { line.new ≡ ended (title_element (head_text head.now)) }
+    ensures { line.new ≡ ended (title_element (header_text head.now)) }
 {
     line.clear();
     line.put_text("<title>");
-    let text = head_text(head);
+    let text = header_text(head);
     line.put_bytes(text.bytes());
     line.put_text("</title>\n");
 }
@@ -139,11 +139,12 @@ fn put_more(line: &mut Line, strange: Option<u32>)
 
 // Makes the line of what is shown.
 fn make_shown(line: &mut Line, frame: Frame, strange: Option<u32>)
-    ensures { line.new ≡ text_line [] 12 20 (head_text frame.head ++ codes ", shown: slots " ++ decimal frame.span.first
+    ensures { line.new ≡ text_line [] 12 20
+        (header_text frame.head ++ codes ", shown: slots " ++ decimal frame.span.first
         ++ codes " to " ++ decimal frame.span.last ++ more_text strange) }
 {
     open_text(line, 12, 20);
-    let text = head_text(&frame.head);
+    let text = header_text(&frame.head);
     line.put_bytes(text.bytes());
     line.put_text(", shown: slots ");
     line.put_number(u64::from(frame.span.first));
@@ -230,7 +231,7 @@ fn put_said<K: Sink>(keep: Keep, back: Option<Back>, sheet: &mut Sheet, out: &mu
 #[tactic(auto, using(crate::proofs::Puts::puts))]
 fn put_front<K: Sink>(frame: Frame, sheet: &mut Sheet, out: &mut K)
     ensures { Puts sheet.old.failed (K.output out.old) sheet.new.failed (K.output out.new)
-        (svg_line (height frame.head.nodes frame.span) ∷ ended (title_element (head_text frame.head)) ∷ []) }
+        (svg_line (height frame.head.nodes frame.span) ∷ ended (title_element (header_text frame.head)) ∷ []) }
 {
     make_svg(&mut sheet.line, height(frame));
     sheet.write(out);
@@ -243,7 +244,7 @@ fn put_front<K: Sink>(frame: Frame, sheet: &mut Sheet, out: &mut K)
 fn put_shown<K: Sink>(frame: Frame, strange: Option<u32>, sheet: &mut Sheet, out: &mut K)
     ensures { Puts sheet.old.failed (K.output out.old) sheet.new.failed (K.output out.new)
         (ended (codes "<rect" ++ size (height frame.head.nodes frame.span) ++ codes " fill=\"#ffffff\"/>")
-        ∷ text_line [] 12 20 (head_text frame.head ++ codes ", shown: slots " ++ decimal frame.span.first
+        ∷ text_line [] 12 20 (header_text frame.head ++ codes ", shown: slots " ++ decimal frame.span.first
         ++ codes " to " ++ decimal frame.span.last ++ more_text strange) ∷ []) }
 {
     make_ground(&mut sheet.line, height(frame));
@@ -263,9 +264,9 @@ pub(crate) fn put_head<K: Sink>(
     out: &mut K,
 )
     ensures { Puts sheet.old.failed (K.output out.old) sheet.new.failed (K.output out.new)
-        (svg_line (height frame.head.nodes frame.span) ∷ ended (title_element (head_text frame.head)) ∷ style_lines
+        (svg_line (height frame.head.nodes frame.span) ∷ ended (title_element (header_text frame.head)) ∷ style_lines
         ++ ended (codes "<rect" ++ size (height frame.head.nodes frame.span) ++ codes " fill=\"#ffffff\"/>")
-        ∷ text_line [] 12 20 (head_text frame.head ++ codes ", shown: slots " ++ decimal frame.span.first
+        ∷ text_line [] 12 20 (header_text frame.head ++ codes ", shown: slots " ++ decimal frame.span.first
         ++ codes " to " ++ decimal frame.span.last ++ more_text strange)
         ∷ said_line 40 (keep_text keep) (keep_meaning keep) ∷ back_said back) }
 {

@@ -1,6 +1,6 @@
 //! Which members the nodes of a slot hold.
 ghost use Rattle.std.specs.Prelude.{◌≡◌, ◌<◌, ◌≤◌, [], length};
-ghost use Rattle.picture_text.specs.Cells.{noted, memberships, holds, holders_of, most_held, held_by_most};
+ghost use Rattle.picture_text.specs.Cells.{noted, shown_memberships, holds, holders_of, most_held, held_by_most};
 
 use shown_slot::is_holder;
 use std::marker::Model;
@@ -58,7 +58,7 @@ impl Memberships {
 /// The memberships that the holders among nodes hold.
 pub(crate) fn memberships_of(nodes: &[NodeShown]) -> Memberships
     requires { length nodes.now ≤ 24 }
-    ensures { result ≡ memberships nodes.now }
+    ensures { result ≡ shown_memberships nodes.now }
 {
     let mut found = Memberships::new();
     for node in nodes {
@@ -111,7 +111,7 @@ fn most_held(slot: &SlotShown<'_>, words: &[u32]) -> Option<u32>
 
 /// The members that most holders of a slot hold, where `found` are its memberships.
 pub(crate) fn held_by_most(slot: &SlotShown<'_>, found: &Memberships) -> Option<u32>
-    requires { found.now ≡ memberships slot.now.nodes }
+    requires { found.now ≡ shown_memberships slot.now.nodes }
     ensures { result ≡ held_by_most slot.now }
 {
     most_held(slot, found.words())

@@ -2,7 +2,7 @@
 #![tactic(auto, using(ttp_base::proofs::Room::room))]
 
 ghost use Rattle.std.specs.Prelude.{◌≡◌, ◌+◌, ◌*◌, ◌<◌, ◌≤◌, [], ◌∷◌, ◌++◌, length, codes, decimal, flat_map};
-ghost use Rattle.picture_text.specs.Cells.{memberships, holders_of, each_node, membership_text, count_of, cell};
+ghost use Rattle.picture_text.specs.Cells.{shown_memberships, holders_of, each_node, membership_text, count_of, cell};
 ghost use Rattle.picture_text.specs.Cells.{members_title, members_cell};
 ghost use Rattle.picture_text.specs.Sheet.{Puts};
 
@@ -90,7 +90,7 @@ fn open_members(
     found: &Memberships,
 )
     requires class { length class.now ≤ 10 }
-    requires found { found.now ≡ memberships shown.now.nodes }
+    requires found { found.now ≡ shown_memberships shown.now.nodes }
     ensures text { sheet.new.long ≡ codes "<g class=\"" ++ class.now ++ codes "\"><title>"
         ++ members_title head.now slot shown.now }
     ensures short { length sheet.new.long ≤ 2740 }
@@ -117,7 +117,7 @@ fn make_agreed(
     found: &Memberships,
     at: Corner,
 )
-    requires { found.now ≡ memberships shown.now.nodes }
+    requires { found.now ≡ shown_memberships shown.now.nodes }
     ensures text { sheet.new.long ≡ cell (codes "agree") at.x at.y (members_title head.now slot shown.now)
         (count_of shown.now.nodes) }
     ensures same { sheet.new.failed ≡ sheet.old.failed }
@@ -139,7 +139,7 @@ fn make_different(
     found: &Memberships,
     at: Corner,
 )
-    requires { found.now ≡ memberships shown.now.nodes }
+    requires { found.now ≡ shown_memberships shown.now.nodes }
     ensures text { sheet.new.long ≡ cell (codes "differ") at.x at.y (members_title head.now slot shown.now)
         (codes "!") }
     ensures same { sheet.new.failed ≡ sheet.old.failed }
@@ -179,7 +179,7 @@ pub(crate) fn put_members_cell<K: Sink>(
     sheet: &mut Sheet,
     out: &mut K,
 )
-    requires { found.now ≡ memberships shown.now.nodes }
+    requires { found.now ≡ shown_memberships shown.now.nodes }
     ensures { Puts sheet.old.failed (K.output out.old) sheet.new.failed (K.output out.new)
         (members_cell head.now slot shown.now at.x at.y ∷ []) }
 {

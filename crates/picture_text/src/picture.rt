@@ -5,8 +5,9 @@ ghost use Rattle.std.specs.Prelude.{◌≡◌, ◌+◌, ◌<◌, ◌≤◌, [], 
 ghost use Rattle.std.specs.Prelude.{None, OnErr, IsTrue, position};
 ghost use Rattle.ttp_base.specs.Outside.{WroteLines, CutShort};
 ghost use Rattle.ttp_base.specs.Text.{lines_below};
-ghost use Rattle.picture_text.specs.Picture.{ended, band_lines, cell_lines, beside_lines, slot_at, slots_in, keep_flag};
-ghost use Rattle.picture_text.specs.Picture.{back_flag, word_entries, class_entries, picture_of, picture_lines};
+ghost use Rattle.picture_text.specs.Picture.{ended, band_lines, cell_lines, beside_lines, slot_at, shown_slots};
+ghost use Rattle.picture_text.specs.Picture.{keep_flag, back_flag, word_entries, class_entries, picture_of};
+ghost use Rattle.picture_text.specs.Picture.{picture_lines};
 ghost use Rattle.picture_text.specs.Sheet.{Puts};
 ghost use Rattle.picture_text.specs.Tables.{words};
 ghost use Rattle.picture_text.specs.Window.{bands, legend_top, is_strange};
@@ -37,7 +38,7 @@ fn put_all_cells<K: Sink>(
     requires shown { frame.span.last < length trace.now.slots }
     requires first { first.now ≡ drop frame.span.first trace.now.slots }
     ensures { Puts sheet.old.failed (K.output out.old) sheet.new.failed (K.output out.new)
-        (flat_map (λ t. cell_lines frame.head frame.span t (slot_at trace.now t)) (slots_in frame.span)) }
+        (flat_map (λ t. cell_lines frame.head frame.span t (slot_at trace.now t)) (shown_slots frame.span)) }
 {
     let mut left = first.again();
     for passed in 0..frame.span.last + 1 - frame.span.first {
@@ -59,7 +60,7 @@ fn put_all_beside<K: Sink>(
     requires shown { frame.span.last < length trace.now.slots }
     requires first { first.now ≡ drop frame.span.first trace.now.slots }
     ensures { Puts sheet.old.failed (K.output out.old) sheet.new.failed (K.output out.new)
-        (flat_map (λ t. beside_lines frame.head.nodes frame.span t (slot_at trace.now t)) (slots_in frame.span)) }
+        (flat_map (λ t. beside_lines frame.head.nodes frame.span t (slot_at trace.now t)) (shown_slots frame.span)) }
 {
     let mut left = first.again();
     for passed in 0..frame.span.last + 1 - frame.span.first {
@@ -82,8 +83,8 @@ fn put_rows<K: Sink>(
     requires first { first.now ≡ drop frame.span.first trace.now.slots }
     ensures { Puts sheet.old.failed (K.output out.old) sheet.new.failed (K.output out.new)
         (lines_below (band_lines frame.head.nodes frame.span) (bands frame.head.nodes frame.span)
-        ++ flat_map (λ t. cell_lines frame.head frame.span t (slot_at trace.now t)) (slots_in frame.span)
-        ++ flat_map (λ t. beside_lines frame.head.nodes frame.span t (slot_at trace.now t)) (slots_in frame.span)) }
+        ++ flat_map (λ t. cell_lines frame.head frame.span t (slot_at trace.now t)) (shown_slots frame.span)
+        ++ flat_map (λ t. beside_lines frame.head.nodes frame.span t (slot_at trace.now t)) (shown_slots frame.span)) }
 {
     put_bands(frame, sheet, out);
     put_all_cells(trace, frame, first, sheet, out);

@@ -7,7 +7,7 @@ ghost use Rattle.ttp_base.specs.Text.{hex};
 ghost use Rattle.ttp_world.specs.Trace.{number_or_dash, ack_word, host_head, source_word};
 ghost use Rattle.line_reader.specs.TraceLines.{word_text};
 ghost use Rattle.shown_slot.specs.Trace.{node_text, host_text};
-ghost use Rattle.picture_text.specs.Cells.{member_digits};
+ghost use Rattle.picture_text.specs.Cells.{head_member_digits};
 
 use shown_slot::word_text;
 use ttp_base::Line;
@@ -44,7 +44,7 @@ fn put_ack(line: &mut Line, ack: Ack)
 #[tactic(auto, using(ttp_base::proofs::Room::room, crate::proofs::Digits::hex_four, shown_slot::proofs::Texts::six_digits))]
 pub(crate) fn put_members(line: &mut Line, head: &Head, members: u32)
     requires { length line.old ≤ 600 }
-    ensures text { line.new ≡ line.old ++ hex (member_digits head.now) members }
+    ensures text { line.new ≡ line.old ++ hex (head_member_digits head.now) members }
     ensures short { length line.new ≤ length line.old + 6 }
 {
     if head.version == 2 {

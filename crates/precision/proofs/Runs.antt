@@ -23,7 +23,7 @@ use Rattle.precision.specs.Together.{RanTogether}
 use Rattle.precision.specs.Together.{NoneJumps, IsCommonRun, clock_at, measured, HoldsClocksWithin}
 use Rattle.precision.specs.Together.{HoldsDeviationsWithin}
 use Rattle.precision.specs.Company.{AreCalm, IsCalmIn, IsNotedOf, StayedInCompany, GrewTogether, RanAsCompany}
-use Rattle.precision.specs.Company.{IsCompanyRun, IsSettled, HoldsCompanyClocksWithin, HoldsSettledClocksWithin}
+use Rattle.precision.specs.Company.{IsCompanyRun, IsCompanySettled, HoldsCompanyClocksWithin, HoldsSettledClocksWithin}
 use Rattle.precision.specs.Company.{HoldsCompanyDeviationsWithin, HoldsSettledDeviationsWithin}
 use Rattle.precision.proofs.Averages.{IsUpTo, Locate}
 use Rattle.precision.proofs.Frames.{frame_of, frame_of-node, RunsFrom, moved, begun_stint, begun_place, begun_set}
@@ -493,7 +493,7 @@ at_beginning list script group history k calm p = clock_at-still list script his
 -- by how many slots of the round are over
 settled_round : (list : Medl) (script : Script) (may_grow : Bool) (group : ℕ → Bool) (l : ℕ) (history : History) (j : ℕ)
     → (ran : Kept list script may_grow group l history) → IsIn list group j
-    → IsSettled list may_grow group l history
+    → IsCompanySettled list may_grow group l history
     → (may_grow ≡ false) ⊎ (l + length list.slots + ran.place.slot < length history)
 settled_round list script may_grow group l history j ran p (inl fixed) = inl fixed
 settled_round list script may_grow group l history j ran p (inr (inl late)) = inr (omega (arith, late, ran.inside))

@@ -83,8 +83,8 @@ slots_over list history k = (next_place list (stint_place list k (diary_of histo
 
 -- the company may not grow, or its newest entry is two rounds ago, or more than one round before the round of the
 -- coming slot
-abbrev pub IsSettled : Medl → Bool → (ℕ → Bool) → ℕ → History → Type 0
-IsSettled list may_grow group newest history =
+abbrev pub IsCompanySettled : Medl → Bool → (ℕ → Bool) → ℕ → History → Type 0
+IsCompanySettled list may_grow group newest history =
     (may_grow ≡ false)
     ⊎ ((newest + 2 * length list.slots ≤ length history)
     ⊎ ((k : ℕ) → IsIn list group k → newest + length list.slots + slots_over list history k < length history))
@@ -103,7 +103,7 @@ HoldsCompanyClocksWithin list bound =
 unfoldable pub HoldsSettledClocksWithin : Medl → ℤ → Type 0
 HoldsSettledClocksWithin list bound =
     (script : Script) (may_grow : Bool) (group : ℕ → Bool) (newest : ℕ) (history : History)
-    → IsCompanyRun list script may_grow group newest history → IsSettled list may_grow group newest history
+    → IsCompanyRun list script may_grow group newest history → IsCompanySettled list may_grow group newest history
     → (j k : ℕ) → IsIn list group j → IsIn list group k
     → (clock_at list script history j -ℤ clock_at list script history k) ≤ℤ bound
 
@@ -119,7 +119,7 @@ HoldsCompanyDeviationsWithin list bound =
 unfoldable pub HoldsSettledDeviationsWithin : Medl → ℤ → Type 0
 HoldsSettledDeviationsWithin list bound =
     (script : Script) (may_grow : Bool) (group : ℕ → Bool) (newest : ℕ) (history : History)
-    → IsCompanyRun list script may_grow group newest history → IsSettled list may_grow group newest history
+    → IsCompanyRun list script may_grow group newest history → IsCompanySettled list may_grow group newest history
     → length history < script.slots
     → (r p : ℕ) → IsIn list group r → IsIn list group p
     → (neg_ℤ bound ≤ℤ measured list script history r p) × (measured list script history r p ≤ℤ bound)

@@ -56,8 +56,8 @@ abbrev pub waiting : History
 waiting = replicate 10 (entry.Waited ∷ entry.Waited ∷ entry.Waited ∷ entry.Waited ∷ entry.Off ∷ [])
 
 -- the row in which node 0 starts
-abbrev pub starting : List Entry
-starting = entry.Started ∷ join (negsuc 19) ∷ join (pos 20) ∷ join (negsuc 19) ∷ entry.Off ∷ []
+abbrev pub starting_row : List Entry
+starting_row = entry.Started ∷ join (negsuc 19) ∷ join (pos 20) ∷ join (negsuc 19) ∷ entry.Off ∷ []
 
 -- the row in which node 4 joins
 abbrev pub joining : List Entry
@@ -78,7 +78,7 @@ run_of_four =
     ∷ (correct 3 (pos 6) ∷ correct 3 (pos 0) ∷ correct 3 (pos 12) ∷ entry.Sent None ∷ entry.Off ∷ [])
     ∷ (correct 2 (negsuc 3) ∷ correct 2 (negsuc 7) ∷ entry.Sent None ∷ correct 2 (negsuc 7) ∷ entry.Off ∷ [])
     ∷ (correct 1 (pos 2) ∷ entry.Sent None ∷ correct 1 (pos 4) ∷ correct 1 (pos 0) ∷ entry.Off ∷ [])
-    ∷ starting
+    ∷ starting_row
     ∷ waiting
 
 -- node 4 joins in slot 22: the rows of slots 22 to 28

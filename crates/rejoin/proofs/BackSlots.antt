@@ -1,11 +1,11 @@
 -- A slot of the plan: who hears its frame, and who is sound before it.
 use Rattle.rejoin.proofs.Words.{◌≡◌, ◌≢◌, ℕ, suc, ◌+◌, ◌<◌, ◌≤◌, true, false, length, Some, refl, ap, subst, ◌∙◌, inl}
 use Rattle.rejoin.proofs.Words.{inr, arith, both_ways, cases_lt, has_node, Medl, Script, ClusterStart, loses}
-use Rattle.rejoin.proofs.Words.{expected_sender, four_rounds, is_ever_on, has_jump, Incident, Plan, sender, incident_at}
-use Rattle.rejoin.proofs.Words.{fate_of, is_sound_after, is_good_slot, Fate, Listening, clear-loses, incident-made}
-use Rattle.rejoin.proofs.Words.{sender-less, sender-same, back_plan_of}
+use Rattle.rejoin.proofs.Words.{expected_sender, four_rounds, is_ever_on, has_jump, Incident, FaultPlan, sender}
+use Rattle.rejoin.proofs.Words.{incident_at, fate_of, is_sound_after, is_good_slot, Fate, Listening, clear-loses}
+use Rattle.rejoin.proofs.Words.{incident-made, sender-less, sender-same, back_plan_of}
 use Rattle.fault_plan.specs.Plan.{Sending}
-use Rattle.fault_plan.specs.Fates.{is_sound}
+use Rattle.fault_plan.specs.Fates.{is_sound_fate}
 use Rattle.fault_plan.specs.Kept.{IsHeardByPlan}
 use Rattle.fault_plan.proofs.Hearing.{IsMadeIn, clear-still, deaf-in, jumps-in}
 use Rattle.fault_plan.proofs.Hearing.{unheard-in}
@@ -18,13 +18,13 @@ use Rattle.rejoin.proofs.Sounds.{IsNearArm, Soundly, BeingClear, NearArm, sound-
 use Rattle.rejoin.proofs.Standing.{Standing, Clear, LostSince, ArmedSince, standing, lost-in}
 use Rattle.rejoin.proofs.Walk.{at}
 
-listens-good : (plan : Plan) (turn r since : ℕ) → fate_of plan turn r ≡ Listening since → r ≡ sender plan turn
+listens-good : (plan : FaultPlan) (turn r since : ℕ) → fate_of plan turn r ≡ Listening since → r ≡ sender plan turn
     → is_good_slot plan turn ≡ true → ⊥
 listens-good plan turn r since fate same good =
-    both_ways _ (ap is_sound fate) (ap (is_sound_after plan turn) same ∙ good)
+    both_ways _ (ap is_sound_fate fate) (ap (is_sound_after plan turn) same ∙ good)
 
 module _ {list : Medl} {script : Script} {start : ClusterStart} (run : IsBackRun list script start) where
-  abbrev plan : Plan
+  abbrev plan : FaultPlan
   plan = back_plan_of list script start
 
   abbrev IsSound : ℕ → ℕ → Type 0
@@ -109,7 +109,7 @@ module _ {list : Medl} {script : Script} {start : ClusterStart} (run : IsBackRun
 
       by : Standing list script start slot k (fate_of (back_plan_of list script start) turn k)
           → is_sound_after (back_plan_of list script start) turn k ≡ true
-      by (Clear none is) = ap is_sound is
+      by (Clear none is) = ap is_sound_fate is
       by (LostSince since lost) =
           absurd (both_ways _ out (lost-in run turn slot (omega arith) within k since fate lost))
       by (ArmedSince arm armed) = elim (cases_lt (suc slot) (arm + four_rounds list)) [
@@ -117,7 +117,7 @@ module _ {list : Medl} {script : Script} {start : ClusterStart} (run : IsBackRun
             absurd (both_ways _ out (arm-stays run armed.is (suc slot) (omega (arith, armed.from))
             (omega (arith, soon, armed.from))))
         | inr over ↦
-            ap is_sound (armed.entered (omega (
+            ap is_sound_fate (armed.entered (omega (
               arith,
               over,
               armed.to,

@@ -2,7 +2,7 @@
 use Rattle.rejoin.proofs.Words.{◌≡◌, ◌≢◌, ℕ, zero, suc, ◌+◌, ◌-◌, ◌*◌, ◌<◌, ◌≤◌, Bool, true, false, cond, length, refl}
 use Rattle.rejoin.proofs.Words.{ap, sym, subst, ◌∙◌, inl, inr, arith, ◌==◌, Contains, and_parts, and_from, both_ways}
 use Rattle.rejoin.proofs.Words.{ne_eqb, eqb-true, eqb-false, false_from_ne_true, not_from_false, cases_lt, has_node}
-use Rattle.rejoin.proofs.Words.{Medl, Script, ClusterStart, expected_sender, two_rounds, is_on, Return, Plan}
+use Rattle.rejoin.proofs.Words.{Medl, Script, ClusterStart, expected_sender, two_rounds, is_on, Return, FaultPlan}
 use Rattle.rejoin.proofs.Words.{is_sound_after, is_good_slot, on-now, sender-less, sender-same, entry_slot}
 use Rattle.rejoin.proofs.Words.{back_plan_of}
 use Rattle.std.proofs.Common.{◌/◌, ◌%◌}
@@ -48,7 +48,7 @@ round-next : (list : Medl) (place : Place) (last : Bool) → (suc place.slot == 
 round-next list place true last = rw last
 round-next list place false inside = rw inside
 
-planned-round : (list : Medl) (plan : Plan) (slot : ℕ) → plan.nodes ≡ length list.slots → plan.starter < plan.nodes
+planned-round : (list : Medl) (plan : FaultPlan) (slot : ℕ) → plan.nodes ≡ length list.slots → plan.starter < plan.nodes
     → 0 < list.rounds → (planned_place list plan slot).round ≡ (plan.starter + slot) / length list.slots % list.rounds
 planned-round list plan zero same less rounds =
     let none : plan.starter + 0 ≡ plan.starter = omega arith in
@@ -78,7 +78,7 @@ planned-round list plan (suc slot) same less rounds =
     turn false = refl
 
 module _ {list : Medl} {script : Script} {start : ClusterStart} (run : IsBackRun list script start) where
-  abbrev plan : Plan
+  abbrev plan : FaultPlan
   plan = back_plan_of list script start
 
   turns : (turn : ℕ) → (start.slot + turn) - start.slot ≡ turn

@@ -6,7 +6,7 @@ use Rattle.ttp_world.specs.Legal.{IsLegal}
 use Rattle.ttp_world.specs.World.{Numbers, world}
 use Rattle.ttp_world.proofs.Worlds.{length-world}
 use Rattle.rejoin.proofs.ReturnsByPlan.{returned-by_plan}
-use Rattle.safety_laws.specs.PlannedRun.{IsBegun, StandsBack}
+use Rattle.safety_laws.specs.PlannedRun.{IsBegunAlone, StandsBack}
 use Rattle.safety_laws.specs.ByPlan.{IsByPlan}
 use Rattle.safety_laws.proofs.SafeBack.{safe-back}
 use Rattle.safety_laws.proofs.Together.{clocks-hold, run-by_plan}
@@ -17,7 +17,7 @@ module _ (list : Medl) (script : Script) (slot : ℕ) (valid : IsValid list) (sc
   pub by_plan : ReturnsByPlan list script slot
   by_plan = returned-by_plan list script slot valid script_valid kept
 
-  begun : slot < script.slots → IsBegun list script by_plan.start (back_plan_of list script by_plan.start)
+  begun : slot < script.slots → IsBegunAlone list script by_plan.start (back_plan_of list script by_plan.start)
   begun inside = record {
     planned = record {
       valid = valid;

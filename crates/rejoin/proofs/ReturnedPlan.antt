@@ -4,13 +4,13 @@ use Rattle.rejoin.proofs.Words.{◌++◌, length, Some, ◌⊎◌, refl, ap, sym
 use Rattle.rejoin.proofs.Words.{and_parts, and_from, or_left, or_right, both_ways, cases_lt, cases_eq, eq-eqb}
 use Rattle.rejoin.proofs.Words.{false_from_ne_true, not-true, has_node, Medl, Script, ClusterStart, FaultyNode}
 use Rattle.rejoin.proofs.Words.{numbers_of, start_of, four_rounds, slots_before, faulty_since, is_forgiven, is_armed}
-use Rattle.rejoin.proofs.Words.{is_on, fate_of, is_sound_after, lost_since, Plan, on-ever, made-was, incident_made}
+use Rattle.rejoin.proofs.Words.{is_on, fate_of, is_sound_after, lost_since, FaultPlan, on-ever, made-was, incident_made}
 use Rattle.rejoin.proofs.Words.{incident-slot, all_in, back_plan_of}
 use Rattle.ttp_world.specs.BackSafety.{is_armed_among}
 use Rattle.ttp_world.specs.Returning.{started_since}
 use Rattle.ttp_world.specs.Returning.{is_back_correct_after}
 use Rattle.ttp_world.proofs.Filters.{each-filter}
-use Rattle.fault_plan.specs.Fates.{is_sound}
+use Rattle.fault_plan.specs.Fates.{is_sound_fate}
 use Rattle.fault_plan.specs.Returned.{IsSoundAgain, IsPlanOfReturns}
 use Rattle.rejoin.proofs.Arms.{IsArmedIn, armed-in, arm-quiet, arm-only, arm-stays, armed-after}
 use Rattle.rejoin.proofs.Entries.{entry-of}
@@ -113,7 +113,7 @@ told-at list script start slot f told (suc later) from to =
 -- An arm line among slots.
 
 module _ {list : Medl} {script : Script} {start : ClusterStart} (run : IsBackRun list script start) where
-  abbrev plan : Plan
+  abbrev plan : FaultPlan
   plan = back_plan_of list script start
 
   -- A faulty node that was not armed since is lost since it became faulty.
@@ -202,7 +202,7 @@ module _ {list : Medl} {script : Script} {start : ClusterStart} (run : IsBackRun
           ] in
           let entry = entry-of armed.is in
           let to = entry.to in
-          ap is_sound (armed.entered (omega (arith, to, same, due, count)))
+          ap is_sound_fate (armed.entered (omega (arith, to, same, due, count)))
 
   abbrev IsLost : ℕ → FaultyNode → Type 0
   IsLost turn f =

@@ -7,7 +7,7 @@ use Rattle.rejoin.proofs.Words.{Fate, Absent, Sound, Listening, fate_of, fate_at
 use Rattle.rejoin.proofs.Words.{lost_since, strikes, sound-fate, IsClear, made-was, strikes-slot, entry_slot}
 use Rattle.rejoin.proofs.Words.{back_plan_of}
 use Rattle.std.proofs.lemmas.Bool.{true_from_ne_false}
-use Rattle.fault_plan.specs.Fates.{is_sound}
+use Rattle.fault_plan.specs.Fates.{is_sound_fate}
 use Rattle.fault_plan.specs.Fates.{turned}
 use Rattle.fault_plan.proofs.FateSteps.{next-same, struck-missed}
 use Rattle.fault_plan.proofs.Hearing.{clear-after}
@@ -25,8 +25,8 @@ turned-absent : (own : Bool) (slot : ℕ) → turned own slot Absent ≡ Absent
 turned-absent true slot = refl
 turned-absent false slot = refl
 
-sound-present : (fate : Fate) → is_sound fate ≡ true → fate ≢ Absent
-sound-present fate sound absent = both_ways _ (ap is_sound absent) sound
+sound-present : (fate : Fate) → is_sound_fate fate ≡ true → fate ≢ Absent
+sound-present fate sound absent = both_ways _ (ap is_sound_fate absent) sound
 
 -- a node is armed less than four rounds ago
 pub record IsNearArm (list : Medl) (script : Script) (start : ClusterStart) (slot k : ℕ) : Type 0 where
@@ -43,8 +43,8 @@ pub data Soundly (list : Medl) (script : Script) (start : ClusterStart) (slot k 
 since-not : (fate : Fate) (since : ℕ) → lost_since fate ≡ Some since → fate ≡ Sound → ⊥
 since-not fate since is sound = none-some _ (ap lost_since (sym sound) ∙ is)
 
-listens-unsound : (fate : Fate) (since : ℕ) → fate ≡ Listening since → is_sound fate ≡ true → ⊥
-listens-unsound fate since is sound = both_ways _ (ap is_sound is) sound
+listens-unsound : (fate : Fate) (since : ℕ) → fate ≡ Listening since → is_sound_fate fate ≡ true → ⊥
+listens-unsound fate since is sound = both_ways _ (ap is_sound_fate is) sound
 
 lost-listens : (fate : Fate) (since from : ℕ) → lost_since fate ≡ Some since → fate ≡ Listening from → ⊥
 lost-listens fate since from is listens = none-some _ (ap lost_since (sym listens) ∙ is)

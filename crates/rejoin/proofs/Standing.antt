@@ -5,13 +5,13 @@ use Rattle.rejoin.proofs.Words.{AllByRecursion, list_any, filter, Contains, and_
 use Rattle.rejoin.proofs.Words.{or_left, or_right, both_ways, cases_lt, cases_eq, false_from_ne_true, eqb-true}
 use Rattle.rejoin.proofs.Words.{not_from_false, leb-true, has_node, has_node-sieve, Medl, Script, ClusterStart}
 use Rattle.rejoin.proofs.Words.{FaultyNode, numbers_of, two_rounds, four_rounds, slots_before, faulty_at, faulty_since}
-use Rattle.rejoin.proofs.Words.{is_forgiven, is_armed, is_ever_on, Return, Plan, incident_at, is_armed_by}
+use Rattle.rejoin.proofs.Words.{is_forgiven, is_armed, is_ever_on, Return, FaultPlan, incident_at, is_armed_by}
 use Rattle.rejoin.proofs.Words.{is_armed_there, enters, Fate, Absent, Sound, Listening, fate_of, fate_at_begin}
 use Rattle.rejoin.proofs.Words.{next_fate, lost_since, is_sound_after, strikes, sound-fate, incident_made}
 use Rattle.rejoin.proofs.Words.{incident-slot, strikes-slot, any-of, all_in, made-was, entry_slot, back_plan_of}
 use Rattle.std.proofs.lemmas.Bool.{and_left}
 use Rattle.fault_plan.specs.Plan.{enters_there}
-use Rattle.fault_plan.specs.Fates.{is_sound}
+use Rattle.fault_plan.specs.Fates.{is_sound_fate}
 use Rattle.fault_plan.proofs.FateSteps.{sound-next, since-kept, since-now, next-entered}
 use Rattle.fault_plan.proofs.FateSteps.{next-armed, next-listening}
 use Rattle.fault_plan.proofs.Incidents.{made-early}
@@ -224,7 +224,7 @@ module _ {list : Medl} {script : Script} {start : ClusterStart} (run : IsBackRun
     out-next k fate out sound none =
         by (has_node (made list script start (suc slot)) k) refl
       where
-        plan : Plan
+        plan : FaultPlan
         plan = back_plan_of list script start
 
         unarmed : is_armed script k (suc slot) ≡ false
@@ -255,7 +255,7 @@ module _ {list : Medl} {script : Script} {start : ClusterStart} (run : IsBackRun
         by false missed =
             Clear (after-has list script start (suc slot) k ∙ or_from _ _ missed
             out) (sound-fate (next_fate plan (suc turn) k fate) (sound-next plan (suc turn) k fate quiet none
-            ∙ and_from _ _ (ap is_sound sound) (not_from_false _ (strikes-is ∙ missed))))
+            ∙ and_from _ _ (ap is_sound_fate sound) (not_from_false _ (strikes-is ∙ missed))))
 
     clear-next : (k : ℕ) (fate : Fate) → has_node (after list script start slot) k ≡ false → fate ≡ Sound
         → Standing list script start (suc slot) k (next_fate (back_plan_of list script start) (suc turn) k fate)
@@ -349,7 +349,7 @@ module _ {list : Medl} {script : Script} {start : ClusterStart} (run : IsBackRun
               (omega (arith, there, (entry-of is).from)));
         })
       where
-        plan : Plan
+        plan : FaultPlan
         plan = back_plan_of list script start
 
         turns : suc turn ≡ suc slot - start.slot
@@ -360,7 +360,7 @@ module _ {list : Medl} {script : Script} {start : ClusterStart} (run : IsBackRun
     lost-next k since fate lost =
         by (is_armed script k (suc slot)) refl
       where
-        plan : Plan
+        plan : FaultPlan
         plan = back_plan_of list script start
 
         stays : has_node (at list script start (suc slot)) k ≡ true
@@ -455,7 +455,7 @@ module _ {list : Medl} {script : Script} {start : ClusterStart} (run : IsBackRun
                   (sound-next (back_plan_of list script start) (suc turn) k fate quiet
                   (false_from_ne_true _ (λ enter.
                   before (entry-same k arm is armed.from armed.to unarmed enter)))
-                  ∙ and_from _ _ (ap is_sound sound) (ap (λ found. not (strikes found k)) none))
+                  ∙ and_from _ _ (ap is_sound_fate sound) (ap (λ found. not (strikes found k)) none))
             ];
           })
     ]
@@ -481,7 +481,7 @@ module _ {list : Medl} {script : Script} {start : ClusterStart} (run : IsBackRun
       (not_from_false _ (strikes-slot run.course 0 start.slot k (omega arith) within
       ∙ ap (λ ks. has_node ks k) (made-early run.course start.slot within (omega (arith, some)))))))
     where
-      begins : (b : Bool) → b ≡ true → is_sound (cond b Sound Absent) ≡ true
+      begins : (b : Bool) → b ≡ true → is_sound_fate (cond b Sound Absent) ≡ true
       begins true is = refl
       begins false is = is
 
@@ -516,6 +516,6 @@ module _ {list : Medl} {script : Script} {start : ClusterStart} (run : IsBackRun
     where
       by : Standing list script start slot k (fate_of (back_plan_of list script start) turn k)
           → is_sound_after (back_plan_of list script start) turn k ≡ true
-      by (Clear out sound) = ap is_sound sound
+      by (Clear out sound) = ap is_sound_fate sound
       by (LostSince since lost) = absurd (both_ways _ none lost.has)
       by (ArmedSince arm armed) = absurd (both_ways _ none (armed-after run armed.is slot armed.from armed.to))

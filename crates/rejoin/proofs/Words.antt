@@ -9,7 +9,8 @@ pub use Rattle.fault_plan.proofs.Spaced.{all_in}
 pub use Rattle.fault_plan.specs.Fates.{Absent, Fate, Listening, Sound, fate_at_begin, fate_of, is_good_slot}
 pub use Rattle.fault_plan.specs.Fates.{is_sound_after, lost_since, next_fate}
 pub use Rattle.fault_plan.specs.Kept.{IsWithinBounds}
-pub use Rattle.fault_plan.specs.Plan.{Incident, Plan, Return, enters, incident_at, is_armed_by, is_armed_there, sender}
+pub use Rattle.fault_plan.specs.Plan.{Incident, FaultPlan, Return, enters, incident_at, is_armed_by, is_armed_there}
+pub use Rattle.fault_plan.specs.Plan.{sender}
 pub use Rattle.rejoin.specs.BackPlan.{ReturnsByPlan, back_plan_of, entry_slot}
 pub use Rattle.std.proofs.Common.{Bool, List, None, Option, Some, [], ap, arith, cond, false, inl, inr, length, not}
 pub use Rattle.std.proofs.Common.{refl, subst, suc, sym, true, zero, ℕ, ℤ, ◌&&◌, ◌*◌, ◌++◌, ◌+◌, ◌-◌, ◌<◌, ◌||◌, ◌∙◌}

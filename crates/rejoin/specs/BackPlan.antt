@@ -11,7 +11,7 @@ use Rattle.ttp_world.specs.Medl.{plan_at}
 use Rattle.ttp_world.specs.Returning.{joinings, slots_before, two_rounds, run_slots, offers_place}
 use Rattle.ttp_world.specs.Script.{is_ever_on, is_on, is_armed}
 use Rattle.ttp_world.specs.Starts.{StartsAlone}
-use Rattle.fault_plan.specs.Plan.{Return, Plan, is_armed_by, planned_incident}
+use Rattle.fault_plan.specs.Plan.{Return, FaultPlan, is_armed_by, planned_incident}
 use Rattle.fault_plan.specs.Kept.{FollowsWithin}
 use Rattle.fault_plan.specs.Returned.{IsPlanOfReturns}
 
@@ -32,7 +32,7 @@ return_of list script start (event.Arm node slot) = Some (record {
 return_of list script start _ = None
 
 -- each time that a node becomes faulty is an incident, and each arm line a return
-abbrev pub back_plan_of : Medl → Script → ClusterStart → Plan
+abbrev pub back_plan_of : Medl → Script → ClusterStart → FaultPlan
 back_plan_of list script start = record {
   nodes = length list.slots;
   starter = start.node;

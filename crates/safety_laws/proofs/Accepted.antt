@@ -4,8 +4,8 @@ use Rattle.safety_laws.proofs.Words.{length, refl, ap, sym, subst, ◌∙◌, in
 use Rattle.safety_laws.proofs.Words.{false≢true, Medl, Entry, Script, History, entry_of, diary_of, continues_stint}
 use Rattle.safety_laws.proofs.Words.{place_of, ClusterStart, IsLegal, delivered_of, new_messages, SlotNumbers, Numbers}
 use Rattle.safety_laws.proofs.Words.{slot_after, messages_chosen, row_in, world, node_past, legal-older, row_of_world}
-use Rattle.safety_laws.proofs.Words.{length-world, IsIn, Plan, sender, enters, is_sound_after, is_good_slot, Fate}
-use Rattle.safety_laws.proofs.Words.{IsSoundIn, StartedByPlan, NotesNothing, NotedInSlot, IsBegun, IsTurn}
+use Rattle.safety_laws.proofs.Words.{length-world, IsIn, FaultPlan, sender, enters, is_sound_after, is_good_slot, Fate}
+use Rattle.safety_laws.proofs.Words.{IsSoundIn, StartedByPlan, NotesNothing, NotedInSlot, IsBegunAlone, IsTurn}
 use Rattle.safety_laws.proofs.Words.{message_given, AcceptsAlikeSince, StandsAlikeSince, planned_place, none-enters}
 use Rattle.safety_laws.proofs.Words.{IsSoundAt, IsByFate, IsByPlan, sound-fate}
 use Rattle.std.proofs.Math.Bool.{and-false, and-true}
@@ -22,7 +22,7 @@ use Rattle.precision.proofs.Frames.{told_goes as tells-on}
 use Rattle.safety_laws.proofs.RoundNotes.{goes-silent as nothing-on}
 
 -- By the plan the frame of node p is accepted in a slot.
-abbrev is_accepted_by : Plan → ℕ → ℕ → Bool
+abbrev is_accepted_by : FaultPlan → ℕ → ℕ → Bool
 is_accepted_by plan slot p = is_good_slot plan slot && (sender plan slot == p)
 
 -- One entry.
@@ -42,7 +42,7 @@ silent-gives list script slot k _ silent = refl
 
 -- In a turn.
 
-module _ {list : Medl} {script : Script} {start : ClusterStart} {plan : Plan} {turn : ℕ} {new : SlotNumbers}
+module _ {list : Medl} {script : Script} {start : ClusterStart} {plan : FaultPlan} {turn : ℕ} {new : SlotNumbers}
     {numbers : Numbers} (t : IsTurn list script start plan turn new numbers) (stay : plan.returns ≡ []) where
   made : List Entry
   made =
@@ -142,7 +142,7 @@ record BeginsQuietly (e : Entry) : Type 0 where
   silent : sends_frame e ≡ false
   unjudged : is_judgement e ≡ false
 
-begins-quietly : (list : Medl) (script : Script) (start : ClusterStart) (plan : Plan) (row : List Entry)
+begins-quietly : (list : Medl) (script : Script) (start : ClusterStart) (plan : FaultPlan) (row : List Entry)
     (history : History) (k : ℕ) → StartedByPlan list script start plan row history → IsSoundIn list plan 0 k
     → BeginsQuietly (entry_of row k)
 begins-quietly list script start plan row history k started sound = elim (cases_eq k start.node) [
@@ -154,7 +154,7 @@ begins-quietly list script start plan row history k started sound = elim (cases_
       record { accepts_none = λ p. ap (accepts p) is; silent = ap sends_frame is; unjudged = ap is_judgement is }
 ]
 
-alike-started : (list : Medl) (script : Script) (start : ClusterStart) (plan : Plan) (row : List Entry)
+alike-started : (list : Medl) (script : Script) (start : ClusterStart) (plan : FaultPlan) (row : List Entry)
     (history : History) → StartedByPlan list script start plan row history
     → AcceptsAlike list script (is_sound_after plan 0) row history
 alike-started list script start plan row history started = record {
@@ -197,8 +197,9 @@ none-since list script group s (row ∷ history) early =
     ((λ from. absurd (omega (arith, from, early))), none-since list script group s history (omega (arith, early)))
 
 -- The run.
-module _ {list : Medl} {script : Script} {start : ClusterStart} {plan : Plan}
-    (is : IsBegun list script start plan) (clocks : KeepsClocks list script start plan) (stay : plan.returns ≡ []) where
+module _ {list : Medl} {script : Script} {start : ClusterStart} {plan : FaultPlan}
+    (is : IsBegunAlone list script start plan) (clocks : KeepsClocks list script start plan)
+    (stay : plan.returns ≡ []) where
   pub alike-run : (group : ℕ → Bool) (turn : ℕ) (numbers : Numbers) → IsAmong list group (is_sound_after plan turn)
       → length numbers ≡ suc (start.slot + turn) → start.slot + turn < script.slots → IsLegal list script numbers
       → AcceptsAlikeSince list script group start.slot (world list script numbers)
@@ -226,7 +227,7 @@ module _ {list : Medl} {script : Script} {start : ClusterStart} {plan : Plan}
 
 -- One entry.
 
-begun-zero : (list : Medl) (script : Script) (start : ClusterStart) (plan : Plan) (row : List Entry)
+begun-zero : (list : Medl) (script : Script) (start : ClusterStart) (plan : FaultPlan) (row : List Entry)
     (history : History) (k : ℕ) → StartedByPlan list script start plan row history → IsSoundIn list plan 0 k
     → begins_at_zero (entry_of row k) ≡ true
 begun-zero list script start plan row history k started sound = elim (cases_eq k start.node) [
@@ -234,7 +235,7 @@ begun-zero list script start plan row history k started sound = elim (cases_eq k
   | inr other ↦ ap begins_at_zero (started.joins k sound other)
 ]
 
-noted-on : (list : Medl) (script : Script) (plan : Plan) (slot : ℕ) (row : List Entry) (history : History) (k : ℕ)
+noted-on : (list : Medl) (script : Script) (plan : FaultPlan) (slot : ℕ) (row : List Entry) (history : History) (k : ℕ)
     → NotedInSlot list script plan slot row history → IsSoundIn list plan slot k → enters plan slot k ≡ false
     → continues_stint (entry_of row k) ≡ true
 noted-on list script plan slot row history k noted sound none = by (is_good_slot plan slot) refl
@@ -245,7 +246,7 @@ noted-on list script plan slot row history k noted sound none = by (is_good_slot
 
 -- Places.
 
-by_plan-place : (list : Medl) (script : Script) (start : ClusterStart) (plan : Plan) (turn : ℕ) (history : History)
+by_plan-place : (list : Medl) (script : Script) (start : ClusterStart) (plan : FaultPlan) (turn : ℕ) (history : History)
     (k : ℕ) → IsByPlan list script start plan turn history → IsSoundIn list plan turn k
     → place_of list k (diary_of history k) ≡ planned_place list plan turn
 by_plan-place list script start plan turn history k is sound =
@@ -262,8 +263,9 @@ none-before list group s (row ∷ history) early =
     ((λ from. absurd (omega (arith, from, early))), none-before list group s history (omega (arith, early)))
 
 -- The run.
-module _ {list : Medl} {script : Script} {start : ClusterStart} {plan : Plan}
-    (is : IsBegun list script start plan) (clocks : KeepsClocks list script start plan) (stay : plan.returns ≡ []) where
+module _ {list : Medl} {script : Script} {start : ClusterStart} {plan : FaultPlan}
+    (is : IsBegunAlone list script start plan) (clocks : KeepsClocks list script start plan)
+    (stay : plan.returns ≡ []) where
   pub stands-run : (group : ℕ → Bool) (turn : ℕ) (numbers : Numbers) → IsAmong list group (is_sound_after plan turn)
       → length numbers ≡ suc (start.slot + turn) → start.slot + turn < script.slots → IsLegal list script numbers
       → StandsAlikeSince list group start.slot (world list script numbers)

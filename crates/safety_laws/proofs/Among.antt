@@ -4,8 +4,8 @@ use Rattle.safety_laws.proofs.Words.{◌∷◌, length, Some, refl, ap, sym, sub
 use Rattle.safety_laws.proofs.Words.{list_all, false≢true, not_from_false, and_from, same_Some, bytes_eq-Decides}
 use Rattle.safety_laws.proofs.Words.{most_nodes, has_node, Medl, Ack, Phase, Script, is_doubt, History, ClusterStart}
 use Rattle.safety_laws.proofs.Words.{is_left_phase, newest_slot, is_settled, has_left, are_same_members, is_in_among}
-use Rattle.safety_laws.proofs.Words.{is_out_among, node_past, nodes-most, Change, Sending, Plan, Fate, Absent, Sound}
-use Rattle.safety_laws.proofs.Words.{Falling, Fallen, Listening, fate_of, is_sound_after, lost_since, IsGoodPlan}
+use Rattle.safety_laws.proofs.Words.{is_out_among, node_past, nodes-most, Change, Sending, FaultPlan, Fate, Absent}
+use Rattle.safety_laws.proofs.Words.{Sound, Falling, Fallen, Listening, fate_of, is_sound_after, lost_since, IsGoodPlan}
 use Rattle.safety_laws.proofs.Words.{planned_members, ledger_of, ledger-told, fallen-member, held_with, IsSoundAt}
 use Rattle.safety_laws.proofs.Words.{IsFallenAt, IsByFate, sound-fate}
 use Rattle.ttp_world.specs.declared.node.Ack.TheVariants as ack
@@ -13,7 +13,7 @@ use Rattle.ttp_world.specs.declared.node.Phase.TheVariants as phase
 use Rattle.ttp_world.specs.Safety.{members_of_node, agree_among}
 use Rattle.fault_plan.proofs.FateTells.{loss-node}
 use Rattle.fault_plan.proofs.Members.{sound-member}
-use Rattle.safety_laws.specs.PlannedRun.{StandsAt}
+use Rattle.safety_laws.specs.PlannedRun.{StandsAtTurn}
 use Rattle.safety_laws.proofs.GroupSets.{has_node-with_member, has_node-with_other}
 use Rattle.safety_laws.proofs.PlanSteps.{told-falling, told-fallen}
 
@@ -51,8 +51,8 @@ pub not-settled : (b : Bool) → not b ≡ true → b ≡ false
 not-settled true is = absurd (false≢true is)
 not-settled false is = refl
 
-module _ {list : Medl} {script : Script} {start : ClusterStart} {plan : Plan} {turn : ℕ} {history : History}
-    (is : StandsAt list script start plan turn history) where
+module _ {list : Medl} {script : Script} {start : ClusterStart} {plan : FaultPlan} {turn : ℕ} {history : History}
+    (is : StandsAtTurn list script start plan turn history) where
   good : IsGoodPlan plan
   good = is.planned.follows.good
 

@@ -2,9 +2,9 @@
 use Rattle.safety_laws.proofs.Words.{◌≡◌, ℕ, suc, ◌<◌, true, false, List, [], length, refl, ap, sym, subst, ◌∙◌, ◌⊎◌}
 use Rattle.safety_laws.proofs.Words.{inl, inr, arith, with_node, Medl, Script, next_place, ClusterStart, loses}
 use Rattle.safety_laws.proofs.Words.{is_within_window, SlotNumbers, Numbers, node_past, slot_after, deviation_in, world}
-use Rattle.safety_laws.proofs.Words.{Change, Plan, sender, is_armed_by, Fate, Absent, Sound, Falling, Fallen, Listening}
-use Rattle.safety_laws.proofs.Words.{fate_of, is_lost, planned_members, planned_place, held_with, frames_made}
-use Rattle.safety_laws.proofs.Words.{next_past, HearsMembers, IsByFate, IsFallingAt, IsFallenAt, IsTurn}
+use Rattle.safety_laws.proofs.Words.{Change, FaultPlan, sender, is_armed_by, Fate, Absent, Sound, Falling, Fallen}
+use Rattle.safety_laws.proofs.Words.{Listening, fate_of, is_lost, planned_members, planned_place, held_with}
+use Rattle.safety_laws.proofs.Words.{frames_made, next_past, HearsMembers, IsByFate, IsFallingAt, IsFallenAt, IsTurn}
 use Rattle.ttp_world.specs.declared.node.Phase.TheVariants as phase
 use Rattle.safety_laws.proofs.Idle.{idle-off, idle-left}
 use Rattle.safety_laws.proofs.Listening.{frames_made-listening}
@@ -14,7 +14,7 @@ use Rattle.safety_laws.proofs.PlanTurns.{slot_of, e-node, has-turn, absent-off, 
 use Rattle.safety_laws.proofs.PlanTurns.{good_plan, listens-still, silent-left, none-sends, sends-alone}
 use Rattle.safety_laws.proofs.PlanSteps.{told-falling}
 
-module _ {list : Medl} {script : Script} {start : ClusterStart} {plan : Plan} {turn : ℕ} {new : SlotNumbers}
+module _ {list : Medl} {script : Script} {start : ClusterStart} {plan : FaultPlan} {turn : ℕ} {new : SlotNumbers}
     {numbers : Numbers} (t : IsTurn list script start plan turn new numbers) where
   -- what a node is before the turn
   pub at-fate : (k : ℕ) (fate : Fate) → k < length list.slots → fate_of plan turn k ≡ fate

@@ -2,7 +2,7 @@
 use Rattle.safety_laws.proofs.Words.{◌≡◌, ◌≢◌, ℕ, zero, suc, ◌+◌, ℤ, List, [], ◌∷◌, length, inl, inr, refl, ap, sym}
 use Rattle.safety_laws.proofs.Words.{subst, ◌∙◌, arith, cases_eq, Medl, Entry, Script, cold_start_cstate, History}
 use Rattle.safety_laws.proofs.Words.{entry_of, diary_of, start_place, stint_place, ClusterStart, BeginsOn}
-use Rattle.safety_laws.proofs.Words.{BeganTogether, measured, Plan, is_sound_after, FollowsPlan, StartedByPlan}
+use Rattle.safety_laws.proofs.Words.{BeganTogether, measured, FaultPlan, is_sound_after, FollowsPlan, StartedByPlan}
 use Rattle.safety_laws.proofs.Words.{NotedByPlan}
 use Rattle.ttp_world.specs.declared.node.Entry.TheVariants as entry
 use Rattle.safety_laws.proofs.RoundNotes.{Counted, counted-start, counted-next}
@@ -18,7 +18,8 @@ begins-with list script history p k e starts joins = elim (cases_eq k p) [
   | inr other ↦ subst (BeginsOn list script history p (start_place p) k) (sym (joins other)) (refl, refl)
 ]
 
-pub began : (list : Medl) (script : Script) (start : ClusterStart) (plan : Plan) (row : List Entry) (history : History)
+pub began : (list : Medl) (script : Script) (start : ClusterStart) (plan : FaultPlan) (row : List Entry)
+    (history : History)
     → FollowsPlan list script start plan → StartedByPlan list script start plan row history
     → BeganTogether list script (is_sound_after plan 0) row history
 began list script start plan row history follows started = record {
@@ -36,7 +37,7 @@ begun-place list p k deviation diary e starts joins = elim (cases_eq k p) [
   | inr other ↦ ap (λ f. stint_place list k (f ∷ diary)) (joins other)
 ]
 
-counted-begun : (list : Medl) (script : Script) (start : ClusterStart) (plan : Plan) (row : List Entry)
+counted-begun : (list : Medl) (script : Script) (start : ClusterStart) (plan : FaultPlan) (row : List Entry)
     (history : History) → FollowsPlan list script start plan → StartedByPlan list script start plan row history
     → Counted list plan 0 (row ∷ history)
 counted-begun list script start plan row history follows started =
@@ -48,14 +49,15 @@ counted-begun list script start plan row history follows started =
 -- The run.
 
 -- how many slots were before the newest one
-pub number-of : (list : Medl) (script : Script) (start : ClusterStart) (plan : Plan) (slot : ℕ) (history : History)
+pub number-of : (list : Medl) (script : Script) (start : ClusterStart) (plan : FaultPlan) (slot : ℕ) (history : History)
     → NotedByPlan list script start plan slot history → length history ≡ suc (start.slot + slot)
 number-of list script start plan slot [] noted = absurd noted
 number-of list script start plan zero (row ∷ history) noted = omega (arith, noted.number)
 number-of list script start plan (suc slot) (row ∷ history) noted =
     omega (arith, number-of list script start plan slot history noted.0)
 
-pub counted-run : (list : Medl) (script : Script) (start : ClusterStart) (plan : Plan) (slot : ℕ) (history : History)
+pub counted-run : (list : Medl) (script : Script) (start : ClusterStart) (plan : FaultPlan) (slot : ℕ)
+    (history : History)
     → FollowsPlan list script start plan → NotedByPlan list script start plan slot history
     → Counted list plan slot history
 counted-run list script start plan slot [] follows noted = absurd noted

@@ -7,10 +7,11 @@ use Rattle.safety_laws.proofs.Words.{has_sent_in_stint, has_left_since_arm, is_l
 use Rattle.safety_laws.proofs.Words.{diary_of, is_active, begins_stint, start_place, History, ClusterStart, is_sending}
 use Rattle.safety_laws.proofs.Words.{is_left_phase, NodePast, has_ever_sent, is_on, is_armed, SlotNumbers, Numbers}
 use Rattle.safety_laws.proofs.Words.{node_past, slot_after, messages_chosen, row_in, world, deviation_in, length-world}
-use Rattle.safety_laws.proofs.Words.{Plan, sender, Fate, Absent, Sound, Listening, fate_of, is_sound_after, is_absent}
-use Rattle.safety_laws.proofs.Words.{opened, ledger_of, absent-always, HoldsGroup, IsStartHeard, starter_standing}
-use Rattle.safety_laws.proofs.Words.{joined_on_start, StandsBy, joined_standing, doubts, is_there, IsCounted, IsSoundAt}
-use Rattle.safety_laws.proofs.Words.{IsByFate, IsBegun, HoldsAfter, sound-fate, list_any, range_with_len, same_Some}
+use Rattle.safety_laws.proofs.Words.{FaultPlan, sender, Fate, Absent, Sound, Listening, fate_of, is_sound_after}
+use Rattle.safety_laws.proofs.Words.{is_absent, opened, ledger_of, absent-always, HoldsGroup, IsStartHeard}
+use Rattle.safety_laws.proofs.Words.{starter_standing, joined_on_start, StandsBy, joined_standing, doubts, is_there}
+use Rattle.safety_laws.proofs.Words.{IsCounted, IsSoundAt, IsByFate, IsBegunAlone, HoldsAfter, sound-fate, list_any}
+use Rattle.safety_laws.proofs.Words.{range_with_len, same_Some}
 use Rattle.std.proofs.Common.{take}
 use Rattle.std.specs.Prelude.{reverse, find}
 use Rattle.ttp_world.specs.declared.node.Ack.TheVariants as ack
@@ -162,8 +163,8 @@ no-doubt : (a : Ack) (y : ℕ) → (a ≡ ack.First) ⊎ (a ≡ ack.Closed) → 
 no-doubt a y (inl first) doubt = cc
 no-doubt a y (inr closed) doubt = cc
 
-module _ {list : Medl} {script : Script} {start : ClusterStart} {plan : Plan}
-    (is : IsBegun list script start plan)
+module _ {list : Medl} {script : Script} {start : ClusterStart} {plan : FaultPlan}
+    (is : IsBegunAlone list script start plan)
   where
     start-heard : IsStartHeard list script start
     start-heard = record {

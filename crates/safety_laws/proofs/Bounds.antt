@@ -2,12 +2,12 @@
 use Rattle.safety_laws.proofs.Words.{◌≡◌, ℕ, zero, suc, ◌+◌, ◌<◌, ℤ, neg_ℤ, ◌-ℤ◌, ◌≤ℤ◌, Bool, true, false, ◌&&◌, length}
 use Rattle.safety_laws.proofs.Words.{inl, inr, refl, ap, sym, ◌∙◌, arith, int_le, and_parts, and_from, both_ways}
 use Rattle.safety_laws.proofs.Words.{false≢true, ints, Medl, Script, History, next_place, Place, ClusterStart, needed}
-use Rattle.safety_laws.proofs.Words.{is_within_window, spread, clock_at, measured, IsUpTo, Plan, sender, enters}
-use Rattle.safety_laws.proofs.Words.{fate_of, is_sound_after, sound-from, none-enters, NoneEnters, IsNewest, IsSoundIn}
-use Rattle.safety_laws.proofs.Words.{GoesOnByPlan, IsTight}
+use Rattle.safety_laws.proofs.Words.{is_within_window, spread, clock_at, measured, IsUpTo, FaultPlan, sender, enters}
+use Rattle.safety_laws.proofs.Words.{fate_of, is_sound_after, sound-from, none-enters, NoneEnters, IsNewestEntry}
+use Rattle.safety_laws.proofs.Words.{IsSoundIn, GoesOnByPlan, IsTight}
 use Rattle.ttp_world.specs.Returning.{needed_back}
 use Rattle.precision.specs.Spread.{spread_rejoining, needed_rejoining}
-use Rattle.precision.specs.Company.{IsCompanyRun, IsSettled, slots_over, HoldsCompanyClocksWithin}
+use Rattle.precision.specs.Company.{IsCompanyRun, IsCompanySettled, slots_over, HoldsCompanyClocksWithin}
 use Rattle.precision.specs.Company.{HoldsSettledClocksWithin, HoldsCompanyDeviationsWithin}
 use Rattle.precision.specs.Company.{HoldsSettledDeviationsWithin}
 use Rattle.precision.proofs.Limits.{needed_window}
@@ -19,20 +19,20 @@ use Rattle.safety_laws.proofs.BeganTogether.{number-of, counted-run}
 use Rattle.fta_sync.proofs.Sorted.{le_trans as no-more}
 
 -- a node that is sound before the coming slot and after it
-abbrev stays_sound : Plan → ℕ → ℕ → Bool
+abbrev stays_sound : FaultPlan → ℕ → ℕ → Bool
 stays_sound plan slot k = is_sound_after plan slot k && is_sound_after plan (suc slot) k
 
 in-window : (w b z : ℤ) → b ≤ℤ w → IsUpTo b z → (int_le (neg_ℤ w) z && int_le z w) ≡ true
 in-window w b z wide near = grind (arith, ints, near.0, near.1)
 
-module _ {list : Medl} {script : Script} {start : ClusterStart} {plan : Plan} {slot : ℕ} {history : History}
+module _ {list : Medl} {script : Script} {start : ClusterStart} {plan : FaultPlan} {slot : ℕ} {history : History}
     (is : GoesOnByPlan list script start plan slot history) where
   number : length history ≡ suc (start.slot + slot)
   number = number-of list script start plan slot history is.noted
 
   -- those run as a company up to its beginning; where none may come, none entered
   company-run : (may_grow : Bool) → (may_grow ≡ false → NoneEnters plan slot)
-      → (newest : ℕ) × (IsNewest plan slot newest
+      → (newest : ℕ) × (IsNewestEntry plan slot newest
       × IsCompanyRun list script may_grow (stays_sound plan slot) (start.slot + newest) history)
   company-run may_grow stay =
       let less : length history < script.slots = omega (arith, is.within, number) in
@@ -52,7 +52,7 @@ module _ {list : Medl} {script : Script} {start : ClusterStart} {plan : Plan} {s
         ),
       )
 
-  any-run : (newest : ℕ) × (IsNewest plan slot newest
+  any-run : (newest : ℕ) × (IsNewestEntry plan slot newest
       × IsCompanyRun list script true (stays_sound plan slot) (start.slot + newest) history)
   any-run = company-run true (λ fixed. absurd (false≢true (sym fixed)))
 
@@ -66,7 +66,7 @@ module _ {list : Medl} {script : Script} {start : ClusterStart} {plan : Plan} {s
 
   -- the newest entry was by a return more than a round before the coming slot's round
   settled-in : (newest : ℕ) → newest + plan.nodes + sender plan (suc slot) < suc slot
-      → IsSettled list true (stays_sound plan slot) (start.slot + newest) history
+      → IsCompanySettled list true (stays_sound plan slot) (start.slot + newest) history
   settled-in newest late =
       inr (inr (λ k p.
       let sound = (and_parts (is_sound_after plan slot k) (is_sound_after plan (suc slot) k) p.1).0 in
@@ -96,7 +96,7 @@ module _ {list : Medl} {script : Script} {start : ClusterStart} {plan : Plan} {s
   module _ (tight : IsTight plan (suc slot)) where
     settled-run : (may_grow : Bool) × ((newest : ℕ)
         × (IsCompanyRun list script may_grow (stays_sound plan slot) newest history
-        × IsSettled list may_grow (stays_sound plan slot) newest history))
+        × IsCompanySettled list may_grow (stays_sound plan slot) newest history))
     settled-run = elim any-run.1.0.by [
       | inl first ↦
           let fixed = company-run false (λ no turn k upto. none any-run.0 any-run.1.0 first turn k upto) in
@@ -113,7 +113,7 @@ module _ {list : Medl} {script : Script} {start : ClusterStart} {plan : Plan} {s
       )
     ]
       where
-        none : (newest : ℕ) → IsNewest plan slot newest → newest ≡ 0 → NoneEnters plan slot
+        none : (newest : ℕ) → IsNewestEntry plan slot newest → newest ≡ 0 → NoneEnters plan slot
         none newest entry first zero k upto = enters-late plan k is.follows.planned.good
         none newest entry first (suc turn) k upto = entry.none (suc turn) k (omega (arith, first)) upto
 

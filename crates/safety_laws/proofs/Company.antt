@@ -3,11 +3,11 @@ use Rattle.safety_laws.proofs.Words.{◌≡◌, ℕ, zero, suc, ◌+◌, ◌-◌
 use Rattle.safety_laws.proofs.Words.{length, ◌⊎◌, inl, inr, pos, refl, ap, sym, subst, ◌∙◌, arith, ◌==◌, IsTrue}
 use Rattle.safety_laws.proofs.Words.{list_any, eqb-true, eq-eqb, both_ways, false_from_ne_true, Medl, Entry, Script}
 use Rattle.safety_laws.proofs.Words.{stint_notes, History, entry_of, diary_of, next_place, place_of, ClusterStart}
-use Rattle.safety_laws.proofs.Words.{jump_of, BeginsOn, IsIn, BeganTogether, continued_active, Return, Plan, sender}
-use Rattle.safety_laws.proofs.Words.{is_armed_by, enters, is_sound, fate_of, is_sound_after, is_good_slot, is_measured}
-use Rattle.safety_laws.proofs.Words.{tally, IsGoodPlan, FollowsPlan, planned_place, four-measured, sound-from}
-use Rattle.safety_laws.proofs.Words.{enters-by, entry-is, entry-good, entry-from, armed-lost, sender-stays, NoneEnters}
-use Rattle.safety_laws.proofs.Words.{IsNewest, IsSoundIn, NotedInSlot, NotedByPlan}
+use Rattle.safety_laws.proofs.Words.{jump_of, BeginsOn, IsIn, BeganTogether, continued_active, Return, FaultPlan}
+use Rattle.safety_laws.proofs.Words.{sender, is_armed_by, enters, is_sound_fate, fate_of, is_sound_after, is_good_slot}
+use Rattle.safety_laws.proofs.Words.{is_measured, tally, IsGoodPlan, FollowsPlan, planned_place, four-measured}
+use Rattle.safety_laws.proofs.Words.{sound-from, enters-by, entry-is, entry-good, entry-from, armed-lost, sender-stays}
+use Rattle.safety_laws.proofs.Words.{NoneEnters, IsNewestEntry, IsSoundIn, NotedInSlot, NotedByPlan}
 use Rattle.std.proofs.Math.Nat.{eq-or-lt_of_le}
 use Rattle.ttp_world.specs.Clock.{notes_of}
 use Rattle.ttp_world.specs.Diary.{ends_round}
@@ -99,7 +99,7 @@ company-in list script may_grow less group newest (row ∷ history) all (calm, i
 -- Entries.
 
 -- none enters in a slot, or some node does
-entry-or-none : (plan : Plan) (slot : ℕ) → slot < plan.slots
+entry-or-none : (plan : FaultPlan) (slot : ℕ) → slot < plan.slots
     → ((k : ℕ) → enters plan slot k ≡ false) ⊎ ((k : ℕ) × (enters plan slot k ≡ true))
 entry-or-none plan slot within = by (list_any is_there plan.returns) refl
   where
@@ -122,19 +122,20 @@ entry-or-none plan slot within = by (list_any is_there plan.returns) refl
         (of-any is_there plan.returns entry.return entry.among (eq-eqb entry.return.entered slot entry.entered))))
 
 -- a node that enters was not sound
-entry-unsound : (plan : Plan) (slot k : ℕ) → IsGoodPlan plan → enters plan (suc slot) k ≡ true
+entry-unsound : (plan : FaultPlan) (slot k : ℕ) → IsGoodPlan plan → enters plan (suc slot) k ≡ true
     → is_sound_after plan slot k ≡ false
 entry-unsound plan slot k good is = elim (entry-from plan slot k good is) [
   | inl armed ↦ lost-unsound (fate_of plan slot k) (armed-lost plan slot k good armed)
-  | inr listens ↦ ap is_sound listens.1
+  | inr listens ↦ ap is_sound_fate listens.1
 ]
 
-sound-stays : (plan : Plan) (slot k : ℕ) → IsGoodPlan plan → is_sound_after plan slot k ≡ true
+sound-stays : (plan : FaultPlan) (slot k : ℕ) → IsGoodPlan plan → is_sound_after plan slot k ≡ true
     → enters plan (suc slot) k ≡ false
 sound-stays plan slot k good sound = false_from_ne_true (enters plan (suc slot) k) (λ is.
     both_ways (is_sound_after plan slot k) (entry-unsound plan slot k good is) sound)
 
-new-enters : (plan : Plan) (slot k : ℕ) → is_sound_after plan (suc slot) k ≡ true → is_sound_after plan slot k ≡ false
+new-enters : (plan : FaultPlan) (slot k : ℕ) → is_sound_after plan (suc slot) k ≡ true
+    → is_sound_after plan slot k ≡ false
     → enters plan (suc slot) k ≡ true
 new-enters plan slot k sound away = by (enters plan (suc slot) k) refl
   where
@@ -145,7 +146,7 @@ new-enters plan slot k sound away = by (enters plan (suc slot) k) refl
         (sound-from plan (suc slot) k (fate_of plan slot k) none sound))
 
 -- the entry after the newest one comes two rounds later
-entry-later : (plan : Plan) (slot newest k : ℕ) → IsGoodPlan plan → IsNewest plan slot newest
+entry-later : (plan : FaultPlan) (slot newest k : ℕ) → IsGoodPlan plan → IsNewestEntry plan slot newest
     → enters plan (suc slot) k ≡ true → newest + 2 * plan.nodes ≤ suc slot
 entry-later plan slot newest k good is enter =
     let found = entry-is plan (suc slot) k enter in
@@ -166,7 +167,7 @@ entry-later plan slot newest k good is enter =
 
 -- One slot.
 
-module _ {list : Medl} {script : Script} {start : ClusterStart} {plan : Plan}
+module _ {list : Medl} {script : Script} {start : ClusterStart} {plan : FaultPlan}
     (follows : FollowsPlan list script start plan) where
   -- the clocks of sound nodes do not jump
   pub sound-calm : (slot : ℕ) (history : History) → length history ≡ start.slot + slot → length history < script.slots
@@ -209,7 +210,7 @@ module _ {list : Medl} {script : Script} {start : ClusterStart} {plan : Plan}
 
   -- four measured slots were in each round that began after the newest entry
   noted-four : (slot newest k : ℕ) (row : List Entry) (history : History) → suc slot < plan.slots
-      → length history ≡ start.slot + suc slot → IsNewest plan (suc slot) newest
+      → length history ≡ start.slot + suc slot → IsNewestEntry plan (suc slot) newest
       → NotedInSlot list script plan (suc slot) row history → Counted list plan (suc slot) (row ∷ history)
       → IsSoundIn list plan (suc slot) k → enters plan (suc slot) k ≡ false
       → EndsLaterRound list (start.slot + newest) k row history
@@ -238,7 +239,8 @@ module _ {list : Medl} {script : Script} {start : ClusterStart} {plan : Plan}
   -- a slot in which none enters
   stayed : (may_grow : Bool) (slot newest : ℕ)
       (row : List Entry) (history : History) → length history ≡ start.slot + suc slot
-      → length history < script.slots → IsNewest plan (suc slot) newest → ((k : ℕ) → enters plan (suc slot) k ≡ false)
+      → length history < script.slots → IsNewestEntry plan (suc slot) newest
+      → ((k : ℕ) → enters plan (suc slot) k ≡ false)
       → NotedInSlot list script plan (suc slot) row history → Counted list plan (suc slot) (row ∷ history)
       → StayedInCompany list script may_grow (is_sound_after plan slot) (is_sound_after plan (suc slot))
       (start.slot + newest) row history
@@ -255,7 +257,7 @@ module _ {list : Medl} {script : Script} {start : ClusterStart} {plan : Plan}
 
   -- a slot in which some node does
   grew : (slot newest r : ℕ) (row : List Entry) (history : History) → length history ≡ start.slot + suc slot
-      → length history < script.slots → IsNewest plan slot newest → enters plan (suc slot) r ≡ true
+      → length history < script.slots → IsNewestEntry plan slot newest → enters plan (suc slot) r ≡ true
       → NotedInSlot list script plan (suc slot) row history → Counted list plan slot history
       → GrewTogether list script (is_sound_after plan slot) (is_sound_after plan (suc slot)) (start.slot + newest) row
       history
@@ -282,8 +284,8 @@ module _ {list : Medl} {script : Script} {start : ClusterStart} {plan : Plan}
   grows true slot k stay is = refl
   grows false slot k stay is = absurd (both_ways (enters plan slot k) (stay refl slot k (omega arith)) is)
 
-  newest-same : (slot newest : ℕ) → IsNewest plan slot newest → ((k : ℕ) → enters plan (suc slot) k ≡ false)
-      → IsNewest plan (suc slot) newest
+  newest-same : (slot newest : ℕ) → IsNewestEntry plan slot newest → ((k : ℕ) → enters plan (suc slot) k ≡ false)
+      → IsNewestEntry plan (suc slot) newest
   newest-same slot newest is none = record {
     within = omega (arith, is.within);
     by = is.by;
@@ -296,7 +298,7 @@ module _ {list : Medl} {script : Script} {start : ClusterStart} {plan : Plan}
   -- where none may come, none entered
   pub ran-company : (may_grow : Bool) (slot : ℕ) (history : History) → NotedByPlan list script start plan slot history
       → length history ≤ script.slots → (may_grow ≡ false → NoneEnters plan slot)
-      → (newest : ℕ) × (IsNewest plan slot newest
+      → (newest : ℕ) × (IsNewestEntry plan slot newest
       × RanAsCompany list script may_grow (is_sound_after plan slot) (start.slot + newest) history)
   ran-company may_grow slot [] noted within stay = absurd noted
   ran-company may_grow zero (row ∷ history) noted within stay =
@@ -328,7 +330,7 @@ module _ {list : Medl} {script : Script} {start : ClusterStart} {plan : Plan}
             (counted-run list script start plan (suc slot) (row ∷ history) follows noted) in
             (run.0, (is, (calm, inr (inl (is_sound_after plan slot, (run.1.1, stays))))))
         | inr some ↦
-            let is : IsNewest plan (suc slot) (suc slot) = record {
+            let is : IsNewestEntry plan (suc slot) (suc slot) = record {
               within = omega arith;
               by = inr some;
               none = λ turn k low high. absurd (omega (arith, low, high));

@@ -6,10 +6,11 @@ use Rattle.safety_laws.proofs.Words.{delivery, message_sent, History, entry_of, 
 use Rattle.safety_laws.proofs.Words.{delivered_of, new_messages, message_of, NodePast, Hearing, expected_of}
 use Rattle.safety_laws.proofs.Words.{expected_header, expected_length, BegunNode, BegunSlot, SlotNumbers, Numbers}
 use Rattle.safety_laws.proofs.Words.{slot_after, frames_in, hearing_in, messages_chosen, world, legal-shapes}
-use Rattle.safety_laws.proofs.Words.{node_of-slot_after, row_of_world, length-world, Plan, sender, is_good_slot, Sound}
-use Rattle.safety_laws.proofs.Words.{fate_of, planned_place, place-sender, payload_of_frame, delivery_at, entry_made}
-use Rattle.safety_laws.proofs.Words.{NodeSlot, IsSoundIn, NotesNothing, IsTurn, get_or-map, get_or-map-range_with_len}
-use Rattle.safety_laws.proofs.Words.{Chosen, frame, member_width, nothing_chosen, message_chosen, message_given}
+use Rattle.safety_laws.proofs.Words.{node_of-slot_after, row_of_world, length-world, FaultPlan, sender, is_good_slot}
+use Rattle.safety_laws.proofs.Words.{Sound, fate_of, planned_place, place-sender, payload_of_frame, delivery_at}
+use Rattle.safety_laws.proofs.Words.{entry_made, NodeSlot, IsSoundIn, NotesNothing, IsTurn, get_or-map}
+use Rattle.safety_laws.proofs.Words.{get_or-map-range_with_len, Chosen, frame, member_width, nothing_chosen}
+use Rattle.safety_laws.proofs.Words.{message_chosen, message_given}
 use Rattle.ttp_world.specs.declared.node.Entry.TheVariants as entry
 use Rattle.ttp_world.specs.Conduct.{own_cstate}
 use Rattle.ttp_world.specs.declared.node.Delivered.{Delivered}
@@ -17,7 +18,7 @@ use Rattle.ttp_world.specs.Messages.{messages_of}
 use Rattle.ttp_world.specs.World.{node_of}
 use Rattle.ttp_world.specs.World.{delivered_in}
 use Rattle.ttp_world.proofs.Carried.{delivered_of-told}
-use Rattle.safety_laws.specs.NodeSlot.{coming_place}
+use Rattle.safety_laws.specs.NodeSlot.{slot_place}
 use Rattle.safety_laws.proofs.Deliveries.{delivers-correct}
 use Rattle.safety_laws.proofs.NodeSlots.{entry_of-made}
 use Rattle.safety_laws.proofs.OneSender.{comes-alone}
@@ -71,7 +72,7 @@ other-none : (carries : Bool) (owner p : ℕ) (payload : List ℕ) → p ≢ own
 other-none true owner p payload apart = ap (λ b. cond b (payload ∷ []) []) (ne_eqb owner p (λ same. apart (sym same)))
 other-none false owner p payload apart = refl
 
-module _ {list : Medl} {script : Script} {start : ClusterStart} {plan : Plan} {turn : ℕ} {new : SlotNumbers}
+module _ {list : Medl} {script : Script} {start : ClusterStart} {plan : FaultPlan} {turn : ℕ} {new : SlotNumbers}
     {numbers : Numbers} (t : IsTurn list script start plan turn new numbers) (stay : plan.returns ≡ []) where
   -- what a node delivers in the turn
   abbrev pub delivered : ℕ → Option Delivered
@@ -202,19 +203,19 @@ module _ {list : Medl} {script : Script} {start : ClusterStart} {plan : Plan} {t
 -- What a sound node sends is what each other sound node's host gets of it.
 
 -- the payload of a frame is what its sender put into it
-payload-of_own : (x : NodeSlot) → carries_payload x.list (coming_place x) ≡ true
-    → length x.chosen.payload ≡ expected_length x.list (coming_place x)
-    → payload_of_frame x.list (coming_place x) (own_frame x.list x.node x.past x.chosen) ≡ x.chosen.payload
+payload-of_own : (x : NodeSlot) → carries_payload x.list (slot_place x) ≡ true
+    → length x.chosen.payload ≡ expected_length x.list (slot_place x)
+    → payload_of_frame x.list (slot_place x) (own_frame x.list x.node x.past x.chosen) ≡ x.chosen.payload
 payload-of_own x carries fits =
     let width = member_width x.list in
-    let header = expected_header x.list (coming_place x) in
+    let header = expected_header x.list (slot_place x) in
     let cstate = own_cstate x.list x.node x.past in
-    ap (λ b. payload_in width header (expected_length x.list (coming_place x))
+    ap (λ b. payload_in width header (expected_length x.list (slot_place x))
     (frame width header cstate (cond b x.chosen.payload []) x.list.schedule)) carries
     ∙ ap (λ n. payload_in width header n (frame width header cstate x.chosen.payload x.list.schedule)) (sym fits)
     ∙ payload_in-frame width header cstate x.chosen.payload x.list.schedule
 
-module _ {list : Medl} {script : Script} {start : ClusterStart} {plan : Plan} {turn : ℕ} {new : SlotNumbers}
+module _ {list : Medl} {script : Script} {start : ClusterStart} {plan : FaultPlan} {turn : ℕ} {new : SlotNumbers}
     {numbers : Numbers} (t : IsTurn list script start plan turn new numbers) (stay : plan.returns ≡ [])
     (good : is_good_slot plan (suc turn) ≡ true) where
   row : List Entry
@@ -235,7 +236,7 @@ module _ {list : Medl} {script : Script} {start : ClusterStart} {plan : Plan} {t
   may : MaySend (slot_of list script new numbers (sender plan (suc turn)))
   may = sound-sends good-owner
 
-  entry_is : entry_of row e ≡ entry.Sent (message_sent list (coming_place x) x.chosen)
+  entry_is : entry_of row e ≡ entry.Sent (message_sent list (slot_place x) x.chosen)
   unfolding row e x
   entry_is =
       entry_of-made list script (world list script numbers) (messages_chosen list script (length numbers) new.sent)
@@ -252,7 +253,7 @@ module _ {list : Medl} {script : Script} {start : ClusterStart} {plan : Plan} {t
       (legal-shapes list script (new ∷ numbers) t.legal).0.sent
       ∙ get_or-map message_of (row_of_world list script new numbers) (sender plan (suc turn)) entry.Off)
 
-  fits : carries_payload list (coming_place x) ≡ true → length x.chosen.payload ≡ expected_length list (coming_place x)
+  fits : carries_payload list (slot_place x) ≡ true → length x.chosen.payload ≡ expected_length list (slot_place x)
   unfolding x
   fits =
       HasPayload-world list script new numbers (sender plan (suc turn)) t.planned.script_valid t.legal
@@ -260,17 +261,17 @@ module _ {list : Medl} {script : Script} {start : ClusterStart} {plan : Plan} {t
       good-owner.own.own (act_made-sends _ good-owner.own may.closed may.more)
 
   -- what its frame delivers
-  gives : new_messages e (delivery_at list (coming_place x) (own_frame list e x.past x.chosen))
-      ≡ payload_of_number list script (length numbers) e (message_sent list (coming_place x) x.chosen)
+  gives : new_messages e (delivery_at list (slot_place x) (own_frame list e x.past x.chosen))
+      ≡ payload_of_number list script (length numbers) e (message_sent list (slot_place x) x.chosen)
   unfolding e x row
-  gives = by (carries_payload list (coming_place x)) refl
+  gives = by (carries_payload list (slot_place x)) refl
     where
-      by : (carries : Bool) → carries_payload list (coming_place x) ≡ carries
-          → new_messages e (delivery_at list (coming_place x) (own_frame list e x.past x.chosen))
-          ≡ payload_of_number list script (length numbers) e (message_sent list (coming_place x) x.chosen)
+      by : (carries : Bool) → carries_payload list (slot_place x) ≡ carries
+          → new_messages e (delivery_at list (slot_place x) (own_frame list e x.past x.chosen))
+          ≡ payload_of_number list script (length numbers) e (message_sent list (slot_place x) x.chosen)
       by true carries =
           let bytes = own_frame list e x.past x.chosen in
-          let place = coming_place x in
+          let place = slot_place x in
           let told : message_of (entry_of row e) ≡ Some x.chosen.number =
           ap message_of entry_is ∙ ap (λ b. cond b (Some x.chosen.number) None) carries in
           ap (λ b. new_messages e
@@ -280,7 +281,7 @@ module _ {list : Medl} {script : Script} {start : ClusterStart} {plan : Plan} {t
           ∙ ap (λ (c : Chosen). c.payload ∷ []) (chosen_is ∙ ap (message_chosen list script (length numbers) e) told)
           ∙ ap (λ b. payload_of_number list script (length numbers) e (cond b (Some x.chosen.number) None)) (sym carries)
       by false carries =
-          let place = coming_place x in
+          let place = slot_place x in
           ap (λ b. new_messages e (cond b (Some (record {
             sender = place.slot;
             payload = payload_of_frame list place (own_frame list e x.past x.chosen);

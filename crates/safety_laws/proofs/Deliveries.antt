@@ -9,7 +9,7 @@ use Rattle.ttp_world.specs.declared.node.ChannelView.TheVariants as view
 use Rattle.ttp_world.specs.declared.node.Entry.TheVariants as entry
 use Rattle.ttp_world.specs.declared.node.Verdict.TheVariants as verdict
 use Rattle.ttp_world.specs.Reception.{payload_heard, is_first_view}
-use Rattle.safety_laws.specs.NodeSlot.{coming_place}
+use Rattle.safety_laws.specs.NodeSlot.{slot_place}
 use Rattle.safety_laws.proofs.Judging.{judging_entry-frame}
 use Rattle.safety_laws.proofs.Verdicts.{entry_made-judging}
 
@@ -52,7 +52,7 @@ taken-frame list expected h sent hears first = by hears
 
 pub delivers-correct : (x : NodeSlot) (sent : SentFrame) (deviation : ℤ) → IsJudging x → HearsFrame sent x.hearing
     → entry_made x ≡ entry.Judged (owner_of x) verdict.Correct deviation
-    → delivery x.list x.node x.past x.hearing (entry_made x) ≡ delivery_at x.list (coming_place x) sent.bytes
+    → delivery x.list x.node x.past x.hearing (entry_made x) ≡ delivery_at x.list (slot_place x) sent.bytes
 delivers-correct x sent deviation is hears correct =
     let expected = expected_of x.list x.node x.past in
     let first =
@@ -60,6 +60,6 @@ delivers-correct x sent deviation is hears correct =
     (x.hearing.deviation sent.sender) deviation
     (sym (judging_entry-frame x.list x.node x.past x.hearing sent hears) ∙ sym (entry_made-judging x is) ∙ correct) in
     ap (delivery x.list x.node x.past x.hearing) correct
-    ∙ ap (λ (payload : List ℕ). cond (carries_payload x.list (coming_place x))
+    ∙ ap (λ (payload : List ℕ). cond (carries_payload x.list (slot_place x))
     (Some (record { sender = owner_of x; payload = payload })) None)
     (taken-frame x.list expected x.hearing sent hears first)

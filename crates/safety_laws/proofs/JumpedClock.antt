@@ -5,11 +5,11 @@ use Rattle.safety_laws.proofs.Words.{Option, Some, None, mod-lt, ◌==◌, cases
 use Rattle.safety_laws.proofs.Words.{Script, notes_in, History, entry_of, diary_of, continues_stint, next_place}
 use Rattle.safety_laws.proofs.Words.{stint_place, ClusterStart, needed, drift_share, IsValid, drift_of, jump_of, spread}
 use Rattle.safety_laws.proofs.Words.{clock_at, IsUpTo, AreNear, drift_within, place_continued, clock_at-still, drift_in}
-use Rattle.safety_laws.proofs.Words.{correction, product_up, clock_after, round_notes, Jumping, Plan, sender, Change}
-use Rattle.safety_laws.proofs.Words.{Incident, incident_at, is_armed_by, enters, Falling, fate_of, is_sound_after, Fate}
-use Rattle.safety_laws.proofs.Words.{Sound, Fallen, Listening, struck, turned, FollowsWithin, planned_place, IsSoundIn}
-use Rattle.safety_laws.proofs.Words.{NotesNothing, GoesOnByPlan, IsTight, IsGoodPlan, IsLossOf, IsTold, fate-told}
-use Rattle.safety_laws.proofs.Words.{entry-is, HasJumped}
+use Rattle.safety_laws.proofs.Words.{correction, product_up, clock_after, round_notes, Jumping, FaultPlan, sender}
+use Rattle.safety_laws.proofs.Words.{Change, Incident, incident_at, is_armed_by, enters, Falling, fate_of}
+use Rattle.safety_laws.proofs.Words.{is_sound_after, Fate, Sound, Fallen, Listening, struck, turned, FollowsWithin}
+use Rattle.safety_laws.proofs.Words.{planned_place, IsSoundIn, NotesNothing, GoesOnByPlan, IsTight, IsGoodPlan}
+use Rattle.safety_laws.proofs.Words.{IsLossOf, IsTold, fate-told, entry-is, HasJumped}
 use Rattle.fault_plan.specs.Fates.{armed_in}
 use Rattle.fault_plan.specs.Fates.{entered_in, changed}
 use Rattle.safety_laws.proofs.Apart.{noted_width, Apart, Fresh, Before, apart-next, same-near}
@@ -24,7 +24,7 @@ use Rattle.safety_laws.proofs.BeganTogether.{number-of, counted-run}
 -- The slot before.
 
 -- a fate that no incident of the slot, no arming and no entry gives was there before
-unchanged : (plan : Plan) (slot k : ℕ) (fate then : Fate) → changed plan slot k fate ≡ then
+unchanged : (plan : FaultPlan) (slot k : ℕ) (fate then : Fate) → changed plan slot k fate ≡ then
     → ((c : Change) → Falling c slot ≢ then) → Listening slot ≢ then → Sound ≢ then → fate ≡ then
 unchanged plan slot k fate then is unhit unarmed unentered =
     armed (is_armed_by plan slot k) (missed (incident_at plan slot) _ (entered (enters plan slot k) _ is))
@@ -59,24 +59,24 @@ shown-back true slot (Fallen c s shown) change since is never = absurd (never is
 shown-back true slot _ change since is never = cc
 shown-back false slot fate change since is never = absurd (never is)
 
-not-yet : (plan : Plan) (slot k since : ℕ) (change : Change) → IsGoodPlan plan
+not-yet : (plan : FaultPlan) (slot k since : ℕ) (change : Change) → IsGoodPlan plan
     → fate_of plan slot k ≡ Fallen change since (suc slot) → ⊥
 not-yet plan slot k since change good is =
     let told = subst (IsTold plan slot k) is (fate-told plan slot k good) in
     omega (arith, told.from)
 
-changed-back : (plan : Plan) (slot k : ℕ) (fate : Fate) (change : Change) (since : ℕ)
+changed-back : (plan : FaultPlan) (slot k : ℕ) (fate : Fate) (change : Change) (since : ℕ)
     → changed plan slot k fate ≡ Falling change since → since ≢ slot → fate ≡ Falling change since
 changed-back plan slot k fate change since is other =
     unchanged plan slot k fate (Falling change since) is
     (λ c same. let at : slot ≡ since = cc in other (sym at)) (λ same. cc) (λ same. cc)
 
-changed-fallen : (plan : Plan) (slot k : ℕ) (fate : Fate) (change : Change) (since shown : ℕ)
+changed-fallen : (plan : FaultPlan) (slot k : ℕ) (fate : Fate) (change : Change) (since shown : ℕ)
     → changed plan slot k fate ≡ Fallen change since shown → fate ≡ Fallen change since shown
 changed-fallen plan slot k fate change since shown is =
     unchanged plan slot k fate (Fallen change since shown) is (λ c same. cc) (λ same. cc) (λ same. cc)
 
-pub jumped-back : (plan : Plan) (slot k since : ℕ) → IsGoodPlan plan → HasJumped plan (suc slot) k since
+pub jumped-back : (plan : FaultPlan) (slot k since : ℕ) → IsGoodPlan plan → HasJumped plan (suc slot) k since
     → since ≢ suc slot → fate_of plan slot k ≡ Falling Jumping since
 jumped-back plan slot k since good (inl is) other =
     changed-back plan (suc slot) k (fate_of plan slot k) Jumping since (turned-back (sender plan (suc slot) == k)
@@ -89,12 +89,12 @@ jumped-back plan slot k since good (inr is) other =
 
 -- The jump.
 
-pub record IsJumpTold (plan : Plan) (slot k since : ℕ) : Type 0 where
+pub record IsJumpTold (plan : FaultPlan) (slot k since : ℕ) : Type 0 where
   pub loss : IsLossOf plan k Jumping since
   pub from : since ≤ slot
   pub soon : slot < since + plan.nodes
 
-pub jump-told : (plan : Plan) (slot k since : ℕ) → IsGoodPlan plan → HasJumped plan slot k since
+pub jump-told : (plan : FaultPlan) (slot k since : ℕ) → IsGoodPlan plan → HasJumped plan slot k since
     → IsJumpTold plan slot k since
 jump-told plan slot k since good (inl is) =
     let told = subst (IsTold plan slot k) is (fate-told plan slot k good) in
@@ -104,13 +104,15 @@ jump-told plan slot k since good (inr is) =
     record { loss = told.loss; from = told.from.0; soon = told.soon }
 
 -- it was sound after the slot before
-pub sound-till : (plan : Plan) (k before : ℕ) (change : Change) → IsGoodPlan plan → IsLossOf plan k change (suc before)
+pub sound-till : (plan : FaultPlan) (k before : ℕ) (change : Change) → IsGoodPlan plan
+    → IsLossOf plan k change (suc before)
     → is_sound_after plan before k ≡ true
 sound-till plan k before change good loss =
     subst (λ j. is_sound_after plan before j ≡ true) loss.node (good.losses before loss.incident loss.found).was
 
 -- no node entered in the two rounds before the slots from the one before it on, nor enters in the round after
-pub jump-tight : (plan : Plan) (k base : ℕ) (change : Change) → IsGoodPlan plan → IsLossOf plan k change (suc (suc base))
+pub jump-tight : (plan : FaultPlan) (k base : ℕ) (change : Change) → IsGoodPlan plan
+    → IsLossOf plan k change (suc (suc base))
     → (turn : ℕ) → suc base ≤ turn → turn ≤ suc (base + plan.nodes)
     → IsTight plan turn
 jump-tight plan k base change good loss turn from to entered j before enter =
@@ -126,7 +128,7 @@ jump-tight plan k base change good loss turn from to entered j before enter =
 
 -- Node x is sound up to slot base + 1, and in the slot after that its clock jumps, so far. What follows counts slots q
 -- from base on, while x's next own slot has not come.
-pub record JumpsAfter (list : Medl) (script : Script) (start : ClusterStart) (plan : Plan) (x base : ℕ) (jump : ℤ)
+pub record JumpsAfter (list : Medl) (script : Script) (start : ClusterStart) (plan : FaultPlan) (x base : ℕ) (jump : ℤ)
     : Type 0 where
   pub valid : IsValid list
   pub follows : FollowsWithin list script start plan
@@ -146,7 +148,8 @@ jumped_in jump (suc zero) = pos 0
 jumped_in jump (suc (suc q)) = jump
 
 -- x's place, and both clocks
-pub record StaysApart (list : Medl) (script : Script) (plan : Plan) (slot x k q : ℕ) (jumped : ℤ) (history : History)
+pub record StaysApart (list : Medl) (script : Script) (plan : FaultPlan) (slot x k q : ℕ) (jumped : ℤ)
+    (history : History)
     : Type 0 where
   pub place : stint_place list x (diary_of history x) ≡ planned_place list plan slot
   pub apart : Apart list (sender plan slot) q (clock_after list script history x -ℤ jumped)
@@ -166,7 +169,7 @@ less-none : (z : ℤ) → z -ℤ pos 0 ≡ z
 less-none z = omega (arith, ints)
 
 -- x goes on in the slot, and what it notes is near k
-record NotesNear (list : Medl) (script : Script) (plan : Plan) (slot x k : ℕ) (jumped : ℤ) (row : List Entry)
+record NotesNear (list : Medl) (script : Script) (plan : FaultPlan) (slot x k : ℕ) (jumped : ℤ) (row : List Entry)
     (history : History) : Type 0 where
   goes : continues_stint (entry_of row x) ≡ true
   near : AreNear (noted_width list (sender plan (suc slot))) (clock_moved list script history x -ℤ jumped)
@@ -178,7 +181,7 @@ drift-jumps o j d a b w is h = (omega (arith, ints, is, h.0, h.1), omega (arith,
 shift-jump : (z c r j : ℤ) → z ≡ c +ℤ r → z -ℤ j ≡ (c -ℤ j) +ℤ r
 shift-jump z c r j is = omega (arith, ints, is)
 
-module _ {list : Medl} {script : Script} {start : ClusterStart} {plan : Plan} {x base : ℕ} {jump : ℤ}
+module _ {list : Medl} {script : Script} {start : ClusterStart} {plan : FaultPlan} {x base : ℕ} {jump : ℤ}
     (jumps : JumpsAfter list script start plan x base jump) where
   -- what the next slot adds to the jump in its clock
   jumped-next : (slot q : ℕ) → start.slot + suc slot < script.slots → slot ≡ base + q

@@ -3,8 +3,9 @@ use Rattle.safety_laws.proofs.Words.{◌≡◌, ℕ, suc, ◌+◌, ◌-◌, ◌<
 use Rattle.safety_laws.proofs.Words.{◌∙◌, neg_ℤ, arith, false≢true, Medl, Script, diary_of, place_of, needed}
 use Rattle.safety_laws.proofs.Words.{is_correct_after, IsLegal, IsValid, newest_slot, IsSafe, IsValidScript, Numbers}
 use Rattle.safety_laws.proofs.Words.{node_past, world, length-world, spread, IsIn, clock_at, measured, is_sound_after}
-use Rattle.safety_laws.proofs.Words.{KeepsByPlan, Plan, plan_of, kept-plan, IsSoundIn, GoesOnByPlan, IsTight, IsSoundAt}
-use Rattle.safety_laws.proofs.Words.{FaultyLeave, IsBegun, StandsAfter, IsByPlan, AcceptsAlikeSince, StandsAlikeSince}
+use Rattle.safety_laws.proofs.Words.{KeepsByPlan, FaultPlan, fault_plan_of, kept-plan, IsSoundIn, GoesOnByPlan, IsTight}
+use Rattle.safety_laws.proofs.Words.{IsSoundAt, FaultyLeave, IsBegunAlone, StandsWithFaults, IsByPlan}
+use Rattle.safety_laws.proofs.Words.{AcceptsAlikeSince, StandsAlikeSince}
 use Rattle.ttp_world.specs.declared.keep.Keep.TheVariants as keep
 use Rattle.ttp_world.specs.Hypothesis.{keeps}
 use Rattle.safety_laws.proofs.Bounds.{tight-clocks, tight-deviations}
@@ -17,10 +18,10 @@ module _ (list : Medl) (script : Script) (slot : ℕ) (valid : IsValid list) (sc
   pub by_plan : KeepsByPlan list script slot
   by_plan = kept-plan list script slot valid kept
 
-  abbrev plan : Plan
-  plan = plan_of list script by_plan.start
+  abbrev plan : FaultPlan
+  plan = fault_plan_of list script by_plan.start
 
-  begun : slot < script.slots → IsBegun list script by_plan.start plan
+  begun : slot < script.slots → IsBegunAlone list script by_plan.start plan
   begun inside = record {
     planned = record {
       valid = valid;
@@ -50,7 +51,7 @@ module _ (list : Medl) (script : Script) (slot : ℕ) (valid : IsValid list) (sc
         run-by_plan list script by_plan.start plan (begun (omega (arith, after, within)))
         clocks turn numbers number (omega (arith, number, within)) legal
 
-    pub kept-stands : StandsAfter list script by_plan.start plan turn (world list script numbers)
+    pub kept-stands : StandsWithFaults list script by_plan.start plan turn (world list script numbers)
     kept-stands =
         let number = count in
         record {

@@ -1,28 +1,29 @@
 -- A node that listens in a turn: it does not start, and what a slot in which it does not join makes of it.
 use Rattle.safety_laws.proofs.Words.{◌≡◌, ℕ, suc, ◌+◌, ◌-◌, ◌*◌, ◌<◌, ◌≤◌, Bool, true, false, cond, length, ap, sym}
 use Rattle.safety_laws.proofs.Words.{◌∙◌, inl, inr, arith, ◌≢◌, zero, Some, None, refl, subst, ◌⊎◌, cases_lt, both_ways}
-use Rattle.safety_laws.proofs.Words.{and_parts, Plan, Change, Return, sender, incident_at, is_armed_by, enters}
+use Rattle.safety_laws.proofs.Words.{and_parts, FaultPlan, Change, Return, sender, incident_at, is_armed_by, enters}
 use Rattle.safety_laws.proofs.Words.{is_good_slot, Fate, Absent, Sound, Falling, Fallen, Listening, fate_of, is_lost}
-use Rattle.safety_laws.proofs.Words.{lost_since, may_stay, tally, is_measured, IsListening, NodeSlot, next_past}
+use Rattle.safety_laws.proofs.Words.{lost_since, may_stay, tally, is_measured, ListensInSlot, NodeSlot, next_past}
 use Rattle.safety_laws.proofs.Words.{HasWaited, IsListeningAt, has_node, IsGoodPlan, IsLossOf, IsTold, four-measured}
 use Rattle.safety_laws.proofs.Words.{next-entered, fate-told, enters-by}
 use Rattle.ttp_world.specs.declared.node.Phase.TheVariants as phase
 use Rattle.safety_laws.proofs.Listening.{listens-armed, listens-early}
 use Rattle.std.specs.List.{Contains}
-use Rattle.fault_plan.specs.Told.{IsListening as IsListeningTold}
+use Rattle.fault_plan.specs.Told.{IsListening}
 use Rattle.fault_plan.proofs.FateTells.{over}
 use Rattle.fault_plan.proofs.Returns.{armed-is, quiet-within, listens-until}
 
 -- it listens in the turn after some, and was armed in it or before: how many silent slots it counted by then
-pub record ListensSince (plan : Plan) (turn since : ℕ) (x : NodeSlot) : Type 0 where
-  pub listens : IsListening x
+pub record ListensSince (plan : FaultPlan) (turn since : ℕ) (x : NodeSlot) : Type 0 where
+  pub listens : ListensInSlot x
   pub limit : x.past.limit ≡ 2 * length x.list.slots + x.node
   pub silent : x.past.silent_slots ≤ suc turn - since
   pub broken : (good : ℕ) → since ≤ good → good ≤ turn → is_good_slot plan good ≡ true
       → x.past.silent_slots + good ≤ turn
 
 -- One that listened before: a good slot came less than a round ago, so it has not waited for its limit.
-pub listens-before : (plan : Plan) (turn since : ℕ) (x : NodeSlot) → plan.nodes ≡ length x.list.slots → 0 < plan.nodes
+pub listens-before : (plan : FaultPlan) (turn since : ℕ) (x : NodeSlot) → plan.nodes ≡ length x.list.slots
+    → 0 < plan.nodes
     → (slot : ℕ) × ((slot ≤ turn) × (turn < slot + plan.nodes) × (is_good_slot plan slot ≡ true))
     → IsListeningAt x.list plan turn x.node since x.past → ListensSince plan turn since x
 listens-before plan turn since x nodes some lately at = record {
@@ -44,7 +45,7 @@ listens-before plan turn since x nodes some lately at = record {
     early = let limit = at.limit in omega (arith, few, limit, nodes, some)
 
 -- One that is armed in the turn has counted none.
-pub listens-first : (plan : Plan) (turn : ℕ) (x : NodeSlot) → x.past.phase ≡ phase.Left → x.armed ≡ true
+pub listens-first : (plan : FaultPlan) (turn : ℕ) (x : NodeSlot) → x.past.phase ≡ phase.Left → x.armed ≡ true
     → x.past.silent_slots ≡ 0 → x.past.limit ≡ 2 * length x.list.slots + x.node → ListensSince plan turn (suc turn) x
 listens-first plan turn x left armed none limit = record {
   listens = listens-armed x left armed;
@@ -54,7 +55,7 @@ listens-first plan turn x left armed none limit = record {
 }
 
 -- A slot in which it waits counts as silent only where it is not good.
-pub waits-on : (plan : Plan) (turn since : ℕ) (x : NodeSlot) → since ≤ suc turn → ListensSince plan turn since x
+pub waits-on : (plan : FaultPlan) (turn since : ℕ) (x : NodeSlot) → since ≤ suc turn → ListensSince plan turn since x
     → HasWaited x → (is_good_slot plan (suc turn) ≡ true → x.around.is_silent ≡ false)
     → IsListeningAt x.list plan (suc turn) x.node since (next_past x)
 waits-on plan turn since x from is waited heard = record {
@@ -83,7 +84,7 @@ waits-on plan turn since x from is waited heard = record {
 -- A node that listens in a turn, by a plan: what comes in that slot, and what becomes of the node.
 
 -- the return of a node that has not entered before the slot after a turn, and is armed in it or was before
-pub record IsAwaited (plan : Plan) (turn k since : ℕ) : Type 0 where
+pub record IsAwaited (plan : FaultPlan) (turn k since : ℕ) : Type 0 where
   pub return : Return
   pub among : Contains plan.returns return
   pub node : return.node ≡ k
@@ -91,7 +92,7 @@ pub record IsAwaited (plan : Plan) (turn k since : ℕ) : Type 0 where
   pub from : since ≤ suc turn
   pub waits : suc turn ≤ return.entered
 
-pub awaited-armed : (plan : Plan) (turn k : ℕ) → IsGoodPlan plan → is_armed_by plan (suc turn) k ≡ true
+pub awaited-armed : (plan : FaultPlan) (turn k : ℕ) → IsGoodPlan plan → is_armed_by plan (suc turn) k ≡ true
     → IsAwaited plan turn k (suc turn)
 awaited-armed plan turn k good is =
     let found = armed-is plan (suc turn) k is in
@@ -105,10 +106,10 @@ awaited-armed plan turn k good is =
       waits = omega (arith, after, found.armed);
     }
 
-pub awaited-listening : (plan : Plan) (turn k since : ℕ) → IsGoodPlan plan → suc turn < plan.slots
+pub awaited-listening : (plan : FaultPlan) (turn k since : ℕ) → IsGoodPlan plan → suc turn < plan.slots
     → fate_of plan turn k ≡ Listening since → IsAwaited plan turn k since
 awaited-listening plan turn k since good within is =
-    let told : IsListeningTold plan turn k since = subst (IsTold plan turn k) is (fate-told plan turn k good) in
+    let told : IsListening plan turn k since = subst (IsTold plan turn k) is (fate-told plan turn k good) in
     let from = told.from in
     let waits = told.waits (omega (arith, within)) in
     record {
@@ -135,7 +136,7 @@ some_of test from (suc many) some = by (test (from + many)) refl (some_of test f
         let found = before (omega (arith, some, none)) in
         (found.0, (found.1.0, omega (arith, found.1.1), found.1.2))
 
-module _ (plan : Plan) (turn k since : ℕ) (good : IsGoodPlan plan) (is : IsAwaited plan turn k since) where
+module _ (plan : FaultPlan) (turn k since : ℕ) (good : IsGoodPlan plan) (is : IsAwaited plan turn k since) where
   -- Nobody is lost then, and nobody that was lost may still stay.
 
   pub quiet-awaited : incident_at plan (suc turn) ≡ None

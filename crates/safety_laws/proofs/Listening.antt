@@ -5,7 +5,7 @@ use Rattle.safety_laws.proofs.Words.{Act, Gone, Listen, Start, Chosen, Entry, Ph
 use Rattle.safety_laws.proofs.Words.{notes_in, node_frames, new_entry, listening_entry, Diary, History}
 use Rattle.safety_laws.proofs.Words.{SlotSurroundings, Place, diary_of, cstate_at, SentFrame, Signal, surroundings_of}
 use Rattle.safety_laws.proofs.Words.{may_start, AreNodes, NodePast, Hearing, node_past, slot_after, HearsFrame, OnBoth}
-use Rattle.safety_laws.proofs.Words.{OnA, OnB, HearsNoFrame, HearsSilence, IsListening, HearsPlace, HearsNoPlace}
+use Rattle.safety_laws.proofs.Words.{OnA, OnB, HearsNoFrame, HearsSilence, ListensInSlot, HearsPlace, HearsNoPlace}
 use Rattle.safety_laws.proofs.Words.{NodeSlot, node_slot, frames_made, entry_made, next_past, StandsBy, joined_on}
 use Rattle.safety_laws.proofs.Words.{joined_standing, HasWaited}
 use Rattle.ttp_world.specs.declared.node.Entry.TheVariants as entry
@@ -18,11 +18,12 @@ use Rattle.safety_laws.proofs.Joins.{listening_entry-joins, listening_entry-wait
 
 -- Who listens: a node that has left and is armed, and a listening node that has not waited for as long as it is to.
 
-pub listens-armed : (x : NodeSlot) → x.past.phase ≡ phase.Left → x.armed ≡ true → IsListening x
+pub listens-armed : (x : NodeSlot) → x.past.phase ≡ phase.Left → x.armed ≡ true → ListensInSlot x
 listens-armed x left armed =
     ap (λ (p : Phase). phase_act p x.list x.node x.on x.armed x.past) left ∙ ap (λ b. cond b Listen Gone) armed
 
-pub listens-early : (x : NodeSlot) → x.past.phase ≡ phase.Listening → x.past.silent_slots < x.past.limit → IsListening x
+pub listens-early : (x : NodeSlot) → x.past.phase ≡ phase.Listening → x.past.silent_slots < x.past.limit
+    → ListensInSlot x
 listens-early x listens early =
     ap (λ (p : Phase). phase_act p x.list x.node x.on x.armed x.past) listens
     ∙ ap (λ b. cond (may_start x.list x.node && b) Start Listen) (lt-leb x.past.limit x.past.silent_slots early)
@@ -59,13 +60,13 @@ frame-silent h sent (OnB less b) =
 
 -- What a listening node makes of the slot.
 
-pub frames_made-listening : (x : NodeSlot) → IsListening x → frames_made x ≡ []
+pub frames_made-listening : (x : NodeSlot) → ListensInSlot x → frames_made x ≡ []
 frames_made-listening x listens = ap (node_frames x.list x.node x.past x.chosen) listens
 
-entry_made-listening : (x : NodeSlot) → IsListening x → listening_entry x.list x.hearing ≡ entry_made x
+entry_made-listening : (x : NodeSlot) → ListensInSlot x → listening_entry x.list x.hearing ≡ entry_made x
 entry_made-listening x listens = ap (λ (a : Act). new_entry x.list x.node x.past x.chosen x.hearing a) (sym listens)
 
-pub waited-by_entry : (x : NodeSlot) → IsListening x → listening_entry x.list x.hearing ≡ entry.Waited → HasWaited x
+pub waited-by_entry : (x : NodeSlot) → ListensInSlot x → listening_entry x.list x.hearing ≡ entry.Waited → HasWaited x
 waited-by_entry x listens waits =
     let made : entry_made x ≡ entry.Waited = sym (entry_made-listening x listens) ∙ waits in
     let after : next_past x ≡ past_after x.list x.node x.past entry.Waited x.around =
@@ -76,10 +77,10 @@ waited-by_entry x listens waits =
       limit = ap (λ (p : NodePast). p.limit) after;
     }
 
-pub waited-none : (x : NodeSlot) → IsListening x → HearsNoFrame x.hearing → HasWaited x
+pub waited-none : (x : NodeSlot) → ListensInSlot x → HearsNoFrame x.hearing → HasWaited x
 waited-none x listens none = waited-by_entry x listens (listening_entry-waits x.list x.hearing none)
 
-pub waited-passing : (x : NodeSlot) (sender : ℕ) → IsListening x → HearsNoPlace x sender → HasWaited x
+pub waited-passing : (x : NodeSlot) (sender : ℕ) → ListensInSlot x → HearsNoPlace x sender → HasWaited x
 waited-passing x sender listens hears =
     waited-by_entry x listens (listening_entry-passes x.list x.hearing _ hears.comes hears.can_not)
 
@@ -105,7 +106,7 @@ stands-joined list k place members deviation past s nodes = record {
   notes = notes-begun list place (joined_on place members deviation) past.notes;
 }
 
-pub joined-place : (x : NodeSlot) (sender : ℕ) (place : Place) (members : List ℕ) → IsListening x
+pub joined-place : (x : NodeSlot) (sender : ℕ) (place : Place) (members : List ℕ) → ListensInSlot x
     → HearsPlace x sender place members →
     let deviation = x.hearing.deviation sender in
     StandsBy (next_past x) (joined_on place members deviation) (joined_standing x.list place members deviation)

@@ -2,7 +2,7 @@
 use Rattle.safety_laws.proofs.Words.{◌≡◌, ◌≢◌, ℕ, suc, ◌+◌, ◌*◌, ◌<◌, ◌≤◌, ℤ, pos, false, length, refl, ap, sym, subst}
 use Rattle.safety_laws.proofs.Words.{◌∙◌, ◌⊎◌, inl, inr, arith, Bool, true, List, cond, false_from_ne_true, false≢true}
 use Rattle.safety_laws.proofs.Words.{has_node, with_node, without_node, Verdict, is_correct, is_open, judged_members}
-use Rattle.safety_laws.proofs.Words.{next_place, Change, Receiving, Jumping, Plan, sender, enters, IsGoodPlan}
+use Rattle.safety_laws.proofs.Words.{next_place, Change, Receiving, Jumping, FaultPlan, sender, enters, IsGoodPlan}
 use Rattle.safety_laws.proofs.Words.{ledger-told, IsUnanswered, HearsNoAnswer, IsNotAbout, HoldsGroup, HearsNoFrame}
 use Rattle.safety_laws.proofs.Words.{NodeSlot, next_past, owner_of, IsJudgedAs, IsJudging, HearsOutside, IsSoundAt}
 use Rattle.safety_laws.proofs.Words.{IsFallingAt, IsFallenAt, IsCounted, doubts, Ack, is_accepted, Fallen, fate_of}
@@ -88,7 +88,7 @@ about-other (ack.Doubt y) j apart = apart y refl
 about-other _ j apart = tt
 
 -- what is so of a good plan and of a node that judges in its next turn
-pub record IsSoundJudge (plan : Plan) (turn : ℕ) (x : NodeSlot) : Type 0 where
+pub record IsSoundJudge (plan : FaultPlan) (turn : ℕ) (x : NodeSlot) : Type 0 where
   pub good : IsGoodPlan plan
   pub nodes : plan.nodes ≡ length x.list.slots
   pub judging : IsJudging x
@@ -96,7 +96,7 @@ pub record IsSoundJudge (plan : Plan) (turn : ℕ) (x : NodeSlot) : Type 0 where
   pub owner : owner_of x ≡ sender plan (suc turn)
   pub entered : enters plan (suc turn) x.node ≡ false
 
-module _ {plan : Plan} {turn : ℕ} {x : NodeSlot} (is : IsSoundJudge plan turn x) where
+module _ {plan : FaultPlan} {turn : ℕ} {x : NodeSlot} (is : IsSoundJudge plan turn x) where
   others-slot : sender plan (suc turn) ≢ x.node
   others-slot same = is.judging.other (is.owner ∙ same)
 
@@ -206,7 +206,7 @@ late-wrong x is (Outside sender hears) = record {
   wrong = refl;
 }
 
-module _ (plan : Plan) (turn : ℕ) (x : NodeSlot) (judging : IsJudging x) where
+module _ (plan : FaultPlan) (turn : ℕ) (x : NodeSlot) (judging : IsJudging x) where
   falling-by : (change : Change) (since : ℕ) (v : Verdict) (deviation : ℤ)
       → IsFallingAt x.list plan turn x.node change since x.past → IsJudgedAs x v deviation
       → (change ≡ Receiving → has_node (next_past x).members (sender plan since) ≡ false)
@@ -265,7 +265,7 @@ module _ (plan : Plan) (turn : ℕ) (x : NodeSlot) (judging : IsJudging x) where
   ]
 
 -- two rounds after the start no sound node's newest own frame is a cold start
-pub sound-late : (plan : Plan) (turn : ℕ) (x : NodeSlot) → IsGoodPlan plan → x.node < plan.nodes
+pub sound-late : (plan : FaultPlan) (turn : ℕ) (x : NodeSlot) → IsGoodPlan plan → x.node < plan.nodes
     → IsSoundAt x.list plan turn x.node x.past → 2 * plan.nodes ≤ suc turn → x.past.cold_start ≡ false
 sound-late plan turn x good less at late =
     false_from_ne_true x.past.cold_start (λ cold.
@@ -273,7 +273,7 @@ sound-late plan turn x good less at late =
     let first = (at.counted.cold_start cold).1 in
     omega (arith, first, told.near, late, good.count))
 
-module _ {plan : Plan} {turn : ℕ} {x : NodeSlot} (is : IsSoundJudge plan turn x) (late : 2 * plan.nodes ≤ suc turn)
+module _ {plan : FaultPlan} {turn : ℕ} {x : NodeSlot} (is : IsSoundJudge plan turn x) (late : 2 * plan.nodes ≤ suc turn)
   where
     falls-by : (change : Change) (v : Verdict) (deviation : ℤ) → IsJudgedAs x v deviation → is_correct v ≡ false
         → (change ≡ Receiving → has_node (next_past x).members (sender plan (suc turn)) ≡ false)

@@ -2,12 +2,12 @@
 use Rattle.safety_laws.proofs.Words.{◌≡◌, ◌≢◌, ℕ, suc, ◌+◌, ◌<◌, Bool, true, false, length, refl, ap, sym, subst, ◌∙◌}
 use Rattle.safety_laws.proofs.Words.{◌⊎◌, inl, inr, mod-lt, arith, cases_lt, lt-ltb, false_from_ne_true, with_node}
 use Rattle.safety_laws.proofs.Words.{Medl, Script, ClusterStart, loses, is_within_window, SlotNumbers, Numbers}
-use Rattle.safety_laws.proofs.Words.{slot_after, deviation_in, world, Change, Sending, Receiving, Jumping, Plan, sender}
-use Rattle.safety_laws.proofs.Words.{is_armed_by, incident_at, Fate, Absent, Sound, Falling, Fallen, Listening, fate_of}
-use Rattle.safety_laws.proofs.Words.{is_lost, may_stay, is_sound, planned_members, planned_place, loss-sending}
-use Rattle.safety_laws.proofs.Words.{one-stays, fallen-member, sender-lost, turns_apart, HearsNoAnswer, Lacks, HasThird}
-use Rattle.safety_laws.proofs.Words.{Outside, NoFrame, next_past, owner_of, HearsMembers, nodes-most, IsFallingAt}
-use Rattle.safety_laws.proofs.Words.{IsFallenAt, IsTurn, sound-fate, strikes}
+use Rattle.safety_laws.proofs.Words.{slot_after, deviation_in, world, Change, Sending, Receiving, Jumping, FaultPlan}
+use Rattle.safety_laws.proofs.Words.{sender, is_armed_by, incident_at, Fate, Absent, Sound, Falling, Fallen, Listening}
+use Rattle.safety_laws.proofs.Words.{fate_of, is_lost, may_stay, is_sound_fate, planned_members, planned_place}
+use Rattle.safety_laws.proofs.Words.{loss-sending, one-stays, fallen-member, sender-lost, turns_apart, HearsNoAnswer}
+use Rattle.safety_laws.proofs.Words.{Lacks, HasThird, Outside, NoFrame, next_past, owner_of, HearsMembers, nodes-most}
+use Rattle.safety_laws.proofs.Words.{IsFallingAt, IsFallenAt, IsTurn, sound-fate, strikes}
 use Rattle.ttp_world.specs.declared.node.Phase.TheVariants as phase
 use Rattle.safety_laws.proofs.GroupSets.{has_node-with_other, has_node-with_member}
 use Rattle.safety_laws.proofs.Idle.{idle-left}
@@ -26,7 +26,7 @@ use Rattle.safety_laws.proofs.PlanTurns.{unarmed-falling, less-planned, within-p
 use Rattle.safety_laws.proofs.Listeners.{IsAwaited, awaited-armed, awaited-listening, fate-awaited}
 use Rattle.fault_plan.proofs.SlotKinds.{sender-stays as sender-unentered}
 
-module _ {list : Medl} {script : Script} {start : ClusterStart} {plan : Plan} {turn : ℕ} {new : SlotNumbers}
+module _ {list : Medl} {script : Script} {start : ClusterStart} {plan : FaultPlan} {turn : ℕ} {new : SlotNumbers}
     {numbers : Numbers} (t : IsTurn list script start plan turn new numbers) (k : ℕ) (node : k < length list.slots)
     (since : ℕ) (jumped : fate_of plan (suc turn) k ≡ Falling Jumping since) where
   -- the turn is another's,
@@ -59,7 +59,7 @@ module _ {list : Medl} {script : Script} {start : ClusterStart} {plan : Plan} {t
       by false kept =
           Outside (sender plan (suc turn)) (outside-alone k (sound-alone t sends) kept (t.clocks.others k
           (sender plan (suc turn)) since node (e-node t) jumped
-          (ap is_sound (sound-stays plan turn (sender plan (suc turn)) (good_plan t) missed sends))
+          (ap is_sound_fate (sound-stays plan turn (sender plan (suc turn)) (good_plan t) missed sends))
           (sender-unentered plan (suc turn) (good_plan t))))
 
   hears-late : (fate : Fate) → fate_of plan turn (sender plan (suc turn)) ≡ fate
@@ -117,7 +117,7 @@ module _ {list : Medl} {script : Script} {start : ClusterStart} {plan : Plan} {t
 
 -- A node that is lost before a turn or in it, and is not the turn's sender.
 
-module _ {list : Medl} {script : Script} {start : ClusterStart} {plan : Plan} {turn : ℕ} {new : SlotNumbers}
+module _ {list : Medl} {script : Script} {start : ClusterStart} {plan : FaultPlan} {turn : ℕ} {new : SlotNumbers}
     {numbers : Numbers} (t : IsTurn list script start plan turn new numbers) (k : ℕ) (node : k < length list.slots)
     (other : sender plan (suc turn) ≢ k) where
   few_nodes : 0 < plan.nodes

@@ -7,7 +7,7 @@ use Rattle.safety_laws.proofs.Words.{drift_share, surroundings_in, surroundings_
 use Rattle.safety_laws.proofs.Words.{reading_error, jump_of, spread, TellsOf, measured, clock_at, IsUpTo, AreNear}
 use Rattle.safety_laws.proofs.Words.{drift_within, error_within, continued_active, notes_anew, notes_more}
 use Rattle.safety_laws.proofs.Words.{first_slot_first, later_slot_later, clock_at-still, frame_of, frame_of-node}
-use Rattle.safety_laws.proofs.Words.{drift_in, correction, product_up, clock_after, round_notes, Plan, sender}
+use Rattle.safety_laws.proofs.Words.{drift_in, correction, product_up, clock_after, round_notes, FaultPlan, sender}
 use Rattle.safety_laws.proofs.Words.{is_good_slot, FollowsPlan, planned_place, IsSoundIn, NotedInSlot, GoesOnByPlan}
 use Rattle.safety_laws.proofs.Words.{IsTight}
 use Rattle.std.proofs.lemmas.List.Elements.{All-cons}
@@ -54,20 +54,21 @@ notes-next list row history k m place false goes is index =
     (later_slot_later place (entry_of row k) m index goes)
 
 -- A tight slot of the plan after others, and what is known then.
-pub record NextSlot (list : Medl) (script : Script) (start : ClusterStart) (plan : Plan) (slot : ℕ) (row : List Entry)
+pub record NextSlot (list : Medl) (script : Script) (start : ClusterStart) (plan : FaultPlan) (slot : ℕ)
+    (row : List Entry)
     (history : History) : Type 0 where
   pub before : GoesOnByPlan list script start plan slot history
   pub noted : NotedInSlot list script plan (suc slot) row history
   pub tight : IsTight plan (suc slot)
 
-pub index-of : (list : Medl) (script : Script) (start : ClusterStart) (plan : Plan) (slot : ℕ)
+pub index-of : (list : Medl) (script : Script) (start : ClusterStart) (plan : FaultPlan) (slot : ℕ)
     → FollowsPlan list script start plan
     → sender plan (suc slot) ≡ cond (suc (sender plan slot) == length list.slots) 0 (suc (sender plan slot))
 index-of list script start plan slot follows =
     index-next list script start plan slot (suc (sender plan slot) == length list.slots)
     (ap (λ m. suc m == length list.slots) (place-slot list script start plan slot follows)) follows
 
-module _ {list : Medl} {script : Script} {start : ClusterStart} {plan : Plan} {slot : ℕ} {history : History}
+module _ {list : Medl} {script : Script} {start : ClusterStart} {plan : FaultPlan} {slot : ℕ} {history : History}
     (is : GoesOnByPlan list script start plan slot history) where
   pub still-of : (k : ℕ) → IsSoundIn list plan (suc slot) k → jump_of script k (length history) ≡ pos 0
   still-of k p =
@@ -144,7 +145,7 @@ width-fits n a d few = omega (arith, ints, few)
 same-bound : (a b c d w : ℤ) → a ≡ c → b ≡ d → (a -ℤ b) ≤ℤ w → (c -ℤ d) ≤ℤ w
 same-bound a b c d w is was h = omega (arith, ints, is, was, h)
 
-module _ {list : Medl} {script : Script} {start : ClusterStart} {plan : Plan} {slot : ℕ} {row : List Entry}
+module _ {list : Medl} {script : Script} {start : ClusterStart} {plan : FaultPlan} {slot : ℕ} {row : List Entry}
     {history : History} (s : NextSlot list script start plan slot row history) where
   noted-each : (P : ℤ → Type 0) (k : ℕ) (good : Bool) → is_good_slot plan (suc slot) ≡ good
       → IsSoundIn list plan (suc slot) k → (k ≡ sender plan (suc slot) → P (pos 0))

@@ -7,7 +7,7 @@ use Rattle.safety_laws.proofs.Words.{world, nodes-most, coming_place-world, Hear
 use Rattle.safety_laws.proofs.Words.{HearsPlace, HearsNoPlace, NodeSlot, node_slot, SendsAlone, NoneSends, IsSlotFrame}
 use Rattle.safety_laws.proofs.Words.{HearsMembers, HearsOutside}
 use Rattle.std.proofs.Common.{◌%◌}
-use Rattle.safety_laws.specs.NodeSlot.{coming_place}
+use Rattle.safety_laws.specs.NodeSlot.{slot_place}
 use Rattle.safety_laws.proofs.Hearing.{HearsFrame-kept, HearsNoFrame-lost, HearsSilence-none}
 use Rattle.safety_laws.proofs.Joins.{joinable-explicit, joinable-without}
 use Rattle.safety_laws.proofs.GroupSets.{has_node-put_in}
@@ -55,7 +55,7 @@ module _ {list : Medl} {script : Script} {history : History} {chosen : List Chos
 
   -- inside the window, at the same place, it is the frame of the slot with the sender's members and the sender
   pub members-alone : loses script p (length history) r ≡ false
-      → coming_place (node_slot list script history chosen p) ≡ coming_place (node_slot list script history chosen r)
+      → slot_place (node_slot list script history chosen p) ≡ slot_place (node_slot list script history chosen r)
       → is_within_window list (deviation_in (slot_after list script history) r p) ≡ true
       → HearsMembers (node_slot list script history chosen r) p
       (with_node (node_slot list script history chosen p).past.members p)
@@ -88,15 +88,15 @@ module _ {list : Medl} {script : Script} (numbers : Numbers) {chosen : List Chos
   abbrev x : NodeSlot
   x = node_slot list script (world list script numbers) chosen p
 
-  pub place-alone : is_explicit (expected_header list (coming_place x)) ≡ true
-      → HearsPlace (node_slot list script (world list script numbers) chosen r) p (coming_place x)
+  pub place-alone : is_explicit (expected_header list (slot_place x)) ≡ true
+      → HearsPlace (node_slot list script (world list script numbers) chosen r) p (slot_place x)
       (with_node x.past.members p)
   place-alone explicit =
       let frame = IsSlotFrame-own x sends.own sends.payload in
       record {
         bytes = own_frame list p x.past x.chosen;
         comes = comes-alone r sends kept;
-        can = joinable-explicit list (coming_place x) (with_node x.past.members p) valid (record {
+        can = joinable-explicit list (slot_place x) (with_node x.past.members p) valid (record {
           time = time-next list x.past.place;
           cycle = coming_place-world list script numbers p valid sends.own.node;
           nodes = frame.nodes;
@@ -106,11 +106,11 @@ module _ {list : Medl} {script : Script} (numbers : Numbers) {chosen : List Chos
         nodes = frame.nodes;
       }
 
-  pub no_place-alone : is_explicit (expected_header list (coming_place x)) ≡ false
+  pub no_place-alone : is_explicit (expected_header list (slot_place x)) ≡ false
       → HearsNoPlace (node_slot list script (world list script numbers) chosen r) p
   no_place-alone implicit = record {
     bytes = own_frame list p x.past x.chosen;
     comes = comes-alone r sends kept;
-    can_not = joinable-without list (coming_place x) (with_node x.past.members p) (own_frame list p x.past x.chosen)
+    can_not = joinable-without list (slot_place x) (with_node x.past.members p) (own_frame list p x.past x.chosen)
         implicit (IsSlotFrame-own x sends.own sends.payload);
   }

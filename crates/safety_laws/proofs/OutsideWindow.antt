@@ -6,7 +6,7 @@ use Rattle.safety_laws.proofs.Words.{Send, Judge, Entry, Phase, Script, is_open,
 use Rattle.safety_laws.proofs.Words.{continues_stint, phase_after, ClusterStart, needed, drift_share, IsValid, NodePast}
 use Rattle.safety_laws.proofs.Words.{is_within_window, reading_error, jump_of, is_on, is_armed, node_past, clock_at}
 use Rattle.safety_laws.proofs.Words.{measured, IsUpTo, error_within, clock_at-still, frame_of, frame_of-node, drift_in}
-use Rattle.safety_laws.proofs.Words.{clock_after, Jumping, Plan, sender, is_sound_after, HasJumped, IsSoundIn}
+use Rattle.safety_laws.proofs.Words.{clock_after, Jumping, FaultPlan, sender, is_sound_after, HasJumped, IsSoundIn}
 use Rattle.safety_laws.proofs.Words.{NotedByPlan, GoesOnByPlan}
 use Rattle.std.proofs.lemmas.Bool.{or_cases}
 use Rattle.ttp_world.specs.declared.node.Entry.TheVariants as entry
@@ -121,7 +121,7 @@ far-outside list script history r p inside other error (inr behind) =
 
 -- The jumped clock.
 
-module _ {list : Medl} {script : Script} {start : ClusterStart} {plan : Plan} {x base : ℕ} {jump : ℤ}
+module _ {list : Medl} {script : Script} {start : ClusterStart} {plan : FaultPlan} {x base : ℕ} {jump : ℤ}
     (jumps : JumpsAfter list script start plan x base jump) where
   -- at the beginning of the slot it is as far ahead as after the slot before, and the jump is in it or comes to it now
   begun-jumped : (slot q : ℕ) (history : History) → NotedByPlan list script start plan slot history
@@ -187,7 +187,7 @@ swap-far : (list : Medl) (x y : ℤ) → AreFar list x y → AreFar list y x
 swap-far list x y (inl ahead) = inr ahead
 swap-far list x y (inr behind) = inl behind
 
-module _ {list : Medl} {script : Script} {start : ClusterStart} {plan : Plan} {slot : ℕ} {history : History}
+module _ {list : Medl} {script : Script} {start : ClusterStart} {plan : FaultPlan} {slot : ℕ} {history : History}
     (is : GoesOnByPlan list script start plan slot history) (x : ℕ) (inside : x < length list.slots) where
   jumps-after : (base : ℕ) → IsJumpTold plan (suc slot) x (suc (suc base))
       → (has_jump script x (start.slot + suc (suc base)) ≡ true)

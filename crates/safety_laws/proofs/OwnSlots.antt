@@ -14,7 +14,7 @@ use Rattle.ttp_world.specs.declared.node.Reason.TheVariants as reason
 use Rattle.ttp_world.specs.Act.{unacknowledged_act}
 use Rattle.ttp_world.specs.Conduct.{payload_sent}
 use Rattle.ttp_world.proofs.MemberSets.{members_after-Sent}
-use Rattle.safety_laws.specs.NodeSlot.{coming_place}
+use Rattle.safety_laws.specs.NodeSlot.{slot_place}
 use Rattle.safety_laws.proofs.GroupSets.{AreNodes-with}
 
 -- What the node does, by its past alone.
@@ -52,7 +52,7 @@ own_act-clique past closed few =
 -- It sends.
 
 stands-sent : (x : NodeSlot) → IsAtOwnSlot x →
-    let message = message_sent x.list (coming_place x) x.chosen in
+    let message = message_sent x.list (slot_place x) x.chosen in
     StandsBy (past_after x.list x.node x.past (entry.Sent message) x.around) (entry.Sent message)
     (sent_standing x message)
 stands-sent x is = record {
@@ -60,7 +60,7 @@ stands-sent x is = record {
   entry = refl;
   place = refl;
   members = sym (members_after-Sent x.list x.node x.past.members x.past.ack
-      (message_sent x.list (coming_place x) x.chosen) is.members is.node (nodes-most x.list is.valid));
+      (message_sent x.list (slot_place x) x.chosen) is.members is.node (nodes-most x.list is.valid));
   accepted = refl;
   rejected = refl;
   ack = refl;
@@ -73,10 +73,10 @@ pub act_made-sends : (x : NodeSlot) → IsAtOwnSlot x → x.past.ack ≡ ack.Clo
 act_made-sends x is closed more = act-own x is ∙ own_act-sends x.past closed more
 
 pub sent-own : (x : NodeSlot) → IsAtOwnSlot x → x.past.ack ≡ ack.Closed → x.past.rejected < x.past.accepted →
-    let message = message_sent x.list (coming_place x) x.chosen in
+    let message = message_sent x.list (slot_place x) x.chosen in
     StandsBy (next_past x) (entry.Sent message) (sent_standing x message)
 sent-own x is closed more =
-    let message = message_sent x.list (coming_place x) x.chosen in
+    let message = message_sent x.list (slot_place x) x.chosen in
     subst (λ (made : Entry). StandsBy (past_after x.list x.node x.past made x.around) (entry.Sent message)
     (sent_standing x message)) (entry_made-own x Send is (own_act-sends x.past closed more)) (stands-sent x is)
 
@@ -95,10 +95,10 @@ size_sent size payload fits = by (size == 0) refl
     by false is = ap (λ b. length (cond (not b) payload [])) is ∙ fits (ap not is)
 
 pub IsSlotFrame-own : (x : NodeSlot) → IsAtOwnSlot x → HasPayload x
-    → IsSlotFrame x.list (coming_place x) (with_node x.past.members x.node) (own_frame x.list x.node x.past x.chosen)
+    → IsSlotFrame x.list (slot_place x) (with_node x.past.members x.node) (own_frame x.list x.node x.past x.chosen)
 IsSlotFrame-own x is fits = record {
-  payload = payload_sent x.list (coming_place x) x.chosen;
-  size = size_sent (expected_length x.list (coming_place x)) x.chosen.payload fits;
+  payload = payload_sent x.list (slot_place x) x.chosen;
+  size = size_sent (expected_length x.list (slot_place x)) x.chosen.payload fits;
   nodes = AreNodes-with x.list x.past.members x.node is.valid is.members is.node;
   same = refl;
 }

@@ -9,7 +9,7 @@ use Rattle.ttp_world.specs.Legal.{is_legal_message}
 use Rattle.ttp_world.specs.Medl.{is_bare}
 use Rattle.ttp_world.proofs.HostMessages.{legal-size}
 use Rattle.ttp_world.proofs.LegalShapes.{legal-message}
-use Rattle.safety_laws.specs.NodeSlot.{coming_place}
+use Rattle.safety_laws.specs.NodeSlot.{slot_place}
 use Rattle.safety_laws.proofs.NodeSlots.{entry_of-made}
 use Rattle.ttp_world.proofs.DeliveredSizes.{carried_size as size_carried}
 
@@ -31,7 +31,7 @@ HasPayload-world list script new numbers k valid legal node own sends carries =
     x = node_slot list script (world list script numbers) chosen k
 
     place : Place
-    place = coming_place x
+    place = slot_place x
 
     i : ℕ
     i = x.chosen.number

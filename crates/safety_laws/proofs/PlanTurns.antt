@@ -3,16 +3,16 @@ use Rattle.safety_laws.proofs.Words.{◌≡◌, ◌≢◌, ℕ, suc, ◌+◌, �
 use Rattle.safety_laws.proofs.Words.{inl, inr, mod-lt, Bool, arith, ◌-◌, ◌≤◌, List, ◌⊎◌, cases_eq, false≢true}
 use Rattle.safety_laws.proofs.Words.{false_from_ne_true, cases_lt, has_node, with_node, Medl, Script, Place, next_place}
 use Rattle.safety_laws.proofs.Words.{ClusterStart, is_on, is_armed, SlotNumbers, Numbers, node_past, messages_chosen}
-use Rattle.safety_laws.proofs.Words.{world, length-world, Change, Plan, sender, is_armed_by, Fate, Absent, Sound}
+use Rattle.safety_laws.proofs.Words.{world, length-world, Change, FaultPlan, sender, is_armed_by, Fate, Absent, Sound}
 use Rattle.safety_laws.proofs.Words.{Falling, Fallen, Listening, fate_of, is_absent, is_lost, may_stay, is_good_slot}
-use Rattle.safety_laws.proofs.Words.{IsGoodPlan, planned_place, absent-always, place-sender, IsListening, next_past}
+use Rattle.safety_laws.proofs.Words.{IsGoodPlan, planned_place, absent-always, place-sender, ListensInSlot, next_past}
 use Rattle.safety_laws.proofs.Words.{NodeSlot, node_slot, frames_made, owner_of, SendsAlone, NoneSends, IsJudging}
 use Rattle.safety_laws.proofs.Words.{IsAtOwnSlot, IsSoundAt, IsListeningAt, IsByFate, doubts, IsCounted, IsFallingAt}
 use Rattle.safety_laws.proofs.Words.{IsFallenAt, IsTurn, Ack, is_open, message_sent, Ledger, planned_members, ledger_of}
 use Rattle.safety_laws.proofs.Words.{IsFalling, IsUnanswered, HoldsGroup, StandsBy, sent_standing}
 use Rattle.std.proofs.lemmas.Bool.{not-true}
 use Rattle.ttp_world.specs.declared.node.Phase.TheVariants as phase
-use Rattle.safety_laws.specs.NodeSlot.{coming_place}
+use Rattle.safety_laws.specs.NodeSlot.{slot_place}
 use Rattle.safety_laws.proofs.Idle.{frames_made-judging, idle-off, idle-left}
 use Rattle.safety_laws.proofs.Listening.{frames_made-listening, left-world}
 use Rattle.safety_laws.proofs.OwnSlots.{act_made-sends, sent-own, left-unacknowledged, left-clique}
@@ -37,7 +37,7 @@ closed-ack _ closed = absurd (false≢true (sym closed))
 -- A sound node.
 
 -- what is so of a good plan and of a sound node whose turn is next
-pub record IsSoundOwner (plan : Plan) (turn : ℕ) (x : NodeSlot) : Type 0 where
+pub record IsSoundOwner (plan : FaultPlan) (turn : ℕ) (x : NodeSlot) : Type 0 where
   pub good : IsGoodPlan plan
   pub nodes : plan.nodes ≡ length x.list.slots
   pub within : turn < plan.slots
@@ -45,7 +45,7 @@ pub record IsSoundOwner (plan : Plan) (turn : ℕ) (x : NodeSlot) : Type 0 where
   pub at : IsSoundAt x.list plan turn x.node x.past
   pub owner : sender plan (suc turn) ≡ x.node
 
-module _ {plan : Plan} {turn : ℕ} {x : NodeSlot} (is : IsSoundOwner plan turn x) where
+module _ {plan : FaultPlan} {turn : ℕ} {x : NodeSlot} (is : IsSoundOwner plan turn x) where
   less : x.node < plan.nodes
   less = subst (λ n. x.node < n) (sym is.nodes) is.own.node
 
@@ -76,7 +76,7 @@ module _ {plan : Plan} {turn : ℕ} {x : NodeSlot} (is : IsSoundOwner plan turn 
         omega (arith, few, is.at.counted.accepted);
   }
 
-  stands : let message = message_sent x.list (coming_place x) x.chosen in
+  stands : let message = message_sent x.list (slot_place x) x.chosen in
       StandsBy (next_past x) (entry.Sent message) (sent_standing x message)
   stands = sent-own x is.own sound-sends.closed sound-sends.more
 
@@ -101,7 +101,7 @@ module _ {plan : Plan} {turn : ℕ} {x : NodeSlot} (is : IsSoundOwner plan turn 
     place = stands.place ∙ ap (next_place x.list) is.at.place;
     group = subst (λ (group : List ℕ). HoldsGroup x.list x.node group (next_past x))
         (ap (with_node (planned_members plan turn)) (sym is.owner) ∙ sym (members-good plan turn good_is))
-        (holds-sent x (planned_members plan turn) (message_sent x.list (coming_place x) x.chosen) is.own is.at.group
+        (holds-sent x (planned_members plan turn) (message_sent x.list (slot_place x) x.chosen) is.own is.at.group
         sound-sends.closed stands);
     counted = counted-sent;
     doubted = λ y doubt. let both : ack.Doubt y ≡ ack.First = sym doubt ∙ stands.ack in cc;
@@ -121,7 +121,7 @@ module _ {plan : Plan} {turn : ℕ} {x : NodeSlot} (is : IsSoundOwner plan turn 
 
 -- A lost node.
 
-module _ (plan : Plan) (turn : ℕ) (x : NodeSlot) (good : IsGoodPlan plan) (own : IsAtOwnSlot x) where
+module _ (plan : FaultPlan) (turn : ℕ) (x : NodeSlot) (good : IsGoodPlan plan) (own : IsAtOwnSlot x) where
   -- in its first own slot it leaves, as it does in the last of the round since it was lost, or sends and is not
   -- answered yet
   pub falling-own : (change : Change) (since : ℕ) → IsFalling plan turn x.node change since
@@ -191,13 +191,13 @@ slot_of list script new numbers k =
 
 -- An active node that stands where the plan does, one that has left, one that is not switched on, and one that
 -- listens.
-pub data Stance (list : Medl) (plan : Plan) (turn : ℕ) (x : NodeSlot) : Type 0 where
+pub data Stance (list : Medl) (plan : FaultPlan) (turn : ℕ) (x : NodeSlot) : Type 0 where
   IsActive : x.past.phase ≡ phase.Active → x.past.place ≡ planned_place list plan turn → Stance list plan turn x
   HasLeft : x.past.phase ≡ phase.Left → Stance list plan turn x
   IsOff : x.past.phase ≡ phase.Off → x.on ≡ false → Stance list plan turn x
-  Listens : IsListening x → Stance list plan turn x
+  Listens : ListensInSlot x → Stance list plan turn x
 
-module _ {list : Medl} {script : Script} {start : ClusterStart} {plan : Plan} {turn : ℕ} {new : SlotNumbers}
+module _ {list : Medl} {script : Script} {start : ClusterStart} {plan : FaultPlan} {turn : ℕ} {new : SlotNumbers}
     {numbers : Numbers} (t : IsTurn list script start plan turn new numbers) where
   -- what a node is by its fate after the turn, or as a sound one, and that none sends in it, or its sender alone
 

@@ -2,11 +2,11 @@
 use Rattle.safety_laws.proofs.Words.{◌≡◌, ◌≢◌, ℕ, suc, ◌+◌, ◌<◌, pos, Bool, true, false, List, length, refl, ap, sym}
 use Rattle.safety_laws.proofs.Words.{subst, ◌∙◌, ◌⊎◌, inl, inr, mod-lt, arith, cases_eq, false≢true, has_node}
 use Rattle.safety_laws.proofs.Words.{with_node, Medl, Ack, Script, next_place, ClusterStart, loses, is_within_window}
-use Rattle.safety_laws.proofs.Words.{SlotNumbers, Numbers, slot_after, deviation_in, world, Receiving, Jumping, Plan}
-use Rattle.safety_laws.proofs.Words.{sender, Sound, Falling, Fallen, fate_of, is_sound_after, may_stay, is_good_slot}
-use Rattle.safety_laws.proofs.Words.{is_first_slot, planned_members, ledger_of, one-stays, sender-lost, HearsNoFrame}
-use Rattle.safety_laws.proofs.Words.{HearsSilence, NodeSlot, next_past, IsJudgedAs, HearsMembers, HearsOutside}
-use Rattle.safety_laws.proofs.Words.{IsSoundAt, IsFallingAt, IsTurn}
+use Rattle.safety_laws.proofs.Words.{SlotNumbers, Numbers, slot_after, deviation_in, world, Receiving, Jumping}
+use Rattle.safety_laws.proofs.Words.{FaultPlan, sender, Sound, Falling, Fallen, fate_of, is_sound_after, may_stay}
+use Rattle.safety_laws.proofs.Words.{is_good_slot, is_first_slot, planned_members, ledger_of, one-stays, sender-lost}
+use Rattle.safety_laws.proofs.Words.{HearsNoFrame, HearsSilence, NodeSlot, next_past, IsJudgedAs, HearsMembers}
+use Rattle.safety_laws.proofs.Words.{HearsOutside, IsSoundAt, IsFallingAt, IsTurn}
 use Rattle.ttp_world.specs.declared.node.Ack.TheVariants as ack
 use Rattle.ttp_world.specs.declared.node.Verdict.TheVariants as verdict
 use Rattle.fault_plan.specs.Kept.{IsHeardByPlan}
@@ -23,7 +23,7 @@ use Rattle.fault_plan.proofs.SlotKinds.{sender-stays as sender-unentered}
 
 -- A sound node that judges, where the slot is not good: what leaves it sound.
 
-module _ {plan : Plan} {turn : ℕ} {x : NodeSlot} (is : IsSoundJudge plan turn x)
+module _ {plan : FaultPlan} {turn : ℕ} {x : NodeSlot} (is : IsSoundJudge plan turn x)
     (wrong : is_good_slot plan (suc turn) ≡ false) where
   -- nobody sends
   pub silent-sound : HearsSilence x.hearing → IsSoundAt x.list plan (suc turn) x.node (next_past x)
@@ -52,11 +52,11 @@ module _ {plan : Plan} {turn : ℕ} {x : NodeSlot} (is : IsSoundJudge plan turn 
 
 -- The frame of a receiver in its first slot since it lost the frame of a sender.
 
-pub record IsDeafSender (plan : Plan) (turn since : ℕ) : Type 0 where
+pub record IsDeafSender (plan : FaultPlan) (turn since : ℕ) : Type 0 where
   pub falling : fate_of plan turn (sender plan (suc turn)) ≡ Falling Receiving since
   pub shown : fate_of plan (suc turn) (sender plan (suc turn)) ≡ Fallen Receiving since (suc turn)
 
-module _ {plan : Plan} {turn since : ℕ} {x : NodeSlot} (is : IsSoundJudge plan turn x)
+module _ {plan : FaultPlan} {turn since : ℕ} {x : NodeSlot} (is : IsSoundJudge plan turn x)
     (wrong : is_good_slot plan (suc turn) ≡ false) (first : is_first_slot plan (suc turn) ≡ true)
     (deaf : IsDeafSender plan turn since) where
   -- a node that is not this sender, or is and has been acknowledged, judges it incorrect
@@ -111,7 +111,7 @@ module _ {plan : Plan} {turn since : ℕ} {x : NodeSlot} (is : IsSoundJudge plan
 
 -- In a turn of a world.
 
-module _ {list : Medl} {script : Script} {start : ClusterStart} {plan : Plan} {turn : ℕ} {new : SlotNumbers}
+module _ {list : Medl} {script : Script} {start : ClusterStart} {plan : FaultPlan} {turn : ℕ} {new : SlotNumbers}
     {numbers : Numbers} (t : IsTurn list script start plan turn new numbers) (k : ℕ) (node : k < length list.slots)
     (other : sender plan (suc turn) ≢ k) (sound : fate_of plan turn k ≡ Sound) where
   pub sound-judge : IsSoundJudge plan turn (slot_of list script new numbers k)

@@ -2,9 +2,9 @@
 use Rattle.safety_laws.proofs.Words.{◌≡◌, ℕ, suc, ◌+◌, ◌<◌, Bool, true, false, List, length, refl, ap, sym, subst, ◌∙◌}
 use Rattle.safety_laws.proofs.Words.{arith, inl, inr, both_ways, false≢true, lt-ltb, with_node, Kind, Medl, Script}
 use Rattle.safety_laws.proofs.Words.{is_open, Place, next_place, header_of, is_explicit, ClusterStart, loses, NodePast}
-use Rattle.safety_laws.proofs.Words.{expected_header, SlotNumbers, Numbers, messages_chosen, world, node_past, Plan}
-use Rattle.safety_laws.proofs.Words.{sender, enters, is_armed_by, Fate, Absent, Sound, Falling, Fallen, Listening}
-use Rattle.safety_laws.proofs.Words.{fate_of, is_sound, is_good_slot, may_stay, is_lost, Ledger, opened}
+use Rattle.safety_laws.proofs.Words.{expected_header, SlotNumbers, Numbers, messages_chosen, world, node_past}
+use Rattle.safety_laws.proofs.Words.{FaultPlan, sender, enters, is_armed_by, Fate, Absent, Sound, Falling, Fallen}
+use Rattle.safety_laws.proofs.Words.{Listening, fate_of, is_sound_fate, is_good_slot, may_stay, is_lost, Ledger, opened}
 use Rattle.safety_laws.proofs.Words.{planned_members, planned_place, strikes, next-entered, sound-fate, entry-is}
 use Rattle.safety_laws.proofs.Words.{entry-good, armed-lost, entry-from, HearsPlace, next_past, StandsBy, joined_on}
 use Rattle.safety_laws.proofs.Words.{joined_standing, doubts, IsCounted, IsListeningAt, IsByFate, IsTurn, nat_lt}
@@ -12,7 +12,7 @@ use Rattle.ttp_world.specs.declared.medl.Kind.TheVariants as kind
 use Rattle.ttp_world.specs.declared.node.Ack.TheVariants as ack
 use Rattle.ttp_world.specs.Returning.{carries_place}
 use Rattle.fault_plan.specs.Kept.{kind_in}
-use Rattle.safety_laws.specs.NodeSlot.{coming_place}
+use Rattle.safety_laws.specs.NodeSlot.{slot_place}
 use Rattle.safety_laws.proofs.Listening.{around-silent, frame-silent, waited-none, waited-passing, joined-place}
 use Rattle.safety_laws.proofs.OneSender.{silent-none_sends, place-alone, no_place-alone}
 use Rattle.safety_laws.proofs.Arrivals.{sound-owner, sound-alone, sound-members, silent-absent, silent-listening}
@@ -44,7 +44,7 @@ counted-joined slot past accepted rejected closed later =
       cold_start = λ cold. absurd (false≢true (sym later ∙ cold));
     }
 
-module _ {list : Medl} {script : Script} {start : ClusterStart} {plan : Plan} {turn : ℕ} {new : SlotNumbers}
+module _ {list : Medl} {script : Script} {start : ClusterStart} {plan : FaultPlan} {turn : ℕ} {new : SlotNumbers}
     {numbers : Numbers} (t : IsTurn list script start plan turn new numbers) (k : ℕ) (node : k < length list.slots)
     (since : ℕ) (awaited : IsAwaited plan turn k since)
     (listens : ListensSince plan turn since (slot_of list script new numbers k)) where
@@ -62,7 +62,7 @@ module _ {list : Medl} {script : Script} {start : ClusterStart} {plan : Plan} {t
           (gone-awaited plan turn k since (good_plan t) awaited (sender plan (suc turn)))
           (ap (may_stay plan.nodes turn) is))
       by Sound is =
-          absurd (both_ways (is_good_slot plan (suc turn)) wrong (ap is_sound (sound-stays plan turn
+          absurd (both_ways (is_good_slot plan (suc turn)) wrong (ap is_sound_fate (sound-stays plan turn
           (sender plan (suc turn)) (good_plan t) (ap (λ found. strikes found (sender plan (suc turn)))
           (quiet-awaited plan turn k since (good_plan t) awaited)) is)))
 
@@ -83,7 +83,8 @@ module _ {list : Medl} {script : Script} {start : ClusterStart} {plan : Plan} {t
     alone : SendsOne t
     alone = sound-alone t sends
 
-    place_is : coming_place (slot_of list script new numbers (sender plan (suc turn))) ≡ planned_place list plan (suc turn)
+    place_is : slot_place (slot_of list script new numbers (sender plan (suc turn))) ≡ planned_place list plan
+        (suc turn)
     place_is = ap (next_place list) (sound-owner t sends).at.place
 
     number : length (world list script numbers) ≡ start.slot + suc turn
@@ -91,7 +92,7 @@ module _ {list : Medl} {script : Script} {start : ClusterStart} {plan : Plan} {t
 
     -- it carries its place where the list says so
     explicit-is : is_explicit (expected_header list
-        (coming_place (slot_of list script new numbers (sender plan (suc turn)))))
+        (slot_place (slot_of list script new numbers (sender plan (suc turn)))))
         ≡ carries_place (kind_in list plan (suc turn))
     explicit-is =
         ap (λ (place : Place). is_explicit (expected_header list place)) place_is
@@ -130,7 +131,7 @@ module _ {list : Medl} {script : Script} {start : ClusterStart} {plan : Plan} {t
           let offers = (t.planned.follows.returns found.return found.among).place
           (subst (λ slot. slot < plan.slots) (sym found.entered) found.within) in
           let hearing = t.planned.follows.hearing (suc turn) t.within in
-          let sound = ap is_sound (next-entered plan (suc turn) k (fate_of plan turn k) entered) in
+          let sound = ap is_sound_fate (next-entered plan (suc turn) k (fate_of plan turn k) entered) in
           let other = (entry-good plan (suc turn) k (good_plan t) entered).1 in
           subst (λ (told : Place × List ℕ).
           HearsPlace (slot_of list script new numbers k) (sender plan (suc turn)) told.0 told.1)
@@ -191,7 +192,7 @@ module _ {list : Medl} {script : Script} {start : ClusterStart} {plan : Plan} {t
 -- A node that is armed in a turn, and one that listened before it: both listen in it.
 
 -- a lost node that may not stay has left
-left-gone : (list : Medl) (script : Script) (plan : Plan) (turn k : ℕ) (numbers : Numbers) (fate : Fate)
+left-gone : (list : Medl) (script : Script) (plan : FaultPlan) (turn k : ℕ) (numbers : Numbers) (fate : Fate)
     → is_lost fate ≡ true → may_stay plan.nodes turn fate ≡ false
     → IsByFate list plan turn k (node_past list script (world list script numbers) k) fate
     → (node_past list script (world list script numbers) k).phase ≡ phase.Left
@@ -200,7 +201,7 @@ left-gone list script plan turn k numbers (Fallen change s shown) lost gone (inr
     absurd (both_ways (nat_lt turn (shown + plan.nodes)) gone (lt-ltb turn (shown + plan.nodes) at.soon))
 left-gone list script plan turn k numbers _ lost gone at = cc
 
-module _ {list : Medl} {script : Script} {start : ClusterStart} {plan : Plan} {turn : ℕ} {new : SlotNumbers}
+module _ {list : Medl} {script : Script} {start : ClusterStart} {plan : FaultPlan} {turn : ℕ} {new : SlotNumbers}
     {numbers : Numbers} (t : IsTurn list script start plan turn new numbers) (k : ℕ) (node : k < length list.slots)
   where
     record Listens : Type 0 where

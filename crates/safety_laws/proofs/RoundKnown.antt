@@ -2,7 +2,7 @@
 use Rattle.safety_laws.proofs.Words.{◌≡◌, ℕ, zero, suc, ◌<◌, ◌≤◌, ℤ, ◌+ℤ◌, ◌-ℤ◌, Bool, true, false, cond, List, [], ◌∷◌}
 use Rattle.safety_laws.proofs.Words.{◌++◌, length, refl, ap, sym, subst, ◌∙◌, arith, ◌==◌, All, All-nil, All-append}
 use Rattle.safety_laws.proofs.Words.{Medl, Entry, Script, notes_in, History, entry_of, continues_stint, ClusterStart}
-use Rattle.safety_laws.proofs.Words.{needed, IsValid, IsUpTo, AreNear, correction, clock_after, round_notes, Plan}
+use Rattle.safety_laws.proofs.Words.{needed, IsValid, IsUpTo, AreNear, correction, clock_after, round_notes, FaultPlan}
 use Rattle.safety_laws.proofs.Words.{sender, FollowsWithin, planned_place, IsSoundIn, NotedByPlan, IsTight}
 use Rattle.safety_laws.proofs.Apart.{noted_width, near-later, uncorrected-in, same-near}
 use Rattle.safety_laws.proofs.NearNotes.{clock_moved, clock-next, notes-next, NextSlot, index-of, small-new, near-new}
@@ -10,7 +10,7 @@ use Rattle.safety_laws.proofs.NearNotes.{sound-moved}
 use Rattle.safety_laws.proofs.RoundNotes.{Counted, place-slot, sound-goes, sound-back, tight-stays, tight-back}
 use Rattle.safety_laws.proofs.BeganTogether.{number-of, counted-run}
 
-pub record NotesKnown (list : Medl) (script : Script) (plan : Plan) (slot : ℕ) (history : History) : Type 0 where
+pub record NotesKnown (list : Medl) (script : Script) (plan : FaultPlan) (slot : ℕ) (history : History) : Type 0 where
   pub small : IsTight plan slot → sender plan slot < slot → (k : ℕ) → IsSoundIn list plan slot k
       → All (IsUpTo (needed list)) (round_notes list history k)
   -- while the round goes on
@@ -25,7 +25,7 @@ goes-from : (index m slot n : ℕ) (last : Bool) → index ≡ cond last 0 (suc 
 goes-from index m slot n true is other less = cc
 goes-from index m slot n false is other less = omega (arith, is, less)
 
-module _ {list : Medl} {script : Script} {start : ClusterStart} {plan : Plan} {slot : ℕ} {row : List Entry}
+module _ {list : Medl} {script : Script} {start : ClusterStart} {plan : FaultPlan} {slot : ℕ} {row : List Entry}
     {history : History} (s : NextSlot list script start plan slot row history) where
   counted : Counted list plan (suc slot) (row ∷ history)
   counted =
@@ -115,7 +115,8 @@ module _ {list : Medl} {script : Script} {start : ClusterStart} {plan : Plan} {s
             (sound-back list plan slot x (tight-stays plan (suc slot) x s.tight) p)
             (sound-back list plan slot k (tight-stays plan (suc slot) k s.tight) q)))
 
-pub notes-known : (list : Medl) (script : Script) (start : ClusterStart) (plan : Plan) (slot : ℕ) (history : History)
+pub notes-known : (list : Medl) (script : Script) (start : ClusterStart) (plan : FaultPlan) (slot : ℕ)
+    (history : History)
     → IsValid list → FollowsWithin list script start plan → NotedByPlan list script start plan slot history
     → length history ≤ script.slots → NotesKnown list script plan slot history
 notes-known list script start plan slot [] valid follows noted within = absurd noted

@@ -4,9 +4,9 @@ use Rattle.safety_laws.proofs.Words.{length, Some, None, refl, ap, sym, subst, �
 use Rattle.safety_laws.proofs.Words.{false_from_ne_true, has_node, Medl, Entry, Script, notes_in, stint_notes, History}
 use Rattle.safety_laws.proofs.Words.{entry_of, diary_of, continues_stint, Place, next_place, stint_place, ClusterStart}
 use Rattle.safety_laws.proofs.Words.{plan_at, TellsOf, place_continued, notes_anew, notes_more, first_slot_first}
-use Rattle.safety_laws.proofs.Words.{later_slot_later, Plan, sender, enters, fate_of, is_good_slot, is_measured, tally}
-use Rattle.safety_laws.proofs.Words.{FollowsPlan, planned_place, sound-from, place-sender, IsSoundIn, NotesNothing}
-use Rattle.safety_laws.proofs.Words.{NotedInSlot, IsTight}
+use Rattle.safety_laws.proofs.Words.{later_slot_later, FaultPlan, sender, enters, fate_of, is_good_slot, is_measured}
+use Rattle.safety_laws.proofs.Words.{tally, FollowsPlan, planned_place, sound-from, place-sender, IsSoundIn}
+use Rattle.safety_laws.proofs.Words.{NotesNothing, NotedInSlot, IsTight}
 use Rattle.std.proofs.lemmas.List.{length-append}
 use Rattle.ttp_world.specs.declared.node.Entry.TheVariants as entry
 use Rattle.precision.proofs.Frames.{begun_place, told_goes as goes-telling}
@@ -42,25 +42,25 @@ none-silent list place _ none = absurd none
 
 -- One slot of a plan.
 
-pub sender-in : (list : Medl) (script : Script) (start : ClusterStart) (plan : Plan) (slot : ℕ)
+pub sender-in : (list : Medl) (script : Script) (start : ClusterStart) (plan : FaultPlan) (slot : ℕ)
     → FollowsPlan list script start plan → sender plan slot < length list.slots
 sender-in list script start plan slot follows =
     let less : sender plan slot < plan.nodes = mod-lt (plan.starter + slot) (omega (arith, follows.good.count.0)) in
     omega (arith, less, follows.nodes)
 
-pub place-slot : (list : Medl) (script : Script) (start : ClusterStart) (plan : Plan) (slot : ℕ)
+pub place-slot : (list : Medl) (script : Script) (start : ClusterStart) (plan : FaultPlan) (slot : ℕ)
     → FollowsPlan list script start plan → (planned_place list plan slot).slot ≡ sender plan slot
 place-slot list script start plan slot follows = place-sender list plan slot follows.nodes follows.good.starter.0
 
 -- the list measures clocks in a slot where the plan does
-sync-planned : (list : Medl) (script : Script) (start : ClusterStart) (plan : Plan) (slot : ℕ)
+sync-planned : (list : Medl) (script : Script) (start : ClusterStart) (plan : FaultPlan) (slot : ℕ)
     → FollowsPlan list script start plan
     → (plan_at list (planned_place list plan slot).slot).sync ≡ has_node plan.measured (sender plan slot)
 sync-planned list script start plan slot follows =
     ap (λ m. (plan_at list m).sync) (place-slot list script start plan slot follows)
     ∙ sym (follows.measured (sender plan slot) (sender-in list script start plan slot follows))
 
-goes-on : (list : Medl) (script : Script) (plan : Plan) (slot k : ℕ) (row : List Entry) (history : History)
+goes-on : (list : Medl) (script : Script) (plan : FaultPlan) (slot k : ℕ) (row : List Entry) (history : History)
     (good : Bool) → is_good_slot plan slot ≡ good → NotedInSlot list script plan slot row history
     → IsSoundIn list plan slot k → enters plan slot k ≡ false → continues_stint (entry_of row k) ≡ true
 goes-on list script plan slot k row history true is noted p none =
@@ -68,13 +68,13 @@ goes-on list script plan slot k row history true is noted p none =
 goes-on list script plan slot k row history false is noted p none = goes-silent (entry_of row k) (noted.other k is p)
 
 -- a sound node goes on that does not enter
-pub sound-goes : (list : Medl) (script : Script) (plan : Plan) (slot k : ℕ) (row : List Entry) (history : History)
+pub sound-goes : (list : Medl) (script : Script) (plan : FaultPlan) (slot k : ℕ) (row : List Entry) (history : History)
     → NotedInSlot list script plan slot row history → IsSoundIn list plan slot k → enters plan slot k ≡ false
     → continues_stint (entry_of row k) ≡ true
 sound-goes list script plan slot k row history =
     goes-on list script plan slot k row history (is_good_slot plan slot) refl
 
-new-notes : (list : Medl) (script : Script) (start : ClusterStart) (plan : Plan) (slot k : ℕ) (row : List Entry)
+new-notes : (list : Medl) (script : Script) (start : ClusterStart) (plan : FaultPlan) (slot k : ℕ) (row : List Entry)
     (history : History) (good : Bool) → is_good_slot plan slot ≡ good → FollowsPlan list script start plan
     → NotedInSlot list script plan slot row history → IsSoundIn list plan slot k → enters plan slot k ≡ false
     → length (notes_in list (planned_place list plan slot) (entry_of row k)) ≡ cond (is_measured plan slot) 1 0
@@ -88,7 +88,7 @@ new-notes list script start plan slot k row history false is follows noted p non
 
 -- The index of a slot in its round.
 
-pub index-next : (list : Medl) (script : Script) (start : ClusterStart) (plan : Plan) (slot : ℕ) (last : Bool)
+pub index-next : (list : Medl) (script : Script) (start : ClusterStart) (plan : FaultPlan) (slot : ℕ) (last : Bool)
     → (suc (planned_place list plan slot).slot == length list.slots) ≡ last → FollowsPlan list script start plan
     → sender plan (suc slot) ≡ cond last 0 (suc (sender plan slot))
 index-next list script start plan slot last is follows =
@@ -104,20 +104,20 @@ index-next list script start plan slot last is follows =
 
 -- After a slot of the plan each sound node is at the slot's place, and it has noted one deviation for each measured
 -- slot of its round, if that began after the start and it did not enter in it.
-pub record Counted (list : Medl) (plan : Plan) (slot : ℕ) (history : History) : Type 0 where
+pub record Counted (list : Medl) (plan : FaultPlan) (slot : ℕ) (history : History) : Type 0 where
   pub places : (k : ℕ) → IsSoundIn list plan slot k
       → stint_place list k (diary_of history k) ≡ planned_place list plan slot
   pub notes : (k from : ℕ) → IsSoundIn list plan slot k → 0 < from → from + sender plan slot ≡ slot
       → ((turn : ℕ) → from ≤ turn → turn ≤ slot → enters plan turn k ≡ false)
       → length (stint_notes list k (diary_of history k)) ≡ tally (is_measured plan) from (suc (sender plan slot))
 
-pub counted-start : (list : Medl) (script : Script) (start : ClusterStart) (plan : Plan) (row : List Entry)
+pub counted-start : (list : Medl) (script : Script) (start : ClusterStart) (plan : FaultPlan) (row : List Entry)
     (history : History) → ((k : ℕ) → IsSoundIn list plan 0 k
     → stint_place list k (diary_of (row ∷ history) k) ≡ planned_place list plan 0) → Counted list plan 0 (row ∷ history)
 counted-start list script start plan row history places =
     record { places = places; notes = λ k from p later is never. absurd (omega (arith, later, is)) }
 
-place-next : (list : Medl) (script : Script) (plan : Plan) (slot k : ℕ) (row : List Entry) (history : History)
+place-next : (list : Medl) (script : Script) (plan : FaultPlan) (slot k : ℕ) (row : List Entry) (history : History)
     → NotedInSlot list script plan (suc slot) row history → IsSoundIn list plan (suc slot) k
     → enters plan (suc slot) k ≡ false → stint_place list k (diary_of history k) ≡ planned_place list plan slot
     → stint_place list k (diary_of (row ∷ history) k) ≡ planned_place list plan (suc slot)
@@ -126,14 +126,15 @@ place-next list script plan slot k row history noted p none is =
     (sound-goes list script plan (suc slot) k row history noted p none) ∙ ap (next_place list) is
 
 -- a node that is sound after the next slot, and does not enter in it, is so after this one
-pub sound-back : (list : Medl) (plan : Plan) (slot k : ℕ) → enters plan (suc slot) k ≡ false
+pub sound-back : (list : Medl) (plan : FaultPlan) (slot k : ℕ) → enters plan (suc slot) k ≡ false
     → IsSoundIn list plan (suc slot) k → IsSoundIn list plan slot k
 sound-back list plan slot k none p = (p.0, sound-from plan (suc slot) k (fate_of plan slot k) none p.1)
 
 plus-none : (n : ℕ) → n + 0 ≡ n
 plus-none n = omega arith
 
-pub counted-next : (list : Medl) (script : Script) (start : ClusterStart) (plan : Plan) (slot : ℕ) (row : List Entry)
+pub counted-next : (list : Medl) (script : Script) (start : ClusterStart) (plan : FaultPlan) (slot : ℕ)
+    (row : List Entry)
     (history : History) → FollowsPlan list script start plan → NotedInSlot list script plan (suc slot) row history
     → Counted list plan slot history → Counted list plan (suc slot) (row ∷ history)
 counted-next list script start plan slot row history follows noted before = record {
@@ -194,13 +195,14 @@ counted-next list script start plan slot row history follows noted before = reco
 -- A tight slot.
 
 -- no node enters in it
-pub tight-stays : (plan : Plan) (slot k : ℕ) → IsTight plan slot → enters plan slot k ≡ false
+pub tight-stays : (plan : FaultPlan) (slot k : ℕ) → IsTight plan slot → enters plan slot k ≡ false
 tight-stays plan slot k tight = false_from_ne_true (enters plan slot k) (λ enter.
     let soon = tight slot k (omega arith) enter in
     omega (arith, soon))
 
 -- and the slots before it in its round are tight too
-pub tight-back : (plan : Plan) (slot : ℕ) → sender plan (suc slot) ≡ suc (sender plan slot) → IsTight plan (suc slot)
+pub tight-back : (plan : FaultPlan) (slot : ℕ) → sender plan (suc slot) ≡ suc (sender plan slot)
+    → IsTight plan (suc slot)
     → IsTight plan slot
 tight-back plan slot index tight turn k to enter =
     let soon = tight turn k (omega (arith, to)) enter in

@@ -5,8 +5,8 @@ use Rattle.safety_laws.proofs.Words.{and_from, and_parts, leb-true, both_ways, n
 use Rattle.safety_laws.proofs.Words.{Phase, Script, is_doubt, has_sent_in_stint, has_left_since_arm, History, diary_of}
 use Rattle.safety_laws.proofs.Words.{is_active_phase, is_active, ClusterStart, FaultyNode, nodes_of, newest_slot}
 use Rattle.safety_laws.proofs.Words.{is_settled, are_same_members, has_left, is_in_among, is_out_among, is_armed}
-use Rattle.safety_laws.proofs.Words.{node_past, each-filter, Plan, enters, fate_of, lost_since, ledger_of, ledger-told}
-use Rattle.safety_laws.proofs.Words.{IsSoundAt, is_there, sound-fate}
+use Rattle.safety_laws.proofs.Words.{node_past, each-filter, FaultPlan, enters, fate_of, lost_since, ledger_of}
+use Rattle.safety_laws.proofs.Words.{ledger-told, IsSoundAt, is_there, sound-fate}
 use Rattle.std.proofs.lemmas.Bool.{or_left}
 use Rattle.ttp_world.specs.declared.node.Ack.TheVariants as ack
 use Rattle.ttp_world.specs.BackSafety.{back_correct_nodes, back_settled_nodes, back_senders}
@@ -20,7 +20,7 @@ use Rattle.safety_laws.proofs.Among.{all-by, each-of, newest, IsSoundNode, at-so
 use Rattle.safety_laws.proofs.Among.{in-sound, gone-lost}
 use Rattle.safety_laws.proofs.PlanSteps.{told-fallen}
 
-module _ (list : Medl) (script : Script) (start : ClusterStart) (plan : Plan) (turn : ℕ) (history : History)
+module _ (list : Medl) (script : Script) (start : ClusterStart) (plan : FaultPlan) (turn : ℕ) (history : History)
     (is : StandsBack list script start plan turn history) where
   newest-is : newest_slot history ≡ start.slot + turn
   newest-is = newest is.stands

@@ -3,8 +3,8 @@ use Rattle.safety_laws.proofs.Words.{◌≡◌, ℕ, suc, ◌+◌, ◌-◌, ◌*
 use Rattle.safety_laws.proofs.Words.{Some, refl, ap, sym, subst, ◌∙◌, arith, nat_le, AllByRecursion, or_right, leb-true}
 use Rattle.safety_laws.proofs.Words.{below-lt, Medl, Phase, Script, History, diary_of, ClusterStart, FaultyNode}
 use Rattle.safety_laws.proofs.Words.{nodes_of, is_correct_after, is_left_phase, newest_slot, is_settled, has_ever_sent}
-use Rattle.safety_laws.proofs.Words.{has_left, is_in_among, IsSafe, node_past, each-filter, Plan, fate_of, lost_since}
-use Rattle.safety_laws.proofs.Words.{none-enters, IsSoundAt, FaultyLeave, StandsAfter}
+use Rattle.safety_laws.proofs.Words.{has_left, is_in_among, IsSafe, node_past, each-filter, FaultPlan, fate_of}
+use Rattle.safety_laws.proofs.Words.{lost_since, none-enters, IsSoundAt, FaultyLeave, StandsWithFaults}
 use Rattle.ttp_world.specs.Hypothesis.{faulty_nodes_after}
 use Rattle.ttp_world.specs.Safety.{correct_nodes, settled_nodes}
 use Rattle.ttp_world.specs.Safety.{correct_senders, is_out, is_gone, members_agree, senders_are_members}
@@ -12,8 +12,8 @@ use Rattle.ttp_world.specs.Safety.{none_has_left, faulty_are_gone}
 use Rattle.safety_laws.proofs.Among.{all-by, each-of, newest, IsSoundNode, at-sound, agree-settled, in-sound}
 use Rattle.safety_laws.proofs.Among.{gone-lost}
 
-module _ {list : Medl} {script : Script} {start : ClusterStart} {plan : Plan} {turn : ℕ} {history : History}
-    (is : StandsAfter list script start plan turn history) where
+module _ {list : Medl} {script : Script} {start : ClusterStart} {plan : FaultPlan} {turn : ℕ} {history : History}
+    (is : StandsWithFaults list script start plan turn history) where
   newest-is : newest_slot history ≡ start.slot + turn
   newest-is = newest is.stands
 

@@ -1,8 +1,8 @@
 -- A sound node that is not the sender of a turn, and is not lost in it, is sound as the plan says after it.
 use Rattle.safety_laws.proofs.Words.{◌≡◌, ◌≢◌, ℕ, suc, ◌<◌, Bool, true, false, length, refl, ap, sym, subst, ◌∙◌, inl}
 use Rattle.safety_laws.proofs.Words.{inr, arith, Medl, Script, ClusterStart, loses, SlotNumbers, Numbers, Change}
-use Rattle.safety_laws.proofs.Words.{Sending, Receiving, Jumping, Plan, sender, incident_at, Fate, Absent, Sound}
-use Rattle.safety_laws.proofs.Words.{Falling, Fallen, Listening, fate_of, is_sound, is_sound_after, is_good_slot}
+use Rattle.safety_laws.proofs.Words.{Sending, Receiving, Jumping, FaultPlan, sender, incident_at, Fate, Absent, Sound}
+use Rattle.safety_laws.proofs.Words.{Falling, Fallen, Listening, fate_of, is_sound_fate, is_sound_after, is_good_slot}
 use Rattle.safety_laws.proofs.Words.{is_first_slot, IsFalling, strikes, loss-sending, next_past, IsFallingAt}
 use Rattle.safety_laws.proofs.Words.{IsFallenAt, IsTurn}
 use Rattle.safety_laws.proofs.Arrivals.{sound-alone, silent-absent, silent-listening, silent-fallen, falling-acts}
@@ -12,7 +12,7 @@ use Rattle.safety_laws.proofs.Receivers.{receives-good, receives-silence, receiv
 use Rattle.safety_laws.proofs.Receivers.{receives-jumped, receives-deaf}
 use Rattle.safety_laws.proofs.PlanTurns.{NextSound, SendsNone, SendsOne, slot_of, slot_number, none-sends, good_plan}
 
-module _ {list : Medl} {script : Script} {start : ClusterStart} {plan : Plan} {turn : ℕ} {new : SlotNumbers}
+module _ {list : Medl} {script : Script} {start : ClusterStart} {plan : FaultPlan} {turn : ℕ} {new : SlotNumbers}
     {numbers : Numbers} (t : IsTurn list script start plan turn new numbers) (k : ℕ) (node : k < length list.slots)
     (other : sender plan (suc turn) ≢ k) (sound : fate_of plan turn k ≡ Sound)
     (stays : is_sound_after plan (suc turn) k ≡ true) where
@@ -25,7 +25,7 @@ module _ {list : Medl} {script : Script} {start : ClusterStart} {plan : Plan} {t
       shown = struck-shown plan turn (sender plan (suc turn)) (good_plan t) struck refl
 
       wrong : is_good_slot plan (suc turn) ≡ false
-      wrong = ap is_sound shown
+      wrong = ap is_sound_fate shown
 
       first : is_first_slot plan (suc turn) ≡ true
       first = first-shown plan (suc turn) (suc turn) struck.incident.change shown
@@ -58,7 +58,7 @@ module _ {list : Medl} {script : Script} {start : ClusterStart} {plan : Plan} {t
       shown = falling-shown plan turn (sender plan (suc turn)) since change (good_plan t) refl falls
 
       wrong : is_good_slot plan (suc turn) ≡ false
-      wrong = ap is_sound shown
+      wrong = ap is_sound_fate shown
 
       first : is_first_slot plan (suc turn) ≡ true
       first = first-shown plan (suc turn) since change shown
@@ -84,10 +84,11 @@ module _ {list : Medl} {script : Script} {start : ClusterStart} {plan : Plan} {t
           (slot_of list script new numbers (sender plan (suc turn))).past) how sends.1) apart
 
   -- nobody sends, the sender being none that is sound
-  by-silence : {fate : Fate} → fate_of plan turn (sender plan (suc turn)) ≡ fate → is_sound fate ≡ false → SendsNone t
+  by-silence : {fate : Fate} → fate_of plan turn (sender plan (suc turn)) ≡ fate → is_sound_fate fate ≡ false
+      → SendsNone t
       → NextSound t k
   by-silence is unsound none =
-      receives-silence t k node other sound (wrong-slot plan turn (good_plan t) (ap is_sound is ∙ unsound)) none
+      receives-silence t k node other sound (wrong-slot plan turn (good_plan t) (ap is_sound_fate is ∙ unsound)) none
 
   by-fate : (fate : Fate) → fate_of plan turn (sender plan (suc turn)) ≡ fate → NextSound t k
   by-fate Absent is = by-silence is refl (silent-absent t is)
@@ -100,7 +101,7 @@ module _ {list : Medl} {script : Script} {start : ClusterStart} {plan : Plan} {t
       by true hit = by-struck is (struck-known plan (suc turn) (sender plan (suc turn)) hit)
       by false missed =
           receives-good t k node other sound
-          (ap is_sound (sound-stays plan turn (sender plan (suc turn)) (good_plan t) missed is)) is stays
+          (ap is_sound_fate (sound-stays plan turn (sender plan (suc turn)) (good_plan t) missed is)) is stays
 
   pub sound-next : NextSound t k
   sound-next = by-fate (fate_of plan turn (sender plan (suc turn))) refl

@@ -16,7 +16,7 @@ use Rattle.ttp_world.specs.declared.node.Phase.TheVariants as phase
 use Rattle.ttp_world.specs.Starts.{StartsAlone}
 use Rattle.ttp_world.proofs.MemberSets.{members_after-Started}
 use Rattle.safety_laws.specs.Standing.{Standing}
-use Rattle.safety_laws.specs.Start.{HasBegun}
+use Rattle.safety_laws.specs.Start.{IsStartedBy}
 use Rattle.safety_laws.proofs.Hearing.{HearsFrame-kept}
 use Rattle.safety_laws.proofs.Joins.{AreNodes-only, joinable-cold_start}
 use Rattle.safety_laws.proofs.Listening.{notes-begun, joined-place}
@@ -93,7 +93,7 @@ stands-started list k past s valid node =
 -- by what a node stands by it has begun
 begun-by : (list : Medl) (p k : ℕ) (past : NodePast) (e : Entry) (now : Standing) → AreNodes list (p ∷ [])
     → now.place ≡ start_place p → now.members ≡ p ∷ [] → ((k ≡ p) × (now.ack ≡ ack.First)) ⊎ (now.ack ≡ ack.Closed)
-    → StandsBy past e now → HasBegun list p k past
+    → StandsBy past e now → IsStartedBy list p k past
 begun-by list p k past e now nodes place members how stands = record {
   phase = stands.phase;
   place = stands.place ∙ place;
@@ -191,10 +191,11 @@ module _ (list : Medl) (script : Script) (start : ClusterStart) (history : Histo
 
   -- So all that are on have begun together.
   pub has-begun : IsStartHeard list script start → (k : ℕ) → k < length list.slots → is_on script k start.slot ≡ true
-      → HasBegun list start.node k (node_past list script (step list script history chosen) k)
+      → IsStartedBy list start.node k (node_past list script (step list script history chosen) k)
   has-begun heard k node on = elim (cases_eq k start.node) [
     | inl same ↦
-        subst (λ j. HasBegun list start.node j (node_past list script (step list script history chosen) j)) (sym same)
+        subst (λ j. IsStartedBy list start.node j (node_past list script (step list script history chosen) j))
+        (sym same)
         (begun-by list start.node start.node _ entry.Started (starter_standing list start.node)
         (AreNodes-only list start.node valid alone.node) refl refl (inl (refl, refl)) starter-stands)
     | inr other ↦

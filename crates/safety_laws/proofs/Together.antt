@@ -2,8 +2,8 @@
 -- clocks together.
 use Rattle.safety_laws.proofs.Words.{◌≡◌, ℕ, zero, suc, ◌+◌, ◌<◌, [], ◌∷◌, length, inl, inr, arith, Medl, Script}
 use Rattle.safety_laws.proofs.Words.{ClusterStart, IsLegal, IsValid, SlotNumbers, Numbers, slot_after, world}
-use Rattle.safety_laws.proofs.Words.{legal-older, FollowsWithin, Plan, NotedByPlan, GoesOnByPlan, IsBegun, IsTurn}
-use Rattle.safety_laws.proofs.Words.{IsByPlan}
+use Rattle.safety_laws.proofs.Words.{legal-older, FollowsWithin, FaultPlan, NotedByPlan, GoesOnByPlan, IsBegunAlone}
+use Rattle.safety_laws.proofs.Words.{IsTurn, IsByPlan}
 use Rattle.safety_laws.specs.ClocksHold.{ClocksHold}
 use Rattle.safety_laws.proofs.Bounds.{sound-inside}
 use Rattle.safety_laws.proofs.OutsideWindow.{jumped-outside}
@@ -11,14 +11,14 @@ use Rattle.safety_laws.proofs.Begins.{holds-begun}
 use Rattle.safety_laws.proofs.WorldSteps.{holds-next, started-by_plan, noted-next}
 
 -- in a world whose nodes noted by a plan up to a turn, the clocks of the next slot hold as membership asks it
-abbrev pub KeepsClocks : Medl → Script → ClusterStart → Plan → Type 0
+abbrev pub KeepsClocks : Medl → Script → ClusterStart → FaultPlan → Type 0
 KeepsClocks list script start plan =
     (turn : ℕ) (numbers : Numbers) → NotedByPlan list script start plan turn (world list script numbers)
     → start.slot + suc turn < script.slots
     → ClocksHold list plan (suc turn) (slot_after list script (world list script numbers))
 
 -- so it is within the list's bounds
-pub clocks-hold : (list : Medl) (script : Script) (start : ClusterStart) (plan : Plan) → IsValid list
+pub clocks-hold : (list : Medl) (script : Script) (start : ClusterStart) (plan : FaultPlan) → IsValid list
     → FollowsWithin list script start plan → KeepsClocks list script start plan
 clocks-hold list script start plan valid follows turn numbers noted within =
     let goes : GoesOnByPlan list script start plan turn (world list script numbers) =
@@ -31,7 +31,8 @@ clocks-hold list script start plan valid follows turn numbers noted within =
           (jumped-outside goes r node p since (inl jumped) (sends, sound)).1;
     }
 
-module _ (list : Medl) (script : Script) (start : ClusterStart) (plan : Plan) (is : IsBegun list script start plan)
+module _ (list : Medl) (script : Script) (start : ClusterStart) (plan : FaultPlan)
+    (is : IsBegunAlone list script start plan)
     (clocks : KeepsClocks list script start plan) where
   pub turn-next : (turn : ℕ) (new : SlotNumbers) (numbers : Numbers) → length numbers ≡ start.slot + suc turn
       → start.slot + suc turn < script.slots → IsLegal list script (new ∷ numbers)

@@ -13,7 +13,7 @@ use Rattle.ttp_world.specs.declared.node.Entry.TheVariants as entry
 use Rattle.ttp_world.specs.declared.node.Reason.TheVariants as reason
 use Rattle.ttp_world.specs.declared.node.Verdict.TheVariants as verdict
 use Rattle.ttp_world.proofs.MemberSets.{members_after-Judged}
-use Rattle.safety_laws.specs.NodeSlot.{coming_place}
+use Rattle.safety_laws.specs.NodeSlot.{slot_place}
 use Rattle.safety_laws.specs.Standing.{judged_standing}
 use Rattle.safety_laws.proofs.Judging.{judging_entry-frame, judging_entry-none, judging_entry-silence}
 use Rattle.safety_laws.proofs.GroupSets.{AreCandidates-node, put_in≢taken_out}
@@ -101,7 +101,7 @@ module _ (x : NodeSlot) (sender : ℕ) (members : List ℕ) (is : IsJudging x) (
   entry-by_view v seen =
       judging_entry-frame x.list x.node x.past x.hearing (record { sender = sender; bytes = hears.bytes }) hears.comes
       ∙ ap (λ (w : ChannelView). verdict_entry (owner_of x) (verdict_of_view w x.past.ack) (x.hearing.deviation sender))
-      (view_of_bits-members x.list (coming_place x) (candidates_of x) members hears.bytes (x.hearing.deviation sender)
+      (view_of_bits-members x.list (slot_place x) (candidates_of x) members hears.bytes (x.hearing.deviation sender)
       is.valid hears.frame (AreCandidates-node x.list x.past.ack x.node (owner_of x) x.past.members is.valid is.node
       is.owner is.doubted is.members) hears.within ∙ seen)
 

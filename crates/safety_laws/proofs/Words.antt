@@ -11,14 +11,14 @@ pub use Rattle.fault_plan.proofs.Returns.{armed-lost, enters-by, entry-from, ent
 pub use Rattle.fault_plan.proofs.SlotKinds.{sender-stays}
 pub use Rattle.fault_plan.proofs.Turns.{turns_apart}
 pub use Rattle.fault_plan.specs.Fates.{Absent, Fallen, Falling, Fate, Listening, Sound, fate_of, is_absent}
-pub use Rattle.fault_plan.specs.Fates.{is_first_slot, is_good_slot, is_lost, is_measured, is_sound, is_sound_after}
+pub use Rattle.fault_plan.specs.Fates.{is_first_slot, is_good_slot, is_lost, is_measured, is_sound_fate, is_sound_after}
 pub use Rattle.fault_plan.specs.Fates.{lost_since, may_stay, struck, tally, turned}
 pub use Rattle.fault_plan.specs.GoodPlan.{IsGoodPlan}
 pub use Rattle.fault_plan.specs.Kept.{FollowsPlan, FollowsWithin, KeepsByPlan}
 pub use Rattle.fault_plan.specs.Ledger.{Ledger, ledger_of, opened, planned_members, with_slot}
 pub use Rattle.fault_plan.specs.Places.{planned_place}
-pub use Rattle.fault_plan.specs.Plan.{Change, Incident, Jumping, Plan, Receiving, Return, Sending, enters, incident_at}
-pub use Rattle.fault_plan.specs.Plan.{is_armed_by, plan_of, sender}
+pub use Rattle.fault_plan.specs.Plan.{Change, Incident, Jumping, FaultPlan, Receiving, Return, Sending, enters}
+pub use Rattle.fault_plan.specs.Plan.{incident_at, is_armed_by, fault_plan_of, sender}
 pub use Rattle.fault_plan.specs.Told.{IsFalling, IsLossOf, IsTold}
 pub use Rattle.precision.proofs.Averages.{AreNear, IsUpTo}
 pub use Rattle.precision.proofs.ClockBounds.{drift_within, error_within}
@@ -33,19 +33,19 @@ pub use Rattle.safety_laws.specs.ByFate.{IsByFate, IsCounted, IsFallenAt, IsFall
 pub use Rattle.safety_laws.specs.ByFate.{is_there}
 pub use Rattle.safety_laws.specs.ByPlan.{IsByPlan}
 pub use Rattle.safety_laws.specs.Deliveries.{delivery_at, payload_of_frame}
-pub use Rattle.safety_laws.specs.Entries.{IsNewest, NoneEnters}
+pub use Rattle.safety_laws.specs.Entries.{IsNewestEntry, NoneEnters}
 pub use Rattle.safety_laws.specs.Gone.{FaultyLeave}
 pub use Rattle.safety_laws.specs.Groups.{HasThird, HearsNoAnswer, HoldsGroup, IsNotAbout, IsUnanswered, Lacks, NoFrame}
 pub use Rattle.safety_laws.specs.Groups.{Outside, held_with}
 pub use Rattle.safety_laws.specs.Heard.{HearsFrame, HearsNoFrame, HearsSilence, OnA, OnB, OnBoth, is_frameless}
 pub use Rattle.safety_laws.specs.Jumps.{HasJumped}
-pub use Rattle.safety_laws.specs.Listening.{HearsNoPlace, HearsPlace, IsListening}
+pub use Rattle.safety_laws.specs.Listening.{HearsNoPlace, HearsPlace, ListensInSlot}
 pub use Rattle.safety_laws.specs.NodeSlot.{NodeSlot, act_made, candidates_of, entry_made, frames_made, next_past}
 pub use Rattle.safety_laws.specs.NodeSlot.{node_slot, owner_of}
 pub use Rattle.safety_laws.specs.NotedByPlan.{GoesOnByPlan, IsSoundIn, IsTight, NotedByPlan, NotedInSlot, NotesNothing}
 pub use Rattle.safety_laws.specs.NotedByPlan.{StartedByPlan}
 pub use Rattle.safety_laws.specs.PlanTurn.{HoldsAfter, IsTurn}
-pub use Rattle.safety_laws.specs.PlannedRun.{IsBegun, StandsAfter}
+pub use Rattle.safety_laws.specs.PlannedRun.{IsBegunAlone, StandsWithFaults}
 pub use Rattle.safety_laws.specs.SameFrames.{AcceptsAlikeSince, StandsAlikeSince, message_given}
 pub use Rattle.safety_laws.specs.Senders.{NoneSends, SendsAlone}
 pub use Rattle.safety_laws.specs.SlotFrames.{AreCandidates, IsSlotFrame, is_second, slot_frame, view_of_members}
@@ -54,7 +54,7 @@ pub use Rattle.safety_laws.specs.Standing.{sent_standing}
 pub use Rattle.safety_laws.specs.Start.{IsStartHeard, Waits, joined_on_start, slots_on, slots_since, starter_standing}
 pub use Rattle.safety_laws.specs.Start.{waiting_phase}
 pub use Rattle.safety_laws.specs.Turns.{HasPayload, HearsMembers, HearsOutside, IsAboutListed, IsAtOwnSlot, IsJudging}
-pub use Rattle.safety_laws.specs.WorkedSlots.{at, faultless, four_nodes, silent}
+pub use Rattle.safety_laws.specs.WorkedSlots.{at, faultless, four_kinds, first_frame_lost}
 pub use Rattle.std.proofs.Common.{Bool, IfSome, IsTrue, List, None, Option, Some, [], ap, arith, cond, false, get_or}
 pub use Rattle.std.proofs.Common.{inl, inr, length, mod-lt, neg_ℤ, not, option_map, pos, refl, subst, suc, sym, true}
 pub use Rattle.std.proofs.Common.{unwrap_or, zero, ℕ, ℤ, ◌&&◌, ◌*ℤ◌, ◌*◌, ◌++◌, ◌+ℤ◌, ◌+◌, ◌-ℤ◌, ◌-◌, ◌<◌, ◌||◌, ◌∙◌}

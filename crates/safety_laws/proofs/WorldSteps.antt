@@ -4,15 +4,15 @@ use Rattle.safety_laws.proofs.Words.{inl, inr, ◌≤◌, not, ◌&&◌, ◌||�
 use Rattle.safety_laws.proofs.Words.{both_ways, and_from, and_parts, and_right, false≢true, false_from_ne_true, Medl}
 use Rattle.safety_laws.proofs.Words.{Entry, Phase, Script, is_left_after, has_left_since_arm, has_sent_since_begin}
 use Rattle.safety_laws.proofs.Words.{has_sent_in_stint, ClusterStart, is_left_phase, NodePast, is_armed, SlotNumbers}
-use Rattle.safety_laws.proofs.Words.{Numbers, messages_chosen, world, slot_after, row_in, Change, Plan, sender}
+use Rattle.safety_laws.proofs.Words.{Numbers, messages_chosen, world, slot_after, row_in, Change, FaultPlan, sender}
 use Rattle.safety_laws.proofs.Words.{incident_at, is_armed_by, enters, Fate, Absent, Sound, Falling, Fallen, Listening}
-use Rattle.safety_laws.proofs.Words.{fate_of, is_sound, is_lost, is_sound_after, is_good_slot, is_first_slot, strikes}
-use Rattle.safety_laws.proofs.Words.{sound-from, sound-fate, next_past, NodeSlot, entry_made, is_there, IsByFate}
-use Rattle.safety_laws.proofs.Words.{IsSoundAt, HoldsAfter, IsTurn, Diary, entry_of, diary_of, is_active_phase}
-use Rattle.safety_laws.proofs.Words.{is_active, begins_stint, is_sending, has_ever_sent, Ledger, ledger_of, with_slot}
-use Rattle.safety_laws.proofs.Words.{IsJudging, is_correct, row_of_world, length-world, BeginsOn, TellsOf}
-use Rattle.safety_laws.proofs.Words.{planned_place, entry-good, none-enters, sender-stays, IsSoundIn, StartedByPlan}
-use Rattle.safety_laws.proofs.Words.{NotesNothing, NotedInSlot, IsBegun}
+use Rattle.safety_laws.proofs.Words.{fate_of, is_sound_fate, is_lost, is_sound_after, is_good_slot, is_first_slot}
+use Rattle.safety_laws.proofs.Words.{strikes, sound-from, sound-fate, next_past, NodeSlot, entry_made, is_there}
+use Rattle.safety_laws.proofs.Words.{IsByFate, IsSoundAt, HoldsAfter, IsTurn, Diary, entry_of, diary_of}
+use Rattle.safety_laws.proofs.Words.{is_active_phase, is_active, begins_stint, is_sending, has_ever_sent, Ledger}
+use Rattle.safety_laws.proofs.Words.{ledger_of, with_slot, IsJudging, is_correct, row_of_world, length-world, BeginsOn}
+use Rattle.safety_laws.proofs.Words.{TellsOf, planned_place, entry-good, none-enters, sender-stays, IsSoundIn}
+use Rattle.safety_laws.proofs.Words.{StartedByPlan, NotesNothing, NotedInSlot, IsBegunAlone}
 use Rattle.safety_laws.proofs.Idle.{idle-off}
 use Rattle.safety_laws.proofs.NodeSlots.{entry_of-made, node_past-step}
 use Rattle.safety_laws.proofs.Returners.{listening-next, armed-next, entered-joins}
@@ -55,7 +55,7 @@ stint-joined e f diary is unsent begins =
     ∙ (λ i. is_active (f ∷ diary) && (unsent i || (not (begins i) && has_sent_since_begin diary)))
     ∙ and_right (is_active (f ∷ diary)) false refl
 
-module _ {list : Medl} {script : Script} {start : ClusterStart} {plan : Plan} {turn : ℕ} {new : SlotNumbers}
+module _ {list : Medl} {script : Script} {start : ClusterStart} {plan : FaultPlan} {turn : ℕ} {new : SlotNumbers}
     {numbers : Numbers} (t : IsTurn list script start plan turn new numbers) where
   abbrev row_now : List Entry
   row_now =
@@ -125,7 +125,7 @@ module _ {list : Medl} {script : Script} {start : ClusterStart} {plan : Plan} {t
 
 -- After one turn more each node of a world is what its fate says.
 
-module _ {list : Medl} {script : Script} {start : ClusterStart} {plan : Plan} {turn : ℕ} {new : SlotNumbers}
+module _ {list : Medl} {script : Script} {start : ClusterStart} {plan : FaultPlan} {turn : ℕ} {new : SlotNumbers}
     {numbers : Numbers} (t : IsTurn list script start plan turn new numbers) where
   of-fate : (k : ℕ) (past : NodePast) (fate : Fate) → fate_of plan (suc turn) k ≡ fate
       → IsByFate list plan (suc turn) k past fate → IsByFate list plan (suc turn) k past (fate_of plan (suc turn) k)
@@ -143,7 +143,7 @@ module _ {list : Medl} {script : Script} {start : ClusterStart} {plan : Plan} {t
           (inr (struck-next t k node other is struck))
       by-sound is false missed =
           let stays = sound-stays plan turn k (good_plan t) missed is in
-          of-fate k _ Sound stays (sound-next t k node other is (ap is_sound stays))
+          of-fate k _ Sound stays (sound-next t k node other is (ap is_sound_fate stays))
 
       by-fallen : (change : Change) (since shown : ℕ) → fate_of plan turn k ≡ Fallen change since shown → (armed : Bool)
           → is_armed_by plan (suc turn) k ≡ armed → NextByFate t k
@@ -177,7 +177,7 @@ module _ {list : Medl} {script : Script} {start : ClusterStart} {plan : Plan} {t
           (inr (lost-sent (sound-owner t is)))
       by-sound is false missed =
           let stays = sound-stays plan turn (sender plan (suc turn)) (good_plan t) missed is in
-          of-fate (sender plan (suc turn)) _ Sound stays (sound-sent (sound-owner t is) (ap is_sound stays))
+          of-fate (sender plan (suc turn)) _ Sound stays (sound-sent (sound-owner t is) (ap is_sound_fate stays))
 
       by-fallen : (change : Change) (since shown : ℕ)
           → fate_of plan turn (sender plan (suc turn)) ≡ Fallen change since shown → (armed : Bool)
@@ -267,8 +267,8 @@ module _ {list : Medl} {script : Script} {start : ClusterStart} {plan : Plan} {t
 -- What nodes note in the slot of the start, and in each turn after it.
 
 -- the slot of the start
-pub started-by_plan : (list : Medl) (script : Script) (start : ClusterStart) (plan : Plan) (new : SlotNumbers)
-    (numbers : Numbers) → IsBegun list script start plan → length numbers ≡ start.slot
+pub started-by_plan : (list : Medl) (script : Script) (start : ClusterStart) (plan : FaultPlan) (new : SlotNumbers)
+    (numbers : Numbers) → IsBegunAlone list script start plan → length numbers ≡ start.slot
     → StartedByPlan list script start plan (row_of_world list script new numbers) (world list script numbers)
 started-by_plan list script start plan new numbers is now = record {
   number = length-world list script numbers ∙ now;
@@ -277,7 +277,7 @@ started-by_plan list script start plan new numbers is now = record {
       (on-begun is new numbers now k sound.0 sound.1)).entry;
 }
 
-module _ {list : Medl} {script : Script} {start : ClusterStart} {plan : Plan} {turn : ℕ} {new : SlotNumbers}
+module _ {list : Medl} {script : Script} {start : ClusterStart} {plan : FaultPlan} {turn : ℕ} {new : SlotNumbers}
     {numbers : Numbers} (t : IsTurn list script start plan turn new numbers) where
   -- what is so of the entry that a node makes is so of its entry in the row
   pub in-row : (P : Entry → Type 0) (k : ℕ) (e : Entry) → k < length list.slots

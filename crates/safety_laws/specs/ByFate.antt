@@ -9,7 +9,7 @@ use Rattle.ttp_world.specs.declared.node.Ack.TheVariants as ack
 use Rattle.ttp_world.specs.declared.node.Phase.TheVariants as phase
 use Rattle.ttp_world.specs.Acknowledgement.{is_open, is_doubt}
 use Rattle.ttp_world.specs.Past.{NodePast}
-use Rattle.fault_plan.specs.Plan.{Change, Receiving, Plan, sender}
+use Rattle.fault_plan.specs.Plan.{Change, Receiving, FaultPlan, sender}
 use Rattle.fault_plan.specs.Fates.{Fate, Absent, Sound, Falling, Fallen, Listening, fate_of, is_good_slot}
 use Rattle.fault_plan.specs.Ledger.{Ledger, planned_members, ledger_of}
 use Rattle.fault_plan.specs.Places.{planned_place}
@@ -33,7 +33,7 @@ pub record IsCounted (ledger : Ledger) (past : NodePast) : Type 0 where
   pub cold_start : IsTrue past.cold_start → (ledger.own ≡ true) × (ledger.base ≡ 0)
 
 -- a sound node: it stands where the plan stands, and holds the plan's members
-pub record IsSoundAt (list : Medl) (plan : Plan) (turn k : ℕ) (past : NodePast) : Type 0 where
+pub record IsSoundAt (list : Medl) (plan : FaultPlan) (turn k : ℕ) (past : NodePast) : Type 0 where
   pub phase : past.phase ≡ phase.Active
   pub place : past.place ≡ planned_place list plan turn
   -- and, in doubt, the node that it doubts
@@ -48,7 +48,7 @@ pub record IsSoundAt (list : Medl) (plan : Plan) (turn k : ℕ) (past : NodePast
 -- Lost nodes.
 
 -- a lost node before its first own slot
-pub record IsFallingAt (list : Medl) (plan : Plan) (turn k : ℕ) (change : Change) (since : ℕ) (past : NodePast)
+pub record IsFallingAt (list : Medl) (plan : FaultPlan) (turn k : ℕ) (change : Change) (since : ℕ) (past : NodePast)
     : Type 0 where
   pub phase : past.phase ≡ phase.Active
   pub place : past.place ≡ planned_place list plan turn
@@ -59,7 +59,7 @@ pub record IsFallingAt (list : Medl) (plan : Plan) (turn k : ℕ) (change : Chan
   pub waits : (before : ℕ) → since ≡ suc before → sender plan before ≡ k → IsUnanswered k past.ack
 
 -- from its first own slot to the last before its second: its own frame is not answered
-pub record IsFallenAt (list : Medl) (plan : Plan) (turn k since shown : ℕ) (past : NodePast) : Type 0 where
+pub record IsFallenAt (list : Medl) (plan : FaultPlan) (turn k since shown : ℕ) (past : NodePast) : Type 0 where
   pub phase : past.phase ≡ phase.Active
   pub place : past.place ≡ planned_place list plan turn
   pub later : past.cold_start ≡ false
@@ -72,7 +72,7 @@ pub record IsFallenAt (list : Medl) (plan : Plan) (turn k since shown : ℕ) (pa
 
 -- it starts only after two rounds of silence, and counted no more silent slots than there were since it was armed, and
 -- since each good slot that came from then on
-pub record IsListeningAt (list : Medl) (plan : Plan) (turn k since : ℕ) (past : NodePast) : Type 0 where
+pub record IsListeningAt (list : Medl) (plan : FaultPlan) (turn k since : ℕ) (past : NodePast) : Type 0 where
   pub phase : past.phase ≡ phase.Listening
   pub limit : past.limit ≡ 2 * length list.slots + k
   pub silent : past.silent_slots ≤ suc turn - since
@@ -89,7 +89,7 @@ is_there _ = false
 
 -- an absent node is off; a receiver that was lost may leave before its first own slot, and each lost node has left when
 -- a round is over since that slot; one that was armed then listens until it enters
-abbrev pub IsByFate : Medl → Plan → ℕ → ℕ → NodePast → Fate → Type 0
+abbrev pub IsByFate : Medl → FaultPlan → ℕ → ℕ → NodePast → Fate → Type 0
 IsByFate list plan turn k past Absent = past.phase ≡ phase.Off
 IsByFate list plan turn k past Sound = IsSoundAt list plan turn k past
 IsByFate list plan turn k past (Falling change since) =

@@ -3,11 +3,11 @@ use Rattle.std.specs.Prelude.{◌≡◌, ℕ, ◌<◌, true, false, length, IsTr
 use Rattle.ttp_world.specs.declared.medl.Medl.{Medl}
 use Rattle.ttp_world.specs.Reception.{is_within_window}
 use Rattle.ttp_world.specs.World.{BegunSlot, deviation_in}
-use Rattle.fault_plan.specs.Plan.{Jumping, Plan, enters}
+use Rattle.fault_plan.specs.Plan.{Jumping, FaultPlan, enters}
 use Rattle.fault_plan.specs.Fates.{Falling, Fallen, fate_of, is_sound_after}
 
 -- in the slot of a turn that has begun, but for nodes that enter in it
-pub record ClocksHold (list : Medl) (plan : Plan) (turn : ℕ) (s : BegunSlot) : Type 0 where
+pub record ClocksHold (list : Medl) (plan : FaultPlan) (turn : ℕ) (s : BegunSlot) : Type 0 where
   -- the deviation of two sound nodes lies inside the window
   pub within : (r p : ℕ) → r < length list.slots → p < length list.slots
       → is_sound_after plan turn r ≡ true → is_sound_after plan turn p ≡ true

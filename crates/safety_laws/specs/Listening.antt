@@ -8,8 +8,8 @@ use Rattle.safety_laws.specs.Heard.{HearsFrame}
 use Rattle.safety_laws.specs.NodeSlot.{NodeSlot, act_made}
 
 -- the node listens in the slot, and does not start
-abbrev pub IsListening : NodeSlot → Type 0
-IsListening x = act_made x ≡ Listen
+abbrev pub ListensInSlot : NodeSlot → Type 0
+ListensInSlot x = act_made x ≡ Listen
 
 -- a frame comes to the node as it was sent, and on it one joins at this place, with these members
 pub record HearsPlace (x : NodeSlot) (sender : ℕ) (place : Place) (members : List ℕ) : Type 0 where

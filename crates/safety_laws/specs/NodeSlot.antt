@@ -67,12 +67,12 @@ next_past x = past_after x.list x.node x.past (entry_made x) x.around
 -- The slot by the C-state of an active node: its place, its owner, and what is expected of the owner's frame.
 
 -- the place of the slot by the C-state of an active node
-abbrev pub coming_place : NodeSlot → Place
-coming_place x = act.coming_place x.list x.past
+abbrev pub slot_place : NodeSlot → Place
+slot_place x = act.coming_place x.list x.past
 
 -- the node whose slot that is
 abbrev pub owner_of : NodeSlot → ℕ
-owner_of x = (coming_place x).slot
+owner_of x = (slot_place x).slot
 
 -- the memberships that are expected of that node's frame
 abbrev pub candidates_of : NodeSlot → Candidates

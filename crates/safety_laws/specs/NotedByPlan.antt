@@ -13,17 +13,17 @@ use Rattle.ttp_world.specs.Diary.{History, entry_of}
 use Rattle.ttp_world.specs.Hypothesis.{ClusterStart}
 use Rattle.ttp_world.specs.Medl.{IsValid}
 use Rattle.precision.specs.Together.{IsIn, BeginsOn, TellsOf, measured}
-use Rattle.fault_plan.specs.Plan.{Jumping, Plan, sender, enters}
+use Rattle.fault_plan.specs.Plan.{Jumping, FaultPlan, sender, enters}
 use Rattle.fault_plan.specs.Fates.{Falling, fate_of, is_sound_after, is_good_slot}
 use Rattle.fault_plan.specs.Kept.{FollowsWithin}
 use Rattle.fault_plan.specs.Places.{planned_place}
 
 -- a node of the list that is sound after a slot
-abbrev pub IsSoundIn : Medl → Plan → ℕ → ℕ → Type 0
+abbrev pub IsSoundIn : Medl → FaultPlan → ℕ → ℕ → Type 0
 IsSoundIn list plan slot k = IsIn list (is_sound_after plan slot) k
 
 -- The start: the starter sends its cold start, and each other node that is sound joins on it.
-pub record StartedByPlan (list : Medl) (script : Script) (start : ClusterStart) (plan : Plan) (row : List Entry)
+pub record StartedByPlan (list : Medl) (script : Script) (start : ClusterStart) (plan : FaultPlan) (row : List Entry)
     (history : History) : Type 0 where
   pub number : length history ≡ start.slot
   pub starter : entry_of row start.node ≡ entry.Started
@@ -39,7 +39,8 @@ NotesNothing _ = ⊥
 -- A later slot of the plan, which is that of a row after a history. Where it is good, the entry of each sound node
 -- tells of the frame of the slot's sender, or the node enters on it, and in every other slot a sound node notes nothing.
 -- Nor does a node whose clock has jumped, until its own slot comes.
-pub record NotedInSlot (list : Medl) (script : Script) (plan : Plan) (slot : ℕ) (row : List Entry) (history : History)
+pub record NotedInSlot (list : Medl) (script : Script) (plan : FaultPlan) (slot : ℕ) (row : List Entry)
+    (history : History)
     : Type 0 where
   pub good : (k : ℕ) → is_good_slot plan slot ≡ true → IsSoundIn list plan slot k → enters plan slot k ≡ false
       → TellsOf list script history (sender plan slot) k (entry_of row k)
@@ -50,14 +51,14 @@ pub record NotedInSlot (list : Medl) (script : Script) (plan : Plan) (slot : ℕ
       → NotesNothing (entry_of row k)
 
 -- so it was in each slot up to this one
-abbrev pub NotedByPlan : Medl → Script → ClusterStart → Plan → ℕ → History → Type 0
+abbrev pub NotedByPlan : Medl → Script → ClusterStart → FaultPlan → ℕ → History → Type 0
 NotedByPlan list script start plan slot [] = ⊥
 NotedByPlan list script start plan zero (row ∷ history) = StartedByPlan list script start plan row history
 NotedByPlan list script start plan (suc slot) (row ∷ history) =
     NotedByPlan list script start plan slot history × NotedInSlot list script plan (suc slot) row history
 
 -- a script follows a plan within the list's bounds, the nodes noted by it up to this slot, and the run has one more
-pub record GoesOnByPlan (list : Medl) (script : Script) (start : ClusterStart) (plan : Plan) (slot : ℕ)
+pub record GoesOnByPlan (list : Medl) (script : Script) (start : ClusterStart) (plan : FaultPlan) (slot : ℕ)
     (history : History) : Type 0 where
   pub valid : IsValid list
   pub follows : FollowsWithin list script start plan
@@ -65,5 +66,5 @@ pub record GoesOnByPlan (list : Medl) (script : Script) (start : ClusterStart) (
   pub within : start.slot + suc slot < script.slots
 
 -- no node entered in the round of a slot so far, nor in the round before
-abbrev pub IsTight : Plan → ℕ → Type 0
+abbrev pub IsTight : FaultPlan → ℕ → Type 0
 IsTight plan slot = (turn k : ℕ) → turn ≤ slot → enters plan turn k ≡ true → turn + plan.nodes + sender plan slot < slot

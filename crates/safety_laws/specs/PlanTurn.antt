@@ -10,7 +10,7 @@ use Rattle.ttp_world.specs.Medl.{IsValid}
 use Rattle.ttp_world.specs.Safety.{has_ever_sent}
 use Rattle.ttp_world.specs.Script.{is_armed, IsValidScript}
 use Rattle.ttp_world.specs.World.{SlotNumbers, Numbers, node_past, slot_after, world}
-use Rattle.fault_plan.specs.Plan.{Plan, is_armed_by, enters}
+use Rattle.fault_plan.specs.Plan.{FaultPlan, is_armed_by, enters}
 use Rattle.fault_plan.specs.Fates.{fate_of, is_sound_after, is_lost}
 use Rattle.fault_plan.specs.Kept.{FollowsPlan}
 use Rattle.fault_plan.specs.Ledger.{ledger_of}
@@ -18,7 +18,7 @@ use Rattle.safety_laws.specs.ByFate.{is_there, IsByFate}
 use Rattle.safety_laws.specs.ClocksHold.{ClocksHold}
 
 -- each node of a world is after a turn what its fate says
-pub record HoldsAfter (list : Medl) (script : Script) (plan : Plan) (turn : ℕ) (history : History) : Type 0 where
+pub record HoldsAfter (list : Medl) (script : Script) (plan : FaultPlan) (turn : ℕ) (history : History) : Type 0 where
   pub nodes : (k : ℕ) → k < length list.slots
       → IsByFate list plan turn k (node_past list script history k) (fate_of plan turn k)
   -- a sound node has started or sent in its stint only where it has had a slot since it began,
@@ -33,7 +33,7 @@ pub record HoldsAfter (list : Medl) (script : Script) (plan : Plan) (turn : ℕ)
       → has_left_since_arm script history k ≡ false
 
 -- a script follows a plan from a start on, and arms a lost node where the plan does
-pub record IsPlanned (list : Medl) (script : Script) (start : ClusterStart) (plan : Plan) : Type 0 where
+pub record IsPlannedRun (list : Medl) (script : Script) (start : ClusterStart) (plan : FaultPlan) : Type 0 where
   pub valid : IsValid list
   pub script_valid : IsValidScript list script
   pub follows : FollowsPlan list script start plan
@@ -41,9 +41,10 @@ pub record IsPlanned (list : Medl) (script : Script) (start : ClusterStart) (pla
       → is_armed script k (start.slot + suc turn) ≡ is_armed_by plan (suc turn) k
 
 -- the turn after some others, in a world whose numbers are legal
-pub record IsTurn (list : Medl) (script : Script) (start : ClusterStart) (plan : Plan) (turn : ℕ) (new : SlotNumbers)
+pub record IsTurn (list : Medl) (script : Script) (start : ClusterStart) (plan : FaultPlan) (turn : ℕ)
+    (new : SlotNumbers)
     (numbers : Numbers) : Type 0 where
-  pub planned : IsPlanned list script start plan
+  pub planned : IsPlannedRun list script start plan
   pub legal : IsLegal list script (new ∷ numbers)
   pub number : length numbers ≡ start.slot + suc turn
   pub within : start.slot + suc turn < script.slots

@@ -6,34 +6,35 @@ use Rattle.ttp_world.specs.Diary.{History}
 use Rattle.ttp_world.specs.Hypothesis.{ClusterStart, loses}
 use Rattle.ttp_world.specs.Script.{is_on}
 use Rattle.ttp_world.specs.Starts.{StartsAlone}
-use Rattle.fault_plan.specs.Plan.{Plan}
+use Rattle.fault_plan.specs.Plan.{FaultPlan}
 use Rattle.fault_plan.specs.Kept.{IsPlanOfFaults}
 use Rattle.fault_plan.specs.Returned.{IsPlanOfReturns}
-use Rattle.safety_laws.specs.PlanTurn.{HoldsAfter, IsPlanned}
+use Rattle.safety_laws.specs.PlanTurn.{HoldsAfter, IsPlannedRun}
 
 -- a script follows a plan from the start of one node alone, whose frame comes to all that are on
-pub record IsBegun (list : Medl) (script : Script) (start : ClusterStart) (plan : Plan) : Type 0 where
-  pub planned : IsPlanned list script start plan
+pub record IsBegunAlone (list : Medl) (script : Script) (start : ClusterStart) (plan : FaultPlan) : Type 0 where
+  pub planned : IsPlannedRun list script start plan
   pub alone : StartsAlone list script start
   pub heard : (k : ℕ) → k < length list.slots → k ≢ start.node → is_on script k start.slot ≡ true
       → loses script start.node start.slot k ≡ false
 
 -- a history stands after a turn of a plan that the script follows, with each node as its fate says
-pub record StandsAt (list : Medl) (script : Script) (start : ClusterStart) (plan : Plan) (turn : ℕ) (history : History)
+pub record StandsAtTurn (list : Medl) (script : Script) (start : ClusterStart) (plan : FaultPlan) (turn : ℕ)
+    (history : History)
     : Type 0 where
-  pub planned : IsPlanned list script start plan
+  pub planned : IsPlannedRun list script start plan
   pub number : length history ≡ suc (start.slot + turn)
   pub within : start.slot + turn < script.slots
   pub holds : HoldsAfter list script plan turn history
 
 -- and the plan is that of the script's faulty nodes,
-pub record StandsAfter (list : Medl) (script : Script) (start : ClusterStart) (plan : Plan) (turn : ℕ)
+pub record StandsWithFaults (list : Medl) (script : Script) (start : ClusterStart) (plan : FaultPlan) (turn : ℕ)
     (history : History) : Type 0 where
-  pub stands : StandsAt list script start plan turn history
+  pub stands : StandsAtTurn list script start plan turn history
   pub faults : IsPlanOfFaults list script start plan
 
 -- or that of its faulty nodes and its arm lines
-pub record StandsBack (list : Medl) (script : Script) (start : ClusterStart) (plan : Plan) (turn : ℕ)
+pub record StandsBack (list : Medl) (script : Script) (start : ClusterStart) (plan : FaultPlan) (turn : ℕ)
     (history : History) : Type 0 where
-  pub stands : StandsAt list script start plan turn history
+  pub stands : StandsAtTurn list script start plan turn history
   pub returns : IsPlanOfReturns list script start plan

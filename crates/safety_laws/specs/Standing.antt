@@ -15,7 +15,7 @@ use Rattle.ttp_world.specs.Clock.{notes_in}
 use Rattle.ttp_world.specs.Counts.{is_rejection}
 use Rattle.ttp_world.specs.Diary.{Place, cstate_at}
 use Rattle.ttp_world.specs.Past.{NodePast}
-use Rattle.safety_laws.specs.NodeSlot.{NodeSlot, next_past, coming_place, owner_of}
+use Rattle.safety_laws.specs.NodeSlot.{NodeSlot, next_past, slot_place, owner_of}
 
 -- what an active node holds after a slot: its place, its members, its counts, its acknowledgement and its notes
 pub record Standing : Type 0 where
@@ -51,13 +51,13 @@ pub record HasJustLeft (past : NodePast) (why : Reason) (peer : ℕ) : Type 0 wh
 -- what a verdict other than Denied makes of what the node holds
 abbrev pub judged_standing : NodeSlot → Verdict → ℤ → Standing
 judged_standing x v deviation = record {
-  place = coming_place x;
+  place = slot_place x;
   members = judged_members x.past.members x.past.ack v (owner_of x);
   accepted = (if is_correct v then 1 else 0) + x.past.accepted;
   rejected = (if is_rejection x.past.ack v then 1 else 0) + x.past.rejected;
   ack = ack_answered x.past.ack v (owner_of x);
   cold_start = x.past.cold_start;
-  notes = notes_after x.list x.past.notes (coming_place x) (entry.Judged (owner_of x) v deviation);
+  notes = notes_after x.list x.past.notes (slot_place x) (entry.Judged (owner_of x) v deviation);
 }
 
 -- after the slot the node has judged its owner so
@@ -68,13 +68,13 @@ IsJudgedAs x v deviation =
 -- The node's own frame.
 abbrev pub sent_standing : NodeSlot → Option ℕ → Standing
 sent_standing x message = record {
-  place = coming_place x;
+  place = slot_place x;
   members = with_node x.past.members x.node;
   accepted = 1;
   rejected = 0;
   ack = ack.First;
   cold_start = false;
-  notes = notes_after x.list x.past.notes (coming_place x) (entry.Sent message);
+  notes = notes_after x.list x.past.notes (slot_place x) (entry.Sent message);
 }
 
 -- A join: the entry of a node that hears of a place and of these members, so late, and what it holds.

@@ -62,7 +62,7 @@ abbrev pub joined_on_start : ℕ → ℤ → Entry
 joined_on_start p deviation = joined_on (start_place p) (p ∷ []) deviation
 
 -- node k is active at the place of node p's cold start, and holds p alone for a member
-pub record HasBegun (list : Medl) (p k : ℕ) (past : NodePast) : Type 0 where
+pub record IsStartedBy (list : Medl) (p k : ℕ) (past : NodePast) : Type 0 where
   pub phase : past.phase ≡ phase.Active
   pub place : past.place ≡ start_place p
   pub group : HoldsGroup list k (p ∷ []) past

@@ -9,7 +9,7 @@ use Rattle.ttp_world.specs.Medl.{IsValid}
 use Rattle.ttp_world.specs.Membership.{AreNodes}
 use Rattle.ttp_world.specs.Reception.{expected_length, is_within_window}
 use Rattle.safety_laws.specs.Heard.{HearsFrame}
-use Rattle.safety_laws.specs.NodeSlot.{NodeSlot, coming_place, owner_of}
+use Rattle.safety_laws.specs.NodeSlot.{NodeSlot, slot_place, owner_of}
 use Rattle.safety_laws.specs.SlotFrames.{IsSlotFrame}
 
 -- a doubt is about a node of the list
@@ -31,7 +31,7 @@ pub record IsJudging (x : NodeSlot) : Type 0 where
 -- the owner's frame comes to it inside the window, as it was sent with these members
 pub record HearsMembers (x : NodeSlot) (sender : ℕ) (members : List ℕ) : Type 0 where
   pub bytes : List ℕ
-  pub frame : IsSlotFrame x.list (coming_place x) members bytes
+  pub frame : IsSlotFrame x.list (slot_place x) members bytes
   pub comes : HearsFrame (record { sender = sender; bytes = bytes }) x.hearing
   pub within : IsTrue (is_within_window x.list (x.hearing.deviation sender))
 
@@ -52,5 +52,5 @@ pub record IsAtOwnSlot (x : NodeSlot) : Type 0 where
 -- the message that is chosen for its frame has as much payload as the list gives it
 abbrev pub HasPayload : NodeSlot → Type 0
 HasPayload x =
-    IsTrue (carries_payload x.list (coming_place x))
-    → length x.chosen.payload ≡ expected_length x.list (coming_place x)
+    IsTrue (carries_payload x.list (slot_place x))
+    → length x.chosen.payload ≡ expected_length x.list (slot_place x)

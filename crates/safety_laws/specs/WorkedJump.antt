@@ -1,8 +1,6 @@
 -- A run that was worked out by hand: of five clocks one gains a microtick in each slot, one loses one, and one jumps.
-use Rattle.std.specs.Prelude.{ℕ, ℤ, List, pos, negsuc, true, false, [], ◌∷◌, replicate, Some, None}
-use Rattle.ttp_world.specs.declared.medl.Kind.TheVariants as kind
+use Rattle.std.specs.Prelude.{ℕ, ℤ, List, pos, negsuc, [], ◌∷◌, replicate, Some, None}
 use Rattle.ttp_world.specs.declared.medl.Medl.{Medl}
-use Rattle.ttp_world.specs.declared.medl.SlotPlan.{SlotPlan}
 use Rattle.ttp_world.specs.declared.node.Entry.{Entry}
 use Rattle.ttp_world.specs.declared.node.Entry.TheVariants as entry
 use Rattle.ttp_world.specs.declared.node.Verdict.TheVariants as verdict
@@ -12,12 +10,10 @@ use Rattle.ttp_world.specs.Conduct.{cold_start_cstate}
 use Rattle.ttp_world.specs.Diary.{History}
 use Rattle.ttp_world.specs.Hypothesis.{ClusterStart}
 use Rattle.ttp_world.specs.World.{Numbers}
-use Rattle.fault_plan.specs.Plan.{Jumping, Plan}
+use Rattle.precision.specs.WorkedRun.{bare_slot}
+use Rattle.fault_plan.specs.Plan.{Jumping, FaultPlan}
 
 -- five bare slots with sync, for drifts of one microtick and no reading error
-abbrev pub bare_slot : SlotPlan
-bare_slot = record { kinds = kind.I ∷ []; payload = 0; sync = true; start = true; requests = false; live = 1 }
-
 abbrev pub five_clocks : Medl
 five_clocks = record {
   version = 1;
@@ -45,7 +41,7 @@ abbrev pub five_clocks_start : ClusterStart
 five_clocks_start = record { slot = 10; node = 0 }
 
 -- the plan of that script
-abbrev pub one_jump : Plan
+abbrev pub one_jump : FaultPlan
 one_jump = record {
   nodes = 5;
   starter = 0;
@@ -57,8 +53,8 @@ one_jump = record {
 }
 
 -- 25 slots in which no frame carries payload
-abbrev pub no_numbers : Numbers
-no_numbers = replicate 25 (record { sent = []; read = [] })
+abbrev pub no_numbers_in_jump : Numbers
+no_numbers_in_jump = replicate 25 (record { sent = []; read = [] })
 
 abbrev sent : Entry
 sent = entry.Sent None
@@ -73,8 +69,8 @@ abbrev join : ℤ → Entry
 join deviation = entry.Joined 0 (cold_start_cstate 0) deviation
 
 -- the row of slot 24
-abbrev pub newest_row : List Entry
-newest_row = correct 4 (negsuc 5) ∷ correct 4 (pos 7) ∷ correct 4 (pos 0) ∷ late 4 (negsuc 99) ∷ sent ∷ []
+abbrev pub last_row : List Entry
+last_row = correct 4 (negsuc 5) ∷ correct 4 (pos 7) ∷ correct 4 (pos 0) ∷ late 4 (negsuc 99) ∷ sent ∷ []
 
 -- node 0 starts in slot 10, and each node then sends in its turn: the rows of slots 0 to 23, the newest first
 abbrev pub older_rows : History
@@ -97,4 +93,4 @@ older_rows =
 
 -- the rows of all these slots
 abbrev pub run_of_late_jump : History
-run_of_late_jump = newest_row ∷ older_rows
+run_of_late_jump = last_row ∷ older_rows

@@ -7,11 +7,11 @@ use Rattle.ttp_world.specs.declared.script.Fault.TheVariants as fault
 use Rattle.ttp_world.specs.declared.script.Script.{Script}
 use Rattle.ttp_world.specs.Diary.{History}
 use Rattle.ttp_world.specs.World.{Numbers, world}
-use Rattle.safety_laws.specs.WorkedJump.{bare_slot}
+use Rattle.precision.specs.WorkedRun.{bare_slot}
 
 -- five nodes in one round, with I-frames: each is measured and may start, the drift is 1 and the window 100 microticks
-abbrev pub five_nodes : Medl
-five_nodes = record {
+abbrev pub five_measured : Medl
+five_measured = record {
   version = 1;
   rounds = 1;
   schedule = 0;
@@ -24,33 +24,33 @@ five_nodes = record {
 }
 
 -- all nodes are on from slot 0, so that node 0 starts in slot 10, and one event happens
-abbrev pub with_event : Event → Script
-with_event e = record { slots = 40; on = replicate 5 (Some 0); drift = replicate 5 (pos 0); events = e ∷ [] }
+abbrev pub one_event_script : Event → Script
+one_event_script e = record { slots = 40; on = replicate 5 (Some 0); drift = replicate 5 (pos 0); events = e ∷ [] }
 
 -- what node 2 sends in slot 22 is silenced
 abbrev pub silenced : Script
-silenced = with_event (event.Send 2 (record { a = true; b = true }) fault.Silence 22 22)
+silenced = one_event_script (event.Send 2 (record { a = true; b = true }) fault.Silence 22 22)
 
 -- node 3 hears noise in slot 22, where node 2 sends
 abbrev pub deafened : Script
-deafened = with_event (event.Receive 3 (record { a = true; b = true }) fault.Noise 22 22)
+deafened = one_event_script (event.Receive 3 (record { a = true; b = true }) fault.Noise 22 22)
 
 -- node 2 hears noise in slot 23, the slot after its own
 abbrev pub deafened_at_once : Script
-deafened_at_once = with_event (event.Receive 2 (record { a = true; b = true }) fault.Noise 23 23)
+deafened_at_once = one_event_script (event.Receive 2 (record { a = true; b = true }) fault.Noise 23 23)
 
 -- node 2 hears nothing in slots 24 to 26
 abbrev pub deafened_on : Script
-deafened_on = with_event (event.Receive 2 (record { a = true; b = true }) fault.Silence 24 26)
+deafened_on = one_event_script (event.Receive 2 (record { a = true; b = true }) fault.Silence 24 26)
 
 -- node 3's clock jumps by four windows in slot 22
 abbrev pub clock_jumped : Script
-clock_jumped = with_event (event.Jump 3 (pos 400) 22)
+clock_jumped = one_event_script (event.Jump 3 (pos 400) 22)
 
 -- no frame carries payload, and nobody reads
-abbrev pub bare_numbers : ℕ → Numbers
-bare_numbers slots = replicate slots (record { sent = replicate 5 None; read = [] })
+abbrev pub quiet_numbers : ℕ → Numbers
+quiet_numbers slots = replicate slots (record { sent = replicate 5 None; read = [] })
 
 -- the run of a script, after so many slots
 abbrev pub run_of : Script → ℕ → History
-run_of script slots = world five_nodes script (bare_numbers slots)
+run_of script slots = world five_measured script (quiet_numbers slots)

@@ -20,8 +20,8 @@ plan kind payload start =
     record { kinds = kind ∷ []; payload = payload; sync = true; start = start; requests = false; live = 1 }
 
 -- node 2's frame carries a byte of payload and no C-state, node 3's both
-abbrev pub four_nodes : Medl
-four_nodes = record {
+abbrev pub four_kinds : Medl
+four_kinds = record {
   version = 1;
   rounds = 1;
   schedule = 0;
@@ -34,8 +34,8 @@ four_nodes = record {
 }
 
 -- they are on from slot 0, so node 0 starts in slot 8
-abbrev pub first_start : ClusterStart
-first_start = record { slot = 8; node = 0 }
+abbrev pub early_start : ClusterStart
+early_start = record { slot = 8; node = 0 }
 
 abbrev script_with : List (Option ℕ) → List Event → Script
 script_with on events = record { slots = 20; on = on; drift = replicate 4 (pos 0); events = events }
@@ -48,8 +48,8 @@ abbrev pub faultless : Script
 faultless = script_with (replicate 4 (Some 0)) []
 
 -- node 1's first frame, in slot 9, is lost on both channels
-abbrev pub silent : Script
-silent = script_with (replicate 4 (Some 0)) (event.Send 1 both fault.Silence 9 9 ∷ [])
+abbrev pub first_frame_lost : Script
+first_frame_lost = script_with (replicate 4 (Some 0)) (event.Send 1 both fault.Silence 9 9 ∷ [])
 
 -- so it is, and node 1 hears nothing in the three slots after it
 abbrev pub silent_and_deaf : Script
@@ -72,25 +72,25 @@ abbrev pub jumping : Script
 jumping = script_with (replicate 4 (Some 0)) (event.Jump 1 (pos 4) 9 ∷ [])
 
 -- nobody hears node 0's cold start
-abbrev pub alone : Script
-alone = script_with (replicate 4 (Some 0)) (event.Send 0 both fault.Noise 8 8 ∷ [])
+abbrev pub unheard_start : Script
+unheard_start = script_with (replicate 4 (Some 0)) (event.Send 0 both fault.Noise 8 8 ∷ [])
 
 -- each frame with payload carries message 0
 abbrev zeros : List (Option ℕ)
 zeros = replicate 4 (Some 0)
 
 -- these numbers in so many slots
-abbrev pub numbers_of : ℕ → Numbers
-numbers_of slots = replicate slots (record { sent = zeros; read = [] })
+abbrev pub zero_numbers : ℕ → Numbers
+zero_numbers slots = replicate slots (record { sent = zeros; read = [] })
 
 -- the slots of a run, so many, and the messages that are chosen in the next one
 abbrev pub run : Script → ℕ → History
-run script slots = world four_nodes script (numbers_of slots)
+run script slots = world four_kinds script (zero_numbers slots)
 
 -- the messages that they choose in a slot
 abbrev pub chosen_in : Script → ℕ → List Chosen
-chosen_in script slot = messages_chosen four_nodes script slot zeros
+chosen_in script slot = messages_chosen four_kinds script slot zeros
 
 -- node k in a slot of a run
 abbrev pub at : Script → ℕ → ℕ → NodeSlot
-at script slot k = node_slot four_nodes script (run script slot) (chosen_in script slot) k
+at script slot k = node_slot four_kinds script (run script slot) (chosen_in script slot) k

@@ -24,11 +24,11 @@ ghost use Rattle.ttp_world.specs.Reception.{is_within_window};
 ghost use Rattle.precision.specs.Spread.{spread, spread_rejoining, needed_rejoining};
 ghost use Rattle.precision.specs.Together.{BeganTogether, clock_at, measured};
 ghost use Rattle.precision.specs.Company.{RanAsCompany};
-ghost use Rattle.fault_plan.specs.Plan.{Plan, enters};
+ghost use Rattle.fault_plan.specs.Plan.{FaultPlan, enters};
 ghost use Rattle.fault_plan.specs.Fates.{is_sound_after};
 ghost use Rattle.fault_plan.specs.Kept.{FollowsPlan};
 ghost use Rattle.safety_laws.specs.Jumps.{HasJumped};
-ghost use Rattle.safety_laws.specs.Entries.{NoneEnters, IsNewest};
+ghost use Rattle.safety_laws.specs.Entries.{NoneEnters, IsNewestEntry};
 ghost use Rattle.safety_laws.specs.NotedByPlan.{IsSoundIn, StartedByPlan, NotedByPlan, GoesOnByPlan};
 ghost use Rattle.safety_laws.specs.NotedByPlan.{IsTight};
 
@@ -42,15 +42,15 @@ pub fn runs_as_company()
         (history : History)
         → ((k : ℕ) → less k ≡ true → group k ≡ true) → RanAsCompany list script may_grow group newest history
         → RanAsCompany list script may_grow less newest history }
-    ensures began { (list : Medl) (script : Script) (start : ClusterStart) (plan : Plan) (row : List Entry)
+    ensures began { (list : Medl) (script : Script) (start : ClusterStart) (plan : FaultPlan) (row : List Entry)
         (history : History)
         → FollowsPlan list script start plan → StartedByPlan list script start plan row history
         → BeganTogether list script (is_sound_after plan 0) row history }
-    ensures company { (list : Medl) (script : Script) (start : ClusterStart) (plan : Plan) (may_grow : Bool)
+    ensures company { (list : Medl) (script : Script) (start : ClusterStart) (plan : FaultPlan) (may_grow : Bool)
         (slot : ℕ) (history : History)
         → FollowsPlan list script start plan → NotedByPlan list script start plan slot history
         → length history ≤ script.slots → (may_grow ≡ false → NoneEnters plan slot)
-        → (newest : ℕ) × (IsNewest plan slot newest
+        → (newest : ℕ) × (IsNewestEntry plan slot newest
         × RanAsCompany list script may_grow (is_sound_after plan slot) (start.slot + newest) history) }
 {}
 
@@ -61,31 +61,31 @@ pub fn runs_as_company()
 /// entered yet, it is the smaller spread (`tight_clocks`), and no further than is needed where none
 /// returns (`tight_deviations`). This is where the sound nodes noted by the plan up to the slot before.
 pub fn clocks_near()
-    ensures clocks { (list : Medl) (script : Script) (start : ClusterStart) (plan : Plan) (slot : ℕ)
+    ensures clocks { (list : Medl) (script : Script) (start : ClusterStart) (plan : FaultPlan) (slot : ℕ)
         (history : History)
         → GoesOnByPlan list script start plan slot history
         → (j k : ℕ) → IsSoundIn list plan (suc slot) j → IsSoundIn list plan (suc slot) k
         → enters plan (suc slot) j ≡ false → enters plan (suc slot) k ≡ false
         → (clock_at list script history j -ℤ clock_at list script history k) ≤ℤ spread_rejoining list }
-    ensures deviations { (list : Medl) (script : Script) (start : ClusterStart) (plan : Plan) (slot : ℕ)
+    ensures deviations { (list : Medl) (script : Script) (start : ClusterStart) (plan : FaultPlan) (slot : ℕ)
         (history : History)
         → GoesOnByPlan list script start plan slot history
         → (r p : ℕ) → IsSoundIn list plan (suc slot) r → IsSoundIn list plan (suc slot) p
         → enters plan (suc slot) r ≡ false → enters plan (suc slot) p ≡ false
         → (neg_ℤ (needed_rejoining list) ≤ℤ measured list script history r p)
         × (measured list script history r p ≤ℤ needed_rejoining list) }
-    ensures window { (list : Medl) (script : Script) (start : ClusterStart) (plan : Plan) (slot : ℕ)
+    ensures window { (list : Medl) (script : Script) (start : ClusterStart) (plan : FaultPlan) (slot : ℕ)
         (history : History)
         → GoesOnByPlan list script start plan slot history
         → (r p : ℕ) → IsSoundIn list plan (suc slot) r → IsSoundIn list plan (suc slot) p
         → enters plan (suc slot) r ≡ false → enters plan (suc slot) p ≡ false
         → IsTrue (is_within_window list (measured list script history r p)) }
-    ensures tight_clocks { (list : Medl) (script : Script) (start : ClusterStart) (plan : Plan) (slot : ℕ)
+    ensures tight_clocks { (list : Medl) (script : Script) (start : ClusterStart) (plan : FaultPlan) (slot : ℕ)
         (history : History)
         → GoesOnByPlan list script start plan slot history → IsTight plan (suc slot)
         → (j k : ℕ) → IsSoundIn list plan (suc slot) j → IsSoundIn list plan (suc slot) k
         → (clock_at list script history j -ℤ clock_at list script history k) ≤ℤ spread list }
-    ensures tight_deviations { (list : Medl) (script : Script) (start : ClusterStart) (plan : Plan) (slot : ℕ)
+    ensures tight_deviations { (list : Medl) (script : Script) (start : ClusterStart) (plan : FaultPlan) (slot : ℕ)
         (history : History)
         → GoesOnByPlan list script start plan slot history → IsTight plan (suc slot)
         → (r p : ℕ) → IsSoundIn list plan (suc slot) r → IsSoundIn list plan (suc slot) p
@@ -99,13 +99,13 @@ pub fn clocks_near()
 /// clocks in a round, drifts and one correction of each, is less than three windows. This is where up
 /// to the slot before the sound nodes noted by the plan, and this one noted nothing since its jump.
 pub fn jumped_outside()
-    ensures frame { (list : Medl) (script : Script) (start : ClusterStart) (plan : Plan) (slot : ℕ)
+    ensures frame { (list : Medl) (script : Script) (start : ClusterStart) (plan : FaultPlan) (slot : ℕ)
         (history : History)
         → GoesOnByPlan list script start plan slot history
         → (x k since : ℕ) → x < length list.slots → HasJumped plan (suc slot) x since
         → IsSoundIn list plan (suc slot) k
         → is_within_window list (measured list script history k x) ≡ false }
-    ensures others { (list : Medl) (script : Script) (start : ClusterStart) (plan : Plan) (slot : ℕ)
+    ensures others { (list : Medl) (script : Script) (start : ClusterStart) (plan : FaultPlan) (slot : ℕ)
         (history : History)
         → GoesOnByPlan list script start plan slot history
         → (x k since : ℕ) → x < length list.slots → HasJumped plan (suc slot) x since

@@ -9,16 +9,16 @@ ghost use Rattle.ttp_world.specs.Medl.{IsValid};
 ghost use Rattle.ttp_world.specs.Script.{IsValidScript};
 ghost use Rattle.ttp_world.specs.World.{Numbers, world};
 ghost use Rattle.fault_plan.specs.Kept.{FollowsWithin};
-ghost use Rattle.fault_plan.specs.Plan.{Plan, plan_of};
-ghost use Rattle.safety_laws.specs.PlannedRun.{IsBegun, StandsAfter};
+ghost use Rattle.fault_plan.specs.Plan.{FaultPlan, fault_plan_of};
+ghost use Rattle.safety_laws.specs.PlannedRun.{IsBegunAlone, StandsWithFaults};
 ghost use Rattle.safety_laws.specs.ByPlan.{IsByPlan};
 
 /// After each slot of a run from the start on, each node is what its fate by the plan says, and in each
 /// slot since the start the nodes noted by the plan. What they noted keeps the clocks of the next slot
 /// together, and that keeps their members.
 pub fn by_plan()
-    ensures { (list : Medl) (script : Script) (start : ClusterStart) (plan : Plan) (turn : ℕ) (numbers : Numbers)
-        → IsBegun list script start plan → FollowsWithin list script start plan
+    ensures { (list : Medl) (script : Script) (start : ClusterStart) (plan : FaultPlan) (turn : ℕ) (numbers : Numbers)
+        → IsBegunAlone list script start plan → FollowsWithin list script start plan
         → length numbers ≡ suc (start.slot + turn) → start.slot + turn < script.slots → IsLegal list script numbers
         → IsByPlan list script start plan turn (world list script numbers) }
 {}
@@ -31,6 +31,6 @@ pub fn stands()
         → keeps list script ≡ keep.Yes slot → IsLegal list script numbers
         → slot < length numbers → length numbers ≤ script.slots
         → (start : ClusterStart) × ((start.slot ≡ slot)
-        × StandsAfter list script start (plan_of list script start) (length numbers - suc slot)
+        × StandsWithFaults list script start (fault_plan_of list script start) (length numbers - suc slot)
         (world list script numbers)) }
 {}

@@ -55,14 +55,14 @@ ghost use Rattle.safety_laws.specs.Deliveries.{delivery_at};
 ghost use Rattle.safety_laws.specs.Groups.{IsNotAbout, HoldsGroup, IsUnanswered, HearsNoAnswer, StaysUnanswered};
 ghost use Rattle.safety_laws.specs.Heard.{is_frameless, IsUnflipped, signal_as_sent, HearsFrame, HearsNoFrame};
 ghost use Rattle.safety_laws.specs.Heard.{HearsSilence};
-ghost use Rattle.safety_laws.specs.Listening.{IsListening, HearsPlace, HearsNoPlace};
-ghost use Rattle.safety_laws.specs.NodeSlot.{NodeSlot, node_slot, frames_made, entry_made, next_past, coming_place};
+ghost use Rattle.safety_laws.specs.Listening.{ListensInSlot, HearsPlace, HearsNoPlace};
+ghost use Rattle.safety_laws.specs.NodeSlot.{NodeSlot, node_slot, frames_made, entry_made, next_past, slot_place};
 ghost use Rattle.safety_laws.specs.NodeSlot.{owner_of, candidates_of};
 ghost use Rattle.safety_laws.specs.Senders.{SendsAlone, NoneSends};
 ghost use Rattle.safety_laws.specs.SlotFrames.{IsSlotFrame, view_of_members};
 ghost use Rattle.safety_laws.specs.Standing.{StandsBy, HasJustLeft, IsJudgedAs, sent_standing, joined_on};
 ghost use Rattle.safety_laws.specs.Standing.{joined_standing, HasWaited};
-ghost use Rattle.safety_laws.specs.Start.{IsStartHeard, Waits, starter_standing, joined_on_start, HasBegun};
+ghost use Rattle.safety_laws.specs.Start.{IsStartHeard, Waits, starter_standing, joined_on_start, IsStartedBy};
 ghost use Rattle.safety_laws.specs.Turns.{IsJudging, HearsMembers, HearsOutside, IsAtOwnSlot, HasPayload};
 
 /// How an active node sees bits in another's slot. The frame that the list gives for the place at which
@@ -71,7 +71,7 @@ ghost use Rattle.safety_laws.specs.Turns.{IsJudging, HearsMembers, HearsOutside,
 /// far to both sides of 0, and both ends belong to it (`window`).
 pub fn views()
     ensures inside { (x : NodeSlot) (members bytes : List ℕ) (deviation : ℤ) → IsJudging x
-        → IsSlotFrame x.list (coming_place x) members bytes → IsTrue (is_within_window x.list deviation)
+        → IsSlotFrame x.list (slot_place x) members bytes → IsTrue (is_within_window x.list deviation)
         → view_of_bits x.list (expected_of x.list x.node x.past) bytes deviation
         ≡ view_of_members (candidates_of x) members }
     ensures outside { (x : NodeSlot) (bytes : List ℕ) (deviation : ℤ) → is_within_window x.list deviation ≡ false
@@ -164,7 +164,7 @@ pub fn judged()
         ⊎ HasJustLeft (next_past x) reason.Denied (owner_of x) }
     ensures delivers { (x : NodeSlot) (sent : SentFrame) (deviation : ℤ) → IsJudging x → HearsFrame sent x.hearing
         → IsJudgedAs x verdict.Correct deviation
-        → delivery x.list x.node x.past x.hearing (entry_made x) ≡ delivery_at x.list (coming_place x) sent.bytes }
+        → delivery x.list x.node x.past x.hearing (entry_made x) ≡ delivery_at x.list (slot_place x) sent.bytes }
 {}
 
 /// What an active node does in its own slot. With a closed acknowledgement it sends where it accepted
@@ -172,12 +172,12 @@ pub fn judged()
 /// and leaves as unacknowledged where its newest own frame was another.
 pub fn own_slot()
     ensures sends { (x : NodeSlot) → IsAtOwnSlot x → x.past.ack ≡ ack.Closed → x.past.rejected < x.past.accepted
-        → (let message = message_sent x.list (coming_place x) x.chosen in
+        → (let message = message_sent x.list (slot_place x) x.chosen in
         StandsBy (next_past x) (entry.Sent message) (sent_standing x message)) }
     ensures frame { (x : NodeSlot) → IsAtOwnSlot x → x.past.ack ≡ ack.Closed → x.past.rejected < x.past.accepted
         → frames_made x ≡ record { sender = x.node; bytes = own_frame x.list x.node x.past x.chosen } ∷ [] }
     ensures members { (x : NodeSlot) → IsAtOwnSlot x → HasPayload x
-        → IsSlotFrame x.list (coming_place x) (with_node x.past.members x.node)
+        → IsSlotFrame x.list (slot_place x) (with_node x.past.members x.node)
         (own_frame x.list x.node x.past x.chosen) }
     ensures unacknowledged { (x : NodeSlot) → IsAtOwnSlot x → IsTrue (is_open x.past.ack)
         → x.past.cold_start ≡ false
@@ -196,7 +196,7 @@ pub fn own_slot()
 pub fn one_sender()
     ensures heard { (list : Medl) (script : Script) (history : History) (chosen : List Chosen) (p r : ℕ)
         → SendsAlone list script history chosen p → loses script p (length history) r ≡ false
-        → coming_place (node_slot list script history chosen p) ≡ coming_place (node_slot list script history chosen r)
+        → slot_place (node_slot list script history chosen p) ≡ slot_place (node_slot list script history chosen r)
         → IsTrue (is_within_window list (deviation_in (slot_after list script history) r p))
         → HearsMembers (node_slot list script history chosen r) p
         (with_node (node_slot list script history chosen p).past.members p) }
@@ -239,16 +239,16 @@ pub fn idle()
 /// it hears of the sender's place, with the sender's members and the sender, if the list has a C-state in
 /// that frame (`place`), and else of none (`no_place`).
 pub fn listening()
-    ensures armed { (x : NodeSlot) → x.past.phase ≡ phase.Left → IsTrue x.armed → IsListening x }
+    ensures armed { (x : NodeSlot) → x.past.phase ≡ phase.Left → IsTrue x.armed → ListensInSlot x }
     ensures early { (x : NodeSlot) → x.past.phase ≡ phase.Listening → x.past.silent_slots < x.past.limit
-        → IsListening x }
+        → ListensInSlot x }
     ensures left { (list : Medl) (script : Script) (history : History) (k : ℕ)
         → (node_past list script history k).phase ≡ phase.Left
         → ((node_past list script history k).silent_slots ≡ 0)
         × ((node_past list script history k).limit ≡ 2 * length list.slots + k) }
-    ensures quiet { (x : NodeSlot) → IsListening x → frames_made x ≡ [] }
-    ensures waits { (x : NodeSlot) → IsListening x → HearsNoFrame x.hearing → HasWaited x }
-    ensures passes { (x : NodeSlot) (sender : ℕ) → IsListening x → HearsNoPlace x sender → HasWaited x }
+    ensures quiet { (x : NodeSlot) → ListensInSlot x → frames_made x ≡ [] }
+    ensures waits { (x : NodeSlot) → ListensInSlot x → HearsNoFrame x.hearing → HasWaited x }
+    ensures passes { (x : NodeSlot) (sender : ℕ) → ListensInSlot x → HearsNoPlace x sender → HasWaited x }
     ensures silence { (list : Medl) (script : Script) (history : History) (chosen : List Chosen) (k : ℕ)
         → (let x = node_slot list script history chosen k in
         HearsSilence x.hearing → x.around.is_silent ≡ true) }
@@ -256,7 +256,7 @@ pub fn listening()
         (sent : SentFrame)
         → (let x = node_slot list script history chosen k in
         HearsFrame sent x.hearing → x.around.is_silent ≡ false) }
-    ensures joins { (x : NodeSlot) (sender : ℕ) (place : Place) (members : List ℕ) → IsListening x
+    ensures joins { (x : NodeSlot) (sender : ℕ) (place : Place) (members : List ℕ) → ListensInSlot x
         → HearsPlace x sender place members
         → (let deviation = x.hearing.deviation sender in
         StandsBy (next_past x) (joined_on place members deviation) (joined_standing x.list place members deviation)) }
@@ -264,13 +264,13 @@ pub fn listening()
         → IsValid list → SendsAlone list script (world list script numbers) chosen p
         → loses script p (length (world list script numbers)) r ≡ false
         → (let x = node_slot list script (world list script numbers) chosen p in
-        is_explicit (expected_header list (coming_place x)) ≡ true
-        → HearsPlace (node_slot list script (world list script numbers) chosen r) p (coming_place x)
+        is_explicit (expected_header list (slot_place x)) ≡ true
+        → HearsPlace (node_slot list script (world list script numbers) chosen r) p (slot_place x)
         (with_node x.past.members p)) }
     ensures no_place { (list : Medl) (script : Script) (numbers : Numbers) (chosen : List Chosen) (p r : ℕ)
         → IsValid list → SendsAlone list script (world list script numbers) chosen p
         → loses script p (length (world list script numbers)) r ≡ false
-        → is_explicit (expected_header list (coming_place (node_slot list script (world list script numbers) chosen p)))
+        → is_explicit (expected_header list (slot_place (node_slot list script (world list script numbers) chosen p)))
         ≡ false
         → HearsNoPlace (node_slot list script (world list script numbers) chosen r) p }
 {}
@@ -359,7 +359,7 @@ pub fn start()
         → IsValid list → StartsAlone list script start → length numbers ≡ start.slot
         → IsStartHeard list script start
         → (k : ℕ) → k < length list.slots → IsTrue (is_on script k start.slot)
-        → HasBegun list start.node k (node_past list script (world list script (new ∷ numbers)) k) }
+        → IsStartedBy list start.node k (node_past list script (world list script (new ∷ numbers)) k) }
     ensures off { (list : Medl) (script : Script) (start : ClusterStart) (new : SlotNumbers) (numbers : Numbers)
         → IsValid list → StartsAlone list script start → length numbers ≡ start.slot
         → (k : ℕ) → k < length list.slots → k ≢ start.node → is_on script k start.slot ≡ false

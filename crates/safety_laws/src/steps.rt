@@ -10,7 +10,7 @@
 //! Of clocks a slot takes as a premise what it needs (`ClocksHold` of `specs/ClocksHold.antt`): between
 //! sound nodes a deviation lies inside the window, and a node whose clock jumped is outside it, and they
 //! outside its own, up to its first own slot. Of the plan a caller shows that it is good, and that the
-//! script follows it (`IsBegun` of `specs/PlannedRun.antt`, `FollowsPlan` of fault_plan).
+//! script follows it (`IsBegunAlone` of `specs/PlannedRun.antt`, `FollowsPlan` of fault_plan).
 //!
 //! The proof of a step goes by the fate of the slot's sender: `proofs/Arrivals.antt` says what comes,
 //! `proofs/Receivers.antt` and `SoundSteps.antt` what a sound receiver makes of it, `LostSteps.antt` what
@@ -26,21 +26,22 @@ ghost use Rattle.ttp_world.specs.Hypothesis.{ClusterStart, is_correct_after};
 ghost use Rattle.ttp_world.specs.Returning.{is_back_correct_after};
 ghost use Rattle.ttp_world.specs.Safety.{newest_slot, IsSafe};
 ghost use Rattle.ttp_world.specs.World.{SlotNumbers, Numbers, node_past, world};
-ghost use Rattle.fault_plan.specs.Plan.{Change, Sending, Plan};
+ghost use Rattle.fault_plan.specs.Plan.{Change, Sending, FaultPlan};
 ghost use Rattle.fault_plan.specs.Fates.{Fallen, fate_of, lost_since};
 ghost use Rattle.safety_laws.specs.ByFate.{IsSoundAt};
 ghost use Rattle.safety_laws.specs.Gone.{FaultyLeave};
 ghost use Rattle.safety_laws.specs.PlanTurn.{HoldsAfter, IsTurn};
-ghost use Rattle.safety_laws.specs.PlannedRun.{IsBegun, StandsAfter, StandsBack};
+ghost use Rattle.safety_laws.specs.PlannedRun.{IsBegunAlone, StandsWithFaults, StandsBack};
 
 /// After the slot of the start each node is what its fate says (`first`), and so it is after each turn
 /// more (`next`), if deviations lie as `ClocksHold` says in the turn's slot: whichever faults the plan
 /// brings, of senders, of receivers or of clocks that jump.
 pub fn by_fate()
-    ensures first { (list : Medl) (script : Script) (start : ClusterStart) (plan : Plan) (new : SlotNumbers)
-        (numbers : Numbers) → IsBegun list script start plan → length numbers ≡ start.slot
+    ensures first { (list : Medl) (script : Script) (start : ClusterStart) (plan : FaultPlan) (new : SlotNumbers)
+        (numbers : Numbers) → IsBegunAlone list script start plan → length numbers ≡ start.slot
         → HoldsAfter list script plan 0 (world list script (new ∷ numbers)) }
-    ensures next { (list : Medl) (script : Script) (start : ClusterStart) (plan : Plan) (turn : ℕ) (new : SlotNumbers)
+    ensures next { (list : Medl) (script : Script) (start : ClusterStart) (plan : FaultPlan) (turn : ℕ)
+        (new : SlotNumbers)
         (numbers : Numbers) → IsTurn list script start plan turn new numbers
         → HoldsAfter list script plan (suc turn) (world list script (new ∷ numbers)) }
 {}
@@ -51,30 +52,35 @@ pub fn by_fate()
 /// (`sender`), and every other node two rounds after, less two slots (`other`). By then no correct node
 /// holds it either (`leave`). And the tests of safety hold (`safe`).
 pub fn safe_by_fate()
-    ensures correct { (list : Medl) (script : Script) (start : ClusterStart) (plan : Plan) (turn : ℕ)
-        (history : History) → StandsAfter list script start plan turn history
+    ensures correct { (list : Medl) (script : Script) (start : ClusterStart) (plan : FaultPlan) (turn : ℕ)
+        (history : History) → StandsWithFaults list script start plan turn history
         → (k : ℕ) → k < length list.slots → is_correct_after list script (newest_slot history) k ≡ true
         → IsSoundAt list plan turn k (node_past list script history k) }
-    ensures gone { (list : Medl) (script : Script) (start : ClusterStart) (plan : Plan) (turn : ℕ) (history : History)
-        → StandsAfter list script start plan turn history
+    ensures gone { (list : Medl) (script : Script) (start : ClusterStart) (plan : FaultPlan) (turn : ℕ)
+        (history : History)
+        → StandsWithFaults list script start plan turn history
         → (k since shown : ℕ) (change : Change) → k < length list.slots
         → fate_of plan turn k ≡ Fallen change since shown → shown + plan.nodes ≤ turn
         → (node_past list script history k).phase ≡ phase.Left }
-    ensures sender { (list : Medl) (script : Script) (start : ClusterStart) (plan : Plan) (turn : ℕ) (history : History)
-        → StandsAfter list script start plan turn history
+    ensures sender { (list : Medl) (script : Script) (start : ClusterStart) (plan : FaultPlan) (turn : ℕ)
+        (history : History)
+        → StandsWithFaults list script start plan turn history
         → (k since shown : ℕ) → k < length list.slots → fate_of plan turn k ≡ Fallen Sending since shown
         → since + plan.nodes ≤ turn
         → (node_past list script history k).phase ≡ phase.Left }
-    ensures other { (list : Medl) (script : Script) (start : ClusterStart) (plan : Plan) (turn : ℕ) (history : History)
-        → StandsAfter list script start plan turn history
+    ensures other { (list : Medl) (script : Script) (start : ClusterStart) (plan : FaultPlan) (turn : ℕ)
+        (history : History)
+        → StandsWithFaults list script start plan turn history
         → (k since : ℕ) → k < length list.slots → lost_since (fate_of plan turn k) ≡ Some since
         → since + 2 * plan.nodes ≤ suc (suc turn)
         → (node_past list script history k).phase ≡ phase.Left }
-    ensures leave { (list : Medl) (script : Script) (start : ClusterStart) (plan : Plan) (turn : ℕ) (history : History)
-        → StandsAfter list script start plan turn history
+    ensures leave { (list : Medl) (script : Script) (start : ClusterStart) (plan : FaultPlan) (turn : ℕ)
+        (history : History)
+        → StandsWithFaults list script start plan turn history
         → FaultyLeave list script history }
-    ensures safe { (list : Medl) (script : Script) (start : ClusterStart) (plan : Plan) (turn : ℕ) (history : History)
-        → StandsAfter list script start plan turn history
+    ensures safe { (list : Medl) (script : Script) (start : ClusterStart) (plan : FaultPlan) (turn : ℕ)
+        (history : History)
+        → StandsWithFaults list script start plan turn history
         → IsSafe list script history }
 {}
 
@@ -82,11 +88,12 @@ pub fn safe_by_fate()
 /// each node that is correct by that test is a sound one of the plan (`correct`). So a node that was armed
 /// four rounds ago has entered, holds the members that each such node holds, and is one of them.
 pub fn back_safe_by_fate()
-    ensures correct { (list : Medl) (script : Script) (start : ClusterStart) (plan : Plan) (turn : ℕ)
+    ensures correct { (list : Medl) (script : Script) (start : ClusterStart) (plan : FaultPlan) (turn : ℕ)
         (history : History) → StandsBack list script start plan turn history
         → (k : ℕ) → k < length list.slots → is_back_correct_after list script (newest_slot history) k ≡ true
         → IsSoundAt list plan turn k (node_past list script history k) }
-    ensures safe { (list : Medl) (script : Script) (start : ClusterStart) (plan : Plan) (turn : ℕ) (history : History)
+    ensures safe { (list : Medl) (script : Script) (start : ClusterStart) (plan : FaultPlan) (turn : ℕ)
+        (history : History)
         → StandsBack list script start plan turn history
         → IsBackSafe list script history }
 {}

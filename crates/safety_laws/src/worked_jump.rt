@@ -9,7 +9,8 @@ ghost use Rattle.precision.specs.Together.{measured};
 ghost use Rattle.fault_plan.specs.Kept.{FollowsWithin};
 ghost use Rattle.safety_laws.specs.Jumps.{HasJumped};
 ghost use Rattle.safety_laws.specs.NotedByPlan.{NotedByPlan};
-ghost use Rattle.safety_laws.specs.WorkedJump.{five_clocks, late_jump, five_clocks_start, one_jump, no_numbers, run_of_late_jump};
+ghost use Rattle.safety_laws.specs.WorkedJump.{five_clocks, late_jump, five_clocks_start, one_jump, no_numbers_in_jump};
+ghost use Rattle.safety_laws.specs.WorkedJump.{run_of_late_jump};
 
 /// Five nodes that start in slot 10. Two clocks drift apart, and node 3's jumps by 100 microticks in
 /// slot 24, where a round ends: so what it noted before the jump corrects it once. All that the laws
@@ -19,7 +20,7 @@ fn a_clock_jumps()
     ensures keeps { keeps five_clocks late_jump ≡ keep.Yes 10 }
     ensures valid { IsValid five_clocks }
     ensures follows { FollowsWithin five_clocks late_jump five_clocks_start one_jump }
-    ensures world { world five_clocks late_jump no_numbers ≡ run_of_late_jump }
+    ensures world { world five_clocks late_jump no_numbers_in_jump ≡ run_of_late_jump }
     ensures noted { NotedByPlan five_clocks late_jump five_clocks_start one_jump 14 run_of_late_jump }
     ensures jumped { HasJumped one_jump 15 3 14 }
     ensures sound { measured five_clocks late_jump run_of_late_jump 1 0 ≡ pos 5 }

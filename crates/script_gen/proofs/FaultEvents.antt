@@ -3,7 +3,7 @@ use Rattle.script_gen.proofs.Words.{◌≡◌, ℕ, ◌+◌, ◌-◌, ◌*◌, �
 use Rattle.script_gen.proofs.Words.{[], ◌∷◌, length, None, refl, ap, ◌∙◌, inl, inr, arith, ◌==◌, is_some, nat_le}
 use Rattle.script_gen.proofs.Words.{nat_lt, filter_map, list_any, mul-le-mul_right, and_parts, and_right, cases_lt}
 use Rattle.script_gen.proofs.Words.{eq-eqb, false≢true, le-leb, leb-true, lt-ltb, Medl, Event, Script, covers, least_of}
-use Rattle.script_gen.proofs.Words.{loses, most_faults, fault_slot, both_channels, fault_within, all_events}
+use Rattle.script_gen.proofs.Words.{loses, most_faults, fault_slot_of, both_channels, fault_within, all_events}
 use Rattle.std.proofs.lemmas.Bool.{false_from_ne_true}
 use Rattle.ttp_world.specs.declared.script.Channel.{Channel}
 use Rattle.ttp_world.specs.declared.script.Channel.TheVariants as channel
@@ -116,14 +116,14 @@ silent-receive k c slot false sender receiver at =
 
 -- two faults lie two rounds apart, and two slots
 pub faults-apart : (list : Medl) (i j : ℕ) → i < j
-    → fault_slot list i + (2 * length list.slots + 2) ≤ fault_slot list j
+    → fault_slot_of list i + (2 * length list.slots + 2) ≤ fault_slot_of list j
 faults-apart list i j less =
     let gap = 2 * length list.slots + 2 in
     let more : (i + 1) * gap ≤ j * gap = mul-le-mul_right gap (omega arith) in
     let next : (i + 1) * gap ≡ i * gap + gap = omega arith in
     omega arith
 
-faults-differ : (list : Medl) (i j : ℕ) → (i ≡ j → ⊥) → fault_slot list i ≡ fault_slot list j → ⊥
+faults-differ : (list : Medl) (i j : ℕ) → (i ≡ j → ⊥) → fault_slot_of list i ≡ fault_slot_of list j → ⊥
 faults-differ list i j other same = elim (cases_lt i j) [
   | inl less ↦ let apart = faults-apart list i j less in omega arith
   | inr from ↦ let apart = faults-apart list j i (omega arith) in omega arith
@@ -156,25 +156,25 @@ one-fails p true e fails = rw fails refl
 one-fails p false e fails = refl
 
 pub any-quiet : (list : Medl) (slots number slot : ℕ) (p : Event → Bool) → IsOfSlot slot p
-    → ((j : ℕ) → j < most_faults list → fault_slot list j ≡ slot → ⊥)
+    → ((j : ℕ) → j < most_faults list → fault_slot_of list j ≡ slot → ⊥)
     → list_any p (all_events list slots number) ≡ false
 any-quiet list slots number slot p of quiet =
     any-fault p list slots number (λ k. of.errors k 0 (slots - 1) _) (of-hosts list slots slot p of)
     ∙ any-none (λ j. list_any p (fault_within list slots number j)) (most_faults list)
-    (λ j less. one-fails p (nat_lt (fault_slot list j) slots) _
-    (of.faults (is_even list number j) (sender_at list j) (receiver_at list j) (fault_slot list j) (quiet j less)))
+    (λ j less. one-fails p (nat_lt (fault_slot_of list j) slots) _
+    (of.faults (is_even list number j) (sender_at list j) (receiver_at list j) (fault_slot_of list j) (quiet j less)))
 
-pub any-struck : (list : Medl) (slots number j : ℕ) (p : Event → Bool) → IsOfSlot (fault_slot list j) p
-    → j < most_faults list → fault_slot list j < slots
+pub any-struck : (list : Medl) (slots number j : ℕ) (p : Event → Bool) → IsOfSlot (fault_slot_of list j) p
+    → j < most_faults list → fault_slot_of list j < slots
     → list_any p (all_events list slots number)
-    ≡ p (fault_at (is_even list number j) (sender_at list j) (receiver_at list j) (fault_slot list j))
+    ≡ p (fault_at (is_even list number j) (sender_at list j) (receiver_at list j) (fault_slot_of list j))
 any-struck list slots number j p of less within =
-    any-fault p list slots number (λ k. of.errors k 0 (slots - 1) _) (of-hosts list slots (fault_slot list j) p of)
+    any-fault p list slots number (λ k. of.errors k 0 (slots - 1) _) (of-hosts list slots (fault_slot_of list j) p of)
     ∙ any-one (λ i. list_any p (fault_within list slots number i)) (most_faults list) j
-    (λ i other. one-fails p (nat_lt (fault_slot list i) slots) _
-    (of.faults (is_even list number i) (sender_at list i) (receiver_at list i) (fault_slot list i)
+    (λ i other. one-fails p (nat_lt (fault_slot_of list i) slots) _
+    (of.faults (is_even list number i) (sender_at list i) (receiver_at list i) (fault_slot_of list i)
     (faults-differ list i j other))) less
-    ∙ one-passes p (nat_lt (fault_slot list j) slots) _ (lt-ltb (fault_slot list j) slots within)
+    ∙ one-passes p (nat_lt (fault_slot_of list j) slots) _ (lt-ltb (fault_slot_of list j) slots within)
 
 of-send : (kind : Fault) (k : ℕ) (c : Channel) (slot : ℕ) → IsOfSlot slot (is_send_fault kind k c slot)
 of-send kind k c slot = record {
@@ -205,7 +205,7 @@ loses-by script sender slot r b covered =
 
 -- nobody, where no fault has its slot
 pub none-loses : (list : Medl) (number : ℕ) (script : Script) (sender slot r : ℕ) → IsGenerated list number script
-    → ((j : ℕ) → j < most_faults list → fault_slot list j ≡ slot → ⊥) → loses script sender slot r ≡ false
+    → ((j : ℕ) → j < most_faults list → fault_slot_of list j ≡ slot → ⊥) → loses script sender slot r ≡ false
 none-loses list number script sender slot r is quiet = loses-by script sender slot r false covered
   where
     none : (p : Event → Bool) → IsOfSlot slot p → list_any p script.events ≡ false
@@ -224,8 +224,8 @@ by-draw true here = refl
 by-draw false here = refl
 
 pub who-loses : (list : Medl) (number : ℕ) (script : Script) (j r : ℕ) → IsGenerated list number script
-    → j < most_faults list → fault_slot list j < script.slots
-    → loses script (sender_at list j) (fault_slot list j) r ≡ (is_even list number j || (receiver_at list j == r))
+    → j < most_faults list → fault_slot_of list j < script.slots
+    → loses script (sender_at list j) (fault_slot_of list j) r ≡ (is_even list number j || (receiver_at list j == r))
 who-loses list number script j r is less within =
     loses-by script sender slot r (even || (receiver == r)) (λ c.
     (λ i.
@@ -246,7 +246,7 @@ who-loses list number script j r is less within =
     receiver = receiver_at list j
 
     slot : ℕ
-    slot = fault_slot list j
+    slot = fault_slot_of list j
 
     even : Bool
     even = is_even list number j

@@ -4,7 +4,7 @@ use Rattle.script_gen.proofs.Words.{◌++◌, length, map, Option, Some, None, r
 use Rattle.script_gen.proofs.Words.{count_by, is_some, filter, find, range_with_len, false≢true, le-leb, le-ltb, below}
 use Rattle.script_gen.proofs.Words.{has_node, map-next, same_sieve, Medl, Script, FaultyNode, nodes_of, numbers_of}
 use Rattle.script_gen.proofs.Words.{faulty_nodes_before, breaks_in, keeps, IsValid, no_plan, plan_at, is_ever_on}
-use Rattle.script_gen.proofs.Words.{first_starter, starter_of, first_start, fault_slot, generated}
+use Rattle.script_gen.proofs.Words.{first_starter, starter_of, start_slot_of, fault_slot_of, generated}
 use Rattle.std.proofs.Common.{reverse}
 use Rattle.std.specs.Prelude.{IsSome}
 use Rattle.std.proofs.lemmas.Grind.{reverse_onto}
@@ -32,31 +32,31 @@ losses-hold list number script valid is =
 -- Distances.
 
 struck-slots : (list : Medl) (number c : ℕ)
-    → reverse (map (λ f. f.slot) (struck list number c)) ≡ map (fault_slot list) (below c)
+    → reverse (map (λ f. f.slot) (struck list number c)) ≡ map (fault_slot_of list) (below c)
 struck-slots list number zero = refl
 struck-slots list number (suc c) =
     let slots = map (λ (f : FaultyNode). f.slot) (struck list number c) in
-    let next : map (fault_slot list) (below (suc c)) ≡ map (fault_slot list) (below c) ++ fault_slot list c ∷ [] =
-    subst (λ m. map (fault_slot list) (below m) ≡ map (fault_slot list) (below c) ++ fault_slot list c ∷ [])
-    (add-one c) (map-next (fault_slot list) c) in
-    reverse_onto slots (fault_slot list c) []
-    ∙ ap (λ ts. ts ++ fault_slot list c ∷ []) (struck-slots list number c) ∙ sym next
+    let next : map (fault_slot_of list) (below (suc c)) ≡ map (fault_slot_of list) (below c) ++ fault_slot_of list c ∷ [] =
+    subst (λ m. map (fault_slot_of list) (below m) ≡ map (fault_slot_of list) (below c) ++ fault_slot_of list c ∷ [])
+    (add-one c) (map-next (fault_slot_of list) c) in
+    reverse_onto slots (fault_slot_of list c) []
+    ∙ ap (λ ts. ts ++ fault_slot_of list c ∷ []) (struck-slots list number c) ∙ sym next
 
-never-early : (list : Medl) (earliest a n : ℕ) → earliest ≤ fault_slot list a
-    → first_too_early (2 * length list.slots) earliest (map (fault_slot list) (range_with_len a n)) ≡ None
+never-early : (list : Medl) (earliest a n : ℕ) → earliest ≤ fault_slot_of list a
+    → first_too_early (2 * length list.slots) earliest (map (fault_slot_of list) (range_with_len a n)) ≡ None
 never-early list earliest a zero late = refl
 never-early list earliest a (suc n) late =
     let gap = 2 * length list.slots in
-    let rest = first_too_early gap (fault_slot list a + gap) (map (fault_slot list) (range_with_len (a + 1) n)) in
+    let rest = first_too_early gap (fault_slot_of list a + gap) (map (fault_slot_of list) (range_with_len (a + 1) n)) in
     let apart = faults-apart list a (a + 1) (omega arith) in
-    ap (λ b. cond b (Some (fault_slot list a)) rest) (le-ltb (fault_slot list a) earliest late)
-    ∙ never-early list (fault_slot list a + gap) (a + 1) n (omega arith)
+    ap (λ b. cond b (Some (fault_slot_of list a)) rest) (le-ltb (fault_slot_of list a) earliest late)
+    ∙ never-early list (fault_slot_of list a + gap) (a + 1) n (omega arith)
 
 distances-hold : (list : Medl) (number : ℕ) (script : Script) → IsValid list → IsGenerated list number script
     → distance_broken list script (start_at list) ≡ None
 distances-hold list number script valid is =
     let gap = 2 * length list.slots in
-    let earliest = first_start list + 2 * length list.slots in
+    let earliest = start_slot_of list + 2 * length list.slots in
     let all = reached list number script script.slots valid is (λ j less. less) in
     ap (λ fs. first_too_early gap earliest (reverse (map (λ f. f.slot) fs))) all.faulty
     ∙ ap (first_too_early gap earliest) (struck-slots list number all.count)
@@ -98,7 +98,7 @@ four-steady list number script slot valid is shown =
 steady-holds : (list : Medl) (number : ℕ) (script : Script) → IsValid list → IsGenerated list number script
     → sync_broken list script (start_at list) ≡ None
 steady-holds list number script valid is =
-    let start = first_start list in
+    let start = start_slot_of list in
     let at_start = four-steady list number script start valid is (λ j before. absurd (omega arith)) in
     ap (λ b. cond b (find (lacks_steady_after list script (start_at list)) (slots_since_start script (start_at list)))
     (Some start)) at_start
@@ -110,7 +110,7 @@ steady-holds list number script valid is =
 
 keeps-all : (list : Medl) (number : ℕ) (script : Script) → IsValid list → IsGenerated list number script
     → window_broken list ≡ None → IsFirst list (starter_of list)
-    → keeps list script ≡ keep.Yes (first_start list)
+    → keeps list script ≡ keep.Yes (start_slot_of list)
 keeps-all list number script valid is window first =
     let start = start_at list in
     (λ i. unless 1 (clocks-hold list number script valid is i)
@@ -119,7 +119,7 @@ keeps-all list number script valid is window first =
     (started_keep list script (start_of-generated list number script is first i)))))
     ∙ (λ i. unless 5 (losses-hold list number script valid is i)
     (unless 6 (distances-hold list number script valid is i)
-    (unless 7 (steady-holds list number script valid is i) (keep.Yes (first_start list)))))
+    (unless 7 (steady-holds list number script valid is i) (keep.Yes (start_slot_of list)))))
 
 starter-found : (list : Medl) (found : Option ℕ) → first_starter list ≡ found → IsSome found
     → IsFirst list (starter_of list)
@@ -128,7 +128,7 @@ starter-found list (Some k0) is some = starter-first list k0 is
 
 pub keeps-generated : (list : Medl) (slots number : ℕ) → IsValid list → window_broken list ≡ None
     → IsSome (first_starter list)
-    → keeps list (generated list slots number) ≡ keep.Yes (first_start list)
+    → keeps list (generated list slots number) ≡ keep.Yes (start_slot_of list)
 keeps-generated list slots number valid window some =
     keeps-all list number (generated list slots number) valid (generated-is list slots number) window
     (starter-found list (first_starter list) refl some)

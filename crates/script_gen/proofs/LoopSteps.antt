@@ -1,9 +1,9 @@
 -- One node, one fault and one slot more, as loops add them to the events before.
 use Rattle.script_gen.proofs.Words.{◌≡◌, ℕ, ◌+◌, ◌-◌, ◌*◌, ◌%◌, ◌<◌, ◌≤◌, ℤ, cond, List, [], ◌∷◌, ◌++◌, length, map, ap}
 use Rattle.script_gen.proofs.Words.{sym, ◌∙◌, replicate, Option, Some, flat_map, lt-ltb, le-ltb, append-nil, below}
-use Rattle.script_gen.proofs.Words.{map-next, Medl, Event, Script, drawn, spread_over, drift_by, error_by, fault_slot}
-use Rattle.script_gen.proofs.Words.{fault_by, fault_within, write_by, reads_by, host_events_in, error_events}
-use Rattle.script_gen.proofs.Words.{fault_events, host_events, all_events, generated}
+use Rattle.script_gen.proofs.Words.{map-next, Medl, Event, Script, drawn, spread_over, drift_by, error_by}
+use Rattle.script_gen.proofs.Words.{fault_slot_of, fault_by, fault_within, write_by, reads_by, host_events_in}
+use Rattle.script_gen.proofs.Words.{error_events, fault_events, host_events, all_events, generated}
 use Rattle.std.proofs.Common.{append_assoc}
 use Rattle.ttp_base.proofs.Below.{flat_map-next}
 use Rattle.ttp_world.specs.declared.script.Event.TheVariants as event
@@ -39,23 +39,23 @@ part-next part k first old new added before =
 
 pub faults-next : (list : Medl) (slots number j : ℕ) (first old new : List Event) (e : Event)
     → new ≡ old ++ e ∷ [] → old ≡ first ++ flat_map (fault_within list slots number) (below j)
-    → e ≡ fault_by list j (drawn number (2 * length list.slots + j)) → fault_slot list j < slots
+    → e ≡ fault_by list j (drawn number (2 * length list.slots + j)) → fault_slot_of list j < slots
     → new ≡ first ++ flat_map (fault_within list slots number) (below (j + 1))
 faults-next list slots number j first old new e pushed before drew within =
     part-next (fault_within list slots number) j first old new
     (pushed ∙ ap (λ event. old ++ event ∷ []) drew
     ∙ sym (ap (λ b. old ++ cond b (fault_by list j (drawn number (2 * length list.slots + j)) ∷ []) [])
-    (lt-ltb (fault_slot list j) slots within)))
+    (lt-ltb (fault_slot_of list j) slots within)))
     before
 
 pub faults-past : (list : Medl) (slots number j : ℕ) (first old : List Event)
-    → old ≡ first ++ flat_map (fault_within list slots number) (below j) → slots ≤ fault_slot list j
+    → old ≡ first ++ flat_map (fault_within list slots number) (below j) → slots ≤ fault_slot_of list j
     → old ≡ first ++ flat_map (fault_within list slots number) (below (j + 1))
 faults-past list slots number j first old before past =
     part-next (fault_within list slots number) j first old old
     (sym (append-nil old)
     ∙ sym (ap (λ b. old ++ cond b (fault_by list j (drawn number (2 * length list.slots + j)) ∷ []) [])
-    (le-ltb (fault_slot list j) slots past)))
+    (le-ltb (fault_slot_of list j) slots past)))
     before
 
 pub hosts-next : (list : Medl) (slot : ℕ) (first old written new : List Event)

@@ -2,7 +2,7 @@
 use Rattle.script_gen.proofs.Words.{◌≡◌, ℕ, ◌+◌, ◌*◌, ◌%◌, ◌<◌, Bool, true, false, cond, ◌&&◌, ◌||◌, [], ◌∷◌, ◌++◌}
 use Rattle.script_gen.proofs.Words.{length, map, replicate, Some, refl, ap, ◌∙◌, ◌==◌, nat_le, nat_lt, AllByRecursion}
 use Rattle.script_gen.proofs.Words.{list_any, and_parts, list_any-append, below, map_each-below, Medl, Event, Script}
-use Rattle.script_gen.proofs.Words.{plan_at, drawn, starter_of, drift_by, error_by, most_faults, fault_slot}
+use Rattle.script_gen.proofs.Words.{plan_at, drawn, starter_of, drift_by, error_by, most_faults, fault_slot_of}
 use Rattle.script_gen.proofs.Words.{both_channels, fault_by, fault_within, has_payload, write_by, reads_by}
 use Rattle.script_gen.proofs.Words.{host_events_in, error_events, fault_events, host_events, all_events, generated}
 use Rattle.script_gen.proofs.Words.{each-append}
@@ -38,10 +38,10 @@ is_even list number j = drawn number (2 * length list.slots + j) % 2 == 0
 
 -- what holds of the faults of each kind, and of all that hosts do
 pub record OfFaults (P : Event → Type 0) (list : Medl) (slots : ℕ) : Type 0 where
-  pub sends : (j : ℕ) → j < most_faults list → fault_slot list j < slots
-      → P (event.Send (sender_at list j) both_channels fault.Noise (fault_slot list j) (fault_slot list j))
-  pub receives : (j : ℕ) → j < most_faults list → fault_slot list j < slots
-      → P (event.Receive (receiver_at list j) both_channels fault.Noise (fault_slot list j) (fault_slot list j))
+  pub sends : (j : ℕ) → j < most_faults list → fault_slot_of list j < slots
+      → P (event.Send (sender_at list j) both_channels fault.Noise (fault_slot_of list j) (fault_slot_of list j))
+  pub receives : (j : ℕ) → j < most_faults list → fault_slot_of list j < slots
+      → P (event.Receive (receiver_at list j) both_channels fault.Noise (fault_slot_of list j) (fault_slot_of list j))
 
 pub record OfHosts (P : Event → Type 0) (list : Medl) (slots : ℕ) : Type 0 where
   pub writes : (slot : ℕ) → slot < slots → has_payload list (slot % length list.slots) ≡ true
@@ -60,9 +60,9 @@ pub each-fault : (P : Event → Type 0) (list : Medl) (slots number : ℕ) → O
 each-fault P list slots number each =
     each-flat_map P (fault_within list slots number) (most_faults list)
     (λ j less.
-    one-if P (nat_lt (fault_slot list j) slots) (fault_by list j (drawn number (2 * length list.slots + j)))
+    one-if P (nat_lt (fault_slot_of list j) slots) (fault_by list j (drawn number (2 * length list.slots + j)))
     (λ within.
-    let at : fault_slot list j < slots = ltb-true (fault_slot list j) slots within in
+    let at : fault_slot_of list j < slots = ltb-true (fault_slot_of list j) slots within in
     cond_both (is_even list number j) _ _ P (λ even. each.sends j less at) (λ odd. each.receives j less at)))
 
 pub each-host : (P : Event → Type 0) (list : Medl) (slots : ℕ) → OfHosts P list slots

@@ -4,7 +4,7 @@ use Rattle.script_gen.proofs.Words.{◌∷◌, length, replicate, get_or, unwrap
 use Rattle.script_gen.proofs.Words.{◌∙◌, inl, inr, arith, nat_lt, slice_get, filter, filter_map, cons_option}
 use Rattle.script_gen.proofs.Words.{range_with_len, cases_eq, eq-eqb, ne_eqb, le-leb, le-ltb, lt-ltb}
 use Rattle.script_gen.proofs.Words.{unwrap_or-slice_get, all-below, Medl, Script, least_of, nodes_of, no_plan}
-use Rattle.script_gen.proofs.Words.{may_start, is_ever_on, is_on, first_starter, starter_of, first_start}
+use Rattle.script_gen.proofs.Words.{may_start, is_ever_on, is_on, first_starter, starter_of, start_slot_of}
 use Rattle.std.proofs.Common.{option_map, zero-add}
 use Rattle.std.specs.Prelude.{IfSome}
 use Rattle.std.specs.List.{position_or_len}
@@ -102,7 +102,7 @@ least-range f may base a (suc n) m t are fits may_t before from to = elim (cases
 -- The start.
 
 abbrev pub start_at : Medl → ClusterStart
-start_at list = record { slot = first_start list; node = starter_of list }
+start_at list = record { slot = start_slot_of list; node = starter_of list }
 
 behind : (list : Medl) (number : ℕ) (script : Script) → IsGenerated list number script
     → AreBehind (start_slot list script) (may_start list) (2 * length list.slots) (length list.slots)
@@ -118,18 +118,18 @@ exactly-other false base slot k t at other = refl
 
 starts-only : (list : Medl) (number : ℕ) (script : Script) → IsGenerated list number script
     → IsFirst list (starter_of list)
-    → filter (starts_in list script (first_start list)) (nodes_of list) ≡ starter_of list ∷ []
+    → filter (starts_in list script (start_slot_of list)) (nodes_of list) ≡ starter_of list ∷ []
 starts-only list number script is first =
     let n = length list.slots in
     let t = starter_of list in
-    let starts = starts_in list script (first_start list) in
+    let starts = starts_in list script (start_slot_of list) in
     let due : starts t ≡ true =
-    ap (is_exactly (first_start list))
+    ap (is_exactly (start_slot_of list))
     (behind list number script is t first.node ∙ ap (λ b. cond b (Some (2 * n + t)) None) first.may)
-    ∙ eq-eqb (2 * n + t) (first_start list) refl in
+    ∙ eq-eqb (2 * n + t) (start_slot_of list) refl in
     filter-only starts n t due
-    (λ k less other. ap (is_exactly (first_start list)) (behind list number script is k less)
-    ∙ exactly-other (may_start list k) (2 * n) (first_start list) k t refl other) first.node
+    (λ k less other. ap (is_exactly (start_slot_of list)) (behind list number script is k less)
+    ∙ exactly-other (may_start list k) (2 * n) (start_slot_of list) k t refl other) first.node
 
 all-on : (list : Medl) (number : ℕ) (script : Script) (slot : ℕ) → IsGenerated list number script
     → are_all_on list script slot ≡ true
@@ -148,14 +148,14 @@ pub start_of-generated : (list : Medl) (number : ℕ) (script : Script) → IsGe
     → IsFirst list (starter_of list) → start_of list script ≡ Some (start_at list)
 start_of-generated list number script is first =
     let n = length list.slots in
-    let least : least_of (filter_map (start_slot list script) (nodes_of list)) ≡ Some (first_start list) =
+    let least : least_of (filter_map (start_slot list script) (nodes_of list)) ≡ Some (start_slot_of list) =
     least-range (start_slot list script) (may_start list) (2 * n) 0 n n (starter_of list)
     (behind list number script is) (omega arith) first.may first.before (omega arith) (omega (arith, first.node)) in
     ap (start_in list script) least
-    ∙ ap (λ b. cond b (only_starter (first_start list)
-    (filter (starts_in list script (first_start list)) (nodes_of list))) None)
-    (all-on list number script (first_start list) is)
-    ∙ ap (only_starter (first_start list)) (starts-only list number script is first)
+    ∙ ap (λ b. cond b (only_starter (start_slot_of list)
+    (filter (starts_in list script (start_slot_of list)) (nodes_of list))) None)
+    (all-on list number script (start_slot_of list) is)
+    ∙ ap (only_starter (start_slot_of list)) (starts-only list number script is first)
 
 -- The least node that may start, as it is looked for.
 

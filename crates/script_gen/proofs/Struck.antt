@@ -4,7 +4,7 @@ use Rattle.script_gen.proofs.Words.{◌||◌, List, [], ◌∷◌, ◌++◌, len
 use Rattle.script_gen.proofs.Words.{arith, ◌==◌, is_some, nat_lt, filter, and_right, cases_eq, cases_lt, eq-eqb, le-ltb}
 use Rattle.script_gen.proofs.Words.{ne_eqb, false≢true, below, has_node, same_sieve, Medl, Script, FaultyNode, nodes_of}
 use Rattle.script_gen.proofs.Words.{numbers_of, loses, faulty_nodes_before, breaks_in, IsValid, is_ever_on, is_on}
-use Rattle.script_gen.proofs.Words.{starter_of, first_start, most_faults, fault_slot}
+use Rattle.script_gen.proofs.Words.{starter_of, start_slot_of, most_faults, fault_slot_of}
 use Rattle.std.proofs.Math.Nat.{add-mul-mod_self_right}
 use Rattle.std.proofs.lemmas.Bool.{and_from, cases_Bool}
 use Rattle.std.proofs.lemmas.Bool.{or_from}
@@ -29,7 +29,7 @@ struck_at list number j = cond (is_even list number j) (sender_at list j) (recei
 abbrev pub struck : Medl → ℕ → ℕ → List FaultyNode
 struck list number zero = []
 struck list number (suc j) =
-    record { slot = fault_slot list j; node = struck_at list number j } ∷ struck list number j
+    record { slot = fault_slot_of list j; node = struck_at list number j } ∷ struck list number j
 
 -- the node so many after the starter
 abbrev turn : Medl → ℕ → ℕ
@@ -70,10 +70,10 @@ length-struck list number (suc c) = ap suc (length-struck list number c)
 
 -- Whose slot it is.
 
-expected-at : (list : Medl) (j : ℕ) → expected_sender list (start_at list) (fault_slot list j) ≡ sender_at list j
+expected-at : (list : Medl) (j : ℕ) → expected_sender list (start_at list) (fault_slot_of list j) ≡ sender_at list j
 expected-at list j =
     let n = length list.slots in
-    let since : starter_of list + (fault_slot list j - first_start list)
+    let since : starter_of list + (fault_slot_of list j - start_slot_of list)
     ≡ (starter_of list + 2 * j) + (2 + 2 * j) * n = omega arith in
     ap (λ t. t % n) since ∙ add-mul-mod_self_right (starter_of list + 2 * j) (2 + 2 * j) n
 
@@ -142,10 +142,10 @@ no_jumpers list number script faulty slot is =
 loss-without_jumps : (list : Medl) (number : ℕ) (script : Script) (faulty : List ℕ) (slot : ℕ)
     → IsGenerated list number script
     → loss_in list script (start_at list) faulty slot
-    ≡ cond (nat_lt slot (first_start list)) Harmless
+    ≡ cond (nat_lt slot (start_slot_of list)) Harmless
     (sender_loss list script faulty slot (expected_sender list (start_at list) slot))
 loss-without_jumps list number script faulty slot is =
-    ap (λ jumpers. cond (nat_lt slot (first_start list)) Harmless
+    ap (λ jumpers. cond (nat_lt slot (start_slot_of list)) Harmless
     (sender_loss list script (jumpers ++ faulty) slot (expected_sender list (start_at list) slot)))
     (no_jumpers list number script faulty slot is)
 
@@ -155,7 +155,7 @@ harmless false loss is = is
 
 -- in a slot of no fault nothing happens
 quiet-slot : (list : Medl) (number : ℕ) (script : Script) (faulty : List ℕ) (slot : ℕ) → IsGenerated list number script
-    → ((j : ℕ) → j < most_faults list → fault_slot list j ≡ slot → ⊥)
+    → ((j : ℕ) → j < most_faults list → fault_slot_of list j ≡ slot → ⊥)
     → loss_in list script (start_at list) faulty slot ≡ Harmless
 quiet-slot list number script faulty slot is quiet =
     let sender = expected_sender list (start_at list) slot in
@@ -164,7 +164,7 @@ quiet-slot list number script faulty slot is quiet =
     filter-no (loses script sender slot) others
     (λ r. none-loses list number script sender slot r is quiet) in
     loss-without_jumps list number script faulty slot is
-    ∙ harmless (nat_lt slot (first_start list)) _
+    ∙ harmless (nat_lt slot (start_slot_of list)) _
     (harmless (not (is_ever_on script sender) || has_node faulty sender) _
     (ap (loss_among sender others) lost))
 
@@ -176,17 +176,17 @@ passes : (on among same : Bool) → on ≡ true → among ≡ false → same ≡
 passes on among same is sound other = λ i. is i && (not (sound i) && not (other i))
 
 receiver-lost : (list : Medl) (number : ℕ) (script : Script) (faulty : List ℕ) (j : ℕ) → IsGenerated list number script
-    → j < most_faults list → fault_slot list j < script.slots → is_even list number j ≡ false
+    → j < most_faults list → fault_slot_of list j < script.slots → is_even list number j ≡ false
     → receiver_at list j < length list.slots
     → has_node faulty (receiver_at list j) ≡ false → (receiver_at list j ≡ sender_at list j → ⊥)
-    → filter (loses script (sender_at list j) (fault_slot list j))
-    (others_in list script faulty (sender_at list j) (fault_slot list j))
+    → filter (loses script (sender_at list j) (fault_slot_of list j))
+    (others_in list script faulty (sender_at list j) (fault_slot_of list j))
     ≡ receiver_at list j ∷ []
 receiver-lost list number script faulty j is less within odd node sound other =
     let n = length list.slots in
     let sender = sender_at list j in
     let receiver = receiver_at list j in
-    let slot = fault_slot list j in
+    let slot = fault_slot_of list j in
     let who = λ (r : ℕ).
     who-loses list number script j r is less within ∙ ap (λ b. b || (receiver_at list j == r)) odd in
     let both = λ (r : ℕ). is_other script faulty sender slot r && loses script sender slot r in
@@ -200,12 +200,12 @@ receiver-lost list number script faulty j is less within odd node sound other =
     (who r ∙ ne_eqb receiver r (λ same. apart (sym same)))) node
 
 strike : (list : Medl) (number : ℕ) (script : Script) (j : ℕ) → IsValid list → IsGenerated list number script
-    → j < most_faults list → fault_slot list j < script.slots
-    → loss_in list script (start_at list) (numbers_of (struck list number j)) (fault_slot list j)
+    → j < most_faults list → fault_slot_of list j < script.slots
+    → loss_in list script (start_at list) (numbers_of (struck list number j)) (fault_slot_of list j)
     ≡ Makes (struck_at list number j)
 strike list number script j valid is less within =
     let n = length list.slots in
-    let slot = fault_slot list j in
+    let slot = fault_slot_of list j in
     let sender = sender_at list j in
     let receiver = receiver_at list j in
     let faulty = numbers_of (struck list number j) in
@@ -222,7 +222,7 @@ strike list number script j valid is less within =
     turns-differ n (starter_of list + 2 * j) (starter_of list + 2 * j + 1) (omega arith) (omega (arith, valid.count))
     (sym same) in
     let ever : is_ever_on script sender ≡ true = ap is_some (on-is list number script sender is node) in
-    let since : nat_lt slot (first_start list) ≡ false = le-ltb slot (first_start list) (omega arith) in
+    let since : nat_lt slot (start_slot_of list) ≡ false = le-ltb slot (start_slot_of list) (omega arith) in
     let lost : receivers_loss script sender slot others ≡ Makes (struck_at list number j) =
     elim (cases_Bool (is_even list number j)) [
       | inl even ↦
@@ -248,8 +248,8 @@ strike list number script j valid is less within =
 -- the first faults, so many, came before a slot, and no other
 pub record AreBefore (list : Medl) (slot c : ℕ) : Type 0 where
   pub few : c ≤ most_faults list
-  pub done : (j : ℕ) → j < c → fault_slot list j < slot
-  pub left : (j : ℕ) → c ≤ j → j < most_faults list → slot ≤ fault_slot list j
+  pub done : (j : ℕ) → j < c → fault_slot_of list j < slot
+  pub left : (j : ℕ) → c ≤ j → j < most_faults list → slot ≤ fault_slot_of list j
 
 pub record IsReached (list : Medl) (number : ℕ) (script : Script) (slot : ℕ) : Type 0 where
   pub count : ℕ
@@ -258,7 +258,7 @@ pub record IsReached (list : Medl) (number : ℕ) (script : Script) (slot : ℕ)
 
 -- the faults that come before a slot are of the run
 abbrev pub AreShown : Medl → Script → ℕ → Type 0
-AreShown list script slot = (j : ℕ) → fault_slot list j < slot → fault_slot list j < script.slots
+AreShown list script slot = (j : ℕ) → fault_slot_of list j < slot → fault_slot_of list j < script.slots
 
 -- nodes that a slot adds
 abbrev added : ℕ → List ℕ → List FaultyNode
@@ -272,16 +272,16 @@ next-faulty list number script slot faulty loss is before told =
     ap (λ fs. faulty_nodes_in list script (start_at list) slot fs ++ fs) before
     ∙ (λ i. added slot (nodes_made (told i) ++ no_jumpers list number script (numbers_of faulty) slot is i) ++ faulty)
 
-later-than : (list : Medl) (i j slot : ℕ) → i < j → slot ≤ fault_slot list i → slot < fault_slot list j
+later-than : (list : Medl) (i j slot : ℕ) → i < j → slot ≤ fault_slot_of list i → slot < fault_slot_of list j
 later-than list i j slot less from = omega (arith, faults-apart list i j less)
 
 none-at : (list : Medl) (slot c : ℕ) → AreBefore list slot c
-    → (c < most_faults list → fault_slot list c ≡ slot → ⊥)
-    → (j : ℕ) → j < most_faults list → fault_slot list j ≡ slot → ⊥
+    → (c < most_faults list → fault_slot_of list c ≡ slot → ⊥)
+    → (j : ℕ) → j < most_faults list → fault_slot_of list j ≡ slot → ⊥
 none-at list slot c before other j less is = elim (cases_lt j c) [
   | inl past ↦ let done = before.done j past in omega (arith, done)
   | inr from ↦ elim (cases_eq c j) [
-    | inl same ↦ other (omega arith) (ap (fault_slot list) same ∙ is)
+    | inl same ↦ other (omega arith) (ap (fault_slot_of list) same ∙ is)
     | inr apart ↦
         let left = before.left c (omega arith) (omega arith) in
         let later = later-than list c j slot (omega arith) left in
@@ -291,38 +291,38 @@ none-at list slot c before other j less is = elim (cases_lt j c) [
 
 -- what a slot does: it strikes the next node, or none
 data Happens (list : Medl) (slot c : ℕ) : Type 0 where
-  strikes : (less : c < most_faults list) (at : fault_slot list c ≡ slot) → Happens list slot c
-  quiet : (none : (j : ℕ) → j < most_faults list → fault_slot list j ≡ slot → ⊥) → Happens list slot c
+  strikes : (less : c < most_faults list) (at : fault_slot_of list c ≡ slot) → Happens list slot c
+  quiet : (none : (j : ℕ) → j < most_faults list → fault_slot_of list j ≡ slot → ⊥) → Happens list slot c
 
 happens : (list : Medl) (slot c : ℕ) → AreBefore list slot c → Happens list slot c
 happens list slot c before = elim (cases_lt c (most_faults list)) [
-  | inl less ↦ elim (cases_eq (fault_slot list c) slot) [
+  | inl less ↦ elim (cases_eq (fault_slot_of list c) slot) [
     | inl same ↦ strikes less same
     | inr other ↦ quiet (none-at list slot c before (λ small is. other is))
   ]
   | inr all ↦ quiet (none-at list slot c before (λ small is. absurd (omega arith)))
 ]
 
-struck-before : (list : Medl) (slot c : ℕ) → AreBefore list slot c → c < most_faults list → fault_slot list c ≡ slot
+struck-before : (list : Medl) (slot c : ℕ) → AreBefore list slot c → c < most_faults list → fault_slot_of list c ≡ slot
     → AreBefore list (suc slot) (suc c)
 struck-before list slot c before less at = record {
   few = omega arith;
   done = λ j small. elim (cases_lt j c) [
     | inl past ↦ let done = before.done j past in omega arith
-    | inr from ↦ let same : fault_slot list j ≡ fault_slot list c = ap (fault_slot list) (omega arith) in omega arith
+    | inr from ↦ let same : fault_slot_of list j ≡ fault_slot_of list c = ap (fault_slot_of list) (omega arith) in omega arith
   ];
   left = λ j from small. let apart = faults-apart list c j (omega arith) in omega arith;
 }
 
 quiet-before : (list : Medl) (slot c : ℕ) → AreBefore list slot c
-    → ((j : ℕ) → j < most_faults list → fault_slot list j ≡ slot → ⊥)
+    → ((j : ℕ) → j < most_faults list → fault_slot_of list j ≡ slot → ⊥)
     → AreBefore list (suc slot) c
 quiet-before list slot c before none = record {
   few = before.few;
   done = λ j small. let done = before.done j small in omega arith;
   left = λ j from small.
       let left = before.left j from small in
-      let other : fault_slot list j ≢ slot = none j small in
+      let other : fault_slot_of list j ≢ slot = none j small in
       omega arith;
 }
 

@@ -5,8 +5,8 @@ use Rattle.script_gen.proofs.Words.{inl, inr, mod-lt, length-append, arith, ◌=
 use Rattle.script_gen.proofs.Words.{filter_map, flat_map, leb-true, le-leb, ne_eqb, eq-eqb, cases_lt, ints, append-nil}
 use Rattle.script_gen.proofs.Words.{filter_map-append, below, map_each-below, Medl, Event, Script, EVENT_LIMIT}
 use Rattle.script_gen.proofs.Words.{IsBounded, IsValid, plan_at, IsValidScript, drawn, drift_by, error_by, most_faults}
-use Rattle.script_gen.proofs.Words.{fault_slot, fault_by, fault_within, has_payload, write_by, reads_by, host_events_in}
-use Rattle.script_gen.proofs.Words.{error_events, fault_events, host_events, all_events, generated}
+use Rattle.script_gen.proofs.Words.{fault_slot_of, fault_by, fault_within, has_payload, write_by, reads_by}
+use Rattle.script_gen.proofs.Words.{host_events_in, error_events, fault_events, host_events, all_events, generated}
 use Rattle.std.proofs.lemmas.Bool.{lt-leb}
 use Rattle.std.proofs.lemmas.List.{length-replicate}
 use Rattle.std.proofs.lemmas.List.Elements.{All-from_recursion, All-replicate}
@@ -87,7 +87,7 @@ few-events list slots number valid few =
     let error_count : length errors ≡ n = length-map-range_with_len (error_by list slots number) 0 n in
     let fault_count : length faults ≤ most_faults list * 1 =
     length-flat_map (fault_within list slots number) 1 (most_faults list)
-    (λ j. length-one (nat_lt (fault_slot list j) slots) (fault_by list j (drawn number (2 * n + j)))) in
+    (λ j. length-one (nat_lt (fault_slot_of list j) slots) (fault_by list j (drawn number (2 * n + j)))) in
     let most : most_faults list ≤ n / 2 = omega arith in
     let host_count : length hosts ≤ slots * 3 = length-flat_map (host_events_in list) 3 slots (length-hosts list) in
     omega (arith, length-append errors (faults ++ hosts), length-append faults hosts)

@@ -1,7 +1,7 @@
 -- The words of this crate's proofs, from one place.
 unfoldable pub use Rattle.script_gen.specs.Draws.{drawn}
 pub use Rattle.script_gen.specs.Generator.{all_events, both_channels, drift_by, error_by, error_events, fault_by}
-pub use Rattle.script_gen.specs.Generator.{fault_events, fault_slot, fault_within, first_start, first_starter}
+pub use Rattle.script_gen.specs.Generator.{fault_events, fault_slot_of, fault_within, start_slot_of, first_starter}
 pub use Rattle.script_gen.specs.Generator.{has_payload, host_events, host_events_in, most_faults, reads_by}
 unfoldable pub use Rattle.script_gen.specs.Generator.{generated}
 pub use Rattle.script_gen.specs.Generator.{spread_over, starter_of, write_by}

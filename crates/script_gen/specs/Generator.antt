@@ -26,8 +26,8 @@ abbrev pub starter_of : Medl → ℕ
 starter_of list = unwrap_or (first_starter list) 0
 
 -- the slot of the start
-abbrev pub first_start : Medl → ℕ
-first_start list = 2 * length list.slots + starter_of list
+abbrev pub start_slot_of : Medl → ℕ
+start_slot_of list = 2 * length list.slots + starter_of list
 
 -- Clocks: of each node the first of two draws is its drift, and the second its reading error in all slots.
 
@@ -51,8 +51,8 @@ abbrev pub most_faults : Medl → ℕ
 most_faults list = min (count_by (λ plan. plan.sync) list.slots - 4) (length list.slots / 2)
 
 -- the slot of fault j: two rounds after the start, and then two rounds and two slots apart
-abbrev pub fault_slot : Medl → ℕ → ℕ
-fault_slot list j = first_start list + 2 * length list.slots + j * (2 * length list.slots + 2)
+abbrev pub fault_slot_of : Medl → ℕ → ℕ
+fault_slot_of list j = start_slot_of list + 2 * length list.slots + j * (2 * length list.slots + 2)
 
 -- channels A and B
 abbrev pub both_channels : Channels
@@ -61,7 +61,7 @@ both_channels = record { a = true; b = true }
 -- fault j: what the sender sends is noise, or the node after it hears noise
 abbrev pub fault_by : Medl → ℕ → ℕ → Event
 fault_by list j draw =
-    let slot = fault_slot list j in
+    let slot = fault_slot_of list j in
     let turn = starter_of list + 2 * j in
     if draw % 2 == 0
     then event.Send (turn % length list.slots) both_channels fault.Noise slot slot
@@ -70,7 +70,7 @@ fault_by list j draw =
 -- the fault of a number, where its slot is one of the run
 abbrev pub fault_within : Medl → ℕ → ℕ → ℕ → List Event
 fault_within list slots number j =
-    if nat_lt (fault_slot list j) slots then fault_by list j (drawn number (2 * length list.slots + j)) ∷ [] else []
+    if nat_lt (fault_slot_of list j) slots then fault_by list j (drawn number (2 * length list.slots + j)) ∷ [] else []
 
 -- Hosts: the sender's host writes a message where its node sends payload, and the host of the node after it reads its
 -- status, and then what it got from that sender.

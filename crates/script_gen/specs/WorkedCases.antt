@@ -8,11 +8,12 @@ use Rattle.ttp_world.specs.declared.script.Event.TheVariants as event
 use Rattle.ttp_world.specs.declared.script.Source.TheVariants as source
 
 -- a slot whose frames are bare, and one of so many bytes of payload
-abbrev pub bare : Bool → SlotPlan
-bare start = record { kinds = kind.I ∷ []; payload = 0; sync = true; start = start; requests = false; live = 1 }
+abbrev pub bare_frames : Bool → SlotPlan
+bare_frames start = record { kinds = kind.I ∷ []; payload = 0; sync = true; start = start; requests = false; live = 1 }
 
-abbrev pub loaded : ℕ → SlotPlan
-loaded size = record { kinds = kind.N ∷ []; payload = size; sync = true; start = false; requests = false; live = 1 }
+abbrev pub loaded_with : ℕ → SlotPlan
+loaded_with size =
+    record { kinds = kind.N ∷ []; payload = size; sync = true; start = false; requests = false; live = 1 }
 
 -- a list of these slots in one round
 abbrev pub list_of : ℕ → ℤ → ℤ → ℤ → List SlotPlan → Medl
@@ -29,13 +30,13 @@ list_of buffers drift error window slots = record {
 }
 
 -- four nodes whose clocks are exact and whose hosts send nothing
-abbrev pub four_nodes : Medl
-four_nodes = list_of 2 (pos 0) (pos 0) (pos 1) (bare true ∷ replicate 3 (bare false))
+abbrev pub four_exact : Medl
+four_exact = list_of 2 (pos 0) (pos 0) (pos 1) (bare_frames true ∷ replicate 3 (bare_frames false))
 
 -- six nodes, of which the second may start where any may, and the first and the fifth send payload
 abbrev pub six_nodes : ℕ → Bool → Medl
 six_nodes buffers start = list_of buffers (pos 3) (pos 5) (pos 88)
-    (loaded 2 ∷ bare start ∷ bare false ∷ bare false ∷ loaded 3 ∷ bare false ∷ [])
+    (loaded_with 2 ∷ bare_frames start ∷ bare_frames false ∷ bare_frames false ∷ loaded_with 3 ∷ bare_frames false ∷ [])
 
 -- a host that polls its status
 abbrev pub poll : ℕ → ℕ → Event

@@ -2,7 +2,7 @@
 //! are left.
 ghost use Rattle.std.specs.Prelude.{◌≡◌, ◌*◌, ◌<◌, ◌++◌, length, count_by, OnOk};
 ghost use Rattle.ttp_world.specs.Medl.{IsValid};
-ghost use Rattle.script_gen.specs.Generator.{starter_of, most_faults, fault_slot, fault_by, fault_events};
+ghost use Rattle.script_gen.specs.Generator.{starter_of, most_faults, fault_slot_of, fault_by, fault_events};
 
 use crate::draws::Draws;
 use ttp_base::{List, Memory};
@@ -48,7 +48,7 @@ fn fault_by(list: &Medl, starter: u8, j: u8, slot: u32, draw: u32) -> Event
     requires valid { IsValid list.now }
     requires starter { starter ≡ starter_of list.now }
     requires few { j < most_faults list.now }
-    requires slot { slot ≡ fault_slot list.now j }
+    requires slot { slot ≡ fault_slot_of list.now j }
     ensures { result ≡ fault_by list.now j draw }
 {
     let turn = starter + 2 * j;

@@ -4,7 +4,7 @@ ghost use Rattle.ttp_world.specs.declared.keep.Keep.TheVariants as keep;
 ghost use Rattle.ttp_world.specs.Hypothesis.{window_broken, keeps};
 ghost use Rattle.ttp_world.specs.Medl.{IsValid};
 ghost use Rattle.ttp_world.specs.Script.{IsValidScript};
-ghost use Rattle.script_gen.specs.Generator.{first_starter, first_start, generated};
+ghost use Rattle.script_gen.specs.Generator.{first_starter, start_slot_of, generated};
 
 use crate::clocks::add_clocks;
 use crate::draws::Draws;
@@ -45,7 +45,7 @@ pub fn generate(alloc: Global, list: &Medl, slots: u32, number: u64) -> Result<S
     ensures script { IfOk result (λ script. script ≡ generated list.now slots number) }
     ensures valid { IfOk result (IsValidScript list.now) }
     ensures keeps { window_broken list.now ≡ None → IsSome (first_starter list.now)
-        → IfOk result (λ script. keeps list.now script ≡ keep.Yes (first_start list.now)) }
+        → IfOk result (λ script. keeps list.now script ≡ keep.Yes (start_slot_of list.now)) }
 {
     let mut draws = Draws::from(number);
     let mut drift = List::new(alloc);

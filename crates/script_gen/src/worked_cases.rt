@@ -9,9 +9,9 @@ ghost use Rattle.ttp_world.specs.declared.script.Fault.TheVariants as fault;
 ghost use Rattle.ttp_world.specs.declared.script.Source.TheVariants as source;
 ghost use Rattle.ttp_world.specs.Hypothesis.{keeps};
 ghost use Rattle.script_gen.specs.Draws.{drawn};
-ghost use Rattle.script_gen.specs.Generator.{both_channels, first_starter, first_start, error_events};
+ghost use Rattle.script_gen.specs.Generator.{both_channels, first_starter, start_slot_of, error_events};
 ghost use Rattle.script_gen.specs.Generator.{fault_events, host_events_in, generated};
-ghost use Rattle.script_gen.specs.WorkedCases.{four_nodes, six_nodes, poll};
+ghost use Rattle.script_gen.specs.WorkedCases.{four_exact, six_nodes, poll};
 
 /// The first draws of some numbers.
 fn first_draws()
@@ -27,7 +27,7 @@ fn first_draws()
 
 /// Four nodes spare none for a fault, and their hosts only poll their status.
 fn script_of_four_nodes()
-    ensures script { generated four_nodes 12 7 ≡ record {
+    ensures script { generated four_exact 12 7 ≡ record {
       slots = 12;
       on = replicate 4 (Some 0);
       drift = replicate 4 (pos 0);
@@ -35,13 +35,13 @@ fn script_of_four_nodes()
           ∷ event.Error 3 (pos 0) 0 11 ∷ poll 1 0 ∷ poll 2 1 ∷ poll 3 2 ∷ poll 0 3 ∷ poll 1 4 ∷ poll 2 5 ∷ poll 3 6
           ∷ poll 0 7 ∷ poll 1 8 ∷ poll 2 9 ∷ poll 3 10 ∷ poll 0 11 ∷ [];
     } }
-    ensures keeps { keeps four_nodes (generated four_nodes 12 7) ≡ keep.Yes 8 }
+    ensures keeps { keeps four_exact (generated four_exact 12 7) ≡ keep.Yes 8 }
 {}
 
 /// Six nodes spare two. Node 1 starts in slot 13, so the faults lie in slots 25 and 39, whose senders are
 /// nodes 1 and 3. The first draw is even and the second odd, so the frame of node 3 is lost to node 4.
 fn faults_of_six_nodes()
-    ensures start { first_start (six_nodes 2 true) ≡ 13 }
+    ensures start { start_slot_of (six_nodes 2 true) ≡ 13 }
     ensures errors { error_events (six_nodes 2 true) 60 5
         ≡ event.Error 0 (pos 0) 0 59 ∷ event.Error 1 (pos 4) 0 59 ∷ event.Error 2 (pos 5) 0 59
         ∷ event.Error 3 (pos 5) 0 59 ∷ event.Error 4 (negsuc 4) 0 59 ∷ event.Error 5 (negsuc 1) 0 59 ∷ [] }

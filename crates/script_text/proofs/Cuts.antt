@@ -3,7 +3,7 @@ use Rattle.script_text.proofs.Terms.{◌≡◌, ℕ, zero, suc, ◌+◌, ◌<◌
 use Rattle.script_text.proofs.Terms.{length, take, drop, get_or, map, Option, Some, None, filter, arith, refl, ap, sym}
 use Rattle.script_text.proofs.Terms.{◌∙◌, slice_split, list_all, nat_tests, length-take, get_or-take}
 use Rattle.script_text.proofs.Terms.{AllPass-from_list_all, is_line_feed, is_blank, is_part, has_bytes, without_return}
-use Rattle.script_text.proofs.Terms.{without_empty_end, lines_of, words_of}
+use Rattle.script_text.proofs.Terms.{without_empty_end, lines_of_file, words_of_line}
 use Rattle.std.specs.List.{position, position_or_len}
 use Rattle.std.proofs.lemmas.List.{length-map, take_all}
 use Rattle.std.proofs.lemmas.List.Splits.{slice_split_first, length-slice_split, slice_split-cons_yes}
@@ -64,8 +64,8 @@ has_pieces f p xs = omega (arith, length-map (slice_split p xs) f, length-slice_
 
 -- the first line ends at the first line feed
 pub lines_of-cut : (text : List ℕ) (i : ℕ) → position is_line_feed text ≡ Some i
-    → lines_of text ≡ without_return (take i text) ∷ lines_of (drop (i + 1) text)
-unfolding lines_of
+    → lines_of_file text ≡ without_return (take i text) ∷ lines_of_file (drop (i + 1) text)
+unfolding lines_of_file
 lines_of-cut text i here =
     ap (λ (pieces : List (List ℕ)). without_empty_end (map without_return pieces))
     (slice_split_position is_line_feed text i 0 here)
@@ -74,20 +74,20 @@ lines_of-cut text i here =
 
 -- with no line feed, what is left is a line where it is not empty
 pub lines_of-rest : (text : List ℕ) → position is_line_feed text ≡ None
-    → lines_of text ≡ without_empty_end (without_return text ∷ [])
-unfolding lines_of
+    → lines_of_file text ≡ without_empty_end (without_return text ∷ [])
+unfolding lines_of_file
 lines_of-rest text here =
     ap (λ (pieces : List (List ℕ)). without_empty_end (map without_return pieces))
     (slice_split_nowhere is_line_feed text here)
 
-pub lines_of-empty : lines_of [] ≡ []
-unfolding lines_of
+pub lines_of-empty : lines_of_file [] ≡ []
+unfolding lines_of_file
 lines_of-empty = refl
 
 -- Words.
 
-words_of-blank : (x : ℕ) (xs : List ℕ) → is_blank x ≡ true → words_of (x ∷ xs) ≡ words_of xs
-unfolding words_of
+words_of-blank : (x : ℕ) (xs : List ℕ) → is_blank x ≡ true → words_of_line (x ∷ xs) ≡ words_of_line xs
+unfolding words_of_line
 words_of-blank x xs blank = ap (filter has_bytes) (slice_split-cons_yes is_blank x xs blank)
 
 -- how many blanks stand before the first word of a line that begins with this byte
@@ -99,13 +99,13 @@ blanks-none : (x : ℕ) (xs : List ℕ) → is_blank x ≡ false → position_or
 blanks-none x xs part = grind arith
 
 words_of-drop_more : (x : ℕ) (xs : List ℕ) (b : Bool) → is_blank x ≡ b
-    → words_of xs ≡ words_of (drop (position_or_len is_part xs) xs)
-    → words_of (x ∷ xs) ≡ words_of (drop (position_or_len is_part (x ∷ xs)) (x ∷ xs))
+    → words_of_line xs ≡ words_of_line (drop (position_or_len is_part xs) xs)
+    → words_of_line (x ∷ xs) ≡ words_of_line (drop (position_or_len is_part (x ∷ xs)) (x ∷ xs))
 words_of-drop_more x xs true blank rest =
-    words_of-blank x xs blank ∙ rest ∙ ap (λ (n : ℕ). words_of (drop n (x ∷ xs))) (sym (blanks-cons x xs blank))
-words_of-drop_more x xs false part rest = ap (λ (n : ℕ). words_of (drop n (x ∷ xs))) (sym (blanks-none x xs part))
+    words_of-blank x xs blank ∙ rest ∙ ap (λ (n : ℕ). words_of_line (drop n (x ∷ xs))) (sym (blanks-cons x xs blank))
+words_of-drop_more x xs false part rest = ap (λ (n : ℕ). words_of_line (drop n (x ∷ xs))) (sym (blanks-none x xs part))
 
-words_of-drop_blanks : (line : List ℕ) → words_of line ≡ words_of (drop (position_or_len is_part line) line)
+words_of-drop_blanks : (line : List ℕ) → words_of_line line ≡ words_of_line (drop (position_or_len is_part line) line)
 words_of-drop_blanks [] = refl
 words_of-drop_blanks (x ∷ xs) = words_of-drop_more x xs (is_blank x) refl (words_of-drop_blanks xs)
 
@@ -118,24 +118,25 @@ has_bytes-line : (line : List ℕ) → 0 < length line → has_bytes line ≡ tr
 has_bytes-line [] long = absurd (omega arith)
 has_bytes-line (x ∷ xs) long = refl
 
-pub words_of-empty : words_of [] ≡ []
-unfolding words_of
+pub words_of-empty : words_of_line [] ≡ []
+unfolding words_of_line
 words_of-empty = refl
 
 -- blanks at the front say nothing
-pub words_of-start : (line : List ℕ) (i : ℕ) → position is_part line ≡ Some i → words_of line ≡ words_of (drop i line)
+pub words_of-start : (line : List ℕ) (i : ℕ) → position is_part line ≡ Some i
+    → words_of_line line ≡ words_of_line (drop i line)
 words_of-start line i here =
-    words_of-drop_blanks line ∙ ap (λ (n : ℕ). words_of (drop n line)) (position_or_len-is is_part line i here).0
+    words_of-drop_blanks line ∙ ap (λ (n : ℕ). words_of_line (drop n line)) (position_or_len-is is_part line i here).0
 
-pub words_of-blanks : (line : List ℕ) → position is_part line ≡ None → words_of line ≡ []
+pub words_of-blanks : (line : List ℕ) → position is_part line ≡ None → words_of_line line ≡ []
 words_of-blanks line here =
-    words_of-drop_blanks line ∙ ap words_of (drop_of_length-le line (no_position-length is_part line here))
+    words_of-drop_blanks line ∙ ap words_of_line (drop_of_length-le line (no_position-length is_part line here))
     ∙ words_of-empty
 
 pub words_of-past : (line : List ℕ) → position is_part line ≡ None
-    → words_of (drop (length line) line) ≡ words_of line
+    → words_of_line (drop (length line) line) ≡ words_of_line line
 words_of-past line here =
-    ap words_of (drop_of_length-le line (omega arith)) ∙ words_of-empty ∙ sym (words_of-blanks line here)
+    ap words_of_line (drop_of_length-le line (omega arith)) ∙ words_of-empty ∙ sym (words_of-blanks line here)
 
 -- a line with a word at its front has a first byte, which is no blank
 front-first : (line : List ℕ) → position is_part line ≡ Some 0
@@ -152,17 +153,17 @@ front-has_bytes line i front end =
 
 -- a word at the front ends at the first blank
 pub words_of-cut : (line : List ℕ) (i : ℕ) → position is_part line ≡ Some 0 → position is_blank line ≡ Some i
-    → words_of line ≡ take i line ∷ words_of (drop (i + 1) line)
-unfolding words_of
+    → words_of_line line ≡ take i line ∷ words_of_line (drop (i + 1) line)
+unfolding words_of_line
 words_of-cut line i front here =
     ap (filter has_bytes) (slice_split_position is_blank line i 0 here)
-    ∙ ap (λ (b : Bool). cond b (take i line ∷ words_of (drop (i + 1) line)) (words_of (drop (i + 1) line)))
+    ∙ ap (λ (b : Bool). cond b (take i line ∷ words_of_line (drop (i + 1) line)) (words_of_line (drop (i + 1) line)))
     (front-has_bytes line i front here)
 
 -- or it is what is left
 pub words_of-rest : (line : List ℕ) → position is_part line ≡ Some 0 → position is_blank line ≡ None
-    → words_of line ≡ line ∷ []
-unfolding words_of
+    → words_of_line line ≡ line ∷ []
+unfolding words_of_line
 words_of-rest line front here =
     ap (filter has_bytes) (slice_split_nowhere is_blank line here)
     ∙ ap (λ (b : Bool). cond b (line ∷ []) []) (has_bytes-line line (front-first line front).0)
@@ -200,7 +201,7 @@ front_is_part line count some within parts =
 -- a blank ends it
 pub words_of-front : (line : List ℕ) (count : ℕ) → 1 ≤ count → count < length line
     → list_all is_part (take count line) ≡ true → is_blank (get_or line count 0) ≡ true
-    → words_of line ≡ take count line ∷ words_of (drop (count + 1) line)
+    → words_of_line line ≡ take count line ∷ words_of_line (drop (count + 1) line)
 words_of-front line count some within parts blank =
     let at = position_or_len_is is_blank line count 0 (omega arith)
     (λ k below. let part = front_part line count k (omega arith) parts below in grind (arith, nat_tests))
@@ -209,7 +210,7 @@ words_of-front line count some within parts blank =
 
 -- or the line's end
 pub words_of-whole : (line : List ℕ) (count : ℕ) → 1 ≤ count → count ≡ length line
-    → list_all is_part (take count line) ≡ true → words_of line ≡ take count line ∷ words_of []
+    → list_all is_part (take count line) ≡ true → words_of_line line ≡ take count line ∷ words_of_line []
 words_of-whole line count some whole parts =
     let at = position_or_len_is is_blank line count 0 (omega arith)
     (λ k below. let part = front_part line count k (omega arith) parts below in grind (arith, nat_tests))

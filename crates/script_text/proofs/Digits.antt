@@ -1,6 +1,6 @@
 -- The number that decimal digits write, one digit after another.
 use Rattle.script_text.proofs.Terms.{◌≡◌, true, ℕ, ◌+◌, ◌-◌, ◌*◌, ◌^◌, ◌<◌, ◌≤◌, List, length, get_or, take, arith, ap}
-use Rattle.script_text.proofs.Terms.{◌∙◌, is_ascii_digit, digit_value, nat_tests, number_in}
+use Rattle.script_text.proofs.Terms.{◌∙◌, is_ascii_digit, digit_value, nat_tests, decimal_value}
 use Rattle.std.proofs.Common.{lit<}
 use Rattle.std.proofs.Math.Nat.{pow-le-pow_right}
 use Rattle.std.proofs.lemmas.Grind.{pow_more}
@@ -11,10 +11,10 @@ digit_value-of_digit b digit = grind (arith, nat_tests)
 
 -- one digit more
 pub number_in-more : (word : List ℕ) (i : ℕ) → i < length word → is_ascii_digit (get_or word i 0) ≡ true
-    → number_in (take (i + 1) word) ≡ number_in (take i word) * 10 + (get_or word i 0 - 48)
+    → decimal_value (take (i + 1) word) ≡ decimal_value (take i word) * 10 + (get_or word i 0 - 48)
 number_in-more word i within digit =
     digits_value_more 10 word i within
-    ∙ ap (λ (d : ℕ). number_in (take i word) * 10 + d) (digit_value-of_digit (get_or word i 0) digit)
+    ∙ ap (λ (d : ℕ). decimal_value (take i word) * 10 + d) (digit_value-of_digit (get_or word i 0) digit)
 
 pub digit-small : (b : ℕ) → is_ascii_digit b ≡ true → b - 48 < 10
 digit-small b digit = grind (arith, nat_tests)

@@ -4,9 +4,9 @@ use Rattle.script_text.proofs.Terms.{◌++◌, length, get_or, set, lit≤, coun
 use Rattle.script_text.proofs.Terms.{unwrap_or, Ok, Err, get_or-set_same, arith, refl, ap, sym, ◌∙◌, if◌then◌else◌}
 use Rattle.script_text.proofs.Terms.{option_or, common_steps, nat_tests, append-nil, first_fault, Medl, Event}
 use Rattle.script_text.proofs.Terms.{LineFault, Keyword, SoFar, Statement, says_slots, says_on, says_drift, says_event}
-use Rattle.script_text.proofs.Terms.{word_at, value_in, hex_bytes_in, number_at, is_spelled, statement_of, slots_of}
-use Rattle.script_text.proofs.Terms.{is_write_at, when, keyword_faults, statement_faults, stated_faults, is_after_slots}
-use Rattle.script_text.proofs.Terms.{form_faults, StandsFor, is_event_form, is_uncounted}
+use Rattle.script_text.proofs.Terms.{word_at, value_in, digit_bytes_in, number_at_word, is_spelled, statement_of}
+use Rattle.script_text.proofs.Terms.{slots_of, is_write_at, when, keyword_faults, statement_faults, stated_faults}
+use Rattle.script_text.proofs.Terms.{is_after_slots, form_faults, LinesStandFor, is_event_form, is_uncounted}
 use Rattle.std.proofs.Common.{nat_lt}
 use Rattle.std.proofs.Common.{get_or-set_other}
 use Rattle.std.proofs.lemmas.List.Sums.{sum_by-cons}
@@ -14,7 +14,7 @@ use Rattle.ttp_world.specs.declared.script.Event.TheVariants as event
 use Rattle.script_text.specs.declared.error.LineFault.TheVariants as faults
 use Rattle.script_text.specs.declared.error.Refusal.TheVariants as refusals
 use Rattle.script_text.specs.declared.keyword.Keyword.TheVariants as keyword
-use Rattle.script_text.specs.Statement.{word_count}
+use Rattle.script_text.specs.Statement.{form_word_count}
 use Rattle.script_text.specs.Faults.{further_faults}
 use Rattle.script_text.specs.SoFar.{writes_at, CountsMore}
 use Rattle.script_text.specs.SoFar.{ReadsEvent, TakesStated, RefusesStated}
@@ -85,10 +85,10 @@ set_at : {X : Type 0} (xs : List (Option X)) (node : ℕ) (x : X) (k : ℕ) → 
 set_at xs node x k within =
     grind (arith, common_steps, nat_tests, get_or-set_same xs node, get_or-set_other xs node k)
 
-pub StandsFor-on : (old new : SoFar) (before : List Statement) (node slot : ℕ) → StandsFor old before
+pub StandsFor-on : (old new : SoFar) (before : List Statement) (node slot : ℕ) → LinesStandFor old before
     → node < length old.on.items
     → new ≡ record old { on = new.on } → new.on.items ≡ set old.on.items node (Some slot)
-    → StandsFor new (says_on node slot ∷ before)
+    → LinesStandFor new (says_on node slot ∷ before)
 StandsFor-on old new before node slot stands within now on = record {
   slots = ap (λ (so_far : SoFar). so_far.slots) now ∙ stands.slots;
   on = λ k. ap (λ (xs : List (Option ℕ)). get_or xs k None) on ∙ set_at old.on.items node slot k within
@@ -98,10 +98,10 @@ StandsFor-on old new before node slot stands within now on = record {
   writes = rw now stands.writes;
 }
 
-pub StandsFor-drift : (old new : SoFar) (before : List Statement) (node : ℕ) (value : ℤ) → StandsFor old before
+pub StandsFor-drift : (old new : SoFar) (before : List Statement) (node : ℕ) (value : ℤ) → LinesStandFor old before
     → node < length old.drift.items
     → new ≡ record old { drift = new.drift } → new.drift.items ≡ set old.drift.items node (Some value)
-    → StandsFor new (says_drift node value ∷ before)
+    → LinesStandFor new (says_drift node value ∷ before)
 StandsFor-drift old new before node value stands within now drift = record {
   slots = ap (λ (so_far : SoFar). so_far.slots) now ∙ stands.slots;
   on = λ k. ap (λ (so_far : SoFar). get_or so_far.on.items k None) now ∙ stands.on k;
@@ -121,9 +121,9 @@ pub count_none : {X : Type 0} (p : X → Bool) (x : X) (xs : List X) → p x ≡
 count_none p x xs is = omega (arith, count_one p x xs false is)
 
 pub StandsFor-event : (old new : SoFar) (before : List Statement) (statement : Statement) (e : Event)
-    → StandsFor old before → statement ≡ says_event e → ((k t : ℕ) → is_write_at k t statement ≡ false)
+    → LinesStandFor old before → statement ≡ says_event e → ((k t : ℕ) → is_write_at k t statement ≡ false)
     → new ≡ record old { events = old.events ++ e ∷ [] }
-    → StandsFor new (statement ∷ before)
+    → LinesStandFor new (statement ∷ before)
 StandsFor-event old new before statement e stands says uncounted now = rw now (record {
   slots = rw says stands.slots;
   on = rw says stands.on;
@@ -133,9 +133,9 @@ StandsFor-event old new before statement e stands says uncounted now = rw now (r
 })
 
 pub StandsFor-write : (old new : SoFar) (before : List Statement) (node slot : ℕ) (payload : List ℕ)
-    → StandsFor old before → CountsMore old.writes new.writes node slot
+    → LinesStandFor old before → CountsMore old.writes new.writes node slot
     → new ≡ record old { events = old.events ++ event.Write node slot payload ∷ []; writes = new.writes }
-    → StandsFor new (says_event (event.Write node slot payload) ∷ before)
+    → LinesStandFor new (says_event (event.Write node slot payload) ∷ before)
 StandsFor-write old new before node slot payload stands more now = record {
   slots = ap (λ (so_far : SoFar). so_far.slots) now ∙ stands.slots;
   on = λ k. ap (λ (so_far : SoFar). get_or so_far.on.items k None) now ∙ stands.on k;
@@ -157,7 +157,7 @@ first_front [] more fault is = cc
 first_front (f ∷ front) more fault is = is
 
 pub stated_by : (list : Medl) (before : List Statement) (words : List (List ℕ)) (so_far : SoFar) (form : Keyword)
-    → StandsFor so_far before
+    → LinesStandFor so_far before
     → stated_faults list before words form
     ≡ statement_faults list (unwrap_or so_far.slots 0) words form
     ++ further_faults list before (statement_of form words)
@@ -197,7 +197,7 @@ refuses_own list words so_far form fault here = λ before stands.
 -- with none of its own the further ones decide
 refuses_further : (list : Medl) (words : List (List ℕ)) (so_far : SoFar) (form : Keyword) (fault : LineFault)
     → statement_faults list (unwrap_or so_far.slots 0) words form ≡ []
-    → ((before : List Statement) → StandsFor so_far before
+    → ((before : List Statement) → LinesStandFor so_far before
     → first_fault (further_faults list before (statement_of form words)) ≡ Some fault)
     → RefusesStated list words so_far form (refusals.Fault fault)
 refuses_further list words so_far form fault own here = λ before stands.
@@ -207,8 +207,8 @@ refuses_further list words so_far form fault own here = λ before stands.
 
 takes_stated : (list : Medl) (words : List (List ℕ)) (old new : SoFar) (form : Keyword)
     → statement_faults list (unwrap_or old.slots 0) words form ≡ []
-    → ((before : List Statement) → StandsFor old before → further_faults list before (statement_of form words) ≡ [])
-    → ((before : List Statement) → StandsFor old before → StandsFor new (statement_of form words ∷ before))
+    → ((before : List Statement) → LinesStandFor old before → further_faults list before (statement_of form words) ≡ [])
+    → ((before : List Statement) → LinesStandFor old before → LinesStandFor new (statement_of form words ∷ before))
     → TakesStated list words old new form
 takes_stated list words old new form own none kept = record {
   faults = λ before stands. stated_by list before words old form stands
@@ -228,39 +228,41 @@ fresh false is = refl
 
 pub refuses_on : (list : Medl) (words : List (List ℕ)) (so_far : SoFar)
     → statement_faults list (unwrap_or so_far.slots 0) words keyword.On ≡ []
-    → is_some (get_or so_far.on.items (number_at words 1) None) ≡ true
+    → is_some (get_or so_far.on.items (number_at_word words 1) None) ≡ true
     → RefusesStated list words so_far keyword.On (refusals.Fault faults.Repeat)
 refuses_on list words so_far own some = refuses_further list words so_far keyword.On faults.Repeat own (λ before stands.
-    repeated _ _ (ap is_some (sym (stands.on (number_at words 1))) ∙ some))
+    repeated _ _ (ap is_some (sym (stands.on (number_at_word words 1))) ∙ some))
 
 pub takes_on : (list : Medl) (words : List (List ℕ)) (old new : SoFar)
     → statement_faults list (unwrap_or old.slots 0) words keyword.On ≡ []
-    → is_some (get_or old.on.items (number_at words 1) None) ≡ false → number_at words 1 < length old.on.items
+    → is_some (get_or old.on.items (number_at_word words 1) None) ≡ false → number_at_word words 1 < length old.on.items
     → new ≡ record old { on = new.on }
-    → new.on.items ≡ set old.on.items (number_at words 1) (Some (number_at words 2))
+    → new.on.items ≡ set old.on.items (number_at_word words 1) (Some (number_at_word words 2))
     → TakesStated list words old new keyword.On
 takes_on list words old new own none within now on = takes_stated list words old new keyword.On own
-    (λ before stands. fresh _ (ap is_some (sym (stands.on (number_at words 1))) ∙ none))
-    (λ before stands. StandsFor-on old new before (number_at words 1) (number_at words 2) stands within now on)
+    (λ before stands. fresh _ (ap is_some (sym (stands.on (number_at_word words 1))) ∙ none))
+    (λ before stands. StandsFor-on old new before (number_at_word words 1)
+    (number_at_word words 2) stands within now on)
 
 pub refuses_drift : (list : Medl) (words : List (List ℕ)) (so_far : SoFar)
     → statement_faults list (unwrap_or so_far.slots 0) words keyword.Drift ≡ []
-    → is_some (get_or so_far.drift.items (number_at words 1) None) ≡ true
+    → is_some (get_or so_far.drift.items (number_at_word words 1) None) ≡ true
     → RefusesStated list words so_far keyword.Drift (refusals.Fault faults.Repeat)
 refuses_drift list words so_far own some =
     refuses_further list words so_far keyword.Drift faults.Repeat own (λ before stands.
-    repeated _ _ (ap is_some (sym (stands.drift (number_at words 1))) ∙ some))
+    repeated _ _ (ap is_some (sym (stands.drift (number_at_word words 1))) ∙ some))
 
 pub takes_drift : (list : Medl) (words : List (List ℕ)) (old new : SoFar)
     → statement_faults list (unwrap_or old.slots 0) words keyword.Drift ≡ []
-    → is_some (get_or old.drift.items (number_at words 1) None) ≡ false → number_at words 1 < length old.drift.items
+    → is_some (get_or old.drift.items (number_at_word words 1) None) ≡ false
+    → number_at_word words 1 < length old.drift.items
     → new ≡ record old { drift = new.drift }
-    → new.drift.items ≡ set old.drift.items (number_at words 1) (Some (value_in (word_at words 2)))
+    → new.drift.items ≡ set old.drift.items (number_at_word words 1) (Some (value_in (word_at words 2)))
     → TakesStated list words old new keyword.Drift
 takes_drift list words old new own none within now drift = takes_stated list words old new keyword.Drift own
-    (λ before stands. fresh _ (ap is_some (sym (stands.drift (number_at words 1))) ∙ none))
+    (λ before stands. fresh _ (ap is_some (sym (stands.drift (number_at_word words 1))) ∙ none))
     (λ before stands.
-    StandsFor-drift old new before (number_at words 1) (value_in (word_at words 2)) stands within now drift)
+    StandsFor-drift old new before (number_at_word words 1) (value_in (word_at words 2)) stands within now drift)
 
 -- where the buffers have room for one message more
 
@@ -291,40 +293,40 @@ refuses_buffer list words so_far own one =
 
 pub refuses_full : (list : Medl) (words : List (List ℕ)) (so_far : SoFar)
     → statement_faults list (unwrap_or so_far.slots 0) words keyword.Write ≡ []
-    → number_at words 1 < so_far.writes.nodes → (list.buffers == 1) ≡ false
-    → nat_lt (writes_at so_far.writes (number_at words 1) (number_at words 2) + 1) list.buffers ≡ false
+    → number_at_word words 1 < so_far.writes.nodes → (list.buffers == 1) ≡ false
+    → nat_lt (writes_at so_far.writes (number_at_word words 1) (number_at_word words 2) + 1) list.buffers ≡ false
     → RefusesStated list words so_far keyword.Write (refusals.Fault faults.TooMany)
 refuses_full list words so_far own within more full =
     refuses_further list words so_far keyword.Write faults.TooMany own (λ before stands.
     full_faults list.buffers _ more
     (ap (λ (n : ℕ). nat_lt (n + 1) list.buffers)
-    (sym (stands.writes (number_at words 1) (number_at words 2) within)) ∙ full))
+    (sym (stands.writes (number_at_word words 1) (number_at_word words 2) within)) ∙ full))
 
 pub takes_write : (list : Medl) (words : List (List ℕ)) (old new : SoFar) (payload : List ℕ)
     → statement_faults list (unwrap_or old.slots 0) words keyword.Write ≡ []
-    → number_at words 1 < old.writes.nodes → payload ≡ hex_bytes_in (word_at words 3)
-    → nat_lt (writes_at old.writes (number_at words 1) (number_at words 2) + 1) list.buffers ≡ true
+    → number_at_word words 1 < old.writes.nodes → payload ≡ digit_bytes_in (word_at words 3)
+    → nat_lt (writes_at old.writes (number_at_word words 1) (number_at_word words 2) + 1) list.buffers ≡ true
     → new ≡ record old {
-      events = old.events ++ event.Write (number_at words 1) (number_at words 2) payload ∷ [];
+      events = old.events ++ event.Write (number_at_word words 1) (number_at_word words 2) payload ∷ [];
       writes = new.writes;
     }
-    → CountsMore old.writes new.writes (number_at words 1) (number_at words 2)
+    → CountsMore old.writes new.writes (number_at_word words 1) (number_at_word words 2)
     → TakesStated list words old new keyword.Write
 takes_write list words old new payload own within is room now more =
     takes_stated list words old new keyword.Write own
     (λ before stands. room_faults list.buffers _
     (ap (λ (n : ℕ). nat_lt (n + 1) list.buffers)
-    (sym (stands.writes (number_at words 1) (number_at words 2) within)) ∙ room))
-    (λ before stands. StandsFor-write old new before (number_at words 1) (number_at words 2) _ stands more
+    (sym (stands.writes (number_at_word words 1) (number_at_word words 2) within)) ∙ room))
+    (λ before stands. StandsFor-write old new before (number_at_word words 1) (number_at_word words 2) _ stands more
     (now ∙ ap (λ (p : List ℕ). record old {
-      events = old.events ++ event.Write (number_at words 1) (number_at words 2) p ∷ [];
+      events = old.events ++ event.Write (number_at_word words 1) (number_at_word words 2) p ∷ [];
       writes = new.writes;
     }) is))
 
 pub ruleset refused = (refuses_own, refuses_on, refuses_drift, refuses_buffer, refuses_full)
 
 -- no form has more words than six
-word_count-le : (form : Keyword) → word_count form ≤ 6
+word_count-le : (form : Keyword) → form_word_count form ≤ 6
 word_count-le keyword.Slots = lit≤ tt
 word_count-le keyword.On = lit≤ tt
 word_count-le keyword.Drift = lit≤ tt

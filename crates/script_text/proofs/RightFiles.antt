@@ -4,12 +4,12 @@ use Rattle.script_text.proofs.Terms.{◌∷◌, ◌++◌, length, get_or, Option
 use Rattle.script_text.proofs.Terms.{arith, refl, ap, sym, ◌∙◌, suc, lit≤, inl, inr, if◌then◌else◌, All, IfSome}
 use Rattle.script_text.proofs.Terms.{count_by, common_steps, append-nil, length-map-range_with_len, below, Medl, Event}
 use Rattle.script_text.proofs.Terms.{Script, SLOT_LIMIT, DRIFT_LIMIT, EVENT_LIMIT, IsValid, IsWithinSpan, IsBounded}
-use Rattle.script_text.proofs.Terms.{LineFault, ScriptError, Keyword, lines_of, words_of, word_at, Statement}
+use Rattle.script_text.proofs.Terms.{LineFault, ScriptError, Keyword, lines_of_file, words_of_line, word_at, Statement}
 use Rattle.script_text.proofs.Terms.{says_slots, says_on, says_drift, says_event, keyword_of, is_spelled, statement_of}
-use Rattle.script_text.proofs.Terms.{slots_of, on_of, drift_of, events_of, is_write_at, is_after_slots, stated_faults}
-use Rattle.script_text.proofs.Terms.{form_faults, keyword_faults, line_faults, statements_after, errors_at, end_faults}
-use Rattle.script_text.proofs.Terms.{file_faults, statements_of, stated_script, script_or_fault, lines_script}
-use Rattle.script_text.proofs.Terms.{script_of, is_event_form}
+use Rattle.script_text.proofs.Terms.{slots_of, on_of, drift_stated, events_of, is_write_at, is_after_slots}
+use Rattle.script_text.proofs.Terms.{stated_faults, form_faults, keyword_faults, line_faults, statements_after}
+use Rattle.script_text.proofs.Terms.{errors_at, end_faults, script_faults, statements_of, stated_script}
+use Rattle.script_text.proofs.Terms.{script_or_fault, lines_script, script_of, is_event_form}
 use Rattle.std.proofs.Common.{length-append}
 use Rattle.std.proofs.Common.{option_to_list}
 use Rattle.std.specs.Prelude.{IfOk}
@@ -86,26 +86,27 @@ one_event_more statement said =
     )
 
 form_size : (list : Medl) (line : List ℕ) (said : List Statement) (form : Keyword) (of_event : Bool)
-    → keyword_of (word_at (words_of line) 0) ≡ Some form → IsRightLine list said (words_of line) form
+    → keyword_of (word_at (words_of_line line) 0) ≡ Some form → IsRightLine list said (words_of_line line) form
     → is_event_form form ≡ of_event
-    → 8 * length (events_of (statement_of form (words_of line) ∷ said)) ≤ 8 * length (events_of said) + with_end line
+    → 8 * length (events_of (statement_of form (words_of_line line) ∷ said)) ≤ 8 * length
+    (events_of said) + with_end line
 form_size list line said form true names right of_event = omega (
   arith,
-  one_event_more (statement_of form (words_of line)) said,
+  one_event_more (statement_of form (words_of_line line)) said,
   size-event_line line form names of_event right.spelled,
 )
 form_size list line said form false names right other =
-    omega (arith, ap length (same_events form (words_of line) said other))
+    omega (arith, ap length (same_events form (words_of_line line) said other))
 
 line_size : (list : Medl) (line : List ℕ) (said : List Statement) (nothing : Bool) (form : Option Keyword)
-    → keyword_of (word_at (words_of line) 0) ≡ form
-    → (if nothing then [] else keyword_faults list said (words_of line) form) ≡ []
-    → 8 * length (events_of (if nothing then said else keyword_statements said (words_of line) form))
+    → keyword_of (word_at (words_of_line line) 0) ≡ form
+    → (if nothing then [] else keyword_faults list said (words_of_line line) form) ≡ []
+    → 8 * length (events_of (if nothing then said else keyword_statements said (words_of_line line) form))
     ≤ 8 * length (events_of said) + with_end line
 line_size list line said true form names none = omega arith
 line_size list line said false None names none = cc
 line_size list line said false (Some form) names none =
-    form_size list line said form (is_event_form form) names (form_right list said (words_of line) form none) refl
+    form_size list line said form (is_event_form form) names (form_right list said (words_of_line line) form none) refl
 
 -- a line of a host adds at most one event of a host, and any other none
 host_event_more : (form : Keyword) (words : List (List ℕ))
@@ -134,41 +135,43 @@ host_events_more form words said = omega (
 )
 
 form_host_size : (list : Medl) (line : List ℕ) (said : List Statement) (form : Keyword) (of_host : Bool)
-    → keyword_of (word_at (words_of line) 0) ≡ Some form → IsRightLine list said (words_of line) form
+    → keyword_of (word_at (words_of_line line) 0) ≡ Some form → IsRightLine list said (words_of_line line) form
     → is_host_form form ≡ of_host
-    → 11 * count_by is_host_event (events_of (statement_of form (words_of line) ∷ said))
+    → 11 * count_by is_host_event (events_of (statement_of form (words_of_line line) ∷ said))
     ≤ 11 * count_by is_host_event (events_of said) + with_end line
 form_host_size list line said form true names right of_host = omega (
   arith,
-  rw of_host at (host_events_more form (words_of line) said),
+  rw of_host at (host_events_more form (words_of_line line) said),
   size-host_line line form names of_host right.spelled,
 )
 form_host_size list line said form false names right other =
-    omega (arith, rw other at (host_events_more form (words_of line) said))
+    omega (arith, rw other at (host_events_more form (words_of_line line) said))
 
 line_host_size : (list : Medl) (line : List ℕ) (said : List Statement) (nothing : Bool) (form : Option Keyword)
-    → keyword_of (word_at (words_of line) 0) ≡ form
-    → (if nothing then [] else keyword_faults list said (words_of line) form) ≡ []
-    → 11 * count_by is_host_event (events_of (if nothing then said else keyword_statements said (words_of line) form))
+    → keyword_of (word_at (words_of_line line) 0) ≡ form
+    → (if nothing then [] else keyword_faults list said (words_of_line line) form) ≡ []
+    → 11 * count_by is_host_event (events_of (if nothing then said else keyword_statements said
+    (words_of_line line) form))
     ≤ 11 * count_by is_host_event (events_of said) + with_end line
 line_host_size list line said true form names none = omega arith
 line_host_size list line said false None names none = cc
 line_host_size list line said false (Some form) names none =
-    form_host_size list line said form (is_host_form form) names (form_right list said (words_of line) form none) refl
+    form_host_size list line said form (is_host_form form) names
+    (form_right list said (words_of_line line) form none) refl
 
 -- what lines say with one more is valid, and has no more events, and no more of hosts, than fit into their bytes
 pub record IsRightAfter (list : Medl) (said : List Statement) (line : List ℕ) : Type 0 where
-  pub valid : AreValid list (statements_after said (words_of line))
-  pub size : 8 * length (events_of (statements_after said (words_of line)))
+  pub valid : AreValid list (statements_after said (words_of_line line))
+  pub size : 8 * length (events_of (statements_after said (words_of_line line)))
       ≤ 8 * length (events_of said) + with_end line
-  pub host_size : 11 * count_by is_host_event (events_of (statements_after said (words_of line)))
+  pub host_size : 11 * count_by is_host_event (events_of (statements_after said (words_of_line line)))
       ≤ 11 * count_by is_host_event (events_of said) + with_end line
 
 pub line_right : (list : Medl) (said : List Statement) (line : List ℕ)
-    → line_faults list said (words_of line) ≡ [] → AreValid list said → IsRightAfter list said line
+    → line_faults list said (words_of_line line) ≡ [] → AreValid list said → IsRightAfter list said line
 unfolding line_faults statements_after
 line_right list said line none valid =
-    let words = words_of line in
+    let words = words_of_line line in
     let form = keyword_of (word_at words 0) in
     record {
       valid = line_valid list words said (says_nothing words) form none valid;
@@ -193,7 +196,7 @@ no_end : (number : ℕ) (said : List Statement) → end_faults number said ≡ [
 no_end number said none = grind (arith, common_steps)
 
 right_file : (list : Medl) (number : ℕ) (said : List Statement) (lines : List (List ℕ))
-    → file_faults list number said lines ≡ [] → AreValid list said → IsRightFile list said lines
+    → script_faults list number said lines ≡ [] → AreValid list said → IsRightFile list said lines
 right_file list number said [] none valid = record {
   slots = no_end number said none;
   valid = valid;
@@ -201,7 +204,7 @@ right_file list number said [] none valid = record {
   host_size = omega arith;
 }
 right_file list number said (line ∷ lines) none valid =
-    let words = words_of line in
+    let words = words_of_line line in
     let both = no_errors number (line_faults list said words) _ none in
     let one = line_right list said line both.0 valid in
     let more = right_file list (suc number) (statements_after said words) lines both.1 one.valid in
@@ -281,9 +284,9 @@ valid_script list said valid some few few_of_hosts = record {
   on_count = length-map-range_with_len (on_of said) 0 (length list.slots);
   on = All-map (IsWithinRun (stated_script list said)) (on_of said) (below (length list.slots))
       (all_within _ valid.on (below (length list.slots)));
-  drift_count = length-map-range_with_len (λ k. unwrap_or (drift_of said k) (pos 0)) 0 (length list.slots);
-  drift = All-map (IsWithinSpan DRIFT_LIMIT) (λ k. unwrap_or (drift_of said k) (pos 0)) (below (length list.slots))
-      (all_within _ (λ k. drift_within (drift_of said k) (valid.drift k)) (below (length list.slots)));
+  drift_count = length-map-range_with_len (λ k. unwrap_or (drift_stated said k) (pos 0)) 0 (length list.slots);
+  drift = All-map (IsWithinSpan DRIFT_LIMIT) (λ k. unwrap_or (drift_stated said k) (pos 0)) (below (length list.slots))
+      (all_within _ (λ k. drift_within (drift_stated said k) (valid.drift k)) (below (length list.slots)));
   events = valid.events (stated_script list said) refl;
   writes = λ k slot. rw messages_counted (valid.writes k slot);
   event_count = few;
@@ -301,9 +304,9 @@ pub script_of-valid : (list : Medl) (text : List ℕ) (script : Script) → IsVa
     → script_of list text ≡ Ok script → IsValidScript list script
 unfolding script_of lines_script stated_script
 script_of-valid list text script right size is =
-    let lines = lines_of text in
+    let lines = lines_of_file text in
     let said = statements_of [] lines in
-    let both = script_or_fault-ok (file_faults list 1 [] lines) script (stated_script list said) is in
+    let both = script_or_fault-ok (script_faults list 1 [] lines) script (stated_script list said) is in
     let file = right_file list 1 [] lines both.0 (AreValid-none list right) in
     rw (← both.1) (valid_script list said file.valid file.slots (omega (arith, file.size, size-lines_of text))
     (omega (arith, file.host_size, size-lines_of text)))

@@ -2,8 +2,8 @@
 use Rattle.script_text.proofs.Terms.{◌≡◌, ℕ, ◌+◌, ◌*◌, ◌≤◌, Bool, true, false, cond, List, [], ◌∷◌, length, map, filter}
 use Rattle.script_text.proofs.Terms.{Some, arith, refl, ap, lit≤, All, slice_split, common_steps, nat_tests}
 use Rattle.script_text.proofs.Terms.{bytes_eq-Decides, Keyword, is_line_feed, is_blank, has_bytes, without_return}
-use Rattle.script_text.proofs.Terms.{without_empty_end, lines_of, words_of, word_at, is_text, keyword_of, is_spelled}
-use Rattle.script_text.proofs.Terms.{is_event_form}
+use Rattle.script_text.proofs.Terms.{without_empty_end, lines_of_file, words_of_line, word_at, is_text, keyword_of}
+use Rattle.script_text.proofs.Terms.{is_spelled, is_event_form}
 use Rattle.std.proofs.Common.{codes}
 use Rattle.std.specs.List.{onto_first}
 use Rattle.std.proofs.Math.Nat.{le_refl}
@@ -57,8 +57,8 @@ size-without_empty_end ((x ∷ xs) ∷ []) = le_refl _
 size-without_empty_end (line ∷ next ∷ lines) = omega (arith, size-without_empty_end (next ∷ lines))
 
 -- the last line may lack the byte that ends it
-pub size-lines_of : (text : List ℕ) → size_of (lines_of text) ≤ length text + 1
-unfolding lines_of
+pub size-lines_of : (text : List ℕ) → size_of (lines_of_file text) ≤ length text + 1
+unfolding lines_of_file
 size-lines_of text = omega (
   arith,
   size-without_empty_end (map without_return (slice_split is_line_feed text)),
@@ -78,15 +78,15 @@ size-filter p [] = lit≤ tt
 size-filter p (piece ∷ pieces) =
     size-filter-cond (p piece) piece (filter p pieces) (size_of pieces) (size-filter p pieces)
 
-size-words_of : (line : List ℕ) → size_of (words_of line) ≤ length line + 1
-unfolding words_of
+size-words_of : (line : List ℕ) → size_of (words_of_line line) ≤ length line + 1
+unfolding words_of_line
 size-words_of line = omega (arith, size-filter has_bytes (slice_split is_blank line), size-slice_split is_blank line)
 
 abbrev HasBytes : List ℕ → Type 0
 HasBytes word = has_bytes word ≡ true
 
-all-have_bytes : (line : List ℕ) → All HasBytes (words_of line)
-unfolding words_of
+all-have_bytes : (line : List ℕ) → All HasBytes (words_of_line line)
+unfolding words_of_line
 all-have_bytes line = filter_passes has_bytes (slice_split is_blank line)
 
 has_bytes-length : (word : List ℕ) → has_bytes word ≡ true → 1 ≤ length word
@@ -141,13 +141,13 @@ size-event_words (word ∷ words) form has names of_event spelled = omega (
 )
 
 -- so it takes eight bytes and more with the one that ends it, as `arm 0 0` does
-pub size-event_line : (line : List ℕ) (form : Keyword) → keyword_of (word_at (words_of line) 0) ≡ Some form
-    → is_event_form form ≡ true → is_spelled form (words_of line) ≡ true
+pub size-event_line : (line : List ℕ) (form : Keyword) → keyword_of (word_at (words_of_line line) 0) ≡ Some form
+    → is_event_form form ≡ true → is_spelled form (words_of_line line) ≡ true
     → 8 ≤ with_end line
 size-event_line line form names of_event spelled =
     omega (
       arith,
-      size-event_words (words_of line) form (all-have_bytes line) names of_event spelled,
+      size-event_words (words_of_line line) form (all-have_bytes line) names of_event spelled,
       size-words_of line,
     )
 
@@ -179,12 +179,12 @@ size-host_words (word ∷ words) form has names of_host spelled = omega (
 )
 
 -- so they take eleven bytes and more with the one that ends them, as `read 0 0 1` does
-pub size-host_line : (line : List ℕ) (form : Keyword) → keyword_of (word_at (words_of line) 0) ≡ Some form
-    → is_host_form form ≡ true → is_spelled form (words_of line) ≡ true
+pub size-host_line : (line : List ℕ) (form : Keyword) → keyword_of (word_at (words_of_line line) 0) ≡ Some form
+    → is_host_form form ≡ true → is_spelled form (words_of_line line) ≡ true
     → 11 ≤ with_end line
 size-host_line line form names of_host spelled =
     omega (
       arith,
-      size-host_words (words_of line) form (all-have_bytes line) names of_host spelled,
+      size-host_words (words_of_line line) form (all-have_bytes line) names of_host spelled,
       size-words_of line,
     )

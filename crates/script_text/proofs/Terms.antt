@@ -1,21 +1,21 @@
 -- The words of this crate's proofs, from one place.
-pub use Rattle.script_text.specs.Faults.{drift_of, event_has_nodes, event_is_in_range, events_of}
+pub use Rattle.script_text.specs.Faults.{drift_stated, event_has_nodes, event_is_in_range, events_of}
 unfoldable pub use Rattle.script_text.specs.Faults.{form_faults}
-pub use Rattle.script_text.specs.Faults.{has_payload, is_after_slots, is_write_at, keyword_faults, on_of}
+pub use Rattle.script_text.specs.Faults.{statement_has_payload, is_after_slots, is_write_at, keyword_faults, on_of}
 unfoldable pub use Rattle.script_text.specs.Faults.{line_faults}
 pub use Rattle.script_text.specs.Faults.{slots_of, when}
 unfoldable pub use Rattle.script_text.specs.Faults.{stated_faults, statement_faults, statements_after}
 pub use Rattle.script_text.specs.Lines.{has_bytes, is_blank, is_line_feed, is_part, without_empty_end}
-unfoldable pub use Rattle.script_text.specs.Lines.{lines_of}
+unfoldable pub use Rattle.script_text.specs.Lines.{lines_of_file}
 pub use Rattle.script_text.specs.Lines.{without_return, word_at}
-unfoldable pub use Rattle.script_text.specs.Lines.{words_of}
-pub use Rattle.script_text.specs.Numbers.{hex_bytes_in, is_hex, is_text, number_in, value_in}
-pub use Rattle.script_text.specs.ScriptFile.{end_faults, errors_at, file_faults}
+unfoldable pub use Rattle.script_text.specs.Lines.{words_of_line}
+pub use Rattle.script_text.specs.Numbers.{digit_bytes_in, is_hex_word, is_text, decimal_value, value_in}
+pub use Rattle.script_text.specs.ScriptFile.{end_faults, errors_at, script_faults}
 unfoldable pub use Rattle.script_text.specs.ScriptFile.{lines_script, script_of}
 pub use Rattle.script_text.specs.ScriptFile.{script_or_fault, statements_of}
 unfoldable pub use Rattle.script_text.specs.ScriptFile.{stated_script}
-pub use Rattle.script_text.specs.SoFar.{HasNodes, StandsFor, is_event_form, is_uncounted}
-pub use Rattle.script_text.specs.Statement.{Statement, is_spelled, keyword_of, number_at, says_drift, says_event}
+pub use Rattle.script_text.specs.SoFar.{HasNodes, LinesStandFor, is_event_form, is_uncounted}
+pub use Rattle.script_text.specs.Statement.{Statement, is_spelled, keyword_of, number_at_word, says_drift, says_event}
 pub use Rattle.script_text.specs.Statement.{says_on, says_slots, statement_of}
 pub use Rattle.script_text.specs.declared.error.LineFault.{LineFault}
 pub use Rattle.script_text.specs.declared.error.ScriptError.{ScriptError}

@@ -3,28 +3,28 @@ use Rattle.script_text.proofs.Terms.{◌≡◌, ℕ, ◌+◌, ◌<◌, ◌≤◌
 use Rattle.script_text.proofs.Terms.{Some, None, is_some, unwrap_or, arith, refl, ap, ◌∙◌, if◌then◌else◌, All, IfSome}
 use Rattle.script_text.proofs.Terms.{count_by, option_or, leb-true, nat_tests, common_steps, append-nil, Medl, Script}
 use Rattle.script_text.proofs.Terms.{SLOT_LIMIT, DRIFT_LIMIT, IsValid, IsValidEvent, IsWithinSpan, LineFault, Keyword}
-use Rattle.script_text.proofs.Terms.{word_at, value_in, hex_bytes_in, Statement, says_slots, says_event, statement_of}
-use Rattle.script_text.proofs.Terms.{number_at, slots_of, on_of, drift_of, events_of, has_payload, is_write_at, when}
-use Rattle.script_text.proofs.Terms.{event_has_nodes, event_is_in_range, is_after_slots, statement_faults}
-use Rattle.script_text.proofs.Terms.{stated_faults, is_event_form, is_uncounted}
+use Rattle.script_text.proofs.Terms.{word_at, value_in, digit_bytes_in, Statement, says_slots, says_event, statement_of}
+use Rattle.script_text.proofs.Terms.{number_at_word, slots_of, on_of, drift_stated, events_of, statement_has_payload}
+use Rattle.script_text.proofs.Terms.{is_write_at, when, event_has_nodes, event_is_in_range, is_after_slots}
+use Rattle.script_text.proofs.Terms.{statement_faults, stated_faults, is_event_form, is_uncounted}
 use Rattle.std.proofs.lemmas.Bool.{leb-false}
 use Rattle.std.proofs.lemmas.List.Elements.{All-nil, All-cons, All-append}
 use Rattle.ttp_world.specs.declared.script.Event.TheVariants as event
 use Rattle.script_text.specs.declared.error.LineFault.TheVariants as faults
 use Rattle.script_text.specs.declared.keyword.Keyword.TheVariants as keyword
-use Rattle.script_text.specs.Faults.{run_slots, has_nodes}
+use Rattle.script_text.specs.Faults.{stated_slots, has_nodes}
 use Rattle.script_text.specs.Faults.{is_in_range}
 use Rattle.script_text.specs.Faults.{is_repeat, is_write, fills_buffers}
-use Rattle.script_text.specs.Faults.{unless}
+use Rattle.script_text.specs.Faults.{fault_unless}
 use Rattle.script_text.proofs.ValidEvents.{within_span, stated_valid}
 use Rattle.script_text.proofs.Kept.{event_stated, event_form, not_write, count_one, count_none}
 
 -- each thing that was stated is in its range, for a list
 pub record AreValid (list : Medl) (said : List Statement) : Type 0 where
   pub slots : IfSome (slots_of said) (λ count. (1 ≤ count) × (count ≤ SLOT_LIMIT))
-  pub on : (k : ℕ) → IfSome (on_of said k) (λ slot. slot < run_slots said)
-  pub drift : (k : ℕ) → IfSome (drift_of said k) (IsWithinSpan DRIFT_LIMIT)
-  pub events : (script : Script) → script.slots ≡ run_slots said → All (IsValidEvent list script) (events_of said)
+  pub on : (k : ℕ) → IfSome (on_of said k) (λ slot. slot < stated_slots said)
+  pub drift : (k : ℕ) → IfSome (drift_stated said k) (IsWithinSpan DRIFT_LIMIT)
+  pub events : (script : Script) → script.slots ≡ stated_slots said → All (IsValidEvent list script) (events_of said)
   pub after_slots : slots_of said ≡ None → events_of said ≡ []
   pub writes : (k t : ℕ) → count_by (is_write_at k t) said < list.buffers
 
@@ -45,7 +45,7 @@ before_end (Some slot) slots n none before = absurd (omega arith)
 
 slots_valid : (list : Medl) (words : List (List ℕ)) (said : List Statement)
     → stated_faults list said words keyword.Slots ≡ []
-    → (slots_of said ≡ None) × (1 ≤ number_at words 1) × (number_at words 1 ≤ SLOT_LIMIT)
+    → (slots_of said ≡ None) × (1 ≤ number_at_word words 1) × (number_at_word words 1 ≤ SLOT_LIMIT)
 unfolding stated_faults statement_faults
 slots_valid list words said none = (
   grind (arith, common_steps, nat_tests),
@@ -55,13 +55,13 @@ slots_valid list words said none = (
 
 AreValid-slots : (list : Medl) (words : List (List ℕ)) (said : List Statement)
     → stated_faults list said words keyword.Slots ≡ [] → AreValid list said
-    → AreValid list (says_slots (number_at words 1) ∷ said)
+    → AreValid list (says_slots (number_at_word words 1) ∷ said)
 AreValid-slots list words said none valid =
     let right = slots_valid list words said none in
     let no_events = valid.after_slots right.0 in
     record {
       slots = (right.1, right.2);
-      on = λ k. before_end (on_of said k) (run_slots said) (number_at words 1)
+      on = λ k. before_end (on_of said k) (stated_slots said) (number_at_word words 1)
           (ap (λ (slots : Option ℕ). unwrap_or slots 0) right.0) (valid.on k);
       drift = valid.drift;
       events = λ script same. rw no_events (All-nil (IsValidEvent list script));
@@ -77,8 +77,8 @@ said_or P false x old new before = before
 
 -- the tests of nodes, payload and ranges, of which the last three of these faults tell
 faults_right : (numbers nodes payload range : Bool)
-    → unless numbers faults.Number
-    ++ (unless nodes faults.NoNode ++ (unless payload faults.NoData ++ unless range faults.Range)) ≡ []
+    → fault_unless numbers faults.Number
+    ++ (fault_unless nodes faults.NoNode ++ (fault_unless payload faults.NoData ++ fault_unless range faults.Range)) ≡ []
     → (nodes ≡ true) × (range ≡ true) × (payload ≡ true)
 faults_right true true true true none = (refl, refl, refl)
 faults_right false nodes payload range none = cc
@@ -94,8 +94,8 @@ parts_none (fault ∷ front) more none = cc
 statement_right : (list : Medl) (said : List Statement) (words : List (List ℕ)) (form : Keyword)
     → stated_faults list said words form ≡ []
     → (has_nodes list (statement_of form words) ≡ true)
-    × (is_in_range list (run_slots said) words (statement_of form words) ≡ true)
-    × (has_payload list (statement_of form words) ≡ true)
+    × (is_in_range list (stated_slots said) words (statement_of form words) ≡ true)
+    × (statement_has_payload list (statement_of form words) ≡ true)
 unfolding stated_faults statement_faults
 statement_right list said words form none = faults_right _ _ _ _ (parts_none _ _ none).0
 
@@ -117,11 +117,12 @@ unfolding stated_faults statement_faults
 write_room list said words none =
     let statement = statement_of keyword.Write words in
     room_right (is_repeat said statement) (is_write statement && (list.buffers == 1))
-    (fills_buffers list said statement) (parts_none (statement_faults list (run_slots said) words keyword.Write) _ none).1
+    (fills_buffers list said statement) (parts_none (statement_faults list
+    (stated_slots said) words keyword.Write) _ none).1
 
 write_right : (list : Medl) (said : List Statement) (words : List (List ℕ))
     → stated_faults list said words keyword.Write ≡ []
-    → count_by (is_write_at (number_at words 1) (number_at words 2)) said + 1 < list.buffers
+    → count_by (is_write_at (number_at_word words 1) (number_at_word words 2)) said + 1 < list.buffers
 write_right list said words none = leb-false list.buffers _ (write_room list said words none)
 
 AreValid-on : (list : Medl) (words : List (List ℕ)) (said : List Statement)
@@ -131,7 +132,8 @@ AreValid-on list words said none valid =
     let right = statement_right list said words keyword.On none in
     record {
       slots = valid.slots;
-      on = λ k. said_or (λ slot. slot < run_slots said) (number_at words 1 == k) (number_at words 2) (on_of said k)
+      on = λ k. said_or (λ slot. slot < stated_slots said) (number_at_word words 1 == k) (number_at_word words 2)
+          (on_of said k)
           (leb-true _ _ right.1) (valid.on k);
       drift = valid.drift;
       events = λ script same. rw append-nil (valid.events script same);
@@ -147,8 +149,8 @@ AreValid-drift list words said none valid =
     record {
       slots = valid.slots;
       on = valid.on;
-      drift = λ k. said_or (IsWithinSpan DRIFT_LIMIT) (number_at words 1 == k) (value_in (word_at words 2))
-          (drift_of said k) (within_span DRIFT_LIMIT _ right.1) (valid.drift k);
+      drift = λ k. said_or (IsWithinSpan DRIFT_LIMIT) (number_at_word words 1 == k) (value_in (word_at words 2))
+          (drift_stated said k) (within_span DRIFT_LIMIT _ right.1) (valid.drift k);
       events = λ script same. rw append-nil (valid.events script same);
       after_slots = λ none. append-nil _ ∙ valid.after_slots none;
       writes = valid.writes;
@@ -168,8 +170,8 @@ AreValid-event list words said form of_event after none writes valid =
     let right = statement_right list said words form none in
     let some = has_slots form (slots_of said) of_event after in
     let nodes : event_has_nodes list stated.event ≡ true = rw stated.says at right.0 in
-    let range : event_is_in_range list (run_slots said) words stated.event ≡ true = rw stated.says at right.1 in
-    let payload : has_payload list (says_event stated.event) ≡ true = rw stated.says at right.2 in
+    let range : event_is_in_range list (stated_slots said) words stated.event ≡ true = rw stated.says at right.1 in
+    let payload : statement_has_payload list (says_event stated.event) ≡ true = rw stated.says at right.2 in
     record {
       slots = rw stated.says valid.slots;
       on = rw stated.says valid.on;
@@ -177,7 +179,7 @@ AreValid-event list words said form of_event after none writes valid =
       events = rw stated.says (λ script same. All-append (IsValidEvent list script) (events_of said) (stated.event ∷ [])
           (valid.events script same)
           (All-cons (IsValidEvent list script) stated.event []
-          (stated_valid list script (run_slots said) words form stated.event stated.says same nodes range payload)
+          (stated_valid list script (stated_slots said) words form stated.event stated.says same nodes range payload)
           (All-nil (IsValidEvent list script))));
       after_slots = rw stated.says (λ none. cc);
       writes = writes;
@@ -213,8 +215,8 @@ AreValid-write : (list : Medl) (words : List (List ℕ)) (said : List Statement)
     → AreValid list said → AreValid list (statement_of keyword.Write words ∷ said)
 AreValid-write list words said after none valid =
     AreValid-event list words said keyword.Write refl after none
-    (λ k t. one_write_more said list.buffers (number_at words 1) (number_at words 2) k t
-    (hex_bytes_in (word_at words 3)) ((number_at words 1 == k) && (number_at words 2 == t)) refl
+    (λ k t. one_write_more said list.buffers (number_at_word words 1) (number_at_word words 2) k t
+    (digit_bytes_in (word_at words 3)) ((number_at_word words 1 == k) && (number_at_word words 2 == t)) refl
     (write_right list said words none) (valid.writes k t))
     valid
 

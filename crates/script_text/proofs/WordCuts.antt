@@ -1,7 +1,7 @@
 -- A line cut at its words.
 use Rattle.script_text.proofs.Terms.{◌≡◌, ℕ, zero, suc, ◌+◌, ◌<◌, Bool, true, false, List, [], ◌∷◌, length, take, drop}
 use Rattle.script_text.proofs.Terms.{get_or, arith, refl, sym, if◌then◌else◌, is_ascii_digit, list_all, nat_tests}
-use Rattle.script_text.proofs.Terms.{AllPass-from_list_all, is_blank, is_part, has_bytes, words_of, word_at}
+use Rattle.script_text.proofs.Terms.{AllPass-from_list_all, is_blank, is_part, has_bytes, words_of_line, word_at}
 use Rattle.std.proofs.lemmas.List.Sums.{list_all-from_AllPass}
 use Rattle.script_text.specs.Words.{CutsWord, held, AreHeld}
 use Rattle.script_text.proofs.Cuts.{has_bytes-take, words_of-empty, words_of-front, words_of-whole}
@@ -70,7 +70,7 @@ length-held (word ∷ words) are =
 -- such words are held, and have no bytes where the line has no words
 pub record AreCut (line : List ℕ) (words : List (List ℕ)) : Type 0 where
   pub are : AreHeld words
-  pub none : words_of line ≡ [] → (i : ℕ) → word_at words i ≡ []
+  pub none : words_of_line line ≡ [] → (i : ℕ) → word_at words i ≡ []
 
 pub AreCut-end : (line : List ℕ) → AreCut line []
 AreCut-end line = record { are = λ i. refl; none = λ none i. refl }

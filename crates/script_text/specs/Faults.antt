@@ -50,15 +50,15 @@ abbrev pub slots_of : List Statement → Option ℕ
 slots_of before = newest slots_said before
 
 -- as a number, which is 0 where none says so
-abbrev pub run_slots : List Statement → ℕ
-run_slots before = unwrap_or (slots_of before) 0
+abbrev pub stated_slots : List Statement → ℕ
+stated_slots before = unwrap_or (slots_of before) 0
 
 -- when a node is switched on, and how its clock drifts, where a line says so
 abbrev pub on_of : List Statement → ℕ → Option ℕ
 on_of before k = newest (on_said k) before
 
-abbrev pub drift_of : List Statement → ℕ → Option ℤ
-drift_of before k = newest (drift_said k) before
+abbrev pub drift_stated : List Statement → ℕ → Option ℤ
+drift_stated before k = newest (drift_said k) before
 
 -- all events, in the order of the script
 abbrev pub events_of : List Statement → List Event
@@ -99,14 +99,14 @@ abbrev pub payload_size : Medl → ℕ → ℕ
 payload_size list k = (plan_at list k).payload
 
 -- a node sends payload
-abbrev pub sends_payload : Medl → ℕ → Bool
-sends_payload list k = nat_le 1 (payload_size list k)
+abbrev pub node_sends_payload : Medl → ℕ → Bool
+node_sends_payload list k = nat_le 1 (payload_size list k)
 
 -- a node whose host writes, and one that is read from, send payload
-abbrev pub has_payload : Medl → Statement → Bool
-has_payload list (says_event (event.Write node slot payload)) = sends_payload list node
-has_payload list (says_event (event.Read node slot from)) = is_read_node (sends_payload list) from
-has_payload list _ = true
+abbrev pub statement_has_payload : Medl → Statement → Bool
+statement_has_payload list (says_event (event.Write node slot payload)) = node_sends_payload list node
+statement_has_payload list (says_event (event.Read node slot from)) = is_read_node (node_sends_payload list) from
+statement_has_payload list _ = true
 
 -- Ranges.
 
@@ -123,8 +123,8 @@ abbrev pub is_span : ℕ → ℕ → ℕ → Bool
 is_span slots from to = is_slot slots from && (is_slot slots to && nat_le from to)
 
 -- a number of microticks lies within plus or minus a bound, bounds included
-abbrev pub is_within : ℕ → ℤ → Bool
-is_within bound value = nat_le (nat_abs value) bound
+abbrev pub is_within_limit : ℕ → ℤ → Bool
+is_within_limit bound value = nat_le (nat_abs value) bound
 
 -- a bit that a line may flip
 abbrev pub is_flipped_bit : ℕ → Bool
@@ -137,8 +137,8 @@ event_is_in_range list slots words (event.Send node channels kind from to) = is_
 event_is_in_range list slots words (event.Receive node channels kind from to) = is_span slots from to
 event_is_in_range list slots words (event.Flip node channels bit slot) = is_flipped_bit bit && is_slot slots slot
 event_is_in_range list slots words (event.Error node value from to) =
-    is_within ERROR_LIMIT value && is_span slots from to
-event_is_in_range list slots words (event.Jump node value slot) = is_within JUMP_LIMIT value && is_slot slots slot
+    is_within_limit ERROR_LIMIT value && is_span slots from to
+event_is_in_range list slots words (event.Jump node value slot) = is_within_limit JUMP_LIMIT value && is_slot slots slot
 event_is_in_range list slots words (event.Arm node slot) = is_slot slots slot
 event_is_in_range list slots words (event.Write node slot payload) =
     is_slot slots slot && (length (word_at words 3) == 2 * payload_size list node)
@@ -149,7 +149,7 @@ event_is_in_range list slots words (event.Read node slot from) =
 abbrev pub is_in_range : Medl → ℕ → List (List ℕ) → Statement → Bool
 is_in_range list slots words (says_slots count) = is_count count
 is_in_range list slots words (says_on node slot) = is_slot slots slot
-is_in_range list slots words (says_drift node value) = is_within DRIFT_LIMIT value
+is_in_range list slots words (says_drift node value) = is_within_limit DRIFT_LIMIT value
 is_in_range list slots words (says_event e) = event_is_in_range list slots words e
 
 -- What a line says that was said before.
@@ -158,7 +158,7 @@ is_in_range list slots words (says_event e) = event_is_in_range list slots words
 abbrev pub is_repeat : List Statement → Statement → Bool
 is_repeat before (says_slots count) = is_some (slots_of before)
 is_repeat before (says_on node slot) = is_some (on_of before node)
-is_repeat before (says_drift node value) = is_some (drift_of before node)
+is_repeat before (says_drift node value) = is_some (drift_stated before node)
 is_repeat before (says_event e) = false
 
 -- Writes of a node's host, which stay fewer in a slot than a ring has buffers.
@@ -181,8 +181,8 @@ fills_buffers list before _ = false
 -- The faults of a line, in the order in which they are looked for.
 
 -- a fault that is there unless something holds, and one that is there where it holds
-abbrev pub unless : Bool → LineFault → List LineFault
-unless holds fault = if holds then [] else fault ∷ []
+abbrev pub fault_unless : Bool → LineFault → List LineFault
+fault_unless holds fault = if holds then [] else fault ∷ []
 
 abbrev pub when : Bool → LineFault → List LineFault
 when holds fault = if holds then fault ∷ [] else []
@@ -190,10 +190,10 @@ when holds fault = if holds then fault ∷ [] else []
 -- those of a line of a form in a run of so many slots, whatever the lines before say
 unfoldable pub statement_faults : Medl → ℕ → List (List ℕ) → Keyword → List LineFault
 statement_faults list slots words form =
-    unless (has_numbers form words) faults.Number
-    ++ (unless (has_nodes list (statement_of form words)) faults.NoNode
-    ++ (unless (has_payload list (statement_of form words)) faults.NoData
-    ++ unless (is_in_range list slots words (statement_of form words)) faults.Range))
+    fault_unless (has_numbers form words) faults.Number
+    ++ (fault_unless (has_nodes list (statement_of form words)) faults.NoNode
+    ++ (fault_unless (statement_has_payload list (statement_of form words)) faults.NoData
+    ++ fault_unless (is_in_range list slots words (statement_of form words)) faults.Range))
 
 -- those of what a line states, beside the lines before
 abbrev pub further_faults : Medl → List Statement → Statement → List LineFault
@@ -210,13 +210,13 @@ is_after_slots _ slots = is_some slots
 -- those of a line whose words are spelled as its form has them
 unfoldable pub stated_faults : Medl → List Statement → List (List ℕ) → Keyword → List LineFault
 stated_faults list before words form =
-    statement_faults list (run_slots before) words form ++ further_faults list before (statement_of form words)
+    statement_faults list (stated_slots before) words form ++ further_faults list before (statement_of form words)
 
 -- those of a line of a form
 unfoldable pub form_faults : Medl → List Statement → List (List ℕ) → Keyword → List LineFault
 form_faults list before words form =
-    unless (is_spelled form words) faults.Word
-    ++ (unless (is_after_slots form (slots_of before)) faults.NoSlots
+    fault_unless (is_spelled form words) faults.Word
+    ++ (fault_unless (is_after_slots form (slots_of before)) faults.NoSlots
     ++ stated_faults list before words form)
 
 -- those of a line whose first word names this form, or none

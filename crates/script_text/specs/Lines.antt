@@ -25,8 +25,8 @@ without_empty_end (line ∷ []) = if has_bytes line then line ∷ [] else []
 without_empty_end (line ∷ next ∷ lines) = line ∷ without_empty_end (next ∷ lines)
 
 -- the lines of a file: what stands between line feeds
-unfoldable pub lines_of : List ℕ → List (List ℕ)
-lines_of bytes = without_empty_end (map without_return (slice_split is_line_feed bytes))
+unfoldable pub lines_of_file : List ℕ → List (List ℕ)
+lines_of_file bytes = without_empty_end (map without_return (slice_split is_line_feed bytes))
 
 -- Words.
 
@@ -39,8 +39,8 @@ abbrev pub is_part : ℕ → Bool
 is_part b = not (is_blank b)
 
 -- the words of a line: what stands between blanks and is not empty
-unfoldable pub words_of : List ℕ → List (List ℕ)
-words_of line = filter has_bytes (slice_split is_blank line)
+unfoldable pub words_of_line : List ℕ → List (List ℕ)
+words_of_line line = filter has_bytes (slice_split is_blank line)
 
 -- the word at a place, counted from 0, and no bytes where there is none
 abbrev pub word_at : List (List ℕ) → ℕ → List ℕ

@@ -23,8 +23,8 @@ most_digits = 9
 abbrev pub is_number : List ℕ → Bool
 is_number word = list_all is_ascii_digit word && (nat_le 1 (length word) && nat_le (length word) most_digits)
 
-abbrev pub number_in : List ℕ → ℕ
-number_in word = digits_value 10 word
+abbrev pub decimal_value : List ℕ → ℕ
+decimal_value word = digits_value 10 word
 
 -- a number that may have a `-` before it
 abbrev pub is_negative : List ℕ → Bool
@@ -36,28 +36,28 @@ is_value word = if is_negative word then is_number (drop 1 word) else is_number 
 
 -- the number that it is
 abbrev pub value_in : List ℕ → ℤ
-value_in word = if is_negative word then neg_ℤ (pos (number_in (drop 1 word))) else pos (number_in word)
+value_in word = if is_negative word then neg_ℤ (pos (decimal_value (drop 1 word))) else pos (decimal_value word)
 
 -- hexadecimal digits of either case, two for each byte
 abbrev pub is_hex_digit : ℕ → Bool
 is_hex_digit b = nat_lt (digit_value b) 16
 
 -- a word is of such digits
-abbrev pub is_hex : List ℕ → Bool
-is_hex word = list_all is_hex_digit word
+abbrev pub is_hex_word : List ℕ → Bool
+is_hex_word word = list_all is_hex_digit word
 
 -- the bytes that it is
-abbrev pub hex_bytes_in : List ℕ → List ℕ
-hex_bytes_in [] = []
-hex_bytes_in (high ∷ []) = []
-hex_bytes_in (high ∷ low ∷ digits) = (16 * digit_value high + digit_value low) ∷ hex_bytes_in digits
+abbrev pub digit_bytes_in : List ℕ → List ℕ
+digit_bytes_in [] = []
+digit_bytes_in (high ∷ []) = []
+digit_bytes_in (high ∷ low ∷ digits) = (16 * digit_value high + digit_value low) ∷ digit_bytes_in digits
 
 -- what a host reads: `status`, or a sender's number
 abbrev pub is_source : List ℕ → Bool
 is_source word = is_text (codes "status") word || is_number word
 
-abbrev pub source_in : List ℕ → Source
-source_in word = if is_text (codes "status") word then source.Status else source.Node (number_in word)
+abbrev pub source_named : List ℕ → Source
+source_named word = if is_text (codes "status") word then source.Status else source.Node (decimal_value word)
 
 -- `A`, `B` or `AB`
 abbrev pub is_channels : List ℕ → Bool

@@ -11,9 +11,10 @@ use Rattle.script_text.specs.declared.error.LineFault.{LineFault}
 use Rattle.script_text.specs.declared.error.LineFault.TheVariants as faults
 use Rattle.script_text.specs.declared.error.ScriptError.{ScriptError}
 use Rattle.script_text.specs.declared.error.ScriptError.TheVariants as errors
-use Rattle.script_text.specs.Lines.{lines_of, words_of}
+use Rattle.script_text.specs.Lines.{lines_of_file, words_of_line}
 use Rattle.script_text.specs.Statement.{Statement}
-use Rattle.script_text.specs.Faults.{slots_of, run_slots, on_of, drift_of, events_of, line_faults, statements_after}
+use Rattle.script_text.specs.Faults.{slots_of, stated_slots, on_of, drift_stated, events_of, line_faults}
+use Rattle.script_text.specs.Faults.{statements_after}
 
 -- The faults of all lines.
 
@@ -26,26 +27,26 @@ abbrev pub end_faults : ℕ → List Statement → List ScriptError
 end_faults number before = if is_some (slots_of before) then [] else errors.Line number faults.NoSlots ∷ []
 
 -- the faults of the lines from this number on, after lines that state this
-abbrev pub file_faults : Medl → ℕ → List Statement → List (List ℕ) → List ScriptError
-file_faults list number before [] = end_faults number before
-file_faults list number before (line ∷ lines) =
-    let words = words_of line in
+abbrev pub script_faults : Medl → ℕ → List Statement → List (List ℕ) → List ScriptError
+script_faults list number before [] = end_faults number before
+script_faults list number before (line ∷ lines) =
+    let words = words_of_line line in
     errors_at number (line_faults list before words)
-    ++ file_faults list (suc number) (statements_after before words) lines
+    ++ script_faults list (suc number) (statements_after before words) lines
 
 -- What lines without a fault say.
 
 -- what all lines state, the newest first, after lines that state this
 abbrev pub statements_of : List Statement → List (List ℕ) → List Statement
 statements_of before [] = before
-statements_of before (line ∷ lines) = statements_of (statements_after before (words_of line)) lines
+statements_of before (line ∷ lines) = statements_of (statements_after before (words_of_line line)) lines
 
 -- the script of what all lines state
 unfoldable pub stated_script : Medl → List Statement → Script
 stated_script list said = record {
-  slots = run_slots said;
+  slots = stated_slots said;
   on = map (λ k. on_of said k) (below (length list.slots));
-  drift = map (λ k. unwrap_or (drift_of said k) (pos 0)) (below (length list.slots));
+  drift = map (λ k. unwrap_or (drift_stated said k) (pos 0)) (below (length list.slots));
   events = events_of said;
 }
 
@@ -58,8 +59,8 @@ script_or_fault (fault ∷ found) script = Err fault
 
 -- what lines say
 unfoldable pub lines_script : Medl → List (List ℕ) → Result Script ScriptError
-lines_script list lines = script_or_fault (file_faults list 1 [] lines) (stated_script list (statements_of [] lines))
+lines_script list lines = script_or_fault (script_faults list 1 [] lines) (stated_script list (statements_of [] lines))
 
 -- what the bytes of a file say: the script, or the first faulty line with its first fault
 unfoldable pub script_of : Medl → List ℕ → Result Script ScriptError
-script_of list bytes = lines_script list (lines_of bytes)
+script_of list bytes = lines_script list (lines_of_file bytes)

@@ -15,7 +15,7 @@ use Rattle.script_text.specs.declared.keyword.Keyword.TheVariants as keyword
 use Rattle.script_text.specs.declared.so_far.SoFar.{SoFar}
 use Rattle.script_text.specs.declared.writes.WriteCounts.{WriteCounts}
 use Rattle.script_text.specs.Statement.{Statement, says_event, statement_of}
-use Rattle.script_text.specs.Faults.{slots_of, on_of, drift_of, events_of, is_write_at, statement_faults}
+use Rattle.script_text.specs.Faults.{slots_of, on_of, drift_stated, events_of, is_write_at, statement_faults}
 use Rattle.script_text.specs.Faults.{stated_faults, form_faults, line_faults, statements_after}
 
 -- How often hosts write.
@@ -34,10 +34,10 @@ pub record CountsMore (old new : WriteCounts) (node slot : ℕ) : Type 0 where
 -- What lines state.
 
 -- the lines so far state this, the newest first
-pub record StandsFor (so_far : SoFar) (before : List Statement) : Type 0 where
+pub record LinesStandFor (so_far : SoFar) (before : List Statement) : Type 0 where
   pub slots : so_far.slots ≡ slots_of before
   pub on : (k : ℕ) → slice_index_or so_far.on.items k None ≡ on_of before k
-  pub drift : (k : ℕ) → slice_index_or so_far.drift.items k None ≡ drift_of before k
+  pub drift : (k : ℕ) → slice_index_or so_far.drift.items k None ≡ drift_stated before k
   pub events : so_far.events ≡ events_of before
   pub writes : (k t : ℕ) → k < so_far.writes.nodes → writes_at so_far.writes k t ≡ count_by (is_write_at k t) before
 
@@ -72,37 +72,39 @@ ReadsEvent list slots words form (Err fault) = first_fault (statement_faults lis
 
 -- what a line of a form states was taken: it has no fault, whatever lines are kept, and is kept beside them
 pub record TakesStated (list : Medl) (words : List (List ℕ)) (old new : SoFar) (form : Keyword) : Type 0 where
-  pub faults : (before : List Statement) → StandsFor old before → stated_faults list before words form ≡ []
-  pub after : (before : List Statement) → StandsFor old before → StandsFor new (statement_of form words ∷ before)
+  pub faults : (before : List Statement) → LinesStandFor old before → stated_faults list before words form ≡ []
+  pub after : (before : List Statement) → LinesStandFor old before
+      → LinesStandFor new (statement_of form words ∷ before)
 
 -- this is the first fault of what it states, whatever lines are kept; or memory was refused
 abbrev pub RefusesStated : Medl → List (List ℕ) → SoFar → Keyword → Refusal → Type 0
 RefusesStated list words so_far form (refusals.Fault fault) =
-    (before : List Statement) → StandsFor so_far before
+    (before : List Statement) → LinesStandFor so_far before
     → first_fault (stated_faults list before words form) ≡ Some fault
 RefusesStated list words so_far form refusals.Memory = Unit {0}
 
 -- a line of a form was taken
 pub record TakesForm (list : Medl) (words : List (List ℕ)) (old new : SoFar) (form : Keyword) : Type 0 where
-  pub faults : (before : List Statement) → StandsFor old before → form_faults list before words form ≡ []
-  pub after : (before : List Statement) → StandsFor old before → StandsFor new (statement_of form words ∷ before)
+  pub faults : (before : List Statement) → LinesStandFor old before → form_faults list before words form ≡ []
+  pub after : (before : List Statement) → LinesStandFor old before
+      → LinesStandFor new (statement_of form words ∷ before)
 
 -- this is its first fault, or memory was refused
 abbrev pub RefusesForm : Medl → List (List ℕ) → SoFar → Keyword → Refusal → Type 0
 RefusesForm list words so_far form (refusals.Fault fault) =
-    (before : List Statement) → StandsFor so_far before
+    (before : List Statement) → LinesStandFor so_far before
     → first_fault (form_faults list before words form) ≡ Some fault
 RefusesForm list words so_far form refusals.Memory = Unit {0}
 
 -- the same of a whole line
 pub record TakesLine (list : Medl) (words : List (List ℕ)) (old new : SoFar) : Type 0 where
-  pub faults : (before : List Statement) → StandsFor old before → line_faults list before words ≡ []
-  pub after : (before : List Statement) → StandsFor old before → StandsFor new (statements_after before words)
+  pub faults : (before : List Statement) → LinesStandFor old before → line_faults list before words ≡ []
+  pub after : (before : List Statement) → LinesStandFor old before → LinesStandFor new (statements_after before words)
 
 -- this is the first fault of a whole line, whatever lines are kept; or memory was refused
 abbrev pub RefusesLine : Medl → List (List ℕ) → SoFar → Refusal → Type 0
 RefusesLine list words so_far (refusals.Fault fault) =
-    (before : List Statement) → StandsFor so_far before
+    (before : List Statement) → LinesStandFor so_far before
     → first_fault (line_faults list before words) ≡ Some fault
 RefusesLine list words so_far refusals.Memory = Unit {0}
 

@@ -6,8 +6,8 @@ ghost use Rattle.ttp_world.specs.Medl.{IsValid};
 ghost use Rattle.script_text.specs.declared.keyword.Keyword.TheVariants as keyword;
 ghost use Rattle.script_text.specs.Lines.{word_at};
 ghost use Rattle.script_text.specs.Numbers.{is_number, is_value, value_in, channels_in, fault_in};
-ghost use Rattle.script_text.specs.Statement.{number_at};
-ghost use Rattle.script_text.specs.Faults.{is_node, is_span, is_within, is_flipped_bit, statement_faults};
+ghost use Rattle.script_text.specs.Statement.{number_at_word};
+ghost use Rattle.script_text.specs.Faults.{is_node, is_span, is_within_limit, is_flipped_bit, statement_faults};
 ghost use Rattle.script_text.specs.SoFar.{ReadsEvent};
 
 use crate::error::LineFault;
@@ -19,11 +19,11 @@ use ttp_world::{
 };
 
 /// The number that a line's word at a place is.
-pub(crate) fn number_at(words: &Words, i: usize) -> Result<u32, LineFault>
+pub(crate) fn number_at_word(words: &Words, i: usize) -> Result<u32, LineFault>
     requires low { 1 ≤ i }
     requires high { i ≤ 5 }
     ensures ok { IfOk result (λ number.
-        (is_number (word_at words.now i) ≡ true) × (number ≡ number_at words.now i)) }
+        (is_number (word_at words.now i) ≡ true) × (number ≡ number_at_word words.now i)) }
     ensures err { IfErr result (λ fault.
         (is_number (word_at words.now i) ≡ false) × (fault ≡ LineFault.Number)) }
 {
@@ -55,8 +55,8 @@ pub(crate) fn node_of(list: &Medl, number: u32) -> Result<u8, LineFault>
 }
 
 /// Whether a number of microticks lies within plus or minus a bound.
-pub(crate) fn is_within(bound: u32, value: i64) -> bool
-    ensures { result ≡ is_within bound value }
+pub(crate) fn is_within_limit(bound: u32, value: i64) -> bool
+    ensures { result ≡ is_within_limit bound value }
 {
     value.unsigned_abs() <= u64::from(bound)
 }
@@ -88,15 +88,15 @@ pub(crate) fn on_in(words: &Words, list: &Medl, slots: u32) -> Result<SwitchedOn
     requires { IsValid list.now }
     ensures ok { IfOk result (λ _. statement_faults list.now slots words.now keyword.On ≡ []) }
     ensures value { IfOk result (λ said. said ≡ record {
-      node = number_at words.now 1;
-      slot = number_at words.now 2;
+      node = number_at_word words.now 1;
+      slot = number_at_word words.now 2;
     }) }
     ensures node { IfOk result (λ said. said.node < length list.now.slots) }
     ensures err { IfErr result (λ fault.
         first_fault (statement_faults list.now slots words.now keyword.On) ≡ Some fault) }
 {
-    let number = number_at(words, 1)?;
-    let slot = number_at(words, 2)?;
+    let number = number_at_word(words, 1)?;
+    let slot = number_at_word(words, 2)?;
     let node = node_of(list, number)?;
     if slots <= slot {
         return Err(LineFault::Range);
@@ -117,7 +117,7 @@ pub(crate) fn drift_in(words: &Words, list: &Medl, slots: u32) -> Result<Drift, 
     requires { IsValid list.now }
     ensures ok { IfOk result (λ _. statement_faults list.now slots words.now keyword.Drift ≡ []) }
     ensures value { IfOk result (λ said. said ≡ record {
-      node = number_at words.now 1;
+      node = number_at_word words.now 1;
       value = value_in (word_at words.now 2);
     }) }
     ensures fits { IfOk result (λ said. FitsSigned w64 said.value) }
@@ -125,10 +125,10 @@ pub(crate) fn drift_in(words: &Words, list: &Medl, slots: u32) -> Result<Drift, 
     ensures err { IfErr result (λ fault.
         first_fault (statement_faults list.now slots words.now keyword.Drift) ≡ Some fault) }
 {
-    let number = number_at(words, 1)?;
+    let number = number_at_word(words, 1)?;
     let value = value_at(words, 2)?;
     let node = node_of(list, number)?;
-    if !is_within(DRIFT_LIMIT, value) {
+    if !is_within_limit(DRIFT_LIMIT, value) {
         return Err(LineFault::Range);
     }
     Ok(Drift { node, value })
@@ -150,18 +150,18 @@ fn disturbance_in(words: &Words, list: &Medl, slots: u32) -> Result<Disturbance,
     requires { IsValid list.now }
     ensures ok { IfOk result (λ _. statement_faults list.now slots words.now keyword.Send ≡ []) }
     ensures value { IfOk result (λ said. said ≡ record {
-      node = number_at words.now 1;
+      node = number_at_word words.now 1;
       channels = channels_in (word_at words.now 2);
       fault = fault_in (word_at words.now 3);
-      from = number_at words.now 4;
-      to = number_at words.now 5;
+      from = number_at_word words.now 4;
+      to = number_at_word words.now 5;
     }) }
     ensures err { IfErr result (λ fault.
         first_fault (statement_faults list.now slots words.now keyword.Send) ≡ Some fault) }
 {
-    let number = number_at(words, 1)?;
-    let from = number_at(words, 4)?;
-    let to = number_at(words, 5)?;
+    let number = number_at_word(words, 1)?;
+    let from = number_at_word(words, 4)?;
+    let to = number_at_word(words, 5)?;
     let node = node_of(list, number)?;
     if !is_span(slots, from, to) {
         return Err(LineFault::Range);
@@ -213,9 +213,9 @@ pub(crate) fn flip_in(words: &Words, list: &Medl, slots: u32) -> Result<Event, L
     requires { IsValid list.now }
     ensures { ReadsEvent list.now slots words.now keyword.Flip result }
 {
-    let number = number_at(words, 1)?;
-    let bit = number_at(words, 3)?;
-    let slot = number_at(words, 4)?;
+    let number = number_at_word(words, 1)?;
+    let bit = number_at_word(words, 3)?;
+    let slot = number_at_word(words, 4)?;
     let node = node_of(list, number)?;
     if !is_flipped_bit(bit) || slots <= slot {
         return Err(LineFault::Range);
@@ -235,12 +235,12 @@ pub(crate) fn error_in(words: &Words, list: &Medl, slots: u32) -> Result<Event, 
     requires { IsValid list.now }
     ensures { ReadsEvent list.now slots words.now keyword.Error result }
 {
-    let number = number_at(words, 1)?;
+    let number = number_at_word(words, 1)?;
     let value = value_at(words, 2)?;
-    let from = number_at(words, 3)?;
-    let to = number_at(words, 4)?;
+    let from = number_at_word(words, 3)?;
+    let to = number_at_word(words, 4)?;
     let node = node_of(list, number)?;
-    if !is_within(ERROR_LIMIT, value) || !is_span(slots, from, to) {
+    if !is_within_limit(ERROR_LIMIT, value) || !is_span(slots, from, to) {
         return Err(LineFault::Range);
     }
     Ok(Event::Error {
@@ -257,11 +257,11 @@ pub(crate) fn jump_in(words: &Words, list: &Medl, slots: u32) -> Result<Event, L
     requires { IsValid list.now }
     ensures { ReadsEvent list.now slots words.now keyword.Jump result }
 {
-    let number = number_at(words, 1)?;
+    let number = number_at_word(words, 1)?;
     let value = value_at(words, 2)?;
-    let slot = number_at(words, 3)?;
+    let slot = number_at_word(words, 3)?;
     let node = node_of(list, number)?;
-    if !is_within(JUMP_LIMIT, value) || slots <= slot {
+    if !is_within_limit(JUMP_LIMIT, value) || slots <= slot {
         return Err(LineFault::Range);
     }
     Ok(Event::Jump { node, value, slot })
@@ -273,8 +273,8 @@ pub(crate) fn arm_in(words: &Words, list: &Medl, slots: u32) -> Result<Event, Li
     requires { IsValid list.now }
     ensures { ReadsEvent list.now slots words.now keyword.Arm result }
 {
-    let number = number_at(words, 1)?;
-    let slot = number_at(words, 2)?;
+    let number = number_at_word(words, 1)?;
+    let slot = number_at_word(words, 2)?;
     let node = node_of(list, number)?;
     if slots <= slot {
         return Err(LineFault::Range);

@@ -2,7 +2,7 @@
 ghost use Rattle.std.specs.Prelude.{◌≡◌, ◌≤◌, ◌∷◌, true, false, length, slice_index, Some, IfSome};
 ghost use Rattle.std.specs.List.{list_all};
 ghost use Rattle.script_text.specs.declared.keyword.Keyword.TheVariants as keyword;
-ghost use Rattle.script_text.specs.Lines.{is_blank, is_comment, is_part, words_of};
+ghost use Rattle.script_text.specs.Lines.{is_blank, is_comment, is_part, words_of_line};
 ghost use Rattle.script_text.specs.Statement.{keyword_of};
 ghost use Rattle.script_text.specs.Words.{CutsWord};
 
@@ -87,7 +87,7 @@ fn any_word(line: &[u8]) -> FirstWord<'_>
 /// The first word of a line and what follows it, where that word is `error`.
 #[inline(always)]
 pub(crate) fn error_word(line: &[u8]) -> Option<Cut<'_>>
-    ensures words { IfSome result (λ cut. words_of line.now ≡ cut.piece.now ∷ words_of cut.rest.now) }
+    ensures words { IfSome result (λ cut. words_of_line line.now ≡ cut.piece.now ∷ words_of_line cut.rest.now) }
     ensures form { IfSome result (λ cut. keyword_of cut.piece.now ≡ Some keyword.Error) }
     ensures told { IfSome result (λ cut. is_comment cut.piece.now ≡ false) }
 {

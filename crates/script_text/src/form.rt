@@ -1,7 +1,7 @@
 //! The form of a line, and whether its words are those of the form.
 ghost use Rattle.std.specs.Prelude.{◌≡◌};
 ghost use Rattle.script_text.specs.Numbers.{is_text, is_channels, channels_in, is_fault, fault_in};
-ghost use Rattle.script_text.specs.Statement.{keyword_of, word_count, has_channels, is_spelled};
+ghost use Rattle.script_text.specs.Statement.{keyword_of, form_word_count, has_channels, is_spelled};
 
 use crate::keyword::Keyword;
 use crate::words::Words;
@@ -55,8 +55,8 @@ pub(crate) fn keyword_of(word: &[u8]) -> Option<Keyword>
 }
 
 #[inline(always)]
-fn word_count(form: Keyword) -> usize
-    ensures { result ≡ word_count form }
+fn form_word_count(form: Keyword) -> usize
+    ensures { result ≡ form_word_count form }
 {
     match form {
         Keyword::Slots => 2,
@@ -121,5 +121,5 @@ fn has_channels(form: Keyword, words: &Words) -> bool
 pub(crate) fn is_spelled(form: Keyword, words: &Words) -> bool
     ensures { result ≡ is_spelled form words.now }
 {
-    words.len() == word_count(form) && has_channels(form, words)
+    words.len() == form_word_count(form) && has_channels(form, words)
 }

@@ -1,7 +1,7 @@
 //! Words that are messages: hexadecimal digits of either case, two for each byte.
 ghost use Rattle.std.specs.Prelude.{◌≡◌, ◌*◌, ◌≤◌, length, take, SomeIff, IsTrue};
 ghost use Rattle.std.specs.Char.{digit_value};
-ghost use Rattle.script_text.specs.Numbers.{is_hex, hex_bytes_in};
+ghost use Rattle.script_text.specs.Numbers.{is_hex_word, digit_bytes_in};
 
 use ttp_world::{PAYLOAD_LIMIT, Payload};
 
@@ -28,8 +28,8 @@ fn digit_of(byte: u8) -> u8
 }
 
 /// Whether a word has no bytes but hexadecimal digits.
-pub(crate) fn is_hex(word: &[u8]) -> bool
-    ensures { result ≡ is_hex word.now }
+pub(crate) fn is_hex_word(word: &[u8]) -> bool
+    ensures { result ≡ is_hex_word word.now }
 {
     for byte in word {
         if 16 <= digit_of(*byte) {
@@ -43,7 +43,8 @@ pub(crate) fn is_hex(word: &[u8]) -> bool
 pub(crate) fn front_payload(text: &[u8], size: u8) -> Option<Payload>
     requires small { size ≤ PAYLOAD_LIMIT }
     requires within { 2 * size ≤ length text.now }
-    ensures { SomeIff result (IsTrue (is_hex (take (2 * size) text.now))) (hex_bytes_in (take (2 * size) text.now)) }
+    ensures { SomeIff result (IsTrue (is_hex_word (take (2 * size) text.now)))
+        (digit_bytes_in (take (2 * size) text.now)) }
 {
     let mut bytes = [0; PAYLOAD_LIMIT];
     for i in 0..size as usize {

@@ -5,16 +5,16 @@ ghost use Rattle.ttp_world.specs.Medl.{IsValid};
 ghost use Rattle.script_text.specs.declared.error.LineFault.TheVariants as faults;
 ghost use Rattle.script_text.specs.declared.keyword.Keyword.TheVariants as keyword;
 ghost use Rattle.script_text.specs.Lines.{word_at};
-ghost use Rattle.script_text.specs.Numbers.{is_source, source_in, hex_bytes_in};
-ghost use Rattle.script_text.specs.Statement.{number_at};
-ghost use Rattle.script_text.specs.Faults.{is_node, is_read_node, payload_size, sends_payload, unless};
+ghost use Rattle.script_text.specs.Numbers.{is_source, source_named, digit_bytes_in};
+ghost use Rattle.script_text.specs.Statement.{number_at_word};
+ghost use Rattle.script_text.specs.Faults.{is_node, is_read_node, payload_size, node_sends_payload, fault_unless};
 ghost use Rattle.script_text.specs.Faults.{statement_faults};
 ghost use Rattle.script_text.specs.SoFar.{ReadsEvent};
 
 use crate::error::LineFault;
-use crate::event::{node_of, number_at};
+use crate::event::{node_of, number_at_word};
 use crate::form::is_text;
-use crate::hex::{front_payload, is_hex};
+use crate::hex::{front_payload, is_hex_word};
 use crate::words::Words;
 use ttp_world::{Event, Medl, PAYLOAD_LIMIT, Payload, Source};
 
@@ -29,10 +29,10 @@ pub(crate) fn payload_size(list: &Medl, node: u8) -> u8
 }
 
 /// Whether what a host reads is its status, or comes from a node that sends payload.
-pub(crate) fn sends_payload(list: &Medl, source: Source) -> bool
+pub(crate) fn node_sends_payload(list: &Medl, source: Source) -> bool
     requires valid { IsValid list.now }
     requires node { is_read_node (is_node list.now) source ≡ true }
-    ensures { result ≡ is_read_node (sends_payload list.now) source }
+    ensures { result ≡ is_read_node (node_sends_payload list.now) source }
 {
     match source {
         Source::Status => true,
@@ -56,10 +56,11 @@ fn source_at(words: &Words, i: usize, list: &Medl) -> Result<Source, LineFault>
     requires high { i ≤ 5 }
     requires valid { IsValid list.now }
     ensures ok { IfOk result (λ source. (is_source (word_at words.now i) ≡ true)
-        × (source ≡ source_in (word_at words.now i)) × (is_read_node (is_node list.now) source ≡ true)) }
+        × (source ≡ source_named (word_at words.now i)) × (is_read_node (is_node list.now) source ≡ true)) }
     ensures err { IfErr result (λ fault.
-        first_fault (unless (is_source (word_at words.now i)) faults.Number
-        ++ unless (is_read_node (is_node list.now) (source_in (word_at words.now i))) faults.NoNode) ≡ Some fault) }
+        first_fault (fault_unless (is_source (word_at words.now i)) faults.Number
+        ++ fault_unless (is_read_node (is_node list.now) (source_named (word_at words.now i))) faults.NoNode)
+        ≡ Some fault) }
 {
     let word = words.at(i);
     if is_text(b"status", word.text()) {
@@ -76,11 +77,11 @@ pub(crate) fn read_in(words: &Words, list: &Medl, slots: u32) -> Result<Event, L
     requires { IsValid list.now }
     ensures { ReadsEvent list.now slots words.now keyword.Read result }
 {
-    let number = number_at(words, 1)?;
-    let slot = number_at(words, 2)?;
+    let number = number_at_word(words, 1)?;
+    let slot = number_at_word(words, 2)?;
     let source = source_at(words, 3, list)?;
     let node = node_of(list, number)?;
-    if !sends_payload(list, source) {
+    if !node_sends_payload(list, source) {
         return Err(LineFault::NoData);
     }
     if slots <= slot || !is_of_other(node, source) {
@@ -103,19 +104,19 @@ pub(crate) fn message_in(words: &Words, list: &Medl, slots: u32) -> Result<Messa
     requires { IsValid list.now }
     ensures ok { IfOk result (λ _. statement_faults list.now slots words.now keyword.Write ≡ []) }
     ensures value { IfOk result (λ message. message ≡ record {
-      node = number_at words.now 1;
-      slot = number_at words.now 2;
-      payload = hex_bytes_in (word_at words.now 3);
+      node = number_at_word words.now 1;
+      slot = number_at_word words.now 2;
+      payload = digit_bytes_in (word_at words.now 3);
     }) }
     ensures node { IfOk result (λ message. message.node < length list.now.slots) }
     ensures slot { IfOk result (λ message. message.slot < slots) }
     ensures err { IfErr result (λ fault.
         first_fault (statement_faults list.now slots words.now keyword.Write) ≡ Some fault) }
 {
-    let number = number_at(words, 1)?;
-    let slot = number_at(words, 2)?;
+    let number = number_at_word(words, 1)?;
+    let slot = number_at_word(words, 2)?;
     let digits = words.at(3).text();
-    if !is_hex(digits) {
+    if !is_hex_word(digits) {
         return Err(LineFault::Number);
     }
     let node = node_of(list, number)?;

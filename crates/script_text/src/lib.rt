@@ -16,7 +16,7 @@
 //!
 //! The layer above gets a script that is valid for the list, which `proofs/Valid.antt` and
 //! `RightFiles.antt` show of the definition, for lines without a fault. Between two lines the reader
-//! stands for what the lines so far state (`StandsFor` of `specs/SoFar.antt`). A line is cut into
+//! stands for what the lines so far state (`LinesStandFor` of `specs/SoFar.antt`). A line is cut into
 //! words once, a wrong `error` line twice (`src/words.rt`), and words of digits are read as numbers
 //! on the way; by its words a line says something, or has a first fault (`src/event.rt`, `src/host.rt`).
 //!

@@ -1,6 +1,6 @@
 //! A text cut into lines.
 ghost use Rattle.std.specs.Prelude.{◌≡◌, ◌+◌, ◌<◌, [], ◌∷◌, length, take, drop, position, IfSome, IfNone};
-ghost use Rattle.script_text.specs.Lines.{is_line_feed, is_blank, without_return, lines_of};
+ghost use Rattle.script_text.specs.Lines.{is_line_feed, is_blank, without_return, lines_of_file};
 
 use memchr::memchr;
 
@@ -51,8 +51,8 @@ pub(crate) fn cut_at(text: &[u8], place: usize) -> Cut<'_>
 /// The first line of a text, if it has one.
 #[tactic(auto, using(crate::proofs::Cuts::cuts))]
 pub(crate) fn next_line(text: &[u8]) -> Option<Cut<'_>>
-    ensures none { IfNone result (lines_of text.now ≡ []) }
-    ensures some { IfSome result (λ cut. lines_of text.now ≡ cut.piece.now ∷ lines_of cut.rest.now) }
+    ensures none { IfNone result (lines_of_file text.now ≡ []) }
+    ensures some { IfSome result (λ cut. lines_of_file text.now ≡ cut.piece.now ∷ lines_of_file cut.rest.now) }
     ensures shorter { IfSome result (λ cut. length cut.rest.now < length text.now) }
 {
     if let Some(end) = line_end(text) {

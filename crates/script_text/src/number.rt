@@ -1,6 +1,6 @@
 //! Words that are numbers.
 ghost use Rattle.std.specs.Prelude.{SomeIff, IsTrue};
-ghost use Rattle.script_text.specs.Numbers.{is_number, number_in};
+ghost use Rattle.script_text.specs.Numbers.{is_number, decimal_value};
 ghost use Rattle.script_text.specs.Words.{FrontDigits};
 
 // The most digits of a number.
@@ -35,7 +35,7 @@ pub(crate) fn front_digits(text: &[u8]) -> Digits
 #[inline(always)]
 pub(crate) fn whole_number(word: &[u8], digits: Digits) -> Option<u32>
     requires { FrontDigits word.now digits.count digits.number }
-    ensures { SomeIff result (IsTrue (is_number word.now)) (number_in word.now) }
+    ensures { SomeIff result (IsTrue (is_number word.now)) (decimal_value word.now) }
 {
     let Digits { count, number } = digits;
     if count == 0 || count < word.len() {
@@ -45,8 +45,8 @@ pub(crate) fn whole_number(word: &[u8], digits: Digits) -> Option<u32>
 }
 
 /// The number that a word of 1 to 9 decimal digits is.
-pub(crate) fn number_in(word: &[u8]) -> Option<u32>
-    ensures { SomeIff result (IsTrue (is_number word.now)) (number_in word.now) }
+pub(crate) fn decimal_value(word: &[u8]) -> Option<u32>
+    ensures { SomeIff result (IsTrue (is_number word.now)) (decimal_value word.now) }
 {
     whole_number(word, front_digits(word))
 }

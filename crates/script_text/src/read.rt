@@ -4,12 +4,12 @@ ghost use Rattle.std.specs.Prelude.{IfOk, IfErr, OnOk, All, map, unwrap_or};
 ghost use Rattle.ttp_world.specs.Medl.{IsValid};
 ghost use Rattle.ttp_world.specs.Script.{IsValidScript, IsBounded};
 ghost use Rattle.script_text.specs.declared.keyword.Keyword.TheVariants as keyword;
-ghost use Rattle.script_text.specs.Lines.{is_comment, lines_of, words_of};
+ghost use Rattle.script_text.specs.Lines.{is_comment, lines_of_file, words_of_line};
 ghost use Rattle.script_text.specs.Statement.{Statement};
 ghost use Rattle.script_text.specs.Faults.{is_after_slots};
-ghost use Rattle.script_text.specs.ScriptFile.{file_faults, end_faults, statements_of};
+ghost use Rattle.script_text.specs.ScriptFile.{script_faults, end_faults, statements_of};
 ghost use Rattle.script_text.specs.ScriptFile.{stated_script, script_or_fault, script_of};
-ghost use Rattle.script_text.specs.SoFar.{StandsFor, HasNodes, TakesStated, RefusesStated};
+ghost use Rattle.script_text.specs.SoFar.{LinesStandFor, HasNodes, TakesStated, RefusesStated};
 ghost use Rattle.script_text.specs.SoFar.{TakesForm, RefusesForm, TakesLine, RefusesLine};
 
 use crate::error::{LineFault, Refusal, ScriptError};
@@ -113,8 +113,8 @@ fn take_error_line(list: &Medl, words: &Words, so_far: &mut SoFar) -> Result<(),
 fn take_any_line(list: &Medl, line: &[u8], so_far: &mut SoFar) -> Result<(), Refusal>
     requires valid { IsValid list.now }
     requires nodes { HasNodes list.now so_far.old }
-    ensures ok { OnOk result (TakesLine list.now (words_of line.now) so_far.old so_far.new) }
-    ensures err { IfErr result (RefusesLine list.now (words_of line.now) so_far.old) }
+    ensures ok { OnOk result (TakesLine list.now (words_of_line line.now) so_far.old so_far.new) }
+    ensures err { IfErr result (RefusesLine list.now (words_of_line line.now) so_far.old) }
     ensures nodes { HasNodes list.now so_far.new }
 {
     let first = first_word(line);
@@ -135,8 +135,8 @@ fn take_any_line(list: &Medl, line: &[u8], so_far: &mut SoFar) -> Result<(), Ref
 fn take_line(list: &Medl, line: &[u8], so_far: &mut SoFar) -> Result<(), Refusal>
     requires valid { IsValid list.now }
     requires nodes { HasNodes list.now so_far.old }
-    ensures ok { OnOk result (TakesLine list.now (words_of line.now) so_far.old so_far.new) }
-    ensures err { IfErr result (RefusesLine list.now (words_of line.now) so_far.old) }
+    ensures ok { OnOk result (TakesLine list.now (words_of_line line.now) so_far.old so_far.new) }
+    ensures err { IfErr result (RefusesLine list.now (words_of_line line.now) so_far.old) }
     ensures nodes { HasNodes list.now so_far.new }
 {
     if let Some(first) = error_word(line) {
@@ -160,13 +160,13 @@ fn is_comment(word: &[u8]) -> bool
 #[tactic(auto, using(crate::proofs::Reading::reading))]
 fn take_lines(list: &Medl, text: &[u8], so_far: &mut SoFar) -> Result<u32, ScriptError>
     requires valid { IsValid list.now }
-    requires stands { StandsFor so_far.old [] }
+    requires stands { LinesStandFor so_far.old [] }
     requires nodes { HasNodes list.now so_far.old }
     requires size { length text.now ≤ 1048576 }
-    ensures stands { OnOk result (StandsFor so_far.new (statements_of [] (lines_of text.now))) }
+    ensures stands { OnOk result (LinesStandFor so_far.new (statements_of [] (lines_of_file text.now))) }
     ensures faults { IfOk result (λ number.
-        file_faults list.now 1 [] (lines_of text.now)
-        ≡ end_faults number (statements_of [] (lines_of text.now))) }
+        script_faults list.now 1 [] (lines_of_file text.now)
+        ≡ end_faults number (statements_of [] (lines_of_file text.now))) }
     ensures err { IfErr result (λ e. (e ≡ ScriptError.Memory) ⊎ (script_of list.now text.now ≡ Err e)) }
     ensures nodes { HasNodes list.now so_far.new }
     ensures count { OnOk result (length so_far.new.events ≤ EVENT_LIMIT) }
@@ -205,7 +205,7 @@ fn script_from(
     requires nodes { HasNodes list.now so_far }
     requires count { length so_far.events ≤ EVENT_LIMIT }
     requires values { All IsBounded so_far.events }
-    ensures { (said : Items Statement) → StandsFor so_far said
+    ensures { (said : Items Statement) → LinesStandFor so_far said
         → (result ≡ Err ScriptError.Memory)
         ⊎ (result ≡ script_or_fault (end_faults number said) (stated_script list.now said)) }
 {

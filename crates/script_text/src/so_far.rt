@@ -6,11 +6,11 @@ ghost use Rattle.ttp_world.specs.declared.medl.Medl.{Medl};
 ghost use Rattle.ttp_world.specs.declared.script.Event.TheVariants as event;
 ghost use Rattle.script_text.specs.declared.keyword.Keyword.{Keyword};
 ghost use Rattle.script_text.specs.declared.keyword.Keyword.TheVariants as keyword;
-ghost use Rattle.script_text.specs.SoFar.{StandsFor, HasNodes, writes_at, CountsMore, is_uncounted};
+ghost use Rattle.script_text.specs.SoFar.{LinesStandFor, HasNodes, writes_at, CountsMore, is_uncounted};
 ghost use Rattle.script_text.specs.SoFar.{ReadsEvent, TakesStated, RefusesStated};
 
 use crate::error::{LineFault, Refusal};
-use crate::event::{drift_in, number_at, on_in};
+use crate::event::{drift_in, number_at_word, on_in};
 use crate::host::{Message, message_in};
 use crate::words::Words;
 use crate::writes::WriteCounts;
@@ -33,7 +33,7 @@ impl SoFar {
     /// Nothing was said, of this list's nodes or of the run.
     pub(crate) fn new(alloc: Global, list: &Medl) -> Result<SoFar, Memory>
         requires { IsValid list.now }
-        ensures stands { IfOk result (λ so_far. StandsFor so_far []) }
+        ensures stands { IfOk result (λ so_far. LinesStandFor so_far []) }
         ensures nodes { IfOk result (HasNodes list.now) }
     {
         let nodes = list.nodes();
@@ -54,7 +54,7 @@ impl SoFar {
         ensures err { IfErr result (RefusesStated list.now words.now self.old keyword.Slots) }
         ensures nodes { HasNodes list.now self.new }
     {
-        let count = number_at(words, 1)?;
+        let count = number_at_word(words, 1)?;
         if count < 1 || SLOT_LIMIT < count {
             return Err(LineFault::Range.into());
         }

@@ -2,12 +2,12 @@
 ghost use Rattle.std.specs.Prelude.{◌≡◌, ◌<◌, ◌≤◌, ◌∷◌, true, false, length, take, drop, slice_index, position};
 ghost use Rattle.std.specs.Prelude.{IfSome, IfNone, SomeIff, IsTrue, if◌then◌else◌};
 ghost use Rattle.std.specs.List.{list_all};
-ghost use Rattle.script_text.specs.Lines.{is_blank, is_part, has_bytes, words_of, word_at};
-ghost use Rattle.script_text.specs.Numbers.{is_number, number_in, is_value, value_in};
+ghost use Rattle.script_text.specs.Lines.{is_blank, is_part, has_bytes, words_of_line, word_at};
+ghost use Rattle.script_text.specs.Numbers.{is_number, decimal_value, is_value, value_in};
 ghost use Rattle.script_text.specs.Words.{FrontDigits, CutsWord};
 
 use crate::lines::{Cut, cut_at, is_blank};
-use crate::number::{Digits, front_digits, number_in, whole_number};
+use crate::number::{Digits, decimal_value, front_digits, whole_number};
 use std::marker::Model;
 
 /// A word of a line, and the number that it is, if it is one. Contracts see it as its bytes.
@@ -19,13 +19,13 @@ pub(crate) struct Word<'a> {
 
 impl<'a> Model for Word<'a> {
     ghost use Rattle.std.specs.Prelude.{ℕ, List, SomeIff, IsTrue};
-    ghost use Rattle.script_text.specs.Numbers.{is_number, number_in};
+    ghost use Rattle.script_text.specs.Numbers.{is_number, decimal_value};
 
     ghost Value = { List ℕ };
 
     ghost view = { λ w. w.text.now };
 
-    ghost invariant = { λ w. SomeIff w.number (IsTrue (is_number w.text.now)) (number_in w.text.now) };
+    ghost invariant = { λ w. SomeIff w.number (IsTrue (is_number w.text.now)) (decimal_value w.text.now) };
 }
 
 impl<'a> Word<'a> {
@@ -38,7 +38,7 @@ impl<'a> Word<'a> {
 
     /// The number that the word is.
     pub(crate) fn number(&self) -> Option<u32>
-        ensures { SomeIff result (IsTrue (is_number self.now)) (number_in self.now) }
+        ensures { SomeIff result (IsTrue (is_number self.now)) (decimal_value self.now) }
     {
         self.number
     }
@@ -49,7 +49,7 @@ impl<'a> Word<'a> {
         ensures { SomeIff result (IsTrue (is_value self.now)) (value_in self.now) }
     {
         match self.text.first() {
-            Some(b'-') => Some(-i64::from(number_in(&self.text[1..])?)),
+            Some(b'-') => Some(-i64::from(decimal_value(&self.text[1..])?)),
             _ => Some(i64::from(self.number?)),
         }
     }
@@ -89,7 +89,7 @@ fn word_start(line: &[u8]) -> Option<usize>
 fn blanks(line: &[u8]) -> usize
     ensures within { result ≤ length line.now }
     ensures first { is_blank (slice_index (drop result line.now) 0) ≡ false }
-    ensures words { words_of (drop result line.now) ≡ words_of line.now }
+    ensures words { words_of_line (drop result line.now) ≡ words_of_line line.now }
 {
     match word_start(line) {
         Some(start) => start,
@@ -101,7 +101,7 @@ fn blanks(line: &[u8]) -> usize
 #[inline(always)]
 pub(crate) fn past_blanks(line: &[u8]) -> &[u8]
     ensures first { is_blank (slice_index result.now 0) ≡ false }
-    ensures words { words_of result.now ≡ words_of line.now }
+    ensures words { words_of_line result.now ≡ words_of_line line.now }
 {
     if line.is_empty() || b' ' < line[0] {
         return line;
@@ -261,8 +261,8 @@ impl<'a> Words<'a> {
 /// All words of a line, of which the first was cut off. `None` where there are more than six.
 #[inline(always)]
 pub(crate) fn words_after(first: Cut<'_>) -> Option<Words<'_>>
-    ensures some { IfSome result (λ words. words ≡ first.entry.piece.now ∷ words_of first.entry.rest.now) }
-    ensures none { IfNone result (6 < length (first.entry.piece.now ∷ words_of first.entry.rest.now)) }
+    ensures some { IfSome result (λ words. words ≡ first.entry.piece.now ∷ words_of_line first.entry.rest.now) }
+    ensures none { IfNone result (6 < length (first.entry.piece.now ∷ words_of_line first.entry.rest.now)) }
 {
     let second = next_word(first.rest);
     let third = next_word(second.rest);
@@ -285,7 +285,7 @@ pub(crate) fn words_after(first: Cut<'_>) -> Option<Words<'_>>
 /// All words of a line, of which the first was cut off, where four follow and all but the second of these are numbers.
 #[inline(always)]
 pub(crate) fn error_words_after(first: Cut<'_>) -> Option<Words<'_>>
-    ensures { IfSome result (λ words. words ≡ first.entry.piece.now ∷ words_of first.entry.rest.now) }
+    ensures { IfSome result (λ words. words ≡ first.entry.piece.now ∷ words_of_line first.entry.rest.now) }
 {
     let Some(second) = number_word(first.rest) else {
         return None;

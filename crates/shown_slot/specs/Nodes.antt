@@ -3,8 +3,7 @@ use Rattle.std.specs.Prelude.{ℕ, ◌+◌, ◌*◌, ◌==◌, ℤ, ◌-ℤ◌, 
 use Rattle.std.specs.Prelude.{List, [], ◌∷◌, Option, Some, None, if◌then◌else◌}
 use Rattle.std.specs.List.{list_all}
 use Rattle.ttp_base.specs.NodeSet.{set_bits}
-use Rattle.ttp_world.specs.declared.node.Ack.{Ack}
-use Rattle.ttp_world.specs.declared.node.Ack.TheVariants as ack
+use Rattle.ttp_world.specs.Acknowledgement.{is_doubt}
 use Rattle.line_reader.specs.declared.trace_line.Word.{Word}
 use Rattle.line_reader.specs.declared.trace_line.Word.TheVariants as word
 use Rattle.shown_slot.specs.declared.node.ClockRange.{ClockRange}
@@ -15,23 +14,23 @@ use Rattle.shown_slot.specs.declared.node.Sender.TheVariants as sent_by
 -- Words.
 
 -- a node whose line has this word takes part in the cluster
-abbrev pub is_active : Word → Bool
-is_active word.Start = true
-is_active word.Join = true
-is_active word.Send = true
-is_active word.Correct = true
-is_active word.Tentative = true
-is_active word.Incorrect = true
-is_active word.Invalid = true
-is_active word.Null = true
-is_active _ = false
+abbrev pub is_active_word : Word → Bool
+is_active_word word.Start = true
+is_active_word word.Join = true
+is_active_word word.Send = true
+is_active_word word.Correct = true
+is_active_word word.Tentative = true
+is_active_word word.Incorrect = true
+is_active_word word.Invalid = true
+is_active_word word.Null = true
+is_active_word _ = false
 
 -- it left the cluster in this slot
-abbrev pub has_left : Word → Bool
-has_left word.Denied = true
-has_left word.Unacknowledged = true
-has_left word.Clique = true
-has_left _ = false
+abbrev pub is_leaving_word : Word → Bool
+is_leaving_word word.Denied = true
+is_leaving_word word.Unacknowledged = true
+is_leaving_word word.Clique = true
+is_leaving_word _ = false
 
 -- it sent a frame in this slot
 abbrev pub sends : Word → Bool
@@ -41,13 +40,9 @@ sends _ = false
 
 -- Members.
 
-abbrev pub is_doubt : Ack → Bool
-is_doubt (ack.Doubt x) = true
-is_doubt _ = false
-
 -- an active node that is in no doubt about its own frame, so that its members count
 abbrev pub is_holder : NodeShown → Bool
-is_holder node = is_active node.word && not (is_doubt node.ack)
+is_holder node = is_active_word node.word && not (is_doubt node.ack)
 
 -- if it is a holder, it holds these members
 abbrev pub holds_only : ℕ → NodeShown → Bool
@@ -101,7 +96,7 @@ widened clock (Some range) = record { low = lower clock range.low; high = higher
 abbrev pub clock_range : List NodeShown → Option ClockRange
 clock_range [] = None
 clock_range (node ∷ nodes) =
-    if is_active node.word then Some (widened node.offset (clock_range nodes)) else clock_range nodes
+    if is_active_word node.word then Some (widened node.offset (clock_range nodes)) else clock_range nodes
 
 -- how far apart they are
 abbrev pub spread_in : ClockRange → ℕ

@@ -18,12 +18,12 @@ same_source (source.Node p) (source.Node q) = p == q
 same_source _ _ = false
 
 -- the message of a line, if it is of this host and does this
-abbrev pub message_of : ℕ → What → HostLine → Option Message
-message_of k what.Write (line.Write host number) =
+abbrev pub message_in_line : ℕ → What → HostLine → Option Message
+message_in_line k what.Write (line.Write host number) =
     if host == k then Some (record { number = number; payload = [] }) else None
-message_of k (what.Read from) (line.Read host source number payload) =
+message_in_line k (what.Read from) (line.Read host source number payload) =
     if (host == k) && same_source from source then Some (record { number = number; payload = payload }) else None
-message_of k _ _ = None
+message_in_line k _ _ = None
 
 -- the later one of two messages, if there is one
 abbrev pub later : Option Message → Option Message → Option Message
@@ -31,9 +31,9 @@ later earlier None = earlier
 later earlier (Some message) = Some message
 
 -- the newest message of a host that does this
-abbrev pub newest_message : ℕ → What → List HostLine → Option Message
-newest_message k does [] = None
-newest_message k does (line ∷ lines) = later (message_of k does line) (newest_message k does lines)
+abbrev pub newest_host_message : ℕ → What → List HostLine → Option Message
+newest_host_message k does [] = None
+newest_host_message k does (line ∷ lines) = later (message_in_line k does line) (newest_host_message k does lines)
 
 -- the larger size
 abbrev pub larger : Option ℕ → Option ℕ → Option ℕ
@@ -48,7 +48,7 @@ size_of (Some message) = Some (length message.payload)
 -- the most bytes of such messages, if there is one
 abbrev pub most_bytes : ℕ → What → List HostLine → Option ℕ
 most_bytes k does [] = None
-most_bytes k does (line ∷ lines) = larger (size_of (message_of k does line)) (most_bytes k does lines)
+most_bytes k does (line ∷ lines) = larger (size_of (message_in_line k does line)) (most_bytes k does lines)
 
 -- all that a host of so many nodes may do
 abbrev pub all_whats : ℕ → List What

@@ -13,8 +13,8 @@ use Rattle.shown_slot.specs.declared.host.Port.{Port}
 use Rattle.shown_slot.specs.Ports.{ports_of}
 
 -- what stands for a node that a slot doesn't have
-abbrev pub no_node : NodeShown
-no_node = record {
+abbrev pub no_shown_node : NodeShown
+no_shown_node = record {
   word = word.Off;
   peer = None;
   message = None;
@@ -26,14 +26,14 @@ no_node = record {
 }
 
 abbrev pub node_at : SlotLines → ℕ → NodeShown
-node_at slot k = get_or slot.nodes k no_node
+node_at slot k = get_or slot.nodes k no_shown_node
 
 -- the lines beside those of its slots, without their line feeds
-abbrev pub head_text : Head → List ℕ
-head_text head = text_of (line.Header head.version head.nodes head.rounds head.slots head.schedule)
+abbrev pub header_text : Head → List ℕ
+header_text head = text_of (line.Header head.version head.nodes head.rounds head.slots head.schedule)
 
 abbrev pub first_text : WholeTrace → List ℕ
-first_text trace = head_text trace.head
+first_text trace = header_text trace.head
 
 abbrev pub keeps_text : WholeTrace → List ℕ
 keeps_text trace = keep_text trace.keep

@@ -1,7 +1,7 @@
 //! What a trace shows of hosts in a slot.
 ghost use Rattle.std.specs.Prelude.{◌≡◌};
 ghost use Rattle.whole_trace.specs.declared.shown.HostLine.TheVariants as line;
-ghost use Rattle.shown_slot.specs.Ports.{same_source, message_of};
+ghost use Rattle.shown_slot.specs.Ports.{same_source, message_in_line};
 
 use ttp_world::{Payload, Source};
 use whole_trace::HostLine;
@@ -46,7 +46,7 @@ fn same_source(one: Source, other: Source) -> bool
 
 // The message of a line of a host that wrote, if it is this host and writes are asked for.
 fn written(host: u8, what: What, writer: u8, number: u64) -> Option<Message>
-    ensures { result ≡ message_of host what (line.Write writer number) }
+    ensures { result ≡ message_in_line host what (line.Write writer number) }
 {
     match what {
         What::Write => {
@@ -71,7 +71,7 @@ fn read(
     number: u64,
     payload: &Payload,
 ) -> Option<Message>
-    ensures { result ≡ message_of host what (line.Read reader source number payload.now) }
+    ensures { result ≡ message_in_line host what (line.Read reader source number payload.now) }
 {
     match what {
         What::Write => None,
@@ -88,8 +88,8 @@ fn read(
 }
 
 /// The message of a host's line, if it is this host and does this in it.
-pub fn message_of(host: u8, what: What, line: &HostLine) -> Option<Message>
-    ensures { result ≡ message_of host what line.now }
+pub fn message_in_line(host: u8, what: What, line: &HostLine) -> Option<Message>
+    ensures { result ≡ message_in_line host what line.now }
 {
     match line {
         HostLine::Write {

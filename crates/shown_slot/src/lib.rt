@@ -4,7 +4,7 @@
 //! sent, and how far clocks are apart. `specs/Ports.antt` has what hosts did: the newest message of each in a slot, and the most
 //! bytes of such a message in a whole trace. Each function of the crate is one of these words, and a contract sees its answer as
 //! that word of a slot of whole_trace. `put_slot` of wave_text asks [`active_bits`] and [`left_bits`] of each slot, and the cells
-//! of picture_text ask [`has_left`].
+//! of picture_text ask [`is_leaving_word`].
 //!
 //! A word costs at most its nodes and its hosts' lines. The crate reads no text and writes none, takes no memory, and shares
 //! nothing between threads.
@@ -14,10 +14,10 @@ mod host;
 mod node;
 mod text;
 
-pub use host::{Message, Port, What, message_of};
+pub use host::{Message, Port, What, message_in_line};
 pub use node::{
-    ClockRange, Sender, active_bits, agreement, clock_range, has_left, is_active, is_holder,
-    left_bits, sender_among, sends,
+    ClockRange, Sender, active_bits, agreement, clock_range, is_active_word, is_holder,
+    is_leaving_word, left_bits, sender_among, sends,
 };
-pub use text::{back_text, head_text, keep_text};
+pub use text::{back_text, header_text, keep_text};
 pub use whole_trace::word_text;

@@ -1,7 +1,7 @@
 //! What a trace shows of nodes after a slot.
 ghost use Rattle.std.specs.Prelude.{◌≡◌, ◌+◌, ◌^◌, ◌<◌, ◌≤◌, length};
-ghost use Rattle.shown_slot.specs.Nodes.{is_active, has_left, sends, is_holder, hold_members, agreement, spread_in};
-ghost use Rattle.shown_slot.specs.Nodes.{sender_among, bits_where, widened, clock_range};
+ghost use Rattle.shown_slot.specs.Nodes.{is_active_word, is_leaving_word, sends, is_holder, hold_members, agreement};
+ghost use Rattle.shown_slot.specs.Nodes.{spread_in, sender_among, bits_where, widened, clock_range};
 
 use line_reader::Word;
 use ttp_world::Ack;
@@ -24,8 +24,8 @@ pub struct ClockRange {
 }
 
 /// Whether a node whose line has this word takes part in the cluster.
-pub fn is_active(word: Word) -> bool
-    ensures { result ≡ is_active word }
+pub fn is_active_word(word: Word) -> bool
+    ensures { result ≡ is_active_word word }
 {
     match word {
         Word::Start
@@ -41,8 +41,8 @@ pub fn is_active(word: Word) -> bool
 }
 
 /// Whether it left the cluster in this slot.
-pub fn has_left(word: Word) -> bool
-    ensures { result ≡ has_left word }
+pub fn is_leaving_word(word: Word) -> bool
+    ensures { result ≡ is_leaving_word word }
 {
     match word {
         Word::Denied | Word::Unacknowledged | Word::Clique => true,
@@ -68,7 +68,7 @@ pub fn is_holder(node: &NodeShown) -> bool
         Ack::Doubt(_) => true,
         _ => false,
     };
-    is_active(node.word) && !is_doubt
+    is_active_word(node.word) && !is_doubt
 }
 
 // Whether all holders among nodes hold these members.
@@ -120,24 +120,24 @@ pub fn sender_among(first: u8, nodes: &[NodeShown]) -> Sender
 /// The active nodes, at most 32, as a word in which bit k, the least significant first, stands for node k.
 pub fn active_bits(nodes: &[NodeShown]) -> u32
     requires { length nodes.now ≤ 32 }
-    ensures value { result ≡ bits_where is_active nodes.now }
+    ensures value { result ≡ bits_where is_active_word nodes.now }
     ensures few { result < 2 ^ length nodes.now }
 {
     match nodes {
         [] => 0,
-        [node, rest @ ..] => u32::from(is_active(node.word)) + 2 * active_bits(rest),
+        [node, rest @ ..] => u32::from(is_active_word(node.word)) + 2 * active_bits(rest),
     }
 }
 
 /// The nodes that left, likewise.
 pub fn left_bits(nodes: &[NodeShown]) -> u32
     requires { length nodes.now ≤ 32 }
-    ensures value { result ≡ bits_where has_left nodes.now }
+    ensures value { result ≡ bits_where is_leaving_word nodes.now }
     ensures few { result < 2 ^ length nodes.now }
 {
     match nodes {
         [] => 0,
-        [node, rest @ ..] => u32::from(has_left(node.word)) + 2 * left_bits(rest),
+        [node, rest @ ..] => u32::from(is_leaving_word(node.word)) + 2 * left_bits(rest),
     }
 }
 
@@ -169,7 +169,7 @@ pub fn clock_range(nodes: &[NodeShown]) -> Option<ClockRange>
         [] => None,
         [node, rest @ ..] => {
             let others = clock_range(rest);
-            if is_active(node.word) {
+            if is_active_word(node.word) {
                 Some(widened(node.offset, others))
             } else {
                 others

@@ -1,7 +1,7 @@
 //! The lines of a trace beside those of its slots, without their line feeds.
 ghost use Rattle.std.specs.Prelude.{◌≡◌, ◌+◌, ◌-◌, ◌≤◌, ◌++◌, decimal, length, take};
 ghost use Rattle.line_reader.specs.TraceLines.{keep_text, back_text};
-ghost use Rattle.shown_slot.specs.Trace.{head_text};
+ghost use Rattle.shown_slot.specs.Trace.{header_text};
 
 use line_text::{back_line, keep_line};
 use ttp_base::Line;
@@ -21,8 +21,8 @@ fn put_field(line: &mut Line, label: &str, number: u32)
 
 /// The first line of a trace.
 #[tactic(auto, using(ttp_base::proofs::Room::room, crate::proofs::Texts::six_digits))]
-pub fn head_text(head: &Head) -> Line
-    ensures text { result ≡ head_text head.now }
+pub fn header_text(head: &Head) -> Line
+    ensures text { result ≡ header_text head.now }
     ensures short { length result ≤ 140 }
 {
     let mut line = Line::new();

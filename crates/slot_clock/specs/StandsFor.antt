@@ -5,7 +5,7 @@ use Rattle.ttp_world.specs.Diary.{Place, next_place}
 use Rattle.slot_clock.specs.PlaceInCycle.{PlaceInCycle}
 
 -- it is at this place of the list's cycle
-pub record StandsFor (clock : PlaceInCycle) (list : Medl) (there : Place) : Type 0 where
+pub record ClockStandsFor (clock : PlaceInCycle) (list : Medl) (there : Place) : Type 0 where
   pub place : clock.place ≡ there
   pub rounds : clock.rounds ≡ list.rounds
   pub slots : clock.slots ≡ length list.slots
@@ -13,4 +13,4 @@ pub record StandsFor (clock : PlaceInCycle) (list : Medl) (there : Place) : Type
 -- whatever place the one was at, the other is at the next one
 abbrev pub StandsAtNext : PlaceInCycle → PlaceInCycle → Type 0
 StandsAtNext old new =
-    (list : Medl) (place : Place) → StandsFor old list place → StandsFor new list (next_place list place)
+    (list : Medl) (place : Place) → ClockStandsFor old list place → ClockStandsFor new list (next_place list place)

@@ -2,7 +2,7 @@
 ghost use Rattle.std.specs.Prelude.{◌≡◌, ◌+◌, ◌<◌, ◌↔◌, IsTrue, length};
 ghost use Rattle.ttp_world.specs.Diary.{joined_place, cstate_at};
 ghost use Rattle.ttp_world.specs.Medl.{IsValid};
-ghost use Rattle.slot_clock.specs.StandsFor.{StandsFor, StandsAtNext};
+ghost use Rattle.slot_clock.specs.StandsFor.{ClockStandsFor, StandsAtNext};
 
 use std::marker::Model;
 use ttp_base::NodeSet;
@@ -51,7 +51,7 @@ impl SlotClock {
         requires valid { IsValid list.now }
         requires round { cstate.now.round < list.now.rounds }
         requires slot { cstate.now.slot < length list.now.slots }
-        ensures { StandsFor result list.now (joined_place cstate.now) }
+        ensures { ClockStandsFor result list.now (joined_place cstate.now) }
     {
         SlotClock {
             time: cstate.time,

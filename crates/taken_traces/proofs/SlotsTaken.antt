@@ -29,7 +29,7 @@ use Rattle.whole_trace.specs.declared.due.Outline.{Outline}
 use Rattle.whole_trace.specs.declared.shown.Head.{Head}
 use Rattle.whole_trace.specs.declared.shown.HostLine.{HostLine}
 use Rattle.whole_trace.specs.Due.{after_node, due_after, is_node_line, next_node}
-use Rattle.whole_trace.specs.Whole.{SlotLines, SlotsFrom, no_lines, with_node}
+use Rattle.whole_trace.specs.Whole.{SlotLines, SlotsFrom, no_lines, with_shown_node}
 use Rattle.taken_traces.specs.Taken.{IsOfBytes, head_of_run, node_listed, read_listed, slot_listed, slots_listed}
 use Rattle.taken_traces.specs.Taken.{writes_listed}
 use Rattle.taken_traces.proofs.HostLines.{IsReadRead, IsWriteRead, host_writes-few, reads-read, writes-few, writes-read}
@@ -120,8 +120,8 @@ module _ (list : Medl) (script : Script) (row : List Entry) (before : History) (
       let here = one_line (due.Node head slot k) (seat (k + 1)) _ (node_line_of list script row before k)
       (map (node_line_of list script row before) (range_with_len (k + 1) many) ++ rest) o more first.value
       (ap (λ (b : Bool). cond b (Some (next_node head slot k)) None) first.due) others in
-      let begun : SlotsFrom = record { front = no_lines; slots = with_node shown front ∷ slots } in
-      let going : SlotsFrom = record { front = with_node shown front; slots = slots } in
+      let begun : SlotsFrom = record { front = no_lines; slots = with_shown_node shown front ∷ slots } in
+      let going : SlotsFrom = record { front = with_shown_node shown front; slots = slots } in
       subst (λ (b : Bool). EndsWith (cond b (due.Node head slot k) (due.Host head slot false)) lines o going)
       (sym inside)
       (subst (λ (b : Bool). EndsWith (due.Node head slot k) lines o (cond b begun going)) later here)

@@ -34,7 +34,7 @@ use Rattle.ttp_world.proofs.HostMessages.{filter_map-each}
 use Rattle.ttp_world.proofs.LegalReads.{reverse-all}
 use Rattle.ttp_world.proofs.Lists.{nodes-most}
 use Rattle.line_reader.specs.TraceLines.{FitsBack, FitsKeep}
-use Rattle.whole_trace.specs.Due.{is_back, is_keep, is_within}
+use Rattle.whole_trace.specs.Due.{is_back, is_keep, lies_within}
 
 -- a number that is named, if one is
 abbrev IsIn : ℕ → Option ℕ → Type 0
@@ -138,12 +138,12 @@ pub record BackFits (b : Back) : Type 0 where
   pub fits : FitsBack b
   pub is : IsTrue (is_back b)
 
-unless-fits : (rule : ℕ) (o : Option ℕ) (others : Keep) → rule < 256 → IsTrue (is_within 1 7 rule)
+unless-fits : (rule : ℕ) (o : Option ℕ) (others : Keep) → rule < 256 → IsTrue (lies_within 1 7 rule)
     → IsIn five_digits o → KeepFits others → KeepFits (unless rule o others)
 unless-fits rule None others small within is fits = fits
 unless-fits rule (Some slot) others small within is fits = record { fits = (small, is); is = within }
 
-unless_back-fits : (rule : ℕ) (o : Option ℕ) (others : Back) → rule < 256 → IsTrue (is_within 1 8 rule)
+unless_back-fits : (rule : ℕ) (o : Option ℕ) (others : Back) → rule < 256 → IsTrue (lies_within 1 8 rule)
     → IsIn five_digits o → BackFits others → BackFits (unless_back rule o others)
 unless_back-fits rule None others small within is fits = fits
 unless_back-fits rule (Some slot) others small within is fits = record { fits = (small, is); is = within }

@@ -24,7 +24,7 @@ use Rattle.line_reader.specs.WorldLines.{head_of}
 use Rattle.line_reader.proofs.LineValues.{back-value, keep-value}
 use Rattle.whole_trace.specs.declared.due.Due.TheVariants as due
 use Rattle.whole_trace.specs.declared.due.Outline.{Outline}
-use Rattle.whole_trace.specs.Due.{is_head, is_within}
+use Rattle.whole_trace.specs.Due.{is_head, lies_within}
 use Rattle.whole_trace.specs.Whole.{SlotsFrom, WholeTrace, judged, no_slots, value_of, whole_in, whole_or_line}
 use Rattle.whole_trace.proofs.Pieces.{value-again}
 use Rattle.taken_traces.specs.Taken.{IsOfBytes, back_if, head_of_run, slot_listed, slots_listed}
@@ -35,16 +35,16 @@ use Rattle.taken_traces.proofs.TestBounds.{keeps-fits, returns-fits, valid-slots
 
 -- The first line.
 
-within-is : (low high n : ℕ) → low ≤ n → n ≤ high → is_within low high n ≡ true
+within-is : (low high n : ℕ) → low ≤ n → n ≤ high → lies_within low high n ≡ true
 within-is low high n above few = λ i. le-leb low n above i && le-leb n high few i
 
 versions : (v n : ℕ) → 1 ≤ v → v ≤ 2 → 4 ≤ n → n ≤ 8 * member_bytes (v == 2)
-    → (((v == 1) && is_within 4 16 n) || ((v == 2) && is_within 4 24 n)) ≡ true
+    → (((v == 1) && lies_within 4 16 n) || ((v == 2) && lies_within 4 24 n)) ≡ true
 versions zero n some few nodes most = absurd (omega (arith, some))
 versions (suc zero) n some few nodes most = λ i.
-    ((1 == 1) && within-is 4 16 n nodes most i) || ((1 == 2) && is_within 4 24 n)
+    ((1 == 1) && within-is 4 16 n nodes most i) || ((1 == 2) && lies_within 4 24 n)
 versions (suc (suc zero)) n some few nodes most = λ i.
-    ((2 == 1) && is_within 4 16 n) || ((2 == 2) && within-is 4 24 n nodes most i)
+    ((2 == 1) && lies_within 4 16 n) || ((2 == 2) && within-is 4 24 n nodes most i)
 versions (suc (suc (suc v))) n some few nodes most = absurd (omega (arith, few))
 
 head-is : (list : Medl) (script : Script) → IsValid list → IsValidScript list script

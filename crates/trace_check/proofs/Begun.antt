@@ -1,13 +1,13 @@
 -- A text that begins with some lines, line by line.
 use Rattle.trace_check.proofs.Words.{◌≡◌, ℕ, zero, suc, ◌+◌, ◌-◌, ◌<◌, List, [], ◌∷◌, ◌++◌, Some, None, ap, sym, ◌∙◌}
 use Rattle.trace_check.proofs.Words.{arith, append_assoc, map, concat, concat-append, map-range_with_len_more, below}
-use Rattle.trace_check.proofs.Words.{Lines, after_label, Begins, Departs}
+use Rattle.trace_check.proofs.Words.{Lines, after_label, BeginsWith, Departs}
 use Rattle.std.proofs.lemmas.List.{append-nil}
 use Rattle.trace_check.proofs.Labels.{no_line}
 use Rattle.line_text.proofs.LabelTexts.{label-takes as behind-line}
 
-pub begins-more : (text rest line more : List ℕ) (lines : Lines) → Begins text lines rest → rest ≡ line ++ more
-    → Begins text (lines ++ line ∷ []) more
+pub begins-more : (text rest line more : List ℕ) (lines : Lines) → BeginsWith text lines rest → rest ≡ line ++ more
+    → BeginsWith text (lines ++ line ∷ []) more
 begins-more text rest line more lines begins is =
     begins ∙ ap (λ (bytes : List ℕ). concat lines ++ bytes) is
     ∙ sym (append_assoc (concat lines) line more)
@@ -15,13 +15,13 @@ begins-more text rest line more lines begins is =
     (sym (concat-append lines (line ∷ []) ∙ ap (λ (bytes : List ℕ). concat lines ++ bytes) (append-nil line)))
 
 -- by what is behind a line that was looked for
-pub begins-behind : (text rest line more : List ℕ) (lines : Lines) → Begins text lines rest
-    → after_label line rest ≡ Some more → Begins text (lines ++ line ∷ []) more
+pub begins-behind : (text rest line more : List ℕ) (lines : Lines) → BeginsWith text lines rest
+    → after_label line rest ≡ Some more → BeginsWith text (lines ++ line ∷ []) more
 begins-behind text rest line more lines begins is =
     begins-more text rest line more lines begins (behind-line line rest more is)
 
 pub departs-behind : (text rest due : List ℕ) (lines right others : Lines) → lines ≡ right ++ due ∷ others
-    → Begins text right rest → after_label due rest ≡ None → Departs text lines rest
+    → BeginsWith text right rest → after_label due rest ≡ None → Departs text lines rest
 departs-behind text rest due lines right others parts begins none = record {
   right = right;
   due = due;

@@ -3,8 +3,8 @@ use Rattle.trace_check.proofs.Words.{◌≡◌, ℕ, ◌+◌, ◌<◌, Bool, con
 use Rattle.trace_check.proofs.Words.{sym, ◌∙◌, subst, arith, length-append, is_some, eq-eqb, ne_eqb, Medl, Chosen}
 use Rattle.trace_check.proofs.Words.{Delivered, Entry, NodeState, Script, History, IsValid, delivered_of, in_messages}
 use Rattle.trace_check.proofs.Words.{new_messages, newest_number, status_words, state_of, node_past, row_in, slot_after}
-use Rattle.trace_check.proofs.Words.{delivered_of-row_in, in_messages-some, IsLeft, ShowsNode, outcome_at, PlantView}
-use Rattle.trace_check.proofs.Words.{Incoming, HasEnded, IsPast, row_after}
+use Rattle.trace_check.proofs.Words.{delivered_of-row_in, in_messages-some, IsOutcomeOf, ShowsNode, outcome_at}
+use Rattle.trace_check.proofs.Words.{PlantView, Incoming, HasEnded, IsPast, row_after}
 use Rattle.std.proofs.lemmas.List.{append-nil}
 use Rattle.line_text.specs.LineParts.{HasDigits}
 use Rattle.line_text.proofs.MemberDigits.{state_of-digits}
@@ -30,9 +30,9 @@ module _ (plant : PlantView) (incoming : Incoming) (list : Medl) (script : Scrip
       subst (HasDigits list) (sym (ended-state k state shows))
       (state_of-digits list script (row_after list script history chosen ∷ history) k valid)
 
-  ended-left : (k : ℕ) → k < length list.slots → IsLeft list script history chosen k (outcome_at plant k)
+  ended-left : (k : ℕ) → k < length list.slots → IsOutcomeOf list script history chosen k (outcome_at plant k)
   ended-left k node =
-      subst (λ (l : Medl). IsLeft l script history chosen k (outcome_at plant k)) ended.same
+      subst (λ (l : Medl). IsOutcomeOf l script history chosen k (outcome_at plant k)) ended.same
       (ended.step.left k (subst (λ (l : Medl). k < length l.slots) (sym ended.same) node))
 
   pub ended-delivered : (k : ℕ) → k < length list.slots

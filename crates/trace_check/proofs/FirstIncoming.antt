@@ -3,7 +3,7 @@ use Rattle.trace_check.proofs.Words.{◌≡◌, ℕ, zero, suc, ◌+◌, ◌*◌
 use Rattle.trace_check.proofs.Words.{inr, ap, sym, ◌∙◌, arith, length-append, slice_get, get_or-append, mul_comm}
 use Rattle.trace_check.proofs.Words.{cases_eq, get_or-append-add, length-replicate, get_or-map-range_with_len}
 use Rattle.trace_check.proofs.Words.{length-map-range_with_len, mul-add-lt, same_Some, slice_get-get_or, Medl, Chosen}
-use Rattle.trace_check.proofs.Words.{StatusWords, Script, nothing_chosen, Incoming, IsNewest, TellsRings}
+use Rattle.trace_check.proofs.Words.{StatusWords, Script, nothing_chosen, Incoming, IsNewestMessage, TellsRings}
 use Rattle.trace_check.proofs.Words.{first_payloads, zeros_chosen, zeros_of_all}
 use Rattle.std.proofs.Math.Nat.{mul-suc}
 use Rattle.std.proofs.lemmas.List.{get_or-replicate}
@@ -45,7 +45,7 @@ module _ (list : Medl) where
       ]
 
 newest-zeros : (list : Medl) (script : Script) (k p : ℕ) (message : Chosen) → message ≡ zeros_chosen list p
-    → IsNewest message list script [] k p
+    → IsNewestMessage message list script [] k p
 newest-zeros list script k p message is = record {
   number = ap (λ (c : Chosen). c.number) is;
   payload = ap (λ (c : Chosen). c.payload) is;

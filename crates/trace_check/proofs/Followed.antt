@@ -1,7 +1,7 @@
 -- A follower after some slots whose lines a text has.
 use Rattle.trace_check.proofs.Words.{◌≡◌, ℕ, ◌+◌, List, [], ◌∷◌, ◌++◌, length, Some, refl, ap, sym, ◌∙◌, arith, Medl}
-use Rattle.trace_check.proofs.Words.{Script, IsLegal, trace_head, Numbers, legal-none, after_label, Follower, Begins}
-use Rattle.trace_check.proofs.Words.{StandsFor, StandsAt, GoesOnTo}
+use Rattle.trace_check.proofs.Words.{Script, IsLegal, trace_head, Numbers, legal-none, after_label, Follower}
+use Rattle.trace_check.proofs.Words.{BeginsWith, FollowerStandsFor, StandsAt, GoesOnTo}
 use Rattle.std.proofs.Common.{append-nil}
 use Rattle.trace_check.proofs.Wholes.{lines_so_far, goes_on-begins}
 use Rattle.line_text.proofs.LabelTexts.{label-takes as behind-line}
@@ -10,8 +10,8 @@ pub record HasFollowed (f : Follower) (list : Medl) (script : Script) (slot : �
   pub numbers : Numbers
   pub count : length numbers ≡ slot
   pub legal : IsLegal list script numbers
-  pub stands : StandsFor f list script numbers
-  pub begins : Begins text (lines_so_far list script numbers) rest
+  pub stands : FollowerStandsFor f list script numbers
+  pub begins : BeginsWith text (lines_so_far list script numbers) rest
 
 pub followed-at : (f : Follower) (list : Medl) (script : Script) (slot : ℕ) (text rest : List ℕ)
     → HasFollowed f list script slot text rest → StandsAt f list script slot
@@ -20,7 +20,7 @@ followed-at f list script slot text rest has =
 
 -- behind the first line
 pub followed-first : (f : Follower) (list : Medl) (script : Script) (text rest : List ℕ)
-    → StandsFor f list script [] → after_label (trace_head list script) text ≡ Some rest
+    → FollowerStandsFor f list script [] → after_label (trace_head list script) text ≡ Some rest
     → HasFollowed f list script 0 text rest
 followed-first f list script text rest stands is = record {
   numbers = [];

@@ -1,7 +1,7 @@
 -- The lines of the tests at the front of a text.
 use Rattle.trace_check.proofs.Words.{◌≡◌, ◌∙◌, Bool, true, false, List, ℕ, [], ◌∷◌, ◌++◌, Some, None, refl, ap, sym}
 use Rattle.trace_check.proofs.Words.{append_assoc, concat, Lines, Medl, Script, has_arm, back_lines_if, test_lines}
-use Rattle.trace_check.proofs.Words.{after_label, Begins, Departs}
+use Rattle.trace_check.proofs.Words.{after_label, BeginsWith, Departs}
 use Rattle.std.proofs.Common.{append-nil}
 use Rattle.ttp_world.specs.declared.keep.Back.{Back}
 use Rattle.ttp_world.specs.declared.keep.Keep.{Keep}
@@ -33,7 +33,7 @@ module _ (list : Medl) (script : Script) (keep : Keep) (kept : keep ≡ keeps li
 
   -- and no more is due
   pub keep-alone : (text rest : List ℕ) → after_label (keep_line keep) text ≡ Some rest → has_arm script ≡ false
-      → Begins text (test_lines list script) rest
+      → BeginsWith text (test_lines list script) rest
   keep-alone text rest is none =
       keep-begins text rest is
       ∙ ap (λ (line : List ℕ). line ++ rest) (sym (append-nil (keep_line (keeps list script))))
@@ -46,7 +46,7 @@ module _ (list : Medl) (script : Script) (keep : Keep) (kept : keep ≡ keeps li
 
     -- the line on armed nodes behind it
     pub both-begin : (text before rest : List ℕ) → after_label (keep_line keep) text ≡ Some before
-        → after_label (back_line back) before ≡ Some rest → Begins text (test_lines list script) rest
+        → after_label (back_line back) before ≡ Some rest → BeginsWith text (test_lines list script) rest
     both-begin text before rest is there =
         keep-begins text before is
         ∙ ap (λ (bytes : List ℕ). keep_line (keeps list script) ++ bytes)

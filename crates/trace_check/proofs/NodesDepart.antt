@@ -8,14 +8,14 @@ use Rattle.trace_check.proofs.Words.{Script, History, entry_of, is_legal_message
 use Rattle.trace_check.proofs.Words.{out_messages, state_of, IsValidScript, history_lines, test_lines, member_digits}
 use Rattle.trace_check.proofs.Words.{message_shown, node_line_of, read_lines, write_lines, Numbers, SlotNumbers}
 use Rattle.trace_check.proofs.Words.{node_past, world, few_messages, trace_lines-each, row_of_world, numeral_in}
-use Rattle.trace_check.proofs.Words.{message_digits, lines_of_slot, number_in, number_taken, oldest_number, AreLines}
-use Rattle.trace_check.proofs.Words.{lines_of-behind}
+use Rattle.trace_check.proofs.Words.{message_digits, lines_of_slot, number_by_text, number_taken, oldest_number}
+use Rattle.trace_check.proofs.Words.{AreLines, lines_of-behind}
 use Rattle.std.proofs.lemmas.List.{append-nil}
 use Rattle.ttp_world.specs.declared.node.Entry.TheVariants as entry
 use Rattle.ttp_world.specs.Trace.{number_or_dash}
 use Rattle.ttp_world.proofs.LineWords.{node_line-words}
 use Rattle.line_text.proofs.WrittenNumbers.{numeral-again}
-use Rattle.trace_check.specs.Outgoing.{number_named}
+use Rattle.trace_check.specs.Outgoing.{number_by_line}
 use Rattle.ttp_world.proofs.LineLists.{each-append as both_parts}
 
 -- The lines of a slot are lines.
@@ -64,7 +64,7 @@ shown_sent list script row history k i (entry.Left why peer) is = absurd (none-s
 
 pub line-names : (list : Medl) (script : Script) (row : List Entry) (history : History) (k i : ℕ)
     → message_of (entry_of row k) ≡ Some i → i < 10 ^ 6
-    → number_named (node_line_of list script row history k) ≡ Some i
+    → number_by_line (node_line_of list script row history k) ≡ Some i
 line-names list script row history k i is small =
     let past = node_past list script (row ∷ history) k in
     let state = state_of past in
@@ -89,10 +89,10 @@ legal-small list script slot k i valid valid_script within legal =
 
 -- so that number is taken where the text has the line
 pub taken-named : (list : Medl) (script : Script) (slot k i : ℕ) (text line : List ℕ)
-    → get_or (lines_of text) k [] ≡ line → number_named line ≡ Some i
-    → IsTrue (is_legal_message list script slot k (Some i)) → number_in list script slot text k ≡ i
+    → get_or (lines_of text) k [] ≡ line → number_by_line line ≡ Some i
+    → IsTrue (is_legal_message list script slot k (Some i)) → number_by_text list script slot text k ≡ i
 taken-named list script slot k i text line at named legal =
-    ap (number_taken list script slot k) (ap number_named at ∙ named)
+    ap (number_taken list script slot k) (ap number_by_line at ∙ named)
     ∙ ap (λ (b : Bool). if b then i else oldest_number list script slot k) legal
 
 -- the line of a text behind some lines

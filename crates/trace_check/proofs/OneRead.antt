@@ -5,8 +5,8 @@ use Rattle.trace_check.proofs.Words.{AllByRecursion, list_all, mul_comm, and_par
 use Rattle.trace_check.proofs.Words.{le-leb, leb-true, get_or-set_other, get_or-set_same, mul-add-lt, same_from_place}
 use Rattle.trace_check.proofs.Words.{none-some, HostRead, Medl, Chosen, Script, Source, History, ReadMessage}
 use Rattle.trace_check.proofs.Words.{is_not_older, newest_read, Incoming, KnowsReads, MayRead, ReadsNone, ReadsOne}
-use Rattle.trace_check.proofs.Words.{behind_new_read, behind_read, line_of_read, row_after, HasPlaces, IsRing, floor_of}
-use Rattle.trace_check.proofs.Words.{floor_place, newest_before}
+use Rattle.trace_check.proofs.Words.{behind_new_read, behind_read, line_of_read, row_after, HasPlaces, IsHostAndSource}
+use Rattle.trace_check.proofs.Words.{floor_of, floor_place, newest_before}
 use Rattle.std.proofs.Common.{◌↔◌, ◌||◌, not}
 use Rattle.ttp_world.specs.declared.script.Source.TheVariants as source
 use Rattle.ttp_world.specs.Legal.{is_same_ring, is_same_source}
@@ -26,13 +26,13 @@ unfolding offset
 place_is nodes host source.Status = omega arith
 place_is nodes host (source.Node p) = omega arith
 
-offset_within : (list : Medl) (host : ℕ) (from : Source) → IsRing list host from
+offset_within : (list : Medl) (host : ℕ) (from : Source) → IsHostAndSource list host from
     → offset from < length list.slots + 1
 unfolding offset
 offset_within list host source.Status ring = omega arith
 offset_within list host (source.Node p) ring = omega (arith, ring.1)
 
-host_within : (list : Medl) (host : ℕ) (from : Source) → IsRing list host from → host < length list.slots
+host_within : (list : Medl) (host : ℕ) (from : Source) → IsHostAndSource list host from → host < length list.slots
 host_within list host source.Status ring = ring
 host_within list host (source.Node p) ring = ring.0
 
@@ -44,7 +44,7 @@ same_offset (source.Node p) source.Status same = absurd (omega (arith, same))
 same_offset (source.Node p) (source.Node q) same = ap source.Node (omega (arith, same))
 
 pub floor_within : (incoming : Incoming) (list : Medl) (host : ℕ) (from : Source) → HasPlaces incoming list
-    → IsRing list host from → floor_place incoming.nodes host from < length incoming.floors.items
+    → IsHostAndSource list host from → floor_place incoming.nodes host from < length incoming.floors.items
 floor_within incoming list host from places ring =
     let n = length list.slots in
     subst (λ (m : ℕ). floor_place m host from < length incoming.floors.items) (sym places.nodes)
@@ -56,8 +56,10 @@ floor_within incoming list host from places ring =
       places.floors,
     ))
 
-floor_same : (list : Medl) (nodes : ℕ) (a b : HostRead) → nodes ≡ length list.slots → IsRing list a.host a.source
-    → IsRing list b.host b.source → floor_place nodes a.host a.source ≡ floor_place nodes b.host b.source → a ≡ b
+floor_same : (list : Medl) (nodes : ℕ) (a b : HostRead) → nodes ≡ length list.slots
+    → IsHostAndSource list a.host a.source
+    → IsHostAndSource list b.host b.source → floor_place nodes a.host a.source ≡ floor_place nodes b.host b.source
+    → a ≡ b
 floor_same list nodes a b is ring ring_too same =
     let within : offset a.source < nodes + 1 = omega (arith, offset_within list a.host a.source ring, is) in
     let within_too : offset b.source < nodes + 1 = omega (arith, offset_within list b.host b.source ring_too, is) in
@@ -110,7 +112,7 @@ up_to_newest most read number (e ∷ earlier) up all = (
 
 module _ (list : Medl) (script : Script) (history : History) (chosen : List Chosen) (earlier : List ReadMessage)
     (read : HostRead) (old : Incoming) (knows : KnowsReads old list script history chosen earlier)
-    (ring : IsRing list read.host read.source) where
+    (ring : IsHostAndSource list read.host read.source) where
   abbrev older : ℕ
   older = newest_before list script history read
 
@@ -224,11 +226,11 @@ module _ (list : Medl) (script : Script) (history : History) (chosen : List Chos
           ∙ ap (λ (fs : List ℕ). get_or fs (place other) 0) floors
           ∙ get_or-set_other old.floors.items (place read) (place other) (older + 1) 0 apart
 
-      same_floor : (other : HostRead) → IsRing list other.host other.source
+      same_floor : (other : HostRead) → IsHostAndSource list other.host other.source
           → floor_place old.nodes other.host other.source ≡ floor_place old.nodes read.host read.source → other ≡ read
       same_floor other ring_too same = floor_same list old.nodes other read places.nodes ring_too ring same
 
-      newer_than : (other : HostRead) → IsRing list other.host other.source
+      newer_than : (other : HostRead) → IsHostAndSource list other.host other.source
           → (floor_of new other.host other.source ≤ newest_before list script history other)
           ↔ AllByRecursion (λ r. r.read ≡ other → r.number ≤ newest_before list script history other)
           (record { read = read; number = newest_before list script history read + 1 } ∷ earlier)

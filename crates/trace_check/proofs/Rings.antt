@@ -5,8 +5,8 @@ use Rattle.trace_check.proofs.Words.{get_or-append_seam, le-ltb, lt-ltb, same_So
 use Rattle.trace_check.proofs.Words.{Entry, StatusWords, Script, Source, History, delivered_of, in_messages}
 use Rattle.trace_check.proofs.Words.{new_messages, newest_number, ring_messages, status_messages, in_messages-some}
 use Rattle.trace_check.proofs.Words.{outcome_at, PlantView, Incoming, HasEnded, behind_new_read, behind_read}
-use Rattle.trace_check.proofs.Words.{line_of_read, row_after, IsNewest, IsRing, TellsRings, newest_before}
-use Rattle.trace_check.proofs.Words.{newest_message, in_messages-few}
+use Rattle.trace_check.proofs.Words.{line_of_read, row_after, IsNewestMessage, IsHostAndSource, TellsRings}
+use Rattle.trace_check.proofs.Words.{newest_before, newest_message, in_messages-few}
 use Rattle.ttp_world.specs.declared.script.Source.TheVariants as source
 use Rattle.line_text.specs.HostLines.{message_line}
 use Rattle.trace_check.proofs.Ended.{delivered-number, delivered-own, ended-status}
@@ -20,15 +20,15 @@ newest-status list script history read slot is count =
 
 pub newest-told : (incoming : Incoming) (list : Medl) (script : Script) (history : History) (read : HostRead) (p : ℕ)
     (message : Chosen)
-    → read.source ≡ source.Node p → IsRing list read.host read.source → TellsRings incoming list script history
+    → read.source ≡ source.Node p → IsHostAndSource list read.host read.source → TellsRings incoming list script history
     → slice_get incoming.payloads.items (read.host * incoming.nodes + p) ≡ Some message
-    → IsNewest message list script history read.host p
+    → IsNewestMessage message list script history read.host p
 newest-told incoming list script history read p message is ring tells at =
-    let both = subst (IsRing list read.host) is ring in tells.payloads read.host p both.0 both.1 message at
+    let both = subst (IsHostAndSource list read.host) is ring in tells.payloads read.host p both.0 both.1 message at
 
 pub newest-payload : (incoming : Incoming) (list : Medl) (script : Script) (history : History) (read : HostRead)
     (p : ℕ) (message : Chosen)
-    → read.source ≡ source.Node p → IsRing list read.host read.source → TellsRings incoming list script history
+    → read.source ≡ source.Node p → IsHostAndSource list read.host read.source → TellsRings incoming list script history
     → slice_get incoming.payloads.items (read.host * incoming.nodes + p) ≡ Some message
     → message.number ≡ newest_before list script history read
 newest-payload incoming list script history read p message is ring tells at =
@@ -70,14 +70,14 @@ module _ (list : Medl) (script : Script) (history : History) (chosen : List Chos
       (get_or (ring_messages list script after read.host f) at [])) (sym source_is)
 
   -- the message of a status, and of a sender, from before the slot
-  pub older_status : (incoming : Incoming) (words : List ℕ) → IsRing list read.host read.source
+  pub older_status : (incoming : Incoming) (words : List ℕ) → IsHostAndSource list read.host read.source
       → read.source ≡ source.Status → TellsRings incoming list script history
       → slice_get incoming.statuses.items read.host ≡ Some (record { words = words })
       → words
       ≡ get_or (ring_messages list script (row_after list script history chosen ∷ history) read.host source.Status)
       (newest_before list script history read) []
   older_status incoming words ring is tells at =
-      let node = subst (IsRing list read.host) is ring in
+      let node = subst (IsHostAndSource list read.host) is ring in
       let newest = newest_message (ring_messages list script history read.host source.Status) in
       ap (λ (s : StatusWords). s.words)
       (same_Some (record { words = words }) (record { words = newest }) (sym at ∙ tells.statuses read.host node))
@@ -86,7 +86,7 @@ module _ (list : Medl) (script : Script) (history : History) (chosen : List Chos
       (ring_messages list script (row_after list script history chosen ∷ history) read.host source.Status)
       (newest_number (ring_messages list script history read.host f)) []) (sym is)
 
-  pub older_payload : (incoming : Incoming) (p : ℕ) (message : Chosen) → IsRing list read.host read.source
+  pub older_payload : (incoming : Incoming) (p : ℕ) (message : Chosen) → IsHostAndSource list read.host read.source
       → read.source ≡ source.Node p → TellsRings incoming list script history
       → slice_get incoming.payloads.items (read.host * incoming.nodes + p) ≡ Some message
       → message.payload
@@ -134,12 +134,12 @@ module _ (list : Medl) (script : Script) (history : History) (chosen : List Chos
       ∙ ap (λ (f : Source). newest_number (ring_messages list script history read.host f) + 1) (sym is)
 
   pub newer_status : (plant : PlantView) (incoming : Incoming) → read.source ≡ source.Status
-      → IsRing list read.host read.source → HasEnded plant incoming list script history chosen
+      → IsHostAndSource list read.host read.source → HasEnded plant incoming list script history chosen
       → (outcome_at plant read.host).status.words
       ≡ get_or (ring_messages list script (row_after list script history chosen ∷ history) read.host source.Status)
       (newest_before list script history read + 1) []
   newer_status plant incoming is ring ended =
-      let node = subst (IsRing list read.host) is ring in
+      let node = subst (IsHostAndSource list read.host) is ring in
       ended-status plant incoming list script history chosen ended read.host node
       ∙ sym (newer_at (status_messages list script history read.host) _
       (omega (arith, status_messages-count list script history read.host)))

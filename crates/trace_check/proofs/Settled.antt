@@ -5,8 +5,8 @@ use Rattle.trace_check.proofs.Words.{length-append, is_some, nat_lt, slice_get, 
 use Rattle.trace_check.proofs.Words.{cases_order, le-ltb, lt-ltb, mul-add-lt, same_from_place, same_Some}
 use Rattle.trace_check.proofs.Words.{slice_get-get_or, Medl, Chosen, Delivered, Entry, StatusWords, Script, History}
 use Rattle.trace_check.proofs.Words.{delivered_of, in_messages, newest_number, ring_messages, status_messages}
-use Rattle.trace_check.proofs.Words.{status_words, nothing_chosen, node_past, Incoming, HasPlaces, IsNewest, TellsRings}
-use Rattle.trace_check.proofs.Words.{newest_message}
+use Rattle.trace_check.proofs.Words.{status_words, nothing_chosen, node_past, Incoming, HasPlaces, IsNewestMessage}
+use Rattle.trace_check.proofs.Words.{TellsRings, newest_message}
 use Rattle.ttp_world.specs.declared.script.Source.TheVariants as source
 use Rattle.trace_check.proofs.Ended.{delivered-none, delivered-number, delivered-other, delivered-own}
 use Rattle.ttp_world.proofs.ListFacts.{slice_get-set_same as set_same}
@@ -31,7 +31,7 @@ module _ (list : Medl) (script : Script) (row : List Entry) (history : History) 
   pub record TellsPayloads (incoming : Incoming) (nodes : ℕ) : Type 0 where
     pub payloads : (k p : ℕ) → k < length list.slots → p < length list.slots → (message : Chosen)
         → slice_get incoming.payloads.items (k * incoming.nodes + p) ≡ Some message
-        → IsNewest message list script (if nat_lt k nodes then row ∷ history else history) k p
+        → IsNewestMessage message list script (if nat_lt k nodes then row ∷ history else history) k p
 
   pub record TellsStatuses (incoming : Incoming) (nodes : ℕ) : Type 0 where
     pub statuses : (k : ℕ) → k < length list.slots
@@ -68,7 +68,7 @@ module _ (list : Medl) (script : Script) (row : List Entry) (history : History) 
   none-settled incoming tells = (
     record {
       payloads = λ k p node sender message at.
-          subst (λ (h : History). IsNewest message list script h k p) (sym (before_it 0 k (omega arith)))
+          subst (λ (h : History). IsNewestMessage message list script h k p) (sym (before_it 0 k (omega arith)))
           (tells.payloads k p node sender message at);
     },
     record {
@@ -84,7 +84,7 @@ module _ (list : Medl) (script : Script) (row : List Entry) (history : History) 
   all-settled incoming places payloads statuses = record {
     places = places;
     payloads = λ k p node sender message at.
-        subst (λ (h : History). IsNewest message list script h k p) (behind_it (length list.slots) k node)
+        subst (λ (h : History). IsNewestMessage message list script h k p) (behind_it (length list.slots) k node)
         (payloads.payloads k p node sender message at);
     statuses = λ k node.
         statuses.statuses k node
@@ -93,8 +93,9 @@ module _ (list : Medl) (script : Script) (row : List Entry) (history : History) 
   }
 
   same_newest : (one other : History) (k p : ℕ) (message : Chosen)
-      → in_messages list script one k p ≡ in_messages list script other k p → IsNewest message list script other k p
-      → IsNewest message list script one k p
+      → in_messages list script one k p ≡ in_messages list script other k p
+      → IsNewestMessage message list script other k p
+      → IsNewestMessage message list script one k p
   same_newest one other k p message same is = record {
     number = is.number ∙ ap newest_number (sym same);
     payload = is.payload ∙ ap newest_message (sym same);
@@ -104,9 +105,9 @@ module _ (list : Medl) (script : Script) (row : List Entry) (history : History) 
   pub unsettled-number : (incoming : Incoming) (node p : ℕ) (message : Chosen) → TellsPayloads incoming node
       → node < length list.slots → p < length list.slots
       → slice_get incoming.payloads.items (node * incoming.nodes + p) ≡ Some message
-      → IsNewest message list script history node p
+      → IsNewestMessage message list script history node p
   unsettled-number incoming node p message tells within sender at =
-      subst (λ (h : History). IsNewest message list script h node p) (before_it node node (omega arith))
+      subst (λ (h : History). IsNewestMessage message list script h node p) (before_it node node (omega arith))
       (tells.payloads node p within sender message at)
 
   module _ (incoming : Incoming) (node : ℕ) (places : HasPlaces incoming list) (tells : TellsPayloads incoming node)
@@ -115,18 +116,19 @@ module _ (list : Medl) (script : Script) (row : List Entry) (history : History) 
     pub settled-none : delivered_of list script history row node ≡ None → TellsPayloads incoming (node + 1)
     settled-none none = record {
       payloads = λ k p there sender message at.
-          elim (cases_eq k node) as (λ _. IsNewest message list script
+          elim (cases_eq k node) as (λ _. IsNewestMessage message list script
           (if nat_lt k (node + 1) then row ∷ history else history) k p) [
             | inl own ↦
-                subst (λ (h : History). IsNewest message list script h k p)
+                subst (λ (h : History). IsNewestMessage message list script h k p)
                 (sym (behind_it (node + 1) k (omega (arith, own))))
                 (same_newest (row ∷ history) history k p message
                 (delivered-none list script row history k p
                 (ap (delivered_of list script history row) own ∙ none))
-                (subst (λ (h : History). IsNewest message list script h k p) (before_it node k (omega (arith, own)))
+                (subst (λ (h : History). IsNewestMessage message list script h k p)
+                (before_it node k (omega (arith, own)))
                 (tells.payloads k p there sender message at)))
             | inr other ↦
-                subst (λ (h : History). IsNewest message list script h k p) (beside_it node k other)
+                subst (λ (h : History). IsNewestMessage message list script h k p) (beside_it node k other)
                 (tells.payloads k p there sender message at)
           ];
     }
@@ -158,7 +160,7 @@ module _ (list : Medl) (script : Script) (row : List Entry) (history : History) 
           payloads = λ k p there sender message at.
               let found : slice_get (set items place added) (k * incoming.nodes + p) ≡ Some message =
               at_new k p message at in
-              elim (cases_eq (k * incoming.nodes + p) place) as (λ _. IsNewest message list script
+              elim (cases_eq (k * incoming.nodes + p) place) as (λ _. IsNewestMessage message list script
               (if nat_lt k (node + 1) then row ∷ history else history) k p) [
                 | inl here ↦
                     let both = same_from_place k p node d.sender incoming.nodes (omega (arith, sender, places.nodes))
@@ -169,12 +171,12 @@ module _ (list : Medl) (script : Script) (row : List Entry) (history : History) 
                     ∙ ap (slice_get (set items place added)) (sym here) ∙ found) in
                     let was = unsettled-number incoming node d.sender old tells within from old_at in
                     let own = delivered-own list script row history node d d.sender is refl in
-                    subst (λ (m : Chosen). IsNewest m list script
+                    subst (λ (m : Chosen). IsNewestMessage m list script
                     (if nat_lt k (node + 1) then row ∷ history else history) k p) same
-                    (subst (λ (h : History). IsNewest added list script h k p)
+                    (subst (λ (h : History). IsNewestMessage added list script h k p)
                     (sym (behind_it (node + 1) k (omega (arith, both.0))))
-                    (subst (λ (j : ℕ). IsNewest added list script (row ∷ history) j p) (sym both.0)
-                    (subst (λ (q : ℕ). IsNewest added list script (row ∷ history) node q) (sym both.1)
+                    (subst (λ (j : ℕ). IsNewestMessage added list script (row ∷ history) j p) (sym both.0)
+                    (subst (λ (q : ℕ). IsNewestMessage added list script (row ∷ history) node q) (sym both.1)
                     (record {
                       number =
                           ap (λ (i : ℕ). i + 1) was.number
@@ -186,20 +188,20 @@ module _ (list : Medl) (script : Script) (row : List Entry) (history : History) 
                 | inr apart ↦
                     let kept : slice_get items (k * incoming.nodes + p) ≡ Some message =
                     sym (set_other items place (k * incoming.nodes + p) added apart) ∙ found in
-                    elim (cases_eq k node) as (λ _. IsNewest message list script
+                    elim (cases_eq k node) as (λ _. IsNewestMessage message list script
                     (if nat_lt k (node + 1) then row ∷ history else history) k p) [
                       | inl own ↦
-                          subst (λ (h : History). IsNewest message list script h k p)
+                          subst (λ (h : History). IsNewestMessage message list script h k p)
                           (sym (behind_it (node + 1) k (omega (arith, own))))
                           (same_newest (row ∷ history) history k p message
                           (delivered-other list script row history k d p
                           (ap (delivered_of list script history row) own ∙ is)
                           (λ same. apart (λ i. own i * incoming.nodes + sym same i)))
-                          (subst (λ (h : History). IsNewest message list script h k p)
+                          (subst (λ (h : History). IsNewestMessage message list script h k p)
                           (before_it node k (omega (arith, own)))
                           (tells.payloads k p there sender message kept)))
                       | inr other ↦
-                          subst (λ (h : History). IsNewest message list script h k p) (beside_it node k other)
+                          subst (λ (h : History). IsNewestMessage message list script h k p) (beside_it node k other)
                           (tells.payloads k p there sender message kept)
                     ]
               ];

@@ -3,7 +3,7 @@ use Rattle.trace_check.proofs.Words.{◌≡◌, ℕ, ◌+◌, ◌*◌, ◌<◌, 
 use Rattle.trace_check.proofs.Words.{ap, sym, ◌∙◌, subst, arith, map, option_map, slice_get, mul-add-lt, below, Lines}
 use Rattle.trace_check.proofs.Words.{Medl, Chosen, Delivered, NodeState, Script, History, delivered_of, message_shown}
 use Rattle.trace_check.proofs.Words.{node_line_of, number_delivered, ShowsNode, outcome_at, PlantView, after_label}
-use Rattle.trace_check.proofs.Words.{Incoming, Begins, Departs, HasEnded, IsPast, node_lines, row_after, HasPlaces}
+use Rattle.trace_check.proofs.Words.{Incoming, BeginsWith, Departs, HasEnded, IsPast, node_lines, row_after, HasPlaces}
 use Rattle.trace_check.proofs.Words.{in_messages-few}
 use Rattle.line_text.specs.LineParts.{listed_line}
 use Rattle.trace_check.proofs.Begun.{begins-behind, departs-behind, next-below, split-below}
@@ -72,7 +72,8 @@ pub record HasNodesSoFar (plant : PlantView) (incoming : Incoming) (list : Medl)
   pub same : lines ≡ slot
   pub begins : (script : Script) (history : History) (chosen : List Chosen)
       → HasEnded plant incoming list script history chosen
-      → Begins text (map (node_line_of list script (row_after list script history chosen) history) (below node)) rest
+      → BeginsWith text (map (node_line_of list script (row_after list script history chosen) history)
+      (below node)) rest
 
 module _ (plant : PlantView) (incoming : Incoming) (list : Medl) (slot lines : ℕ) (text rest : List ℕ) (k : ℕ)
     (so_far : HasNodesSoFar plant incoming list slot lines text rest k) (past : IsPast plant incoming list slot)
@@ -101,7 +102,7 @@ module _ (plant : PlantView) (incoming : Incoming) (list : Medl) (slot lines : �
     same = kept ∙ so_far.same;
     begins = λ script history chosen ended.
         let f = node_line_of list script (row_after list script history chosen) history in
-        subst (λ (ls : Lines). Begins text ls more) (sym (next-below f k))
+        subst (λ (ls : Lines). BeginsWith text ls more) (sym (next-below f k))
         (begins-behind text rest (f k) more (map f (below k)) (so_far.begins script history chosen ended)
         (ap (λ (line : List ℕ). after_label line rest) (sym (line-is script history chosen ended)) ∙ behind));
   }

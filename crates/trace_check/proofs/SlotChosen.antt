@@ -8,7 +8,7 @@ use Rattle.trace_check.proofs.Words.{is_legal_message, is_legal_read, never_fall
 use Rattle.trace_check.proofs.Words.{newest_number, message_chosen, out_messages, IsValidScript, reads_in, read_line}
 use Rattle.trace_check.proofs.Words.{read_lines, slot_lines, write_lines, Numbers, SlotNumbers, chosen_of, is_loaded}
 use Rattle.trace_check.proofs.Words.{slot_after, world, delivered_of-row_in, message_of-row_in, length-world}
-use Rattle.trace_check.proofs.Words.{row_of_world, AreChosen, IsLeft, outcome_at, PlantView, Incoming, Begins}
+use Rattle.trace_check.proofs.Words.{row_of_world, AreChosen, IsOutcomeOf, outcome_at, PlantView, Incoming, BeginsWith}
 use Rattle.trace_check.proofs.Words.{DepartsAfter, HasEnded, MayReadAll, ReadsOn, lines_of_slot, node_lines, row_after}
 use Rattle.trace_check.proofs.Words.{TellsRings, number_taken, oldest_number}
 use Rattle.std.proofs.Common.{append-nil}
@@ -25,8 +25,8 @@ use Rattle.controller.specs.PlantStands.{IsStep}
 use Rattle.ttp_world.proofs.LegalSlots.{legal-after}
 use Rattle.ttp_world.proofs.LegalRuns.{are_same_numbers-refl as same_refl}
 
-pub begins-append : (text one rest : List ℕ) (lines more : Lines) → Begins text lines one → Begins one more rest
-    → Begins text (lines ++ more) rest
+pub begins-append : (text one rest : List ℕ) (lines more : Lines) → BeginsWith text lines one → BeginsWith one more rest
+    → BeginsWith text (lines ++ more) rest
 begins-append text one rest lines more first second =
     first ∙ ap (λ (bytes : List ℕ). concat lines ++ bytes) second
     ∙ sym (append_assoc (concat lines) (concat more) rest)
@@ -92,8 +92,8 @@ module _ (list : Medl) (script : Script) (valid : IsValid list) (valid_script : 
     step = step;
     of_hosts = chosen-of_hosts;
     senders = λ k node.
-        let left : IsLeft list script before chosen k (outcome_at plant k) =
-        subst (λ (l : Medl). IsLeft l script before chosen k (outcome_at plant k)) same
+        let left : IsOutcomeOf list script before chosen k (outcome_at plant k) =
+        subst (λ (l : Medl). IsOutcomeOf l script before chosen k (outcome_at plant k)) same
         (step.left k (subst (λ (l : Medl). k < length l.slots) (sym same) node)) in
         subst (λ (o : Option Delivered). IfSome o (λ d. d.sender < length list.slots))
         (sym (left.delivered ∙ sym (delivered_of-row_in list script before chosen k are_of_hosts)))
@@ -181,10 +181,10 @@ module _ (list : Medl) (script : Script) (valid : IsValid list) (valid_script : 
 
   -- a text goes on with all lines
   pub goes-on : (text one two rest : List ℕ)
-      → Begins text (node_lines list script (world list script numbers) chosen) one
-      → Begins one (write_lines list script (length numbers)) two
+      → BeginsWith text (node_lines list script (world list script numbers) chosen) one
+      → BeginsWith one (write_lines list script (length numbers)) two
       → (reads : ReadsOn list script (world list script numbers) chosen (reads_in script (length numbers)) two rest)
-      → Begins text
+      → BeginsWith text
       (lines_of_slot list script
       (record {
         sent = map message_of (row_after list script (world list script numbers) chosen);
@@ -195,11 +195,11 @@ module _ (list : Medl) (script : Script) (valid : IsValid list) (valid_script : 
       let a = node_lines list script before chosen in
       let b = write_lines list script (length numbers) in
       let c = read_lines list script (length numbers) (row_chosen ∷ before) reads.numbers in
-      let third : Begins two c rest =
+      let third : BeginsWith two c rest =
       reads.begins
       ∙ ap (λ (n : ℕ). concat (map (read_line list script n (row_chosen ∷ before))
       (read_messages (reads_in script (length numbers)) reads.numbers)) ++ rest) (length-world list script numbers) in
-      subst (λ (lines : Lines). Begins text lines rest) (sym (lines-chosen reads.numbers))
+      subst (λ (lines : Lines). BeginsWith text lines rest) (sym (lines-chosen reads.numbers))
       (begins-append text two rest (a ++ b) c (begins-append text one two a b nodes writes) third)
 
   -- where it departs from the lines before those of the reads
@@ -209,7 +209,7 @@ module _ (list : Medl) (script : Script) (valid : IsValid list) (valid_script : 
       (read_messages (reads_in script (length numbers)) read)
       → node_lines list script (world list script numbers) chosen ++ write_lines list script (length numbers)
       ≡ front ++ due ∷ back
-      → Begins text front rest
+      → BeginsWith text front rest
       → ((other : SlotNumbers) (more : List ℕ) → IsLegal list script (other ∷ numbers)
       → take (length front) (lines_of_slot list script other numbers) ≡ front
       → ¬ (rest ≡ get_or (lines_of_slot list script other numbers) (length front) [] ++ more))
@@ -227,6 +227,6 @@ module _ (list : Medl) (script : Script) (valid : IsValid list) (valid_script : 
         legal = legal-chosen read count may;
         right = length front;
         within = omega (arith, ap length whole, length-append front (due ∷ back ++ reads));
-        begins = subst (λ (ls : Lines). Begins text ls rest) (sym first) begins;
+        begins = subst (λ (ls : Lines). BeginsWith text ls rest) (sym first) begins;
         wrong = λ other more legal_too same. wrong other more legal_too (same ∙ first);
       }

@@ -10,11 +10,11 @@ use Rattle.trace_check.proofs.Words.{never_fall, read_messages, IsValid, message
 use Rattle.trace_check.proofs.Words.{IsValidScript, reads_in, node_line_of, read_line, read_lines, write_lines, Numbers}
 use Rattle.trace_check.proofs.Words.{SlotNumbers, chosen_of, is_loaded, row_in, slot_after, world, message_of-row_in}
 use Rattle.trace_check.proofs.Words.{legal-AreNumbersOfAll, legal-shapes, newest_read, length-world, row_of_world}
-use Rattle.trace_check.proofs.Words.{AreRuns, AreChosen, PlantView, Follower, Incoming, Outgoing, Begins, Departs}
+use Rattle.trace_check.proofs.Words.{AreRuns, AreChosen, PlantView, Follower, Incoming, Outgoing, BeginsWith, Departs}
 use Rattle.trace_check.proofs.Words.{DepartsAfter, GoesOnTo, HasEnded, IsPast, MayReadAll, ReadsAmiss, ReadsOn}
-use Rattle.trace_check.proofs.Words.{StandsAt, StandsFor, line_of_read, lines_of_slot, node_lines, row_after}
+use Rattle.trace_check.proofs.Words.{StandsAt, FollowerStandsFor, line_of_read, lines_of_slot, node_lines, row_after}
 use Rattle.trace_check.proofs.Words.{AreFloorsWithin, TellsRings, floor_of, floor_place, newest_before, Chooses}
-use Rattle.trace_check.proofs.Words.{HasChosen, HoldsNewest, number_in, AreLines, AreLines-take}
+use Rattle.trace_check.proofs.Words.{HasChosen, HoldsNewest, number_by_text, AreLines, AreLines-take}
 use Rattle.std.proofs.Math.ListN.{get_or-map}
 use Rattle.ttp_world.specs.declared.node.Entry.TheVariants as entry
 use Rattle.ttp_world.specs.declared.script.TheConstants.{SLOT_LIMIT}
@@ -25,7 +25,7 @@ use Rattle.ttp_world.proofs.LegalShapes.{legal-message, legal-reads, reads-never
 use Rattle.frame_fates.proofs.NamedRuns.{legal-names, named-run}
 use Rattle.controller.specs.PlantStands.{MayStep, PlantStandsFor, Steps}
 use Rattle.controller.proofs.Payloads.{chosen-step}
-use Rattle.trace_check.specs.Outgoing.{number_named}
+use Rattle.trace_check.specs.Outgoing.{number_by_line}
 use Rattle.trace_check.proofs.Counts.{length-read_messages}
 use Rattle.trace_check.proofs.NodesAlike.{node_line-same}
 use Rattle.trace_check.proofs.NodesDepart.{legal-small, line-behind, line-names, node-at, node-is_line, same_message}
@@ -39,7 +39,7 @@ use Rattle.trace_check.proofs.Told.{front-same, rest-same}
 
 -- all numbers that a follower stands for are of as many slots
 pub slots-of : (f : Follower) (list : Medl) (script : Script) (slot : ℕ) (numbers : Numbers)
-    → StandsAt f list script slot → StandsFor f list script numbers → slot ≡ length numbers
+    → StandsAt f list script slot → FollowerStandsFor f list script numbers → slot ≡ length numbers
 slots-of f list script slot numbers at stands =
     omega (
       arith,
@@ -100,45 +100,46 @@ floors-same old new list script history nodes floors within = λ host from ring.
     omega (arith, same, within host from ring)
 
 pub has-chosen : (o : Outgoing) (list : Medl) (script : Script) (slot : ℕ) (text : List ℕ)
-    → Chooses o list script slot (number_in list script slot text) → HasChosen o list script slot
+    → Chooses o list script slot (number_by_text list script slot text) → HasChosen o list script slot
 has-chosen o list script slot text chooses = record {
-  number = number_in list script slot text;
-  legal = λ k node. taken-legal list script slot k (number_named (get_or (lines_of text) k []));
+  number = number_by_text list script slot text;
+  legal = λ k node. taken-legal list script slot k (number_by_line (get_or (lines_of text) k []));
   chooses = chooses;
 }
 
 module _ (list : Medl) (script : Script) (valid : IsValid list) (valid_script : IsValidScript list script) (slot : ℕ)
     (text : List ℕ) (old : Follower) (o : Outgoing)
-    (chooses : Chooses o list script slot (number_in list script slot text)) (chosen : List Chosen)
+    (chooses : Chooses o list script slot (number_by_text list script slot text)) (chosen : List Chosen)
     (is : chosen ≡ o.chosen.items) (numbers : Numbers) (legal : IsLegal list script numbers)
-    (stands : StandsFor old list script numbers) (count : slot ≡ length numbers) where
+    (stands : FollowerStandsFor old list script numbers) (count : slot ≡ length numbers) where
   abbrev before : History
   before = world list script numbers
 
   number_legal : (k : ℕ)
       → IsTrue (is_legal_message list script (length numbers) k
-      (Some (number_in list script (length numbers) text k)))
-  number_legal k = taken-legal list script (length numbers) k (number_named (get_or (lines_of text) k []))
+      (Some (number_by_text list script (length numbers) text k)))
+  number_legal k = taken-legal list script (length numbers) k (number_by_line (get_or (lines_of text) k []))
 
   chosen_at : (k : ℕ) → k < length list.slots
       → chosen_of chosen k
-      ≡ message_chosen list script (length numbers) k (Some (number_in list script (length numbers) text k))
+      ≡ message_chosen list script (length numbers) k (Some (number_by_text list script (length numbers) text k))
   chosen_at k node =
       ap (λ (cs : List Chosen). chosen_of cs k) is ∙ chooses.chosen k node
-      ∙ ap (λ (m : ℕ). message_chosen list script m k (Some (number_in list script m text k))) count
+      ∙ ap (λ (m : ℕ). message_chosen list script m k (Some (number_by_text list script m text k))) count
 
   pub may-step : MayStep old.plant script chosen
   may-step =
       chosen-step chosen (subst IsValid (sym stands.same) valid) stands.plant
       (subst (λ (l : Medl). AreChosen (slot_after l script (world list script numbers)) chosen) (sym stands.same)
-      (chosen-sizes list script valid valid_script numbers legal chosen (number_in list script (length numbers) text)
+      (chosen-sizes list script valid valid_script numbers legal chosen
+      (number_by_text list script (length numbers) text)
       number_legal chosen_at))
 
   module _ (plant : PlantView) (steps : Steps old.plant plant script chosen) (same : plant.list ≡ old.plant.list) where
     pub ended : HasEnded plant old.incoming list script (world list script numbers) chosen
     ended =
         chosen-ended list script valid valid_script numbers legal chosen
-        (number_in list script (length numbers) text) number_legal chosen_at plant old.incoming
+        (number_by_text list script (length numbers) text) number_legal chosen_at plant old.incoming
         (same ∙ stands.same) (steps (world list script numbers) stands.plant) stands.incoming
 
     pub past : slot < SLOT_LIMIT → IsPast plant old.incoming list slot
@@ -185,7 +186,7 @@ module _ (list : Medl) (script : Script) (valid : IsValid list) (valid_script : 
       world_is =
           ap (λ (r : List Entry). r ∷ world list script numbers)
           (row-chosen list script valid valid_script numbers legal chosen
-          (number_in list script (length numbers) text) number_legal chosen_at read)
+          (number_by_text list script (length numbers) text) number_legal chosen_at read)
 
       stands_next : (new : Follower) (mid : Incoming) → new.plant ≡ plant
           → HoldsNewest new.outgoing list script (slot + 1)
@@ -194,7 +195,7 @@ module _ (list : Medl) (script : Script) (valid : IsValid list) (valid_script : 
           → mid.nodes ≡ length list.slots → new.incoming.floors ≡ mid.floors
           → AreFloorsWithin mid list script
           (row_after list script (world list script numbers) chosen ∷ world list script numbers)
-          → StandsFor new list script (new_numbers ∷ numbers)
+          → FollowerStandsFor new list script (new_numbers ∷ numbers)
       stands_next new mid plant_is outgoing incoming nodes floors within =
           let history = sym world_is in
           record {
@@ -214,8 +215,8 @@ module _ (list : Medl) (script : Script) (valid : IsValid list) (valid_script : 
           }
 
     pub goes-on-to : (new : Follower) (mid : Incoming) (one two rest : List ℕ) → new.plant ≡ plant
-        → Begins text (node_lines list script (world list script numbers) chosen) one
-        → Begins one (write_lines list script slot) two
+        → BeginsWith text (node_lines list script (world list script numbers) chosen) one
+        → BeginsWith one (write_lines list script slot) two
         → ReadsOn list script (world list script numbers) chosen (reads_in script slot) two rest
         → HoldsNewest new.outgoing list script (slot + 1)
         → TellsRings new.incoming list script
@@ -236,12 +237,12 @@ module _ (list : Medl) (script : Script) (valid : IsValid list) (valid_script : 
             };
             legal =
                 legal-chosen list script valid valid_script numbers legal chosen
-                (number_in list script (length numbers) text) number_legal chosen_at reads_at.numbers reads_at.count
+                (number_by_text list script (length numbers) text) number_legal chosen_at reads_at.numbers reads_at.count
                 reads_at.legal;
             begins =
                 goes-on list script valid valid_script numbers legal chosen
-                (number_in list script (length numbers) text) number_legal chosen_at text one two rest nodes
-                (subst (λ (m : ℕ). Begins one (write_lines list script m) two) count writes) reads_at;
+                (number_by_text list script (length numbers) text) number_legal chosen_at text one two rest nodes
+                (subst (λ (m : ℕ). BeginsWith one (write_lines list script m) two) count writes) reads_at;
           };
           stands =
               stands_next reads_at.numbers new mid plant_is outgoing incoming width floors within;
@@ -254,7 +255,8 @@ module _ (list : Medl) (script : Script) (valid : IsValid list) (valid_script : 
         (reads_in script (length numbers))
 
     -- the text departs from the lines of what hosts write
-    pub departs-writes : (one rest : List ℕ) → Begins text (node_lines list script (world list script numbers) chosen) one
+    pub departs-writes : (one rest : List ℕ) → BeginsWith text
+        (node_lines list script (world list script numbers) chosen) one
         → Departs one (write_lines list script slot) rest → DepartsAfter list script numbers text rest
     unfolding newest_reads
     departs-writes one rest nodes departs =
@@ -265,7 +267,7 @@ module _ (list : Medl) (script : Script) (valid : IsValid list) (valid_script : 
         let front = a ++ writes_at.right in
         let reads = reads_in script (length numbers) in
         departs-early list script valid valid_script numbers legal chosen
-        (number_in list script (length numbers) text) number_legal chosen_at text rest writes_at.due front
+        (number_by_text list script (length numbers) text) number_legal chosen_at text rest writes_at.due front
         writes_at.others newest_reads (length-map reads _)
         (newest-may list script history chosen [] reads tt)
         (ap (λ (ls : Lines). a ++ ls) writes_at.parts ∙ sym (append_assoc a writes_at.right (writes_at.due ∷ writes_at.others)))
@@ -303,7 +305,7 @@ module _ (list : Medl) (script : Script) (valid : IsValid list) (valid_script : 
         record {
           chosen = chosen;
           sizes = chosen-sizes list script valid valid_script numbers legal chosen
-              (number_in list script (length numbers) text) number_legal chosen_at;
+              (number_by_text list script (length numbers) text) number_legal chosen_at;
           made = refl;
         },
         named-run list script numbers valid_script (legal-names list script numbers legal),
@@ -338,7 +340,7 @@ module _ (list : Medl) (script : Script) (valid : IsValid list) (valid_script : 
         ∙ ap (λ (ls : Lines). get_or ls j []) (sym departs.parts)
         ∙ get_or-map-range_with_len f 0 n j j [] node (omega arith) in
         departs-early list script valid valid_script numbers legal chosen
-        (number_in list script (length numbers) text) number_legal chosen_at text rest departs.due departs.right
+        (number_by_text list script (length numbers) text) number_legal chosen_at text rest departs.due departs.right
         (departs.others ++ b) newest_reads (length-map reads _)
         (newest-may list script history chosen [] reads tt)
         (ap (λ (ls : Lines). ls ++ b) departs.parts ∙ append_assoc departs.right (departs.due ∷ departs.others) b)
@@ -373,8 +375,8 @@ module _ (list : Medl) (script : Script) (valid : IsValid list) (valid_script : 
 
     -- the text departs from the line of a read
     pub departs-reads : (one two rest : List ℕ) → slot < script.slots
-        → Begins text (node_lines list script (world list script numbers) chosen) one
-        → Begins one (write_lines list script slot) two
+        → BeginsWith text (node_lines list script (world list script numbers) chosen) one
+        → BeginsWith one (write_lines list script slot) two
         → ReadsAmiss list script (world list script numbers) chosen (reads_in script slot) two rest
         → DepartsAfter list script numbers text rest
     departs-reads one two rest within nodes writes wrong_at =
@@ -399,7 +401,7 @@ module _ (list : Medl) (script : Script) (valid : IsValid list) (valid_script : 
         let lines = lines_of_slot list script new numbers in
         let whole : lines ≡ front ++ map line tail.0 =
         lines-chosen list script valid valid_script numbers legal chosen
-        (number_in list script (length numbers) text) number_legal chosen_at read
+        (number_by_text list script (length numbers) text) number_legal chosen_at read
         ∙ ap (λ (rs : List ReadMessage). (a ++ b) ++ map line rs) tail.1
         ∙ ap (λ (ls : Lines). (a ++ b) ++ ls) (map-append line (read_messages reads m) tail.0)
         ∙ sym (append_assoc (a ++ b) c (map line tail.0)) in
@@ -408,12 +410,12 @@ module _ (list : Medl) (script : Script) (valid : IsValid list) (valid_script : 
         let counted = length-rest most reads m (length-map reads most) in
         let new_legal =
         legal-chosen list script valid valid_script numbers legal chosen
-        (number_in list script (length numbers) text) number_legal chosen_at read counted
+        (number_by_text list script (length numbers) text) number_legal chosen_at read counted
         (may-rest list script history chosen [] reads m tt amiss.legal) in
-        let third : Begins two c rest =
+        let third : BeginsWith two c rest =
         amiss.begins
         ∙ ap (λ (k : ℕ). concat (map (read_line list script k (row ∷ history)) (read_messages reads m)) ++ rest) at in
-        let writes_at : Begins one b two = subst (λ (k : ℕ). Begins one (write_lines list script k) two) count writes in
+        let writes_at : BeginsWith one b two = subst (λ (k : ℕ). BeginsWith one (write_lines list script k) two) count writes in
         record {
           new = new;
           legal = new_legal;
@@ -431,7 +433,7 @@ module _ (list : Medl) (script : Script) (valid : IsValid list) (valid_script : 
                 amiss.within,
               );
           begins =
-              subst (λ (ls : Lines). Begins text ls rest) (sym first)
+              subst (λ (ls : Lines). BeginsWith text ls rest) (sym first)
               (begins-append text two rest (a ++ b) c (begins-append text one two a b nodes writes_at) third);
           wrong = λ other more legal_too same is.
               let s = slot_after list script history in
@@ -467,9 +469,9 @@ module _ (list : Medl) (script : Script) (valid : IsValid list) (valid_script : 
                     let ok : IsTrue (is_legal_message list script (length numbers) k (Some i)) =
                     subst (λ (o : Option ℕ). IsTrue (is_legal_message list script (length numbers) k o)) told_too
                     (legal-message list script other numbers k legal_too node) in
-                    let number_is : (chosen_of chosen k).number ≡ number_in list script (length numbers) text k =
+                    let number_is : (chosen_of chosen k).number ≡ number_by_text list script (length numbers) text k =
                     ap (λ (c : Chosen). c.number) (chosen_at k node) in
-                    let small = legal-small list script (length numbers) k (number_in list script (length numbers) text k) valid
+                    let small = legal-small list script (length numbers) k (number_by_text list script (length numbers) text k) valid
                     valid_script few (number_legal k) in
                     let line_k : f_too k ≡ f k =
                     sym (get_or-map-range_with_len f_too 0 n k k [] node (omega arith))
@@ -479,7 +481,7 @@ module _ (list : Medl) (script : Script) (valid : IsValid list) (valid_script : 
                     same_Some i (chosen_of chosen k).number
                     (sym (line-names list script row_too history k i told_too
                     (legal-small list script (length numbers) k i valid valid_script few ok))
-                    ∙ ap number_named line_k
+                    ∙ ap number_by_line line_k
                     ∙ line-names list script row history k (chosen_of chosen k).number told (omega (arith, small, number_is))) in
                     let sent : get_or other.sent k None ≡ Some i =
                     ap (λ (ns : List (Option ℕ)). get_or ns k None)

@@ -3,9 +3,9 @@ use Rattle.trace_check.proofs.Words.{◌≡◌, ℕ, zero, suc, ◌+◌, ◌*◌
 use Rattle.trace_check.proofs.Words.{subst, arith, append_assoc, length-append, map, reverse, slice_get, AllByRecursion}
 use Rattle.trace_check.proofs.Words.{reverse_onto, map-append, none-some, same_Some, slice_get_within, Lines, HostRead}
 use Rattle.trace_check.proofs.Words.{Medl, Chosen, Script, Source, History, ReadMessage, read_messages, IsValidScript}
-use Rattle.trace_check.proofs.Words.{reads_in, newest_read, PlantView, Incoming, Begins, HasEnded, IsPast, KnowsReads}
-use Rattle.trace_check.proofs.Words.{MayRead, MayReadAll, ReadsAmiss, ReadsNone, ReadsOn, ReadsOne, line_of_read}
-use Rattle.trace_check.proofs.Words.{row_after, AreFloorsWithin, HasPlaces, IsRing, TellsRings}
+use Rattle.trace_check.proofs.Words.{reads_in, newest_read, PlantView, Incoming, BeginsWith, HasEnded, IsPast}
+use Rattle.trace_check.proofs.Words.{KnowsReads, MayRead, MayReadAll, ReadsAmiss, ReadsNone, ReadsOn, ReadsOne}
+use Rattle.trace_check.proofs.Words.{line_of_read, row_after, AreFloorsWithin, HasPlaces, IsHostAndSource, TellsRings}
 use Rattle.std.proofs.Common.{append-nil}
 use Rattle.ttp_world.specs.declared.script.Source.TheVariants as source
 use Rattle.ttp_world.proofs.HostPayloads.{IsReadOf, reads_of_valid}
@@ -14,21 +14,21 @@ use Rattle.trace_check.proofs.Begun.{begins-more}
 
 -- Each read of a valid script is of a ring.
 
-ring_of_read : (list : Medl) (host : ℕ) (from : Source) → IsReadOf list host from → IsRing list host from
+ring_of_read : (list : Medl) (host : ℕ) (from : Source) → IsReadOf list host from → IsHostAndSource list host from
 ring_of_read list host source.Status is = is.0
 ring_of_read list host (source.Node p) is = (is.0, is.1.0)
 
 ring_in : (list : Medl) (reads : List HostRead) (i : ℕ) (read : HostRead)
     → AllByRecursion (λ (r : HostRead). IsReadOf list r.host r.source) reads → slice_get reads i ≡ Some read
-    → IsRing list read.host read.source
+    → IsHostAndSource list read.host read.source
 ring_in list [] i read all is = absurd (none-some read is)
 ring_in list (r ∷ reads) zero read all is =
-    subst (λ (s : HostRead). IsRing list s.host s.source) (same_Some r read is)
+    subst (λ (s : HostRead). IsHostAndSource list s.host s.source) (same_Some r read is)
     (ring_of_read list r.host r.source all.0)
 ring_in list (r ∷ reads) (suc i) read all is = ring_in list reads i read all.1 is
 
 pub ring_of_script : (list : Medl) (script : Script) (slot i : ℕ) (read : HostRead) → IsValidScript list script
-    → slice_get (reads_in script slot) i ≡ Some read → IsRing list read.host read.source
+    → slice_get (reads_in script slot) i ≡ Some read → IsHostAndSource list read.host read.source
 ring_of_script list script slot i read valid is =
     ring_in list (reads_in script slot) i read (reads_of_valid list script slot valid) is
 
@@ -129,7 +129,7 @@ module _ (list : Medl) (script : Script) (history : History) (chosen : List Chos
     pub many : length numbers ≡ count
     pub legal : MayReadAll list script history chosen [] (read_messages reads numbers)
     pub knows : KnowsReads incoming list script history chosen (reverse (read_messages reads numbers))
-    pub begins : Begins text (map (line_of_read list script history chosen) (read_messages reads numbers)) rest
+    pub begins : BeginsWith text (map (line_of_read list script history chosen) (read_messages reads numbers)) rest
 
   pub read-none : (incoming : Incoming) (reads : List HostRead) (text : List ℕ)
       → AreFloorsWithin incoming list script history → HasReadSoFar incoming reads text text 0
@@ -152,7 +152,8 @@ module _ (list : Medl) (script : Script) (history : History) (chosen : List Chos
                   );
             });
         begins =
-            subst (λ (rs : List ReadMessage). Begins text (map (line_of_read list script history chosen) rs) text) none
+            subst (λ (rs : List ReadMessage). BeginsWith text
+            (map (line_of_read list script history chosen) rs) text) none
             refl;
       }
 
@@ -179,7 +180,7 @@ module _ (list : Medl) (script : Script) (history : History) (chosen : List Chos
           knows =
               subst (KnowsReads new list script history chosen) (sym (reverse-more rs r) ∙ ap reverse next) one.knows;
           begins =
-              subst (λ (lines : Lines). Begins text lines more)
+              subst (λ (lines : Lines). BeginsWith text lines more)
               (sym (map-append (line_of_read list script history chosen) rs (r ∷ []))
               ∙ ap (map (line_of_read list script history chosen)) next)
               (begins-more text rest (line_of_read list script history chosen r) more
@@ -194,7 +195,7 @@ module _ (list : Medl) (script : Script) (history : History) (chosen : List Chos
       within = omega (arith, slice_get_within reads i read at, so_far.many);
       legal = so_far.legal;
       begins =
-          subst (Begins text (map (line_of_read list script history chosen) (read_messages reads so_far.numbers)))
+          subst (BeginsWith text (map (line_of_read list script history chosen) (read_messages reads so_far.numbers)))
           (sym none.same) so_far.begins;
       wrong = λ other number more there may is.
           let same : read ≡ other = same_Some read other (sym at-next ∙ there) in

@@ -7,11 +7,11 @@ use Rattle.trace_check.proofs.Words.{le-ltb, lt-ltb, get_or-set_other, get_or-se
 use Rattle.trace_check.proofs.Words.{get_or_from_slice_get, slice_get_within, Lines, lines_of, Medl, Chosen, Script}
 use Rattle.trace_check.proofs.Words.{newest_number, messages_before, out_messages, message_chosen, nothing_chosen}
 use Rattle.trace_check.proofs.Words.{messages_written, chosen_of, some_message, Outgoing, Chooses, HoldsNewest}
-use Rattle.trace_check.proofs.Words.{oldest_number, number_taken, number_in}
+use Rattle.trace_check.proofs.Words.{oldest_number, number_taken, number_by_text}
 use Rattle.std.proofs.lemmas.Bool.{true≢false}
 use Rattle.std.proofs.lemmas.List.{drop-drop, get_or-append_right, get_or-drop, get_or_read}
 use Rattle.ttp_world.specs.Legal.{is_between}
-use Rattle.trace_check.specs.Outgoing.{number_named}
+use Rattle.trace_check.specs.Outgoing.{number_by_line}
 
 pub past_end : {X : Type 0} (xs : List X) (n : ℕ) → slice_get xs n ≡ None → length xs ≤ n
 past_end [] n is = omega arith
@@ -176,7 +176,7 @@ oldest-read o list script slot f node place read chooses within at is =
 -- the number for each node once the lines of the first nodes, so many, were looked at
 abbrev pub number_so_far : Medl → Script → ℕ → List ℕ → ℕ → ℕ → ℕ
 number_so_far list script slot text nodes k =
-    if nat_lt k nodes then number_in list script slot text k else oldest_number list script slot k
+    if nat_lt k nodes then number_by_text list script slot text k else oldest_number list script slot k
 
 pub record HasLookedAt (o : Outgoing) (list : Medl) (script : Script) (slot : ℕ) (text rest : List ℕ)
     (nodes : ℕ) : Type 0 where
@@ -187,13 +187,13 @@ module _ (list : Medl) (script : Script) (slot : ℕ) (text : List ℕ) where
   pub so_far-behind : (nodes k : ℕ) → nodes ≤ k
       → number_so_far list script slot text nodes k ≡ oldest_number list script slot k
   so_far-behind nodes k behind =
-      ap (λ (b : Bool). if b then number_in list script slot text k else oldest_number list script slot k)
+      ap (λ (b : Bool). if b then number_by_text list script slot text k else oldest_number list script slot k)
       (le-ltb k nodes behind)
 
   pub so_far-before : (nodes k : ℕ) → k < nodes
-      → number_so_far list script slot text nodes k ≡ number_in list script slot text k
+      → number_so_far list script slot text nodes k ≡ number_by_text list script slot text k
   so_far-before nodes k before =
-      ap (λ (b : Bool). if b then number_in list script slot text k else oldest_number list script slot k)
+      ap (λ (b : Bool). if b then number_by_text list script slot text k else oldest_number list script slot k)
       (lt-ltb k nodes before)
 
   pub looked-first : (o : Outgoing) → HoldsNewest o list script slot → HasLookedAt o list script slot text text 0
@@ -221,7 +221,7 @@ module _ (list : Medl) (script : Script) (slot : ℕ) (text : List ℕ) where
       ]
 
   -- one node more
-  one_more : (node k number : ℕ) → (k ≡ node → number ≡ number_in list script slot text k)
+  one_more : (node k number : ℕ) → (k ≡ node → number ≡ number_by_text list script slot text k)
       → ((k ≡ node → ⊥) → number ≡ number_so_far list script slot text node k)
       → number ≡ number_so_far list script slot text (node + 1) k
   one_more node k number here there =
@@ -238,7 +238,7 @@ module _ (list : Medl) (script : Script) (slot : ℕ) (text : List ℕ) where
   -- a node that is to send the newest message before the slot
   pub looked-past : (o : Outgoing) (rest behind : List ℕ) (node : ℕ) → HasLookedAt o list script slot text rest node
       → drop 1 (lines_of rest) ≡ lines_of behind
-      → number_in list script slot text node ≡ oldest_number list script slot node
+      → number_by_text list script slot text node ≡ oldest_number list script slot node
       → HasLookedAt o list script slot text behind (node + 1)
   looked-past o rest behind node has others is = record {
     chooses = Chooses-same o list script slot (number_so_far list script slot text node)
@@ -247,7 +247,7 @@ module _ (list : Medl) (script : Script) (slot : ℕ) (text : List ℕ) where
         (λ own.
         ap (λ (j : ℕ). number_so_far list script slot text node j) own
         ∙ so_far-behind node node (omega arith) ∙ sym is
-        ∙ ap (λ (j : ℕ). number_in list script slot text j) (sym own))
+        ∙ ap (λ (j : ℕ). number_by_text list script slot text j) (sym own))
         (λ other. refl))
         has.chooses;
     lines = lines_next rest behind node has.lines others;
@@ -256,7 +256,7 @@ module _ (list : Medl) (script : Script) (slot : ℕ) (text : List ℕ) where
   -- a node whose line names this number
   pub looked-taken : (o new : Outgoing) (rest behind : List ℕ) (node number : ℕ)
       → HasLookedAt o list script slot text rest node → drop 1 (lines_of rest) ≡ lines_of behind
-      → number_taken list script slot node (Some number) ≡ number_in list script slot text node
+      → number_taken list script slot node (Some number) ≡ number_by_text list script slot text node
       → Chooses new list script slot
       (λ k. if k == node then number_taken list script slot node (Some number)
       else number_so_far list script slot text node k)
@@ -269,7 +269,7 @@ module _ (list : Medl) (script : Script) (slot : ℕ) (text : List ℕ) where
             (λ k there. one_more node k (f k)
             (λ own.
             ap (λ (b : Bool). if b then now else number_so_far list script slot text node k) (eq-eqb k node own)
-            ∙ is ∙ ap (λ (j : ℕ). number_in list script slot text j) (sym own))
+            ∙ is ∙ ap (λ (j : ℕ). number_by_text list script slot text j) (sym own))
             (λ other.
             ap (λ (b : Bool). if b then now else number_so_far list script slot text node k) (ne_eqb k node other)))
             chooses;
@@ -284,13 +284,13 @@ module _ (list : Medl) (script : Script) (slot : ℕ) (text : List ℕ) where
       ∙ sym (get_or-drop node (lines_of text) 0 []) ∙ ap (λ (ls : Lines). get_or ls 0 []) (sym lines) ∙ first
 
   pub named-in : (node : ℕ) (line : List ℕ) (named : Option ℕ) → get_or (lines_of text) node [] ≡ line
-      → named ≡ number_named line
-      → number_taken list script slot node named ≡ number_in list script slot text node
+      → named ≡ number_by_line line
+      → number_taken list script slot node named ≡ number_by_text list script slot text node
   named-in node line named at is =
-      ap (number_taken list script slot node) (is ∙ ap number_named (sym at))
+      ap (number_taken list script slot node) (is ∙ ap number_by_line (sym at))
 
   pub looked-all : (o : Outgoing) (rest : List ℕ) → HasLookedAt o list script slot text rest (length list.slots)
-      → Chooses o list script slot (number_in list script slot text)
+      → Chooses o list script slot (number_by_text list script slot text)
   looked-all o rest has =
       Chooses-same o list script slot (number_so_far list script slot text (length list.slots))
-      (number_in list script slot text) (λ k node. so_far-before (length list.slots) k node) has.chooses
+      (number_by_text list script slot text) (λ k node. so_far-before (length list.slots) k node) has.chooses

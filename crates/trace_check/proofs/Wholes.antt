@@ -4,13 +4,13 @@ use Rattle.trace_check.proofs.Words.{get_or, refl, ap, sym, subst, ◌∙◌, ar
 use Rattle.trace_check.proofs.Words.{get_or-append-add, concat-append, get_or-append, take-append_seam}
 use Rattle.trace_check.proofs.Words.{get_or-append_seam, Lines, Medl, Script, IsLegal, IsLegalRun, IsValid}
 use Rattle.trace_check.proofs.Words.{IsValidScript, trace_head, history_lines, test_lines, trace_lines, SlotNumbers}
-use Rattle.trace_check.proofs.Words.{Numbers, world, legal-none, legal-older, Begins, Departs, DepartsAfter, IsTraceAnd}
-use Rattle.trace_check.proofs.Words.{IsAmissAt, lines_of_slot}
+use Rattle.trace_check.proofs.Words.{Numbers, world, legal-none, legal-older, BeginsWith, Departs, DepartsAfter}
+use Rattle.trace_check.proofs.Words.{IsTraceAnd, IsAmissAt, lines_of_slot}
 use Rattle.std.proofs.Common.{append-nil}
 use Rattle.std.proofs.lemmas.List.{take-append-le, length-drop}
 use Rattle.std.proofs.Math.Seq.{take-append-add}
 use Rattle.ttp_world.proofs.LegalRuns.{LegalWhole, legal-whole}
-use Rattle.trace_check.specs.Following.{GoesOn}
+use Rattle.trace_check.specs.Following.{GoesOnBySlot}
 use Rattle.trace_check.proofs.Counts.{lines_of_slots, lines_in, length-history_lines, length-legal_slot}
 use Rattle.trace_check.proofs.Told.{front-same, rest-same, one_run}
 
@@ -70,8 +70,8 @@ newest_of (x ∷ xs) n long = (x, (xs, refl))
 -- A slot.
 
 pub goes_on-begins : (list : Medl) (script : Script) (numbers : Numbers) (text before rest : List ℕ)
-    → Begins text (lines_so_far list script numbers) before → (on : GoesOn list script numbers before rest)
-    → Begins text (lines_so_far list script (on.new ∷ numbers)) rest
+    → BeginsWith text (lines_so_far list script numbers) before → (on : GoesOnBySlot list script numbers before rest)
+    → BeginsWith text (lines_so_far list script (on.new ∷ numbers)) rest
 goes_on-begins list script numbers text before rest begins on =
     let front = lines_so_far list script numbers in
     let here = lines_of_slot list script on.new numbers in
@@ -204,7 +204,7 @@ module _ (list : Medl) (script : Script) (valid : IsValid list) (valid_script : 
           ∙ line-cut front_too here_too cut_too.0 right within_too
 
   pub departs-amiss : (numbers : Numbers) (text before rest : List ℕ) → length numbers < script.slots
-      → IsLegal list script numbers → Begins text (lines_so_far list script numbers) before
+      → IsLegal list script numbers → BeginsWith text (lines_so_far list script numbers) before
       → DepartsAfter list script numbers before rest → IsAmissAt list script text rest
   departs-amiss numbers text before rest less legal begins departs = record {
     numbers = whole.whole;
@@ -264,7 +264,7 @@ module _ (list : Medl) (script : Script) (valid : IsValid list) (valid_script : 
       }
 
   pub tests-amiss : (numbers : Numbers) (text before rest : List ℕ) → IsLegalRun list script numbers
-      → Begins text (lines_so_far list script numbers) before → Departs before (test_lines list script) rest
+      → BeginsWith text (lines_so_far list script numbers) before → Departs before (test_lines list script) rest
       → IsAmissAt list script text rest
   tests-amiss numbers text before rest run begins departs = record {
     numbers = numbers;
@@ -312,7 +312,7 @@ module _ (list : Medl) (script : Script) (valid : IsValid list) (valid_script : 
           ∙ ap (λ (lines : Lines). front ++ lines) (take-append_seam right (departs.due ∷ departs.others))
 
   pub tests-trace : (numbers : Numbers) (text before rest : List ℕ) → IsLegalRun list script numbers
-      → Begins text (lines_so_far list script numbers) before → Begins before (test_lines list script) rest
+      → BeginsWith text (lines_so_far list script numbers) before → BeginsWith before (test_lines list script) rest
       → IsTraceAnd list script text rest
   tests-trace numbers text before rest run begins tests = record {
     numbers = numbers;

@@ -1,5 +1,5 @@
 -- The words of this crate's proofs, from one place.
-pub use Rattle.controller.specs.Passes.{AreChosen, IsLeft}
+pub use Rattle.controller.specs.Passes.{AreChosen, IsOutcomeOf}
 pub use Rattle.controller.specs.PlantStands.{ShowsNode, outcome_at}
 pub use Rattle.controller.specs.PlantView.{PlantView}
 pub use Rattle.frame_fates.specs.Runs.{AreRuns}
@@ -31,14 +31,14 @@ pub use Rattle.std.proofs.lemmas.Result.{IfOk-weaker}
 pub use Rattle.std.specs.List.{AllByRecursion, concat, cons_option, filter_map, list_all}
 pub use Rattle.std.specs.Prelude.{is_some, map, nat_le, nat_lt, reverse, slice_get, ◌==◌}
 pub use Rattle.trace_check.specs.Answer.{IsFirstWrong}
-pub use Rattle.trace_check.specs.Following.{Begins, Departs, DepartsAfter, GoesOnTo, HasEnded, IsAmissAt, IsPast}
+pub use Rattle.trace_check.specs.Following.{BeginsWith, Departs, DepartsAfter, GoesOnTo, HasEnded, IsAmissAt, IsPast}
 pub use Rattle.trace_check.specs.Following.{IsTraceAnd, KnowsReads, MayRead, MayReadAll, ReadsAmiss, ReadsNone, ReadsOn}
-pub use Rattle.trace_check.specs.Following.{ReadsOne, StandsAt, StandsFor, behind_new_read, behind_read, line_of_read}
-pub use Rattle.trace_check.specs.Following.{lines_of_slot, node_lines, row_after}
-pub use Rattle.trace_check.specs.Incoming.{AreFloorsWithin, HasPlaces, IsNewest, IsRing, TellsRings, first_payloads}
-pub use Rattle.trace_check.specs.Incoming.{floor_of, floor_place, newest_before, newest_message, zeros_chosen}
-pub use Rattle.trace_check.specs.Incoming.{zeros_of_all}
-pub use Rattle.trace_check.specs.Outgoing.{Chooses, HasChosen, HoldsNewest, number_in, number_taken, oldest_number}
+pub use Rattle.trace_check.specs.Following.{ReadsOne, StandsAt, FollowerStandsFor, behind_new_read, behind_read}
+pub use Rattle.trace_check.specs.Following.{line_of_read, lines_of_slot, node_lines, row_after}
+pub use Rattle.trace_check.specs.Incoming.{AreFloorsWithin, HasPlaces, IsNewestMessage, IsHostAndSource, TellsRings}
+pub use Rattle.trace_check.specs.Incoming.{first_payloads, floor_of, floor_place, newest_before, newest_message}
+pub use Rattle.trace_check.specs.Incoming.{zeros_chosen, zeros_of_all}
+pub use Rattle.trace_check.specs.Outgoing.{Chooses, HasChosen, HoldsNewest, number_by_text, number_taken, oldest_number}
 pub use Rattle.trace_check.specs.declared.follow.Follower.{Follower}
 pub use Rattle.trace_check.specs.declared.incoming.Incoming.{Incoming}
 pub use Rattle.trace_check.specs.declared.outgoing.Outgoing.{Outgoing}

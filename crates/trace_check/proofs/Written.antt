@@ -7,8 +7,8 @@ use Rattle.trace_check.proofs.Words.{get_or-set_same, length-set, filter_map-app
 use Rattle.trace_check.proofs.Words.{Lines, Medl, Chosen, Script, is_legal_message, IsValid, newest_number}
 use Rattle.trace_check.proofs.Words.{messages_before, out_messages, message_chosen, nothing_chosen, HostWrite}
 use Rattle.trace_check.proofs.Words.{IsValidScript, messages_written, payload_of_host, writes_in, more_write_lines}
-use Rattle.trace_check.proofs.Words.{write_lines, chosen_of, few_messages, some_message, after_label, Outgoing, Begins}
-use Rattle.trace_check.proofs.Words.{Departs, Chooses, HasChosen, HoldsNewest, oldest_number}
+use Rattle.trace_check.proofs.Words.{write_lines, chosen_of, few_messages, some_message, after_label, Outgoing}
+use Rattle.trace_check.proofs.Words.{BeginsWith, Departs, Chooses, HasChosen, HoldsNewest, oldest_number}
 use Rattle.std.proofs.lemmas.List.{append-nil}
 use Rattle.std.proofs.lemmas.List.Sums.{sum_by-cons}
 use Rattle.ttp_world.specs.Trace.{write_line}
@@ -267,7 +267,7 @@ pub record HasWrittenLines (o : Outgoing) (list : Medl) (script : Script) (slot 
   pub number : ℕ → ℕ
   pub legal : (k : ℕ) → k < length list.slots → IsTrue (is_legal_message list script slot k (Some (number k)))
   pub written : HasWritten o list script slot number done
-  pub begins : Begins text (more_write_lines list script slot [] done) rest
+  pub begins : BeginsWith text (more_write_lines list script slot [] done) rest
 
 pub lines_along : (list : Medl) (script : Script) (slot : ℕ) (text : List ℕ) {o new : Outgoing} {rest more : List ℕ}
     {done others : List HostWrite}
@@ -328,7 +328,7 @@ module _ (o : Outgoing) (list : Medl) (script : Script) (slot : ℕ) (text rest 
         legal = has.legal;
         written = written-more o new list script slot has.number done w told has.written node is newest chosen;
         begins =
-            subst (λ (lines : Lines). Begins text lines more) (sym (write_lines-next list script slot done w []))
+            subst (λ (lines : Lines). BeginsWith text lines more) (sym (write_lines-next list script slot done w []))
             (begins-behind text rest line more (more_write_lines list script slot [] done) has.begins
             (ap (λ (l : List ℕ). after_label l rest) (sym (line-is told is)) ∙ behind));
       }

@@ -20,12 +20,12 @@ use Rattle.controller.specs.PlantView.{PlantView}
 use Rattle.trace_check.specs.declared.follow.Follower.{Follower}
 use Rattle.trace_check.specs.declared.incoming.Incoming.{Incoming}
 use Rattle.line_text.specs.Labels.{after_label}
-use Rattle.trace_check.specs.Incoming.{IsRing, TellsRings, AreFloorsWithin, floor_of, newest_before}
+use Rattle.trace_check.specs.Incoming.{IsHostAndSource, TellsRings, AreFloorsWithin, floor_of, newest_before}
 use Rattle.trace_check.specs.Outgoing.{HoldsNewest}
 
 -- a text begins with these lines, and this is left of it
-abbrev pub Begins : List ℕ → Lines → List ℕ → Type 0
-Begins text lines rest = text ≡ concat lines ++ rest
+abbrev pub BeginsWith : List ℕ → Lines → List ℕ → Type 0
+BeginsWith text lines rest = text ≡ concat lines ++ rest
 
 -- A text begins with the first of these lines, or with none of them, and this is left of it; it does not go on with
 -- the next of them.
@@ -34,7 +34,7 @@ pub record Departs (text : List ℕ) (lines : Lines) (rest : List ℕ) : Type 0 
   pub due : List ℕ
   pub others : Lines
   pub parts : lines ≡ right ++ due ∷ others
-  pub begins : Begins text right rest
+  pub begins : BeginsWith text right rest
   pub wrong : (more : List ℕ) → ¬ (rest ≡ due ++ more)
 
 -- the row of the slot after a history, where these messages are chosen
@@ -49,10 +49,10 @@ lines_of_slot list script new numbers =
     (row_after list script before (messages_chosen list script (length numbers) new.sent)) before new
 
 -- A slot's legal numbers after others, by which a text goes on with all lines of the slot.
-pub record GoesOn (list : Medl) (script : Script) (numbers : Numbers) (text rest : List ℕ) : Type 0 where
+pub record GoesOnBySlot (list : Medl) (script : Script) (numbers : Numbers) (text rest : List ℕ) : Type 0 where
   pub new : SlotNumbers
   pub legal : IsLegal list script (new ∷ numbers)
-  pub begins : Begins text (lines_of_slot list script new numbers) rest
+  pub begins : BeginsWith text (lines_of_slot list script new numbers) rest
 
 -- A text goes on with some first lines of the slot after numbers, by some that are legal, and with the next line by
 -- none that give these.
@@ -61,7 +61,7 @@ pub record DepartsAfter (list : Medl) (script : Script) (numbers : Numbers) (tex
   pub legal : IsLegal list script (new ∷ numbers)
   pub right : ℕ
   pub within : right < length (lines_of_slot list script new numbers)
-  pub begins : Begins text (take right (lines_of_slot list script new numbers)) rest
+  pub begins : BeginsWith text (take right (lines_of_slot list script new numbers)) rest
   pub wrong : (other : SlotNumbers) (more : List ℕ) → IsLegal list script (other ∷ numbers)
       → take right (lines_of_slot list script other numbers) ≡ take right (lines_of_slot list script new numbers)
       → ¬ (rest ≡ get_or (lines_of_slot list script other numbers) right [] ++ more)
@@ -109,7 +109,7 @@ pub record MayRead (list : Medl) (script : Script) (history : History) (chosen :
 -- the slot exactly where the ring's floor is above that.
 pub record KnowsReads (incoming : Incoming) (list : Medl) (script : Script) (history : History) (chosen : List Chosen)
     (earlier : List ReadMessage) : Type 0 where
-  pub newer : (read : HostRead) → IsRing list read.host read.source
+  pub newer : (read : HostRead) → IsHostAndSource list read.host read.source
       → (floor_of incoming read.host read.source ≤ newest_before list script history read)
       ↔ AllByRecursion (λ r. r.read ≡ read → r.number ≤ newest_before list script history read) earlier
   pub up_to : AllByRecursion
@@ -156,7 +156,7 @@ pub record ReadsOn (list : Medl) (script : Script) (history : History) (chosen :
   pub numbers : List ℕ
   pub count : length numbers ≡ length reads
   pub legal : MayReadAll list script history chosen [] (read_messages reads numbers)
-  pub begins : Begins text (map (line_of_read list script history chosen) (read_messages reads numbers)) rest
+  pub begins : BeginsWith text (map (line_of_read list script history chosen) (read_messages reads numbers)) rest
 
 -- it goes on with those of the first reads, by some legal numbers, and with the next one by none
 pub record ReadsAmiss (list : Medl) (script : Script) (history : History) (chosen : List Chosen)
@@ -164,7 +164,7 @@ pub record ReadsAmiss (list : Medl) (script : Script) (history : History) (chose
   pub numbers : List ℕ
   pub within : length numbers < length reads
   pub legal : MayReadAll list script history chosen [] (read_messages reads numbers)
-  pub begins : Begins text (map (line_of_read list script history chosen) (read_messages reads numbers)) rest
+  pub begins : BeginsWith text (map (line_of_read list script history chosen) (read_messages reads numbers)) rest
   pub wrong : (read : HostRead) (number : ℕ) (more : List ℕ) → slice_get reads (length numbers) ≡ Some read
       → (let r : ReadMessage = record { read = read; number = number } in
       MayRead list script history chosen (reverse (read_messages reads numbers)) r
@@ -173,7 +173,7 @@ pub record ReadsAmiss (list : Medl) (script : Script) (history : History) (chose
 -- The whole.
 
 -- a follower knows all that comes of these numbers
-pub record StandsFor (f : Follower) (list : Medl) (script : Script) (numbers : Numbers) : Type 0 where
+pub record FollowerStandsFor (f : Follower) (list : Medl) (script : Script) (numbers : Numbers) : Type 0 where
   pub same : f.plant.list ≡ list
   pub plant : PlantStandsFor f.plant script (world list script numbers)
   pub outgoing : HoldsNewest f.outgoing list script (length numbers)
@@ -185,19 +185,19 @@ pub record StandsAt (f : Follower) (list : Medl) (script : Script) (slot : ℕ) 
   pub numbers : Numbers
   pub count : length numbers ≡ slot
   pub legal : IsLegal list script numbers
-  pub stands : StandsFor f list script numbers
+  pub stands : FollowerStandsFor f list script numbers
 
 -- a text goes on with a slot's lines by some legal numbers, and the follower knows what comes of these
 pub record GoesOnTo (f : Follower) (list : Medl) (script : Script) (numbers : Numbers)
     (text rest : List ℕ) : Type 0 where
-  pub goes_on : GoesOn list script numbers text rest
-  pub stands : StandsFor f list script (goes_on.new ∷ numbers)
+  pub goes_on : GoesOnBySlot list script numbers text rest
+  pub stands : FollowerStandsFor f list script (goes_on.new ∷ numbers)
 
 -- a text begins with the trace of a run, and this is left of it
 pub record IsTraceAnd (list : Medl) (script : Script) (text rest : List ℕ) : Type 0 where
   pub numbers : Numbers
   pub legal : IsLegalRun list script numbers
-  pub begins : Begins text (trace_lines list script numbers) rest
+  pub begins : BeginsWith text (trace_lines list script numbers) rest
 
 -- A text begins with so many lines of a run's trace, and with the next line of none that has these.
 pub record IsAmissAt (list : Medl) (script : Script) (text rest : List ℕ) : Type 0 where
@@ -205,7 +205,7 @@ pub record IsAmissAt (list : Medl) (script : Script) (text rest : List ℕ) : Ty
   pub legal : IsLegalRun list script numbers
   pub right : ℕ
   pub within : right < length (trace_lines list script numbers)
-  pub begins : Begins text (take right (trace_lines list script numbers)) rest
+  pub begins : BeginsWith text (take right (trace_lines list script numbers)) rest
   pub wrong : (others : Numbers) (more : List ℕ) → IsLegalRun list script others
       → take right (trace_lines list script others) ≡ take right (trace_lines list script numbers)
       → ¬ (rest ≡ get_or (trace_lines list script others) right [] ++ more)

@@ -27,7 +27,8 @@ abbrev pub floor_of : Incoming → ℕ → Source → ℕ
 floor_of incoming host from = get_or incoming.floors.items (floor_place incoming.nodes host from) 0
 
 -- this is the newest message of a sender's that a receiver got in a history
-pub record IsNewest (message : Chosen) (list : Medl) (script : Script) (history : History) (k p : ℕ) : Type 0 where
+pub record IsNewestMessage (message : Chosen) (list : Medl) (script : Script) (history : History) (k p : ℕ)
+    : Type 0 where
   pub number : message.number ≡ newest_number (ring_messages list script history k (source.Node p))
   pub payload : message.payload ≡ newest_message (ring_messages list script history k (source.Node p))
 
@@ -43,9 +44,9 @@ first_payloads list zero = []
 first_payloads list (suc receivers) = first_payloads list receivers ++ zeros_of_all list
 
 -- a host and a source of the list's
-abbrev pub IsRing : Medl → ℕ → Source → Type 0
-IsRing list host source.Status = host < length list.slots
-IsRing list host (source.Node p) = (host < length list.slots) × (p < length list.slots)
+abbrev pub IsHostAndSource : Medl → ℕ → Source → Type 0
+IsHostAndSource list host source.Status = host < length list.slots
+IsHostAndSource list host (source.Node p) = (host < length list.slots) × (p < length list.slots)
 
 -- there is a place for each ring, and for what its host has read
 pub record HasPlaces (incoming : Incoming) (list : Medl) : Type 0 where
@@ -60,7 +61,7 @@ pub record TellsRings (incoming : Incoming) (list : Medl) (script : Script) (his
   pub places : HasPlaces incoming list
   pub payloads : (k p : ℕ) → k < length list.slots → p < length list.slots → (message : Chosen)
       → slice_get incoming.payloads.items (k * incoming.nodes + p) ≡ Some message
-      → IsNewest message list script history k p
+      → IsNewestMessage message list script history k p
   pub statuses : (k : ℕ) → k < length list.slots
       → slice_get incoming.statuses.items k
       ≡ Some (record { words = newest_message (ring_messages list script history k source.Status) })
@@ -84,5 +85,5 @@ newest_before list script history read = newest_number (ring_messages list scrip
 -- no floor is above its ring's newest message in a history
 abbrev pub AreFloorsWithin : Incoming → Medl → Script → History → Type 0
 AreFloorsWithin incoming list script history =
-    (host : ℕ) (from : Source) → IsRing list host from
+    (host : ℕ) (from : Source) → IsHostAndSource list host from
     → floor_of incoming host from ≤ newest_number (ring_messages list script history host from)

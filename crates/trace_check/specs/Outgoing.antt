@@ -13,8 +13,8 @@ use Rattle.line_text.specs.Numerals.{message_digits}
 use Rattle.trace_check.specs.declared.outgoing.Outgoing.{Outgoing}
 
 -- the message that a node's line names, if it names one
-abbrev pub number_named : List ℕ → Option ℕ
-number_named line = numeral_in message_digits (word_in (words_of line) 8)
+abbrev pub number_by_line : List ℕ → Option ℕ
+number_by_line line = numeral_in message_digits (word_in (words_of line) 8)
 
 -- the oldest message that a node's frame may carry in a slot: its host's newest before the slot
 abbrev pub oldest_number : Medl → Script → ℕ → ℕ → ℕ
@@ -27,8 +27,8 @@ number_taken list script slot k (Some i) =
     if is_legal_message list script slot k (Some i) then i else oldest_number list script slot k
 
 -- in a slot whose lines begin a text
-abbrev pub number_in : Medl → Script → ℕ → List ℕ → ℕ → ℕ
-number_in list script slot text k = number_taken list script slot k (number_named (get_or (lines_of text) k []))
+abbrev pub number_by_text : Medl → Script → ℕ → List ℕ → ℕ → ℕ
+number_by_text list script slot text k = number_taken list script slot k (number_by_line (get_or (lines_of text) k []))
 
 -- each host's newest message before a slot is known, and for each node the message of such a number is chosen
 pub record Chooses (o : Outgoing) (list : Medl) (script : Script) (slot : ℕ) (number : ℕ → ℕ) : Type 0 where

@@ -5,7 +5,7 @@ ghost use Rattle.ttp_world.specs.Legal.{IsLegal};
 ghost use Rattle.ttp_world.specs.Medl.{IsValid};
 ghost use Rattle.ttp_world.specs.Script.{IsValidScript};
 ghost use Rattle.ttp_world.specs.World.{Numbers};
-ghost use Rattle.trace_check.specs.Following.{StandsFor, StandsAt, GoesOnTo, DepartsAfter};
+ghost use Rattle.trace_check.specs.Following.{FollowerStandsFor, StandsAt, GoesOnTo, DepartsAfter};
 ghost use Rattle.trace_check.specs.Following.{IsTraceAnd, IsAmissAt};
 
 use crate::hosts::{follow_reads, follow_writes, settle};
@@ -35,7 +35,7 @@ impl Follower {
     /// The run of a list before its first slot. Only this call takes memory.
     pub(crate) fn new(alloc: Global, list: &Medl) -> Result<Follower, Memory>
         requires { IsValid list.now }
-        ensures { (script : Said) → IfOk result (λ f. StandsFor f list.now script []) }
+        ensures { (script : Said) → IfOk result (λ f. FollowerStandsFor f list.now script []) }
     {
         Ok(Follower {
             plant: Plant::new(alloc, list)?,
@@ -59,10 +59,10 @@ impl Follower {
         requires slot { slot < script.now.slots }
         requires stands { StandsAt self.old list.now script.now slot }
         ensures ok { (numbers : Numbers) → IsLegal list.now script.now numbers
-            → StandsFor self.old list.now script.now numbers
+            → FollowerStandsFor self.old list.now script.now numbers
             → IfOk result (λ rest. GoesOnTo self.new list.now script.now numbers text.now rest.now) }
         ensures wrong { (numbers : Numbers) → IsLegal list.now script.now numbers
-            → StandsFor self.old list.now script.now numbers
+            → FollowerStandsFor self.old list.now script.now numbers
             → IfErr result (λ wrong. DepartsAfter list.now script.now numbers text.now wrong.text.now) }
     {
         self.outgoing.choose(list, script, slot, text);
@@ -99,7 +99,7 @@ impl Follower {
     ) -> Result<&'a [u8], Wrong<'a>>
         requires list { IsValid list.now }
         requires script { IsValidScript list.now script.now }
-        requires stands { StandsFor self.old list.now script.now [] }
+        requires stands { FollowerStandsFor self.old list.now script.now [] }
         ensures ok { IfOk result (λ rest. IsTraceAnd list.now script.now text.now rest.now) }
         ensures wrong { IfErr result (λ wrong. IsAmissAt list.now script.now text.now wrong.text.now) }
     {

@@ -7,9 +7,9 @@ ghost use Rattle.ttp_world.specs.Medl.{IsValid};
 ghost use Rattle.ttp_world.specs.Script.{reads_in, IsValidScript};
 ghost use Rattle.ttp_world.specs.Trace.{write_lines};
 ghost use Rattle.ttp_world.specs.Legal.{ReadMessage};
-ghost use Rattle.trace_check.specs.Following.{HasEnded, IsPast, Begins, Departs, ReadsOn, ReadsAmiss, row_after};
+ghost use Rattle.trace_check.specs.Following.{HasEnded, IsPast, BeginsWith, Departs, ReadsOn, ReadsAmiss, row_after};
 ghost use Rattle.trace_check.specs.Following.{KnowsReads, ReadsOne, ReadsNone, behind_read, behind_new_read};
-ghost use Rattle.trace_check.specs.Incoming.{HasPlaces, HaveSameMessages, IsRing, TellsRings, AreFloorsWithin};
+ghost use Rattle.trace_check.specs.Incoming.{HasPlaces, HaveSameMessages, IsHostAndSource, TellsRings, AreFloorsWithin};
 ghost use Rattle.trace_check.specs.Incoming.{newest_before};
 ghost use Rattle.trace_check.specs.Outgoing.{HasChosen, HoldsNewest};
 
@@ -34,7 +34,7 @@ pub(crate) fn follow_writes<'a>(
     requires list { IsValid list.now }
     requires script { IsValidScript list.now script.now }
     requires chosen { HasChosen outgoing.old list.now script.now slot }
-    ensures ok { IfOk result (λ rest. Begins text.now (write_lines list.now script.now slot) rest.now) }
+    ensures ok { IfOk result (λ rest. BeginsWith text.now (write_lines list.now script.now slot) rest.now) }
     ensures holds { OnOk result (HoldsNewest outgoing.new list.now script.now (slot + 1)) }
     ensures wrong { IfErr result (λ wrong. Departs text.now (write_lines list.now script.now slot) wrong.text.now) }
 {
@@ -61,7 +61,7 @@ fn behind_older<'a>(
     text: &'a [u8],
 ) -> Option<&'a [u8]>
     requires places { HasPlaces incoming.now list.now }
-    requires ring { IsRing list.now read.now.host read.now.source }
+    requires ring { IsHostAndSource list.now read.now.host read.now.source }
     ensures { (script : Said) (history : History) (chosen : Items Chosen) → slot ≡ length history
         → TellsRings incoming.now list.now script history
         → option_map (λ p. p.now) result
@@ -93,7 +93,7 @@ fn behind_newer<'a>(
     text: &'a [u8],
 ) -> Option<&'a [u8]>
     requires past { IsPast plant.now incoming.now list.now slot }
-    requires ring { IsRing list.now read.now.host read.now.source }
+    requires ring { IsHostAndSource list.now read.now.host read.now.source }
     ensures { (script : Said) (history : History) (chosen : Items Chosen)
         → HasEnded plant.now incoming.now list.now script history chosen → slot ≡ length history
         → option_map (λ p. p.now) result
@@ -127,7 +127,7 @@ fn follow_read<'a>(
     text: &'a [u8],
 ) -> Result<&'a [u8], Wrong<'a>>
     requires past { IsPast plant.now incoming.old list.now slot }
-    requires ring { IsRing list.now read.now.host read.now.source }
+    requires ring { IsHostAndSource list.now read.now.host read.now.source }
     ensures same { HaveSameMessages incoming.old incoming.new }
     ensures ok { (script : Said) (history : History) (chosen : Items Chosen) (earlier : Items ReadMessage)
         → HasEnded plant.now incoming.old list.now script history chosen → slot ≡ length history

@@ -6,7 +6,8 @@ ghost use Rattle.ttp_world.specs.declared.node.Chosen.{Chosen};
 ghost use Rattle.ttp_world.specs.Diary.{History};
 ghost use Rattle.ttp_world.specs.declared.script.Script.{Script as Said};
 ghost use Rattle.ttp_world.specs.Medl.{IsValid};
-ghost use Rattle.trace_check.specs.Incoming.{TellsRings, AreFloorsWithin, IsRing, IsRingKept, first_payloads, newest_before, zeros_of_all, floor_of, floor_place};
+ghost use Rattle.trace_check.specs.Incoming.{TellsRings, AreFloorsWithin, IsHostAndSource, IsRingKept, first_payloads};
+ghost use Rattle.trace_check.specs.Incoming.{newest_before, zeros_of_all, floor_of, floor_place};
 
 use crate::outgoing::zeros;
 use std::alloc::Global;
@@ -109,7 +110,7 @@ impl Incoming {
     pub(crate) fn newest(&self, slot: u32, read: &HostRead) -> u64
         requires { IsRingKept self.now read.now }
         ensures { (list : List_) (script : Said) (history : History) → slot ≡ length history
-            → TellsRings self.now list script history → IsRing list read.now.host read.now.source
+            → TellsRings self.now list script history → IsHostAndSource list read.now.host read.now.source
             → result ≡ newest_before list script history read.now }
     {
         match read.source {

@@ -3,7 +3,7 @@ ghost use Rattle.std.specs.Prelude.{IfOk, IfErr};
 ghost use Rattle.ttp_world.specs.Medl.{IsValid};
 ghost use Rattle.ttp_world.specs.Script.{IsValidScript};
 ghost use Rattle.ttp_world.specs.Trace.{test_lines};
-ghost use Rattle.trace_check.specs.Following.{Begins, Departs};
+ghost use Rattle.trace_check.specs.Following.{BeginsWith, Departs};
 
 use crate::text::{Wrong, expect};
 use hypothesis::{has_arm, keeps, returns};
@@ -19,7 +19,7 @@ pub(crate) fn follow_tests<'a>(
 ) -> Result<&'a [u8], Wrong<'a>>
     requires list { IsValid list.now }
     requires script { IsValidScript list.now script.now }
-    ensures ok { IfOk result (λ rest. Begins text.now (test_lines list.now script.now) rest.now) }
+    ensures ok { IfOk result (λ rest. BeginsWith text.now (test_lines list.now script.now) rest.now) }
     ensures wrong { IfErr result (λ wrong. Departs text.now (test_lines list.now script.now) wrong.text.now) }
 {
     let rest = expect(behind_keep(&keeps(list, script), text), text)?;

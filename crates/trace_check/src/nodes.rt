@@ -5,7 +5,7 @@ ghost use Rattle.ttp_world.specs.declared.script.Script.{Script};
 ghost use Rattle.ttp_world.specs.Diary.{History};
 ghost use Rattle.ttp_world.specs.Medl.{IsValid};
 ghost use Rattle.ttp_world.specs.Trace.{message_shown};
-ghost use Rattle.trace_check.specs.Following.{HasEnded, IsPast, Begins, Departs, node_lines, row_after};
+ghost use Rattle.trace_check.specs.Following.{HasEnded, IsPast, BeginsWith, Departs, node_lines, row_after};
 
 use crate::incoming::Incoming;
 use crate::text::{Wrong, expect};
@@ -53,7 +53,7 @@ pub(crate) fn follow_nodes<'a>(
     requires past { IsPast plant.now incoming.now list.now slot }
     ensures ok { (script : Script) (history : History) (chosen : Items Chosen)
         → HasEnded plant.now incoming.now list.now script history chosen
-        → IfOk result (λ rest. Begins text.now (node_lines list.now script history chosen) rest.now) }
+        → IfOk result (λ rest. BeginsWith text.now (node_lines list.now script history chosen) rest.now) }
     ensures wrong { (script : Script) (history : History) (chosen : Items Chosen)
         → HasEnded plant.now incoming.now list.now script history chosen
         → IfErr result (λ wrong. Departs text.now (node_lines list.now script history chosen) wrong.text.now) }

@@ -5,9 +5,9 @@ ghost use Rattle.ttp_world.specs.declared.medl.Medl.{Medl as List_};
 ghost use Rattle.ttp_world.specs.declared.script.Script.{Script as Said};
 ghost use Rattle.ttp_world.specs.Medl.{IsValid};
 ghost use Rattle.ttp_world.specs.Script.{messages_written};
-ghost use Rattle.trace_check.specs.Outgoing.{Chooses, HoldsNewest, number_in, number_taken, oldest_number};
+ghost use Rattle.trace_check.specs.Outgoing.{Chooses, HoldsNewest, number_by_text, number_taken, oldest_number};
 
-use crate::text::number_named;
+use crate::text::number_by_line;
 use line_text::cut_line;
 use std::alloc::Global;
 use ttp_base::{List, Memory};
@@ -111,7 +111,7 @@ impl Outgoing {
     pub fn choose(&mut self, list: &Medl, script: &Script, slot: u32, text: &[u8])
         requires list { IsValid list.now }
         requires holds { HoldsNewest self.old list.now script.now slot }
-        ensures { Chooses self.new list.now script.now slot (number_in list.now script.now slot text.now) }
+        ensures { Chooses self.new list.now script.now slot (number_by_text list.now script.now slot text.now) }
     {
         if script.writes(slot).is_empty() {
             return;
@@ -121,7 +121,7 @@ impl Outgoing {
             let (line, behind) = cut_line(rest);
             rest = behind;
             if written_in(script, slot, node, 0).is_some() {
-                if let Some(number) = number_named(line) {
+                if let Some(number) = number_by_line(line) {
                     self.take(script, slot, node, number);
                 }
             }

@@ -2,7 +2,7 @@
 ghost use Rattle.std.specs.Prelude.{◌≡◌, ◌+◌, ◌<◌, ◌^◌, count_by, option_map};
 ghost use Rattle.std.specs.Prelude.{IfOk, IfErr, Some, None};
 ghost use Rattle.ttp_base.specs.Text.{is_newline};
-ghost use Rattle.trace_check.specs.Outgoing.{number_named};
+ghost use Rattle.trace_check.specs.Outgoing.{number_by_line};
 
 use line_text::message_in;
 
@@ -25,8 +25,8 @@ pub(crate) fn expect<'a>(behind: Option<&'a [u8]>, text: &'a [u8]) -> Result<&'a
 }
 
 /// The message that the line of a node names, if it names one.
-pub(crate) fn number_named(line: &[u8]) -> Option<u64>
-    ensures { result ≡ number_named line.now }
+pub(crate) fn number_by_line(line: &[u8]) -> Option<u64>
+    ensures { result ≡ number_by_line line.now }
 {
     match line.split(|byte| *byte == b' ').nth(8) {
         Some(word) => message_in(word),

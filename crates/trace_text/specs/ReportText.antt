@@ -23,15 +23,15 @@ abbrev pub write_text : ℕ → WriteLine → List ℕ
 write_text slot line = written_line slot line.host line.number
 
 -- how many bytes a payload of a source has; of a status it says nothing
-abbrev pub payload_size : Medl → Source → ℕ
-payload_size list source.Status = 0
-payload_size list (source.Node p) = (plan_at list p).payload
+abbrev pub source_payload_size : Medl → Source → ℕ
+source_payload_size list source.Status = 0
+source_payload_size list (source.Node p) = (plan_at list p).payload
 
 -- of a message that was read
 abbrev pub read_text : Medl → ℕ → ReadLine → List ℕ
 read_text list slot line =
     message_line slot line.host line.source line.pair.number
-    (message_in line.source (payload_size list line.source) line.pair.words)
+    (message_in line.source (source_payload_size list line.source) line.pair.words)
 
 -- one for each message that was written, and for each that was read
 abbrev pub host_lines : Medl → SlotReport → Lines
@@ -52,4 +52,4 @@ IsListed list (source.Node p) = p < length list.slots
 -- the message of a read line has as many words as the list gives the messages of its source
 pub record HasMessage (list : Medl) (line : ReadLine) : Type 0 where
   pub source : IsListed list line.source
-  pub words : HasWords line.source (payload_size list line.source) line.pair.words
+  pub words : HasWords line.source (source_payload_size list line.source) line.pair.words

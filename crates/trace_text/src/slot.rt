@@ -3,7 +3,7 @@ ghost use Rattle.std.specs.Prelude.{◌≡◌, ◌≤◌, [], ◌∷◌, length,
 ghost use Rattle.ttp_base.specs.Outside.{WroteLines, CutShort};
 ghost use Rattle.ttp_world.specs.Medl.{node_limit};
 ghost use Rattle.line_text.specs.LineParts.{HasDigits};
-ghost use Rattle.trace_text.specs.ReportText.{node_texts, write_text, payload_size, read_text, host_lines};
+ghost use Rattle.trace_text.specs.ReportText.{node_texts, write_text, source_payload_size, read_text, host_lines};
 ghost use Rattle.trace_text.specs.ReportText.{report_lines, IsListed, HasMessage};
 
 use host_port::{NodeLine, ReadLine, SlotReport, WriteLine};
@@ -53,9 +53,9 @@ fn put_writes<K: Sink>(
 }
 
 // How many bytes a payload of a source has.
-fn payload_size(list: &Medl, source: Source) -> u8
+fn source_payload_size(list: &Medl, source: Source) -> u8
     requires { IsListed list.now source }
-    ensures { result ≡ payload_size list.now source }
+    ensures { result ≡ source_payload_size list.now source }
 {
     match source {
         Source::Status => 0,
@@ -81,7 +81,7 @@ fn put_read<K: Sink>(
         source: read.source,
         number: read.pair.number(),
         words: read.pair.words(),
-        size: payload_size(list, read.source),
+        size: source_payload_size(list, read.source),
     };
     put_read_line(slot, read.host, &message, line, out)
 }

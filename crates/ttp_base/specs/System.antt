@@ -5,8 +5,8 @@ use Rattle.ttp_base.specs.declared.system.StreamSink.{StreamSink}
 use Rattle.ttp_base.specs.Outside.{untold, Files, Output}
 
 -- nothing of the bytes that files hold, of no name that it is sure, how many faults there were, and the loads
-abbrev pub library_files : {R : Type 0} → FileLibrary R → Files
-library_files library = record {
+abbrev pub system_files : {R : Type 0} → FileLibrary R → Files
+system_files library = record {
   held = λ _. untold;
   sure = λ _. false;
   faults = λ _. library.faults;
@@ -14,8 +14,8 @@ library_files library = record {
 }
 
 -- what the writer tells of its bytes; it is sure to take nothing
-abbrev pub sink_output : {W : Type 0} → (W → Option (List ℕ)) → StreamSink W → Output
-sink_output contents sink = record {
+abbrev pub stream_output : {W : Type 0} → (W → Option (List ℕ)) → StreamSink W → Output
+stream_output contents sink = record {
   written = contents sink.onto.writer;
   pieces = (sink.pieces).given;
   faults = sink.faults;

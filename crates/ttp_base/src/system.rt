@@ -29,12 +29,12 @@ pub struct FileLibrary<'a, R> {
 }
 
 impl<'a, R: Files> FileLibrary<'a, R> {
-    ghost use Rattle.ttp_base.specs.System.{library_files};
+    ghost use Rattle.ttp_base.specs.System.{system_files};
 
     /// A library of all files, whose count of faults is 0.
     pub fn new(rt: &'a R) -> FileLibrary<'a, R>
-        ensures count { (name : _) → (library_files result).faults name ≡ 0 }
-        ensures asked { (library_files result).loads ≡ [] }
+        ensures count { (name : _) → (system_files result).faults name ≡ 0 }
+        ensures asked { (system_files result).loads ≡ [] }
     {
         FileLibrary {
             rt,
@@ -45,9 +45,9 @@ impl<'a, R: Files> FileLibrary<'a, R> {
 }
 
 impl<R: Files> Library for FileLibrary<'_, R> {
-    ghost use Rattle.ttp_base.specs.System.{library_files};
+    ghost use Rattle.ttp_base.specs.System.{system_files};
 
-    ghost files = { library_files };
+    ghost files = { system_files };
 
     fn load(&mut self, alloc: Global, name: &str, limit: usize) -> Result<Vec<u8>, LoadError> {
         self.asked = Asked::and(&self.asked, &Request { name, limit });
@@ -109,11 +109,12 @@ pub struct StreamSink<W> {
 }
 
 impl<W: Write> StreamSink<W> {
-    ghost use Rattle.ttp_base.specs.System.{sink_output};
+    ghost use Rattle.ttp_base.specs.System.{stream_output};
 
     /// A sink over a writer, with what that has written and no faults.
     pub fn new(writer: W) -> StreamSink<W>
-        ensures { sink_output W.contents result ≡ record { written = W.contents writer; pieces = []; faults = 0; takes = 0 } }
+        ensures { stream_output W.contents result
+            ≡ record { written = W.contents writer; pieces = []; faults = 0; takes = 0 } }
     {
         StreamSink {
             onto: Onto { writer },
@@ -124,9 +125,9 @@ impl<W: Write> StreamSink<W> {
 }
 
 impl<W: Write> Sink for StreamSink<W> {
-    ghost use Rattle.ttp_base.specs.System.{sink_output};
+    ghost use Rattle.ttp_base.specs.System.{stream_output};
 
-    ghost output = { sink_output W.contents };
+    ghost output = { stream_output W.contents };
 
     fn write(&mut self, piece: &[u8]) -> Result<(), Failed> {
         match write_whole(&mut self.onto, piece) {
@@ -145,12 +146,12 @@ impl<W: Write> Sink for StreamSink<W> {
 impl<W: Write + Drop> StreamSink<BufWriter<W>> {
     ghost use Rattle.std.specs.Io.Buffered.{writer_contents};
     ghost use Rattle.std.specs.Io.KnownBytes.{Keeps};
-    ghost use Rattle.ttp_base.specs.System.{sink_output};
+    ghost use Rattle.ttp_base.specs.System.{stream_output};
 
     /// Hands on what the buffer still holds, and gives back the writer behind it, which then has all
     /// that was written. After `Failed` that writer took only some first bytes of it.
     pub fn end(self) -> Result<W, Failed>
-        ensures { IfOk result (λ w. Keeps (sink_output (writer_contents W.contents) self).written (W.contents w)) }
+        ensures { IfOk result (λ w. Keeps (stream_output (writer_contents W.contents) self).written (W.contents w)) }
     {
         let (writer, rest) = self.onto.writer.into_parts();
         let mut onto = Onto { writer };

@@ -1,7 +1,7 @@
 //! The check word of bytes that come in pieces.
 ghost use Rattle.std.specs.Prelude.{◌≡◌, ℕ, ◌^◌, ◌<◌, List, [], ◌∷◌, ◌++◌};
 ghost use Rattle.ttp_world.specs.CheckWord.{check_word};
-ghost use Rattle.ttp_check.specs.StandsFor.{StandsFor};
+ghost use Rattle.ttp_check.specs.StandsFor.{CheckStandsFor};
 
 use crate::table::word_of;
 use std::marker::Model;
@@ -54,7 +54,7 @@ impl Check {
     /// A check that was fed nothing yet. The start is a number below 2^24, and is the word until then.
     pub fn new(start: u32) -> Check
         requires { start < 2 ^ 24 }
-        ensures stands { StandsFor result start [] }
+        ensures stands { CheckStandsFor result start [] }
         ensures value { result ≡ start }
     {
         Check { word: start }
@@ -63,7 +63,7 @@ impl Check {
     /// Takes more bytes behind those before. It costs one table step for each byte.
     pub fn feed(&mut self, bytes: &[u8])
         ensures stands { (start : ℕ) (fed : List ℕ)
-            → StandsFor self.old start fed → StandsFor self.new start (fed ++ bytes.now) }
+            → CheckStandsFor self.old start fed → CheckStandsFor self.new start (fed ++ bytes.now) }
         ensures value { self.new ≡ check_word self.old bytes.now }
     {
         self.word = word_after(self.word, bytes);

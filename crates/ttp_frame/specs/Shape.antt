@@ -17,7 +17,7 @@ abbrev pub most_payload : ℕ
 most_payload = 240
 
 -- a frame may have this header and so many bytes of payload
-pub record IsShape (header size : ℕ) : Type 0 where
+pub record IsFrameShape (header size : ℕ) : Type 0 where
   pub known : header ≤ cold_start_header
   pub fits : size ≤ most_payload
   pub bare : IsTrue (is_without_payload header) → size ≡ 0

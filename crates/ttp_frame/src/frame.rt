@@ -3,7 +3,7 @@ ghost use Rattle.std.specs.Prelude.{◌≡◌, ◌+◌, ◌++◌, ◌≤◌, ◌
 ghost use Rattle.ttp_world.specs.Fitting.{carried_length};
 ghost use Rattle.ttp_world.specs.Frame.{frame as frame_bytes};
 ghost use Rattle.ttp_world.specs.Medl.{member_bytes, schedule_limit};
-ghost use Rattle.ttp_frame.specs.Shape.{IsShape, HaveRoom};
+ghost use Rattle.ttp_frame.specs.Shape.{IsFrameShape, HaveRoom};
 
 use crate::pieces::{sent_of, state_bytes, state_len, unsent_of, word_of};
 use ttp_world::CState;
@@ -37,7 +37,7 @@ fn put(out: &mut [u8; 256], len: usize, piece: &[u8]) -> usize
 ///
 /// The word starts from the schedule's number, which is below 2^24.
 pub fn encode(frame: &FrameIn, start: u32, out: &mut [u8; 256]) -> usize
-    requires shape { IsShape frame.now.header (length frame.now.payload.now) }
+    requires shape { IsFrameShape frame.now.header (length frame.now.payload.now) }
     requires start { start < schedule_limit }
     requires members { HaveRoom frame.now.wide frame.now.cstate.members }
     ensures length { result

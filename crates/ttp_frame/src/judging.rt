@@ -5,7 +5,7 @@ ghost use Rattle.ttp_world.specs.Fitting.{fits, is_formed};
 ghost use Rattle.ttp_world.specs.Medl.{member_bytes, schedule_limit};
 ghost use Rattle.ttp_check.specs.Bytes.{DifferWithin};
 ghost use Rattle.ttp_frame.specs.Match.{match_of};
-ghost use Rattle.ttp_frame.specs.Shape.{IsShape, HaveRoom, has_shape, carries};
+ghost use Rattle.ttp_frame.specs.Shape.{IsFrameShape, HaveRoom, has_shape, carries};
 
 use crate::pieces::{IMPLICIT, ends_with_word, sent_of, state_bytes, state_len, unsent_of};
 use ttp_world::CState;
@@ -55,7 +55,7 @@ fn carries(piece: &[u8], bytes: &[u8]) -> bool
 
 // The answer of `judge`.
 fn found(bytes: &[u8], start: u32, expect: &Expect, cstate: &CState) -> FrameMatch
-    requires shape { IsShape expect.now.header expect.now.payload }
+    requires shape { IsFrameShape expect.now.header expect.now.payload }
     requires start { start < schedule_limit }
     ensures { result ≡ match_of expect.now.wide bytes.now expect.now.header expect.now.payload start cstate.now }
 {
@@ -83,7 +83,7 @@ fn found(bytes: &[u8], start: u32, expect: &Expect, cstate: &CState) -> FrameMat
 /// A frame with explicit C-state tells a sender of another C-state from noise. One with implicit
 /// C-state does not: where its word is wrong it differs, whatever the reason.
 pub fn judge(bytes: &[u8], start: u32, expect: &Expect, cstate: &CState) -> FrameMatch
-    requires shape { IsShape expect.now.header expect.now.payload }
+    requires shape { IsFrameShape expect.now.header expect.now.payload }
     requires start { start < schedule_limit }
     requires members { HaveRoom expect.now.wide cstate.now.members }
     ensures answer { result ≡ match_of expect.now.wide bytes.now expect.now.header expect.now.payload start cstate.now }

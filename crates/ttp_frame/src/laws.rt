@@ -11,7 +11,7 @@ ghost use Rattle.ttp_world.specs.Fitting.{fits, joinable};
 ghost use Rattle.ttp_world.specs.Medl.{is_wide, member_bytes, schedule_limit, IsValid};
 ghost use Rattle.ttp_frame.specs.FrameBytes.{bytes_of, flipped_bytes};
 ghost use Rattle.ttp_frame.specs.Match.{match_of};
-ghost use Rattle.ttp_frame.specs.Shape.{IsShape, HavePlaces, HaveRoom};
+ghost use Rattle.ttp_frame.specs.Shape.{IsFrameShape, HavePlaces, HaveRoom};
 
 use crate::frame::FrameIn;
 
@@ -29,7 +29,7 @@ pub fn members_told()
 /// in payload alone, with the same bits flipped and none of them in the header, receivers of their
 /// width take both alike.
 pub fn flipped(flips: &[u8], frame: &FrameIn, other: &FrameIn, start: u32)
-    requires shape { IsShape frame.now.header (length frame.now.payload.now) }
+    requires shape { IsFrameShape frame.now.header (length frame.now.payload.now) }
     requires start { start < schedule_limit }
     requires members { HaveRoom frame.now.wide frame.now.cstate.members }
     requires wide { other.now.wide ≡ frame.now.wide }

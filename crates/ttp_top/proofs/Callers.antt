@@ -2,14 +2,14 @@
 -- or memory was refused, or the sink cut a text short that it was not sure to take. No count is asked for.
 use Rattle.ttp_top.proofs.Terms.{◌≡◌, ◌⊎◌, ℕ, ◌<◌, ◌≤◌, true, List, length, refl, ap, sym, subst, ◌∙◌, inl, inr, arith}
 use Rattle.ttp_top.proofs.Terms.{concat, Lines, Medl, Script, IsLegalRun, IsValid, IsValidScript, trace_lines, Numbers}
-use Rattle.ttp_top.proofs.Terms.{is_trace, trace-short, Outside, trace_limit, AreRight, Answer, Plan, ttpbench, CutOf}
-use Rattle.ttp_top.proofs.Terms.{traces, IsTrace, WroteTraceOf, RunPromise, WroteSuch, CutSuch, TestPromise, OfTrace}
-use Rattle.ttp_top.proofs.Terms.{HasJudged, CutVerdict, AreAllTold, TextPromise}
+use Rattle.ttp_top.proofs.Terms.{is_trace, trace-short, Outside, trace_limit, AreRight, BenchAnswer, BenchPlan}
+use Rattle.ttp_top.proofs.Terms.{ttpbench, CutOf, traces, IsTrace, WroteTraceOf, RunPromise, WroteSuch, CutSuch}
+use Rattle.ttp_top.proofs.Terms.{TestPromise, OfTrace, HasJudged, CutVerdict, AreAllTold, TextPromise}
 use Rattle.std.proofs.lemmas.Bool.{true≢false}
 use Rattle.ttp_base.specs.Outside.{count_end}
 use Rattle.trace_check.proofs.OwnNumbers.{numbers-is_trace}
 use Rattle.commands.proofs.Sure.{HoldsSurely, none_rose, surely_told, unless_cut}
-use Rattle.commands.specs.Promise.{Promise as CallPromise}
+use Rattle.commands.specs.Promise.{Promise}
 
 -- no trace is longer than the file of one may be
 pub trace_within : (list : Medl) (script : Script) (lines : Lines) → IsTrace list script lines
@@ -25,7 +25,8 @@ own_text list script numbers valid valid_script legal =
     numbers-is_trace list script (concat (trace_lines list script numbers)) valid valid_script
     (record { numbers = numbers; legal = legal; whole = refl })
 
-module _ {plan : Plan} {before now : Outside} {answer : Answer} (call : CallPromise ttpbench plan before now answer)
+module _ {plan : BenchPlan} {before now : Outside} {answer : BenchAnswer}
+    (call : Promise ttpbench plan before now answer)
     {list script bytes script_bytes : List ℕ} {medl : Medl} {right : Script} (l : HoldsSurely before.files list bytes)
     (s : HoldsSurely before.files script script_bytes) (are : AreRight bytes script_bytes medl right)
     (can : before.output.faults < count_end) where

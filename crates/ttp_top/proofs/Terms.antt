@@ -11,7 +11,7 @@ pub use Rattle.commands.proofs.Right.{list_from-right}
 pub use Rattle.commands.proofs.Told.{Quiet, told_cut, told_shows}
 pub use Rattle.commands.specs.Files.{both_plan, list_file, refused_list, trace_file, trace_plan}
 pub use Rattle.commands.specs.Lines.{AreLines}
-pub use Rattle.commands.specs.Outcome.{Says, Showed, Shows}
+pub use Rattle.commands.specs.Outcome.{Says, Showed, ShowsEnding}
 pub use Rattle.commands.specs.Plan.{Comes, Outside, ends, line_ending, outside, told_ending, whole_ending}
 pub use Rattle.commands.specs.Read.{list_from, trace_limit}
 pub use Rattle.commands.specs.Right.{AreRight, AreTold}
@@ -41,17 +41,17 @@ pub use Rattle.ttp_base.proofs.Outputs.{CutShort-after, CutShort-more, Wrote-joi
 pub use Rattle.ttp_base.specs.NodeSet.{below, set_bits}
 pub use Rattle.ttp_base.specs.Outside.{CutShort, HasRisen, Output, Wrote, WroteLines}
 pub use Rattle.ttp_base.specs.Text.{Lines, is_line, lines_of, newline}
-pub use Rattle.ttp_top.specs.Calls.Answer.{Answer, CutOf, Ending, Plan, WroteOf, ttpbench}
+pub use Rattle.ttp_top.specs.Calls.Answer.{BenchAnswer, CutOf, BenchEnding, BenchPlan, WroteOf, ttpbench}
 pub use Rattle.ttp_top.specs.Calls.Differences.{differs_line, same_line}
 pub use Rattle.ttp_top.specs.Calls.Forms.{keep_ending, modes_ending, plan_of, precision_ending, sample_ending}
 pub use Rattle.ttp_top.specs.Calls.Forms.{table_ending, trace_ending, usage_line, verify_ending}
 pub use Rattle.ttp_top.specs.Calls.Precision.{answer_line, broken_line, faced_line}
-pub use Rattle.ttp_top.specs.Calls.Promise.{Promise}
+pub use Rattle.ttp_top.specs.Calls.Promise.{BenchPromise}
 pub use Rattle.ttp_top.specs.Calls.Texts.{IsPrecision, IsSample, IsTrace, differences, fronts, traces}
 pub use Rattle.ttp_top.specs.Calls.Words.{Form, is_run, modes, precision, run, runs_cluster, sample, schedule, verify}
 pub use Rattle.ttp_top.specs.Samples.Counted.{HasCounted, states_in}
 pub use Rattle.ttp_top.specs.Samples.Lines.{asked_line, hosts_line, sent_line, summary_lines}
-pub use Rattle.ttp_top.specs.Samples.Promise.{IsTold}
+pub use Rattle.ttp_top.specs.Samples.Promise.{HoldsRightList}
 pub use Rattle.ttp_top.specs.Samples.Totals.{lowest_members, shows_left, shows_sent, states_after, totals_of}
 pub use Rattle.ttp_top.specs.Scripts.Promise.{RunPromise, WroteTraceOf}
 pub use Rattle.ttp_top.specs.Scripts.Written.{HasWritten}

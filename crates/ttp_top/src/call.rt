@@ -6,7 +6,7 @@ ghost use Rattle.commands.specs.Texts.{answer};
 ghost use Rattle.commands.specs.Words.{texts_of};
 ghost use Rattle.ttp_top.specs.Calls.Answer.{ttpbench};
 ghost use Rattle.ttp_top.specs.Calls.Forms.{plan_of};
-ghost use Rattle.ttp_top.specs.Calls.Promise.{Promise};
+ghost use Rattle.ttp_top.specs.Calls.Promise.{BenchPromise};
 ghost use Rattle.ttp_top.specs.Calls.Words.{schedule, run, keeps, verify, precision, sample, modes, runs_cluster, form_of};
 ghost use Rattle.ttp_top.specs.Calls.Words.{form_asked, HasSlots};
 ghost use Rattle.ttp_top.specs.Lists.Promise.{SchedulePromise};
@@ -123,7 +123,7 @@ pub fn bench<R: Threads + Wait + Sync, L: Library, K: Sink, G: Gate>(
     kept: &mut Option<Cluster>,
 ) -> u8
     // The promise of every form: what is asked for, how it ends, and what is written.
-    ensures promise { Promise (form_of (texts_of words.now)) (outside (L.files library.old) (K.output out.old))
+    ensures promise { BenchPromise (form_of (texts_of words.now)) (outside (L.files library.old) (K.output out.old))
         (outside (L.files library.new) (K.output out.new)) (answer result kept.new) }
     // For `run`, in its own words: status 0 is the trace of the world's run for the numbers that the trace
     // names, which are legal. Where the script keeps the single-fault hypothesis, that run is safe from its start on,

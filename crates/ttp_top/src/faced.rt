@@ -3,7 +3,7 @@ ghost use Rattle.std.specs.Prelude.{◌≡◌, ◌+◌, ◌≤◌, ◌++◌, Som
 ghost use Rattle.std.specs.Fmt.{signed_decimal};
 ghost use Rattle.ttp_world.specs.Medl.{IsValid};
 ghost use Rattle.ttp_world.specs.Script.{IsValidScript};
-ghost use Rattle.commands.specs.Outcome.{Follows, Shows};
+ghost use Rattle.commands.specs.Outcome.{Follows, ShowsEnding};
 ghost use Rattle.commands.specs.Plan.{outside};
 ghost use Rattle.commands.specs.Texts.{alone};
 ghost use Rattle.ttp_top.specs.Calls.Answer.{ttpbench};
@@ -69,7 +69,8 @@ fn broken_line(rule: u8, slot: u32) -> Line
 fn show_precision<K: Sink>(alloc: Global, list: &Medl, script: &Script, node: u8, out: &mut K) -> u8
     requires valid { IsValid list.now }
     requires script { IsValidScript list.now script.now }
-    ensures { Shows ttpbench (precision_ending node list.now script.now) (K.output out.old) (K.output out.new) (alone result) }
+    ensures { ShowsEnding ttpbench (precision_ending node list.now script.now) (K.output out.old) (K.output out.new)
+        (alone result) }
 {
     match find_faced(list, script, node) {
         Faced::Yes { start } => match find_seen(alloc, list, script, node) {

@@ -3,7 +3,7 @@ ghost use Rattle.std.specs.Prelude.{◌≡◌, Some, IsTrue};
 ghost use Rattle.ttp_world.specs.Medl.{IsValid};
 ghost use Rattle.ttp_world.specs.Script.{IsValidScript};
 ghost use Rattle.trace_check.specs.Answer.{is_trace};
-ghost use Rattle.commands.specs.Outcome.{Follows, Shows};
+ghost use Rattle.commands.specs.Outcome.{Follows, ShowsEnding};
 ghost use Rattle.commands.specs.Plan.{outside};
 ghost use Rattle.commands.specs.Texts.{alone};
 ghost use Rattle.ttp_top.specs.Calls.Answer.{ttpbench};
@@ -23,7 +23,8 @@ fn show_text<K: Sink>(alloc: Global, list: &Medl, script: &Script, text: &[u8], 
     requires valid { IsValid list.now }
     requires script { IsValidScript list.now script.now }
     requires trace { IsTrue (is_trace list.now script.now text.now) }
-    ensures { Shows ttpbench (modes_ending list.now script.now text.now) (K.output out.old) (K.output out.new) (alone result) }
+    ensures { ShowsEnding ttpbench (modes_ending list.now script.now text.now) (K.output out.old) (K.output out.new)
+        (alone result) }
 {
     match put_modes(alloc, list, script, text, out) {
         Ok(()) => 0,
@@ -36,7 +37,8 @@ fn show_text<K: Sink>(alloc: Global, list: &Medl, script: &Script, text: &[u8], 
 fn show_modes<K: Sink>(alloc: Global, list: &Medl, script: &Script, text: &[u8], out: &mut K) -> u8
     requires valid { IsValid list.now }
     requires script { IsValidScript list.now script.now }
-    ensures { Shows ttpbench (modes_ending list.now script.now text.now) (K.output out.old) (K.output out.new) (alone result) }
+    ensures { ShowsEnding ttpbench (modes_ending list.now script.now text.now) (K.output out.old) (K.output out.new)
+        (alone result) }
 {
     match outcome_of(alloc, list, script, text) {
         Ok(Outcome::Same) => show_text(alloc, list, script, text, out),

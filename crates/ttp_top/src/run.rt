@@ -4,7 +4,7 @@ ghost use Rattle.ttp_world.specs.Medl.{IsValid};
 ghost use Rattle.ttp_world.specs.Script.{IsValidScript};
 ghost use Rattle.ttp_world.specs.Trace.{back_lines};
 ghost use Rattle.cluster_run.specs.Standing.{ClusterStandsFor};
-ghost use Rattle.commands.specs.Outcome.{Follows, Says, Shows};
+ghost use Rattle.commands.specs.Outcome.{Follows, Says, ShowsEnding};
 ghost use Rattle.commands.specs.Plan.{outside, whole_ending};
 ghost use Rattle.commands.specs.Texts.{alone, answer, one};
 ghost use Rattle.ttp_top.specs.Calls.Answer.{ttpbench, kept_after};
@@ -61,7 +61,8 @@ fn put_trace<R: Threads + Wait + Sync, K: Sink, G: Gate>(
     requires valid { IsValid cluster.old.list }
     requires script { IsValidScript cluster.old.list cluster.old.script }
     requires new { ClusterStandsFor cluster.old [] }
-    ensures { Shows ttpbench (trace_ending cluster.old.list cluster.old.script) (K.output out.old) (K.output out.new)
+    ensures { ShowsEnding ttpbench (trace_ending cluster.old.list cluster.old.script) (K.output out.old)
+        (K.output out.new)
         (answer result (kept_after result cluster.new)) }
 {
     match put_run(rt, cluster, out, gate) {
@@ -85,7 +86,8 @@ fn show_trace<R: Threads + Wait + Sync, K: Sink, G: Gate>(
     requires valid { IsValid list }
     requires script { IsValidScript list script }
     requires none { kept.old ≡ None }
-    ensures { Shows ttpbench (trace_ending list script) (K.output out.old) (K.output out.new) (answer result kept.new) }
+    ensures { ShowsEnding ttpbench (trace_ending list script) (K.output out.old) (K.output out.new)
+        (answer result kept.new) }
 {
     match Cluster::make(alloc, list, script) {
         Ok(mut cluster) => {

@@ -6,7 +6,7 @@ ghost use Rattle.ttp_world.specs.Medl.{IsValid};
 ghost use Rattle.ttp_world.specs.Script.{IsValidScript};
 ghost use Rattle.script_gen.specs.Generator.{generated};
 ghost use Rattle.cluster_run.specs.Standing.{ClusterStandsFor};
-ghost use Rattle.commands.specs.Outcome.{Follows, Shows};
+ghost use Rattle.commands.specs.Outcome.{Follows, ShowsEnding};
 ghost use Rattle.commands.specs.Plan.{outside};
 ghost use Rattle.commands.specs.Texts.{answer};
 ghost use Rattle.ttp_top.specs.Calls.Answer.{ttpbench, kept_after};
@@ -136,7 +136,7 @@ fn put_sample<R: Threads + Wait + Sync, K: Sink, G: Gate>(
     requires script { IsValidScript cluster.old.list cluster.old.script }
     requires generated { cluster.old.script ≡ generated cluster.old.list slots number }
     requires new { ClusterStandsFor cluster.old [] }
-    ensures { Shows ttpbench (sample_ending slots number cluster.old.list) (K.output out.old) (K.output out.new)
+    ensures { ShowsEnding ttpbench (sample_ending slots number cluster.old.list) (K.output out.old) (K.output out.new)
         (answer result (kept_after result cluster.new)) }
 {
     match count_run(rt, cluster, gate) {
@@ -169,7 +169,7 @@ fn show_sample<R: Threads + Wait + Sync, K: Sink, G: Gate>(
     requires valid { IsValid list }
     requires slots { (1 ≤ slots) × (slots ≤ SLOT_LIMIT) }
     requires none { kept.old ≡ None }
-    ensures { Shows ttpbench (sample_ending slots number list) (K.output out.old) (K.output out.new)
+    ensures { ShowsEnding ttpbench (sample_ending slots number list) (K.output out.old) (K.output out.new)
         (answer result kept.new) }
 {
     let Ok(script) = generate(alloc, &list, slots, number) else {

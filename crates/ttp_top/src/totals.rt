@@ -4,7 +4,7 @@ ghost use Rattle.ttp_world.specs.Medium.{is_sending};
 ghost use Rattle.ttp_world.specs.Medl.{IsValid};
 ghost use Rattle.ttp_world.specs.Script.{IsValidScript};
 ghost use Rattle.cluster_run.specs.Standing.{ClusterStandsFor};
-ghost use Rattle.ttp_top.specs.Samples.Counted.{states_in, with_report, HasRoom, HasCounted};
+ghost use Rattle.ttp_top.specs.Samples.Counted.{states_in, with_report, SumsFit, HasCounted};
 ghost use Rattle.ttp_top.specs.Samples.Totals.{shows_sent, is_leaving, shows_left, lowest_members, no_totals};
 
 use cluster_run::{Cluster, Watch};
@@ -95,7 +95,7 @@ impl Totals {
 
     // One slot more.
     fn add(&mut self, report: &SlotReport)
-        requires { HasRoom self.old report.now }
+        requires { SumsFit self.old report.now }
         ensures { self.new ≡ with_report self.old report.now }
     {
         let nodes = report.nodes.as_slice();

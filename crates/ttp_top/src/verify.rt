@@ -2,7 +2,7 @@
 ghost use Rattle.std.specs.Prelude.{◌≡◌, Some};
 ghost use Rattle.ttp_world.specs.Medl.{IsValid};
 ghost use Rattle.ttp_world.specs.Script.{IsValidScript};
-ghost use Rattle.commands.specs.Outcome.{Follows, Shows};
+ghost use Rattle.commands.specs.Outcome.{Follows, ShowsEnding};
 ghost use Rattle.commands.specs.Plan.{outside};
 ghost use Rattle.commands.specs.Texts.{alone};
 ghost use Rattle.ttp_top.specs.Calls.Answer.{ttpbench};
@@ -38,7 +38,8 @@ fn show_outcome<K: Sink>(
 ) -> u8
     requires valid { IsValid list.now }
     requires script { IsValidScript list.now script.now }
-    ensures { Shows ttpbench (verify_ending list.now script.now text.now) (K.output out.old) (K.output out.new) (alone result) }
+    ensures { ShowsEnding ttpbench (verify_ending list.now script.now text.now) (K.output out.old) (K.output out.new)
+        (alone result) }
 {
     match outcome_of(alloc, list, script, text) {
         Ok(Outcome::Same) => say(out, b"same\n", 0),

@@ -4,9 +4,9 @@ use Rattle.two_faced.proofs.Words.{◌≡◌, ℕ, zero, suc, ◌+◌, ◌-◌, 
 use Rattle.two_faced.proofs.Words.{cond, List, [], ◌∷◌, length, inl, inr, refl, ap, sym, subst, ◌∙◌, arith, ◌==◌}
 use Rattle.two_faced.proofs.Words.{cases_eq, ints, has_node, Medl, Entry, Script, notes_in, History, entry_of}
 use Rattle.two_faced.proofs.Words.{ClusterStart, plan_at, drift_of, jump_of, reading_error, node_past, measured, IsUpTo}
-use Rattle.two_faced.proofs.Words.{clock_at-still, frame_of, frame_of-node, product_up, AreWithin, clock_after, Plan}
-use Rattle.two_faced.proofs.Words.{sender, planned_place, none-enters, IsSoundIn, NotedInSlot, clock_moved, sender-in}
-use Rattle.two_faced.proofs.Words.{bound}
+use Rattle.two_faced.proofs.Words.{clock_at-still, frame_of, frame_of-node, product_up, AreWithin, clock_after}
+use Rattle.two_faced.proofs.Words.{FaultPlan, sender, planned_place, none-enters, IsSoundIn, NotedInSlot, clock_moved}
+use Rattle.two_faced.proofs.Words.{sender-in, bound}
 use Rattle.std.proofs.lemmas.Bool.{eqb-true}
 use Rattle.ttp_world.specs.declared.node.Entry.TheVariants as entry
 use Rattle.ttp_world.specs.Clock.{join_deviation}
@@ -76,7 +76,7 @@ record BegunEntry (list : Medl) (script : Script) (history : History) (p k : ℕ
   notes : notes_in list (start_place p) e ≡ cond (plan_at list p).sync (pos 0 ∷ []) []
   near : IsUpTo list.error ((clock_after list script history k +ℤ join_deviation e) -ℤ frame_of list script history p)
 
-module _ (list : Medl) (script : Script) (start : ClusterStart) (z : ℕ) (plan : Plan)
+module _ (list : Medl) (script : Script) (start : ClusterStart) (z : ℕ) (plan : FaultPlan)
     (f : IsFacing list script start z plan) where
   up : pos 0 ≤ℤ list.drift
   up = f.valid.drift.0

@@ -4,8 +4,9 @@ use Rattle.two_faced.proofs.Words.{cond, ◌&&◌, List, [], ◌∷◌, ◌++◌
 use Rattle.two_faced.proofs.Words.{◌==◌, int_max, ne_eqb, ints, has_node, Medl, Entry, Script, notes_in, History}
 use Rattle.two_faced.proofs.Words.{entry_of, ClusterStart, IsValid, plan_at, drift_of, jump_of, reading_error, TellsOf}
 use Rattle.two_faced.proofs.Words.{measured, IsUpTo, clock_at-still, frame_of, frame_of-node, drift_in, product_more}
-use Rattle.two_faced.proofs.Words.{HaveDrifted, clock_after, Plan, sender, is_good_slot, FollowsPlan, planned_place}
-use Rattle.two_faced.proofs.Words.{none-enters, IsSoundIn, NotedInSlot, clock_moved, sender-in, bound, HasFacedClocks}
+use Rattle.two_faced.proofs.Words.{HaveDrifted, clock_after, FaultPlan, sender, is_good_slot, FollowsPlan}
+use Rattle.two_faced.proofs.Words.{planned_place, none-enters, IsSoundIn, NotedInSlot, clock_moved, sender-in, bound}
+use Rattle.two_faced.proofs.Words.{HasFacedClocks}
 use Rattle.std.proofs.Common.{◌%◌}
 use Rattle.std.specs.Prelude.{nat_le}
 use Rattle.std.proofs.lemmas.Bool.{and_left, and_right}
@@ -23,14 +24,14 @@ use Rattle.two_faced.proofs.FacedRounds.{width, Round, SlotNotes}
 use Rattle.precision.proofs.ClockBounds.{within_bound as upto_of_test}
 
 -- what the law asks of list, script and plan
-pub record IsFacing (list : Medl) (script : Script) (start : ClusterStart) (z : ℕ) (plan : Plan) : Type 0 where
+pub record IsFacing (list : Medl) (script : Script) (start : ClusterStart) (z : ℕ) (plan : FaultPlan) : Type 0 where
   pub valid : IsValid list
   pub follows : FollowsPlan list script start plan
   pub none : plan.incidents ≡ []
   pub clocks : HasFacedClocks list script start z
 
 -- the nodes that begin
-abbrev pub Group : Medl → Plan → ℕ → Type 0
+abbrev pub Group : Medl → FaultPlan → ℕ → Type 0
 Group list plan k = IsIn list (has_node plan.begin) k
 
 -- Errors.
@@ -39,7 +40,7 @@ allowed_within : (faced : Bool) (e w : ℤ) → e ≤ℤ w → cond faced (int_m
 allowed_within true e w h = grind (arith, ints)
 allowed_within false e w h = h
 
-module _ (list : Medl) (script : Script) (start : ClusterStart) (z : ℕ) (plan : Plan)
+module _ (list : Medl) (script : Script) (start : ClusterStart) (z : ℕ) (plan : FaultPlan)
     (f : IsFacing list script start z plan) where
   pub stay : plan.returns ≡ []
   stay = none-returns plan f.follows.good f.none
@@ -114,7 +115,7 @@ told_located list script history z p k place w c began _ tells own other = absur
 
 -- The slot of the turn after this one.
 
-module _ (list : Medl) (script : Script) (start : ClusterStart) (z : ℕ) (plan : Plan)
+module _ (list : Medl) (script : Script) (start : ClusterStart) (z : ℕ) (plan : FaultPlan)
     (f : IsFacing list script start z plan) (turn : ℕ) (history : History)
     (number : length history ≡ start.slot + suc turn) (within : start.slot + suc turn < script.slots) where
   pub still : (k : ℕ) → Group list plan k → jump_of script k (length history) ≡ pos 0

@@ -3,8 +3,8 @@ use Rattle.two_faced.proofs.Words.{◌≡◌, ◌≢◌, ℕ, suc, ◌+◌, ◌-
 use Rattle.two_faced.proofs.Words.{length, refl, ap, sym, ◌∙◌, inl, inr, arith, both_ways, cases_eq, has_node, Medl}
 use Rattle.two_faced.proofs.Words.{Entry, Script, History, entry_of, ClusterStart, IsLegal, IsValid, newest_slot}
 use Rattle.two_faced.proofs.Words.{IsValidScript, is_on, Numbers, node_past, world, legal-older, length-world, TellsOf}
-use Rattle.two_faced.proofs.Words.{Plan, sender, Fate, Absent, Sound, Falling, Fallen, fate_of, is_sound, is_lost}
-use Rattle.two_faced.proofs.Words.{is_sound_after, is_good_slot, never-listens, NotedInSlot, bound}
+use Rattle.two_faced.proofs.Words.{FaultPlan, sender, Fate, Absent, Sound, Falling, Fallen, fate_of, is_sound_fate}
+use Rattle.two_faced.proofs.Words.{is_lost, is_sound_after, is_good_slot, never-listens, NotedInSlot, bound}
 use Rattle.ttp_world.specs.declared.node.Ack.{Ack}
 use Rattle.ttp_world.specs.declared.node.Ack.TheVariants as ack
 use Rattle.ttp_world.specs.declared.node.Entry.TheVariants as entry
@@ -56,7 +56,7 @@ module _ (list : Medl) (script : Script) (z slot : ℕ) (valid : IsValid list) (
   abbrev start : ClusterStart
   start = rules.start
 
-  abbrev plan : Plan
+  abbrev plan : FaultPlan
   plan = quiet_plan list script rules.start
 
   facing : IsFacing list script start z plan
@@ -97,7 +97,7 @@ module _ (list : Medl) (script : Script) (z slot : ℕ) (valid : IsValid list) (
     where
       by : (fate : Fate) → fate_of plan turn p ≡ fate
           → IsByFate list plan turn p (node_past list script (row ∷ history) p) fate → is_sound_after plan turn p ≡ true
-      by Sound is at = ap is_sound is
+      by Sound is at = ap is_sound_fate is
       by Absent is off = absurd (both_ways (is_sending (entry_of row p)) (off-silent (entry_of row p) off) sent)
       by (Falling change since) is at = absurd (never-lost turn p _ is refl)
       by (Fallen change since shown) is at = absurd (never-lost turn p _ is refl)

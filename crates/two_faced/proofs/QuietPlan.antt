@@ -3,10 +3,10 @@ use Rattle.two_faced.proofs.Words.{◌≡◌, ℕ, ◌+◌, ◌<◌, ◌≤◌, 
 use Rattle.two_faced.proofs.Words.{arith, pos, false, Bool, List, ◌∷◌, Option, zero, suc, cond, ◌&&◌, int_le, ◌+ℤ◌}
 use Rattle.two_faced.proofs.Words.{◌==◌, AllByRecursion, filter_map, both_ways, none-some, below, has_node, Medl}
 use Rattle.two_faced.proofs.Words.{Script, ClusterStart, is_within_bound, drifts_hold, start_of, IsValid, plan_at}
-use Rattle.two_faced.proofs.Words.{IsValidScript, is_on, drift_of, reading_error, jump_of, sole_start, Plan, sender}
-use Rattle.two_faced.proofs.Words.{fate_of, is_sound_after, is_lost, Fate, Absent, Sound, Falling, Fallen, is_sound}
-use Rattle.two_faced.proofs.Words.{FollowsPlan, never-listens, none-enters, bound, HasFacedClocks, errors_allowed_in}
-use Rattle.two_faced.proofs.Words.{clocks_broken, fault_slot, faults_broken}
+use Rattle.two_faced.proofs.Words.{IsValidScript, is_on, drift_of, reading_error, jump_of, sole_start, FaultPlan}
+use Rattle.two_faced.proofs.Words.{sender, fate_of, is_sound_after, is_lost, Fate, Absent, Sound, Falling, Fallen}
+use Rattle.two_faced.proofs.Words.{is_sound_fate, FollowsPlan, never-listens, none-enters, bound, HasFacedClocks}
+use Rattle.two_faced.proofs.Words.{errors_allowed_in, faced_clocks_broken, first_fault_slot, faults_broken}
 use Rattle.std.specs.Prelude.{find, is_some}
 use Rattle.std.specs.List.{filter, list_any, Contains}
 use Rattle.std.proofs.lemmas.Bool.{not-false, leb-true}
@@ -22,7 +22,7 @@ use Rattle.ttp_world.specs.Starts.{StartsAlone}
 use Rattle.ttp_world.proofs.Lists.{nodes-most}
 use Rattle.ttp_world.proofs.Starts.{found-start, alone-start, on-start}
 use Rattle.hypothesis.specs.SoleStart.{sole_start_in}
-use Rattle.fault_plan.specs.Plan.{plan_of, Return, incident_at, is_in_slot}
+use Rattle.fault_plan.specs.Plan.{fault_plan_of, Return, incident_at, is_in_slot}
 use Rattle.fault_plan.specs.Fates.{is_steady_after, steady_nodes}
 use Rattle.fault_plan.specs.Fates.{fate_at_begin, next_fate, turned, struck}
 use Rattle.fault_plan.specs.GoodPlan.{IsGoodPlan}
@@ -31,7 +31,7 @@ use Rattle.fault_plan.proofs.Bounds.{both-hold, wide}
 use Rattle.fault_plan.proofs.CoursePlans.{on-always, due-ever}
 use Rattle.fault_plan.proofs.Returns.{none-among, none-armed}
 use Rattle.fault_plan.proofs.Sieves.{none-found}
-use Rattle.safety_laws.specs.PlannedRun.{IsBegun}
+use Rattle.safety_laws.specs.PlannedRun.{IsBegunAlone}
 use Rattle.two_faced.specs.Faced.{allowed_error}
 use Rattle.two_faced.proofs.Rules.{RulesHold}
 use Rattle.fault_plan.proofs.FaultySets.{lost-begin as begin-lost, sound-begin as begin-sound}
@@ -47,7 +47,7 @@ use Rattle.fault_plan.specs.Told.{IsTold}
 use Rattle.fault_plan.proofs.FateSteps.{next-same}
 use Rattle.fault_plan.proofs.FateTells.{fate-told}
 
-pub none-at : (plan : Plan) (slot : ℕ) → plan.incidents ≡ [] → incident_at plan slot ≡ None
+pub none-at : (plan : FaultPlan) (slot : ℕ) → plan.incidents ≡ [] → incident_at plan slot ≡ None
 none-at plan slot none = ap (find (is_in_slot slot)) none
 
 turned-begin : (own begins : Bool) (slot : ℕ) → turned own slot (cond begins Sound Absent) ≡ cond begins Sound Absent
@@ -56,28 +56,28 @@ turned-begin true false slot = refl
 turned-begin false begins slot = refl
 
 -- one slot changes no fate
-fate-same : (plan : Plan) (slot k : ℕ) (fate : Fate) → plan.incidents ≡ [] → plan.returns ≡ []
+fate-same : (plan : FaultPlan) (slot k : ℕ) (fate : Fate) → plan.incidents ≡ [] → plan.returns ≡ []
     → fate ≡ fate_at_begin plan k → next_fate plan slot k fate ≡ fate_at_begin plan k
 fate-same plan slot k fate none stay is =
     next-same plan slot k fate (none-armed plan slot k stay) (none-enters plan slot k stay)
     ∙ ap (λ found. turned (sender plan slot == k) slot (struck slot k fate found)) (none-at plan slot none)
     ∙ ap (turned (sender plan slot == k) slot) is ∙ turned-begin (sender plan slot == k) (has_node plan.begin k) slot
 
-pub fate-always : (plan : Plan) (slot k : ℕ) → plan.incidents ≡ [] → plan.returns ≡ []
+pub fate-always : (plan : FaultPlan) (slot k : ℕ) → plan.incidents ≡ [] → plan.returns ≡ []
     → fate_of plan slot k ≡ fate_at_begin plan k
 fate-always plan zero k none stay = fate-same plan 0 k (fate_at_begin plan k) none stay refl
 fate-always plan (suc slot) k none stay =
     fate-same plan (suc slot) k (fate_of plan slot k) none stay (fate-always plan slot k none stay)
 
 -- the nodes that begin are sound always
-pub sound-always : (plan : Plan) (slot k : ℕ) → plan.incidents ≡ [] → plan.returns ≡ []
+pub sound-always : (plan : FaultPlan) (slot k : ℕ) → plan.incidents ≡ [] → plan.returns ≡ []
     → is_sound_after plan slot k ≡ has_node plan.begin k
 sound-always plan slot k none stay =
-    ap is_sound (fate-always plan slot k none stay) ∙ begin-sound (has_node plan.begin k)
+    ap is_sound_fate (fate-always plan slot k none stay) ∙ begin-sound (has_node plan.begin k)
 
 -- And none returns, since only a lost node does.
 
-never-lost : (plan : Plan) (slot k : ℕ) (fate : Fate) → plan.incidents ≡ [] → IsTold plan slot k fate
+never-lost : (plan : FaultPlan) (slot k : ℕ) (fate : Fate) → plan.incidents ≡ [] → IsTold plan slot k fate
     → is_lost fate ≡ true → ⊥
 never-lost plan slot k (Falling change since) none told lost =
     none-some told.loss.incident (sym (none-at plan since none) ∙ told.loss.found)
@@ -85,7 +85,7 @@ never-lost plan slot k (Fallen change since shown) none told lost =
     none-some told.loss.incident (sym (none-at plan since none) ∙ told.loss.found)
 never-lost plan slot k _ none told lost = both_ways false refl lost
 
-pub none-returns : (plan : Plan) → IsGoodPlan plan → plan.incidents ≡ [] → plan.returns ≡ []
+pub none-returns : (plan : FaultPlan) → IsGoodPlan plan → plan.incidents ≡ [] → plan.returns ≡ []
 none-returns plan good none = by plan.returns refl
   where
     by : (returns : List Return) → plan.returns ≡ returns → plan.returns ≡ []
@@ -98,36 +98,36 @@ none-returns plan good none = by plan.returns refl
 -- A script without faults of senders and receivers, flipped bits and jumps.
 
 -- what no event is, or says, of a kind that is no fault
-none-any : (p : Event → Bool) (events : List Event) → ((e : Event) → fault_slot e ≡ None → p e ≡ false)
-    → AllByRecursion (λ e. fault_slot e ≡ None) events → list_any p events ≡ false
+none-any : (p : Event → Bool) (events : List Event) → ((e : Event) → first_fault_slot e ≡ None → p e ≡ false)
+    → AllByRecursion (λ e. first_fault_slot e ≡ None) events → list_any p events ≡ false
 none-any p [] fails quiet = refl
 none-any p (e ∷ events) fails quiet =
     let here : p e ≡ false = fails e quiet.0 in
     rw here (none-any p events fails quiet.1)
 
 none-mapped : {B : Type 0} (f : Event → Option B) (events : List Event)
-    → ((e : Event) → fault_slot e ≡ None → f e ≡ None)
-    → AllByRecursion (λ e. fault_slot e ≡ None) events → filter_map f events ≡ []
+    → ((e : Event) → first_fault_slot e ≡ None → f e ≡ None)
+    → AllByRecursion (λ e. first_fault_slot e ≡ None) events → filter_map f events ≡ []
 none-mapped f [] fails quiet = refl
 none-mapped f (e ∷ events) fails quiet =
     let here : f e ≡ None = fails e quiet.0 in
     rw here (none-mapped f events fails quiet.1)
 
-no-send : (kind : Fault) (k : ℕ) (c : Channel) (slot : ℕ) (e : Event) → fault_slot e ≡ None
+no-send : (kind : Fault) (k : ℕ) (c : Channel) (slot : ℕ) (e : Event) → first_fault_slot e ≡ None
     → is_send_fault kind k c slot e ≡ false
 no-send kind k c slot (event.Send node channels f from to) none = absurd (none-some from (sym none))
 no-send kind k c slot _ none = refl
 
-no-receive : (kind : Fault) (k : ℕ) (c : Channel) (slot : ℕ) (e : Event) → fault_slot e ≡ None
+no-receive : (kind : Fault) (k : ℕ) (c : Channel) (slot : ℕ) (e : Event) → first_fault_slot e ≡ None
     → is_receive_fault kind k c slot e ≡ false
 no-receive kind k c slot (event.Receive node channels f from to) none = absurd (none-some from (sym none))
 no-receive kind k c slot _ none = refl
 
-no-flip : (k : ℕ) (c : Channel) (slot : ℕ) (e : Event) → fault_slot e ≡ None → flipped_bit k c slot e ≡ None
+no-flip : (k : ℕ) (c : Channel) (slot : ℕ) (e : Event) → first_fault_slot e ≡ None → flipped_bit k c slot e ≡ None
 no-flip k c slot (event.Flip node channels bit at) none = absurd (none-some at (sym none))
 no-flip k c slot _ none = refl
 
-no-jump : (k slot : ℕ) (e : Event) → fault_slot e ≡ None → jump_in k slot e ≡ None
+no-jump : (k slot : ℕ) (e : Event) → first_fault_slot e ≡ None → jump_in k slot e ≡ None
 no-jump k slot (event.Jump node value at) none = absurd (none-some at (sym none))
 no-jump k slot _ none = refl
 
@@ -152,8 +152,8 @@ quiet-script script none = record {
   still = λ k slot. ap sum_ℤ (none-mapped (jump_in k slot) script.events (no-jump k slot) quiet);
 }
   where
-    quiet : AllByRecursion (λ e. fault_slot e ≡ None) script.events
-    quiet = each-none fault_slot script.events none
+    quiet : AllByRecursion (λ e. first_fault_slot e ≡ None) script.events
+    quiet = each-none first_fault_slot script.events none
 
     sends : (kind : Fault) (k : ℕ) (c : Channel) (slot : ℕ) → has_send_fault script kind k c slot ≡ false
     sends kind k c slot = none-any (is_send_fault kind k c slot) script.events (no-send kind k c slot) quiet
@@ -163,8 +163,8 @@ quiet-script script none = record {
 
 -- The plan of a script in which no node is lost: it loses none, and the script follows it.
 
-abbrev pub quiet_plan : Medl → Script → ClusterStart → Plan
-quiet_plan list script start = record (plan_of list script start) { incidents = [] }
+abbrev pub quiet_plan : Medl → Script → ClusterStart → FaultPlan
+quiet_plan list script start = record (fault_plan_of list script start) { incidents = [] }
 
 sole-start : (list : Medl) (script : Script) (start : ClusterStart) → start_of list script ≡ Some start
     → sole_start list script ≡ Some start
@@ -177,7 +177,7 @@ module _ (list : Medl) (script : Script) (z slot : ℕ) (valid : IsValid list) (
     abbrev start : ClusterStart
     start = rules.start
 
-    abbrev plan : Plan
+    abbrev plan : FaultPlan
     plan = quiet_plan list script start
 
     quiet : IsQuiet script
@@ -246,7 +246,7 @@ module _ (list : Medl) (script : Script) (z slot : ℕ) (valid : IsValid list) (
         → is_sound_after plan turn k ≡ true
     on-sound turn k node is = sound turn k ∙ on turn k node ∙ is
 
-    pub begun : IsValidScript list script → IsBegun list script start plan
+    pub begun : IsValidScript list script → IsBegunAlone list script start plan
     begun script_valid = record {
       planned = record {
         valid = valid;
@@ -262,7 +262,7 @@ module _ (list : Medl) (script : Script) (z slot : ℕ) (valid : IsValid list) (
     parts : (drifts_hold list script ≡ true)
         × (find (λ slot. not (errors_allowed_in list script z (Some start) slot)) (below script.slots) ≡ None)
     parts =
-        both-hold (drifts_hold list script) _ (subst (λ found. clocks_broken list script z found ≡ None)
+        both-hold (drifts_hold list script) _ (subst (λ found. faced_clocks_broken list script z found ≡ None)
         (sole-start list script start rules.started) rules.clocks)
 
     pub clocks : HasFacedClocks list script start z

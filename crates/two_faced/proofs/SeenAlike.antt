@@ -2,7 +2,7 @@
 use Rattle.two_faced.proofs.Words.{◌≡◌, ℕ, ◌<◌, ℤ, List, [], ◌∷◌, length, Option, Some, None, refl, ap, sym, ◌∙◌, cond}
 use Rattle.two_faced.proofs.Words.{not, ◌&&◌, arith, ◌==◌, filter_map, AllByRecursion, below-lt, Medl, Script, History}
 use Rattle.two_faced.proofs.Words.{nodes_of, IsValidScript, is_on, Numbers, world, length-world, clock_beside}
-use Rattle.two_faced.proofs.Words.{apart_after, widest, with_slot, seen_in, zeros_world}
+use Rattle.two_faced.proofs.Words.{apart_after, widest, seen_with_slot, seen_in, zeros_world}
 use Rattle.std.specs.List.{cons_option}
 use Rattle.ttp_world.specs.Legal.{IsLegalRun}
 use Rattle.frame_fates.specs.Runs.{AreRuns}
@@ -36,7 +36,7 @@ seen_in-alike list script z start (row ∷ one) (row_too ∷ other) runs =
     ≡ apart_after list script z (length other) (row_too ∷ other) =
     apart-alike list script z (length one) (row ∷ one) (row_too ∷ other) runs
     ∙ ap (λ slot. apart_after list script z slot (row_too ∷ other)) slots in
-    λ i. with_slot start (before i) (record { value = apart i; slot = slots i })
+    λ i. seen_with_slot start (before i) (record { value = apart i; slot = slots i })
 
 -- so what is seen where frames carry zeros is what is seen by any legal numbers
 zeros-legal : (list : Medl) (script : Script) (numbers : Numbers) → IsValidScript list script

@@ -1,10 +1,10 @@
 -- The words of this crate's proofs, from one place.
 pub use Rattle.fault_plan.proofs.Returns.{never-listens, none-enters}
-pub use Rattle.fault_plan.specs.Fates.{Absent, Fallen, Falling, Fate, Sound, fate_of, is_good_slot, is_lost, is_sound}
-pub use Rattle.fault_plan.specs.Fates.{is_sound_after}
+pub use Rattle.fault_plan.specs.Fates.{Absent, Fallen, Falling, Fate, Sound, fate_of, is_good_slot, is_lost}
+pub use Rattle.fault_plan.specs.Fates.{is_sound_fate, is_sound_after}
 pub use Rattle.fault_plan.specs.Kept.{FollowsPlan}
 pub use Rattle.fault_plan.specs.Places.{planned_place}
-pub use Rattle.fault_plan.specs.Plan.{Plan, sender}
+pub use Rattle.fault_plan.specs.Plan.{FaultPlan, sender}
 pub use Rattle.hypothesis.specs.SoleStart.{sole_start}
 pub use Rattle.hypothesis.specs.Standing.{told_start_if}
 pub use Rattle.precision.proofs.Averages.{IsUpTo}
@@ -42,8 +42,8 @@ pub use Rattle.ttp_world.specs.declared.medl.Medl.{Medl}
 pub use Rattle.ttp_world.specs.declared.node.Entry.{Entry}
 pub use Rattle.ttp_world.specs.declared.script.Script.{Script}
 pub use Rattle.two_faced.specs.Errors.{HasFacedClocks, bound}
-pub use Rattle.two_faced.specs.Faced.{clocks_broken, errors_allowed_in, fault_slot, faults_broken}
-pub use Rattle.two_faced.specs.Seen.{apart_after, clock_beside, greatest, least, seen_in, widest, with_slot}
+pub use Rattle.two_faced.specs.Faced.{faced_clocks_broken, errors_allowed_in, first_fault_slot, faults_broken}
+pub use Rattle.two_faced.specs.Seen.{apart_after, clock_beside, greatest, least, seen_in, widest, seen_with_slot}
 pub use Rattle.two_faced.specs.Spans.{IsNearSpan}
 pub use Rattle.two_faced.specs.ZerosRun.{zeros_chosen, zeros_world}
 pub use Rattle.two_faced.specs.declared.seen.Seen.{Seen}

@@ -28,27 +28,27 @@ abbrev pub errors_allowed_in : Medl → Script → ℕ → Option ClusterStart �
 errors_allowed_in list script z start slot = errors_hold_within list script (allowed_error list z start slot) slot
 
 -- clocks (F1): slot 0 where a drift is past its bound, and else the first slot with reading errors that are
-abbrev pub clocks_broken : Medl → Script → ℕ → Option ClusterStart → Option ℕ
-clocks_broken list script z start =
+abbrev pub faced_clocks_broken : Medl → Script → ℕ → Option ClusterStart → Option ℕ
+faced_clocks_broken list script z start =
     if drifts_hold list script
     then find (λ slot. not (errors_allowed_in list script z start slot)) (below script.slots)
     else Some 0
 
 -- the window (F2): it is as wide as a deviation between two other nodes needs, 12 D n + 7 E + 2
-abbrev pub window_broken : Medl → Option ℕ
-window_broken list = if int_le (bound list +ℤ list.error) list.window then None else Some 0
+abbrev pub faced_window_broken : Medl → Option ℕ
+faced_window_broken list = if int_le (bound list +ℤ list.error) list.window then None else Some 0
 
 -- the slot of a fault, the first where it has two
-abbrev pub fault_slot : Event → Option ℕ
-fault_slot (event.Send node channels fault from to) = Some from
-fault_slot (event.Receive node channels fault from to) = Some from
-fault_slot (event.Flip node channels bit slot) = Some slot
-fault_slot (event.Jump node value slot) = Some slot
-fault_slot _ = None
+abbrev pub first_fault_slot : Event → Option ℕ
+first_fault_slot (event.Send node channels fault from to) = Some from
+first_fault_slot (event.Receive node channels fault from to) = Some from
+first_fault_slot (event.Flip node channels bit slot) = Some slot
+first_fault_slot (event.Jump node value slot) = Some slot
+first_fault_slot _ = None
 
 -- faults (F3): no send or receive fault, no flipped bit and no jump
 abbrev pub faults_broken : Script → Option ℕ
-faults_broken script = least_of (filter_map fault_slot script.events)
+faults_broken script = least_of (filter_map first_fault_slot script.events)
 
 -- the start (F4) is that of the single-fault hypothesis, and four nodes with `sync` are ever on (F5)
 abbrev pub started_faced : Medl → Script → Option ClusterStart → Faced
@@ -59,14 +59,14 @@ started_faced list script (Some start) =
 -- The test.
 
 -- the answer is this rule with its slot, where it is broken, and else what the others say
-abbrev pub unless : ℕ → Option ℕ → Faced → Faced
-unless rule None others = others
-unless rule (Some slot) others = faced.No rule slot
+abbrev pub unless_faced : ℕ → Option ℕ → Faced → Faced
+unless_faced rule None others = others
+unless_faced rule (Some slot) others = faced.No rule slot
 
 -- the rules in their order for node z: the first that is broken, or the slot of the start
 abbrev pub faced_of : Medl → Script → ℕ → Faced
 faced_of list script z =
-    unless 0 (node_broken list z)
-    (unless 1 (clocks_broken list script z (sole_start list script))
-    (unless 2 (window_broken list)
-    (unless 3 (faults_broken script) (started_faced list script (start_of list script)))))
+    unless_faced 0 (node_broken list z)
+    (unless_faced 1 (faced_clocks_broken list script z (sole_start list script))
+    (unless_faced 2 (faced_window_broken list)
+    (unless_faced 3 (faults_broken script) (started_faced list script (start_of list script)))))

@@ -42,14 +42,14 @@ apart_after list script z slot history = widest (filter_map (clock_beside list s
 -- The run.
 
 -- of what was seen and a later slot, from the start on the one that shows more
-abbrev pub with_slot : ℕ → Seen → Seen → Seen
-with_slot start seen later = if nat_lt later.slot start || int_le later.value seen.value then seen else later
+abbrev pub seen_with_slot : ℕ → Seen → Seen → Seen
+seen_with_slot start seen later = if nat_lt later.slot start || int_le later.value seen.value then seen else later
 
 -- what was seen in a history; before the first slot from the start on no difference
 abbrev pub seen_in : Medl → Script → ℕ → ℕ → History → Seen
 seen_in list script z start [] = record { value = pos 0; slot = start }
 seen_in list script z start (row ∷ history) =
-    with_slot start (seen_in list script z start history)
+    seen_with_slot start (seen_in list script z start history)
     (record { value = apart_after list script z (length history) (row ∷ history); slot = length history })
 
 -- where there is no start nothing is seen

@@ -17,8 +17,8 @@ abbrev follower : SlotPlan
 follower = record { kinds = kind.I ∷ []; payload = 0; sync = true; start = false; requests = false; live = 1 }
 
 -- a list of these slots in one round with this window, where the drift is 1 microtick and reading errors are 0
-abbrev pub list_of : ℤ → List SlotPlan → Medl
-list_of window slots = record {
+abbrev pub one_round_list : ℤ → List SlotPlan → Medl
+one_round_list window slots = record {
   version = 1;
   rounds = 1;
   schedule = 0;
@@ -31,26 +31,26 @@ list_of window slots = record {
 }
 
 -- of which node 0 may start
-abbrev pub four_nodes : ℤ → Medl
-four_nodes window = list_of window (starter ∷ replicate 3 follower)
+abbrev pub one_starter : ℤ → Medl
+one_starter window = one_round_list window (starter ∷ replicate 3 follower)
 
 -- of which nodes 0 and 1 may
 abbrev pub two_starters : Medl
-two_starters = list_of (pos 64) (starter ∷ starter ∷ follower ∷ follower ∷ [])
+two_starters = one_round_list (pos 64) (starter ∷ starter ∷ follower ∷ follower ∷ [])
 
 -- nodes that are switched on in these slots, of which the clock of the first gains a microtick in a slot
-abbrev pub script_on : List (Option ℕ) → List Event → Script
-script_on on events =
+abbrev pub gaining_script : List (Option ℕ) → List Event → Script
+gaining_script on events =
     record { slots = 28; on = on; drift = pos 1 ∷ pos 0 ∷ pos 0 ∷ pos 0 ∷ []; events = events }
 
 -- all on from slot 0
-abbrev pub script_of : List Event → Script
-script_of events = script_on (replicate 4 (Some 0)) events
+abbrev pub four_on_script : List Event → Script
+four_on_script events = gaining_script (replicate 4 (Some 0)) events
 
 -- channels A and B
 abbrev pub both : Channels
 both = record { a = true; b = true }
 
 -- the slots of a run in which no frame carries payload
-abbrev pub no_numbers : Numbers
-no_numbers = replicate 28 (record { sent = []; read = [] })
+abbrev pub no_numbers_in_run : Numbers
+no_numbers_in_run = replicate 28 (record { sent = []; read = [] })

@@ -24,7 +24,7 @@ zeros_world list script zero = []
 zeros_world list script (suc slots) = step list script (zeros_world list script slots) (all_zeros list)
 
 -- a run's plant stands for that world
-pub record StandsAfter (run : Run) (list : Medl) (script : Script) (slots : ℕ) : Type 0 where
+pub record RunStandsAfter (run : Run) (list : Medl) (script : Script) (slots : ℕ) : Type 0 where
   pub same : run.plant.list ≡ list
   pub plant : PlantStandsFor run.plant script (zeros_world list script slots)
   pub zeros : run.zeros ≡ all_zeros list

@@ -1,7 +1,7 @@
 //! The bound on clocks with one two-faced sender, and the window that it asks for.
 ghost use Rattle.std.specs.Prelude.{◌≡◌, ◌*◌, pos, ◌*ℤ◌, ◌-ℤ◌, length};
 ghost use Rattle.ttp_world.specs.Medl.{IsWithin, IsValid};
-ghost use Rattle.two_faced.specs.Faced.{bound, window_broken};
+ghost use Rattle.two_faced.specs.Faced.{bound, faced_window_broken};
 
 use ttp_world::Medl;
 
@@ -34,9 +34,9 @@ pub(crate) fn room(list: &Medl) -> i64
 }
 
 /// Slot 0 where the window is narrower than a deviation between two such nodes needs.
-pub(crate) fn window_broken(list: &Medl) -> Option<u32>
+pub(crate) fn faced_window_broken(list: &Medl) -> Option<u32>
     requires { IsValid list.now }
-    ensures { result ≡ window_broken list.now }
+    ensures { result ≡ faced_window_broken list.now }
 {
     if bound(list) + list.error <= list.window {
         None

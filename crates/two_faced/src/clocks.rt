@@ -5,7 +5,7 @@ ghost use Rattle.ttp_base.specs.NodeSet.{most_nodes};
 ghost use Rattle.ttp_world.specs.Medl.{IsValid};
 ghost use Rattle.ttp_world.specs.Script.{IsValidScript};
 ghost use Rattle.hypothesis.specs.Standing.{told_start_if};
-ghost use Rattle.two_faced.specs.Faced.{is_faced_slot, allowed_error, errors_allowed_in, clocks_broken};
+ghost use Rattle.two_faced.specs.Faced.{is_faced_slot, allowed_error, errors_allowed_in, faced_clocks_broken};
 
 use crate::bounds::room;
 use hypothesis::{Start, drifts_hold, errors_hold_within, expected_sender};
@@ -57,7 +57,7 @@ fn errors_allowed_in(
 
 /// The slot that is named where a drift or a sum of reading errors is past its bound: 0 for a
 /// drift, else the first with such a sum.
-pub(crate) fn clocks_broken(
+pub(crate) fn faced_clocks_broken(
     list: &Medl,
     script: &Script,
     node: u8,
@@ -66,7 +66,7 @@ pub(crate) fn clocks_broken(
     requires valid { IsValid list.now }
     requires script { IsValidScript list.now script.now }
     requires start { IfSome start (λ start. start.slot < SLOT_LIMIT + 3 * most_nodes) }
-    ensures { result ≡ clocks_broken list.now script.now node (told_start_if start) }
+    ensures { result ≡ faced_clocks_broken list.now script.now node (told_start_if start) }
 {
     if !drifts_hold(list, script) {
         return Some(0);

@@ -13,7 +13,7 @@ ghost use Rattle.ttp_world.specs.Safety.{newest_slot, members_of_node};
 ghost use Rattle.ttp_world.specs.Script.{IsValidScript, is_on};
 ghost use Rattle.ttp_world.specs.World.{Numbers, node_past, world};
 ghost use Rattle.precision.specs.Together.{measured};
-ghost use Rattle.fault_plan.specs.Plan.{Plan};
+ghost use Rattle.fault_plan.specs.Plan.{FaultPlan};
 ghost use Rattle.fault_plan.specs.Kept.{FollowsPlan};
 ghost use Rattle.safety_laws.specs.NotedByPlan.{IsSoundIn, NotedByPlan};
 ghost use Rattle.two_faced.specs.declared.faced.Faced.TheVariants as faced;
@@ -28,14 +28,14 @@ use ttp_world::{Medl, Script};
 /// of them are no further apart than the bound (`clocks`), and in the next slot what one measures of
 /// another lies within the list's window (`window`).
 pub fn clocks_near()
-    ensures clocks { (list : Medl) (script : Script) (start : ClusterStart) (z : ℕ) (plan : Plan) (slot : ℕ)
+    ensures clocks { (list : Medl) (script : Script) (start : ClusterStart) (z : ℕ) (plan : FaultPlan) (slot : ℕ)
         (history : History)
         → IsValid list → FollowsPlan list script start plan → plan.incidents ≡ []
         → HasFacedClocks list script start z → NotedByPlan list script start plan slot history
         → length history ≤ script.slots
         → (j k : ℕ) → IsSoundIn list plan slot j → IsSoundIn list plan slot k
         → ((node_past list script history j).offset -ℤ (node_past list script history k).offset) ≤ℤ bound list }
-    ensures window { (list : Medl) (script : Script) (start : ClusterStart) (z : ℕ) (plan : Plan) (slot : ℕ)
+    ensures window { (list : Medl) (script : Script) (start : ClusterStart) (z : ℕ) (plan : FaultPlan) (slot : ℕ)
         (history : History)
         → IsValid list → FollowsPlan list script start plan → plan.incidents ≡ []
         → HasFacedClocks list script start z → NotedByPlan list script start plan slot history

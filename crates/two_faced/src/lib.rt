@@ -60,8 +60,8 @@ mod seen;
 mod worked_cases;
 
 pub use crate::bounds::bound;
-use crate::bounds::window_broken;
-use crate::clocks::clocks_broken;
+use crate::bounds::faced_window_broken;
+use crate::clocks::faced_clocks_broken;
 pub use crate::faced::Faced;
 use crate::faults::faults_broken;
 pub use crate::law::{clocks_near, halved};
@@ -95,10 +95,10 @@ pub fn find_faced(list: &Medl, script: &Script, node: u8) -> Faced
     if node >= list.nodes() {
         return Faced::No { rule: 0, slot: 0 };
     }
-    if let Some(slot) = clocks_broken(list, script, node, sole_start(list, script)) {
+    if let Some(slot) = faced_clocks_broken(list, script, node, sole_start(list, script)) {
         return Faced::No { rule: 1, slot };
     }
-    if let Some(slot) = window_broken(list) {
+    if let Some(slot) = faced_window_broken(list) {
         return Faced::No { rule: 2, slot };
     }
     if let Some(slot) = faults_broken(script) {

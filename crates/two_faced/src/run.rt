@@ -7,7 +7,7 @@ ghost use Rattle.ttp_world.specs.declared.script.Script.{Script};
 ghost use Rattle.ttp_world.specs.Medl.{IsValid};
 ghost use Rattle.ttp_world.specs.Script.{IsValidScript};
 ghost use Rattle.ttp_world.specs.World.{node_past};
-ghost use Rattle.two_faced.specs.ZerosRun.{all_zeros, zeros_world, StandsAfter};
+ghost use Rattle.two_faced.specs.ZerosRun.{all_zeros, zeros_world, RunStandsAfter};
 
 use controller::Plant;
 use std::alloc::Global;
@@ -51,7 +51,7 @@ impl Run {
     /// was refused.
     pub fn new(alloc: Global, list: &Medl) -> Result<Run, Memory>
         requires { IsValid list.now }
-        ensures { (script : Script) → IfOk result (λ run. StandsAfter run list.now script 0) }
+        ensures { (script : Script) → IfOk result (λ run. RunStandsAfter run list.now script 0) }
     {
         Ok(Run {
             plant: Plant::new(alloc, list)?,
@@ -64,8 +64,8 @@ impl Run {
         requires list { IsValid list.now }
         requires script { IsValidScript list.now script.now }
         requires slot { slot < script.now.slots }
-        requires stands { StandsAfter self.old list.now script.now slot }
-        ensures { StandsAfter self.new list.now script.now (slot + 1) }
+        requires stands { RunStandsAfter self.old list.now script.now slot }
+        ensures { RunStandsAfter self.new list.now script.now (slot + 1) }
     {
         self.plant.slot(list, script, self.zeros.as_slice());
     }
@@ -74,9 +74,10 @@ impl Run {
     pub fn clock(&self, list: &Medl, node: u8) -> i64
         requires list { self.now.plant.list ≡ list.now }
         requires node { node < length list.now.slots }
-        ensures shows { (script : Script) (slots : ℕ) → StandsAfter self.now list.now script slots
+        ensures shows { (script : Script) (slots : ℕ) → RunStandsAfter self.now list.now script slots
             → result ≡ (node_past list.now script (zeros_world list.now script slots) node).offset }
-        ensures near { (script : Script) (slots : ℕ) → StandsAfter self.now list.now script slots → slots ≤ SLOT_LIMIT
+        ensures near { (script : Script) (slots : ℕ) → RunStandsAfter self.now list.now script slots
+            → slots ≤ SLOT_LIMIT
             → unsigned_abs result ≤ 2 ^ 53 }
     {
         self.plant.node(node).offset

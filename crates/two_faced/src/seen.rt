@@ -4,9 +4,9 @@ ghost use Rattle.ttp_world.specs.Legal.{IsLegalRun};
 ghost use Rattle.ttp_world.specs.Medl.{IsValid};
 ghost use Rattle.ttp_world.specs.Script.{IsValidScript};
 ghost use Rattle.ttp_world.specs.World.{Numbers};
-ghost use Rattle.two_faced.specs.Seen.{apart_after, with_slot, seen_in, seen_of};
+ghost use Rattle.two_faced.specs.Seen.{apart_after, seen_with_slot, seen_in, seen_of};
 ghost use Rattle.two_faced.specs.Spans.{with_clock, IsNearClock, IsNearSpan};
-ghost use Rattle.two_faced.specs.ZerosRun.{zeros_world, StandsAfter};
+ghost use Rattle.two_faced.specs.ZerosRun.{zeros_world, RunStandsAfter};
 
 use crate::run::Run;
 use hypothesis::start_of;
@@ -52,7 +52,7 @@ fn apart_after(run: &Run, list: &Medl, script: &Script, node: u8, slot: u32) -> 
     requires valid { IsValid list.now }
     requires script { IsValidScript list.now script.now }
     requires slot { slot < script.now.slots }
-    requires stands { StandsAfter run.now list.now script.now (slot + 1) }
+    requires stands { RunStandsAfter run.now list.now script.now (slot + 1) }
     ensures { result ≡ apart_after list.now script.now node slot (zeros_world list.now script.now (slot + 1)) }
 {
     let mut span = None;
@@ -68,8 +68,8 @@ fn apart_after(run: &Run, list: &Medl, script: &Script, node: u8, slot: u32) -> 
 }
 
 // Of what was seen and a later slot, from the start on the one that shows more.
-fn with_slot(start: u32, seen: Seen, later: Seen) -> Seen
-    ensures { result ≡ with_slot start seen later }
+fn seen_with_slot(start: u32, seen: Seen, later: Seen) -> Seen
+    ensures { result ≡ seen_with_slot start seen later }
 {
     if later.slot < start || later.value <= seen.value {
         seen
@@ -82,7 +82,7 @@ fn with_slot(start: u32, seen: Seen, later: Seen) -> Seen
 fn seen_in(run: Run, list: &Medl, script: &Script, node: u8, start: u32) -> Seen
     requires valid { IsValid list.now }
     requires script { IsValidScript list.now script.now }
-    requires stands { StandsAfter run list.now script.now 0 }
+    requires stands { RunStandsAfter run list.now script.now 0 }
     ensures { result ≡ seen_in list.now script.now node start (zeros_world list.now script.now script.now.slots) }
 {
     let mut run = run;
@@ -93,7 +93,7 @@ fn seen_in(run: Run, list: &Medl, script: &Script, node: u8, start: u32) -> Seen
     for slot in 0..script.slots {
         run.step(list, script, slot);
         let value = apart_after(&run, list, script, node, slot);
-        seen = with_slot(start, seen, Seen { value, slot });
+        seen = seen_with_slot(start, seen, Seen { value, slot });
     }
     seen
 }

@@ -1,12 +1,13 @@
 -- Each line before the slots of a waveform is one line, and so is each line of the whole.
 use Rattle.wave_text.proofs.Words.{ℕ, ◌+◌, ◌-◌, ◌*◌, List, [], ◌∷◌, ◌++◌, map, refl, Option, Some, None, arith, codes}
 use Rattle.wave_text.proofs.Words.{decimal, flat_map, below, newline, hex, lines_below, is_line-append, source_word}
-use Rattle.wave_text.proofs.Words.{each-append, IsLine, Head, WholeTrace, Port, What, trace_ports, head_text}
+use Rattle.wave_text.proofs.Words.{each-append, IsLine, Head, WholeTrace, Port, What, trace_ports, header_text}
 use Rattle.wave_text.proofs.Words.{first_text, keeps_text, returns_text, member_room, ClusterVariable, NodeVariable}
 use Rattle.wave_text.proofs.Words.{PortVariable, cluster_variables, node_variables, port_variables, cluster_letter}
 use Rattle.wave_text.proofs.Words.{node_code, port_code, cluster_declaration, node_declaration, port_declaration}
 use Rattle.wave_text.proofs.Words.{port_declarations, scope_line, upscope_line, ports_at, host_scope, node_scope}
-use Rattle.wave_text.proofs.Words.{declarations, comment_line, comment_lines, head_lines, all_slots_lines, wave_lines}
+use Rattle.wave_text.proofs.Words.{declarations, comment_line, comment_lines, wave_head_lines, all_slots_lines}
+use Rattle.wave_text.proofs.Words.{wave_lines}
 use Rattle.ttp_base.proofs.Numerals.{has-hex}
 use Rattle.ttp_world.specs.declared.keep.Back.{Back}
 use Rattle.ttp_world.specs.declared.keep.Back.TheVariants as back
@@ -172,7 +173,7 @@ declarations-each width n ports =
 
 -- The head.
 
-none-head : (head : Head) → HasNone (head_text head)
+none-head : (head : Head) → HasNone (header_text head)
 none-head head =
     none-append (codes "ttpbench trace " ++ decimal head.version ++ codes " nodes " ++ decimal head.nodes
     ++ codes " rounds " ++ decimal head.rounds ++ codes " slots " ++ decimal head.slots ++ codes " schedule ")
@@ -219,7 +220,7 @@ returns-each trace = go trace.back
     go None = tt
     go (Some said) = (comment-IsLine (back_text said) (none-back said), tt)
 
-head-each : (trace : WholeTrace) → AreLines (head_lines (first_text trace) (keeps_text trace) (returns_text trace))
+head-each : (trace : WholeTrace) → AreLines (wave_head_lines (first_text trace) (keeps_text trace) (returns_text trace))
 head-each trace =
     each-append IsLine ((codes "$version ttplab wave $end" ++ newline) ∷ comment_line (first_text trace)
     ∷ comment_line (keeps_text trace) ∷ comment_lines (returns_text trace)) ((codes "$timescale 1 s $end" ++ newline) ∷ []) (
@@ -241,7 +242,7 @@ wave_lines-each trace =
     let width = member_room trace in
     let n = trace.head.nodes in
     let ports = trace_ports trace in
-    let head = head_lines (first_text trace) (keeps_text trace) (returns_text trace) in
+    let head = wave_head_lines (first_text trace) (keeps_text trace) (returns_text trace) in
     each-append IsLine (head ++ declarations width n ports)
     ((codes "$enddefinitions $end" ++ newline) ∷ all_slots_lines width n ports trace.slots)
     (each-append IsLine head (declarations width n ports) (head-each trace) (declarations-each width n ports))

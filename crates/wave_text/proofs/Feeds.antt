@@ -2,9 +2,10 @@
 use Rattle.wave_text.proofs.Words.{◌≡◌, ℕ, zero, suc, ◌+◌, ◌-◌, ◌/◌, ◌%◌, ◌<◌, Bool, true, false, List, [], ◌∷◌, ◌++◌}
 use Rattle.wave_text.proofs.Words.{refl, Option, Some, None, arith, codes, decimal, nat_lt, ◌==◌, if◌then◌else◌}
 use Rattle.wave_text.proofs.Words.{signed_decimal, flat_map, Source, ack_word, source_word, Word, word_text, NodeShown}
-use Rattle.wave_text.proofs.Words.{Message, is_active, sends, set_bits, ClusterVariable, NodeVariable, PortVariable}
-use Rattle.wave_text.proofs.Words.{binary, binary_number, most_digits, number_text, wires_text, number_or_nothing}
-use Rattle.wave_text.proofs.Words.{bit_text, cluster_value, phase_text, unless_off, held_text, node_value, port_value}
+use Rattle.wave_text.proofs.Words.{Message, is_active_word, sends, set_bits, ClusterVariable, NodeVariable}
+use Rattle.wave_text.proofs.Words.{PortVariable, binary, binary_number, most_binary_digits, number_text, wires_text}
+use Rattle.wave_text.proofs.Words.{number_or_nothing, bit_text, cluster_value, phase_text, unless_off, held_text}
+use Rattle.wave_text.proofs.Words.{node_value, port_value}
 use Rattle.ttp_base.proofs.Numerals.{has, has-append, has-decimal, has-signed}
 use Rattle.ttp_world.specs.declared.script.Source.TheVariants as source
 use Rattle.ttp_world.proofs.TraceWords.{has-ack_word}
@@ -13,7 +14,7 @@ use Rattle.shown_slot.specs.declared.host.What.TheVariants as what
 use Rattle.shown_slot.specs.declared.node.ClockRange.{ClockRange}
 use Rattle.shown_slot.specs.declared.node.Sender.{Sender}
 use Rattle.shown_slot.specs.declared.node.Sender.TheVariants as sent_by
-use Rattle.shown_slot.specs.Nodes.{has_left, agreement, sender_among, bits_where, clock_range}
+use Rattle.shown_slot.specs.Nodes.{is_leaving_word, agreement, sender_among, bits_where, clock_range}
 use Rattle.shown_slot.specs.Nodes.{spread_in}
 use Rattle.wave_text.specs.declared.variable.ClusterVariable.TheVariants as of_cluster
 use Rattle.wave_text.specs.declared.variable.NodeVariable.TheVariants as of_node
@@ -57,7 +58,8 @@ none-binary_number (suc more) v = go (nat_lt v 2) (none-binary_number more (v / 
         none-append (binary_number more (v / 2)) ((48 + v % 2) ∷ []) none (none-byte (48 + v % 2) (omega arith))
 
 none-number : (v : ℕ) → HasNone (number_text v)
-none-number v = none-append (codes "b") (binary_number most_digits v) refl (none-binary_number most_digits v)
+none-number v = none-append (codes "b") (binary_number most_binary_digits v) refl
+    (none-binary_number most_binary_digits v)
 
 none-wires : (width v : ℕ) → HasNone (wires_text width v)
 none-wires width v = none-append (codes "b") (binary width v) refl (none-binary width v)
@@ -86,8 +88,8 @@ none-spread (Some range) = none-number (spread_in range)
 pub none-cluster_value : (width : ℕ) (v : ClusterVariable) (nodes : List NodeShown) → HasNone (cluster_value width v nodes)
 none-cluster_value width of_cluster.Agree nodes = none-agreement (agreement nodes)
 none-cluster_value width of_cluster.Sender nodes = none-sender (sender_among 0 nodes)
-none-cluster_value width of_cluster.Active nodes = none-wires width (bits_where is_active nodes)
-none-cluster_value width of_cluster.Leaving nodes = none-wires width (bits_where has_left nodes)
+none-cluster_value width of_cluster.Active nodes = none-wires width (bits_where is_active_word nodes)
+none-cluster_value width of_cluster.Leaving nodes = none-wires width (bits_where is_leaving_word nodes)
 none-cluster_value width of_cluster.Spread nodes = none-spread (clock_range nodes)
 
 none-phase : (w : Word) → HasNone (codes "s" ++ phase_text w)

@@ -1,7 +1,8 @@
 -- Lines of hosts, and what one line more adds to what they say of a port.
 use Rattle.wave_text.proofs.Words.{◌≡◌, ℕ, ◌+◌, Bool, true, cond, List, [], ◌∷◌, ◌++◌, Option, Some, None, refl, sym}
-use Rattle.wave_text.proofs.Words.{ap, ◌∙◌, arith, ◌==◌, Source, HostLine, Message, What, larger, later, message_of}
-use Rattle.wave_text.proofs.Words.{most_bytes, newest_message, size_of, host_in, message_said, what_in}
+use Rattle.wave_text.proofs.Words.{ap, ◌∙◌, arith, ◌==◌, Source, HostLine, Message, What, larger, later}
+use Rattle.wave_text.proofs.Words.{message_in_line, most_bytes, newest_host_message, size_of, host_in, message_said}
+use Rattle.wave_text.proofs.Words.{what_in}
 use Rattle.std.proofs.Common.{◌&&◌}
 use Rattle.std.proofs.Common.{eq-eqb}
 use Rattle.std.proofs.lemmas.Bool.{and_parts, eqb-true}
@@ -24,7 +25,7 @@ its_source source.Status = refl
 its_source (source.Node p) = eq-eqb p p refl
 
 -- a line has a message of one port alone
-pub its_port : (k : ℕ) (does : What) (shown : HostLine) (m : Message) → message_of k does shown ≡ Some m
+pub its_port : (k : ℕ) (does : What) (shown : HostLine) (m : Message) → message_in_line k does shown ≡ Some m
     → (k ≡ host_in shown) × (does ≡ what_in shown)
 its_port k what.Write (line.Write host number) m is =
     (sym (eqb-true host k (guarded (host == k) (Some (record { number = number; payload = [] })) m is).0), refl)
@@ -37,7 +38,7 @@ its_port k (what.Read wanted) (line.Read host from number payload) m is =
     (sym (eqb-true host k both.0), ap (λ (s : Source). what.Read s) (one_source wanted from both.1))
 
 -- and it has one of that
-pub its_message : (shown : HostLine) → message_of (host_in shown) (what_in shown) shown ≡ Some (message_said shown)
+pub its_message : (shown : HostLine) → message_in_line (host_in shown) (what_in shown) shown ≡ Some (message_said shown)
 its_message (line.Write host number) =
     ap (λ (b : Bool). cond b (Some (record { number = number; payload = [] })) None) (eq-eqb host host refl)
 its_message (line.Read host from number payload) =
@@ -56,11 +57,12 @@ none_later None = refl
 none_later (Some m) = refl
 
 pub newest-append : (k : ℕ) (does : What) (lines : List HostLine) (shown : HostLine)
-    → newest_message k does (lines ++ shown ∷ []) ≡ later (newest_message k does lines) (message_of k does shown)
-newest-append k does [] shown = sym (none_later (message_of k does shown))
+    → newest_host_message k does (lines ++ shown ∷ []) ≡ later (newest_host_message k does lines)
+    (message_in_line k does shown)
+newest-append k does [] shown = sym (none_later (message_in_line k does shown))
 newest-append k does (first ∷ lines) shown =
-    ap (later (message_of k does first)) (newest-append k does lines shown)
-    ∙ sym (later_again (message_of k does first) (newest_message k does lines) (message_of k does shown))
+    ap (later (message_in_line k does first)) (newest-append k does lines shown)
+    ∙ sym (later_again (message_in_line k does first) (newest_host_message k does lines) (message_in_line k does shown))
 
 larger_again : (a b c : Option ℕ) → larger (larger a b) c ≡ larger a (larger b c)
 larger_again None b c = refl
@@ -73,19 +75,22 @@ larger_none None = refl
 larger_none (Some a) = refl
 
 pub most-append : (k : ℕ) (does : What) (lines : List HostLine) (shown : HostLine)
-    → most_bytes k does (lines ++ shown ∷ []) ≡ larger (most_bytes k does lines) (size_of (message_of k does shown))
-most-append k does [] shown = larger_none (size_of (message_of k does shown))
+    → most_bytes k does (lines ++ shown ∷ []) ≡ larger (most_bytes k does lines)
+    (size_of (message_in_line k does shown))
+most-append k does [] shown = larger_none (size_of (message_in_line k does shown))
 most-append k does (first ∷ lines) shown =
-    ap (larger (size_of (message_of k does first))) (most-append k does lines shown)
-    ∙ sym (larger_again (size_of (message_of k does first)) (most_bytes k does lines) (size_of (message_of k does shown)))
+    ap (larger (size_of (message_in_line k does first))) (most-append k does lines shown)
+    ∙ sym (larger_again (size_of (message_in_line k does first)) (most_bytes k does lines)
+    (size_of (message_in_line k does shown)))
 
 -- a line of another port changes nothing
-pub newest-other : (k : ℕ) (does : What) (lines : List HostLine) (shown : HostLine) → message_of k does shown ≡ None
-    → newest_message k does (lines ++ shown ∷ []) ≡ newest_message k does lines
+pub newest-other : (k : ℕ) (does : What) (lines : List HostLine) (shown : HostLine)
+    → message_in_line k does shown ≡ None
+    → newest_host_message k does (lines ++ shown ∷ []) ≡ newest_host_message k does lines
 newest-other k does lines shown none =
-    newest-append k does lines shown ∙ ap (later (newest_message k does lines)) none
+    newest-append k does lines shown ∙ ap (later (newest_host_message k does lines)) none
 
-pub most-other : (k : ℕ) (does : What) (lines : List HostLine) (shown : HostLine) → message_of k does shown ≡ None
+pub most-other : (k : ℕ) (does : What) (lines : List HostLine) (shown : HostLine) → message_in_line k does shown ≡ None
     → most_bytes k does (lines ++ shown ∷ []) ≡ most_bytes k does lines
 most-other k does lines shown none =
     most-append k does lines shown ∙ ap (λ (m : Option Message). larger (most_bytes k does lines) (size_of m)) none

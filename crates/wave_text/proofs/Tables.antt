@@ -1,9 +1,9 @@
 -- Tables of what hosts do, with one line more.
 use Rattle.wave_text.proofs.Words.{◌≡◌, ℕ, ◌+◌, ◌<◌, List, [], ◌∷◌, ◌++◌, Option, Some, None, length, set, refl, sym}
 use Rattle.wave_text.proofs.Words.{ap, subst, ◌∙◌, arith, inl, inr, length-set, slice_get, slice_get-get_or}
-use Rattle.wave_text.proofs.Words.{get_or_from_slice_get, eqb_tells, HostLine, Message, What, larger, later, message_of}
-use Rattle.wave_text.proofs.Words.{most_bytes, newest_message, size_of, HasMost, HasNewest, HasPlace, host_in}
-use Rattle.wave_text.proofs.Words.{message_said, table_place, what_in, HasSourceLetter}
+use Rattle.wave_text.proofs.Words.{get_or_from_slice_get, eqb_tells, HostLine, Message, What, larger, later}
+use Rattle.wave_text.proofs.Words.{message_in_line, most_bytes, newest_host_message, size_of, HasMost, HasNewest}
+use Rattle.wave_text.proofs.Words.{HasPlace, host_in, message_said, table_place, what_in, HasSourceLetter}
 use Rattle.std.proofs.Common.{◌≢◌}
 use Rattle.std.proofs.lemmas.List.{get_or-set_other}
 use Rattle.std.proofs.lemmas.Option.{slice_get_within}
@@ -55,10 +55,10 @@ place-same k h does did has had is =
 
 -- a line of a port without a place has no message of one that has a place
 unplaced : (k : ℕ) (does : What) (shown : HostLine) → HasPlace k does → ¬ (HasPlace (host_in shown) (what_in shown))
-    → message_of k does shown ≡ None
-unplaced k does shown has none = by_message (message_of k does shown) refl
+    → message_in_line k does shown ≡ None
+unplaced k does shown has none = by_message (message_in_line k does shown) refl
   where
-    by_message : (m : Option Message) → message_of k does shown ≡ m → m ≡ None
+    by_message : (m : Option Message) → message_in_line k does shown ≡ m → m ≡ None
     by_message None is = refl
     by_message (Some m) is =
         let port = its_port k does shown m is in
@@ -66,10 +66,10 @@ unplaced k does shown has none = by_message (message_of k does shown) refl
         (subst (λ (h : ℕ). HasPlace h does) port.0 has)))
 
 elsewhere : (k : ℕ) (does : What) (shown : HostLine) → table_place k does ≢ table_place (host_in shown) (what_in shown)
-    → message_of k does shown ≡ None
-elsewhere k does shown other = by_message (message_of k does shown) refl
+    → message_in_line k does shown ≡ None
+elsewhere k does shown other = by_message (message_in_line k does shown) refl
   where
-    by_message : (m : Option Message) → message_of k does shown ≡ m → m ≡ None
+    by_message : (m : Option Message) → message_in_line k does shown ≡ m → m ≡ None
     by_message None is = refl
     by_message (Some m) is =
         let port = its_port k does shown m is in
@@ -86,25 +86,27 @@ newest-unplaced messages lines shown k does has none is =
 pub newest-placed : (messages : List (Option Message)) (lines : List HostLine) (shown : HostLine) (k : ℕ) (does : What)
     → HasPlace k does → HasPlace (host_in shown) (what_in shown) → length messages ≡ 624
     → HasNewest messages lines k does
-    → HasNewest (set messages (table_place (host_in shown) (what_in shown)) (message_of (host_in shown) (what_in shown) shown))
+    → HasNewest (set messages (table_place (host_in shown) (what_in shown))
+    (message_in_line (host_in shown) (what_in shown) shown))
     (lines ++ shown ∷ []) k does
 newest-placed messages lines shown k does has had size is =
     let at = table_place (host_in shown) (what_in shown) in
-    let message : Option Message = message_of (host_in shown) (what_in shown) shown in
+    let message : Option Message = message_in_line (host_in shown) (what_in shown) shown in
     let noted : List (Option Message) = set messages at message in
     elim (eqb_tells (table_place k does) at) [
       | inl same ↦
           (let port = place-same k (host_in shown) does (what_in shown) has had same.1 in
           let there : slice_get noted at ≡ Some message =
           set_there messages at message (omega (arith, size, place-lt (host_in shown) (what_in shown) had)) in
-          let own : message_of k does shown ≡ message =
-          ap (λ (h : ℕ). message_of h does shown) port.0 ∙ ap (λ (d : What). message_of (host_in shown) d shown) port.1 in
-          let newest : newest_message k does (lines ++ shown ∷ []) ≡ message =
-          newest-append k does lines shown ∙ ap (later (newest_message k does lines)) (own ∙ its_message shown)
+          let own : message_in_line k does shown ≡ message =
+          ap (λ (h : ℕ). message_in_line h does shown) port.0
+          ∙ ap (λ (d : What). message_in_line (host_in shown) d shown) port.1 in
+          let newest : newest_host_message k does (lines ++ shown ∷ []) ≡ message =
+          newest-append k does lines shown ∙ ap (later (newest_host_message k does lines)) (own ∙ its_message shown)
           ∙ sym (its_message shown) in
           ap (slice_get noted) same.1 ∙ there ∙ ap (λ (m : Option Message). Some m) (sym newest))
       | inr other ↦
-          (set_elsewhere messages at (table_place k does) message (newest_message k does lines) other.1 is
+          (set_elsewhere messages at (table_place k does) message (newest_host_message k does lines) other.1 is
           ∙ ap (λ (m : Option Message). Some m) (sym (newest-other k does lines shown (elsewhere k does shown other.1))))
     ]
 
@@ -134,8 +136,9 @@ most-placed sizes lines shown size k does has had few here is =
           set_there sizes at most (omega (arith, few, place-lt (host_in shown) (what_in shown) had)) in
           let before : size ≡ most_bytes k does lines =
           some_same size (most_bytes k does lines) (sym here ∙ ap (slice_get sizes) (sym same.1) ∙ is) in
-          let own : message_of k does shown ≡ Some (message_said shown) =
-          ap (λ (h : ℕ). message_of h does shown) port.0 ∙ ap (λ (d : What). message_of (host_in shown) d shown) port.1
+          let own : message_in_line k does shown ≡ Some (message_said shown) =
+          ap (λ (h : ℕ). message_in_line h does shown) port.0
+          ∙ ap (λ (d : What). message_in_line (host_in shown) d shown) port.1
           ∙ its_message shown in
           let all : most_bytes k does (lines ++ shown ∷ []) ≡ most =
           most-append k does lines shown

@@ -2,8 +2,8 @@
 use Rattle.wave_text.proofs.Words.{◌≡◌, ℕ, zero, suc, ◌+◌, ◌-◌, ◌*◌, ◌/◌, ◌%◌, ◌<◌, Bool, true, false, List, [], ◌∷◌}
 use Rattle.wave_text.proofs.Words.{◌++◌, refl, sym, ap, ◌∙◌, Option, Some, None, arith, codes, nat_lt, decimal, ◌==◌}
 use Rattle.wave_text.proofs.Words.{if◌then◌else◌, signed_decimal, list_any, set_bits, hex, ack_word, Word, word_text}
-use Rattle.wave_text.proofs.Words.{Head, NodeShown, is_active, binary, binary_number, most_digits, number_text}
-use Rattle.wave_text.proofs.Words.{wires_text, number_or_nothing, unless_off, held_text, node_value}
+use Rattle.wave_text.proofs.Words.{Head, NodeShown, is_active_word, binary, binary_number, most_binary_digits}
+use Rattle.wave_text.proofs.Words.{number_text, wires_text, number_or_nothing, unless_off, held_text, node_value}
 use Rattle.std.proofs.Common.{◌^◌}
 use Rattle.std.specs.Prelude.{fold, IfSome, unwrap_or}
 use Rattle.std.proofs.lemmas.Bool.{ltb-true}
@@ -15,7 +15,7 @@ use Rattle.ttp_world.specs.Trace.{number_or_dash}
 use Rattle.line_reader.specs.declared.trace_line.Word.TheVariants as word
 use Rattle.shown_slot.specs.Trace.{node_text}
 use Rattle.wave_text.specs.declared.variable.NodeVariable.TheVariants as of_node
-use Rattle.wave_text.specs.Telling.{is_letter, with_bit, number_told, count_told, line_told, IsTold}
+use Rattle.wave_text.specs.Telling.{is_letter, with_bit, number_shown, count_told, line_told, IsRightNode}
 
 -- Digits.
 
@@ -79,24 +79,26 @@ number_digits-again (suc most) v fits =
 -- Numbers.
 
 told : (digits : List ℕ) (v : ℕ) → list_any is_letter digits ≡ false → fold with_bit 0 digits ≡ v
-    → number_told (98 ∷ digits) ≡ Some v
+    → number_shown (98 ∷ digits) ≡ Some v
 told digits v none is = rw none (ap (λ n. Some n) is)
 
-number-again : (v : ℕ) → v < 2 ^ 64 → number_told (number_text v) ≡ Some v
+number-again : (v : ℕ) → v < 2 ^ 64 → number_shown (number_text v) ≡ Some v
 number-again v fits =
-    told (binary_number most_digits v) v (number_digits-none most_digits v) (number_digits-again most_digits v fits)
+    told (binary_number most_binary_digits v) v (number_digits-none most_binary_digits v)
+    (number_digits-again most_binary_digits v fits)
 
-wires-again : (width v : ℕ) → v < 2 ^ width → number_told (wires_text width v) ≡ Some v
+wires-again : (width v : ℕ) → v < 2 ^ width → number_shown (wires_text width v) ≡ Some v
 wires-again width v fits = told (binary width v) v (binary-none width v) (binary-again width v fits)
 
-or_nothing-again : (number : Option ℕ) → IfSome number (λ n. n < 2 ^ 64) → number_told (number_or_nothing number) ≡ number
+or_nothing-again : (number : Option ℕ) → IfSome number (λ n. n < 2 ^ 64)
+    → number_shown (number_or_nothing number) ≡ number
 or_nothing-again None fits = refl
 or_nothing-again (Some v) fits = number-again v fits
 
 -- Values.
 
 pub unless_off-told : (w : Word) (number : Option ℕ) → (w ≡ word.Off → number ≡ None) → IfSome number (λ n. n < 2 ^ 64)
-    → number_told (unless_off w (number_or_nothing number)) ≡ number
+    → number_shown (unless_off w (number_or_nothing number)) ≡ number
 unless_off-told word.Off number off fits = sym (off refl)
 unless_off-told word.Wait number off fits = or_nothing-again number fits
 unless_off-told word.Retry number off fits = or_nothing-again number fits
@@ -114,7 +116,7 @@ unless_off-told word.Unacknowledged number off fits = or_nothing-again number fi
 unless_off-told word.Clique number off fits = or_nothing-again number fits
 
 -- a value that tells this number where it is shown
-pub held-told : (w : Word) (text : List ℕ) (v : ℕ) → (is_active w ≡ false → v ≡ 0) → number_told text ≡ Some v
+pub held-told : (w : Word) (text : List ℕ) (v : ℕ) → (is_active_word w ≡ false → v ≡ 0) → number_shown text ≡ Some v
     → count_told (held_text w text) ≡ v
 held-told word.Off text v none is = sym (none refl)
 held-told word.Wait text v none is = sym (none refl)
@@ -132,11 +134,11 @@ held-told word.Denied text v none is = sym (none refl)
 held-told word.Unacknowledged text v none is = sym (none refl)
 held-told word.Clique text v none is = sym (none refl)
 
-pub held_number-told : (w : Word) (v : ℕ) → (is_active w ≡ false → v ≡ 0) → v < 2 ^ 64
+pub held_number-told : (w : Word) (v : ℕ) → (is_active_word w ≡ false → v ≡ 0) → v < 2 ^ 64
     → count_told (held_text w (number_text v)) ≡ v
 held_number-told w v none fits = held-told w (number_text v) v none (number-again v fits)
 
-pub held_wires-told : (w : Word) (width v : ℕ) → (is_active w ≡ false → v ≡ 0) → v < 2 ^ width
+pub held_wires-told : (w : Word) (width v : ℕ) → (is_active_word w ≡ false → v ≡ 0) → v < 2 ^ width
     → count_told (held_text w (wires_text width v)) ≡ v
 held_wires-told w width v none fits = held-told w (wires_text width v) v none (wires-again width v fits)
 
@@ -152,9 +154,9 @@ line_of digits t k node peer message bits accepted rejected =
     ++ codes " acc " ++ decimal accepted ++ codes " rej " ++ decimal rejected
     ++ codes " ack " ++ ack_word node.ack ++ codes " clock " ++ signed_decimal node.offset
 
-told_parts : (width digits t k : ℕ) (node : NodeShown) → IsTold width node
-    → line_of digits t k node (number_told (node_value width of_node.Peer node))
-    (number_told (node_value width of_node.Message node)) (count_told (node_value width of_node.Members node))
+told_parts : (width digits t k : ℕ) (node : NodeShown) → IsRightNode width node
+    → line_of digits t k node (number_shown (node_value width of_node.Peer node))
+    (number_shown (node_value width of_node.Message node)) (count_told (node_value width of_node.Members node))
     (count_told (node_value width of_node.Accepted node)) (count_told (node_value width of_node.Rejected node))
     ≡ line_of digits t k node node.peer node.message (set_bits node.members) node.accepted node.rejected
 told_parts width digits t k node is =
@@ -164,7 +166,7 @@ told_parts width digits t k node is =
     (held_number-told node.word node.accepted is.accepted is.fits_accepted i)
     (held_number-told node.word node.rejected is.rejected is.fits_rejected i)
 
-pub told_narrow : (head : Head) (t k : ℕ) (node : NodeShown) → head.version ≡ 1 → IsTold 16 node
+pub told_narrow : (head : Head) (t k : ℕ) (node : NodeShown) → head.version ≡ 1 → IsRightNode 16 node
     → line_told 4 t k (node_value 16 of_node.Word node) (node_value 16 of_node.Peer node)
     (node_value 16 of_node.Message node) (node_value 16 of_node.Members node) (node_value 16 of_node.Accepted node)
     (node_value 16 of_node.Rejected node) (node_value 16 of_node.Ack node) (node_value 16 of_node.Clock node)
@@ -174,7 +176,7 @@ told_narrow head t k node narrow is =
     ∙ (λ i. line_of (2 * member_bytes (sym narrow i == 2)) t k node node.peer node.message (set_bits node.members)
     node.accepted node.rejected)
 
-pub told_wide : (head : Head) (t k : ℕ) (node : NodeShown) → head.version ≡ 2 → IsTold 24 node
+pub told_wide : (head : Head) (t k : ℕ) (node : NodeShown) → head.version ≡ 2 → IsRightNode 24 node
     → line_told 6 t k (node_value 24 of_node.Word node) (node_value 24 of_node.Peer node)
     (node_value 24 of_node.Message node) (node_value 24 of_node.Members node) (node_value 24 of_node.Accepted node)
     (node_value 24 of_node.Rejected node) (node_value 24 of_node.Ack node) (node_value 24 of_node.Clock node)

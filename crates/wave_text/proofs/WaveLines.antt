@@ -6,8 +6,8 @@ use Rattle.wave_text.proofs.Words.{NodeShown, SlotLines, Message, Port, What, no
 use Rattle.wave_text.proofs.Words.{PortVariable, cluster_value, node_value, port_value, cluster_variables}
 use Rattle.wave_text.proofs.Words.{node_variables, port_variables, cluster_letter, node_code, port_code, ports_at}
 use Rattle.wave_text.proofs.Words.{change_line, change_lines, changes_by, cluster_changes, node_changes, port_changes}
-use Rattle.wave_text.proofs.Words.{message_at, scope_changes, slot_changes, time_line, first_slot_lines, slot_lines}
-use Rattle.wave_text.proofs.Words.{later_lines, all_slots_lines}
+use Rattle.wave_text.proofs.Words.{port_message, scope_changes, slot_changes, time_line, first_slot_lines}
+use Rattle.wave_text.proofs.Words.{slot_change_lines, later_lines, all_slots_lines}
 use Rattle.std.specs.Str.{bytes_eq}
 use Rattle.ttp_base.specs.Text.{is_line}
 use Rattle.ttp_world.specs.declared.script.Source.TheVariants as source
@@ -16,7 +16,7 @@ use Rattle.wave_text.specs.declared.variable.ClusterVariable.TheVariants as of_c
 use Rattle.wave_text.specs.declared.variable.NodeVariable.TheVariants as of_node
 use Rattle.wave_text.specs.declared.variable.PortVariable.TheVariants as of_port
 use Rattle.wave_text.specs.Variables.{node_letter}
-use Rattle.wave_text.specs.Variables.{port_letter, letter_of, source_letter}
+use Rattle.wave_text.specs.Variables.{port_letter, letter_of_node, source_letter}
 use Rattle.wave_text.proofs.Feeds.{HasNone, none-append, none-byte, none-decimal, none-cluster_value, none-node_value}
 use Rattle.wave_text.proofs.Feeds.{none-port_value}
 
@@ -33,7 +33,7 @@ each-flat_map f (x ∷ xs) are = each-append IsLine (f x) (flat_map f xs) (are x
 
 -- Codes.
 
-none-letter_of : (k : ℕ) → HasNone (letter_of k)
+none-letter_of : (k : ℕ) → HasNone (letter_of_node k)
 none-letter_of k = none-byte (65 + k) (omega arith)
 
 pub none-cluster_letter : (v : ClusterVariable) → HasNone (cluster_letter v)
@@ -56,7 +56,7 @@ none-node_letter of_node.Ack = refl
 none-node_letter of_node.Clock = refl
 
 pub none-node_code : (v : NodeVariable) (k : ℕ) → HasNone (node_code v k)
-none-node_code v k = none-append (node_letter v) (letter_of k) (none-node_letter v) (none-letter_of k)
+none-node_code v k = none-append (node_letter v) (letter_of_node k) (none-node_letter v) (none-letter_of k)
 
 none-port_letter : (does : What) (v : PortVariable) → HasNone (port_letter does v)
 none-port_letter what.Write v = refl
@@ -70,8 +70,9 @@ none-source_letter (what.Read (source.Node p)) = none-letter_of p
 
 pub none-port_code : (port : Port) (v : PortVariable) → HasNone (port_code port v)
 none-port_code port v =
-    none-append (port_letter port.what v ++ letter_of port.host) (source_letter port.what)
-    (none-append (port_letter port.what v) (letter_of port.host) (none-port_letter port.what v) (none-letter_of port.host))
+    none-append (port_letter port.what v ++ letter_of_node port.host) (source_letter port.what)
+    (none-append (port_letter port.what v) (letter_of_node port.host) (none-port_letter port.what v)
+    (none-letter_of port.host))
     (none-source_letter port.what)
 
 -- Changes.
@@ -123,10 +124,12 @@ scope-each : (width : ℕ) (ports : List Port) (before : Option SlotLines) (now 
 scope-each width ports before now k =
     let earlier = option_map (λ (slot : SlotLines). node_at slot k) before in
     each-append IsLine (node_changes width k earlier (node_at now k))
-    (flat_map (λ port. port_changes port (option_map (message_at port) before) (message_at port now)) (ports_at ports k))
+    (flat_map (λ port. port_changes port (option_map (port_message port) before) (port_message port now))
+    (ports_at ports k))
     (node-each width k earlier (node_at now k))
-    (each-flat_map (λ port. port_changes port (option_map (message_at port) before) (message_at port now)) (ports_at ports k)
-    (λ port. port-each port (option_map (message_at port) before) (message_at port now)))
+    (each-flat_map (λ port. port_changes port (option_map (port_message port) before) (port_message port now))
+    (ports_at ports k)
+    (λ port. port-each port (option_map (port_message port) before) (port_message port now)))
 
 pub slot-each : (width n : ℕ) (ports : List Port) (before : Option SlotLines) (now : SlotLines)
     → AreLines (slot_changes width n ports before now)
@@ -145,7 +148,7 @@ later-each : (width n : ℕ) (ports : List Port) (t : ℕ) (before : SlotLines) 
     → AreLines (later_lines width n ports t before slots)
 later-each width n ports t before [] = (time-IsLine t, tt)
 later-each width n ports t before (now ∷ slots) =
-    each-append IsLine (slot_lines width n ports t before now) (later_lines width n ports (t + 1) now slots)
+    each-append IsLine (slot_change_lines width n ports t before now) (later_lines width n ports (t + 1) now slots)
     (time-IsLine t, slot-each width n ports (Some before) now)
     (later-each width n ports (t + 1) now slots)
 

@@ -1,10 +1,10 @@
 -- The waveform of a trace in its parts.
 use Rattle.wave_text.proofs.Words.{◌≡◌, List, [], ◌∷◌, ◌++◌, codes, sym, ap, ◌∙◌, append_assoc, Lines, newline}
 use Rattle.wave_text.proofs.Words.{WholeTrace, Port, first_text, keeps_text, returns_text, member_room, trace_ports}
-use Rattle.wave_text.proofs.Words.{declarations, all_slots_lines, head_lines, wave_lines}
+use Rattle.wave_text.proofs.Words.{declarations, all_slots_lines, wave_head_lines, wave_lines}
 
 abbrev pub head_part : WholeTrace → Lines
-head_part trace = head_lines (first_text trace) (keeps_text trace) (returns_text trace)
+head_part trace = wave_head_lines (first_text trace) (keeps_text trace) (returns_text trace)
 
 abbrev pub variables_part : WholeTrace → List Port → Lines
 variables_part trace ports = declarations (member_room trace) trace.head.nodes ports

@@ -1,10 +1,10 @@
 -- The words of this crate's proofs, from one place.
 pub use Rattle.line_reader.specs.TraceLines.{word_text}
 pub use Rattle.line_reader.specs.declared.trace_line.Word.{Word}
-pub use Rattle.shown_slot.specs.Nodes.{is_active, sends}
-pub use Rattle.shown_slot.specs.Ports.{all_whats, larger, later, message_of, most_bytes, newest_message, port_if}
-pub use Rattle.shown_slot.specs.Ports.{ports_of, size_of}
-pub use Rattle.shown_slot.specs.Trace.{first_text, head_text, keeps_text, member_room, node_at, returns_text}
+pub use Rattle.shown_slot.specs.Nodes.{is_active_word, sends}
+pub use Rattle.shown_slot.specs.Ports.{all_whats, larger, later, message_in_line, most_bytes, newest_host_message}
+pub use Rattle.shown_slot.specs.Ports.{port_if, ports_of, size_of}
+pub use Rattle.shown_slot.specs.Trace.{first_text, header_text, keeps_text, member_room, node_at, returns_text}
 pub use Rattle.shown_slot.specs.Trace.{trace_ports}
 pub use Rattle.shown_slot.specs.declared.host.Message.{Message}
 pub use Rattle.shown_slot.specs.declared.host.Port.{Port}
@@ -33,7 +33,7 @@ pub use Rattle.ttp_world.specs.declared.script.Source.{Source}
 pub use Rattle.wave_text.specs.Moment.{slot_before}
 pub use Rattle.wave_text.specs.Places.{HasMost, HasNewest, HasPlace, host_in, message_said, ports_in, size_at}
 pub use Rattle.wave_text.specs.Places.{table_place, what_in}
-pub use Rattle.wave_text.specs.Values.{bit_text, cluster_value, held_text, most_digits}
+pub use Rattle.wave_text.specs.Values.{bit_text, cluster_value, held_text, most_binary_digits}
 unfoldable pub use Rattle.wave_text.specs.Values.{binary, binary_number}
 pub use Rattle.wave_text.specs.Values.{node_value, number_or_nothing, number_text, phase_text, port_value, unless_off}
 pub use Rattle.wave_text.specs.Values.{wires_text}
@@ -42,9 +42,9 @@ pub use Rattle.wave_text.specs.Variables.{cluster_variables, declarations, host_
 pub use Rattle.wave_text.specs.Variables.{node_scope, node_variables, port_code, port_declaration, port_declarations}
 pub use Rattle.wave_text.specs.Variables.{port_variables, ports_at, scope_line, upscope_line}
 pub use Rattle.wave_text.specs.Wave.{all_slots_lines, change_line, change_lines, changes_by, cluster_changes}
-pub use Rattle.wave_text.specs.Wave.{comment_line, comment_lines, first_slot_lines, head_lines, later_lines, message_at}
-pub use Rattle.wave_text.specs.Wave.{node_changes, port_changes, scope_changes, slot_changes, slot_lines, time_line}
-pub use Rattle.wave_text.specs.Wave.{wave_lines}
+pub use Rattle.wave_text.specs.Wave.{comment_line, comment_lines, first_slot_lines, wave_head_lines, later_lines}
+pub use Rattle.wave_text.specs.Wave.{port_message, node_changes, port_changes, scope_changes, slot_changes}
+pub use Rattle.wave_text.specs.Wave.{slot_change_lines, time_line, wave_lines}
 pub use Rattle.wave_text.specs.declared.slot.Moment.{Moment}
 pub use Rattle.wave_text.specs.declared.variable.ClusterVariable.{ClusterVariable}
 pub use Rattle.wave_text.specs.declared.variable.NodeVariable.{NodeVariable}

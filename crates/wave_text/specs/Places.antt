@@ -8,7 +8,7 @@ use Rattle.shown_slot.specs.declared.host.Message.{Message}
 use Rattle.shown_slot.specs.declared.host.Port.{Port}
 use Rattle.shown_slot.specs.declared.host.What.{What}
 use Rattle.shown_slot.specs.declared.host.What.TheVariants as what
-use Rattle.shown_slot.specs.Ports.{most_bytes, newest_message, port_if}
+use Rattle.shown_slot.specs.Ports.{most_bytes, newest_host_message, port_if}
 use Rattle.wave_text.specs.Variables.{HasSourceLetter}
 
 -- a host has a row of entries: for what it writes, for its status, and for what it reads of each node
@@ -39,7 +39,7 @@ message_said (line.Read host from number payload) = record { number = number; pa
 
 -- in a table of messages stands the newest one of these lines
 abbrev pub HasNewest : List (Option Message) → List HostLine → ℕ → What → Type 0
-HasNewest messages lines k does = slice_get messages (table_place k does) ≡ Some (newest_message k does lines)
+HasNewest messages lines k does = slice_get messages (table_place k does) ≡ Some (newest_host_message k does lines)
 
 -- in a table of sizes stands the largest one of these lines
 abbrev pub HasMost : List (Option ℕ) → List HostLine → ℕ → What → Type 0

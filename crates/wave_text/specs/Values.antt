@@ -14,8 +14,8 @@ use Rattle.shown_slot.specs.declared.node.ClockRange.{ClockRange}
 use Rattle.whole_trace.specs.declared.shown.NodeShown.{NodeShown}
 use Rattle.shown_slot.specs.declared.node.Sender.{Sender}
 use Rattle.shown_slot.specs.declared.node.Sender.TheVariants as sent_by
-use Rattle.shown_slot.specs.Nodes.{is_active, has_left, sends, agreement, sender_among, bits_where, clock_range}
-use Rattle.shown_slot.specs.Nodes.{spread_in}
+use Rattle.shown_slot.specs.Nodes.{is_active_word, is_leaving_word, sends, agreement, sender_among, bits_where}
+use Rattle.shown_slot.specs.Nodes.{clock_range, spread_in}
 use Rattle.wave_text.specs.declared.variable.ClusterVariable.{ClusterVariable}
 use Rattle.wave_text.specs.declared.variable.ClusterVariable.TheVariants as of_cluster
 use Rattle.wave_text.specs.declared.variable.NodeVariable.{NodeVariable}
@@ -36,11 +36,11 @@ binary_number zero v = []
 binary_number (suc more) v =
     if nat_lt v 2 then (48 + v) ∷ [] else (binary_number more (v / 2) ++ (48 + v % 2) ∷ [])
 
-abbrev pub most_digits : ℕ
-most_digits = 64
+abbrev pub most_binary_digits : ℕ
+most_binary_digits = 64
 
 abbrev pub number_text : ℕ → List ℕ
-number_text v = codes "b" ++ binary_number most_digits v
+number_text v = codes "b" ++ binary_number most_binary_digits v
 
 -- a wire of so many bits
 abbrev pub wires_text : ℕ → ℕ → List ℕ
@@ -50,8 +50,8 @@ wires_text width v = codes "b" ++ binary width v
 abbrev pub nothing_text : List ℕ
 nothing_text = codes "bz"
 
-abbrev pub unknown_text : List ℕ
-unknown_text = codes "bx"
+abbrev pub unknown_value : List ℕ
+unknown_value = codes "bx"
 
 abbrev pub number_or_nothing : Option ℕ → List ℕ
 number_or_nothing None = nothing_text
@@ -70,7 +70,7 @@ agreement_text (Some same) = bit_text same
 abbrev pub sender_text : Sender → List ℕ
 sender_text sent_by.Nobody = nothing_text
 sender_text (sent_by.Node k) = number_text k
-sender_text sent_by.Several = unknown_text
+sender_text sent_by.Several = unknown_value
 
 abbrev pub spread_text : Option ClockRange → List ℕ
 spread_text None = nothing_text
@@ -80,8 +80,8 @@ spread_text (Some range) = number_text (spread_in range)
 abbrev pub cluster_value : ℕ → ClusterVariable → List NodeShown → List ℕ
 cluster_value width of_cluster.Agree nodes = agreement_text (agreement nodes)
 cluster_value width of_cluster.Sender nodes = sender_text (sender_among 0 nodes)
-cluster_value width of_cluster.Active nodes = wires_text width (bits_where is_active nodes)
-cluster_value width of_cluster.Leaving nodes = wires_text width (bits_where has_left nodes)
+cluster_value width of_cluster.Active nodes = wires_text width (bits_where is_active_word nodes)
+cluster_value width of_cluster.Leaving nodes = wires_text width (bits_where is_leaving_word nodes)
 cluster_value width of_cluster.Spread nodes = spread_text (clock_range nodes)
 
 -- A node.
@@ -90,16 +90,16 @@ abbrev pub phase_text : Word → List ℕ
 phase_text word.Off = codes "off"
 phase_text word.Wait = codes "listening"
 phase_text word.Retry = codes "listening"
-phase_text w = if is_active w then codes "active" else codes "left"
+phase_text w = if is_active_word w then codes "active" else codes "left"
 
 -- a node that is off is known to hold nothing
 abbrev pub unless_off : Word → List ℕ → List ℕ
-unless_off word.Off text = unknown_text
+unless_off word.Off text = unknown_value
 unless_off _ text = text
 
 -- what an active node holds
 abbrev pub held_text : Word → List ℕ → List ℕ
-held_text w text = unless_off w (if is_active w then text else nothing_text)
+held_text w text = unless_off w (if is_active_word w then text else nothing_text)
 
 abbrev pub node_ack_text : Ack → List ℕ
 node_ack_text a = codes "s" ++ ack_word a

@@ -62,19 +62,19 @@ port_letter (what.Read from) of_port.Number = codes "l"
 port_letter (what.Read from) of_port.Data = codes "m"
 
 -- the letter of a node, `A` for node 0
-abbrev pub letter_of : ℕ → List ℕ
-letter_of k = (65 + k) ∷ []
+abbrev pub letter_of_node : ℕ → List ℕ
+letter_of_node k = (65 + k) ∷ []
 
 abbrev pub source_letter : What → List ℕ
 source_letter what.Write = []
 source_letter (what.Read source.Status) = codes "z"
-source_letter (what.Read (source.Node p)) = letter_of p
+source_letter (what.Read (source.Node p)) = letter_of_node p
 
 abbrev pub node_code : NodeVariable → ℕ → List ℕ
-node_code v k = node_letter v ++ letter_of k
+node_code v k = node_letter v ++ letter_of_node k
 
 abbrev pub port_code : Port → PortVariable → List ℕ
-port_code port v = port_letter port.what v ++ letter_of port.host ++ source_letter port.what
+port_code port v = port_letter port.what v ++ letter_of_node port.host ++ source_letter port.what
 
 -- a host and a source have letters where they are nodes below 24
 abbrev pub HasSourceLetter : What → Type 0
@@ -167,11 +167,12 @@ port_range port of_port.Data = range_text (8 * port.size)
 
 -- Declarations.
 
-abbrev pub end_text : List ℕ
-end_text = codes " $end" ++ newline
+abbrev pub end_keyword : List ℕ
+end_keyword = codes " $end" ++ newline
 
 abbrev pub declaration : List ℕ → List ℕ → List ℕ → List ℕ → List ℕ
-declaration type code name range = codes "$var " ++ type ++ codes " " ++ code ++ codes " " ++ name ++ range ++ end_text
+declaration type code name range =
+    codes "$var " ++ type ++ codes " " ++ code ++ codes " " ++ name ++ range ++ end_keyword
 
 abbrev pub cluster_declaration : ℕ → ClusterVariable → List ℕ
 cluster_declaration width v = declaration (cluster_type width v) (cluster_letter v) (cluster_name v) (cluster_range width v)
@@ -183,10 +184,10 @@ abbrev pub port_declaration : Port → PortVariable → List ℕ
 port_declaration port v = declaration (port_type port v) (port_code port v) (port_name port.what v) (port_range port v)
 
 abbrev pub scope_line : List ℕ → List ℕ
-scope_line name = codes "$scope module " ++ name ++ end_text
+scope_line name = codes "$scope module " ++ name ++ end_keyword
 
 abbrev pub upscope_line : List ℕ
-upscope_line = codes "$upscope" ++ end_text
+upscope_line = codes "$upscope" ++ end_keyword
 
 abbrev pub port_declarations : Port → Lines
 port_declarations port = map (port_declaration port) (port_variables port.what)

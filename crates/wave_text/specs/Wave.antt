@@ -6,7 +6,7 @@ use Rattle.ttp_base.specs.Text.{Lines, newline, lines_below}
 use Rattle.shown_slot.specs.declared.host.Message.{Message}
 use Rattle.shown_slot.specs.declared.host.Port.{Port}
 use Rattle.whole_trace.specs.declared.shown.NodeShown.{NodeShown}
-use Rattle.shown_slot.specs.Ports.{newest_message}
+use Rattle.shown_slot.specs.Ports.{newest_host_message}
 use Rattle.whole_trace.specs.Whole.{SlotLines, WholeTrace}
 use Rattle.shown_slot.specs.Trace.{trace_ports, node_at}
 use Rattle.shown_slot.specs.Trace.{first_text, keeps_text, returns_text, member_room}
@@ -46,14 +46,15 @@ port_changes port before now =
     flat_map (λ v. changes_by (port_value v) (port_code port v) before now) (port_variables port.what)
 
 -- the message of a port in a slot
-abbrev pub message_at : Port → SlotLines → Option Message
-message_at port slot = newest_message port.host port.what slot.hosts
+abbrev pub port_message : Port → SlotLines → Option Message
+port_message port slot = newest_host_message port.host port.what slot.hosts
 
 -- what changed in a slot since the one before, if there was one: of node k and its host, and of all
 abbrev pub scope_changes : ℕ → List Port → Option SlotLines → SlotLines → ℕ → Lines
 scope_changes width ports before now k =
     node_changes width k (option_map (λ slot. node_at slot k) before) (node_at now k)
-    ++ flat_map (λ port. port_changes port (option_map (message_at port) before) (message_at port now)) (ports_at ports k)
+    ++ flat_map (λ port. port_changes port (option_map (port_message port) before) (port_message port now))
+    (ports_at ports k)
 
 abbrev pub slot_changes : ℕ → ℕ → List Port → Option SlotLines → SlotLines → Lines
 slot_changes width n ports before now =
@@ -70,14 +71,14 @@ abbrev pub first_slot_lines : ℕ → ℕ → List Port → SlotLines → Lines
 first_slot_lines width n ports now =
     time_line 0 ∷ (codes "$dumpvars" ++ newline) ∷ slot_changes width n ports None now ++ (codes "$end" ++ newline) ∷ []
 
-abbrev pub slot_lines : ℕ → ℕ → List Port → ℕ → SlotLines → SlotLines → Lines
-slot_lines width n ports t before now = time_line t ∷ slot_changes width n ports (Some before) now
+abbrev pub slot_change_lines : ℕ → ℕ → List Port → ℕ → SlotLines → SlotLines → Lines
+slot_change_lines width n ports t before now = time_line t ∷ slot_changes width n ports (Some before) now
 
 -- the slots from slot t on, after one before them, and the end of the last one
 abbrev pub later_lines : ℕ → ℕ → List Port → ℕ → SlotLines → List SlotLines → Lines
 later_lines width n ports t before [] = time_line t ∷ []
 later_lines width n ports t before (now ∷ slots) =
-    slot_lines width n ports t before now ++ later_lines width n ports (t + 1) now slots
+    slot_change_lines width n ports t before now ++ later_lines width n ports (t + 1) now slots
 
 abbrev pub all_slots_lines : ℕ → ℕ → List Port → List SlotLines → Lines
 all_slots_lines width n ports [] = time_line 0 ∷ []
@@ -93,8 +94,8 @@ comment_lines None = []
 comment_lines (Some text) = comment_line text ∷ []
 
 -- with the first line of the trace, that of the hypothesis test, and that on armed nodes, without their line feeds
-abbrev pub head_lines : List ℕ → List ℕ → Option (List ℕ) → Lines
-head_lines first keeps returns =
+abbrev pub wave_head_lines : List ℕ → List ℕ → Option (List ℕ) → Lines
+wave_head_lines first keeps returns =
     (codes "$version ttplab wave $end" ++ newline) ∷ comment_line first ∷ comment_line keeps ∷ comment_lines returns
     ++ (codes "$timescale 1 s $end" ++ newline) ∷ []
 
@@ -103,6 +104,6 @@ wave_lines trace =
     let width = member_room trace in
     let n = trace.head.nodes in
     let ports = trace_ports trace in
-    head_lines (first_text trace) (keeps_text trace) (returns_text trace)
+    wave_head_lines (first_text trace) (keeps_text trace) (returns_text trace)
     ++ declarations width n ports ++ (codes "$enddefinitions $end" ++ newline)
     ∷ all_slots_lines width n ports trace.slots

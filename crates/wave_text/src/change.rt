@@ -10,7 +10,7 @@ ghost use Rattle.wave_text.specs.Wave.{change_line, change_lines, changes_by, cl
 use crate::draft::Draft;
 use crate::value::{put_cluster_value, put_node_value};
 use crate::variable::{CLUSTER_VARIABLES, ClusterVariable, NODE_VARIABLES, NodeVariable};
-use shown_slot::{active_bits, is_active, left_bits};
+use shown_slot::{active_bits, is_active_word, left_bits};
 use ttp_base::{Failed, Sink};
 use whole_trace::NodeShown;
 
@@ -226,7 +226,7 @@ fn show_same_members(before: &NodeShown, now: &NodeShown) -> bool
         → (width : ℕ) → node_value width of_node.Members before.now ≡ node_value width of_node.Members now.now }
 {
     before.members.bits() == now.members.bits()
-        && (before.word == now.word || (is_active(before.word) && is_active(now.word)))
+        && (before.word == now.word || (is_active_word(before.word) && is_active_word(now.word)))
 }
 
 // Whether a variable of a node has the same value for sure, since what it is read from is the same.

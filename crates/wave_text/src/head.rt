@@ -2,10 +2,10 @@
 ghost use Rattle.std.specs.Prelude.{◌≤◌, [], ◌∷◌, length, OnOk, OnErr};
 ghost use Rattle.ttp_base.specs.Outside.{WroteLines, CutShort};
 ghost use Rattle.shown_slot.specs.Trace.{first_text, keeps_text, returns_text};
-ghost use Rattle.wave_text.specs.Wave.{comment_line, comment_lines, head_lines};
+ghost use Rattle.wave_text.specs.Wave.{comment_line, comment_lines, wave_head_lines};
 
 use crate::draft::Draft;
-use shown_slot::{back_text, head_text, keep_text};
+use shown_slot::{back_text, header_text, keep_text};
 use ttp_base::{Failed, Sink};
 use whole_trace::Whole;
 
@@ -43,7 +43,7 @@ fn put_first<K: Sink>(trace: &Whole, line: &mut Draft, out: &mut K) -> Result<()
     ensures failed { OnErr result (CutShort (K.output out.old) (K.output out.new)
         (comment_line (first_text trace.now) ∷ [])) }
 {
-    put_comment(head_text(&trace.head()).bytes(), line, out)
+    put_comment(header_text(&trace.head()).bytes(), line, out)
 }
 
 // Writes the line of the hypothesis test as a comment.
@@ -59,9 +59,9 @@ fn put_keep<K: Sink>(trace: &Whole, line: &mut Draft, out: &mut K) -> Result<(),
 /// Writes what stands before the declarations.
 pub(crate) fn put_head<K: Sink>(trace: &Whole, line: &mut Draft, out: &mut K) -> Result<(), Failed>
     ensures ok { OnOk result (WroteLines (K.output out.old) (K.output out.new)
-        (head_lines (first_text trace.now) (keeps_text trace.now) (returns_text trace.now))) }
+        (wave_head_lines (first_text trace.now) (keeps_text trace.now) (returns_text trace.now))) }
     ensures failed { OnErr result (CutShort (K.output out.old) (K.output out.new)
-        (head_lines (first_text trace.now) (keeps_text trace.now) (returns_text trace.now))) }
+        (wave_head_lines (first_text trace.now) (keeps_text trace.now) (returns_text trace.now))) }
 {
     out.write(b"$version ttplab wave $end\n")?;
     put_first(trace, line, out)?;

@@ -7,7 +7,7 @@ ghost use Rattle.whole_trace.specs.declared.shown.NodeShown.{NodeShown as Shown}
 ghost use Rattle.whole_trace.specs.Whole.{WholeTrace};
 ghost use Rattle.shown_slot.specs.Trace.{node_text};
 ghost use Rattle.wave_text.specs.declared.variable.NodeVariable.TheVariants as of_node;
-ghost use Rattle.wave_text.specs.Telling.{line_told, IsTold};
+ghost use Rattle.wave_text.specs.Telling.{line_told, IsRightNode};
 ghost use Rattle.wave_text.specs.Values.{node_value};
 ghost use Rattle.wave_text.specs.Wave.{wave_lines};
 
@@ -18,12 +18,12 @@ pub fn lines_of_waveforms()
 
 /// The values of a node's variables after a slot tell its line in the trace, for version 1 and for version 2.
 pub fn values_tell_lines()
-    ensures narrow { (head : Head) (t k : ℕ) (node : Shown) → head.version ≡ 1 → IsTold 16 node
+    ensures narrow { (head : Head) (t k : ℕ) (node : Shown) → head.version ≡ 1 → IsRightNode 16 node
         → line_told 4 t k (node_value 16 of_node.Word node) (node_value 16 of_node.Peer node)
         (node_value 16 of_node.Message node) (node_value 16 of_node.Members node) (node_value 16 of_node.Accepted node)
         (node_value 16 of_node.Rejected node) (node_value 16 of_node.Ack node) (node_value 16 of_node.Clock node)
         ≡ node_text head t k node }
-    ensures wide { (head : Head) (t k : ℕ) (node : Shown) → head.version ≡ 2 → IsTold 24 node
+    ensures wide { (head : Head) (t k : ℕ) (node : Shown) → head.version ≡ 2 → IsRightNode 24 node
         → line_told 6 t k (node_value 24 of_node.Word node) (node_value 24 of_node.Peer node)
         (node_value 24 of_node.Message node) (node_value 24 of_node.Members node) (node_value 24 of_node.Accepted node)
         (node_value 24 of_node.Rejected node) (node_value 24 of_node.Ack node) (node_value 24 of_node.Clock node)

@@ -6,7 +6,7 @@ ghost use Rattle.wave_text.specs.Places.{HasNewest, HasPlace};
 ghost use Rattle.wave_text.specs.Variables.{HasLetters};
 
 use crate::place::{PLACES, placed, table_place};
-use shown_slot::{Message, Port, message_of};
+use shown_slot::{Message, Port, message_in_line};
 use std::alloc::Global;
 use ttp_base::Memory;
 use whole_trace::{HostLine, SlotShown};
@@ -32,7 +32,7 @@ fn note_message(messages: &mut [Option<Message>], line: &HostLine)
         → HasNewest messages.new (lines ++ line.now ∷ []) k does }
 {
     if let Some((host, what)) = placed(line) {
-        messages[table_place(host, what)] = message_of(host, what, line);
+        messages[table_place(host, what)] = message_in_line(host, what, line);
     }
 }
 

@@ -3,10 +3,10 @@ ghost use Rattle.std.specs.Prelude.{◌≡◌, ◌<◌, ◌≤◌, [], ◌==◌,
 ghost use Rattle.std.specs.Prelude.{IfSome, OnOk, OnErr};
 ghost use Rattle.ttp_base.specs.Outside.{WroteLines, CutShort};
 ghost use Rattle.ttp_base.specs.Text.{lines_below};
-ghost use Rattle.shown_slot.specs.Trace.{no_node, node_at};
+ghost use Rattle.shown_slot.specs.Trace.{no_shown_node, node_at};
 ghost use Rattle.wave_text.specs.Moment.{ShowsMessages, ShowsNewest, slot_before};
 ghost use Rattle.wave_text.specs.Variables.{HasLetters, ports_at};
-ghost use Rattle.wave_text.specs.Wave.{cluster_changes, message_at, node_changes, port_changes};
+ghost use Rattle.wave_text.specs.Wave.{cluster_changes, port_message, node_changes, port_changes};
 ghost use Rattle.wave_text.specs.Wave.{scope_changes, slot_changes};
 
 use crate::change::{Drafts, put_cluster_changes, put_node_changes};
@@ -26,8 +26,8 @@ pub(crate) struct Moment<'a> {
 }
 
 // What stands for a node that a slot doesn't have.
-fn no_node() -> NodeShown
-    ensures { result ≡ no_node }
+fn no_shown_node() -> NodeShown
+    ensures { result ≡ no_shown_node }
 {
     NodeShown {
         word: Word::Off,
@@ -46,7 +46,11 @@ fn node_at(slot: &SlotShown, node: u8) -> NodeShown
 {
     let nodes = slot.nodes();
     let k = usize::from(node);
-    if k < nodes.len() { nodes[k] } else { no_node() }
+    if k < nodes.len() {
+        nodes[k]
+    } else {
+        no_shown_node()
+    }
 }
 
 // Writes the changes of a port.
@@ -61,11 +65,11 @@ fn put_changes_of_port<K: Sink>(
     requires before { IfSome before (λ moment. ShowsNewest moment.now port.now) }
     requires now { ShowsNewest now.now port.now }
     ensures ok { OnOk result (WroteLines (K.output out.old) (K.output out.new)
-        (port_changes port.now (option_map (message_at port.now) (slot_before before.entry))
-        (message_at port.now now.now.slot))) }
+        (port_changes port.now (option_map (port_message port.now) (slot_before before.entry))
+        (port_message port.now now.now.slot))) }
     ensures failed { OnErr result (CutShort (K.output out.old) (K.output out.new)
-        (port_changes port.now (option_map (message_at port.now) (slot_before before.entry))
-        (message_at port.now now.now.slot))) }
+        (port_changes port.now (option_map (port_message port.now) (slot_before before.entry))
+        (port_message port.now now.now.slot))) }
 {
     let at = table_place(port.host, port.what);
     match before {
@@ -94,12 +98,12 @@ fn put_port_of<K: Sink>(
     requires now { ShowsNewest now.now port.now }
     ensures ok { OnOk result (WroteLines (K.output out.old) (K.output out.new)
         (if port.now.host == host
-        then port_changes port.now (option_map (message_at port.now) (slot_before before.entry))
-        (message_at port.now now.now.slot) else [])) }
+        then port_changes port.now (option_map (port_message port.now) (slot_before before.entry))
+        (port_message port.now now.now.slot) else [])) }
     ensures failed { OnErr result (CutShort (K.output out.old) (K.output out.new)
         (if port.now.host == host
-        then port_changes port.now (option_map (message_at port.now) (slot_before before.entry))
-        (message_at port.now now.now.slot) else [])) }
+        then port_changes port.now (option_map (port_message port.now) (slot_before before.entry))
+        (port_message port.now now.now.slot) else [])) }
 {
     if port.host != host {
         return Ok(());
@@ -120,11 +124,11 @@ fn put_host_changes<K: Sink>(
     requires before { IfSome before (λ moment. ShowsMessages ports.now moment.now) }
     requires now { ShowsMessages ports.now now.now }
     ensures ok { OnOk result (WroteLines (K.output out.old) (K.output out.new)
-        (flat_map (λ port. port_changes port (option_map (message_at port) (slot_before before.entry))
-        (message_at port now.now.slot)) (ports_at ports.now host))) }
+        (flat_map (λ port. port_changes port (option_map (port_message port) (slot_before before.entry))
+        (port_message port now.now.slot)) (ports_at ports.now host))) }
     ensures failed { OnErr result (CutShort (K.output out.old) (K.output out.new)
-        (flat_map (λ port. port_changes port (option_map (message_at port) (slot_before before.entry))
-        (message_at port now.now.slot)) (ports_at ports.now host))) }
+        (flat_map (λ port. port_changes port (option_map (port_message port) (slot_before before.entry))
+        (port_message port now.now.slot)) (ports_at ports.now host))) }
 {
     for port in ports {
         put_port_of(port, host, before, now, drafts, out)?;

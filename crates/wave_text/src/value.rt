@@ -10,7 +10,7 @@ use crate::draft::{Draft, put_binary, put_number, put_wires};
 use crate::variable::{ClusterVariable, NodeVariable, PortVariable};
 use line_reader::Word;
 use shown_slot::{
-    Message, Sender, active_bits, agreement, clock_range, is_active, left_bits, sender_among,
+    Message, Sender, active_bits, agreement, clock_range, is_active_word, left_bits, sender_among,
     sends, word_text,
 };
 use ttp_world::{Ack, Payload};
@@ -131,7 +131,7 @@ fn put_held_number(line: &mut Draft, word: Word, number: u8)
     ensures text { line.new ≡ line.old ++ held_text word (number_text number) }
     ensures short { length line.new ≤ length line.old + 65 }
 {
-    let held = if is_active(word) {
+    let held = if is_active_word(word) {
         Some(u64::from(number))
     } else {
         None
@@ -149,7 +149,7 @@ fn put_held_members(line: &mut Draft, width: u8, node: &NodeShown)
     match node.word {
         Word::Off => line.put_text("bx"),
         word => {
-            if is_active(word) {
+            if is_active_word(word) {
                 put_wires(line, width, node.members.bits());
             } else {
                 line.put_text("bz");

@@ -4,7 +4,8 @@ ghost use Rattle.ttp_base.specs.Outside.{WroteLines, CutShort};
 ghost use Rattle.shown_slot.specs.Trace.{member_room, trace_ports};
 ghost use Rattle.wave_text.specs.Moment.{ShowsMessages};
 ghost use Rattle.wave_text.specs.Variables.{declarations, HasLetters};
-ghost use Rattle.wave_text.specs.Wave.{all_slots_lines, first_slot_lines, later_lines, slot_lines, time_line, wave_lines};
+ghost use Rattle.wave_text.specs.Wave.{all_slots_lines, first_slot_lines, later_lines, slot_change_lines, time_line};
+ghost use Rattle.wave_text.specs.Wave.{wave_lines};
 
 use crate::change::Drafts;
 use crate::declare::put_declarations;
@@ -102,9 +103,9 @@ fn put_slot<K: Sink>(
     requires before { ShowsMessages ports.now before.now }
     requires now { ShowsMessages ports.now now.now }
     ensures ok { OnOk result (WroteLines (K.output out.old) (K.output out.new)
-        (slot_lines width nodes ports.now time before.now.slot now.now.slot)) }
+        (slot_change_lines width nodes ports.now time before.now.slot now.now.slot)) }
     ensures failed { OnErr result (CutShort (K.output out.old) (K.output out.new)
-        (slot_lines width nodes ports.now time before.now.slot now.now.slot)) }
+        (slot_change_lines width nodes ports.now time before.now.slot now.now.slot)) }
 {
     put_time(time, out)?;
     put_slot_changes(width, nodes, ports, Some(before), now, drafts, out)

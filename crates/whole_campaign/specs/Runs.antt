@@ -8,7 +8,7 @@ use Rattle.line_reader.specs.declared.trace_line.TraceLine.{TraceLine}
 use Rattle.line_reader.specs.declared.trace_line.TraceLine.TheVariants as line
 use Rattle.line_reader.specs.Reading.{◌>>=◌, line_in}
 use Rattle.campaign.specs.Cost.{is_kept, is_owed}
-use Rattle.whole_trace.specs.Due.{is_within, is_keep, is_back}
+use Rattle.whole_trace.specs.Due.{lies_within, is_keep, is_back}
 use Rattle.whole_campaign.specs.declared.cost.CostShown.{CostShown}
 use Rattle.whole_campaign.specs.declared.shown.Test.{Test}
 use Rattle.whole_campaign.specs.declared.shown.Test.TheVariants as test
@@ -24,7 +24,7 @@ range_digits = 9
 
 -- 4 to 24 nodes, 1 to 20000 slots, and a range
 abbrev pub is_campaign_head : CampaignHead → Bool
-is_campaign_head h = is_within 4 24 h.nodes && is_within 1 20000 h.slots && nat_le h.first h.last
+is_campaign_head h = lies_within 4 24 h.nodes && lies_within 1 20000 h.slots && nat_le h.first h.last
 
 -- what a line says, without its line feed, where it is the first one of a piece
 unfoldable pub campaign_head_in : List ℕ → Option CampaignHead

@@ -9,32 +9,32 @@ use Rattle.whole_trace.specs.declared.due.Due.{Due}
 use Rattle.whole_trace.specs.declared.due.Due.TheVariants as due
 use Rattle.whole_trace.specs.declared.due.Outline.{Outline}
 use Rattle.whole_trace.specs.declared.shown.Head.{Head}
-use Rattle.whole_trace.specs.Due.{is_within, is_head, is_below, source_node, is_node_line, is_keep, is_back}
+use Rattle.whole_trace.specs.Due.{lies_within, is_head, is_below, source_node, is_node_line, is_keep, is_back}
 use Rattle.whole_trace.specs.Due.{next_node, after_node, due_after, ending}
 use Rattle.whole_trace.specs.Steps.{has_head}
 
 -- Numbers of nodes.
 
-within : (low high n : ℕ) → is_within low high n ≡ true → (low ≤ n) × (n ≤ high)
+within : (low high n : ℕ) → lies_within low high n ≡ true → (low ≤ n) × (n ≤ high)
 within low high n is =
     let parts = and_parts (nat_le low n) (nat_le n high) is in (leb-true low n parts.0, leb-true n high parts.1)
 
 pub few_nodes : (h : Head) → IsTrue (is_head h) → (4 ≤ h.nodes) × (h.nodes ≤ 24)
 few_nodes h is =
-    let one = (h.version == 1) && is_within 4 16 h.nodes in
-    let two = (h.version == 2) && is_within 4 24 h.nodes in
-    let first = and_parts ((one || two) && is_within 1 64 h.rounds) (is_within 1 20000 h.slots) is in
-    let versions = and_parts (one || two) (is_within 1 64 h.rounds) first.0 in
+    let one = (h.version == 1) && lies_within 4 16 h.nodes in
+    let two = (h.version == 2) && lies_within 4 24 h.nodes in
+    let first = and_parts ((one || two) && lies_within 1 64 h.rounds) (lies_within 1 20000 h.slots) is in
+    let versions = and_parts (one || two) (lies_within 1 64 h.rounds) first.0 in
     elim (or_cases one two versions.0) [
-      | inl narrow ↦ (let n = within 4 16 h.nodes (and_parts (h.version == 1) (is_within 4 16 h.nodes) narrow).1 in
+      | inl narrow ↦ (let n = within 4 16 h.nodes (and_parts (h.version == 1) (lies_within 4 16 h.nodes) narrow).1 in
           (n.0, omega (arith, n.1)))
-      | inr wide ↦ within 4 24 h.nodes (and_parts (h.version == 2) (is_within 4 24 h.nodes) wide).1
+      | inr wide ↦ within 4 24 h.nodes (and_parts (h.version == 2) (lies_within 4 24 h.nodes) wide).1
     ]
 
 pub few_slots : (h : Head) → IsTrue (is_head h) → (1 ≤ h.slots) × (h.slots ≤ 20000)
 few_slots h is =
-    let nodes = ((h.version == 1) && is_within 4 16 h.nodes) || ((h.version == 2) && is_within 4 24 h.nodes) in
-    within 1 20000 h.slots (and_parts (nodes && is_within 1 64 h.rounds) (is_within 1 20000 h.slots) is).1
+    let nodes = ((h.version == 1) && lies_within 4 16 h.nodes) || ((h.version == 2) && lies_within 4 24 h.nodes) in
+    within 1 20000 h.slots (and_parts (nodes && lies_within 1 64 h.rounds) (lies_within 1 20000 h.slots) is).1
 
 -- Going on.
 

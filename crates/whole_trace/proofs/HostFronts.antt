@@ -17,7 +17,7 @@ use Rattle.whole_trace.specs.declared.due.Due.TheVariants as due
 use Rattle.whole_trace.specs.declared.shown.Head.{Head}
 use Rattle.whole_trace.specs.declared.shown.NodeShown.{NodeShown}
 use Rattle.whole_trace.specs.Due.{is_below, source_node, due_after, after_node}
-use Rattle.whole_trace.specs.Steps.{IsStep, is_taken, GoesOn, IsNodeStep, host_front}
+use Rattle.whole_trace.specs.Steps.{IsLineStep, is_taken, GoesOn, IsNodeStep, host_front}
 use Rattle.whole_trace.specs.Whole.{judged, judged_behind, value_of, slots_from, with_line, with_value}
 use Rattle.whole_trace.proofs.Pieces.{value-text}
 use Rattle.whole_trace.proofs.NodeSteps.{goes-on, is_next}
@@ -104,8 +104,8 @@ next-later head slot has_read (line.Node t j w peer message wide members accepte
 next-later head slot has_read v then less e = cc
 
 pub step-later : (head : Head) (slot : ℕ) (has_read : Bool) (text rest : List ℕ) (v : TraceLine) (then : Due)
-    → nat_lt (slot + 1) head.slots ≡ true → IsStep (due.Node head (slot + 1) 0) text v then rest
-    → IsStep (due.Host head slot has_read) text v then rest
+    → nat_lt (slot + 1) head.slots ≡ true → IsLineStep (due.Node head (slot + 1) 0) text v then rest
+    → IsLineStep (due.Host head slot has_read) text v then rest
 step-later head slot has_read text rest v then less s = record {
   line = s.line;
   cut = s.cut;
@@ -115,7 +115,7 @@ step-later head slot has_read text rest v then less s = record {
 }
 
 pub node-later : (head : Head) (slot : ℕ) (has_read : Bool) (text rest : List ℕ) (v : TraceLine) (node : NodeShown) (then : Due)
-    → nat_lt (slot + 1) head.slots ≡ true → IsStep (due.Node head (slot + 1) 0) text v then rest
+    → nat_lt (slot + 1) head.slots ≡ true → IsLineStep (due.Node head (slot + 1) 0) text v then rest
     → IsNodeStep (due.Node head (slot + 1) 0) text node then rest → IsNodeStep (due.Host head slot has_read) text node then rest
 node-later head slot has_read text rest v node then less s n = record {
   slots = n.slots;

@@ -17,15 +17,17 @@ use Rattle.whole_trace.specs.declared.due.Outline.{Outline}
 use Rattle.whole_trace.specs.declared.shown.Head.{Head}
 use Rattle.whole_trace.specs.declared.shown.NodeShown.{NodeShown}
 use Rattle.whole_trace.specs.Due.{is_below, source_node, is_node_line, next_node, after_node, due_after}
-use Rattle.whole_trace.specs.Steps.{IsStep, is_taken, GoesOn, node_due, behind_node, IsNodeStep, is_in_slot, IsInSlot}
-use Rattle.whole_trace.specs.Steps.{are_few, is_between, is_host_line, IsHostPlace, IsHostStep, IsSlotPlace}
-use Rattle.whole_trace.specs.Whole.{due_behind, one_line_later, judged_behind, judged, with_line, with_value, with_node, with_node_line}
-use Rattle.whole_trace.specs.Whole.{SlotLines, SlotsFrom, value_of, slots_from}
+use Rattle.whole_trace.specs.Steps.{IsLineStep, is_taken, GoesOn, node_due, behind_node, IsNodeStep, is_due_in_slot}
+use Rattle.whole_trace.specs.Steps.{IsInSlot, are_few, is_due_between, is_host_line, IsHostPlace, IsHostStep}
+use Rattle.whole_trace.specs.Steps.{IsSlotPlace}
+use Rattle.whole_trace.specs.Whole.{due_behind, one_line_later, judged_behind, judged, with_line, with_value}
+use Rattle.whole_trace.specs.Whole.{with_shown_node, with_node_line, SlotLines, SlotsFrom, value_of, slots_from}
 use Rattle.whole_trace.proofs.Texts.{cut-front, rest-shorter}
 
 -- Any line.
 
-pub judged-step : (at : Due) (text : List ℕ) (v : TraceLine) (then : Due) (rest : List ℕ) → IsStep at text v then rest
+pub judged-step : (at : Due) (text : List ℕ) (v : TraceLine) (then : Due) (rest : List ℕ)
+    → IsLineStep at text v then rest
     → judged at (lines_of text) ≡ one_line_later (judged then (lines_of rest))
 judged-step at text v then rest s =
     let is : due_behind at s.line ≡ Some then = ap (option_and_then (due_after at)) s.value ∙ s.next in
@@ -35,12 +37,13 @@ taken-later : (r : Result Outline ℕ) → is_taken (one_line_later r) ≡ is_ta
 taken-later (Ok outline) = refl
 taken-later (Err line) = refl
 
-pub goes-on : (at : Due) (text : List ℕ) (v : TraceLine) (then : Due) (rest : List ℕ) → IsStep at text v then rest
+pub goes-on : (at : Due) (text : List ℕ) (v : TraceLine) (then : Due) (rest : List ℕ) → IsLineStep at text v then rest
     → GoesOn at (lines_of text) → GoesOn then (lines_of rest)
 goes-on at text v then rest s on =
     sym (taken-later (judged then (lines_of rest))) ∙ sym (ap is_taken (judged-step at text v then rest s)) ∙ on
 
-pub slots-step : (at : Due) (text : List ℕ) (v : TraceLine) (then : Due) (rest : List ℕ) → IsStep at text v then rest
+pub slots-step : (at : Due) (text : List ℕ) (v : TraceLine) (then : Due) (rest : List ℕ)
+    → IsLineStep at text v then rest
     → slots_from (lines_of text) ≡ with_line v (slots_from (lines_of rest))
 slots-step at text v then rest s =
     ap slots_from s.cut ∙ ap (λ (o : Option TraceLine). with_value o (slots_from (lines_of rest))) s.value
@@ -83,7 +86,7 @@ is_next (due.Nothing head k b) then t j w peer message wide members accepted rej
 
 pub node-step : (at then : Due) (text rest : List ℕ) (t j : ℕ) (w : Word) (peer message : Option ℕ) (wide : Bool)
     (members : List ℕ) (accepted rejected : ℕ) (a : Ack) (z : ℤ)
-    → IsStep at text (line.Node t j w peer message wide members accepted rejected a z) then rest
+    → IsLineStep at text (line.Node t j w peer message wide members accepted rejected a z) then rest
     → IsNodeStep at text (record {
       word = w;
       peer = peer;
@@ -118,7 +121,7 @@ node-step at then text rest t j w peer message wide members accepted rejected a 
 -- a text begins with a line that is due
 pub due-step : (head : Head) (slot k : ℕ) (text front rest : List ℕ) (v : TraceLine) (then : Due)
     → lines_of text ≡ front ∷ lines_of rest → value_of front ≡ Some v → is_node_line head slot k v ≡ true
-    → then ≡ next_node head slot k → IsStep (due.Node head slot k) text v then rest
+    → then ≡ next_node head slot k → IsLineStep (due.Node head slot k) text v then rest
 due-step head slot k text front rest v then cut value is next = record {
   line = front;
   cut = cut;
@@ -247,11 +250,11 @@ are-hosts (due.Nothing head k b) count lines other in_slot = let no : false ≡ 
 
 -- the next node is due, or hosts are
 next-in_slot : (head : Head) (slot k count : ℕ) → k ≡ count → nat_lt k head.nodes ≡ true → are_few head ≡ true
-    → IsTrue (is_in_slot (count + 1) (next_node head slot k))
+    → IsTrue (is_due_in_slot (count + 1) (next_node head slot k))
 next-in_slot head slot k count same less few = by_last (nat_lt (k + 1) head.nodes) refl
   where
     by_last : (b : Bool) → nat_lt (k + 1) head.nodes ≡ b
-        → IsTrue (is_in_slot (count + 1) (cond b (due.Node head slot (k + 1)) (due.Host head slot false)))
+        → IsTrue (is_due_in_slot (count + 1) (cond b (due.Node head slot (k + 1)) (due.Host head slot false)))
     by_last true is =
         let next : (k + 1 == count + 1) ≡ true = eq-eqb (k + 1) (count + 1) (omega (arith, same)) in
         rw next (rw is few)
@@ -276,14 +279,14 @@ passed head slot k count text rest shown then some in_slot step =
     let first = and_parts (k == count) (nat_lt k head.nodes) parts.0 in
     let same = eqb-true k count first.0 in
     let later : (k == 0) ≡ false = ne_eqb k 0 (λ none. omega (arith, none, same, some)) in
-    let adds : slots_from (lines_of text) ≡ record { front = with_node shown from.front; slots = from.slots } =
+    let adds : slots_from (lines_of text) ≡ record { front = with_shown_node shown from.front; slots = from.slots } =
     step.slots ∙ rw later refl in record {
       hosts = ap (λ (f : SlotsFrom). f.front.hosts) adds;
       others = ap (λ (f : SlotsFrom). f.slots) adds;
       place = record {
         goes_on = step.goes_on in_slot.goes_on;
         in_slot =
-            subst (λ (d : Due). IsTrue (is_in_slot (count + 1) d)) (sym step.next)
+            subst (λ (d : Due). IsTrue (is_due_in_slot (count + 1) d)) (sym step.next)
             (next-in_slot head slot k count same first.1 parts.1);
       };
     }
@@ -291,18 +294,18 @@ passed head slot k count text rest shown then some in_slot step =
 -- The line of a host.
 
 is-host : (at then : Due) (v : TraceLine) → IsTrue (is_host_line v) → due_after at v ≡ Some then
-    → IsTrue (is_between at) → IsTrue (is_between then)
+    → IsTrue (is_due_between at) → IsTrue (is_due_between then)
 is-host due.First then v is e between = cc
 is-host (due.Node head slot k) then (line.Write t h n) is e between = cc
 is-host (due.Node head slot k) then (line.Read t h source n payload) is e between = cc
 is-host (due.Node head slot k) then v is e between = cc
 is-host (due.Host head slot has_read) then (line.Write t h n) is e between =
     let g = guarded ((t == slot) && nat_lt h head.nodes && not has_read) (Some (due.Host head slot false)) then e in
-    subst (λ (d : Due). IsTrue (is_between d)) (some_same (due.Host head slot false) then g.1) between
+    subst (λ (d : Due). IsTrue (is_due_between d)) (some_same (due.Host head slot false) then g.1) between
 is-host (due.Host head slot has_read) then (line.Read t h source n payload) is e between =
     let g = guarded ((t == slot) && nat_lt h head.nodes && is_below head.nodes (source_node source))
     (Some (due.Host head slot true)) then e in
-    subst (λ (d : Due). IsTrue (is_between d)) (some_same (due.Host head slot true) then g.1) between
+    subst (λ (d : Due). IsTrue (is_due_between d)) (some_same (due.Host head slot true) then g.1) between
 is-host (due.Host head slot has_read) then v is e between = cc
 is-host (due.Back head k) then v is e between = cc
 is-host (due.Nothing head k b) then v is e between = cc
@@ -312,7 +315,7 @@ with-host (line.Write t h n) from is = refl
 with-host (line.Read t h source n payload) from is = refl
 with-host v from is = cc
 
-pub host-step : (at then : Due) (text rest : List ℕ) (v : TraceLine) → IsStep at text v then rest
+pub host-step : (at then : Due) (text rest : List ℕ) (v : TraceLine) → IsLineStep at text v then rest
     → IsTrue (is_host_line v) → IsHostStep at text then rest
 host-step at then text rest v s is = record {
   slots =

@@ -13,8 +13,8 @@ use Rattle.whole_trace.specs.declared.due.Outline.{Outline}
 use Rattle.whole_trace.specs.declared.shown.Head.{Head}
 use Rattle.whole_trace.specs.declared.shown.NodeShown.{NodeShown}
 use Rattle.whole_trace.specs.Due.{is_below, source_node, is_head, is_keep, is_back, next_node, due_after, ending}
-use Rattle.whole_trace.specs.Whole.{one_line_later, or_missing, judged_behind, judged, with_line, with_value, with_node, with_node_line, no_lines}
-use Rattle.whole_trace.specs.Whole.{SlotsFrom, value_of, slots_from}
+use Rattle.whole_trace.specs.Whole.{one_line_later, or_missing, judged_behind, judged, with_line, with_value}
+use Rattle.whole_trace.specs.Whole.{with_shown_node, with_node_line, no_lines, SlotsFrom, value_of, slots_from}
 use Rattle.whole_trace.proofs.NodeSteps.{is_next}
 
 -- the slots of the trace are so many, where this many begin in what is left
@@ -41,8 +41,8 @@ node-total head slot k j node from s e is =
     subst (λ (m : ℕ). Totals (due.Node head slot m) (length (with_node_line j node from).slots) s) e (by_first (j == 0))
   where
     by_first : (b : Bool) → (cond b slot (slot + 1)) + length (cond b
-        (let r : SlotsFrom = record { front = no_lines; slots = with_node node from.front ∷ from.slots } in r)
-        (record { front = with_node node from.front; slots = from.slots })).slots ≡ s
+        (let r : SlotsFrom = record { front = no_lines; slots = with_shown_node node from.front ∷ from.slots } in r)
+        (record { front = with_shown_node node from.front; slots = from.slots })).slots ≡ s
     by_first true = omega (arith, is)
     by_first false = is
 

@@ -11,7 +11,8 @@ use Rattle.memchr.specs.Find.{IsFirstByte, is_byte}
 use Rattle.ttp_base.specs.Text.{Lines, newline, is_newline, before_lines, lines_of}
 use Rattle.line_reader.specs.declared.trace_line.TraceLine.{TraceLine}
 use Rattle.line_reader.specs.declared.trace_line.NodeLine.{NodeLine}
-use Rattle.line_reader.specs.Reading.{or_else, line_in, node_in, read_in, write_in, head_in, kept_in, broken_in, owed_in, refused_in}
+use Rattle.line_reader.specs.Reading.{or_else, line_in, node_in, read_line_in, write_line_in, head_in, kept_in}
+use Rattle.line_reader.specs.Reading.{broken_in, owed_in, refused_in}
 use Rattle.line_text.proofs.Cuts.{concat-lines_of}
 use Rattle.line_text.proofs.FirstLines.{IsCut, cut-Some, cut-None}
 use Rattle.whole_trace.specs.Alike.{said_by}
@@ -83,6 +84,6 @@ unfolding line_in
 node-said text None feed is = tt
 node-said text (Some n) feed is =
     let bytes = take (length text - 1) text in
-    rw feed (ap (λ (o : Option TraceLine). or_else o (or_else (read_in bytes) (or_else (write_in bytes) (
+    rw feed (ap (λ (o : Option TraceLine). or_else o (or_else (read_line_in bytes) (or_else (write_line_in bytes) (
     or_else (head_in bytes) (or_else (kept_in bytes) (or_else (broken_in bytes) (
     or_else (owed_in bytes) (refused_in bytes)))))))) (sym is))

@@ -17,14 +17,14 @@ use Rattle.whole_trace.specs.declared.due.Due.TheVariants as due
 use Rattle.whole_trace.specs.declared.due.Outline.{Outline}
 use Rattle.whole_trace.specs.declared.shown.Head.{Head}
 
-abbrev pub is_within : ℕ → ℕ → ℕ → Bool
-is_within low high n = nat_le low n && nat_le n high
+abbrev pub lies_within : ℕ → ℕ → ℕ → Bool
+lies_within low high n = nat_le low n && nat_le n high
 
 -- version 1 has 4 to 16 nodes, and version 2 has 4 to 24; there are 1 to 64 rounds, and 1 to 20000 slots
 abbrev pub is_head : Head → Bool
 is_head h =
-    ((h.version == 1 && is_within 4 16 h.nodes) || (h.version == 2 && is_within 4 24 h.nodes))
-    && is_within 1 64 h.rounds && is_within 1 20000 h.slots
+    ((h.version == 1 && lies_within 4 16 h.nodes) || (h.version == 2 && lies_within 4 24 h.nodes))
+    && lies_within 1 64 h.rounds && lies_within 1 20000 h.slots
 
 -- a node, if there is one, is one of so many
 abbrev pub is_below : ℕ → Option ℕ → Bool
@@ -58,11 +58,11 @@ is_node_line head slot k _ = false
 
 abbrev pub is_keep : Keep → Bool
 is_keep (keep.Yes start) = true
-is_keep (keep.No rule slot) = is_within 1 7 rule
+is_keep (keep.No rule slot) = lies_within 1 7 rule
 
 abbrev pub is_back : Back → Bool
 is_back (back.Yes start) = true
-is_back (back.No rule slot) = is_within 1 8 rule
+is_back (back.No rule slot) = lies_within 1 8 rule
 
 -- What is due next.
 

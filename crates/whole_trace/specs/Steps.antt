@@ -14,7 +14,7 @@ use Rattle.whole_trace.specs.Due.{is_head, due_after, next_node}
 use Rattle.whole_trace.specs.Whole.{value_of, judged, with_node_line, slots_from}
 
 -- a text begins with a line of this value, which is due, and behind it these are due and left
-pub record IsStep (due : Due) (text : List ℕ) (v : TraceLine) (then : Due) (rest : List ℕ) : Type 0 where
+pub record IsLineStep (due : Due) (text : List ℕ) (v : TraceLine) (then : Due) (rest : List ℕ) : Type 0 where
   pub line : List ℕ
   pub cut : lines_of text ≡ line ∷ lines_of rest
   pub value : value_of line ≡ Some v
@@ -37,9 +37,9 @@ is_taken (Err line) = false
 abbrev pub GoesOn : Due → Lines → Type 0
 GoesOn due lines = IsTrue (is_taken (judged due lines))
 
-abbrev pub is_host : Due → Bool
-is_host (due.Host head slot has_read) = true
-is_host _ = false
+abbrev pub is_host_due : Due → Bool
+is_host_due (due.Host head slot has_read) = true
+is_host_due _ = false
 
 abbrev pub is_host_line : TraceLine → Bool
 is_host_line (line.Write slot host number) = true
@@ -53,7 +53,7 @@ host_front slot = codes "slot " ++ decimal slot ++ codes " host "
 -- behind the nodes' lines of a slot
 pub record IsHostPlace (due : Due) (lines : Lines) : Type 0 where
   pub goes_on : GoesOn due lines
-  pub host : IsTrue (is_host due)
+  pub host : IsTrue (is_host_due due)
 
 -- Slots.
 
@@ -62,24 +62,24 @@ abbrev pub are_few : Head → Bool
 are_few head = nat_lt 0 head.nodes && nat_le head.nodes most_nodes
 
 -- before the first node's line of a slot or a line of a host
-abbrev pub is_between : Due → Bool
-is_between (due.Node head slot k) = (k == 0) && are_few head
-is_between (due.Host head slot has_read) = are_few head
-is_between _ = false
+abbrev pub is_due_between : Due → Bool
+is_due_between (due.Node head slot k) = (k == 0) && are_few head
+is_due_between (due.Host head slot has_read) = are_few head
+is_due_between _ = false
 
 pub record IsSlotPlace (due : Due) (lines : Lines) : Type 0 where
   pub goes_on : GoesOn due lines
-  pub between : IsTrue (is_between due)
+  pub between : IsTrue (is_due_between due)
 
 -- behind so many nodes' lines of a slot
-abbrev pub is_in_slot : ℕ → Due → Bool
-is_in_slot count (due.Node head slot k) = (k == count) && nat_lt k head.nodes && are_few head
-is_in_slot count (due.Host head slot has_read) = nat_le count most_nodes && are_few head
-is_in_slot count _ = false
+abbrev pub is_due_in_slot : ℕ → Due → Bool
+is_due_in_slot count (due.Node head slot k) = (k == count) && nat_lt k head.nodes && are_few head
+is_due_in_slot count (due.Host head slot has_read) = nat_le count most_nodes && are_few head
+is_due_in_slot count _ = false
 
 pub record IsInSlot (count : ℕ) (due : Due) (lines : Lines) : Type 0 where
   pub goes_on : GoesOn due lines
-  pub in_slot : IsTrue (is_in_slot count due)
+  pub in_slot : IsTrue (is_due_in_slot count due)
 
 -- a text begins with the line of a host, and behind it these are due and left
 pub record IsHostStep (due : Due) (text : List ℕ) (then : Due) (rest : List ℕ) : Type 0 where
@@ -90,12 +90,12 @@ pub record IsHostStep (due : Due) (text : List ℕ) (then : Due) (rest : List �
 -- the lines of so many nodes were read, and lines of hosts may follow
 pub record IsShown (count : ℕ) (due : Due) (lines : Lines) : Type 0 where
   pub few : count ≤ most_nodes
-  pub host : IsTrue (is_host due)
+  pub host : IsTrue (is_host_due due)
   pub place : IsSlotPlace due lines
 
-abbrev pub is_node : Due → Bool
-is_node (due.Node head slot k) = true
-is_node _ = false
+abbrev pub is_node_due : Due → Bool
+is_node_due (due.Node head slot k) = true
+is_node_due _ = false
 
 -- which node's line is due, and what is due behind it
 abbrev pub node_due : Due → ℕ

@@ -65,8 +65,8 @@ no_lines = record { nodes = []; hosts = [] }
 abbrev pub no_slots : SlotsFrom
 no_slots = record { front = no_lines; slots = [] }
 
-abbrev pub with_node : NodeShown → SlotLines → SlotLines
-with_node node slot = record { nodes = node ∷ slot.nodes; hosts = slot.hosts }
+abbrev pub with_shown_node : NodeShown → SlotLines → SlotLines
+with_shown_node node slot = record { nodes = node ∷ slot.nodes; hosts = slot.hosts }
 
 -- no line of a node follows in the slot
 abbrev pub with_host : HostLine → SlotsFrom → SlotsFrom
@@ -76,8 +76,8 @@ with_host line from = record { front = record { nodes = []; hosts = line ∷ fro
 abbrev pub with_node_line : ℕ → NodeShown → SlotsFrom → SlotsFrom
 with_node_line k node from =
     if k == 0
-    then record { front = no_lines; slots = with_node node from.front ∷ from.slots }
-    else record { front = with_node node from.front; slots = from.slots }
+    then record { front = no_lines; slots = with_shown_node node from.front ∷ from.slots }
+    else record { front = with_shown_node node from.front; slots = from.slots }
 
 -- a line before others
 abbrev pub with_line : TraceLine → SlotsFrom → SlotsFrom

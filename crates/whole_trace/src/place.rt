@@ -6,7 +6,7 @@ ghost use Rattle.line_reader.specs.declared.trace_line.TraceLine.TheVariants as 
 ghost use Rattle.whole_trace.specs.declared.due.Due.TheVariants as due;
 ghost use Rattle.whole_trace.specs.declared.shown.NodeShown.{NodeShown as Shown};
 ghost use Rattle.whole_trace.specs.Alike.{said_by, IsNodeFront};
-ghost use Rattle.whole_trace.specs.Steps.{IsStep, GoesOn, IsNodeStep};
+ghost use Rattle.whole_trace.specs.Steps.{IsLineStep, GoesOn, IsNodeStep};
 ghost use Rattle.whole_trace.specs.Whole.{value_of, judged};
 
 use crate::alike::Alike;
@@ -94,7 +94,8 @@ fn due_node<'a>(
     rest: &'a [u8],
     alike: &mut Alike,
 ) -> Option<(NodeShown, Place<'a>)>
-    ensures step { IfSome result (λ r. (v : Line) × IsStep (due.Node head slot node) rest.now v r.1.due r.1.rest.now) }
+    ensures step { IfSome result (λ r. (v : Line) × IsLineStep
+        (due.Node head slot node) rest.now v r.1.due r.1.rest.now) }
     ensures node { IfSome result (λ r. IsNodeStep (due.Node head slot node) rest.now r.0 r.1.due r.1.rest.now) }
 {
     let Some((value, behind)) = node_in_front(rest, alike) else {
@@ -128,7 +129,8 @@ fn later_node<'a>(
     rest: &'a [u8],
     alike: &mut Alike,
 ) -> Option<(NodeShown, Place<'a>)>
-    ensures step { IfSome result (λ r. (v : Line) × IsStep (due.Host head slot has_read) rest.now v r.1.due r.1.rest.now) }
+    ensures step { IfSome result (λ r. (v : Line) × IsLineStep
+        (due.Host head slot has_read) rest.now v r.1.due r.1.rest.now) }
     ensures node { IfSome result (λ r. IsNodeStep (due.Host head slot has_read) rest.now r.0 r.1.due r.1.rest.now) }
 {
     if head.slots <= slot {
@@ -147,7 +149,8 @@ impl<'a> Place<'a> {
     /// What the line of a node says, and the place behind it, where it is the first line that is left and is due.
     #[inline(always)]
     pub(crate) fn next_shown(self, alike: &mut Alike) -> Option<(NodeShown, Place<'a>)>
-        ensures step { IfSome result (λ r. (v : Line) × IsStep self.entry.due self.entry.rest.now v r.1.due r.1.rest.now) }
+        ensures step { IfSome result (λ r. (v : Line)
+            × IsLineStep self.entry.due self.entry.rest.now v r.1.due r.1.rest.now) }
         ensures node { IfSome result (λ r. IsNodeStep self.entry.due self.entry.rest.now r.0 r.1.due r.1.rest.now) }
     {
         match self.due {
@@ -163,7 +166,8 @@ impl<'a> Place<'a> {
 
     /// The place behind the first line that is left, if it is due.
     pub(crate) fn behind_next(self, alike: &mut Alike) -> Option<Place<'a>>
-        ensures some { IfSome result (λ p. (v : Line) × IsStep self.entry.due self.entry.rest.now v p.due p.rest.now) }
+        ensures some { IfSome result (λ p. (v : Line)
+            × IsLineStep self.entry.due self.entry.rest.now v p.due p.rest.now) }
         ensures none { IsNone result → 0 < length self.entry.rest.now
             → judged self.entry.due (lines_of self.entry.rest.now) ≡ Err 1 }
     {
@@ -177,7 +181,8 @@ impl<'a> Place<'a> {
     /// The first line that is left, if it is due. It stands apart, since its values are large and few lines need it.
     #[inline(never)]
     pub(crate) fn next(self) -> Option<Step<'a>>
-        ensures some { IfSome result (λ s. IsStep self.entry.due self.entry.rest.now s.line s.behind.due s.behind.rest.now) }
+        ensures some { IfSome result (λ s.
+            IsLineStep self.entry.due self.entry.rest.now s.line s.behind.due s.behind.rest.now) }
         ensures none { IsNone result → 0 < length self.entry.rest.now
             → judged self.entry.due (lines_of self.entry.rest.now) ≡ Err 1 }
     {

@@ -2,8 +2,9 @@
 ghost use Rattle.std.specs.Prelude.{◌≡◌, ◌∷◌, ◌≤◌, [], length, is_some, IfSome, IsNone, IsTrue};
 ghost use Rattle.ttp_base.specs.Text.{lines_of};
 ghost use Rattle.line_text.specs.Labels.{after_label};
-ghost use Rattle.whole_trace.specs.Steps.{GoesOn, host_front, is_node, IsHostPlace, IsHostStep, IsInSlot, IsNodeStep, IsSlotPlace};
-ghost use Rattle.whole_trace.specs.Whole.{SlotLines, slots_from, with_node};
+ghost use Rattle.whole_trace.specs.Steps.{GoesOn, host_front, is_node_due, IsHostPlace, IsHostStep, IsInSlot};
+ghost use Rattle.whole_trace.specs.Steps.{IsNodeStep, IsSlotPlace};
+ghost use Rattle.whole_trace.specs.Whole.{SlotLines, slots_from, with_shown_node};
 
 use crate::alike::Alike;
 use crate::due::Due;
@@ -141,7 +142,8 @@ impl<'a> SlotShown<'a> {
 #[inline(always)]
 fn next_node<'a>(at: Place<'a>, alike: &mut Alike) -> Option<(NodeShown, Place<'a>)>
     ensures some { IfSome result (λ r. IsNodeStep at.entry.due at.entry.rest.now r.0 r.1.due r.1.rest.now) }
-    ensures node { IsNone result → IsTrue (is_node at.entry.due) → ¬ (GoesOn at.entry.due (lines_of at.entry.rest.now)) }
+    ensures node { IsNone result → IsTrue (is_node_due at.entry.due)
+        → ¬ (GoesOn at.entry.due (lines_of at.entry.rest.now)) }
     ensures none { IsNone result → IsSlotPlace at.entry.due (lines_of at.entry.rest.now)
         → (slots_from (lines_of at.entry.rest.now)).front.hosts ≡ []
         → (slots_from (lines_of at.entry.rest.now)).slots ≡ [] }
@@ -185,7 +187,7 @@ fn shown_from<'a>(
     alike: &mut Alike,
 ) -> (SlotShown<'a>, Place<'a>)
     requires { IsInSlot 1 from.due (lines_of from.rest.now) }
-    ensures slot { result.0 ≡ with_node first (slots_from (lines_of from.entry.rest.now)).front }
+    ensures slot { result.0 ≡ with_shown_node first (slots_from (lines_of from.entry.rest.now)).front }
     ensures others { (slots_from (lines_of result.1.rest.now)).slots ≡ (slots_from (lines_of from.entry.rest.now)).slots }
     ensures place { IsSlotPlace result.1.due (lines_of result.1.rest.now) }
 {

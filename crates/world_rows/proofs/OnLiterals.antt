@@ -1,10 +1,10 @@
 -- What an answer unfolds to compute the meaning of a list file on a literal.
 use Rattle.std.specs.Prelude.{⊤}
 use Rattle.medl_text.specs.ListFile.{number_faults, flag_faults, kinds_faults, requests_faults, live_faults}
-use Rattle.medl_text.specs.ListFile.{slot_faults, plan_of, array_faults, modes_faults, count_faults, unknown_faults}
-use Rattle.medl_text.specs.ListFile.{sync_faults, file_faults, list_in, medl_in}
+use Rattle.medl_text.specs.ListFile.{slot_faults, slot_plan_of, array_faults, modes_faults, count_faults}
+use Rattle.medl_text.specs.ListFile.{unknown_faults, sync_faults, file_faults, list_in, medl_in}
 
 unfoldable pub lists_on_literals : ⊤
-unfolding number_faults flag_faults kinds_faults requests_faults live_faults slot_faults plan_of array_faults
+unfolding number_faults flag_faults kinds_faults requests_faults live_faults slot_faults slot_plan_of array_faults
     modes_faults count_faults unknown_faults sync_faults file_faults list_in medl_in
 lists_on_literals = tt

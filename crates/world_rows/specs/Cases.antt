@@ -19,8 +19,8 @@ use Rattle.ttp_world.specs.World.{SlotNumbers, Numbers, node_past, world}
 
 -- Lists: n slots of bare frames in one round, of which these may start.
 
-abbrev pub bare_slot : List ℕ → ℕ → SlotPlan
-bare_slot starters k =
+abbrev pub bare_slot_with : List ℕ → ℕ → SlotPlan
+bare_slot_with starters k =
     record { kinds = kind.I ∷ []; payload = 0; sync = true; start = has_node starters k; requests = false; live = 1 }
 
 -- drift, error, window
@@ -38,14 +38,14 @@ list_with drift error window slots = record {
 }
 
 abbrev pub bare_list : ℕ → Medl
-bare_list n = list_with (pos 0) (pos 0) (pos 1) (map (bare_slot (0 ∷ [])) (below n))
+bare_list n = list_with (pos 0) (pos 0) (pos 1) (map (bare_slot_with (0 ∷ [])) (below n))
 
 abbrev pub bare_list_of : ℕ → List ℕ → Medl
-bare_list_of n starters = list_with (pos 0) (pos 0) (pos 1) (map (bare_slot starters) (below n))
+bare_list_of n starters = list_with (pos 0) (pos 0) (pos 1) (map (bare_slot_with starters) (below n))
 
 -- four nodes whose clocks drift by at most one microtick a slot
 abbrev pub drifting_list : ℤ → Medl
-drifting_list window = list_with (pos 1) (pos 0) window (map (bare_slot (0 ∷ [])) (below 4))
+drifting_list window = list_with (pos 1) (pos 0) window (map (bare_slot_with (0 ∷ [])) (below 4))
 
 -- five nodes, of which node 2 sends eight bytes of payload in frames with implicit C-state
 abbrev pub loaded_slot : SlotPlan
@@ -53,7 +53,7 @@ loaded_slot = record { kinds = kind.N ∷ []; payload = 8; sync = true; start = 
 
 abbrev pub loaded_list : Medl
 loaded_list = list_with (pos 0) (pos 0) (pos 1)
-    (bare_slot (0 ∷ []) 0 ∷ bare_slot [] 1 ∷ loaded_slot ∷ bare_slot [] 3 ∷ bare_slot [] 4 ∷ [])
+    (bare_slot_with (0 ∷ []) 0 ∷ bare_slot_with [] 1 ∷ loaded_slot ∷ bare_slot_with [] 3 ∷ bare_slot_with [] 4 ∷ [])
 
 -- Scripts: so many slots, nodes switched on at these slots, events.
 
@@ -61,8 +61,8 @@ abbrev pub script_on : ℕ → List (Option ℕ) → List Event → Script
 script_on slots on events = record { slots = slots; on = on; drift = map (λ o. pos 0) on; events = events }
 
 -- n nodes, all on from slot 0
-abbrev pub script_of : ℕ → ℕ → List Event → Script
-script_of n slots events = script_on slots (replicate n (Some 0)) events
+abbrev pub all_on_script : ℕ → ℕ → List Event → Script
+all_on_script n slots events = script_on slots (replicate n (Some 0)) events
 
 -- the same, where node 0 of four drifts by one microtick a slot
 abbrev pub drifting_script : ℕ → List Event → Script
@@ -80,11 +80,11 @@ only_b = record { a = false; b = true }
 
 -- Numbers: none for frames without payload and slots without reads.
 
-abbrev pub no_numbers : ℕ → SlotNumbers
-no_numbers n = record { sent = replicate n None; read = [] }
+abbrev pub no_slot_numbers : ℕ → SlotNumbers
+no_slot_numbers n = record { sent = replicate n None; read = [] }
 
 abbrev pub bare_numbers : Medl → ℕ → Numbers
-bare_numbers list slots = replicate slots (no_numbers (length list.slots))
+bare_numbers list slots = replicate slots (no_slot_numbers (length list.slots))
 
 -- the first slots of a run, so many, in which no frame has payload and no host reads
 abbrev pub bare_run : Medl → Script → ℕ → History
@@ -105,13 +105,13 @@ abbrev pub entry_at : History → ℕ → ℕ → Entry
 entry_at history slot k = entry_of (newest_row (after_slot history slot)) k
 
 -- the line of a node after the newest slot
-abbrev pub newest_line : Medl → Script → History → ℕ → List ℕ
-newest_line list script [] k = []
-newest_line list script (row ∷ history) k = node_line_of list script row history k
+abbrev pub newest_node_line : Medl → Script → History → ℕ → List ℕ
+newest_node_line list script [] k = []
+newest_node_line list script (row ∷ history) k = node_line_of list script row history k
 
 -- the lines of nodes after slots, each given as the slot and the node, one after another
 abbrev pub lines_in : Medl → Script → History → List (ℕ × ℕ) → List ℕ
-lines_in list script history places = flat_map (λ p. newest_line list script (after_slot history p.0) p.1) places
+lines_in list script history places = flat_map (λ p. newest_node_line list script (after_slot history p.0) p.1) places
 
 abbrev pub bare_lines : Medl → Script → ℕ → List (ℕ × ℕ) → List ℕ
 bare_lines list script slots places = lines_in list script (bare_run list script slots) places
@@ -151,11 +151,11 @@ sending_slot i read = record { sent = None ∷ None ∷ Some i ∷ None ∷ None
 -- node 2 sends in slots 12 and 17, and one read is made in slot 17
 abbrev pub loaded_numbers : ℕ → ℕ → Numbers
 loaded_numbers i j =
-    sending_slot i (j ∷ []) ∷ replicate 4 (no_numbers 5) ++ sending_slot 0 [] ∷ replicate 12 (no_numbers 5)
+    sending_slot i (j ∷ []) ∷ replicate 4 (no_slot_numbers 5) ++ sending_slot 0 [] ∷ replicate 12 (no_slot_numbers 5)
 
 -- twelve slots of five nodes, with one read in the last
 abbrev pub reading_numbers : ℕ → Numbers
-reading_numbers j = record { sent = replicate 5 None; read = j ∷ [] } ∷ replicate 11 (no_numbers 5)
+reading_numbers j = record { sent = replicate 5 None; read = j ∷ [] } ∷ replicate 11 (no_slot_numbers 5)
 
 -- the clocks of all nodes after a slot, and the notes of a node's round
 abbrev pub clocks_in_history : Medl → Script → History → List ℤ

@@ -46,8 +46,9 @@ one_mode_slot start = live_slot start 1
 abbrev pub payload_slot : Kind → ℕ → SlotPlan
 payload_slot frame payload = record (one_mode_slot false) { kinds = frame ∷ []; payload = payload }
 
-abbrev pub four_nodes : Medl
-four_nodes = short_list 1 1 (one_mode_slot true ∷ one_mode_slot false ∷ one_mode_slot false ∷ one_mode_slot false ∷ [])
+abbrev pub four_in_one_mode : Medl
+four_in_one_mode =
+    short_list 1 1 (one_mode_slot true ∷ one_mode_slot false ∷ one_mode_slot false ∷ one_mode_slot false ∷ [])
 
 -- a slot that may start, and so many others
 abbrev pub same_slots : ℕ → List SlotPlan
@@ -167,14 +168,14 @@ abbrev pub other_slot : Data
 other_slot = slot_of (codes "I") 0 true false
 
 -- a slot without payload that is live so, and one that asks for modes or not
-abbrev pub live_in : Data → Data
-live_in live = modal_slot (Some live) None (codes "I") 0 true false
+abbrev pub slot_live_in : Data → Data
+slot_live_in live = modal_slot (Some live) None (codes "I") 0 true false
 
 abbrev pub asking : Data → Data
 asking requests = modal_slot None (Some requests) (codes "I") 0 true false
 
 abbrev pub answers : List ℕ → Data
-answers letters = live_in (string letters)
+answers letters = slot_live_in (string letters)
 
 -- a slot whose frames ask for modes, of which it is live in the first two of three
 abbrev pub asking_slot : Data

@@ -15,18 +15,18 @@ use Rattle.world_rows.specs.Cases.{bare_list}
 use Rattle.world_rows.specs.Frames.{cstate}
 
 -- what a node holds of the others
-pub record Held : Type 0 where
+pub record HeldOfOthers : Type 0 where
   pub phase : Phase
   pub members : List ℕ
   pub accepted : ℕ
   pub rejected : ℕ
   pub ack : Ack
 
-abbrev pub holding : Phase → List ℕ → ℕ → ℕ → Ack → Held
+abbrev pub holding : Phase → List ℕ → ℕ → ℕ → Ack → HeldOfOthers
 holding phase members accepted rejected ack =
     record { phase = phase; members = members; accepted = accepted; rejected = rejected; ack = ack }
 
-abbrev pub held_after : Diary → Held
+abbrev pub held_after : Diary → HeldOfOthers
 held_after diary = record {
   phase = phase_of diary;
   members = members_of (bare_list 6) 1 diary;
@@ -58,5 +58,5 @@ abbrev pub with_3 : List ℕ
 with_3 = 0 ∷ 2 ∷ 3 ∷ 5 ∷ []
 
 -- what it holds after this verdict on node 3
-abbrev pub moved : Diary → Verdict → Held
+abbrev pub moved : Diary → Verdict → HeldOfOthers
 moved diary v = held_after (verdict_entry 3 v (pos 0) ∷ diary)

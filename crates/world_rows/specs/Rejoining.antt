@@ -16,18 +16,18 @@ use Rattle.ttp_world.specs.declared.node.Act.{Act}
 use Rattle.ttp_world.specs.Act.{act}
 use Rattle.ttp_world.specs.Diary.{Diary}
 use Rattle.ttp_world.specs.Past.{past_of}
-use Rattle.world_rows.specs.Cases.{bare_list, bare_slot, list_with, script_of, script_on, both}
+use Rattle.world_rows.specs.Cases.{bare_list, bare_slot_with, list_with, all_on_script, script_on, both}
 use Rattle.world_rows.specs.Frames.{cstate}
 
 -- Scripts.
 
 -- six nodes with a window of two microticks
 abbrev pub window_of_two : Medl
-window_of_two = list_with (pos 0) (pos 0) (pos 2) (map (bare_slot (0 ∷ [])) (below 6))
+window_of_two = list_with (pos 0) (pos 0) (pos 2) (map (bare_slot_with (0 ∷ [])) (below 6))
 
 -- node 2 sends noise, leaves in slot 28, and is armed in a slot
-abbrev pub armed_in : ℕ → Script
-armed_in slot = script_of 6 72 (event.Send 2 both fault.Noise 26 26 ∷ event.Arm 2 slot ∷ [])
+abbrev pub rearmed_in : ℕ → Script
+rearmed_in slot = all_on_script 6 72 (event.Send 2 both fault.Noise 26 26 ∷ event.Arm 2 slot ∷ [])
 
 -- six nodes, whose frames carry a payload and no C-state
 abbrev pub implicit_slot : ℕ → SlotPlan
@@ -45,24 +45,24 @@ implicit_list = list_with (pos 0) (pos 0) (pos 2) (map implicit_slot (below 6))
 
 -- node 2 sends noise and is armed in slot 40, in a run of so many slots with these events beside
 abbrev pub armed_until : ℕ → List Event → Script
-armed_until slots events = script_of 6 slots (event.Send 2 both fault.Noise 26 26 ∷ event.Arm 2 40 ∷ events)
+armed_until slots events = all_on_script 6 slots (event.Send 2 both fault.Noise 26 26 ∷ event.Arm 2 40 ∷ events)
 
 -- the same run, where it is not armed
 abbrev pub never_armed : Script
-never_armed = script_of 6 72 (event.Send 2 both fault.Noise 26 26 ∷ [])
+never_armed = all_on_script 6 72 (event.Send 2 both fault.Noise 26 26 ∷ [])
 
 -- node 2 of five sends noise, and is armed before it leaves in slot 24 and in that slot
 abbrev pub armed_too_early : Script
-armed_too_early = script_of 5 26 (event.Send 2 both fault.Noise 22 22 ∷ event.Arm 2 23 ∷ event.Arm 2 24 ∷ [])
+armed_too_early = all_on_script 5 26 (event.Send 2 both fault.Noise 22 22 ∷ event.Arm 2 23 ∷ event.Arm 2 24 ∷ [])
 
 -- and is armed twice in slot 26 and once in slot 27
 abbrev pub armed_twice : Script
 armed_twice =
-    script_of 5 28 (event.Send 2 both fault.Noise 22 22 ∷ event.Arm 2 26 ∷ event.Arm 2 26 ∷ event.Arm 2 27 ∷ [])
+    all_on_script 5 28 (event.Send 2 both fault.Noise 22 22 ∷ event.Arm 2 26 ∷ event.Arm 2 26 ∷ event.Arm 2 27 ∷ [])
 
 -- the starter is armed as it listens
 abbrev pub armed_listener : Script
-armed_listener = script_of 5 11 (event.Arm 0 5 ∷ [])
+armed_listener = all_on_script 5 11 (event.Arm 0 5 ∷ [])
 
 -- a late node is armed while it is off
 abbrev pub armed_while_off : Script
@@ -79,16 +79,16 @@ armed_on_a_silent_bus =
 
 -- Diaries of node 2 of six, the newest entry first.
 
-abbrev pub judged : ℕ → Entry
-judged sender = entry.Judged sender verdict.Correct (pos 1)
+abbrev pub entry_judged : ℕ → Entry
+entry_judged sender = entry.Judged sender verdict.Correct (pos 1)
 
-abbrev pub joined : ℕ → ℕ → Entry
-joined time slot = entry.Joined slot (cstate time 0 slot (0 ∷ 1 ∷ 3 ∷ 4 ∷ 5 ∷ [])) (pos 1)
+abbrev pub entry_joined : ℕ → ℕ → Entry
+entry_joined time slot = entry.Joined slot (cstate time 0 slot (0 ∷ 1 ∷ 3 ∷ 4 ∷ 5 ∷ [])) (pos 1)
 
 -- it withdrew a cold start, joined, and sent
 abbrev pub sent_after_a_retry : Diary
 sent_after_a_retry =
-    entry.Sent None ∷ joined 10 4 ∷ entry.Waited ∷ entry.Retried ∷ entry.Started ∷ replicate 14 entry.Waited
+    entry.Sent None ∷ entry_joined 10 4 ∷ entry.Waited ∷ entry.Retried ∷ entry.Started ∷ replicate 14 entry.Waited
 
 -- then it left
 abbrev pub left_after_a_retry : Diary
@@ -97,11 +97,11 @@ left_after_a_retry = entry.Left reason.Denied 4 ∷ sent_after_a_retry
 -- it sent, judged for a round, and left in its next slot; armed for the slot after that, it joined on node 3's frame
 abbrev pub left_in_a_round : Diary
 left_in_a_round =
-    entry.Left reason.Clique 2 ∷ judged 1 ∷ judged 0 ∷ judged 5 ∷ judged 4 ∷ judged 3 ∷ entry.Sent None ∷ judged 1
-    ∷ judged 0 ∷ joined 5 5 ∷ []
+    entry.Left reason.Clique 2 ∷ entry_judged 1 ∷ entry_judged 0 ∷ entry_judged 5 ∷ entry_judged 4 ∷ entry_judged 3
+    ∷ entry.Sent None ∷ entry_judged 1 ∷ entry_judged 0 ∷ entry_joined 5 5 ∷ []
 
 abbrev pub joined_again : Diary
-joined_again = joined 15 3 ∷ left_in_a_round
+joined_again = entry_joined 15 3 ∷ left_in_a_round
 
 -- what node 2 does after a diary, where it is on, and armed or not
 abbrev pub act_after : Diary → Bool → Act

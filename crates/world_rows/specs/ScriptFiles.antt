@@ -48,8 +48,9 @@ abbrev pub buffered_nodes : ℕ → Medl
 buffered_nodes buffers = small_list 1 buffers (empty_slot true ∷ full_slot 2 ∷ empty_slot false ∷ empty_slot false ∷ [])
 
 -- five nodes, of which node 2 alone sends payload, eight bytes
-abbrev pub five_nodes : Medl
-five_nodes = small_list 1 2 (empty_slot true ∷ empty_slot false ∷ full_slot 8 ∷ empty_slot false ∷ empty_slot false ∷ [])
+abbrev pub five_with_one_payload : Medl
+five_with_one_payload = small_list 1 2
+    (empty_slot true ∷ empty_slot false ∷ full_slot 8 ∷ empty_slot false ∷ empty_slot false ∷ [])
 
 -- as many nodes as a list may have, none of which sends payload
 abbrev pub full_list : Medl
@@ -64,16 +65,16 @@ abbrev pub fault_at : ℕ → LineFault → Result Script ScriptError
 fault_at number fault = Err (errors.Line number fault)
 
 -- a script of so many slots for four nodes in which no clock drifts
-abbrev pub script : ℕ → List (Option ℕ) → List Event → Script
-script slots on events = record { slots = slots; on = on; drift = replicate 4 (pos 0); events = events }
+abbrev pub four_node_script : ℕ → List (Option ℕ) → List Event → Script
+four_node_script slots on events = record { slots = slots; on = on; drift = replicate 4 (pos 0); events = events }
 
 -- one in which nothing happens
 abbrev pub quiet_script : ℕ → Script
-quiet_script slots = script slots (None ∷ None ∷ None ∷ None ∷ []) []
+quiet_script slots = four_node_script slots (None ∷ None ∷ None ∷ None ∷ []) []
 
 -- one of twenty slots in which one thing happens
 abbrev pub event_script : Event → Script
-event_script e = script 20 (replicate 4 None) (e ∷ [])
+event_script e = four_node_script 20 (replicate 4 None) (e ∷ [])
 
 -- twenty slots, with each of five nodes on from the first
 abbrev pub all_on : List ℕ

@@ -10,7 +10,7 @@ use Rattle.ttp_world.specs.declared.node.Verdict.TheVariants as verdict
 use Rattle.ttp_world.specs.Diary.{Diary}
 use Rattle.ttp_world.specs.Frame.{frame}
 use Rattle.ttp_world.specs.Medl.{member_bytes}
-use Rattle.world_rows.specs.Cases.{bare_slot}
+use Rattle.world_rows.specs.Cases.{bare_slot_with}
 use Rattle.world_rows.specs.Frames.{cstate}
 
 -- n slots of bare frames in one round, of which slot 0 may start
@@ -24,7 +24,7 @@ wide_list n = record {
   error = pos 0;
   window = pos 1;
   modes = 1;
-  slots = map (bare_slot (0 ∷ [])) (below n);
+  slots = map (bare_slot_with (0 ∷ [])) (below n);
 }
 
 -- a frame without payload

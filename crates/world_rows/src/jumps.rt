@@ -5,7 +5,7 @@ ghost use Rattle.ttp_world.specs.declared.keep.Keep.TheVariants as keep;
 ghost use Rattle.ttp_world.specs.declared.script.Event.TheVariants as event;
 ghost use Rattle.ttp_world.specs.declared.script.Fault.TheVariants as fault;
 ghost use Rattle.ttp_world.specs.Hypothesis.{keeps, faulty_after, faulty_nodes_after, is_correct_after};
-ghost use Rattle.world_rows.specs.Cases.{bare_list, script_of, script_on, bare_run, lines_in, hold_from};
+ghost use Rattle.world_rows.specs.Cases.{bare_list, all_on_script, script_on, bare_run, lines_in, hold_from};
 ghost use Rattle.world_rows.specs.Cases.{is_safe_from, both};
 ghost use Rattle.world_rows.specs.Jumps.{far_jump, jumps_and_a_loss, without_node_3, late_node_3, six_nodes_keep};
 ghost use Rattle.world_rows.specs.Jumps.{late_nodes_keep, wide_window_keeps};
@@ -99,8 +99,8 @@ pub fn jumps_beside_other_faults()
         ≡ keep.No 6 26 }
     ensures then_deaf { six_nodes_keep 31 (event.Jump 3 (pos 4) 26 ∷ event.Receive 3 both fault.Noise 30 30 ∷ [])
         ≡ keep.Yes 12 }
-    ensures one_of_four { keeps (bare_list 4) (script_of 4 17 (event.Jump 0 (pos 4) 16 ∷ [])) ≡ keep.No 7 16 }
-    ensures one_of_five { keeps (bare_list 5) (script_of 5 21 (event.Jump 0 (pos 4) 20 ∷ [])) ≡ keep.Yes 10 }
+    ensures one_of_four { keeps (bare_list 4) (all_on_script 4 17 (event.Jump 0 (pos 4) 16 ∷ [])) ≡ keep.No 7 16 }
+    ensures one_of_five { keeps (bare_list 5) (all_on_script 5 21 (event.Jump 0 (pos 4) 20 ∷ [])) ≡ keep.Yes 10 }
 {}
 
 /// A node is faulty from the slot of its jump on, and correct until then.

@@ -6,24 +6,24 @@ ghost use Rattle.toml.specs.Data.{string, integer, boolean, no_items, item};
 ghost use Rattle.ttp_world.specs.declared.medl.Kind.TheVariants as kinds;
 ghost use Rattle.medl_text.specs.declared.error.FieldName.TheVariants as names;
 ghost use Rattle.medl_text.specs.declared.error.MedlError.TheVariants as errors;
-ghost use Rattle.medl_text.specs.ListFile.{at_top, at_slot, element_of, slot_faults, plan_of, medl_in, medl_of};
+ghost use Rattle.medl_text.specs.ListFile.{at_top, at_slot, element_of, slot_faults, slot_plan_of, medl_in, medl_of};
 ghost use Rattle.medl_text.specs.Schedule.{slot_table};
-ghost use Rattle.world_rows.specs.ListFiles.{four_nodes, modal_nodes, many_nodes, mixed_nodes, short_list, one_mode_slot};
-ghost use Rattle.world_rows.specs.ListFiles.{live_slot, payload_slot};
-ghost use Rattle.world_rows.specs.ListFiles.{four_nodes_table, mixed_nodes_table, four_nodes_text, modal_nodes_text};
-ghost use Rattle.world_rows.specs.ListFiles.{file_of, many_slots, four_slots, two_slots, one, slots_mean, modes_mean};
-ghost use Rattle.world_rows.specs.ListFiles.{slot_of, modal_slot, first_slot, other_slot, fast_slot, live_in, answers, asking};
+ghost use Rattle.world_rows.specs.ListFiles.{four_in_one_mode, modal_nodes, many_nodes, mixed_nodes, short_list};
+ghost use Rattle.world_rows.specs.ListFiles.{one_mode_slot, live_slot, payload_slot, four_nodes_table};
+ghost use Rattle.world_rows.specs.ListFiles.{mixed_nodes_table, four_nodes_text, modal_nodes_text, file_of, many_slots};
+ghost use Rattle.world_rows.specs.ListFiles.{four_slots, two_slots, one, slots_mean, modes_mean, slot_of, modal_slot};
+ghost use Rattle.world_rows.specs.ListFiles.{first_slot, other_slot, fast_slot, slot_live_in, answers, asking};
 ghost use Rattle.world_rows.specs.ListFiles.{asking_slot, asking_plan, numbered_slot};
 
 /// Slot tables: four nodes in one round, and a slot with every kind of frame.
 pub fn tables()
-    ensures four_nodes { slot_table four_nodes ≡ four_nodes_table }
+    ensures four_nodes { slot_table four_in_one_mode ≡ four_nodes_table }
     ensures mixed { slot_table mixed_nodes ≡ mixed_nodes_table }
 {}
 
 /// What texts mean: right lists of each version, an empty file, and a text that is no TOML.
 pub fn texts()
-    ensures right { medl_of four_nodes_text ≡ Ok four_nodes }
+    ensures right { medl_of four_nodes_text ≡ Ok four_in_one_mode }
     ensures with_modes { medl_of modal_nodes_text ≡ Ok modal_nodes }
     ensures empty { medl_of [] ≡ Err (errors.Missing (at_top names.Version)) }
     ensures cut { medl_of (codes "version = \"") ≡ Err errors.NotToml }
@@ -31,7 +31,7 @@ pub fn texts()
 
 /// What tables mean: a right list, and lists with something wrong at the top.
 pub fn wrong_at_the_top()
-    ensures right { slots_mean (four_slots other_slot other_slot other_slot) ≡ Ok four_nodes }
+    ensures right { slots_mean (four_slots other_slot other_slot other_slot) ≡ Ok four_in_one_mode }
     ensures text_for_a_number { medl_in (file_of (string (codes "1")) (four_slots other_slot other_slot other_slot))
         ≡ Err (errors.WrongKind (at_top names.Rounds)) }
     ensures past_the_range { medl_in (file_of (integer (pos 65)) (four_slots other_slot other_slot other_slot))
@@ -80,8 +80,9 @@ pub fn right_modes()
         (live_slot false 255 ∷ live_slot false 255 ∷ live_slot false 255 ∷ live_slot false 255 ∷ [])) }
     ensures none_of_one { slots_mean (two_slots other_slot (answers (codes "n")))
         ≡ Ok (short_list 1 1 (one_mode_slot false ∷ live_slot false 0 ∷ one_mode_slot false ∷ one_mode_slot false ∷ [])) }
-    ensures asking_for_none { slots_mean (four_slots (asking (boolean false)) other_slot other_slot) ≡ Ok four_nodes }
-    ensures asking_plan { plan_of 3 1 (element_of asking_slot) ≡ asking_plan }
+    ensures asking_for_none { slots_mean
+        (four_slots (asking (boolean false)) other_slot other_slot) ≡ Ok four_in_one_mode }
+    ensures asking_plan { slot_plan_of 3 1 (element_of asking_slot) ≡ asking_plan }
     ensures asking_list { modes_mean (integer (pos 3)) (two_slots other_slot asking_slot)
         ≡ Ok (short_list 1 3 (live_slot false 7 ∷ asking_plan ∷ live_slot false 7 ∷ live_slot false 7 ∷ [])) }
     ensures asking_without_fault { slot_faults 1 3 1 (element_of asking_slot) ≡ [] }
@@ -99,7 +100,7 @@ pub fn wrong_modes()
         ≡ Err (errors.WrongKind (at_slot 0 names.Requests)) }
     ensures requests_without_data { slots_mean (two_slots (asking (boolean true)) other_slot)
         ≡ Err (errors.NoRequestData 0) }
-    ensures flag_for_live { slots_mean (two_slots other_slot (live_in (boolean true)))
+    ensures flag_for_live { slots_mean (two_slots other_slot (slot_live_in (boolean true)))
         ≡ Err (errors.WrongKind (at_slot 1 names.Live)) }
     ensures live_in_no_mode { slots_mean (two_slots other_slot (answers [])) ≡ Err (errors.Live 1) }
     ensures live_in_two_of_one { slots_mean (two_slots other_slot (answers (codes "yy"))) ≡ Err (errors.Live 1) }

@@ -5,8 +5,8 @@ ghost use Rattle.ttp_world.specs.Trace.{write_lines, read_lines};
 ghost use Rattle.ttp_world.specs.TraceNumbers.{numbers_in};
 ghost use Rattle.ttp_world.specs.Words.{words_of_payload};
 ghost use Rattle.ttp_world.specs.World.{world};
-ghost use Rattle.world_rows.specs.Cases.{bare_list, script_of, loaded_list, loaded_numbers, reading_numbers};
-ghost use Rattle.world_rows.specs.Cases.{sending_slot, no_numbers, lines_in};
+ghost use Rattle.world_rows.specs.Cases.{bare_list, all_on_script, loaded_list, loaded_numbers, reading_numbers};
+ghost use Rattle.world_rows.specs.Cases.{sending_slot, no_slot_numbers, lines_in};
 ghost use Rattle.world_rows.specs.Scripts.{written_and_read, reading_status};
 
 /// Node 2's host writes its message 1 in the slot in which node 2 sends, so the frame carries message
@@ -61,14 +61,14 @@ pub fn status_messages()
 /// The numbers that lines name are those of the `send` lines that have one and of the `read` lines,
 /// slot by slot; those of `write` and `correct` lines are counts.
 pub fn numbers_that_lines_name()
-    ensures slots { numbers_in loaded_list (script_of 5 2 [])
+    ensures slots { numbers_in loaded_list (all_on_script 5 2 [])
         (codes "slot 0 node 1 send peer 1 msg - mem 001f acc 1 rej 0 ack first clock 0\n"
         ∷ codes "slot 1 node 0 correct peer 2 msg 7 mem 001f acc 3 rej 0 ack none clock 0\n"
         ∷ codes "slot 1 node 2 send peer 2 msg 4 mem 001f acc 1 rej 0 ack first clock 0\n"
         ∷ codes "slot 1 host 2 write 5\n"
         ∷ codes "slot 1 host 0 read 2 3 0000000000000000\n"
         ∷ [])
-        ≡ sending_slot 4 (3 ∷ []) ∷ no_numbers 5 ∷ [] }
+        ≡ sending_slot 4 (3 ∷ []) ∷ no_slot_numbers 5 ∷ [] }
 {}
 
 /// The words of payloads of no byte, of eight, and of nine.

@@ -8,24 +8,24 @@ ghost use Rattle.ttp_world.specs.Clock.{notes_of, correction_of};
 ghost use Rattle.ttp_world.specs.Hypothesis.{keeps};
 ghost use Rattle.ttp_world.specs.Past.{past_of, limit_of};
 ghost use Rattle.world_rows.specs.Cases.{bare_list, bare_lines};
-ghost use Rattle.world_rows.specs.Rejoining.{window_of_two, armed_in, armed_too_early, armed_twice, armed_listener};
-ghost use Rattle.world_rows.specs.Rejoining.{armed_while_off, armed_after_a_retry, armed_on_a_silent_bus, judged};
-ghost use Rattle.world_rows.specs.Rejoining.{joined, sent_after_a_retry, left_after_a_retry, left_in_a_round};
+ghost use Rattle.world_rows.specs.Rejoining.{window_of_two, rearmed_in, armed_too_early, armed_twice, armed_listener};
+ghost use Rattle.world_rows.specs.Rejoining.{armed_while_off, armed_after_a_retry, armed_on_a_silent_bus, entry_judged};
+ghost use Rattle.world_rows.specs.Rejoining.{entry_joined, sent_after_a_retry, left_after_a_retry, left_in_a_round};
 ghost use Rattle.world_rows.specs.Rejoining.{joined_again, act_after};
-ghost use Rattle.world_rows.specs.Scripts.{two_starters};
+ghost use Rattle.world_rows.specs.Scripts.{two_starters_of_five};
 
 /// Node 2 leaves in slot 28, is armed in slot 40 and joins in that very slot. It sends in its next
 /// slot, and is a member again.
 pub fn node_that_rejoins()
-    ensures lines { bare_lines window_of_two (armed_in 40) 45 ((28, 2) ∷ (39, 2) ∷ (40, 2) ∷ (44, 2) ∷ (44, 3) ∷ [])
+    ensures lines { bare_lines window_of_two (rearmed_in 40) 45 ((28, 2) ∷ (39, 2) ∷ (40, 2) ∷ (44, 2) ∷ (44, 3) ∷ [])
         ≡ codes "slot 28 node 2 denied peer 4 msg - mem 0000 acc 0 rej 0 ack none clock 0\n"
         ++ codes "slot 39 node 2 gone peer - msg - mem 0000 acc 0 rej 0 ack none clock 0\n"
         ++ codes "slot 40 node 2 join peer 4 msg - mem 003b acc 1 rej 0 ack none clock 0\n"
         ++ codes "slot 44 node 2 send peer 2 msg - mem 003f acc 1 rej 0 ack first clock 0\n"
         ++ codes "slot 44 node 3 correct peer 2 msg - mem 003f acc 6 rej 0 ack none clock 0\n" }
-    ensures keeps { keeps window_of_two (armed_in 40) ≡ keep.No 3 40 }
-    ensures armed_earlier { keeps window_of_two (armed_in 37) ≡ keep.No 3 37 }
-    ensures narrow_window { keeps (bare_list 6) (armed_in 40) ≡ keep.No 3 40 }
+    ensures keeps { keeps window_of_two (rearmed_in 40) ≡ keep.No 3 40 }
+    ensures armed_earlier { keeps window_of_two (rearmed_in 37) ≡ keep.No 3 37 }
+    ensures narrow_window { keeps (bare_list 6) (rearmed_in 40) ≡ keep.No 3 40 }
 {}
 
 /// A node is armed before it leaves, and in the slot in which it leaves: neither has an effect.
@@ -61,7 +61,7 @@ pub fn armed_while_it_listens_or_is_off()
 /// A starter that withdrew its cold start in slot 16 and is armed in slot 18 still waits for five
 /// silent slots, and starts in slot 22.
 pub fn armed_after_its_retry()
-    ensures lines { bare_lines two_starters armed_after_a_retry 23 ((16, 0) ∷ (18, 0) ∷ (21, 0) ∷ (22, 0) ∷ [])
+    ensures lines { bare_lines two_starters_of_five armed_after_a_retry 23 ((16, 0) ∷ (18, 0) ∷ (21, 0) ∷ (22, 0) ∷ [])
         ≡ codes "slot 16 node 0 retry peer - msg - mem 0000 acc 0 rej 0 ack none clock 0\n"
         ++ codes "slot 18 node 0 wait peer - msg - mem 0000 acc 0 rej 0 ack none clock 0\n"
         ++ codes "slot 21 node 0 wait peer - msg - mem 0000 acc 0 rej 0 ack none clock 0\n"
@@ -110,11 +110,12 @@ pub fn limits_of_a_starter()
 /// join it has one, and at the end of the round three, too few for a correction.
 pub fn notes_of_a_node_that_rejoins()
     ensures active { notes_of (bare_list 6) 2
-        (judged 5 ∷ judged 4 ∷ judged 3 ∷ entry.Sent None ∷ judged 1 ∷ judged 0 ∷ joined 5 5 ∷ [])
+        (entry_judged 5 ∷ entry_judged 4 ∷ entry_judged 3 ∷ entry.Sent None ∷ entry_judged 1 ∷ entry_judged 0
+        ∷ entry_joined 5 5 ∷ [])
         ≡ pos 1 ∷ pos 1 ∷ pos 1 ∷ pos 0 ∷ pos 1 ∷ pos 1 ∷ [] }
     ensures left { notes_of (bare_list 6) 2 left_in_a_round ≡ [] }
     ensures joined { notes_of (bare_list 6) 2 joined_again ≡ pos 0 ∷ [] }
-    ensures end_of_the_round { notes_of (bare_list 6) 2 (judged 5 ∷ judged 4 ∷ joined_again)
+    ensures end_of_the_round { notes_of (bare_list 6) 2 (entry_judged 5 ∷ entry_judged 4 ∷ joined_again)
         ≡ pos 1 ∷ pos 1 ∷ pos 0 ∷ [] }
-    ensures no_correction { correction_of (bare_list 6) 2 (judged 5 ∷ judged 4 ∷ joined_again) ≡ pos 0 }
+    ensures no_correction { correction_of (bare_list 6) 2 (entry_judged 5 ∷ entry_judged 4 ∷ joined_again) ≡ pos 0 }
 {}

@@ -1,5 +1,5 @@
 //! Rows of the definition of a script file.
-#![tactic(auto, unfolding(script_text::specs::Lines::lines_of, script_text::specs::Lines::words_of, script_text::specs::Faults::statement_faults, script_text::specs::Faults::stated_faults, script_text::specs::Faults::form_faults, script_text::specs::Faults::line_faults, script_text::specs::Faults::statements_after, script_text::specs::ScriptFile::stated_script, script_text::specs::ScriptFile::lines_script, script_text::specs::ScriptFile::script_of))]
+#![tactic(auto, unfolding(script_text::specs::Lines::lines_of_file, script_text::specs::Lines::words_of_line, script_text::specs::Faults::statement_faults, script_text::specs::Faults::stated_faults, script_text::specs::Faults::form_faults, script_text::specs::Faults::line_faults, script_text::specs::Faults::statements_after, script_text::specs::ScriptFile::stated_script, script_text::specs::ScriptFile::lines_script, script_text::specs::ScriptFile::script_of))]
 
 ghost use Rattle.std.specs.Prelude.{◌≡◌, [], ◌∷◌, ◌++◌, pos, negsuc, true};
 ghost use Rattle.std.specs.Prelude.{false, Ok, None, Some, codes, replicate};
@@ -8,8 +8,8 @@ ghost use Rattle.ttp_world.specs.declared.script.Fault.TheVariants as kind;
 ghost use Rattle.ttp_world.specs.declared.script.Event.TheVariants as event;
 ghost use Rattle.script_text.specs.declared.error.LineFault.TheVariants as faults;
 ghost use Rattle.script_text.specs.ScriptFile.{script_of};
-ghost use Rattle.world_rows.specs.ScriptFiles.{buffered_nodes, told_by, fault_at, script, quiet_script};
-ghost use Rattle.world_rows.specs.ScriptFiles.{event_script, five_nodes, full_list, all_on};
+ghost use Rattle.world_rows.specs.ScriptFiles.{buffered_nodes, told_by, fault_at, four_node_script, quiet_script};
+ghost use Rattle.world_rows.specs.ScriptFiles.{event_script, five_with_one_payload, full_list, all_on};
 ghost use Rattle.world_rows.specs.BusyScript.{eight_nodes, busy_text, busy_script};
 
 /// Bad scripts: the run's slots, and when nodes are switched on.
@@ -90,7 +90,7 @@ pub fn without_slots()
 pub fn arm_lines()
     ensures once { told_by (codes "slots 20\narm 2 19\n") ≡ Ok (event_script (event.Arm 2 19)) }
     ensures again_and_again { told_by (codes "slots 20\narm 3 9\narm 3 0\narm 3 9\n")
-        ≡ Ok (script 20 (replicate 4 None) (event.Arm 3 9 ∷ event.Arm 3 0 ∷ event.Arm 3 9 ∷ [])) }
+        ≡ Ok (four_node_script 20 (replicate 4 None) (event.Arm 3 9 ∷ event.Arm 3 0 ∷ event.Arm 3 9 ∷ [])) }
     ensures word_too_few { told_by (codes "slots 20\narm 2\n") ≡ fault_at 2 faults.Word }
     ensures word_too_many { told_by (codes "slots 20\narm 2 3 4\n") ≡ fault_at 2 faults.Word }
     ensures upper_case { told_by (codes "slots 20\nArm 2 3\n") ≡ fault_at 2 faults.Word }
@@ -134,10 +134,10 @@ pub fn numbers()
     ensures minus_where_none_is_due { told_by (codes "slots 20\non -0 0\n") ≡ fault_at 2 faults.Number }
     ensures hexadecimal { told_by (codes "slots 0x14\n") ≡ fault_at 1 faults.Number }
     ensures minus_zero { told_by (codes "slots 20\njump 0 -0 3\n")
-        ≡ Ok (script 20 (replicate 4 None) (event.Jump 0 (pos 0) 3 ∷ [])) }
+        ≡ Ok (four_node_script 20 (replicate 4 None) (event.Jump 0 (pos 0) 3 ∷ [])) }
     ensures minus_and_ten_digits { told_by (codes "slots 20\njump 0 -0000000001 3\n") ≡ fault_at 2 faults.Number }
     ensures minus_and_nine_digits { told_by (codes "slots 20\njump 0 -000000001 3\n")
-        ≡ Ok (script 20 (replicate 4 None) (event.Jump 0 (negsuc 0) 3 ∷ [])) }
+        ≡ Ok (four_node_script 20 (replicate 4 None) (event.Jump 0 (negsuc 0) 3 ∷ [])) }
     ensures two_signs { told_by (codes "slots 20\njump 0 --1 3\n") ≡ fault_at 2 faults.Number }
     ensures plus_and_value { told_by (codes "slots 20\njump 0 +1 3\n") ≡ fault_at 2 faults.Number }
 {}
@@ -145,9 +145,9 @@ pub fn numbers()
 /// Scripts without a fault: each form of a line, with what it says.
 pub fn right_lines()
     ensures on { told_by (codes "slots 20\non 0 0\non 3 19\n")
-        ≡ Ok (script 20 (Some 0 ∷ None ∷ None ∷ Some 19 ∷ []) []) }
+        ≡ Ok (four_node_script 20 (Some 0 ∷ None ∷ None ∷ Some 19 ∷ []) []) }
     ensures on_in_another_order { told_by (codes "slots 20\non 3 19\non 0 0\n")
-        ≡ Ok (script 20 (Some 0 ∷ None ∷ None ∷ Some 19 ∷ []) []) }
+        ≡ Ok (four_node_script 20 (Some 0 ∷ None ∷ None ∷ Some 19 ∷ []) []) }
     ensures drift { told_by (codes "slots 20\ndrift 3 -1000\ndrift 1 7\n") ≡ Ok (record {
       slots = 20;
       on = replicate 4 None;
@@ -169,10 +169,11 @@ pub fn right_lines()
         ≡ Ok (event_script (event.Read 1 3 source.Status)) }
     ensures read_node { told_by (codes "slots 20\nread 0 3 1\n") ≡ Ok (event_script (event.Read 0 3 (source.Node 1))) }
     ensures in_order { told_by (codes "slots 20\njump 0 1 9\non 0 0\nread 0 3 1\njump 0 1 4\n")
-        ≡ Ok (script 20 (Some 0 ∷ None ∷ None ∷ None ∷ [])
+        ≡ Ok (four_node_script 20 (Some 0 ∷ None ∷ None ∷ None ∷ [])
         (event.Jump 0 (pos 1) 9 ∷ event.Read 0 3 (source.Node 1) ∷ event.Jump 0 (pos 1) 4 ∷ [])) }
     ensures writes_apart { told_by (codes "slots 20\nwrite 1 3 0102\nwrite 1 4 0102\n")
-        ≡ Ok (script 20 (replicate 4 None) (event.Write 1 3 (1 ∷ 2 ∷ []) ∷ event.Write 1 4 (1 ∷ 2 ∷ []) ∷ [])) }
+        ≡ Ok (four_node_script 20 (replicate 4 None)
+        (event.Write 1 3 (1 ∷ 2 ∷ []) ∷ event.Write 1 4 (1 ∷ 2 ∷ []) ∷ [])) }
 {}
 
 /// One past the end of a range.
@@ -200,23 +201,23 @@ pub fn past_a_range()
 
 /// A list of five nodes, of which node 2 sends eight bytes.
 pub fn five_nodes_on()
-    ensures all_on { script_of five_nodes all_on ≡ Ok (record {
+    ensures all_on { script_of five_with_one_payload all_on ≡ Ok (record {
       slots = 20;
       on = replicate 5 (Some 0);
       drift = replicate 5 (pos 0);
       events = [];
     }) }
-    ensures write_and_read { script_of five_nodes (all_on
+    ensures write_and_read { script_of five_with_one_payload (all_on
         ++ codes "write 2 17 0102030405060708\nread 0 17 2\n") ≡ Ok (record {
           slots = 20;
           on = replicate 5 (Some 0);
           drift = replicate 5 (pos 0);
           events = event.Write 2 17 (1 ∷ 2 ∷ 3 ∷ 4 ∷ 5 ∷ 6 ∷ 7 ∷ 8 ∷ []) ∷ event.Read 0 17 (source.Node 2) ∷ [];
         }) }
-    ensures two_writes { script_of five_nodes (all_on
+    ensures two_writes { script_of five_with_one_payload (all_on
         ++ codes "write 2 17 0102030405060708\nwrite 2 17 0102030405060708\n")
         ≡ fault_at 8 faults.TooMany }
-    ensures send_past_the_run { script_of five_nodes (codes "slots 20\nsend 2 AB noise 22 22\n")
+    ensures send_past_the_run { script_of five_with_one_payload (codes "slots 20\nsend 2 AB noise 22 22\n")
         ≡ fault_at 2 faults.Range }
 {}
 

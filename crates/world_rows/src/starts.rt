@@ -7,15 +7,15 @@ ghost use Rattle.ttp_world.specs.Hypothesis.{keeps};
 ghost use Rattle.ttp_world.specs.Medium.{Noise, heard, senders_in};
 ghost use Rattle.ttp_world.specs.Safety.{IsSafe};
 ghost use Rattle.ttp_world.specs.Trace.{trace_lines};
-ghost use Rattle.world_rows.specs.Cases.{bare_list, bare_list_of, script_of, bare_numbers, bare_run, newest_row};
+ghost use Rattle.world_rows.specs.Cases.{bare_list, bare_list_of, all_on_script, bare_numbers, bare_run, newest_row};
 ghost use Rattle.world_rows.specs.Cases.{after_slot, entry_at, bare_lines, picked_lines, hold_from, is_safe_from};
 ghost use Rattle.world_rows.specs.Frames.{cstate};
-ghost use Rattle.world_rows.specs.Scripts.{two_starters, colliding, noisy_start, deaf_on_a, late};
+ghost use Rattle.world_rows.specs.Scripts.{two_starters_of_five, colliding, noisy_start, deaf_on_a, late};
 
 /// Five nodes that are on from slot 0: node 0 starts in slot 10, the others join and send one after
 /// the other. The lines are those of the whole trace with these numbers.
 pub fn fault_free_start()
-    ensures lines { picked_lines (trace_lines (bare_list 5) (script_of 5 15 []) (bare_numbers (bare_list 5) 15))
+    ensures lines { picked_lines (trace_lines (bare_list 5) (all_on_script 5 15 []) (bare_numbers (bare_list 5) 15))
         (52 ∷ 53 ∷ 57 ∷ 58 ∷ 77 ∷ [])
         ≡ codes "slot 10 node 0 start peer 0 msg - mem 0001 acc 1 rej 0 ack first clock 0\n"
         ∷ codes "slot 10 node 1 join peer 0 msg - mem 0001 acc 1 rej 0 ack none clock 0\n"
@@ -23,11 +23,11 @@ pub fn fault_free_start()
         ∷ codes "slot 11 node 1 send peer 1 msg - mem 0003 acc 1 rej 0 ack first clock 0\n"
         ∷ codes "keeps yes start 10\n"
         ∷ [] }
-    ensures run { let run = bare_run (bare_list 5) (script_of 5 15 []) 15 in
+    ensures run { let run = bare_run (bare_list 5) (all_on_script 5 15 []) 15 in
         (entry_at run 10 4 ≡ entry.Joined 0 (cstate 0 0 0 (0 ∷ [])) (pos 0))
         × (entry_at run 14 4 ≡ entry.Sent None)
-        × (IsSafe (bare_list 5) (script_of 5 15 []) run)
-        × (is_safe_from 10 (bare_list 5) (script_of 5 15 []) run ≡ true) }
+        × (IsSafe (bare_list 5) (all_on_script 5 15 []) run)
+        × (is_safe_from 10 (bare_list 5) (all_on_script 5 15 []) run ≡ true) }
 {}
 
 /// Two starters that reach the same slot: both send, the others hear noise, and both retry a round
@@ -35,7 +35,7 @@ pub fn fault_free_start()
 pub fn colliding_starters()
     ensures noise_on_a { heard colliding 11 2 channel.A (senders_in (entry.Started ∷ entry.Started ∷ [])) ≡ Noise }
     ensures noise_on_b { heard colliding 11 2 channel.B (senders_in (entry.Started ∷ entry.Started ∷ [])) ≡ Noise }
-    ensures run { let run = bare_run two_starters colliding 24 in
+    ensures run { let run = bare_run two_starters_of_five colliding 24 in
         (newest_row (after_slot run 11)
         ≡ entry.Started ∷ entry.Started ∷ entry.Waited ∷ entry.Waited ∷ entry.Waited ∷ [])
         × (newest_row (after_slot run 16)
@@ -44,14 +44,14 @@ pub fn colliding_starters()
         × (entry_at run 22 0 ≡ entry.Started)
         × (entry_at run 22 1 ≡ entry.Joined 0 (cstate 0 0 0 (0 ∷ [])) (pos 0))
         × (entry_at run 23 1 ≡ entry.Sent None) }
-    ensures keeps { keeps two_starters colliding ≡ keep.No 4 0 }
+    ensures keeps { keeps two_starters_of_five colliding ≡ keep.No 4 0 }
 {}
 
 /// Noise resets a starter's count: node 0 starts in slot 10 with noise on both channels, so node 1,
 /// which would start in slot 11, waits. Node 0 retries in slot 15 and starts again in slot 21, after
 /// five silent slots and before node 1 has counted eleven.
 pub fn noise_before_a_start()
-    ensures { let run = bare_run two_starters noisy_start 22 in
+    ensures { let run = bare_run two_starters_of_five noisy_start 22 in
         (entry_at run 10 0 ≡ entry.Started)
         × (entry_at run 11 1 ≡ entry.Waited)
         × (entry_at run 15 0 ≡ entry.Retried)
@@ -60,7 +60,7 @@ pub fn noise_before_a_start()
 
 /// Where the list lets no node start, all listen for good.
 pub fn nobody_may_start()
-    ensures waits { newest_row (bare_run (bare_list_of 5 []) (script_of 5 30 []) 30) ≡ replicate 5 entry.Waited }
+    ensures waits { newest_row (bare_run (bare_list_of 5 []) (all_on_script 5 30 []) 30) ≡ replicate 5 entry.Waited }
 {}
 
 /// A node whose channel A is disturbed joins on channel B.

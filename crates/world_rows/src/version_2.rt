@@ -11,7 +11,7 @@ ghost use Rattle.ttp_world.specs.Medl.{member_bytes, node_limit, member_limit};
 ghost use Rattle.ttp_world.specs.Past.{state_of, past_of};
 ghost use Rattle.ttp_world.specs.Trace.{trace_head, member_digits, node_line, read_lines};
 ghost use Rattle.ttp_world.specs.World.{world};
-ghost use Rattle.world_rows.specs.Cases.{bare_list, script_of, bare_run, bare_lines, hold_from, reading_numbers};
+ghost use Rattle.world_rows.specs.Cases.{bare_list, all_on_script, bare_run, bare_lines, hold_from, reading_numbers};
 ghost use Rattle.world_rows.specs.Frames.{cstate, cold_start};
 ghost use Rattle.world_rows.specs.Scripts.{reading_status};
 ghost use Rattle.world_rows.specs.Version2.{wide_list, wide_frame, wide_cold_start, last_of_24, first_round_of_24};
@@ -54,28 +54,28 @@ pub fn limits_by_version()
 /// The first line of a trace names the version, and members have six digits: a start, a join, a
 /// judgement and two frames of a cluster of five.
 pub fn lines_of_five_nodes()
-    ensures head { trace_head (wide_list 5) (script_of 5 15 [])
+    ensures head { trace_head (wide_list 5) (all_on_script 5 15 [])
         ≡ codes "ttpbench trace 2 nodes 5 rounds 1 slots 15 schedule 000000\n" }
-    ensures lines { bare_lines (wide_list 5) (script_of 5 15 []) 15
+    ensures lines { bare_lines (wide_list 5) (all_on_script 5 15 []) 15
         ((10, 0) ∷ (10, 1) ∷ (11, 0) ∷ (11, 1) ∷ (14, 4) ∷ [])
         ≡ codes "slot 10 node 0 start peer 0 msg - mem 000001 acc 1 rej 0 ack first clock 0\n"
         ++ codes "slot 10 node 1 join peer 0 msg - mem 000001 acc 1 rej 0 ack none clock 0\n"
         ++ codes "slot 11 node 0 correct peer 1 msg - mem 000003 acc 2 rej 0 ack none clock 0\n"
         ++ codes "slot 11 node 1 send peer 1 msg - mem 000003 acc 1 rej 0 ack first clock 0\n"
         ++ codes "slot 14 node 4 send peer 4 msg - mem 00001f acc 1 rej 0 ack first clock 0\n" }
-    ensures members { hold_from 14 (wide_list 5) (bare_run (wide_list 5) (script_of 5 15 []) 15) (below 5) (below 5)
+    ensures members { hold_from 14 (wide_list 5) (bare_run (wide_list 5) (all_on_script 5 15 []) 15) (below 5) (below 5)
         ≡ true }
-    ensures keeps { keeps (wide_list 5) (script_of 5 15 []) ≡ keep.Yes 10 }
+    ensures keeps { keeps (wide_list 5) (all_on_script 5 15 []) ≡ keep.Yes 10 }
 {}
 
 /// Node 0 of 24 at the end of the round in which it started: it holds all for members.
 pub fn lines_of_24_nodes()
-    ensures head { trace_head (wide_list 24) (script_of 24 72 [])
+    ensures head { trace_head (wide_list 24) (all_on_script 24 72 [])
         ≡ codes "ttpbench trace 2 nodes 24 rounds 1 slots 72 schedule 000000\n" }
     ensures line { node_line (member_digits (wide_list 24)) 71 0
         (state_of (past_of (wide_list 24) 0 first_round_of_24 [])) None
         ≡ codes "slot 71 node 0 correct peer 23 msg - mem ffffff acc 24 rej 0 ack none clock 0\n" }
-    ensures keeps { keeps (wide_list 24) (script_of 24 72 []) ≡ keep.Yes 48 }
+    ensures keeps { keeps (wide_list 24) (all_on_script 24 72 []) ≡ keep.Yes 48 }
 {}
 
 /// The C-state in a status message has 56 bits: time 1, round 0, slot 1, and members 0 and 1.

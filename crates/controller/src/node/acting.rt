@@ -2,7 +2,7 @@
 ghost use Rattle.std.specs.Prelude.{◌≡◌, ◌<◌, length};
 ghost use Rattle.ttp_world.specs.Act.{act, listening_act, own_act, active_act};
 ghost use Rattle.ttp_world.specs.Medl.{IsValid, may_start};
-ghost use Rattle.controller.specs.Within.{IsWithin};
+ghost use Rattle.controller.specs.Within.{IsPastWithin};
 
 use crate::node::Node;
 use ttp_world::{Act, Medl, Phase, Reason};
@@ -48,7 +48,7 @@ impl Node {
 
     fn active_act(&self, list: &Medl, k: u8) -> Act
         requires valid { IsValid list.now }
-        requires within { IsWithin list.now k self.now }
+        requires within { IsPastWithin list.now k self.now }
         ensures { result ≡ active_act list.now k self.now }
     {
         if self.coming(list).is_slot_of(k) {
@@ -63,7 +63,7 @@ impl Node {
     pub(crate) fn act(&self, list: &Medl, k: u8, on: bool, armed: bool) -> Act
         requires valid { IsValid list.now }
         requires node { k < length list.now.slots }
-        requires within { IsWithin list.now k self.now }
+        requires within { IsPastWithin list.now k self.now }
         ensures { result ≡ act list.now k on armed self.now }
     {
         match self.phase() {

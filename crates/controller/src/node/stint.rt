@@ -6,9 +6,9 @@ ghost use Rattle.ttp_world.specs.declared.node.Ack.TheVariants as ack;
 ghost use Rattle.ttp_world.specs.Acknowledgement.{is_correct};
 ghost use Rattle.ttp_world.specs.Diary.{no_place, joined_place, next_place};
 ghost use Rattle.ttp_world.specs.Medl.{IsValid, plan_at};
-ghost use Rattle.slot_clock.specs.StandsFor.{StandsFor};
+ghost use Rattle.slot_clock.specs.StandsFor.{ClockStandsFor};
 ghost use Rattle.fta_sync.specs.StandsFor.{kept_notes, IsDeviation};
-ghost use Rattle.controller.specs.Within.{IsWithin, IsCStateWithin, IsJudgedWithin, IsEntryWithin};
+ghost use Rattle.controller.specs.Within.{IsPastWithin, IsCStateWithin, IsJudgedWithin, IsEntryWithin};
 ghost use Rattle.controller.specs.Stint.{stint_after};
 
 use crate::node::Node;
@@ -24,7 +24,7 @@ pub(crate) fn next_clock(list: &Medl, cstate: &CState) -> SlotClock
     requires valid { IsValid list.now }
     requires round { cstate.now.round < list.now.rounds }
     requires slot { cstate.now.slot < length list.now.slots }
-    ensures { StandsFor result list.now (next_place list.now (joined_place cstate.now)) }
+    ensures { ClockStandsFor result list.now (next_place list.now (joined_place cstate.now)) }
 {
     let mut clock = SlotClock::at(list, cstate);
     clock.next();
@@ -131,7 +131,7 @@ impl Node {
     fn send(&mut self, list: &Medl, k: u8)
         requires valid { IsValid list.now }
         requires node { k < length list.now.slots }
-        requires within { IsWithin list.now k self.old }
+        requires within { IsPastWithin list.now k self.old }
         ensures { (message : Option ℕ) → self.new ≡ stint_after list.now k self.old (Entry.Sent message) }
     {
         let clock = next_clock(list, &self.cstate);
@@ -149,7 +149,7 @@ impl Node {
     fn judge(&mut self, list: &Medl, k: u8, sender: u8, verdict: Verdict, deviation: i64)
         requires valid { IsValid list.now }
         requires node { k < length list.now.slots }
-        requires within { IsWithin list.now k self.old }
+        requires within { IsPastWithin list.now k self.old }
         requires judged { IsJudgedWithin list.now k self.old sender verdict deviation }
         ensures { self.new ≡ stint_after list.now k self.old (Entry.Judged sender verdict deviation) }
     {
@@ -173,7 +173,7 @@ impl Node {
     pub(crate) fn enter_stint(&mut self, list: &Medl, k: u8, entry: &Entry)
         requires valid { IsValid list.now }
         requires node { k < length list.now.slots }
-        requires within { IsWithin list.now k self.old }
+        requires within { IsPastWithin list.now k self.old }
         requires entry { IsEntryWithin list.now k self.old entry.now }
         ensures { self.new ≡ stint_after list.now k self.old entry.now }
     {

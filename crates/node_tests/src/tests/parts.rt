@@ -8,7 +8,7 @@ ghost use Rattle.ttp_world.specs.Script.{IsValidScript, IsWithinSpan};
 ghost use Rattle.ttp_world.specs.World.{slot_after, frames_in};
 ghost use Rattle.controller.specs.Limits.{IsBegun, IsPlanned};
 ghost use Rattle.controller.specs.Passes.{ArePayloadsBefore, ArePayloadsFor, StandAfter, HaveBegun, HavePlanned};
-ghost use Rattle.controller.specs.Passes.{Carries, HaveEnded};
+ghost use Rattle.controller.specs.Passes.{CarriesFrames, HaveEnded};
 ghost use Rattle.controller.specs.PlantStands.{plant_of, MayStep, Steps};
 ghost use Rattle.controller.specs.PlantWithin.{most_ahead, most_ahead_in, IsEnded, AreSeats, AreIncidents};
 ghost use Rattle.controller.specs.PlantWithin.{IsFromWithin};
@@ -59,7 +59,7 @@ fn take_in_parts(seats: &mut [Seat], medium: &Medium, list: &Medl, script: &Scri
     ensures seats { AreSeats list.now IsEnded (most_ahead (medium.now.slot + 1)) 0 seats.new }
     ensures end { (history : History) (chosen : List Choice)
         → HavePlanned (slot_after list.now script.now history) chosen 0 seats.old
-        → Carries (slot_after list.now script.now history)
+        → CarriesFrames (slot_after list.now script.now history)
         (frames_in (slot_after list.now script.now history) chosen) medium.now
         → HaveEnded list.now script.now history chosen 0 seats.new }
 {

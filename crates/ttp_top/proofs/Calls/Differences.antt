@@ -2,7 +2,8 @@
 use Rattle.ttp_top.proofs.Terms.{◌≡◌, ℕ, Bool, true, false, List, ◌++◌, refl, sym, subst, inl, inr, arith, ◌==◌, codes}
 use Rattle.ttp_top.proofs.Terms.{decimal, if◌then◌else◌, list_any-append, Output, Lines, newline, is_line}
 use Rattle.ttp_top.proofs.Terms.{is_line-append, has, has-decimal, Medl, Script, is_trace, IsFirstWrong, AreLines, Says}
-use Rattle.ttp_top.proofs.Terms.{line_ending, whole_ending, those, Answer, Ending, ttpbench, differs_line, differences}
+use Rattle.ttp_top.proofs.Terms.{line_ending, whole_ending, those, BenchAnswer, BenchEnding, ttpbench, differs_line}
+use Rattle.ttp_top.proofs.Terms.{differences}
 use Rattle.std.specs.Prelude.{◌↔◌}
 use Rattle.trace_check.specs.declared.answer.Outcome.TheVariants as outcome
 use Rattle.ttp_top.specs.Calls.Differences.{IsDifference}
@@ -23,7 +24,7 @@ differences-each list script text lines is = subst AreLines (sym is.said) (diffe
 -- What was said.
 
 -- this ending where a text is a trace, and else the line that differs
-abbrev pub ending_if : Ending → Medl → Script → List ℕ → Bool → Ending
+abbrev pub ending_if : BenchEnding → Medl → Script → List ℕ → Bool → BenchEnding
 ending_if ending list script text same = if same then ending else whole_ending 1 (those (differences list script text))
 
 -- where a line is named the text is no trace
@@ -35,8 +36,9 @@ differs-none list script text line same = by_case (is_trace list script text) sa
     by_case false is = refl
     by_case true is = let is_same : outcome.Differs line ≡ outcome.Same = is.1 refl in absurd cc
 
-pub differs-said : (ending : Ending) (list : Medl) (script : Script) (text : List ℕ) (line : ℕ) (before now : Output)
-    (answer : Answer) → is_trace list script text ≡ false → IsFirstWrong list script text line
+pub differs-said : (ending : BenchEnding) (list : Medl) (script : Script) (text : List ℕ) (line : ℕ)
+    (before now : Output)
+    (answer : BenchAnswer) → is_trace list script text ≡ false → IsFirstWrong list script text line
     → Says ttpbench (line_ending 1 (differs_line line)) before now answer
     → Says ttpbench (ending_if ending list script text (is_trace list script text)) before now answer
 differs-said ending list script text line before now answer none first said =

@@ -3,8 +3,8 @@ use Rattle.ttp_top.proofs.Terms.{◌≡◌, ◌≢◌, ℕ, Bool, true, false, �
 use Rattle.ttp_top.proofs.Terms.{arith, List, [], ◌∷◌, inl, inr, ◌==◌, is_some, if◌then◌else◌, Lines, lines_of, Medl}
 use Rattle.ttp_top.proofs.Terms.{Script, test_lines, trace_lines-each, slot_table, ClusterView, is_trace, mode_lines}
 use Rattle.ttp_top.proofs.Terms.{refused_list, both_plan, trace_plan, AreLines, ends, whole_ending, line_ending, one}
-use Rattle.ttp_top.proofs.Terms.{those, IsFinal, SaysLine, list_every, Ending, Plan, ttpbench, same_line, usage_line}
-use Rattle.ttp_top.proofs.Terms.{table_ending, trace_ending, keep_ending, verify_ending, precision_ending}
+use Rattle.ttp_top.proofs.Terms.{those, IsFinal, SaysLine, list_every, BenchEnding, BenchPlan, ttpbench, same_line}
+use Rattle.ttp_top.proofs.Terms.{usage_line, table_ending, trace_ending, keep_ending, verify_ending, precision_ending}
 use Rattle.ttp_top.proofs.Terms.{sample_ending, modes_ending, plan_of, fronts, differences, Form, schedule, run, verify}
 use Rattle.ttp_top.proofs.Terms.{precision, sample, modes, is_run, runs_cluster}
 use Rattle.std.specs.Prelude.{IsSomeAnd}
@@ -16,7 +16,7 @@ use Rattle.mode_change.proofs.TextLines.{mode_lines-each}
 use Rattle.commands.specs.declared.read.FileFault.{FileFault}
 use Rattle.commands.specs.Files.{refused_script, list_plan}
 use Rattle.commands.specs.Plan.{said_ending}
-use Rattle.commands.specs.Texts.{nothing, IsKeptBeside}
+use Rattle.commands.specs.Texts.{no_texts, IsKeptBeside}
 use Rattle.commands.proofs.Lines.{AreOfLines, one_text, lines_front, text_final, line_final}
 use Rattle.commands.proofs.Lines.{refused_list-final, refused_script-final}
 use Rattle.commands.proofs.Plans.{Every, both_every}
@@ -28,14 +28,14 @@ use Rattle.ttp_top.proofs.Samples.Lines.{samples-each}
 use Rattle.std.proofs.Math.Bool.{and-false as and_false}
 
 -- an ending that a form may come to
-pub record IsOfForm (form : Option Form) (ending : Ending) : Type 0 where
+pub record IsOfForm (form : Option Form) (ending : BenchEnding) : Type 0 where
   pub final : IsFinal ttpbench ending
   -- the usage line answers words of no form alone
   pub usage : ending.status ≡ 2 → form ≡ None
   -- only the forms that take a trace answer status 1
   pub differs : ending.status ≡ 1 → takes_trace form ≡ true
   -- but for `run`, nothing stands where memory is refused
-  pub lets : is_run form ≡ false → ending.unfinished ≡ nothing
+  pub lets : is_run form ≡ false → ending.unfinished ≡ no_texts
   -- what is kept beside a text tells whether a cluster ran
   pub keeps : (lines : Lines) (kept : Option ClusterView) → IsKeptBeside ttpbench ending.texts lines kept
       → is_some kept ≡ (runs_cluster form && (ending.status == 0))
@@ -72,8 +72,8 @@ no_script form fault = record {
 }
 
 -- and so is each ending with status 0 of a form that runs no cluster and keeps nothing
-done : (form : Option Form) (ending : Ending) → runs_cluster form ≡ false → ending.status ≡ 0
-    → ending.unfinished ≡ nothing → IsFinal ttpbench ending
+done : (form : Option Form) (ending : BenchEnding) → runs_cluster form ≡ false → ending.status ≡ 0
+    → ending.unfinished ≡ no_texts → IsFinal ttpbench ending
     → ((lines : Lines) (kept : Option ClusterView) → IsKeptBeside ttpbench ending.texts lines kept → kept ≡ None)
     → IsOfForm form ending
 done form ending none zero whole final nothing_kept = record {
@@ -101,7 +101,7 @@ differing form list script text takes = record {
 }
 
 -- of two endings one
-one_of : (form : Option Form) (same : Bool) (ending other : Ending) → IsOfForm form ending → IsOfForm form other
+one_of : (form : Option Form) (same : Bool) (ending other : BenchEnding) → IsOfForm form ending → IsOfForm form other
     → IsOfForm form (if same then ending else other)
 one_of form true ending other p q = p
 one_of form false ending other p q = q
@@ -123,13 +123,13 @@ trace_final list script = record {
 
 -- each ending of a form is one of it, and each file that is missing is told in a line
 
-of_list : (form : Option Form) (list : List ℕ) (ending : Medl → Ending)
+of_list : (form : Option Form) (list : List ℕ) (ending : Medl → BenchEnding)
     → ((medl : Medl) → IsOfForm form (ending medl))
     → Every (IsOfForm form) SaysLine (list_plan list (λ medl. ends (ending medl)))
 of_list form list ending all =
     list_every (IsOfForm form) SaysLine list (λ medl. ends (ending medl)) refl (no_list form) all
 
-of_both : (form : Option Form) (list script : List ℕ) (next : Medl → Script → Plan)
+of_both : (form : Option Form) (list script : List ℕ) (next : Medl → Script → BenchPlan)
     → ((medl : Medl) (right : Script) → Every (IsOfForm form) SaysLine (next medl right))
     → Every (IsOfForm form) SaysLine (both_plan list script next)
 of_both form list script next all =

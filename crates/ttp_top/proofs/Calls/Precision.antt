@@ -2,8 +2,8 @@
 use Rattle.ttp_top.proofs.Terms.{◌≡◌, ℕ, true, false, List, [], ◌∷◌, ◌++◌, length, refl, ap, sym, subst, ◌∙◌, inl, inr}
 use Rattle.ttp_top.proofs.Terms.{arith, ◌==◌, codes, decimal, list_any-append, Output, Lines, newline, is_line}
 use Rattle.ttp_top.proofs.Terms.{is_line-append, has, has-decimal, Medl, Script, IsLegalRun, Numbers, legal-none}
-use Rattle.ttp_top.proofs.Terms.{legal-whole, Faced, faced_of, seen_of, AreLines, Says, line_ending, Answer, ttpbench}
-use Rattle.ttp_top.proofs.Terms.{precision_ending, faced_line, broken_line, answer_line, IsPrecision}
+use Rattle.ttp_top.proofs.Terms.{legal-whole, Faced, faced_of, seen_of, AreLines, Says, line_ending, BenchAnswer}
+use Rattle.ttp_top.proofs.Terms.{ttpbench, precision_ending, faced_line, broken_line, answer_line, IsPrecision}
 use Rattle.std.specs.Fmt.{signed_decimal}
 use Rattle.ttp_base.proofs.Numerals.{has-signed}
 use Rattle.two_faced.specs.declared.faced.Faced.TheVariants as faced
@@ -68,7 +68,7 @@ broken_line-is list script node rule slot numbers answers =
 -- It was said.
 
 pub precision-said : (list : Medl) (script : Script) (node : ℕ) (line : List ℕ) (before now : Output)
-    (answer : Answer)
+    (answer : BenchAnswer)
     → ((numbers : Numbers) → IsLegalRun list script numbers → line ≡ precision_line list script node numbers)
     → Says ttpbench (line_ending 0 line) before now answer → Says ttpbench (precision_ending node list script) before now answer
 precision-said list script node line before now answer is (inl showed) =

@@ -1,17 +1,17 @@
 -- The promise of a call, from the plan that it followed.
 use Rattle.ttp_top.proofs.Terms.{◌≡◌, ◌≢◌, ◌⊎◌, ℕ, ◌<◌, ◌≤◌, false, [], Option, None, ap, sym, subst, ◌∙◌, inl, inr}
-use Rattle.ttp_top.proofs.Terms.{arith, ◌==◌, ◌&&◌, is_some, cases_lt, Wrote, Outside, IsFinal, SaysLine, Answer}
-use Rattle.ttp_top.proofs.Terms.{ttpbench, plan_of, Promise, Form, is_run, runs_cluster}
+use Rattle.ttp_top.proofs.Terms.{arith, ◌==◌, ◌&&◌, is_some, cases_lt, Wrote, Outside, IsFinal, SaysLine, BenchAnswer}
+use Rattle.ttp_top.proofs.Terms.{ttpbench, plan_of, BenchPromise, Form, is_run, runs_cluster}
 use Rattle.commands.specs.Outcome.{Follows}
-use Rattle.commands.specs.Promise.{IsUnfinished, Promise as CallPromise}
+use Rattle.commands.specs.Promise.{IsUnfinished, Promise}
 use Rattle.commands.specs.Texts.{Texts, WroteAmong}
 use Rattle.commands.proofs.Plans.{all_come, every_weaker}
 use Rattle.commands.proofs.Promises.{wrote_nothing, promise as call_promise}
 use Rattle.ttp_top.specs.Calls.Texts.{Sets}
 use Rattle.ttp_top.proofs.Calls.Forms.{IsOfForm, none_kept, forms}
 
-module _ (form : Option Form) (before now : Outside) (answer : Answer)
-    (call : CallPromise ttpbench (plan_of form) before now answer) where
+module _ (form : Option Form) (before now : Outside) (answer : BenchAnswer)
+    (call : Promise ttpbench (plan_of form) before now answer) where
   -- the ending that it came to
   ended_of : (few : answer.status ≤ 4) → IsOfForm form (call.ended few).0
   ended_of few =
@@ -35,9 +35,9 @@ module _ (form : Option Form) (before now : Outside) (answer : Answer)
       (ended_of few).keeps showed.text.lines answer.kept showed.kept
       ∙ ap (λ (n : ℕ). runs_cluster form && (n == 0)) (sym showed.status)
 
-pub promise : (form : Option Form) (before now : Outside) (answer : Answer)
+pub promise : (form : Option Form) (before now : Outside) (answer : BenchAnswer)
     → Follows ttpbench (plan_of form) before now answer → (form ≡ None → answer.status ≢ 7)
-    → Promise form before now answer
+    → BenchPromise form before now answer
 promise form before now answer follows never =
     let call = call_promise ttpbench (plan_of form) before now answer
     (every_weaker (IsOfForm form) (IsFinal ttpbench) SaysLine (λ ending is. is.final) (plan_of form) (forms form)) follows in

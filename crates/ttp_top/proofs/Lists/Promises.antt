@@ -2,21 +2,21 @@
 use Rattle.ttp_top.proofs.Terms.{◌≡◌, ◌⊎◌, ℕ, List, [], Some, refl, sym, subst, inl, inr, arith, HasRisen, Output}
 use Rattle.ttp_top.proofs.Terms.{Wrote, WroteLines, CutShort, Lines, Medl, slot_table, list_from-front, list_came}
 use Rattle.ttp_top.proofs.Terms.{AllAsk, list_every, end_comes, list_from-right, Quiet, told_shows, told_cut, Showed}
-use Rattle.ttp_top.proofs.Terms.{Outside, ends, told_ending, Answer, Ending, Plan, ttpbench, table_ending, plan_of}
-use Rattle.ttp_top.proofs.Terms.{Promise, schedule, IsTold}
+use Rattle.ttp_top.proofs.Terms.{Outside, ends, told_ending, BenchAnswer, BenchEnding, BenchPlan, ttpbench}
+use Rattle.ttp_top.proofs.Terms.{table_ending, plan_of, BenchPromise, schedule, HoldsRightList}
 use Rattle.ttp_top.specs.Lists.Promise.{WroteTable, SchedulePromise}
 
 -- the plan from a list on
-abbrev from_list : Medl → Plan
+abbrev from_list : Medl → BenchPlan
 from_list medl = ends (table_ending medl)
 
-showed_table : (medl : Medl) (before now : Output) (answer : Answer)
+showed_table : (medl : Medl) (before now : Output) (answer : BenchAnswer)
     → Showed ttpbench (table_ending medl) before now answer → WroteLines before now (slot_table medl)
 showed_table medl before now answer showed =
     subst (λ (lines : Lines). WroteLines before now lines) showed.text.among showed.text.wrote
 
-module _ (list : List ℕ) (before now : Outside) (answer : Answer)
-    (p : Promise (Some (schedule list)) before now answer) where
+module _ (list : List ℕ) (before now : Outside) (answer : BenchAnswer)
+    (p : BenchPromise (Some (schedule list)) before now answer) where
   wrote_table : answer.status ≡ 0 → WroteTable list before now
   wrote_table zero =
       let held = before.files.held in
@@ -31,11 +31,11 @@ module _ (list : List ℕ) (before now : Outside) (answer : Answer)
         right = came.right.list;
         wrote =
             showed_table came.medl before.output now.output answer
-            (subst (λ (e : Ending). Showed ttpbench e before.output now.output answer) (sym is) final.2);
+            (subst (λ (e : BenchEnding). Showed ttpbench e before.output now.output answer) (sym is) final.2);
       }
 
   -- a right list
-  module _ (medl : Medl) (file : IsTold list before now medl) where
+  module _ (medl : Medl) (file : HoldsRightList list before now medl) where
     table_told : told_ending before.files.held (plan_of (Some (schedule list))) ≡ Some (table_ending medl)
     table_told =
         rw (file.list_file, list_from-front file.bytes, list_from-right file.bytes medl file.size file.right) refl
@@ -61,8 +61,8 @@ module _ (list : List ℕ) (before now : Outside) (answer : Answer)
           | inr seven ↦ inr (seven, p.empty seven refl)
         ]
 
-pub schedule_promise : (list : List ℕ) (before now : Outside) (answer : Answer)
-    → Promise (Some (schedule list)) before now answer → SchedulePromise list before now answer
+pub schedule_promise : (list : List ℕ) (before now : Outside) (answer : BenchAnswer)
+    → BenchPromise (Some (schedule list)) before now answer → SchedulePromise list before now answer
 schedule_promise list before now answer p = record {
   table = wrote_table list before now answer p;
   complete = completed list before now answer p;

@@ -15,9 +15,9 @@ use Rattle.ttp_world.proofs.Lists.{nodes-most}
 use Rattle.host_port.specs.declared.report.NodeLine.{NodeLine}
 use Rattle.host_port.specs.declared.report.SlotReport.{SlotReport}
 use Rattle.line_text.specs.LineParts.{HasDigits}
-use Rattle.cluster_run.specs.Report.{numbers_in, node_shown, writes_shown, read_shown, ShowsSlot}
-use Rattle.ttp_top.specs.Samples.Counted.{with_report, HasRoom}
-use Rattle.ttp_top.specs.Samples.Totals.{no_totals, with_slot}
+use Rattle.cluster_run.specs.Report.{report_numbers, node_shown, writes_shown, read_shown, ShowsSlot}
+use Rattle.ttp_top.specs.Samples.Counted.{with_report, SumsFit}
+use Rattle.ttp_top.specs.Samples.Totals.{no_totals, totals_with_slot}
 use Rattle.ttp_top.proofs.Samples.Bounds.{AreSmall, totals-small}
 use Rattle.ttp_top.proofs.Scripts.Slots.{after, tells}
 use Rattle.trace_check.proofs.Counts.{length-read_messages}
@@ -50,7 +50,7 @@ report-adds : (list : Medl) (script : Script) (row : List Entry) (before : Histo
     (report : SlotReport) (totals : Totals) → ShowsSlot list script row before new report
     → length new.read ≡ length (reads_in script (length before))
     → with_report totals report
-    ≡ with_slot totals (states_after list script (row ∷ before)) (length (writes_in script (length before)))
+    ≡ totals_with_slot totals (states_after list script (row ∷ before)) (length (writes_in script (length before)))
     (length (reads_in script (length before)))
 report-adds list script row before new report totals shows same =
     let slot = length before in
@@ -62,7 +62,7 @@ report-adds list script row before new report totals shows same =
     ap length shows.reads
     ∙ length-map (read_messages (reads_in script slot) new.read) (read_shown list script (row ∷ before))
     ∙ length-read_messages (reads_in script slot) new.read same in
-    λ i. with_slot totals (nodes i) (writes i) (reads i)
+    λ i. totals_with_slot totals (nodes i) (writes i) (reads i)
 
 -- The members can be written.
 
@@ -114,7 +114,7 @@ slot_counted old new s totals counted =
     let numbers = counted.numbers in
     let told = tells old new s numbers counted.stands counted.legal in
     let next = s.steps numbers counted.stands in
-    let more = numbers_in new.report ∷ numbers in
+    let more = report_numbers new.report ∷ numbers in
     let legal = next.legal (after (λ list script. IsLegal list script numbers) s counted.legal) in
     let before : totals ≡ totals_of new.list new.script (world new.list new.script numbers) =
     after (λ list script. totals ≡ totals_of list script (world list script numbers)) s counted.totals_are in
@@ -123,11 +123,11 @@ slot_counted old new s totals counted =
       stands = next.stands;
       legal = legal;
       totals_are =
-          report-adds new.list new.script (next_row new.list new.script (numbers_in new.report) numbers)
-          (world new.list new.script numbers) (numbers_in new.report) new.report totals next.shows
-          (reads-told new.list new.script (numbers_in new.report) numbers legal)
+          report-adds new.list new.script (next_row new.list new.script (report_numbers new.report) numbers)
+          (world new.list new.script numbers) (report_numbers new.report) new.report totals next.shows
+          (reads-told new.list new.script (report_numbers new.report) numbers legal)
           ∙ ap (λ (t : Totals).
-          with_slot t (states_after new.list new.script (world new.list new.script more))
+          totals_with_slot t (states_after new.list new.script (world new.list new.script more))
           (length (writes_in new.script (length (world new.list new.script numbers))))
           (length (reads_in new.script (length (world new.list new.script numbers))))) before;
       members =
@@ -138,7 +138,7 @@ slot_counted old new s totals counted =
 -- Its sums fit.
 
 pub slot_fits : (old new : ClusterView) → HasDoneSlot old new → (totals : Totals) → HasCounted old totals
-    → HasRoom totals new.report
+    → SumsFit totals new.report
 slot_fits old new s totals counted =
     let numbers = counted.numbers in
     let next = s.steps numbers counted.stands in
@@ -152,7 +152,7 @@ slot_fits old new s totals counted =
       arith,
       ap length next.shows.nodes,
       length-map (below (length new.list.slots)) (node_shown new.list new.script
-          (next_row new.list new.script (numbers_in new.report) numbers) (world new.list new.script numbers)),
+          (next_row new.list new.script (report_numbers new.report) numbers) (world new.list new.script numbers)),
       length-range_with_len 0 (length new.list.slots),
       ap (λ (list : Medl). length list.slots) s.list,
       nodes-most old.list s.valid,
@@ -173,10 +173,10 @@ slot_fits old new s totals counted =
     omega (
       arith,
       ap length next.shows.reads,
-      length-map (read_messages (reads_in new.script slot) (numbers_in new.report).read)
-          (read_shown new.list new.script (world new.list new.script (numbers_in new.report ∷ numbers))),
-      length-read_messages (reads_in new.script slot) (numbers_in new.report).read
-          (reads-told new.list new.script (numbers_in new.report) numbers legal),
+      length-map (read_messages (reads_in new.script slot) (report_numbers new.report).read)
+          (read_shown new.list new.script (world new.list new.script (report_numbers new.report ∷ numbers))),
+      length-read_messages (reads_in new.script slot) (report_numbers new.report).read
+          (reads-told new.list new.script (report_numbers new.report) numbers legal),
       filter_map-few (read_in slot) new.script.events,
       events,
     ) in

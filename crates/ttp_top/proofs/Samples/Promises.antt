@@ -1,15 +1,15 @@
 -- The promise of `sample`, from the promise of every form.
 use Rattle.ttp_top.proofs.Terms.{◌≡◌, ◌⊎◌, ℕ, List, [], Some, refl, sym, subst, inl, inr, arith, HasRisen, Output}
 use Rattle.ttp_top.proofs.Terms.{Wrote, Medl, list_from-front, list_came, list_every, end_comes, list_from-right, Quiet}
-use Rattle.ttp_top.proofs.Terms.{told_shows, Showed, Outside, ends, told_ending, Answer, Ending, Plan, ttpbench}
-use Rattle.ttp_top.proofs.Terms.{sample_ending, plan_of, Promise, sample, IsTold}
+use Rattle.ttp_top.proofs.Terms.{told_shows, Showed, Outside, ends, told_ending, BenchAnswer, BenchEnding, BenchPlan}
+use Rattle.ttp_top.proofs.Terms.{ttpbench, sample_ending, plan_of, BenchPromise, sample, HoldsRightList}
 use Rattle.ttp_top.specs.Samples.Promise.{WroteSampleOf, WroteSample, SamplePromise}
 
 -- the plan from a list on
-abbrev from_list : ℕ → ℕ → Medl → Plan
+abbrev from_list : ℕ → ℕ → Medl → BenchPlan
 from_list slots number medl = ends (sample_ending slots number medl)
 
-wrote_sample_of : (medl : Medl) (slots number : ℕ) (before now : Output) (answer : Answer)
+wrote_sample_of : (medl : Medl) (slots number : ℕ) (before now : Output) (answer : BenchAnswer)
     → Showed ttpbench (sample_ending slots number medl) before now answer
     → WroteSampleOf medl slots number before now answer.kept
 wrote_sample_of medl slots number before now answer showed = record {
@@ -19,8 +19,8 @@ wrote_sample_of medl slots number before now answer showed = record {
   ran = showed.kept;
 }
 
-wrote_sample : (list : List ℕ) (slots number : ℕ) (before now : Outside) (answer : Answer)
-    → Promise (Some (sample list slots number)) before now answer → answer.status ≡ 0
+wrote_sample : (list : List ℕ) (slots number : ℕ) (before now : Outside) (answer : BenchAnswer)
+    → BenchPromise (Some (sample list slots number)) before now answer → answer.status ≡ 0
     → WroteSample list slots number before now answer.kept
 wrote_sample list slots number before now answer p zero =
     let held = before.files.held in
@@ -36,20 +36,20 @@ wrote_sample list slots number before now answer p zero =
       right = came.right.list;
       text =
           wrote_sample_of came.medl slots number before.output now.output answer
-          (subst (λ (e : Ending). Showed ttpbench e before.output now.output answer) (sym is) final.2);
+          (subst (λ (e : BenchEnding). Showed ttpbench e before.output now.output answer) (sym is) final.2);
     }
 
 -- A right list.
 
 sample_told : (list : List ℕ) (slots number : ℕ) (before now : Outside) (medl : Medl)
-    → (file : IsTold list before now medl)
+    → (file : HoldsRightList list before now medl)
     → told_ending before.files.held (plan_of (Some (sample list slots number)))
     ≡ Some (sample_ending slots number medl)
 sample_told list slots number before now medl file =
     rw (file.list_file, list_from-front file.bytes, list_from-right file.bytes medl file.size file.right) refl
 
-completed : (list : List ℕ) (slots number : ℕ) (before now : Outside) (answer : Answer) (medl : Medl)
-    → Promise (Some (sample list slots number)) before now answer → IsTold list before now medl
+completed : (list : List ℕ) (slots number : ℕ) (before now : Outside) (answer : BenchAnswer) (medl : Medl)
+    → BenchPromise (Some (sample list slots number)) before now answer → HoldsRightList list before now medl
     → ¬ HasRisen before.output.faults now.output.faults
     → ((answer.status ≡ 0) × WroteSampleOf medl slots number before.output now.output answer.kept)
     ⊎ ((answer.status ≡ 7) × Wrote before.output now.output [])
@@ -63,8 +63,8 @@ completed list slots number before now answer medl p file sink =
       | inr seven ↦ inr (seven, p.empty seven refl)
     ]
 
-pub sample_promise : (list : List ℕ) (slots number : ℕ) (before now : Outside) (answer : Answer)
-    → Promise (Some (sample list slots number)) before now answer
+pub sample_promise : (list : List ℕ) (slots number : ℕ) (before now : Outside) (answer : BenchAnswer)
+    → BenchPromise (Some (sample list slots number)) before now answer
     → SamplePromise list slots number before now answer
 sample_promise list slots number before now answer p = record {
   sample = wrote_sample list slots number before now answer p;

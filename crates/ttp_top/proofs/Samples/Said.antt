@@ -1,7 +1,7 @@
 -- The lines on a generated run, once all of its slots are counted.
 use Rattle.ttp_top.proofs.Terms.{◌≡◌, ℕ, [], Some, refl, ap, sym, subst, ◌∙◌, inl, inr, Output, WroteLines, CutShort}
 use Rattle.ttp_top.proofs.Terms.{Lines, Wrote-none, Medl, Script, IsLegal, IsValid, IsValidScript, world, generated}
-use Rattle.ttp_top.proofs.Terms.{ClusterView, Shows, answer, alone, Totals, ttpbench, sample_ending, IsSample}
+use Rattle.ttp_top.proofs.Terms.{ClusterView, ShowsEnding, answer, alone, Totals, ttpbench, sample_ending, IsSample}
 use Rattle.ttp_top.proofs.Terms.{HasCounted, summary_lines, totals_of}
 use Rattle.ttp_top.specs.Calls.Answer.{HasRunLegally}
 use Rattle.ttp_top.proofs.Samples.Alike.{totals-legal}
@@ -54,7 +54,7 @@ summary-is list slots number c totals w = λ numbers legal.
 pub sample_said : (list : Medl) (slots number : ℕ) (before now : Output) (c : ClusterView) (totals : Totals)
     → HasCountedAll list (generated list slots number) c totals
     → WroteLines before now (summary list slots number totals)
-    → Shows ttpbench (sample_ending slots number list) before now (answer 0 (Some c))
+    → ShowsEnding ttpbench (sample_ending slots number list) before now (answer 0 (Some c))
 sample_said list slots number before now c totals w wrote =
     inl (inl (record {
       status = refl;
@@ -70,7 +70,7 @@ sample_said list slots number before now c totals w wrote =
 pub sample_stopped : (list : Medl) (slots number : ℕ) (before now : Output) (c : ClusterView) (totals : Totals)
     → HasCountedAll list (generated list slots number) c totals
     → CutShort before now (summary list slots number totals)
-    → Shows ttpbench (sample_ending slots number list) before now (alone 6)
+    → ShowsEnding ttpbench (sample_ending slots number list) before now (alone 6)
 sample_stopped list slots number before now c totals w cut =
     inl (inr (record {
       status = refl;
@@ -84,7 +84,7 @@ sample_stopped list slots number before now c totals w cut =
 
 -- memory was refused before the first one
 pub sample_refused : (list : Medl) (slots number : ℕ) (o : Output)
-    → Shows ttpbench (sample_ending slots number list) o o (alone 7)
+    → ShowsEnding ttpbench (sample_ending slots number list) o o (alone 7)
 sample_refused list slots number o = inr (record {
   status = refl;
   text = record { lines = []; among = refl; wrote = Wrote-none o };

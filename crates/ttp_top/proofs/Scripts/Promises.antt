@@ -2,8 +2,9 @@
 use Rattle.ttp_top.proofs.Terms.{◌≡◌, ◌⊎◌, ℕ, List, [], Some, refl, ap, sym, subst, ◌∙◌, inl, inr, arith, HasRisen}
 use Rattle.ttp_top.proofs.Terms.{Output, Lines, Medl, Script, IsLegalRun, trace_lines, Numbers, world, numbers_in-trace}
 use Rattle.ttp_top.proofs.Terms.{both_came, both_told, both_ask, end_comes, AllAsk, Quiet, told_shows, told_cut, Showed}
-use Rattle.ttp_top.proofs.Terms.{Outside, ends, told_ending, AreTold, Answer, Ending, Plan, WroteOf, CutOf, ttpbench}
-use Rattle.ttp_top.proofs.Terms.{trace_ending, plan_of, Promise, traces, fronts, IsTrace, run, WroteTraceOf, RunPromise}
+use Rattle.ttp_top.proofs.Terms.{Outside, ends, told_ending, AreTold, BenchAnswer, BenchEnding, BenchPlan, WroteOf}
+use Rattle.ttp_top.proofs.Terms.{CutOf, ttpbench, trace_ending, plan_of, BenchPromise, traces, fronts, IsTrace, run}
+use Rattle.ttp_top.proofs.Terms.{WroteTraceOf, RunPromise}
 use Rattle.ttp_world.specs.TraceNumbers.{numbers_in}
 use Rattle.theorems.specs.KeptRun.{IsKeptRun, IsBackRun}
 use Rattle.theorems.proofs.Runs.{kept-run, back-run}
@@ -11,7 +12,7 @@ use Rattle.commands.proofs.Told.{told_leaves}
 use Rattle.ttp_top.specs.Scripts.Promise.{WroteTrace}
 
 -- the plan of a run, from a script on
-abbrev from_script : Medl → Script → Plan
+abbrev from_script : Medl → Script → BenchPlan
 from_script medl right = ends (trace_ending medl right)
 
 -- ---- the numbers of a trace
@@ -23,7 +24,7 @@ own_numbers medl right lines t =
     ap (numbers_in medl right) t.text
     ∙ numbers_in-trace medl right t.numbers t.valid t.valid_script t.legal.count t.legal.legal
 
-wrote_trace_of : (medl : Medl) (right : Script) (before now : Output) (answer : Answer)
+wrote_trace_of : (medl : Medl) (right : Script) (before now : Output) (answer : BenchAnswer)
     → Showed ttpbench (trace_ending medl right) before now answer → WroteTraceOf medl right before now answer.kept
 wrote_trace_of medl right before now answer showed =
     let w = showed.text in
@@ -47,8 +48,8 @@ wrote_trace_of medl right before now answer showed =
       ran = showed.kept;
     }
 
-wrote_trace : (list script : List ℕ) (before now : Outside) (answer : Answer)
-    → Promise (Some (run list script)) before now answer → answer.status ≡ 0
+wrote_trace : (list script : List ℕ) (before now : Outside) (answer : BenchAnswer)
+    → BenchPromise (Some (run list script)) before now answer → answer.status ≡ 0
     → WroteTrace list script before now answer.kept
 wrote_trace list script before now answer p zero =
     let held = before.files.held in
@@ -66,13 +67,13 @@ wrote_trace list script before now answer p zero =
       are = came.are;
       text =
           wrote_trace_of came.medl came.right before.output now.output answer
-          (subst (λ (e : Ending). Showed ttpbench e before.output now.output answer) (sym is) final.2);
+          (subst (λ (e : BenchEnding). Showed ttpbench e before.output now.output answer) (sym is) final.2);
     }
 
 -- ---- right files
 
-module _ (list script : List ℕ) (before now : Outside) (answer : Answer)
-    (p : Promise (Some (run list script)) before now answer) (medl : Medl) (right : Script)
+module _ (list script : List ℕ) (before now : Outside) (answer : BenchAnswer)
+    (p : BenchPromise (Some (run list script)) before now answer) (medl : Medl) (right : Script)
     (files : AreTold list script before now medl right) where
   -- they come to the traces of their list and their script
   run_told : told_ending before.files.held (plan_of (Some (run list script))) ≡ Some (trace_ending medl right)
@@ -104,8 +105,8 @@ module _ (list script : List ℕ) (before now : Outside) (answer : Answer)
         | inr seven ↦ inr (seven, begun seven)
       ]
 
-pub run_promise : (list script : List ℕ) (before now : Outside) (answer : Answer)
-    → Promise (Some (run list script)) before now answer → RunPromise list script before now answer
+pub run_promise : (list script : List ℕ) (before now : Outside) (answer : BenchAnswer)
+    → BenchPromise (Some (run list script)) before now answer → RunPromise list script before now answer
 run_promise list script before now answer p = record {
   trace = wrote_trace list script before now answer p;
   complete = complete list script before now answer p;

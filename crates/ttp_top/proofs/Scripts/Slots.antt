@@ -4,7 +4,7 @@ use Rattle.ttp_top.proofs.Terms.{CutShort-after, Medl, Script, IsLegal, IsValid,
 use Rattle.ttp_top.proofs.Terms.{run_lines, Numbers, world, legal-none, next_row, HasDoneSlot, ClusterView}
 use Rattle.ttp_top.proofs.Terms.{ClusterStandsFor, WroteOf, CutOf, fronts, traces, HasWritten}
 use Rattle.trace_text.specs.ReportText.{report_lines}
-use Rattle.cluster_run.specs.Report.{numbers_in}
+use Rattle.cluster_run.specs.Report.{report_numbers}
 use Rattle.cluster_run.specs.Texts.{TellsNext}
 use Rattle.cluster_run.proofs.ReportTexts.{tells_next}
 use Rattle.ttp_top.proofs.Scripts.Fronts.{wrote_front, cut_in}
@@ -36,10 +36,10 @@ pub slot_written : (old new : ClusterView) → HasDoneSlot old new → (first be
 slot_written old new s first before now wrote w =
     let told = tells old new s w.numbers w.stands w.legal in
     let next = s.steps w.numbers w.stands in
-    let slot = slot_lines new.list new.script (next_row new.list new.script (numbers_in new.report) w.numbers)
-    (world new.list new.script w.numbers) (numbers_in new.report) in
+    let slot = slot_lines new.list new.script (next_row new.list new.script (report_numbers new.report) w.numbers)
+    (world new.list new.script w.numbers) (report_numbers new.report) in
     record {
-      numbers = numbers_in new.report ∷ w.numbers;
+      numbers = report_numbers new.report ∷ w.numbers;
       stands = next.stands;
       legal = next.legal (after (λ list script. IsLegal list script w.numbers) s w.legal);
       lines =
@@ -55,9 +55,9 @@ pub slot_cut : (old new : ClusterView) → HasDoneSlot old new → (first before
 slot_cut old new s first before now cut w =
     let told = tells old new s w.numbers w.stands w.legal in
     let next = s.steps w.numbers w.stands in
-    let numbers = numbers_in new.report ∷ w.numbers in
-    let slot = slot_lines new.list new.script (next_row new.list new.script (numbers_in new.report) w.numbers)
-    (world new.list new.script w.numbers) (numbers_in new.report) in
+    let numbers = report_numbers new.report ∷ w.numbers in
+    let slot = slot_lines new.list new.script (next_row new.list new.script (report_numbers new.report) w.numbers)
+    (world new.list new.script w.numbers) (report_numbers new.report) in
     let all = CutShort-after first before now (run_lines new.list new.script w.numbers) slot
     (after (λ list script. WroteLines first before (run_lines list script w.numbers)) s w.lines)
     (subst (CutShort before now) told.lines cut) in

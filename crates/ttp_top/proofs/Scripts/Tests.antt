@@ -1,14 +1,14 @@
 -- The lines of the tests: that of the hypothesis, and the one on armed nodes where a node is armed.
 use Rattle.ttp_top.proofs.Terms.{◌≡◌, ℕ, true, false, [], ◌∷◌, refl, subst, ap, sym, inl, inr, Output, WroteLines}
 use Rattle.ttp_top.proofs.Terms.{CutShort, Wrote-none, Wrote-join, CutShort-after, CutShort-more, Medl, Script}
-use Rattle.ttp_top.proofs.Terms.{keep_line, back_lines, test_lines, Says, whole_ending, alone, one, Ending, ttpbench}
-use Rattle.ttp_top.proofs.Terms.{keep_ending}
+use Rattle.ttp_top.proofs.Terms.{keep_line, back_lines, test_lines, Says, whole_ending, alone, one, BenchEnding}
+use Rattle.ttp_top.proofs.Terms.{ttpbench, keep_ending}
 use Rattle.ttp_world.specs.Hypothesis.{keeps}
 use Rattle.ttp_world.specs.Returning.{has_arm, returns}
 use Rattle.ttp_world.specs.Trace.{back_line, back_lines_if}
 
 -- the ending with the line on armed nodes alone, where a node is armed
-abbrev pub back_ending : Medl → Script → Ending
+abbrev pub back_ending : Medl → Script → BenchEnding
 back_ending list script = whole_ending 0 (one (back_lines list script))
 
 -- no node is armed

@@ -1,8 +1,8 @@
 -- A trace: the lines of a run, and then those of the tests.
 use Rattle.ttp_top.proofs.Terms.{◌≡◌, ℕ, refl, sym, subst, ◌∙◌, inl, inr, Output, WroteLines, CutShort, Wrote-join}
 use Rattle.ttp_top.proofs.Terms.{CutShort-after, Medl, Script, IsLegal, IsLegalRun, IsValid, IsValidScript, run_lines}
-use Rattle.ttp_top.proofs.Terms.{test_lines, trace_lines, Numbers, numbers_in-trace, ClusterView, Says, Shows, answer}
-use Rattle.ttp_top.proofs.Terms.{alone, ttpbench, trace_ending, keep_ending, HasWritten}
+use Rattle.ttp_top.proofs.Terms.{test_lines, trace_lines, Numbers, numbers_in-trace, ClusterView, Says, ShowsEnding}
+use Rattle.ttp_top.proofs.Terms.{answer, alone, ttpbench, trace_ending, keep_ending, HasWritten}
 use Rattle.ttp_world.specs.TraceNumbers.{numbers_in}
 use Rattle.ttp_top.specs.Calls.Answer.{HasRun, kept_after}
 use Rattle.ttp_top.proofs.Scripts.Fronts.{is_trace}
@@ -48,11 +48,11 @@ run_named list script numbers c valid valid_script legal run =
 pub trace_shown : (list : Medl) (script : Script) (a b d : Output) (c : ClusterView) (status : ℕ) → IsValid list
     → IsValidScript list script → HasWrittenAll list script a b c
     → Says ttpbench (keep_ending list script) b d (alone status)
-    → Shows ttpbench (trace_ending list script) a d (answer status (kept_after status c))
+    → ShowsEnding ttpbench (trace_ending list script) a d (answer status (kept_after status c))
 trace_shown list script a b d c status valid valid_script w (inl showed) =
     let last = test_lines list script in
     let wrote : WroteLines b d last = subst (WroteLines b d) showed.text.among showed.text.wrote in
-    subst (λ n. Shows ttpbench (trace_ending list script) a d (answer n (kept_after n c))) (sym showed.status)
+    subst (λ n. ShowsEnding ttpbench (trace_ending list script) a d (answer n (kept_after n c))) (sym showed.status)
     (inl (inl (record {
       status = refl;
       text = record {
@@ -65,7 +65,7 @@ trace_shown list script a b d c status valid valid_script w (inl showed) =
 trace_shown list script a b d c status valid valid_script w (inr stopped) =
     let last = test_lines list script in
     let cut : CutShort b d last = subst (CutShort b d) stopped.text.among stopped.text.cut in
-    subst (λ n. Shows ttpbench (trace_ending list script) a d (answer n (kept_after n c))) (sym stopped.status)
+    subst (λ n. ShowsEnding ttpbench (trace_ending list script) a d (answer n (kept_after n c))) (sym stopped.status)
     (inl (inr (record {
       status = refl;
       text = record {

@@ -3,9 +3,9 @@ use Rattle.ttp_top.proofs.Terms.{◌≡◌, ◌⊎◌, ℕ, List, [], ◌∷◌,
 use Rattle.ttp_top.proofs.Terms.{arith, HasRisen, Wrote, Lines, Medl, Script, IsValid, IsValidScript, medl_of-valid}
 use Rattle.ttp_top.proofs.Terms.{script_of-valid, Faced, faced_of, seen_of, both_came, both_told, both_ask, AllAsk}
 use Rattle.ttp_top.proofs.Terms.{end_comes, Quiet, told_shows, told_cut, both_plan, Showed, Outside, ends, Comes}
-use Rattle.ttp_top.proofs.Terms.{told_ending, AreRight, AreTold, IsAmong, Answer, Ending, Plan, ttpbench, keep_ending}
-use Rattle.ttp_top.proofs.Terms.{precision_ending, plan_of, answer_line, Promise, IsPrecision, Form, is_run, precision}
-use Rattle.ttp_top.proofs.Terms.{WroteSuch, CutSuch, TestPromise}
+use Rattle.ttp_top.proofs.Terms.{told_ending, AreRight, AreTold, IsAmong, BenchAnswer, BenchEnding, BenchPlan, ttpbench}
+use Rattle.ttp_top.proofs.Terms.{keep_ending, precision_ending, plan_of, answer_line, BenchPromise, IsPrecision, Form}
+use Rattle.ttp_top.proofs.Terms.{is_run, precision, WroteSuch, CutSuch, TestPromise}
 use Rattle.two_faced.specs.declared.faced.Faced.TheVariants as faced
 use Rattle.two_faced.proofs.Rules.{rules-hold}
 use Rattle.two_faced.proofs.SeenWithin.{runs-seen}
@@ -15,14 +15,14 @@ use Rattle.ttp_top.specs.Tests.Promise.{WroteFor, AreTestLines, KeepsPromise}
 use Rattle.ttp_top.specs.Tests.Promise.{ShowsBound, IsPrecisionLine, PrecisionPromise}
 
 -- A form whose plan asks for a list and a script, and ends with status 0 and lines of which this is so.
-module _ (such : Medl → Script → Lines → Type 0) (ending_of : Medl → Script → Ending)
+module _ (such : Medl → Script → Lines → Type 0) (ending_of : Medl → Script → BenchEnding)
     (zero : (medl : Medl) (right : Script) → (ending_of medl right).status ≡ 0)
     (among : (medl : Medl) (right : Script) (lines : Lines) → IsValid medl → IsValidScript medl right
     → IsAmong ttpbench (ending_of medl right).texts lines → such medl right lines)
     (form : Option Form) (list script : List ℕ) (other : is_run form ≡ false)
     (is : plan_of form ≡ both_plan list script (λ medl right. ends (ending_of medl right)))
-    (before now : Outside) (answer : Answer) (p : Promise form before now answer) where
-  abbrev from_script : Medl → Script → Plan
+    (before now : Outside) (answer : BenchAnswer) (p : BenchPromise form before now answer) where
+  abbrev from_script : Medl → Script → BenchPlan
   from_script medl right = ends (ending_of medl right)
 
   lines_such : (bytes script_bytes : List ℕ) (medl : Medl) (right : Script)
@@ -47,7 +47,7 @@ module _ (such : Medl → Script → Lines → Type 0) (ending_of : Medl → Scr
       let held = before.files.held in
       let final = p.ended (omega (arith, none)) in
       let came = both_came held final.0 (omega (arith, none, final.2.status)) list script from_script p.loads
-      (subst (λ (plan : Plan). Comes held plan p.loads (ends final.0)) is final.1.comes) in
+      (subst (λ (plan : BenchPlan). Comes held plan p.loads (ends final.0)) is final.1.comes) in
       let end = end_comes held came.loads (ending_of came.medl came.right) final.0 came.comes in
       record {
         bytes = came.bytes;
@@ -59,7 +59,7 @@ module _ (such : Medl → Script → Lines → Type 0) (ending_of : Medl → Scr
         are = came.are;
         text =
             wrote_such came.bytes came.script_bytes came.medl came.right came.are
-            (subst (λ (e : Ending). Showed ttpbench e before.output now.output answer) (sym end) final.2);
+            (subst (λ (e : BenchEnding). Showed ttpbench e before.output now.output answer) (sym end) final.2);
       }
 
   module _ (medl : Medl) (right : Script) (files : AreTold list script before now medl right) where
@@ -98,8 +98,8 @@ module _ (such : Medl → Script → Lines → Type 0) (ending_of : Medl → Scr
   pub test_promise : TestPromise such list script before now answer
   test_promise = record { said = wrote_for; complete = completed; cut = cut_such }
 
-pub keeps_promise : (list script : List ℕ) (before now : Outside) (answer : Answer)
-    → Promise (Some (keeps list script)) before now answer → KeepsPromise list script before now answer
+pub keeps_promise : (list script : List ℕ) (before now : Outside) (answer : BenchAnswer)
+    → BenchPromise (Some (keeps list script)) before now answer → KeepsPromise list script before now answer
 keeps_promise list script before now answer p =
     test_promise AreTestLines keep_ending (λ medl right. refl) (λ medl right lines valid valid_script same. same)
     (Some (keeps list script)) list script refl refl before now answer p
@@ -120,8 +120,8 @@ shows_bound medl right node start lines valid valid_script text is =
           run.legal.legal (omega (arith, run.legal.count));
     }
 
-pub precision_promise : (list script : List ℕ) (node : ℕ) (before now : Outside) (answer : Answer)
-    → Promise (Some (precision list script node)) before now answer
+pub precision_promise : (list script : List ℕ) (node : ℕ) (before now : Outside) (answer : BenchAnswer)
+    → BenchPromise (Some (precision list script node)) before now answer
     → PrecisionPromise list script node before now answer
 precision_promise list script node before now answer p =
     test_promise (IsPrecisionLine node) (precision_ending node) (λ medl right. refl)

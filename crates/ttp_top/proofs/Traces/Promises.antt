@@ -5,9 +5,9 @@ use Rattle.ttp_top.proofs.Terms.{Lines, lines_of, Medl, Script, IsLegalRun, IsVa
 use Rattle.ttp_top.proofs.Terms.{trace_lines-each, numbers_in-trace, medl_of-valid, script_of-valid, is_trace}
 use Rattle.ttp_top.proofs.Terms.{is_trace-numbers, trace-short, both_came, both_told, both_ask, end_comes, AllAsk}
 use Rattle.ttp_top.proofs.Terms.{Quiet, told_shows, told_cut, both_plan, trace_plan, Showed, Outside, whole_ending}
-use Rattle.ttp_top.proofs.Terms.{ends, Comes, told_ending, trace_limit, AreRight, one, those, IsAmong, Answer, Ending}
-use Rattle.ttp_top.proofs.Terms.{Plan, ttpbench, plan_of, Promise, differences, Form, is_run, verify, modes, OfTrace}
-use Rattle.ttp_top.proofs.Terms.{HasJudged, CutVerdict, AreAllTold, TextPromise}
+use Rattle.ttp_top.proofs.Terms.{ends, Comes, told_ending, trace_limit, AreRight, one, those, IsAmong, BenchAnswer}
+use Rattle.ttp_top.proofs.Terms.{BenchEnding, BenchPlan, ttpbench, plan_of, BenchPromise, differences, Form, is_run}
+use Rattle.ttp_top.proofs.Terms.{verify, modes, OfTrace, HasJudged, CutVerdict, AreAllTold, TextPromise}
 use Rattle.ttp_base.specs.Outside.{Held, untold, absent, holds, Load, Gives}
 use Rattle.ttp_world.specs.TraceNumbers.{numbers_in}
 use Rattle.ttp_base.proofs.Lines.{lines_of-concat}
@@ -21,17 +21,17 @@ use Rattle.ttp_top.proofs.Traces.Fronts.{HaveAtMost, is_trace-short, is_trace-fr
 
 -- ---- what both forms ask for, and how they end
 
-abbrev judged_ending : OfTrace → Medl → Script → List ℕ → Bool → Ending
+abbrev judged_ending : OfTrace → Medl → Script → List ℕ → Bool → BenchEnding
 judged_ending said medl right text same =
     if same then whole_ending 0 (one (said medl right text)) else whole_ending 1 (those (differences medl right text))
 
-abbrev ending_of : OfTrace → Medl → Script → List ℕ → Ending
+abbrev ending_of : OfTrace → Medl → Script → List ℕ → BenchEnding
 ending_of said medl right text = judged_ending said medl right text (is_trace medl right text)
 
-abbrev from_script : OfTrace → List ℕ → Medl → Script → Plan
+abbrev from_script : OfTrace → List ℕ → Medl → Script → BenchPlan
 from_script said trace medl right = trace_plan trace (λ text. ends (ending_of said medl right text))
 
-abbrev judged_plan : OfTrace → List ℕ → List ℕ → List ℕ → Plan
+abbrev judged_plan : OfTrace → List ℕ → List ℕ → List ℕ → BenchPlan
 judged_plan said list script trace = both_plan list script (from_script said trace)
 
 -- ---- the verdict
@@ -63,7 +63,7 @@ module _ (said : OfTrace) (medl : Medl) (right : Script) (limit : ℕ) (most : H
         ),
       )
 
-  showed-judged : (before now : Output) (answer : Answer)
+  showed-judged : (before now : Output) (answer : BenchAnswer)
       → Showed ttpbench (ending_of said medl right (take (limit + 1) text)) before now answer
       → HasJudged said medl right text before now answer.status
   showed-judged before now answer showed =
@@ -106,13 +106,13 @@ loaded_from absent limit given gives = absurd gives
 loaded_from (holds all) limit given gives = record { text = all; may = refl; front = gives }
 
 -- the load of the text before an ending
-record CameText (said : OfTrace) (held : Held) (medl : Medl) (right : Script) (ending : Ending) : Type 0 where
+record CameText (said : OfTrace) (held : Held) (medl : Medl) (right : Script) (ending : BenchEnding) : Type 0 where
   pub given : List ℕ
   pub gives : Gives held trace_limit given
   pub is : ending_of said medl right given ≡ ending
 
 text_came : (said : OfTrace) (held : List ℕ → Held) (trace : List ℕ) (medl : Medl) (right : Script)
-    (loads : List Load) (ending : Ending) → Comes held (from_script said trace medl right) loads (ends ending)
+    (loads : List Load) (ending : BenchEnding) → Comes held (from_script said trace medl right) loads (ends ending)
     → CameText said (held trace) medl right ending
 text_came said held trace medl right [] ending comes = absurd (cc)
 text_came said held trace medl right (load ∷ loads) ending comes = record {
@@ -131,14 +131,14 @@ have_at_most bytes script_bytes medl right are =
     λ numbers legal. trace-short medl right numbers valid valid_script legal.count legal.legal
 
 module _ (said : OfTrace) (form : Option Form) (list script trace : List ℕ)
-    (is : plan_of form ≡ judged_plan said list script trace) (before now : Outside) (answer : Answer)
-    (p : Promise form before now answer) where
+    (is : plan_of form ≡ judged_plan said list script trace) (before now : Outside) (answer : BenchAnswer)
+    (p : BenchPromise form before now answer) where
   judged : answer.status ≤ 1 → IsJudged said list script trace before now answer.status
   judged few =
       let held = before.files.held in
       let final = p.ended (omega (arith, few)) in
       let both = both_came held final.0 (omega (arith, few, final.2.status)) list script (from_script said trace)
-      p.loads (subst (λ (plan : Plan). Comes held plan p.loads (ends final.0)) is final.1.comes) in
+      p.loads (subst (λ (plan : BenchPlan). Comes held plan p.loads (ends final.0)) is final.1.comes) in
       let loaded = text_came said held trace both.medl both.right both.loads final.0 both.comes in
       let whole = loaded_from (held trace) trace_limit loaded.given loaded.gives in
       let ending : final.0 ≡ ending_of said both.medl both.right (take (trace_limit + 1) whole.text) =
@@ -156,7 +156,7 @@ module _ (said : OfTrace) (form : Option Form) (list script trace : List ℕ)
         are = both.are;
         judged =
             showed-judged said both.medl both.right trace_limit most whole.text before.output now.output answer
-            (subst (λ (e : Ending). Showed ttpbench e before.output now.output answer) ending final.2);
+            (subst (λ (e : BenchEnding). Showed ttpbench e before.output now.output answer) ending final.2);
       }
 
   -- files that are told
@@ -204,8 +204,9 @@ module _ (said : OfTrace) (form : Option Form) (list script trace : List ℕ)
     cut = λ medl right text files six. cut medl right text files six;
   }
 
-pub verify_promise : (list script trace : List ℕ) (before now : Outside) (answer : Answer)
-    → Promise (Some (verify list script trace)) before now answer → VerifyPromise list script trace before now answer
+pub verify_promise : (list script trace : List ℕ) (before now : Outside) (answer : BenchAnswer)
+    → BenchPromise (Some (verify list script trace)) before now answer
+    → VerifyPromise list script trace before now answer
 verify_promise list script trace before now answer p =
     text_promise said_same (Some (verify list script trace)) list script trace refl before now answer p refl
 
@@ -233,8 +234,8 @@ shows_one medl right text status lines valid valid_script zero (inl same) start 
 shows_one medl right text status lines valid valid_script zero (inr differs) start kept slot since within =
     absurd (omega (arith, zero, differs.0))
 
-pub modes_promise : (list script trace : List ℕ) (before now : Outside) (answer : Answer)
-    → Promise (Some (modes list script trace)) before now answer → ModesPromise list script trace before now answer
+pub modes_promise : (list script trace : List ℕ) (before now : Outside) (answer : BenchAnswer)
+    → BenchPromise (Some (modes list script trace)) before now answer → ModesPromise list script trace before now answer
 modes_promise list script trace before now answer p = record {
   text = text_promise said_modes (Some (modes list script trace)) list script trace refl before now answer p refl;
   one_mode = λ zero was.

@@ -11,8 +11,8 @@ use Rattle.ttp_world.specs.TraceNumbers.{numbers_in}
 use Rattle.ttp_world.specs.World.{Numbers}
 use Rattle.script_gen.specs.Generator.{generated}
 use Rattle.cluster_run.specs.Standing.{ClusterView, ClusterStandsFor}
-use Rattle.commands.specs.Plan.{Ending as EndingOf, Plan as PlanOf}
-use Rattle.commands.specs.Texts.{Program, those, Answer as AnswerOf, WroteAmong, CutAmong}
+use Rattle.commands.specs.Plan.{Ending, Plan}
+use Rattle.commands.specs.Texts.{Program, those, Answer, WroteAmong, CutAmong}
 use Rattle.ttp_top.specs.Calls.Texts.{Sets, traces, fronts, differences, precisions, samples, IsOf}
 
 -- a cluster that has done all slots of a valid script for a valid list, and stands for these message numbers
@@ -50,16 +50,16 @@ abbrev pub ttpbench : Program
 ttpbench = record { Sets = Sets; Kept = ClusterView; IsOf = IsOf; Beside = IsBeside }
 
 -- a status, and the cluster that is kept
-abbrev pub Answer : Type 0
-Answer = AnswerOf ClusterView
+abbrev pub BenchAnswer : Type 0
+BenchAnswer = Answer ClusterView
 
 -- how a command of it may end
-abbrev pub Ending : Type 0
-Ending = EndingOf Sets
+abbrev pub BenchEnding : Type 0
+BenchEnding = Ending Sets
 
 -- how one goes on
-abbrev pub Plan : Type 0
-Plan = PlanOf Sets
+abbrev pub BenchPlan : Type 0
+BenchPlan = Plan Sets
 
 -- a text of a set was written, each of its lines as one piece, or a fault of the sink cut one short
 abbrev pub WroteOf : Sets → Output → Output → Type 0

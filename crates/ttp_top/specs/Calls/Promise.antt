@@ -2,15 +2,15 @@
 use Rattle.std.specs.Prelude.{◌≡◌, ◌≢◌, ◌==◌, ◌&&◌, false, true, [], Option, None, is_some}
 use Rattle.ttp_base.specs.Outside.{Wrote}
 use Rattle.commands.specs.Plan.{Outside}
-use Rattle.commands.specs.Promise.{Promise as CallPromise}
-use Rattle.ttp_top.specs.Calls.Answer.{Answer, ttpbench}
+use Rattle.commands.specs.Promise.{Promise}
+use Rattle.ttp_top.specs.Calls.Answer.{BenchAnswer, ttpbench}
 use Rattle.ttp_top.specs.Calls.Forms.{plan_of}
 use Rattle.ttp_top.specs.Calls.Words.{Form, is_run, takes_trace, runs_cluster}
 
 -- what a call of this program promises, by its form, and by what the outside was before it and is now
-pub record Promise (form : Option Form) (before now : Outside) (answer : Answer) : Type 0 where
+pub record BenchPromise (form : Option Form) (before now : Outside) (answer : BenchAnswer) : Type 0 where
   -- What every call promises that follows a plan: what it asked for, how it ended and what it wrote.
-  pub call : CallPromise ttpbench (plan_of form) before now answer
+  pub call : Promise ttpbench (plan_of form) before now answer
   pub open call use *
   -- With status 7 what is written may be some first lines of what was due for `run`, and for every other form it is
   -- nothing.

@@ -7,8 +7,8 @@ use Rattle.medl_text.specs.Schedule.{slot_table}
 use Rattle.commands.specs.Plan.{Outside}
 use Rattle.commands.specs.Read.{list_limit}
 use Rattle.commands.specs.Right.{MayBe}
-use Rattle.ttp_top.specs.Calls.Answer.{Answer}
-use Rattle.ttp_top.specs.Samples.Promise.{IsTold}
+use Rattle.ttp_top.specs.Calls.Answer.{BenchAnswer}
+use Rattle.ttp_top.specs.Samples.Promise.{HoldsRightList}
 
 -- the slot table was written of a list that the file of this name may be
 pub record WroteTable (list : List ℕ) (before now : Outside) : Type 0 where
@@ -20,13 +20,13 @@ pub record WroteTable (list : List ℕ) (before now : Outside) : Type 0 where
   pub wrote : WroteLines before.output now.output (slot_table medl)
 
 -- what `schedule` promises in its own words
-pub record SchedulePromise (list : List ℕ) (before now : Outside) (answer : Answer) : Type 0 where
+pub record SchedulePromise (list : List ℕ) (before now : Outside) (answer : BenchAnswer) : Type 0 where
   -- Status 0 says that the slot table of the list was written.
   pub table : answer.status ≡ 0 → WroteTable list before now
   -- A right list gives it and status 0, unless a count rose or memory was refused: then nothing was written.
-  pub complete : (medl : Medl) → IsTold list before now medl → ¬ HasRisen before.output.faults now.output.faults
+  pub complete : (medl : Medl) → HoldsRightList list before now medl → ¬ HasRisen before.output.faults now.output.faults
       → ((answer.status ≡ 0) × WroteLines before.output now.output (slot_table medl))
       ⊎ ((answer.status ≡ 7) × Wrote before.output now.output [])
   -- With status 6 it was cut short.
-  pub cut : (medl : Medl) → IsTold list before now medl → answer.status ≡ 6
+  pub cut : (medl : Medl) → HoldsRightList list before now medl → answer.status ≡ 6
       → CutShort before.output now.output (slot_table medl)

@@ -10,7 +10,7 @@ use Rattle.host_port.specs.declared.report.NodeLine.{NodeLine}
 use Rattle.host_port.specs.declared.report.SlotReport.{SlotReport}
 use Rattle.cluster_run.specs.Standing.{ClusterView, ClusterStandsFor}
 use Rattle.ttp_top.specs.declared.totals.Totals.{Totals}
-use Rattle.ttp_top.specs.Samples.Totals.{with_slot, totals_of}
+use Rattle.ttp_top.specs.Samples.Totals.{totals_with_slot, totals_of}
 
 -- the states that a report shows
 abbrev pub states_in : List NodeLine → List NodeState
@@ -19,10 +19,10 @@ states_in nodes = map (λ line. line.state) nodes
 -- with the slot of a report
 abbrev pub with_report : Totals → SlotReport → Totals
 with_report totals report =
-    with_slot totals (states_in report.nodes) (length report.writes) (length report.reads)
+    totals_with_slot totals (states_in report.nodes) (length report.writes) (length report.reads)
 
 -- the sums fit in 64 bits
-pub record HasRoom (totals : Totals) (report : SlotReport) : Type 0 where
+pub record SumsFit (totals : Totals) (report : SlotReport) : Type 0 where
   pub sent : totals.sent + length report.nodes < 2 ^ 64
   pub left : totals.left + length report.nodes < 2 ^ 64
   pub writes : totals.writes + length report.writes < 2 ^ 64

@@ -11,7 +11,7 @@ use Rattle.cluster_run.specs.Standing.{ClusterView}
 use Rattle.commands.specs.Plan.{Outside}
 use Rattle.commands.specs.Read.{list_limit}
 use Rattle.commands.specs.Right.{MayBe}
-use Rattle.ttp_top.specs.Calls.Answer.{Answer, HasRunLegally}
+use Rattle.ttp_top.specs.Calls.Answer.{BenchAnswer, HasRunLegally}
 use Rattle.ttp_top.specs.Samples.Lines.{sample_lines}
 
 -- The four lines were written, and they are the same for all legal numbers of the generated run. The cluster that ran
@@ -35,7 +35,7 @@ pub record WroteSample (list : List ℕ) (slots number : ℕ) (before now : Outs
     pub text : WroteSampleOf medl slots number before.output now.output kept
 
 -- the file of this name holds a right list, and the count of its name did not rise
-pub record IsTold (list : List ℕ) (before now : Outside) (medl : Medl) : Type 0 where
+pub record HoldsRightList (list : List ℕ) (before now : Outside) (medl : Medl) : Type 0 where
   pub bytes : List ℕ
   pub list_file : before.files.held list ≡ holds bytes
   pub size : length bytes ≤ list_limit
@@ -43,10 +43,10 @@ pub record IsTold (list : List ℕ) (before now : Outside) (medl : Medl) : Type 
   pub quiet : ¬ HasRisen (before.files.faults list) (now.files.faults list)
 
 -- what `sample` promises in its own words
-pub record SamplePromise (list : List ℕ) (slots number : ℕ) (before now : Outside) (answer : Answer) : Type 0 where
+pub record SamplePromise (list : List ℕ) (slots number : ℕ) (before now : Outside) (answer : BenchAnswer) : Type 0 where
   -- Status 0 says that the lines on the generated run for the list were written.
   pub sample : answer.status ≡ 0 → WroteSample list slots number before now answer.kept
   -- A right list gives them and status 0, unless a count rose or memory was refused: then nothing was written.
-  pub complete : (medl : Medl) → IsTold list before now medl → ¬ HasRisen before.output.faults now.output.faults
+  pub complete : (medl : Medl) → HoldsRightList list before now medl → ¬ HasRisen before.output.faults now.output.faults
       → ((answer.status ≡ 0) × WroteSampleOf medl slots number before.output now.output answer.kept)
       ⊎ ((answer.status ≡ 7) × Wrote before.output now.output [])

@@ -41,8 +41,8 @@ abbrev pub no_totals : Totals
 no_totals = record { sent = 0; left = 0; members = []; writes = 0; reads = 0 }
 
 -- with a slot more, of which the nodes' lines show these states, and which has so many lines of hosts
-abbrev pub with_slot : Totals → List NodeState → ℕ → ℕ → Totals
-with_slot totals states writes reads = record {
+abbrev pub totals_with_slot : Totals → List NodeState → ℕ → ℕ → Totals
+totals_with_slot totals states writes reads = record {
   sent = totals.sent + count_by shows_sent states;
   left = totals.left + count_by shows_left states;
   members = lowest_members states;
@@ -54,5 +54,5 @@ with_slot totals states writes reads = record {
 abbrev pub totals_of : Medl → Script → History → Totals
 totals_of list script [] = no_totals
 totals_of list script (row ∷ history) =
-    with_slot (totals_of list script history) (states_after list script (row ∷ history))
+    totals_with_slot (totals_of list script history) (states_after list script (row ∷ history))
     (length (writes_in script (length history))) (length (reads_in script (length history)))

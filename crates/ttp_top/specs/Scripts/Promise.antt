@@ -18,7 +18,7 @@ use Rattle.cluster_run.specs.Standing.{ClusterView}
 use Rattle.theorems.specs.KeptRun.{IsKeptRun, IsBackRun}
 use Rattle.commands.specs.Plan.{Outside}
 use Rattle.commands.specs.Right.{MayBe, AreRight, AreTold}
-use Rattle.ttp_top.specs.Calls.Answer.{Answer, HasRun, WroteOf, CutOf}
+use Rattle.ttp_top.specs.Calls.Answer.{BenchAnswer, HasRun, WroteOf, CutOf}
 use Rattle.ttp_top.specs.Calls.Texts.{traces, fronts}
 
 -- A text was written that is the trace of the world's run for the numbers that its own lines name, and they are legal;
@@ -51,7 +51,7 @@ pub record WroteTrace (list script : List ℕ) (before now : Outside) (kept : Op
   pub text : WroteTraceOf medl right before.output now.output kept
 
 -- what `run` promises in its own words
-pub record RunPromise (list script : List ℕ) (before now : Outside) (answer : Answer) : Type 0 where
+pub record RunPromise (list script : List ℕ) (before now : Outside) (answer : BenchAnswer) : Type 0 where
   -- Status 0 says that a trace of the world's run for the list and the script was written.
   pub trace : answer.status ≡ 0 → WroteTrace list script before now answer.kept
   -- A right list and a right script give one and status 0, unless a count rose or memory was refused: then some first

@@ -14,7 +14,7 @@ use Rattle.theorems.specs.FacedRun.{IsFacedRun}
 use Rattle.theorems.specs.SomeRun.{SomeRun}
 use Rattle.commands.specs.Plan.{Outside}
 use Rattle.commands.specs.Right.{MayBe, AreRight, AreTold}
-use Rattle.ttp_top.specs.Calls.Answer.{Answer}
+use Rattle.ttp_top.specs.Calls.Answer.{BenchAnswer}
 use Rattle.ttp_top.specs.Calls.Precision.{faced_line, precision_line}
 
 -- lines of which this is so were written
@@ -43,7 +43,7 @@ pub record WroteFor (such : Medl → Script → Lines → Type 0) (list script :
 
 -- what a command promises that writes the lines of a test
 pub record TestPromise (such : Medl → Script → Lines → Type 0) (list script : List ℕ) (before now : Outside)
-    (answer : Answer) : Type 0 where
+    (answer : BenchAnswer) : Type 0 where
   -- Status 0 says that the lines of the test were written.
   pub said : answer.status ≡ 0 → WroteFor such list script before now
   -- A right list and a right script give them and status 0, unless a count rose or memory was refused: then nothing was
@@ -61,7 +61,7 @@ abbrev pub AreTestLines : Medl → Script → Lines → Type 0
 AreTestLines medl right lines = lines ≡ test_lines medl right
 
 -- what `keeps` promises in its own words
-abbrev pub KeepsPromise : (list script : List ℕ) (before now : Outside) (answer : Answer) → Type 0
+abbrev pub KeepsPromise : (list script : List ℕ) (before now : Outside) (answer : BenchAnswer) → Type 0
 KeepsPromise list script before now answer = TestPromise AreTestLines list script before now answer
 
 -- where a node may be two-faced, the line shows the start, the bound, and a difference of clocks that is within it
@@ -82,6 +82,6 @@ pub record IsPrecisionLine (node : ℕ) (medl : Medl) (right : Script) (lines : 
       → IsLegalRun medl right numbers → IsFacedRun medl right start (world medl right numbers)
 
 -- what `precision` promises in its own words
-abbrev pub PrecisionPromise : (list script : List ℕ) (node : ℕ) (before now : Outside) (answer : Answer) → Type 0
+abbrev pub PrecisionPromise : (list script : List ℕ) (node : ℕ) (before now : Outside) (answer : BenchAnswer) → Type 0
 PrecisionPromise list script node before now answer =
     TestPromise (IsPrecisionLine node) list script before now answer

@@ -13,7 +13,7 @@ use Rattle.mode_change.specs.ModeText.{mode_lines}
 use Rattle.theorems.specs.ModeText.{ShowsOneMode}
 use Rattle.commands.specs.Plan.{Outside}
 use Rattle.commands.specs.Right.{MayBe, AreRight, AreTold}
-use Rattle.ttp_top.specs.Calls.Answer.{Answer}
+use Rattle.ttp_top.specs.Calls.Answer.{BenchAnswer}
 use Rattle.ttp_top.specs.Calls.Differences.{same_line, IsDifference}
 
 -- what a command writes for a text that is a trace of a list and a script
@@ -71,7 +71,8 @@ pub record AreAllTold (list script trace : List ℕ) (before now : Outside) (med
   pub trace_quiet : ¬ HasRisen (before.files.faults trace) (now.files.faults trace)
 
 -- what a command promises that judges a text
-pub record TextPromise (said : OfTrace) (list script trace : List ℕ) (before now : Outside) (answer : Answer) : Type 0
+pub record TextPromise (said : OfTrace) (list script trace : List ℕ) (before now : Outside)
+    (answer : BenchAnswer) : Type 0
   where
     -- Status 0 says that the text is a trace, and status 1 that it is none, and what belongs to that was written.
     pub judged : answer.status ≤ 1 → IsJudged said list script trace before now answer.status
@@ -87,7 +88,7 @@ pub record TextPromise (said : OfTrace) (list script trace : List ℕ) (before n
         → CutVerdict said medl right text before.output now.output
 
 -- what `verify` promises in its own words
-abbrev pub VerifyPromise : (list script trace : List ℕ) (before now : Outside) (answer : Answer) → Type 0
+abbrev pub VerifyPromise : (list script trace : List ℕ) (before now : Outside) (answer : BenchAnswer) → Type 0
 VerifyPromise list script trace before now answer = TextPromise said_same list script trace before now answer
 
 -- a text of modes of a script that keeps the single-fault hypothesis shows one mode for all correct nodes after each slot
@@ -98,7 +99,7 @@ ShowOneMode medl right lines =
     → ShowsOneMode medl right lines slot
 
 -- what `modes` promises in its own words
-pub record ModesPromise (list script trace : List ℕ) (before now : Outside) (answer : Answer) : Type 0 where
+pub record ModesPromise (list script trace : List ℕ) (before now : Outside) (answer : BenchAnswer) : Type 0 where
   pub text : TextPromise said_modes list script trace before now answer
   pub open text use *
   -- what was written on a trace with status 0 shows one mode

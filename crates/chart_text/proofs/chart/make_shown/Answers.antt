@@ -1,4 +1,5 @@
-use Rattle.chart_text.proofs.Words.{◌+◌, ◌-◌, ◌++◌, codes, decimal, get_or, length, place, newline, marked_slots}
+use Rattle.chart_text.proofs.Words.{◌+◌, ◌-◌, ◌++◌, codes, decimal, get_or, length, place_attributes, newline}
+use Rattle.chart_text.proofs.Words.{marked_slots}
 use Rattle.chart_text.specs.Chart.{hidden_text}
 use Rattle.chart_text.proofs.Joined.{shown_parts}
 use Rattle.chart_text.proofs.chart.make_shown.Goals as goal
@@ -25,7 +26,7 @@ returns c =
       c.marked_slot-first.ensures,
       c.requires.many,
     )
-    (shown_parts (codes "<text" ++ place 12 20 ++ codes ">") (decimal c.args.many) (codes " faults, ")
+    (shown_parts (codes "<text" ++ place_attributes 12 20 ++ codes ">") (decimal c.args.many) (codes " faults, ")
     (decimal c.args.frame.size.nodes) (codes " nodes, ") (decimal c.args.frame.size.slots) (codes " slots, shown: ")
     (decimal (length shown)) (codes " of them, ") (decimal (get_or shown 0 0)) (codes " to ")
     (decimal (get_or shown (length shown - 1) 0)) (hidden_text c.args.hidden) (codes "</text>") newline)

@@ -1,4 +1,4 @@
-use Rattle.chart_text.proofs.Words.{◌+◌, ◌++◌, codes, decimal, place}
+use Rattle.chart_text.proofs.Words.{◌+◌, ◌++◌, codes, decimal, place_attributes}
 use Rattle.chart_text.specs.Column.{hurt_shown}
 use Rattle.chart_text.proofs.Joined.{wide_cell_parts}
 use Rattle.chart_text.proofs.column.make_hurt.Goals as goal
@@ -21,4 +21,5 @@ returns c =
     )
     (wide_cell_parts (codes "none")
     (codes "slot " ++ decimal c.args.slot ++ codes " most hurt by one fault: " ++ decimal c.args.most)
-    (place c.args.at.x c.args.at.y) (place (c.args.at.x + 9) (c.args.at.y + 13)) (hurt_shown c.args.most))
+    (place_attributes c.args.at.x c.args.at.y) (place_attributes (c.args.at.x + 9) (c.args.at.y + 13))
+    (hurt_shown c.args.most))

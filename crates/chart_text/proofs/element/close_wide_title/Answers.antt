@@ -1,4 +1,4 @@
-use Rattle.chart_text.proofs.Words.{◌+◌, codes, place}
+use Rattle.chart_text.proofs.Words.{◌+◌, codes, place_attributes}
 use Rattle.picture_text.proofs.Joined.{between_parts}
 use Rattle.chart_text.proofs.element.close_wide_title.Goals as goal
 
@@ -11,5 +11,6 @@ returns-clause-text c =
       c.put_place.ensures.text,
       c.put_text.ensures,
     )
-    (between_parts c.args.line.now (codes "</title><rect") (place c.args.at.x c.args.at.y)
-    (codes " width=\"19\" height=\"17\"/>") (codes "<text") (place (c.args.at.x + 9) (c.args.at.y + 13)) (codes ">"))
+    (between_parts c.args.line.now (codes "</title><rect") (place_attributes c.args.at.x c.args.at.y)
+    (codes " width=\"19\" height=\"17\"/>") (codes "<text") (place_attributes (c.args.at.x + 9) (c.args.at.y + 13))
+    (codes ">"))

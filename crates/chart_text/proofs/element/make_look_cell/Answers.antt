@@ -1,4 +1,4 @@
-use Rattle.chart_text.proofs.Words.{◌+◌, place}
+use Rattle.chart_text.proofs.Words.{◌+◌, place_attributes}
 use Rattle.chart_text.specs.Looks.{look_text, look_letter}
 use Rattle.chart_text.proofs.Joined.{wide_cell_parts}
 use Rattle.chart_text.proofs.element.make_look_cell.Goals as goal
@@ -17,5 +17,5 @@ returns c =
       c.look_text.ensures.text,
       c.open_cell.ensures,
     )
-    (wide_cell_parts (look_text c.args.look) (look_text c.args.look) (place c.args.at.x c.args.at.y)
-    (place (c.args.at.x + 9) (c.args.at.y + 13)) (look_letter c.args.look))
+    (wide_cell_parts (look_text c.args.look) (look_text c.args.look) (place_attributes c.args.at.x c.args.at.y)
+    (place_attributes (c.args.at.x + 9) (c.args.at.y + 13)) (look_letter c.args.look))

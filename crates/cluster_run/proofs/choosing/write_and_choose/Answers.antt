@@ -1,6 +1,6 @@
 use Rattle.cluster_run.proofs.Words.{◌≡◌, ◌<◌, ◌≤◌, [], length, All, get_or, None, sym, ap, subst, ◌∙◌, arith}
 use Rattle.cluster_run.proofs.Words.{filter_map, with_items_is, EVENT_LIMIT, write_at, writes_in, next_slot, host_at}
-use Rattle.cluster_run.proofs.Words.{MayLend, WritesBytes, after_writes, write_lines}
+use Rattle.cluster_run.proofs.Words.{MayLend, WritesBytes, after_writes, host_write_lines}
 use Rattle.cluster_run.proofs.Changes.{kept_items}
 use Rattle.cluster_run.proofs.Sends.{few_writes, have_chosen, lines_shown, may_fetch_all, may_lend, may_settle}
 use Rattle.cluster_run.proofs.Sends.{may_write_all, more_bytes}
@@ -71,7 +71,7 @@ returns g c =
     record {
       count = ap length after ∙ c.settle_fetchers.ensures.ends_count ∙ many;
       bytes = bytes;
-      lines_are = wrote.written.lines_are ∙ (λ i. write_lines (lent_ends i) [] (c.requires.places i))
+      lines_are = wrote.written.lines_are ∙ (λ i. host_write_lines (lent_ends i) [] (c.requires.places i))
           ∙ lines_shown may.ends_count may.begun;
       chooses = λ numbers begun.
           let s = next_slot at.list.now at.script.now numbers in

@@ -1,5 +1,5 @@
 use Rattle.cluster_run.proofs.Words.{◌≡◌, ◌<◌, length, get_or, None, subst, sym, ap, ◌∙◌, arith, plan_at, settled}
-use Rattle.cluster_run.proofs.Words.{IsSettled, HostState, SettlesFetch, at_any, payload_few, choice_of}
+use Rattle.cluster_run.proofs.Words.{IsReaderSettled, HostState, SettlesFetch, at_any, payload_few, choice_of}
 use Rattle.cluster_run.proofs.Changes.{both_more, changed_more}
 use Rattle.cluster_run.proofs.Sends.{plan_there}
 use Rattle.cluster_run.proofs.sending.settle_fetchers.Goals as goal
@@ -43,7 +43,7 @@ loop-k-preserved c =
           (subst (λ f. SettlesFetch (plan_at c.args.list.now k).payload f c.index-ends-k.result c.settle_one.new.end
           c.index-chosen-k.result c.settle_one.new.chosen) fetcher
           (record {
-            whole = subst (λ (e : HostState). IsSettled e c.take-fetcher.result) end c.settle_one.ensures.whole;
+            whole = subst (λ (e : HostState). IsReaderSettled e c.take-fetcher.result) end c.settle_one.ensures.whole;
             settled_is = c.settle_one.ensures.settled ∙ ap (λ e. settled e c.take-fetcher.result) end;
             choice_is = c.settle_one.ensures.chosen
                 ∙ (λ t. choice_of c.take-fetcher.result (sym plan t).payload (sym c.index-chosen-k.is t));

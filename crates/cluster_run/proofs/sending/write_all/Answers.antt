@@ -1,7 +1,7 @@
 use Rattle.cluster_run.proofs.Words.{◌≡◌, ◌∷◌, ◌++◌, [], take, set, length, get_or, Some, None, sym, ap, ◌∙◌, subst}
 use Rattle.cluster_run.proofs.Words.{arith, All, option_map, vec_len, vec_capacity, filter_map, with_items_is}
 use Rattle.cluster_run.proofs.Words.{length-set, All-push, write_at, HostState, written, Takes, HasRoom}
-use Rattle.cluster_run.proofs.Words.{words_of_payload, host_at, WritesBytes, write_line, at_any, host_write}
+use Rattle.cluster_run.proofs.Words.{words_of_payload, host_at, WritesBytes, host_write_line, at_any, host_write}
 use Rattle.cluster_run.proofs.Words.{within_list}
 use Rattle.cluster_run.proofs.Sends.{written_more, takes_after, room_after, takes-some, taken_some, taken_none}
 use Rattle.cluster_run.proofs.Sends.{taken_room, written_along}
@@ -62,7 +62,7 @@ loop-place-preserved g c =
                 ∙ w.as_mut_slice.ensures.len) ∙ w.write_one.ensures.ends
                 ∙ (λ j. set (value j) x.host (written (host_at (value j) x.host) (words_of_payload x.payload))))
                 (ap (λ v. v.items) w.lines-is ∙ w.push_reserved.ensures.items
-                ∙ ap (λ l. lines ++ l ∷ []) (w.write_one.ensures.line ∙ ap (λ xs. write_line xs x.host 0) value))
+                ∙ ap (λ l. lines ++ l ∷ []) (w.write_one.ensures.line ∙ ap (λ xs. host_write_line xs x.host 0) value))
                 (written_more old ends (filter_map at (take i places)) lines x so
                 (within_list (λ e. Takes e (length x.payload)) None ends x.host (λ none. none) there)
                 (takes-some (host_at ends x.host) (length x.payload) there));

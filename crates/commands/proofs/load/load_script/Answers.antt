@@ -1,6 +1,6 @@
 use Rattle.std.proofs.Common.{◌∙◌, inl, inr, rules}
 use Rattle.std.specs.Prelude.{codes}
-use Rattle.commands.specs.Faults.{fault_line}
+use Rattle.commands.specs.Faults.{file_fault_line}
 use Rattle.commands.proofs.Loads.{same_said}
 use Rattle.commands.proofs.load.load_script.Goals as goal
 
@@ -13,7 +13,8 @@ returns-in-Err-Told-clause-err g c =
       fault = c.in-Err-Told.fault;
       wrong = rw (c.as_slice.ensures.value, c.in-Err-Told.field-0-is) at c.in-Err-Told.ensures.err;
       said =
-          same_said 4 _ (fault_line (codes "script") c.in-Err-Told.fault) _ _ _ (c.bytes.ensures ∙ c.fault_line.ensures)
+          same_said 4 _ (file_fault_line (codes "script") c.in-Err-Told.fault) _ _ _
+          (c.bytes.ensures ∙ c.file_fault_line.ensures)
           c.say.ensures;
     })
 

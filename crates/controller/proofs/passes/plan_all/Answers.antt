@@ -1,6 +1,6 @@
 use Rattle.controller.proofs.Words.{◌≡◌, ℕ, length, get_or, sym, subst, arith, flat_map, below, Incidents}
-use Rattle.controller.proofs.Words.{nothing_chosen, slot_after, frames_of, Chosen, Carries, IsPayloadFor, SendsOne}
-use Rattle.controller.proofs.Words.{IsIncidentsOf}
+use Rattle.controller.proofs.Words.{nothing_chosen, slot_after, frames_of, Chosen, CarriesFrames, IsPayloadFor}
+use Rattle.controller.proofs.Words.{SendsOne, IsIncidentsOf}
 use Rattle.std.proofs.lemmas.List.{get_or_read}
 use Rattle.controller.proofs.InSlot.{AreSent-none, AreSent-more, AreSent-slot, AreSent-near}
 use Rattle.controller.proofs.Near.{planned-controller}
@@ -61,5 +61,5 @@ pub returns-clause-carries : goal.returns-clause-carries
 returns-clause-carries c history long begun =
     let s = slot_after c.args.list.now c.args.script.now history in
     let all : c.loop-k.k ≡ length c.args.list.now.slots = omega (arith, c.requires.nodes) in
-    subst (λ (n : ℕ). Carries s (flat_map (frames_of s c.args.chosen.now) (below n)) c.loop-k.medium) all
+    subst (λ (n : ℕ). CarriesFrames s (flat_map (frames_of s c.args.chosen.now) (below n)) c.loop-k.medium) all
     (c.loop-k.invariant.carries history long begun)

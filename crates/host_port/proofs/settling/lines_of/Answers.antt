@@ -15,7 +15,7 @@ next_pair-requires c =
     let from = get_or calls i Status in
     let queues = map into_iter_items c.loop-source.queues.items in
     let here = get_or_default calls i Status from c.loop-source-test.true in
-    rw c.place_of.ensures
+    rw c.source_place.ensures
     (next_some calls i from queues c.loop-source-test.true here c.loop-source.invariant.lined.queued)
 
 pub loop-source-preserved : goal.loop-source-preserved
@@ -32,8 +32,8 @@ loop-source-preserved c =
           let line : ReadLine = record { host = c.args.host; source = from; pair = w.in-Some.pair } in
           let lined =
           lined_more {whole = whole} {before = before} {after = after} line c.loop-source.invariant.lined
-          c.loop-source-test.true here refl (rw c.place_of.ensures at w.in-Some.ensures.first)
-          (λ other apart. w.in-Some.ensures.others other (λ same. apart (same ∙ c.place_of.ensures))) in
+          c.loop-source-test.true here refl (rw c.source_place.ensures at w.in-Some.ensures.first)
+          (λ other apart. w.in-Some.ensures.others other (λ same. apart (same ∙ c.source_place.ensures))) in
           record {
             lined = rw (w.lines-is, w.push_reserved.ensures.items) lined;
             room = omega (arith, ap vec_len w.lines-is, w.push_reserved.ensures.len);

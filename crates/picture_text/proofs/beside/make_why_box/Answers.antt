@@ -1,4 +1,4 @@
-use Rattle.picture_text.proofs.Words.{◌+◌, ◌*◌, length, codes, newline, word_text, place}
+use Rattle.picture_text.proofs.Words.{◌+◌, ◌*◌, length, codes, newline, word_text, place_attributes}
 use Rattle.std.proofs.Common.{decimal}
 use Rattle.picture_text.proofs.Joined.{element_parts}
 use Rattle.picture_text.proofs.beside.make_why_box.Goals as goal
@@ -14,5 +14,5 @@ returns c =
       c.put_text.ensures,
       c.clear.ensures,
     )
-    (element_parts (codes "<rect class=\"why\"") (place c.args.x c.args.y) (codes " width=\"")
+    (element_parts (codes "<rect class=\"why\"") (place_attributes c.args.x c.args.y) (codes " width=\"")
     (decimal (7 * length (word_text c.args.word) + 6)) (codes "\"") (codes " height=\"17\"/>") newline)

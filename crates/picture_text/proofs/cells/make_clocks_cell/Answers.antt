@@ -1,4 +1,4 @@
-use Rattle.picture_text.proofs.Words.{◌+◌, ◌++◌, codes, apart_text, apart_shown, place}
+use Rattle.picture_text.proofs.Words.{◌+◌, ◌++◌, codes, apart_text, apart_shown, place_attributes}
 use Rattle.std.proofs.Common.{decimal}
 use Rattle.shown_slot.specs.Nodes.{clock_range}
 use Rattle.picture_text.proofs.Joined.{cell_parts}
@@ -23,5 +23,5 @@ returns c =
     )
     (cell_parts (codes "none")
     (codes "slot " ++ decimal c.args.slot ++ codes " clocks apart " ++ apart_text (clock_range c.args.shown.now.nodes))
-    (place c.args.at.x c.args.at.y) (place (c.args.at.x + 8) (c.args.at.y + 13))
+    (place_attributes c.args.at.x c.args.at.y) (place_attributes (c.args.at.x + 8) (c.args.at.y + 13))
     (apart_shown (clock_range c.args.shown.now.nodes)))

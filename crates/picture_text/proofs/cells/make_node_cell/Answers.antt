@@ -1,4 +1,4 @@
-use Rattle.picture_text.proofs.Words.{◌+◌, node_class, place, letter, node_text}
+use Rattle.picture_text.proofs.Words.{◌+◌, node_class, place_attributes, letter, node_text}
 use Rattle.picture_text.proofs.Joined.{cell_parts}
 use Rattle.picture_text.proofs.cells.make_node_cell.Goals as goal
 
@@ -15,5 +15,5 @@ returns c =
       c.open_cell.ensures,
     )
     (cell_parts (node_class c.args.node.now c.args.most)
-    (node_text c.args.head.now c.args.slot c.args.number c.args.node.now) (place c.args.at.x c.args.at.y)
-    (place (c.args.at.x + 8) (c.args.at.y + 13)) (letter c.args.node.now.word))
+    (node_text c.args.head.now c.args.slot c.args.number c.args.node.now) (place_attributes c.args.at.x c.args.at.y)
+    (place_attributes (c.args.at.x + 8) (c.args.at.y + 13)) (letter c.args.node.now.word))

@@ -1,4 +1,4 @@
-use Rattle.picture_text.proofs.Words.{◌+◌, place}
+use Rattle.picture_text.proofs.Words.{◌+◌, place_attributes}
 use Rattle.picture_text.proofs.Joined.{cell_parts}
 use Rattle.picture_text.proofs.element.make_cell.Goals as goal
 
@@ -13,5 +13,5 @@ returns c =
       c.put_text.ensures,
       c.open_cell.ensures,
     )
-    (cell_parts c.args.class.now c.args.title.now (place c.args.at.x c.args.at.y)
-    (place (c.args.at.x + 8) (c.args.at.y + 13)) c.args.shown.now)
+    (cell_parts c.args.class.now c.args.title.now (place_attributes c.args.at.x c.args.at.y)
+    (place_attributes (c.args.at.x + 8) (c.args.at.y + 13)) c.args.shown.now)

@@ -1,11 +1,12 @@
-use Rattle.picture_text.proofs.Words.{◌∙◌, ap, List, ℕ, ◌+◌, ◌++◌, codes, members_title, place, count_of, NodeShown}
+use Rattle.picture_text.proofs.Words.{◌∙◌, ap, List, ℕ, ◌+◌, ◌++◌, codes, members_title, place_attributes, count_of}
+use Rattle.picture_text.proofs.Words.{NodeShown}
 use Rattle.picture_text.proofs.LongCell.{long_cell}
 use Rattle.picture_text.proofs.members_cell.make_agreed.Goals as goal
 
 pub returns-clause-text : goal.returns-clause-text
 returns-clause-text c =
-    let p = place c.args.at.x c.args.at.y in
-    let q = place (c.args.at.x + 8) (c.args.at.y + 13) in
+    let p = place_attributes c.args.at.x c.args.at.y in
+    let q = place_attributes (c.args.at.x + 8) (c.args.at.y + 13) in
     long_cell c.put_bytes.new.self c.open_members.new.sheet.long c.bytes.result.now c.put_count.new.line
     c.close_title.new.line (codes "agree") (members_title c.args.head.now c.args.slot c.args.shown.now) p q
     (count_of c.args.shown.now.nodes)

@@ -1,4 +1,4 @@
-use Rattle.picture_text.proofs.Words.{◌+◌, codes, members_title, place}
+use Rattle.picture_text.proofs.Words.{◌+◌, codes, members_title, place_attributes}
 use Rattle.picture_text.proofs.Joined.{long_cell_parts}
 use Rattle.picture_text.proofs.members_cell.make_different.Goals as goal
 
@@ -14,4 +14,4 @@ returns-clause-text c =
       c.open_members.ensures.text,
     )
     (long_cell_parts (codes "differ") (members_title c.args.head.now c.args.slot c.args.shown.now)
-    (place c.args.at.x c.args.at.y) (place (c.args.at.x + 8) (c.args.at.y + 13)) (codes "!"))
+    (place_attributes c.args.at.x c.args.at.y) (place_attributes (c.args.at.x + 8) (c.args.at.y + 13)) (codes "!"))

@@ -1,4 +1,4 @@
-use Rattle.picture_text.proofs.Words.{◌+◌, ◌++◌, codes, place}
+use Rattle.picture_text.proofs.Words.{◌+◌, ◌++◌, codes, place_attributes}
 use Rattle.std.proofs.Common.{decimal}
 use Rattle.picture_text.proofs.Joined.{cell_parts}
 use Rattle.picture_text.proofs.members_cell.make_none.Goals as goal
@@ -18,4 +18,4 @@ returns c =
       c.open_cell.ensures,
     )
     (cell_parts (codes "none") (codes "slot " ++ decimal c.args.slot ++ codes " members -")
-    (place c.args.at.x c.args.at.y) (place (c.args.at.x + 8) (c.args.at.y + 13)) (codes "-"))
+    (place_attributes c.args.at.x c.args.at.y) (place_attributes (c.args.at.x + 8) (c.args.at.y + 13)) (codes "-"))

@@ -1,4 +1,5 @@
-use Rattle.picture_text.proofs.Words.{◌≡◌, ◌∙◌, ap, sym, refl, ℕ, ◌+◌, drop, arith, beside_lines, slot_at, no_slot}
+use Rattle.picture_text.proofs.Words.{◌≡◌, ◌∙◌, ap, sym, refl, ℕ, ◌+◌, drop, arith, beside_lines, slot_at}
+use Rattle.picture_text.proofs.Words.{no_slot_lines}
 use Rattle.picture_text.proofs.Rows.{slot_more}
 use Rattle.picture_text.proofs.Sought.{at_place, next_place, not_all}
 use Rattle.picture_text.proofs.picture.put_all_beside.Goals as goal
@@ -25,5 +26,5 @@ loop-passed-preserved g c =
           (beside_lines c.args.frame.head.nodes c.args.frame.span t c.in-Some.shown)
           c.loop-passed.invariant.puts c.put_beside.ensures
           (ap (beside_lines c.args.frame.head.nodes c.args.frame.span t)
-          (sym (at_place c.args.trace.now.slots t no_slot c.in-Some.shown c.next_slot.new.self next)));
+          (sym (at_place c.args.trace.now.slots t no_slot_lines c.in-Some.shown c.next_slot.new.self next)));
     }

@@ -1,4 +1,4 @@
-use Rattle.picture_text.proofs.Words.{◌≡◌, ◌∙◌, ap, sym, refl, ℕ, ◌+◌, drop, arith, cell_lines, slot_at, no_slot}
+use Rattle.picture_text.proofs.Words.{◌≡◌, ◌∙◌, ap, sym, refl, ℕ, ◌+◌, drop, arith, cell_lines, slot_at, no_slot_lines}
 use Rattle.picture_text.proofs.Rows.{slot_more}
 use Rattle.picture_text.proofs.Sought.{at_place, next_place, not_all}
 use Rattle.picture_text.proofs.picture.put_all_cells.Goals as goal
@@ -24,5 +24,5 @@ loop-passed-preserved g c =
           (cell_lines c.args.frame.head c.args.frame.span t c.in-Some.shown)
           c.loop-passed.invariant.puts c.put_cells.ensures
           (ap (cell_lines c.args.frame.head c.args.frame.span t)
-          (sym (at_place c.args.trace.now.slots t no_slot c.in-Some.shown c.next_slot.new.self next)));
+          (sym (at_place c.args.trace.now.slots t no_slot_lines c.in-Some.shown c.next_slot.new.self next)));
     }

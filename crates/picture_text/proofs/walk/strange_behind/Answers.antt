@@ -1,5 +1,5 @@
 use Rattle.picture_text.proofs.Words.{◌∙◌, ◌+◌, ap, sym, Some, None, List, arith, length, length-drop, drop, position}
-use Rattle.picture_text.proofs.Words.{SlotLines, no_slot, is_strange}
+use Rattle.picture_text.proofs.Words.{SlotLines, no_slot_lines, is_strange}
 use Rattle.picture_text.proofs.Sought.{behind, past-found, found_within}
 use Rattle.picture_text.proofs.walk.strange_behind.Goals as goal
 
@@ -25,7 +25,7 @@ overflow_add-result c = omega (arith, c.requires.last, c.requires.few)
 
 pub overflow_add-result-in-Some : goal.overflow_add-result-in-Some
 overflow_add-result-in-Some c =
-    let there = found_within is_strange (drop (c.args.last + 1) c.args.trace.now.slots) c.in-Some.passed no_slot
+    let there = found_within is_strange (drop (c.args.last + 1) c.args.trace.now.slots) c.in-Some.passed no_slot_lines
     (sym c.in-Some.is ∙ c.first_sought.ensures ∙ ap (λ (xs : List SlotLines). position is_strange xs)
     (c.skipped-after.ensures
     ∙ behind c.args.trace.now.slots c.args.from c.args.first c.args.last c.requires.last.0 c.requires.from)) in

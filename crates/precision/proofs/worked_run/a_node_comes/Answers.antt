@@ -8,8 +8,8 @@ use Rattle.ttp_world.specs.Clock.{notes_of}
 use Rattle.ttp_world.specs.Diary.{History, ends_round, place_of, diary_of, entry_of, continues_stint}
 use Rattle.precision.specs.Together.{IsIn, TellsOf, Nothing, OneFrame, EndsLaterRound, newest_notes}
 use Rattle.precision.specs.Company.{RanAsCompany}
-use Rattle.precision.specs.WorkedCompany.{five_nodes, coming_late, first_four, waiting, starting, joining, run_of_four}
-use Rattle.precision.specs.WorkedCompany.{run_of_coming}
+use Rattle.precision.specs.WorkedCompany.{five_nodes, coming_late, first_four, waiting, starting_row, joining}
+use Rattle.precision.specs.WorkedCompany.{run_of_four, run_of_coming}
 use Rattle.precision.specs.WorkedRun.{every_node}
 use Rattle.precision.proofs.Frames.{told_goes}
 use Rattle.precision.proofs.worked_run.a_node_comes.Goals as goal
@@ -97,7 +97,7 @@ silent row history active none enough ran = (
 )
 
 -- the slot of the start
-four_begun : RanAsCompany five_nodes coming_late true first_four 10 (starting ∷ waiting)
+four_begun : RanAsCompany five_nodes coming_late true first_four 10 (starting_row ∷ waiting)
 four_begun = (
   λ k p. refl,
   inl (

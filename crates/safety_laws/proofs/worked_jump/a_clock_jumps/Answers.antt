@@ -1,12 +1,13 @@
 use Rattle.safety_laws.proofs.Words.{◌≡◌, ◌≢◌, ℕ, zero, suc, ◌<◌, true, List, ◌∷◌, length, Some, refl, sym, subst, ◌∙◌}
 use Rattle.safety_laws.proofs.Words.{arith, false≢true, ints, members_in, with_node, Entry, cold_start_cstate, History}
-use Rattle.safety_laws.proofs.Words.{entry_of, ClusterStart, IsValid, TellsOf, measured, Jumping, plan_of, sender}
+use Rattle.safety_laws.proofs.Words.{entry_of, ClusterStart, IsValid, TellsOf, measured, Jumping, fault_plan_of, sender}
 use Rattle.safety_laws.proofs.Words.{Falling, Sound, fate_of, is_sound_after, is_good_slot, FollowsWithin, KeepsByPlan}
 use Rattle.safety_laws.proofs.Words.{kept-plan, NotesNothing, NotedInSlot, StartedByPlan, NotedByPlan}
 use Rattle.std.proofs.lemmas.Bool.{true≢false}
 use Rattle.ttp_world.specs.declared.node.Entry.TheVariants as entry
 use Rattle.ttp_world.specs.Medl.{IsValidSlot}
-use Rattle.safety_laws.specs.WorkedJump.{bare_slot, five_clocks, late_jump, five_clocks_start, one_jump, newest_row}
+use Rattle.precision.specs.WorkedRun.{bare_slot}
+use Rattle.safety_laws.specs.WorkedJump.{five_clocks, late_jump, five_clocks_start, one_jump, last_row}
 use Rattle.safety_laws.specs.WorkedJump.{older_rows}
 use Rattle.safety_laws.proofs.worked_jump.a_clock_jumps.Goals as goal
 
@@ -77,7 +78,7 @@ same-start start is = cc
 follows-plan : FollowsWithin five_clocks late_jump five_clocks_start one_jump
 unfolding members_in with_node
 follows-plan =
-    subst (λ start. FollowsWithin five_clocks late_jump start (plan_of five_clocks late_jump start))
+    subst (λ start. FollowsWithin five_clocks late_jump start (fault_plan_of five_clocks late_jump start))
     (same-start kept.start kept.started) kept.follows
 
 pub returns-clause-keeps : goal.returns-clause-keeps
@@ -119,18 +120,18 @@ start-noted history row number starts joins = record {
 }
 
 -- the slot of the jump
-jump-noted : (history : History) → TellsOf five_clocks late_jump history 4 0 (entry_of newest_row 0)
-    → TellsOf five_clocks late_jump history 4 1 (entry_of newest_row 1)
-    → TellsOf five_clocks late_jump history 4 2 (entry_of newest_row 2)
-    → NotedInSlot five_clocks late_jump one_jump 14 newest_row history
+jump-noted : (history : History) → TellsOf five_clocks late_jump history 4 0 (entry_of last_row 0)
+    → TellsOf five_clocks late_jump history 4 1 (entry_of last_row 1)
+    → TellsOf five_clocks late_jump history 4 2 (entry_of last_row 2)
+    → NotedInSlot five_clocks late_jump one_jump 14 last_row history
 jump-noted history a b c = record {
   good = λ k is p none. each
-      (λ j. is_sound_after one_jump 14 j ≡ true → TellsOf five_clocks late_jump history 4 j (entry_of newest_row j))
+      (λ j. is_sound_after one_jump 14 j ≡ true → TellsOf five_clocks late_jump history 4 j (entry_of last_row j))
       (λ sound. a, λ sound. b, λ sound. c, λ sound. absurd (false≢true sound), λ sound. refl) k p.0 p.1;
   begins = λ k inside enter. absurd (false≢true enter);
   other = λ k is p. absurd (true≢false is);
   jumped = λ k since p is. each
-      (λ j. fate_of one_jump 14 j ≡ Falling Jumping since → NotesNothing (entry_of newest_row j))
+      (λ j. fate_of one_jump 14 j ≡ Falling Jumping since → NotesNothing (entry_of last_row j))
       (λ falls. cc, λ falls. cc, λ falls. cc, λ falls. refl, λ falls. cc) k p is;
 }
 

@@ -1,4 +1,4 @@
-use Rattle.safety_laws.proofs.Words.{[], ◌∷◌, refl, members_in, with_node, OnBoth, slot_frame, four_nodes}
+use Rattle.safety_laws.proofs.Words.{[], ◌∷◌, refl, members_in, with_node, OnBoth, slot_frame, four_kinds}
 use Rattle.safety_laws.proofs.worked_slots.a_return.Goals as goal
 
 pub returns-clause-left : goal.returns-clause-left
@@ -12,7 +12,7 @@ returns-clause-listens c = refl
 pub returns-clause-no_place : goal.returns-clause-no_place
 unfolding members_in with_node
 returns-clause-no_place c = record {
-  bytes = slot_frame four_nodes (record { time = 6; round = 0; slot = 2 }) (0 ∷ 2 ∷ 3 ∷ []) (0 ∷ []);
+  bytes = slot_frame four_kinds (record { time = 6; round = 0; slot = 2 }) (0 ∷ 2 ∷ 3 ∷ []) (0 ∷ []);
   comes = OnBoth refl refl;
   can_not = refl;
 }
@@ -36,7 +36,7 @@ returns-clause-limit c = refl
 pub returns-clause-place : goal.returns-clause-place
 unfolding members_in with_node
 returns-clause-place c = record {
-  bytes = slot_frame four_nodes (record { time = 7; round = 0; slot = 3 }) (0 ∷ 2 ∷ 3 ∷ []) (0 ∷ []);
+  bytes = slot_frame four_kinds (record { time = 7; round = 0; slot = 3 }) (0 ∷ 2 ∷ 3 ∷ []) (0 ∷ []);
   comes = OnBoth refl refl;
   can = refl;
   nodes = refl;

@@ -1,5 +1,5 @@
 use Rattle.safety_laws.proofs.Words.{◌≡◌, ◌≢◌, ◌<◌, ℕ, zero, suc, [], ◌∷◌, length, refl, arith, members_in, with_node}
-use Rattle.safety_laws.proofs.Words.{Lacks, frames_made, four_nodes, faultless, silent, at}
+use Rattle.safety_laws.proofs.Words.{Lacks, frames_made, four_kinds, faultless, first_frame_lost, at}
 use Rattle.ttp_world.specs.declared.node.Ack.TheVariants as ack
 use Rattle.safety_laws.proofs.FourNodes.{own-at, hears-at}
 use Rattle.safety_laws.proofs.Groups.{holds-by}
@@ -13,15 +13,15 @@ ack-starter : (at faultless 9 0).past.ack ≡ ack.First
 unfolding members_in with_node
 ack-starter = refl
 
-members-doubting : (at silent 11 1).past.members ≡ with_node (0 ∷ 1 ∷ []) 2
+members-doubting : (at first_frame_lost 11 1).past.members ≡ with_node (0 ∷ 1 ∷ []) 2
 unfolding members_in with_node
 members-doubting = refl
 
-ack-doubting : (at silent 11 1).past.ack ≡ ack.Doubt 2
+ack-doubting : (at first_frame_lost 11 1).past.ack ≡ ack.Doubt 2
 unfolding members_in with_node
 ack-doubting = refl
 
-others : (k : ℕ) → k < length four_nodes.slots → k ≢ 1 → frames_made (at faultless 9 k) ≡ []
+others : (k : ℕ) → k < length four_kinds.slots → k ≢ 1 → frames_made (at faultless 9 k) ≡ []
 unfolding members_in with_node
 others zero node other = refl
 others (suc zero) node other = absurd (other refl)
@@ -43,13 +43,13 @@ returns-clause-sends c = record {
 pub returns-clause-holds : goal.returns-clause-holds
 unfolding members_in with_node
 returns-clause-holds c =
-    holds-by four_nodes 0 (0 ∷ []) (at faultless 9 0).past ack.First ack-starter refl members-starter
+    holds-by four_kinds 0 (0 ∷ []) (at faultless 9 0).past ack.First ack-starter refl members-starter
     (λ opened. refl) tt
 
 pub returns-clause-no_answer : goal.returns-clause-no_answer
 unfolding members_in with_node
 returns-clause-no_answer c =
-    Lacks 2 (0 ∷ 2 ∷ []) (hears-at silent 10 1 2 (0 ∷ 2 ∷ []) (0 ∷ []) refl refl refl refl refl) refl
+    Lacks 2 (0 ∷ 2 ∷ []) (hears-at first_frame_lost 10 1 2 (0 ∷ 2 ∷ []) (0 ∷ []) refl refl refl refl refl) refl
 
 pub returns-clause-unacknowledged : goal.returns-clause-unacknowledged
 unfolding members_in with_node
@@ -58,5 +58,5 @@ returns-clause-unacknowledged c = tt
 pub returns-clause-in_doubt : goal.returns-clause-in_doubt
 unfolding members_in with_node
 returns-clause-in_doubt c =
-    holds-by four_nodes 1 (0 ∷ 1 ∷ []) (at silent 11 1).past (ack.Doubt 2) ack-doubting refl members-doubting
+    holds-by four_kinds 1 (0 ∷ 1 ∷ []) (at first_frame_lost 11 1).past (ack.Doubt 2) ack-doubting refl members-doubting
     (λ opened. refl) refl

@@ -1,5 +1,5 @@
 use Rattle.safety_laws.proofs.Words.{[], ◌∷◌, refl, arith, members_in, with_node, faultless}
-use Rattle.safety_laws.specs.WorkedSlots.{silent_and_deaf, alone}
+use Rattle.safety_laws.specs.WorkedSlots.{silent_and_deaf, unheard_start}
 use Rattle.safety_laws.proofs.FourNodes.{own-at}
 use Rattle.safety_laws.proofs.worked_slots.own_slots.Goals as goal
 
@@ -33,7 +33,7 @@ returns-clause-unacknowledged c = refl
 
 pub returns-clause-starter : goal.returns-clause-starter
 unfolding members_in with_node
-returns-clause-starter c = own-at alone 12 0 (0 ∷ []) (omega arith) refl refl refl refl
+returns-clause-starter c = own-at unheard_start 12 0 (0 ∷ []) (omega arith) refl refl refl refl
 
 pub returns-clause-cold_start : goal.returns-clause-cold_start
 unfolding members_in with_node

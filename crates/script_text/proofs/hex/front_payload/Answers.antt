@@ -1,4 +1,4 @@
-use Rattle.script_text.proofs.Terms.{ℕ, ◌+◌, ◌*◌, ◌++◌, List, take, drop, refl, arith, sym, ap, ◌∙◌, hex_bytes_in}
+use Rattle.script_text.proofs.Terms.{ℕ, ◌+◌, ◌*◌, ◌++◌, List, take, drop, refl, arith, sym, ap, ◌∙◌, digit_bytes_in}
 use Rattle.std.proofs.lemmas.Bool.{false≢true}
 use Rattle.std.proofs.lemmas.List.{take_more_set, length-set, get_or-set_other}
 use Rattle.script_text.proofs.HexDigits.{right_pair, pair_byte, wrong_high, wrong_low}
@@ -35,7 +35,7 @@ loop-i-preserved c =
     let word = take (2 * size) text in
     record {
       room = length-set bytes i (16 * high + low) ∙ c.loop-i.invariant.room;
-      bytes = ap (λ (l : List ℕ). l ++ hex_bytes_in (drop (2 * (i + 1)) word))
+      bytes = ap (λ (l : List ℕ). l ++ digit_bytes_in (drop (2 * (i + 1)) word))
           (take_more_set bytes i (16 * high + low) (omega (arith, c.loop-i.invariant.room)))
           ∙ pair_byte text (take i bytes) size i high low c.requires.within (omega arith)
           c.digit_of-high.ensures c.digit_of-low.ensures

@@ -1,5 +1,5 @@
 use Rattle.trace_check.proofs.Words.{◌≡◌, ◌∙◌, ◌+◌, ℕ, List, Some, ap, sym, subst, arith, delivered_of, after_label}
-use Rattle.trace_check.proofs.Words.{row_after, IsRing, newest_before}
+use Rattle.trace_check.proofs.Words.{row_after, IsHostAndSource, newest_before}
 use Rattle.ttp_world.specs.declared.script.Source.TheVariants as source
 use Rattle.trace_check.proofs.Ended.{delivered-none, delivered-other, ended-delivered}
 use Rattle.trace_check.proofs.Rings.{after-own, after-same, after-status, line_read, new_read-none, new_read-some}
@@ -12,7 +12,7 @@ pub overflow_add-number : goal.overflow_add-number
 overflow_add-number c =
     let list = c.args.list.now in
     let read = c.args.read.now in
-    let both = subst (IsRing list read.host) c.in-Node.is c.requires.ring in
+    let both = subst (IsHostAndSource list read.host) c.in-Node.is c.requires.ring in
     let few = number-few c.args.plant.now c.args.incoming.now list c.args.slot read.host c.in-Some.delivered.now
     both.0 c.in-Some.ensures c.requires.past c.in-Node.from c.payload.result.now both.1 c.payload.ensures in
     omega arith
@@ -42,7 +42,7 @@ returns-in-Some c = λ script history chosen ended count.
     let incoming = c.args.incoming.now in
     let p = c.in-Node.from in
     let d = c.in-Some.delivered.now in
-    let both = subst (IsRing list read.host) c.in-Node.is c.requires.ring in
+    let both = subst (IsHostAndSource list read.host) c.in-Node.is c.requires.ring in
     let before = newest_before list script history read in
     let there : delivered_of list script history (row_after list script history chosen) read.host ≡ Some d =
     sym (c.in-Some.ensures ∙ ended-delivered plant incoming list script history chosen ended read.host both.0) in
@@ -66,7 +66,7 @@ returns-in_default c = λ script history chosen ended count.
     let incoming = c.args.incoming.now in
     let p = c.in-Node.from in
     let row = row_after list script history chosen in
-    let both = subst (IsRing list read.host) c.in-Node.is c.requires.ring in
+    let both = subst (IsHostAndSource list read.host) c.in-Node.is c.requires.ring in
     let same = ended-delivered plant incoming list script history chosen ended read.host both.0 in
     sym (new_read-none list script history chosen read c.args.text.now
     (after-same list script history chosen read p c.in-Node.is

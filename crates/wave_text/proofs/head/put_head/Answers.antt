@@ -1,6 +1,6 @@
 use Rattle.wave_text.proofs.Words.{refl, [], ◌∷◌, ◌++◌, codes, err_from_is_err_and, on_ok_weaker, on_err_weaker}
 use Rattle.wave_text.proofs.Words.{newline, first_text, keeps_text, returns_text, comment_line, comment_lines}
-use Rattle.wave_text.proofs.Words.{head_lines}
+use Rattle.wave_text.proofs.Words.{wave_head_lines}
 use Rattle.wave_text.proofs.Going.{all-cut, all-gone, begun, cut-going, gone-on}
 use Rattle.wave_text.proofs.head.put_head.Goals as goal
 
@@ -18,7 +18,7 @@ returns-in_err-write-clause-failed g c =
     let r2 = p2 ++ r3 in
     let r1 = p1 ++ r2 in
     let r0 = p0 ++ r1 in
-    let all = head_lines (first_text trace) (keeps_text trace) (returns_text trace) in
+    let all = wave_head_lines (first_text trace) (keeps_text trace) (returns_text trace) in
     let o0 = g.K.Sink.output c.args.out.now in
     let s0 = begun o0 all r0 refl in
     rw failed.1 (cut-going o0 o0 (g.K.Sink.output c.write.new.self) all p0 r0 r1 refl s0 c.in_err-write.ensures.failed)
@@ -37,7 +37,7 @@ returns-in_err-put_first-clause-failed g c =
     let r2 = p2 ++ r3 in
     let r1 = p1 ++ r2 in
     let r0 = p0 ++ r1 in
-    let all = head_lines (first_text trace) (keeps_text trace) (returns_text trace) in
+    let all = wave_head_lines (first_text trace) (keeps_text trace) (returns_text trace) in
     let o0 = g.K.Sink.output c.args.out.now in
     let s0 = begun o0 all r0 refl in
     let o1 = g.K.Sink.output c.write.new.self in
@@ -58,7 +58,7 @@ returns-in_err-put_keep-clause-failed g c =
     let r2 = p2 ++ r3 in
     let r1 = p1 ++ r2 in
     let r0 = p0 ++ r1 in
-    let all = head_lines (first_text trace) (keeps_text trace) (returns_text trace) in
+    let all = wave_head_lines (first_text trace) (keeps_text trace) (returns_text trace) in
     let o0 = g.K.Sink.output c.args.out.now in
     let s0 = begun o0 all r0 refl in
     let o1 = g.K.Sink.output c.write.new.self in
@@ -81,7 +81,7 @@ returns-in_err-put_back-clause-failed g c =
     let r2 = p2 ++ r3 in
     let r1 = p1 ++ r2 in
     let r0 = p0 ++ r1 in
-    let all = head_lines (first_text trace) (keeps_text trace) (returns_text trace) in
+    let all = wave_head_lines (first_text trace) (keeps_text trace) (returns_text trace) in
     let o0 = g.K.Sink.output c.args.out.now in
     let s0 = begun o0 all r0 refl in
     let o1 = g.K.Sink.output c.write.new.self in
@@ -105,7 +105,7 @@ returns-clause-ok g c =
     let r2 = p2 ++ r3 in
     let r1 = p1 ++ r2 in
     let r0 = p0 ++ r1 in
-    let all = head_lines (first_text trace) (keeps_text trace) (returns_text trace) in
+    let all = wave_head_lines (first_text trace) (keeps_text trace) (returns_text trace) in
     let o0 = g.K.Sink.output c.args.out.now in
     let s0 = begun o0 all r0 refl in
     let o1 = g.K.Sink.output c.write.new.self in
@@ -131,7 +131,7 @@ returns-clause-failed g c =
     let r2 = p2 ++ r3 in
     let r1 = p1 ++ r2 in
     let r0 = p0 ++ r1 in
-    let all = head_lines (first_text trace) (keeps_text trace) (returns_text trace) in
+    let all = wave_head_lines (first_text trace) (keeps_text trace) (returns_text trace) in
     let o0 = g.K.Sink.output c.args.out.now in
     let s0 = begun o0 all r0 refl in
     let o1 = g.K.Sink.output c.write.new.self in

@@ -1,5 +1,5 @@
 use Rattle.wave_text.proofs.Words.{◌≡◌, ℕ, [], ◌∷◌, ◌++◌, Option, ap, sym, subst, refl, set, ◌∙◌, Message, What}
-use Rattle.wave_text.proofs.Words.{message_of, HasNewest, HasPlace, host_in, table_place, what_in}
+use Rattle.wave_text.proofs.Words.{message_in_line, HasNewest, HasPlace, host_in, table_place, what_in}
 use Rattle.wave_text.proofs.Tables.{newest-placed, newest-unplaced}
 use Rattle.wave_text.proofs.newest.note_message.Goals as goal
 
@@ -14,10 +14,10 @@ returns-in-Some c = λ k does lines has is.
     let at : c.table_place.result ≡ table_place (host_in shown) (what_in shown) =
     c.table_place.ensures.value ∙ ap (λ (h : ℕ). table_place h c.in-Some.what) found.0
     ∙ ap (table_place (host_in shown)) found.1 in
-    let message : c.message_of.result ≡ message_of (host_in shown) (what_in shown) shown =
-    c.message_of.ensures ∙ ap (λ (h : ℕ). message_of h c.in-Some.what shown) found.0
-    ∙ ap (λ (d : What). message_of (host_in shown) d shown) found.1 in
-    subst (λ (p : ℕ). HasNewest (set messages p c.message_of.result) (lines ++ shown ∷ []) k does) (sym at)
+    let message : c.message_in_line.result ≡ message_in_line (host_in shown) (what_in shown) shown =
+    c.message_in_line.ensures ∙ ap (λ (h : ℕ). message_in_line h c.in-Some.what shown) found.0
+    ∙ ap (λ (d : What). message_in_line (host_in shown) d shown) found.1 in
+    subst (λ (p : ℕ). HasNewest (set messages p c.message_in_line.result) (lines ++ shown ∷ []) k does) (sym at)
     (subst (λ (m : Option Message). HasNewest (set messages (table_place (host_in shown) (what_in shown)) m)
     (lines ++ shown ∷ []) k does) (sym message) (newest-placed messages lines shown k does has had c.requires is))
 

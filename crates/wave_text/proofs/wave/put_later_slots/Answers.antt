@@ -1,5 +1,5 @@
 use Rattle.wave_text.proofs.Words.{◌≡◌, ◌+◌, [], ◌∷◌, ◌++◌, length, refl, sym, ap, ◌∙◌, arith, err_from_is_err_and}
-use Rattle.wave_text.proofs.Words.{on_ok_weaker, on_err_weaker, SlotLines, later_lines, slot_lines}
+use Rattle.wave_text.proofs.Words.{on_ok_weaker, on_err_weaker, SlotLines, later_lines, slot_change_lines}
 use Rattle.wave_text.proofs.Going.{all-cut, all-gone, begun, cut-going, gone-on}
 use Rattle.wave_text.proofs.wave.put_later_slots.Goals as goal
 
@@ -27,11 +27,12 @@ loop-slot-preserved g c =
     let left = c.next_slot.new.self in
     let all = later_lines width n ports 1 c.args.first.slot c.args.slots in
     let split : c.loop-slot.slots ≡ slot ∷ left = c.in-Some.ensures.some in
-    let part = slot_lines width n ports time before c.moment-now.result.slot in
+    let part = slot_change_lines width n ports time before c.moment-now.result.slot in
     let rest : later_lines width n ports time before c.loop-slot.slots
     ≡ part ++ later_lines width n ports (time + 1) c.moment-now.result.slot left =
     ap (later_lines width n ports time before) split
-    ∙ ap (λ (s : SlotLines). slot_lines width n ports time before s ++ later_lines width n ports (time + 1) s left)
+    ∙ ap (λ (s : SlotLines). slot_change_lines width n ports time before s ++ later_lines width n ports
+    (time + 1) s left)
     (sym c.moment-now.ensures.slot) in
     record {
       going =
@@ -57,11 +58,12 @@ returns-in_err-put_slot-clause-failed g c =
     let left = c.next_slot.new.self in
     let all = later_lines width n ports 1 c.args.first.slot c.args.slots in
     let split : c.loop-slot.slots ≡ slot ∷ left = c.in-Some.ensures.some in
-    let part = slot_lines width n ports time before c.moment-now.result.slot in
+    let part = slot_change_lines width n ports time before c.moment-now.result.slot in
     let rest : later_lines width n ports time before c.loop-slot.slots
     ≡ part ++ later_lines width n ports (time + 1) c.moment-now.result.slot left =
     ap (later_lines width n ports time before) split
-    ∙ ap (λ (s : SlotLines). slot_lines width n ports time before s ++ later_lines width n ports (time + 1) s left)
+    ∙ ap (λ (s : SlotLines). slot_change_lines width n ports time before s ++ later_lines width n ports
+    (time + 1) s left)
     (sym c.moment-now.ensures.slot) in
     rw failed.1 (cut-going (g.K.Sink.output c.args.out.now) (g.K.Sink.output c.loop-slot.out)
     (g.K.Sink.output c.put_slot.new.out) all part (later_lines width n ports time before c.loop-slot.slots)

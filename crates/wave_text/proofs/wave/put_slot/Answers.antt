@@ -1,5 +1,5 @@
 use Rattle.wave_text.proofs.Words.{refl, [], ◌∷◌, ◌++◌, err_from_is_err_and, on_ok_weaker, on_err_weaker, Some}
-use Rattle.wave_text.proofs.Words.{slot_changes, slot_lines, time_line}
+use Rattle.wave_text.proofs.Words.{slot_changes, slot_change_lines, time_line}
 use Rattle.wave_text.proofs.Going.{all-cut, all-gone, begun, cut-going, gone-on}
 use Rattle.wave_text.proofs.wave.put_slot.Goals as goal
 
@@ -15,7 +15,7 @@ returns-in_err-put_time-clause-failed g c =
     let p1 = slot_changes width n ports (Some before) now in
     let r1 = p1 in
     let r0 = p0 ++ r1 in
-    let all = slot_lines width n ports c.args.time before now in
+    let all = slot_change_lines width n ports c.args.time before now in
     let o0 = g.K.Sink.output c.args.out.now in
     let s0 = begun o0 all r0 refl in
     rw failed.1 (cut-going o0 o0 (g.K.Sink.output c.put_time.new.out) all p0 r0 r1 refl s0 c.in_err-put_time.ensures.failed)
@@ -31,7 +31,7 @@ returns-clause-ok g c =
     let p1 = slot_changes width n ports (Some before) now in
     let r1 = p1 in
     let r0 = p0 ++ r1 in
-    let all = slot_lines width n ports c.args.time before now in
+    let all = slot_change_lines width n ports c.args.time before now in
     let o0 = g.K.Sink.output c.args.out.now in
     let s0 = begun o0 all r0 refl in
     let o1 = g.K.Sink.output c.put_time.new.out in
@@ -49,7 +49,7 @@ returns-clause-failed g c =
     let p1 = slot_changes width n ports (Some before) now in
     let r1 = p1 in
     let r0 = p0 ++ r1 in
-    let all = slot_lines width n ports c.args.time before now in
+    let all = slot_change_lines width n ports c.args.time before now in
     let o0 = g.K.Sink.output c.args.out.now in
     let s0 = begun o0 all r0 refl in
     let o1 = g.K.Sink.output c.put_time.new.out in

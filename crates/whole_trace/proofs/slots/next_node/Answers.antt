@@ -1,7 +1,7 @@
 use Rattle.std.proofs.Common.{rules, ℤ, w64, SFits, sym, subst}
 use Rattle.std.proofs.lemmas.Int.{to_z-of_z}
 use Rattle.line_reader.specs.declared.trace_line.TraceLine.{TraceLine}
-use Rattle.whole_trace.specs.Steps.{IsStep, IsNodeStep}
+use Rattle.whole_trace.specs.Steps.{IsLineStep, IsNodeStep}
 use Rattle.whole_trace.proofs.NodeSteps.{node-step}
 use Rattle.whole_trace.proofs.slots.next_node.Goals as goal
 
@@ -11,7 +11,7 @@ returns-in-Node-clause-some c =
     let at = c.args.at in
     let behind = c.in_ok-line.field-0.behind in
     let fits : SFits w64 n.offset = search rules in
-    let step = subst (λ (v : TraceLine). IsStep at.due at.rest.now v behind.due behind.rest.now) n.is c.in_ok-line.ensures.some in
+    let step = subst (λ (v : TraceLine). IsLineStep at.due at.rest.now v behind.due behind.rest.now) n.is c.in_ok-line.ensures.some in
     subst (λ (z : ℤ). IsNodeStep at.due at.rest.now (record {
       word = n.word;
       peer = n.peer;

@@ -1,6 +1,6 @@
 use Rattle.controller.proofs.Words.{◌≡◌, w64, rules, ◌+◌, ◌≤◌, ◌+ℤ◌, sym, ap, subst, refl, ◌∙◌, unsigned_abs, arith}
 use Rattle.controller.proofs.Words.{to_z-of_z, past_after, SlotSurroundings, status_words, kept, offset_of_arrival}
-use Rattle.controller.proofs.Words.{turn_intent, IsTurnWithin, IsWithin, IsEntryWithin}
+use Rattle.controller.proofs.Words.{turn_intent, IsTurnWithin, IsPastWithin, IsEntryWithin}
 use Rattle.controller.proofs.Endings.{IsEnded, ended-by, furthest, past_after-near}
 use Rattle.controller.proofs.Standing.{Ends-controller}
 use Rattle.controller.proofs.controller.Controller.end.Goals as goal
@@ -63,7 +63,7 @@ invariant_of-self c =
     record {
       valid = c.self.invariant.valid;
       node = c.self.invariant.node;
-      within = subst (λ l. IsWithin l n.number c.enter.new.self) same c.enter.ensures.within;
+      within = subst (λ l. IsPastWithin l n.number c.enter.new.self) same c.enter.ensures.within;
       clock = omega (
         arith,
         near c,

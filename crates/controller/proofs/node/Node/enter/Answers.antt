@@ -1,5 +1,5 @@
 use Rattle.controller.proofs.Words.{◌≡◌, ◌+ℤ◌, ap, sym, subst, ◌∙◌, w64, to_z, of_z, arith, rules, ints, notes_after}
-use Rattle.controller.proofs.Words.{place_after, IsDeviation, IsWithin}
+use Rattle.controller.proofs.Words.{place_after, IsDeviation, IsPastWithin}
 use Rattle.controller.proofs.Stints.{correction_after-take, kept_after-within}
 use Rattle.controller.proofs.node.Node.enter.Goals as goal
 
@@ -23,6 +23,6 @@ returns-clause-value c =
 pub returns-clause-within : goal.returns-clause-within
 returns-clause-within c =
     let a = c.args in
-    subst (IsWithin a.list.now a.k) (sym (returns-clause-value c))
+    subst (IsPastWithin a.list.now a.k) (sym (returns-clause-value c))
     (kept_after-within a.list.now a.k a.self.now c.requires.valid c.requires.node c.requires.within a.entry.now
     a.outside.now c.requires.entry)

@@ -1,6 +1,6 @@
 use Rattle.std.proofs.Common.{None, length, get_or, sum_by, ap, ◌∙◌, sym, arith, zero-add}
 use Rattle.host_port.specs.Reading.{got_of, reads_at, lent}
-use Rattle.host_port.specs.Rings.{place_of}
+use Rattle.host_port.specs.Rings.{source_place}
 use Rattle.host_port.specs.Queues.{calls_at, spare_of}
 use Rattle.host_port.proofs.ReaderLists.{all_lent-at, all_lent-rings, all_lent-got}
 use Rattle.host_port.proofs.ends.ControllerEnd.lend_reads.Goals as goal
@@ -21,7 +21,7 @@ returns-clause-readers c =
     let node = c.args.node in
     let shown = c.as_mut_slice.ensures.value ∙ c.self.view_is in
     λ source.
-    let place = place_of source in
+    let place = source_place source in
     ap (λ rs. get_or rs place None) c.in_ok-readers.ensures.readers
     ∙ (all_lent-at reads node 0 c.as_mut_slice.result.now place place (zero-add place)
     ∙ ap (λ ws. lent (get_or ws place None) (reads_at reads node place)) shown)

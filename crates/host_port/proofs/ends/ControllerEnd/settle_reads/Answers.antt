@@ -1,6 +1,6 @@
 use Rattle.std.proofs.Common.{None, inl, refl, length, get_or, sym, ap, ◌∙◌}
 use Rattle.host_port.specs.Reading.{ReadersState, got_of, pairs_from}
-use Rattle.host_port.specs.Rings.{place_of}
+use Rattle.host_port.specs.Rings.{source_place}
 use Rattle.host_port.specs.Queues.{calls_at, queue_at}
 use Rattle.host_port.proofs.LineQueues.{queue_of}
 use Rattle.host_port.proofs.ReaderLists.{all_settled-none, on_err}
@@ -21,7 +21,7 @@ pub returns-clause-pairs : goal.returns-clause-pairs
 returns-clause-pairs c =
     let readers = c.r.inside.readers.items in
     λ source.
-    let place = place_of source in
+    let place = source_place source in
     ap (pairs_from source) c.from_vec.ensures
     ∙ (c.lines_of-lines.ensures.pairs place
     ∙ (ap (λ qs. queue_at qs place) c.in_ok-queues.ensures.pairs

@@ -1,6 +1,6 @@
 use Rattle.std.proofs.Common.{◌≡◌, subst, sym}
 use Rattle.host_port.specs.Reading.{AreTheirRings, Reads, buffers_of}
-use Rattle.host_port.specs.Rings.{PortState, HaveBuffers, at_source, place_of}
+use Rattle.host_port.specs.Rings.{PortState, HaveBuffers, at_source, source_place}
 use Rattle.host_port.proofs.ReaderLists.{buffers_there}
 use Rattle.host_port.proofs.port.Port.host_read.Goals as goal
 
@@ -13,6 +13,6 @@ returns-clause-reads g c =
     let readers = c.args.r.now.readers in
     let old = at_source readers c.args.source in
     let same : buffers_of old ≡ port.buffers =
-    buffers_there port.buffers port.incoming readers (place_of c.args.source) c.requires.own
+    buffers_there port.buffers port.incoming readers (source_place c.args.source) c.requires.own
     (subst (λ (p : PortState). HaveBuffers p.buffers p.incoming) c.self.view_is c.self.invariant) c.requires.left in
     subst (λ buffers. Reads buffers old (at_source c.read.new.self.readers c.args.source)) same c.read.ensures.reads

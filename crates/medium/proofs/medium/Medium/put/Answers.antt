@@ -3,7 +3,7 @@ use Rattle.std.proofs.lemmas.Int.{to_z-of_z}
 use Rattle.ttp_world.specs.declared.script.Channel.TheVariants as channel
 use Rattle.ttp_world.specs.Script.{incidents_of, flipped_bits}
 use Rattle.medium.specs.Carried.{Carried}
-use Rattle.medium.specs.StandsFor.{StandsFor, sent_by}
+use Rattle.medium.specs.StandsFor.{MediumStandsFor, sent_by}
 use Rattle.medium.proofs.Channels.{Carries-put}
 use Rattle.medium.proofs.medium.Medium.put.Goals as goal
 
@@ -18,8 +18,8 @@ returns c = λ slot frames clock is stands.
     let inside = c.self.inside in
     let incidents = c.args.incidents.now in
     let sent = sent_by node c.args.frame.now in
-    let old : StandsFor (record { slot = inside.slot; a = inside.a; b = inside.b }) script slot frames clock =
-    subst (λ (m : Carried). StandsFor m script slot frames clock) (sym c.self.view_is) stands in
+    let old : MediumStandsFor (record { slot = inside.slot; a = inside.a; b = inside.b }) script slot frames clock =
+    subst (λ (m : Carried). MediumStandsFor m script slot frames clock) (sym c.self.view_is) stands in
     let told : incidents ≡ incidents_of script node slot = c.requires ∙ ap (incidents_of script node) stands.slot in
     let kept : to_z w64 (of_z w64 c.args.offset) ≡ c.args.offset = to_z-of_z w64 c.args.offset c.ranges.offset in
     record {

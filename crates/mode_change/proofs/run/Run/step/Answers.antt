@@ -5,7 +5,7 @@ use Rattle.ttp_base.specs.Text.{lines_of}
 use Rattle.ttp_world.specs.Script.{reads_in}
 use Rattle.ttp_world.specs.World.{world}
 use Rattle.ttp_world.proofs.Worlds.{length-world}
-use Rattle.trace_check.specs.Outgoing.{Chooses, HoldsNewest, number_in}
+use Rattle.trace_check.specs.Outgoing.{Chooses, HoldsNewest, number_by_text}
 use Rattle.trace_check.proofs.SlotFollowed.{has-chosen}
 use Rattle.mode_change.specs.declared.node.NodeModes.{NodeModes}
 use Rattle.mode_change.specs.declared.run.Run.{Run}
@@ -44,7 +44,8 @@ slot-requires-clause-chosen c =
     let long = first-length script at.whole c.args.slot at.at.legal.count (omega (arith, few)) in
     may-step list script c.requires.list c.requires.script older
     (legal-first list script at.whole (script.slots - c.args.slot) at.at.legal.legal) c.choose.new.self text
-    (subst (λ n. Chooses c.choose.new.self list script n (number_in list script n text)) (sym long) c.choose.ensures)
+    (subst (λ n. Chooses c.choose.new.self list script n (number_by_text list script n text))
+    (sym long) c.choose.ensures)
     c.chosen-chosen.result.now c.chosen-chosen.ensures c.args.self.now.plant at.at.stands.same at.at.stands.plant
 
 pub know_slot-requires-clause-stepped : goal.know_slot-requires-clause-stepped
@@ -62,7 +63,7 @@ know_slot-requires-clause-stepped c =
       history = world list script older;
       past = is-past list script c.requires.list c.requires.script older
           (legal-first list script at.whole (script.slots - c.args.slot) at.at.legal.legal) c.choose.new.self text
-          (subst (λ n. Chooses c.choose.new.self list script n (number_in list script n text)) (sym long)
+          (subst (λ n. Chooses c.choose.new.self list script n (number_by_text list script n text)) (sym long)
           c.choose.ensures)
           c.chosen-chosen.result.now c.chosen-chosen.ensures c.slot.new.self (c.slot.ensures.list ∙ at.at.stands.same)
           (c.slot.ensures.steps (world list script older) at.at.stands.plant);

@@ -1,4 +1,4 @@
-use Rattle.script_text.proofs.Terms.{◌≡◌, ◌<◌, length, arith, sym, ◌∙◌, err_from_is_err_and, number_at}
+use Rattle.script_text.proofs.Terms.{◌≡◌, ◌<◌, length, arith, sym, ◌∙◌, err_from_is_err_and, number_at_word}
 use Rattle.std.proofs.Common.{w64, to_z, of_z}
 use Rattle.std.proofs.lemmas.Int.{to_z-of_z}
 use Rattle.script_text.proofs.Kept.{refuses_own, takes_drift}
@@ -16,7 +16,7 @@ returns-clause-ok c =
     let said = c.in_ok-said.ensures in
     let old = c.args.self.now in
     let none = rw said.value at (sym c.says_drift.ensures ∙ c.if-says_drift.false) in
-    let node : number_at c.args.words.now 1 < length c.args.list.now.slots = rw said.value at said.node in
+    let node : number_at_word c.args.words.now 1 < length c.args.list.now.slots = rw said.value at said.node in
     let value = c.in_ok-said.said.value in
     let same : to_z w64 (of_z w64 value) ≡ value = to_z-of_z w64 value said.fits in
     let drift = rw said.value at (rw same at c.set_drift.ensures.drift) in

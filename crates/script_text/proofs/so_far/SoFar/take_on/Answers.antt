@@ -1,4 +1,4 @@
-use Rattle.script_text.proofs.Terms.{◌≡◌, ◌<◌, length, refl, arith, sym, ◌∙◌, err_from_is_err_and, number_at}
+use Rattle.script_text.proofs.Terms.{◌≡◌, ◌<◌, length, refl, arith, sym, ◌∙◌, err_from_is_err_and, number_at_word}
 use Rattle.script_text.proofs.Kept.{refuses_own, takes_on}
 use Rattle.script_text.proofs.so_far.SoFar.take_on.Goals as goal
 
@@ -14,7 +14,7 @@ returns-clause-ok c =
     let said = c.in_ok-said.ensures in
     let old = c.args.self.now in
     let none = rw said.value at (sym c.says_on.ensures ∙ c.if-says_on.false) in
-    let node : number_at c.args.words.now 1 < length c.args.list.now.slots = rw said.value at said.node in
+    let node : number_at_word c.args.words.now 1 < length c.args.list.now.slots = rw said.value at said.node in
     rw said.value (
     takes_on c.args.list.now c.args.words.now old _ (rw c.unwrap_or.ensures at said.ok) none
     (omega (arith, node, c.requires.nodes.on, old.on.ok)) refl refl)

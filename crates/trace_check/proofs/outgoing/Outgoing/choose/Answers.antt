@@ -1,6 +1,6 @@
 use Rattle.trace_check.proofs.Words.{◌∙◌, ◌+◌, Some, None, get_or, [], sym, subst, arith, lines_of, messages_written}
 use Rattle.trace_check.proofs.Words.{Outgoing}
-use Rattle.trace_check.specs.Outgoing.{number_named}
+use Rattle.trace_check.specs.Outgoing.{number_by_line}
 use Rattle.trace_check.proofs.Taken.{HasLookedAt, line_at, looked-past, looked-taken, named-in, none_at_first}
 use Rattle.trace_check.proofs.Taken.{number_so_far, so_far-behind, taken-bare}
 use Rattle.trace_check.proofs.outgoing.Outgoing.choose.Goals as goal
@@ -33,7 +33,7 @@ loop-node-preserved c =
       | else-is_some w ↦
           subst (λ (new : Outgoing). HasLookedAt new list script slot text behind (node + 1)) (sym w.self-is)
           (looked-past list script slot text o rest behind node c.loop-node.invariant c.cut_line.ensures.others
-          (taken-bare list script slot node (number_named (get_or (lines_of text) node []))
+          (taken-bare list script slot node (number_by_line (get_or (lines_of text) node []))
           (none_at_first (λ p. p.now) c.written_in.result (messages_written script node slot)
           (sym c.is_some.ensures ∙ w.if-is_some.false) c.written_in.ensures)))
     ]

@@ -5,7 +5,7 @@ use Rattle.std.proofs.lemmas.Iterator.Consumers.{nth_from_yields_List}
 use Rattle.std.proofs.lemmas.Iterator.Splits.{YieldsList-from_slice_split}
 use Rattle.std.proofs.lemmas.List.{get_or_past}
 use Rattle.trace_check.proofs.Taken.{past_end}
-use Rattle.trace_check.proofs.text.number_named.Goals as goal
+use Rattle.trace_check.proofs.text.number_by_line.Goals as goal
 
 no_numeral : numeral_in message_digits [] ≡ None
 unfolding numeral_in

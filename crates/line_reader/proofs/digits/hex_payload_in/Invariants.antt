@@ -1,7 +1,7 @@
 use Rattle.std.proofs.Common.{◌≡◌, ◌*◌, ◌++◌, drop, take, length}
 use Rattle.std.specs.List.{list_all}
 use Rattle.line_reader.specs.Reading.{is_hex, hex_bytes_in}
-use Rattle.line_reader.proofs.digits.payload_in.Given as goal
+use Rattle.line_reader.proofs.digits.hex_payload_in.Given as goal
 
 -- the bytes so far, and those of the other digits
 abbrev pub invariant-loop-i : goal.invariant-loop-i

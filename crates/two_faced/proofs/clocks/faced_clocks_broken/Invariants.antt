@@ -1,5 +1,5 @@
 use Rattle.two_faced.proofs.Words.{◌≡◌, ℕ, ◌<◌, true, false, not, drifts_hold, told_start_if, errors_allowed_in}
-use Rattle.two_faced.proofs.clocks.clocks_broken.Given as goal
+use Rattle.two_faced.proofs.clocks.faced_clocks_broken.Given as goal
 
 -- the drifts are within their bound, and so are the errors of the slots so far
 abbrev pub invariant-loop-slot : goal.invariant-loop-slot

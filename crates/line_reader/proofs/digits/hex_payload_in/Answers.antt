@@ -3,7 +3,7 @@ use Rattle.std.proofs.Common.{arith, sym, ap, ◌∙◌}
 use Rattle.std.proofs.lemmas.List.{take_more_set, length-set}
 use Rattle.line_reader.specs.Reading.{is_hex, hex_value, hex_bytes_in}
 use Rattle.line_reader.proofs.HexDigits.{hex_bytes-next, all_hex-next}
-use Rattle.line_reader.proofs.digits.payload_in.Goals as goal
+use Rattle.line_reader.proofs.digits.hex_payload_in.Goals as goal
 
 pub loop-i-preserved : goal.loop-i-preserved
 loop-i-preserved c =

@@ -1,6 +1,0 @@
-use Rattle.script_text.proofs.Terms.{◌≡◌, true, take, is_hex}
-use Rattle.script_text.proofs.hex.is_hex.Given as goal
-
--- each byte so far is a digit
-abbrev pub invariant-loop-byte : goal.invariant-loop-byte
-invariant-loop-byte l = is_hex (take l.byte-index l.word) ≡ true
