@@ -28,8 +28,8 @@
 //! the answer that is defined there, for each valid list and script. What happens to the nodes is looked up
 //! in the script's index where it may be something else than in the slot before, and kept for as long as it
 //! stands (`src/incidents.rt`): in between, a slot in which nothing makes a node faulty costs a few steps,
-//! whatever the number of nodes and events. It takes no memory, shares nothing between threads, runs no cluster, and says nothing of what becomes of one
-//! whose script breaks a rule.
+//! whatever the number of nodes and events. It takes no memory, shares nothing between threads, runs no
+//! cluster, and says nothing of what becomes of one whose script breaks a rule.
 #![tactic(auto, using(ttp_world::proofs::Lists::nodes))]
 
 ghost use Rattle.std.specs.Prelude.{◌≡◌};
@@ -85,7 +85,7 @@ use ttp_world::{Back, Keep, Medl, Script};
 ///
 /// Slots are counted from 0, as in the script. The start may lie past the run's last slot, and is the
 /// answer all the same. Takes no memory. A slot in which something else happens than in the one before
-/// costs two look-ups in the script's index for each node, which begin where the last ones ended, one in
+/// costs at most two look-ups in the script's index for each node, which begin where the last ones ended, one in
 /// which frames are lost goes over the nodes, and each other a few steps. The events are gone over twice,
 /// with a binary search for each jump.
 pub fn keeps(list: &Medl, script: &Script) -> Keep
