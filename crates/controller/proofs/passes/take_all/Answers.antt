@@ -1,4 +1,4 @@
-use Rattle.controller.proofs.Words.{sym, subst, arith, AreKnownOf}
+use Rattle.controller.proofs.Words.{arith}
 use Rattle.controller.proofs.Parts.{ArePassed-none, ArePassed-more, ArePassed-coming, each-new}
 use Rattle.controller.proofs.passes.take_all.Goals as goal
 
@@ -22,8 +22,7 @@ pub loop-j-preserved : goal.loop-j-preserved
 loop-j-preserved c = (
   ArePassed-more c.loop-j.invariant.0 c.index-seats-j.result (omega arith)
       (c.take_one.ensures.controller, c.take_one.ensures.ends),
-  subst (AreKnownOf c.args.list.now c.carried-a.result c.carried-b.result) (sym c.take_one.ensures.keeps)
-      c.loop-j.invariant.1,
+  rw c.take_one.ensures.keeps c.loop-j.invariant.1,
 )
 
 pub returns-clause-seats : goal.returns-clause-seats
