@@ -1,29 +1,28 @@
 -- The end of a slot: the entry that a node makes by what comes to it, and how far it takes the node's clock.
-use Rattle.controller.proofs.Words.{◌≡◌, ◌≢◌, arith, ℕ, Bool, true, false, cond, not, refl, sym, subst, ◌∙◌, ◌+◌, ◌≤◌}
-use Rattle.controller.proofs.Words.{ℤ, pos, ◌+ℤ◌, ◌-ℤ◌, ◌&&◌, Option, Some, None, IfSome, unwrap_or, unsigned_abs, ◌<◌}
-use Rattle.controller.proofs.Words.{FitsSigned, w64, to_z, of_z, length, ◌==◌, nat_le, nat_tests, eqb-true, and_parts}
-use Rattle.controller.proofs.Words.{ints, to_z-of_z, Medl, Ack, Act, Off, Listen, Start, Send, CState, ChannelView}
-use Rattle.controller.proofs.Words.{Chosen, Delivered, Entry, Phase, Verdict, is_correct, coming_place, phase_act}
-use Rattle.controller.proofs.Words.{past_after, correction_after, carries_payload, channel_join, new_entry, Place}
-use Rattle.controller.proofs.Words.{SlotSurroundings, phase_after, carried, is_joinable_state, Signal, Bits, plan_at}
-use Rattle.controller.proofs.Words.{member_width, IsValid, NodePast, jump_taken, IsDeviation, Arrival, EndsAs}
+use Rattle.controller.proofs.Words.{ap, ◌≡◌, ◌≢◌, arith, ℕ, Bool, true, false, cond, not, refl, sym, subst, ◌∙◌, ◌+◌}
+use Rattle.controller.proofs.Words.{◌≤◌, ℤ, pos, ◌+ℤ◌, ◌-ℤ◌, ◌&&◌, Option, Some, None, IfSome, unwrap_or, unsigned_abs}
+use Rattle.controller.proofs.Words.{◌<◌, FitsSigned, w64, to_z, of_z, length, ◌==◌, nat_le, nat_tests, eqb-true}
+use Rattle.controller.proofs.Words.{and_parts, ints, to_z-of_z, Medl, Ack, Act, Off, Listen, Start, Send, CState}
+use Rattle.controller.proofs.Words.{ChannelView, Chosen, Delivered, Entry, Phase, Verdict, is_correct, coming_place}
+use Rattle.controller.proofs.Words.{phase_act, past_after, correction_after, carries_payload, channel_join, new_entry}
+use Rattle.controller.proofs.Words.{Place, SlotSurroundings, phase_after, carried, is_joinable_state, Signal, Bits}
+use Rattle.controller.proofs.Words.{plan_at, member_width, IsValid, NodePast, jump_taken, IsDeviation, Arrival, EndsAs}
 use Rattle.controller.proofs.Words.{hearing_of, kept, loaded_length, offset_of_arrival, ArrivalFits, IsEntryWithin}
 use Rattle.controller.proofs.Words.{IsNearEnough, IsPastWithin, Turn, Planned, ◌⊎◌, inl, inr, neg_ℤ, ◌≤ℤ◌, IsTrue, max}
 use Rattle.controller.proofs.Words.{option_or, cond_both, eqb-false, Gone, Retry, Leave, Judge, is_open, is_start_due}
 use Rattle.controller.proofs.Words.{own_act, unacknowledged_act, join_entry, judging_entry, verdict_entry, is_bare}
-use Rattle.controller.proofs.Words.{kind_at, payload_length, Intent, ReadingFits, most_clock, Expected, Hearing}
-use Rattle.controller.proofs.Words.{entry_deviation, expected_of, heard_deviation, is_taken_from_a, verdict_of, view_of}
-use Rattle.controller.proofs.Words.{better_view, is_expected_form, is_within_window, verdict_of_view, view_of_frame}
-use Rattle.controller.proofs.Words.{fta-between, taken_verdict, JumpFits}
-use Rattle.ttp_world.proofs.SmallTests.{near_of_test}
-use Rattle.ttp_world.specs.Clock.{is_corrected, join_deviation, slot_change}
+use Rattle.controller.proofs.Words.{kind_at, payload_length, Intent, ReadingFits, most_clock, fta-between, JumpFits}
+use Rattle.controller.proofs.Words.{near_of_test, is_corrected, join_deviation, slot_change, first_of_correct}
+use Rattle.ttp_world.specs.Reception.{Expected, Hearing, entry_deviation, expected_of, heard_deviation, is_taken_from_a}
+use Rattle.ttp_world.specs.Reception.{verdict_of, view_of, better_view, is_expected_form, is_within_window}
+use Rattle.ttp_world.specs.Reception.{verdict_of_view, view_of_frame}
+use Rattle.ack_check.specs.Moves.{taken_verdict}
 use Rattle.controller.specs.ControllerWithin.{IsPossible, IsPlannedWithin, IsControllerWithin, IsTurnWithin}
 use Rattle.controller.proofs.Heard.{signal_from, clock_from, shows_a, shows_b}
 use Rattle.controller.proofs.Sets.{joinable-within}
 use Rattle.controller.proofs.Standing.{loaded_or_bare}
 use Rattle.controller.proofs.Stints.{correction_after-take, kept_after-within, zero_near}
 use Rattle.ttp_world.proofs.DeliveredSizes.{of_form as not_bad}
-use Rattle.ttp_world.proofs.WorldFacts.{first_of_correct}
 use Rattle.ttp_world.specs.declared.node.Ack.TheVariants as ack
 use Rattle.ttp_world.specs.declared.node.ChannelView.TheVariants as view
 use Rattle.ttp_world.specs.declared.node.Entry.TheVariants as entry
@@ -243,15 +242,31 @@ past_after-corrected list k past e s valid node within next =
 abbrev pub furthest : ℤ → ℤ → ℤ → ℕ
 furthest own a b = max (unsigned_abs own) (max (unsigned_abs a) (unsigned_abs b))
 
+-- by what came of a sender, and late or early by so much
+joined_near : (offset jump drift deviation corrected w came error : ℤ) (most : ℕ) → unsigned_abs came ≤ most
+    → (neg_ℤ w ≤ℤ corrected) × (corrected ≤ℤ w) → deviation ≡ (came -ℤ (offset +ℤ jump)) +ℤ error
+    → unsigned_abs (offset +ℤ (jump +ℤ (drift +ℤ (deviation +ℤ corrected))))
+    ≤ most + unsigned_abs error + unsigned_abs drift + unsigned_abs w
+joined_near offset jump drift deviation corrected w came error most near small is =
+    omega (arith, ints, small.0, small.1)
+
 change_near : (e : Entry) (offset : ℤ) (s : SlotSurroundings) (corrected w : ℤ) (a b : Arrival) (error : ℤ)
     → (neg_ℤ w ≤ℤ corrected) × (corrected ≤ℤ w) → Lands a b (offset +ℤ s.jump) error s.jump e
     → unsigned_abs (offset +ℤ slot_change e s corrected)
     ≤ furthest (offset +ℤ s.jump) (offset_of_arrival a) (offset_of_arrival b) + unsigned_abs error
     + unsigned_abs s.drift + unsigned_abs w
-change_near entry.Off offset s corrected w a b error near lands = omega (arith, ints, lands)
-change_near (entry.Joined sender cstate deviation) offset s corrected w a b error near lands =
-    omega (arith, ints, near.0, near.1, lands)
-change_near _ offset s corrected w a b error near lands = omega (arith, ints, near.0, near.1)
+change_near entry.Off offset s corrected w a b error near lands =
+    let still = ap (λ (z : ℤ). unsigned_abs (offset +ℤ z)) lands in omega (arith, still)
+change_near (entry.Joined sender cstate deviation) offset s corrected w a b error near (inl is) =
+    joined_near offset s.jump s.drift deviation corrected w (offset_of_arrival a) error
+    (furthest (offset +ℤ s.jump) (offset_of_arrival a) (offset_of_arrival b)) (omega arith) near is
+change_near (entry.Joined sender cstate deviation) offset s corrected w a b error near (inr is) =
+    joined_near offset s.jump s.drift deviation corrected w (offset_of_arrival b) error
+    (furthest (offset +ℤ s.jump) (offset_of_arrival a) (offset_of_arrival b)) (omega arith) near is
+change_near _ offset s corrected w a b error near lands =
+    let still = joined_near offset s.jump s.drift (pos 0) corrected w (offset +ℤ s.jump) (pos 0)
+    (furthest (offset +ℤ s.jump) (offset_of_arrival a) (offset_of_arrival b)) (omega arith) near (omega (arith, ints)) in
+    omega (arith, still)
 
 pub past_after-near : {list : Medl} {k : ℕ} {past new : NodePast} {now : Turn} {sends : Intent} {a b : Arrival}
     {error : ℤ} {e : Entry} (s : SlotSurroundings) → IsControllerWithin list k past now sends

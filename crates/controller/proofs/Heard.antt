@@ -3,9 +3,11 @@ use Rattle.controller.proofs.Words.{◌≡◌, ℕ, zero, suc, ℤ, refl, ◌+�
 use Rattle.controller.proofs.Words.{Some, None, unwrap_or, ◌∙◌, not, IfSome, Bor, ◌==◌, Medl, Ack, CState, ChannelView}
 use Rattle.controller.proofs.Words.{Entry, carries_payload, delivery, Place, Signal, Bits, NodePast, Shows, Arrival}
 use Rattle.controller.proofs.Words.{is_silent_arrival, IsSeen, offset_of_arrival, ne_eqb, listening_entry, joinable}
-use Rattle.controller.proofs.Words.{Silence, Noise, ForSignals, deviation_by, Receives, awaited_by, IsJudgement}
-use Rattle.controller.proofs.Words.{Correct, Expected, Hearing, entry_deviation, expected_of, heard_deviation}
-use Rattle.controller.proofs.Words.{is_taken_from_a, verdict_of, view_of, expected_length, is_first_view, is_silence}
+use Rattle.controller.proofs.Words.{Silence, ForSignals, deviation_by, Receives, awaited_by, IsJudgement, is_silence}
+use Rattle.ttp_world.specs.Medium.{Noise}
+use Rattle.ttp_world.specs.declared.node.Verdict.TheVariants.{Correct}
+use Rattle.ttp_world.specs.Reception.{Expected, Hearing, entry_deviation, expected_of, heard_deviation, is_taken_from_a}
+use Rattle.ttp_world.specs.Reception.{verdict_of, view_of, expected_length, is_first_view}
 use Rattle.ttp_world.specs.declared.node.ChannelView.TheVariants.{First}
 use Rattle.ttp_world.proofs.EntriesMade.{listening_entry-holds}
 use Rattle.controller.specs.declared.hearing.Judgement.{Judgement}
@@ -65,8 +67,6 @@ of_bits P own error came bytes offset is here =
     subst (λ (a : Arrival). ForSignals a own error P) (sym is) (bits-show P own error bytes offset here)
 
 -- Judgements: where channel A is seen as the first candidate, channel B changes nothing.
-
--- The first candidate on channel A.
 
 first_is_taken : (b : ChannelView) (a : Ack) → (Correct ≡ verdict_of First b a) × (true ≡ is_taken_from_a First b)
 first_is_taken First a = (refl, refl)

@@ -1,18 +1,17 @@
 -- Controllers in a slot of the world: what each stands for at each turn is its node of the slot after the history, and
 -- what they send in the second pass is on the medium.
-use Rattle.controller.proofs.Words.{◌≡◌, ℕ, ◌<◌, ◌≤◌, ℤ, ◌+ℤ◌, Bool, List, [], ◌∷◌, length, min, Option, is_some}
-use Rattle.controller.proofs.Words.{refl, ap, sym, ◌∙◌, subst, arith, ◌+◌, get_or, set, unsigned_abs, pos, slice_get}
-use Rattle.controller.proofs.Words.{None, Some, Medl, Act, Chosen, Entry, Channel, Script, SLOT_LIMIT, act, new_entry}
+use Rattle.controller.proofs.Words.{◌≡◌, ℕ, ◌<◌, ◌≤◌, ℤ, ◌+ℤ◌, Bool, List, [], ◌∷◌, length, min, Option, is_some, refl}
+use Rattle.controller.proofs.Words.{ap, sym, ◌∙◌, subst, arith, ◌+◌, get_or, set, unsigned_abs, pos, slice_get, None}
+use Rattle.controller.proofs.Words.{Some, Medl, Act, Chosen, Entry, Channel, Script, SLOT_LIMIT, act, new_entry}
 use Rattle.controller.proofs.Words.{delivery, node_frames, History, diary_of, heard, surroundings_of, status_words}
 use Rattle.controller.proofs.Words.{past_of, is_on, is_armed, jump_of, reading_error, BegunNode, jump_taken, node_of}
-use Rattle.controller.proofs.Words.{slot_after, chosen_of, frames_of, node_of-slot_after, Arrival, Carried, Outcome}
-use Rattle.controller.proofs.Words.{Seat, hearing_of, view_clock, view_intent, turn_jump, IsBegun, kept, HasBegun}
-use Rattle.controller.proofs.Words.{IsOutcomeOf, CarriesFrames, payload_handed, HaveBegun, IsPlannedFrom, SendsOne}
-use Rattle.controller.proofs.Words.{Turn, Ended, Begun, Planned, ControllerView, AreSeats, IsFromWithin, option_map_or}
-use Rattle.controller.proofs.Words.{append-nil, length-map, entry_of, surroundings_in, frames_in, hearing_in}
-use Rattle.controller.proofs.Words.{row_in, entry_of-row_in, StandsAfter, StandsForNode, jump_begun, HasPlanned}
-use Rattle.controller.proofs.Words.{frames_by, IsFromClocks, PlansIn}
-use Rattle.std.specs.List.{flat_map}
+use Rattle.controller.proofs.Words.{slot_after, chosen_of, frames_of, Arrival, Carried, Outcome, Seat, hearing_of}
+use Rattle.controller.proofs.Words.{view_clock, view_intent, turn_jump, IsBegun, kept, HasBegun, IsOutcomeOf}
+use Rattle.controller.proofs.Words.{CarriesFrames, payload_handed, HaveBegun, IsPlannedFrom, SendsOne, Turn, Ended}
+use Rattle.controller.proofs.Words.{Begun, Planned, ControllerView, AreSeats, IsFromWithin, option_map_or, append-nil}
+use Rattle.controller.proofs.Words.{length-map, entry_of, surroundings_in, frames_in, hearing_in, row_in, StandsAfter}
+use Rattle.controller.proofs.Words.{StandsForNode, jump_begun, HasPlanned, frames_by, IsFromClocks, PlansIn, flat_map}
+use Rattle.ttp_world.proofs.Slots.{node_of-slot_after, entry_of-row_in}
 use Rattle.ttp_base.specs.NodeSet.{below}
 use Rattle.controller.specs.StandsFor.{Stands, IsSameNode, Begins, Plans, Ends, view_past, frames_planned, most_slots}
 use Rattle.controller.specs.StandsFor.{message_planned, clock_begun}

@@ -2,7 +2,7 @@
 use Rattle.controller.proofs.Words.{◌≡◌, ℕ, List, [], ◌∷◌, ◌++◌, ap, sym, ◌∙◌, subst, if◌then◌else◌, Medl, CState}
 use Rattle.controller.proofs.Words.{Place, joined_place, is_wide, Arrival, BytesAre, found_by, is_formed, payload_in}
 use Rattle.controller.proofs.Words.{member_bytes, IsPartOf, IsFormOf, KnownView, IsKnownOf, IsSameState}
-use Rattle.controller.proofs.Words.{expected_header, expected_length}
+use Rattle.ttp_world.specs.Reception.{expected_header, expected_length}
 use Rattle.std.specs.Str.{bytes_eq}
 use Rattle.ttp_frame.specs.declared.judging.Expect.{Expect}
 use Rattle.ttp_frame.specs.declared.judging.FrameMatch.{FrameMatch}

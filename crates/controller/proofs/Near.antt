@@ -1,13 +1,12 @@
 -- Clocks stay near 0: what a slot's jumps, errors and drifts add up to.
-use Rattle.controller.proofs.Words.{◌≡◌, ℕ, ◌+◌, ◌^◌, ◌<◌, ◌≤◌, ℤ, pos, [], length, Some, unsigned_abs, w64, to_z}
-use Rattle.controller.proofs.Words.{of_z, ap, sym, ◌∙◌, subst, arith, slice_get, All, ints, to_z-of_z, All-get_or, Medl}
+use Rattle.controller.proofs.Words.{◌≡◌, ℕ, ◌+◌, ◌^◌, ◌<◌, ◌≤◌, ℤ, pos, [], length, Some, unsigned_abs, w64, to_z, of_z}
+use Rattle.controller.proofs.Words.{ap, sym, ◌∙◌, subst, arith, slice_get, All, ints, to_z-of_z, All-get_or, Medl}
 use Rattle.controller.proofs.Words.{Channel, Script, SLOT_LIMIT, Signal, Bits, heard, IsValid, reading_error, Arrival}
-use Rattle.controller.proofs.Words.{Carried, Shows, ArrivalFits, IsBegun, offset_of_arrival, view_clock}
-use Rattle.controller.proofs.Words.{IsPlannedFrom, most_ahead, most_ahead_in, IsEnded, IsControllerOf, IsFromWithin}
-use Rattle.controller.proofs.Words.{IsIncidentsOf, Ended, ControllerView, fits_signed_from_abs, get_or_from_slice_get}
-use Rattle.controller.proofs.Words.{DRIFT_LIMIT, AreBounded, IsWithinSpan, drift_of, IsPlanned, JumpFits, StaysNear}
-use Rattle.controller.proofs.Words.{most_error, most_jump, max, most_clock, lit≤, add-le-add, le_trans}
-use Rattle.ttp_world.proofs.SmallTests.{span-abs}
+use Rattle.controller.proofs.Words.{Carried, Shows, ArrivalFits, IsBegun, offset_of_arrival, view_clock, IsPlannedFrom}
+use Rattle.controller.proofs.Words.{most_ahead, most_ahead_in, IsEnded, IsControllerOf, IsFromWithin, IsIncidentsOf}
+use Rattle.controller.proofs.Words.{Ended, ControllerView, fits_signed_from_abs, get_or_from_slice_get, DRIFT_LIMIT}
+use Rattle.controller.proofs.Words.{AreBounded, IsWithinSpan, drift_of, IsPlanned, JumpFits, StaysNear, most_error}
+use Rattle.controller.proofs.Words.{most_jump, max, most_clock, lit≤, add-le-add, le_trans, span-abs}
 use Rattle.ttp_world.specs.declared.events.Incidents.{Incidents}
 use Rattle.controller.specs.StandsFor.{IsSameNode, ControllerStandsFor}
 use Rattle.ttp_world.specs.declared.script.Channel.TheVariants as channel

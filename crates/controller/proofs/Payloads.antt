@@ -3,10 +3,11 @@ use Rattle.controller.proofs.Words.{◌≡◌, ℕ, ◌<◌, ◌≤◌, ℤ, Boo
 use Rattle.controller.proofs.Words.{◌+◌, arith, All, All-get_or, slice_get_within, Medl, Act, Send, Chosen, Script, act}
 use Rattle.controller.proofs.Words.{coming_place, carries_payload, Diary, History, Surroundings, diary_of}
 use Rattle.controller.proofs.Words.{surroundings_of, IsValid, plan_at, nothing_chosen, NodePast, past_of, is_on}
-use Rattle.controller.proofs.Words.{is_armed, BegunNode, node_of, slot_after, chosen_of, node_of-slot_after, Seat}
-use Rattle.controller.proofs.Words.{intent_by, loaded_length, view_intent, turn_intent, kept, HasBegun, HaveBegun}
-use Rattle.controller.proofs.Words.{IsPayloadBefore, IsPayloadFor, payload_handed, Begun, ControllerView, BegunSlot}
-use Rattle.controller.proofs.Words.{sends_payload, is_loaded, Intent, AreChosen, ArePayloadsFor, intent_before}
+use Rattle.controller.proofs.Words.{is_armed, BegunNode, node_of, slot_after, chosen_of, Seat, intent_by, loaded_length}
+use Rattle.controller.proofs.Words.{view_intent, turn_intent, kept, HasBegun, HaveBegun, IsPayloadBefore, IsPayloadFor}
+use Rattle.controller.proofs.Words.{payload_handed, Begun, ControllerView, BegunSlot, sends_payload, is_loaded, Intent}
+use Rattle.controller.proofs.Words.{AreChosen, ArePayloadsFor, intent_before}
+use Rattle.ttp_world.proofs.Slots.{node_of-slot_after}
 use Rattle.controller.specs.PlantStands.{PlantStandsFor, MayStep}
 use Rattle.controller.specs.StandsFor.{IsSameNode, Stands, view_past, payload_planned}
 use Rattle.controller.specs.PlantView.{PlantView}

@@ -2,9 +2,8 @@
 use Rattle.controller.proofs.Words.{ℕ, ◌<◌, Bool, true, false, ◌∷◌, [], List, length, subst, sym, arith, ◌≡◌, refl}
 use Rattle.controller.proofs.Words.{IfSome, ◌&&◌, ◌∙◌, bit_at, ◌==◌, and_parts, nat_tests, Medl, Ack, carried}
 use Rattle.controller.proofs.Words.{is_joinable_state, IsValid, is_wide, member_width, nodes-most, nat_lt, ltb-true}
-use Rattle.controller.proofs.Words.{node_limit, node_limit-most, IsCStateWithin, Candidates, candidate_sets, candidates}
-use Rattle.ttp_world.specs.Membership.{AreNodes}
-use Rattle.std.specs.List.{list_all}
+use Rattle.controller.proofs.Words.{node_limit, node_limit-most, IsCStateWithin, AreNodes, list_all}
+use Rattle.ttp_world.specs.Reception.{Candidates, candidate_sets, candidates}
 use Rattle.ttp_base.proofs.NodeLists.{filter-below, with_node-nil}
 use Rattle.ttp_base.proofs.NodeSets.{has_node-sieve, same_sieve}
 use Rattle.ttp_base.proofs.SetWords.{HasWord, HasWord-filter, HasWord-only, HasWord-with, HasWord-without}

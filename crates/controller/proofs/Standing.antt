@@ -8,8 +8,9 @@ use Rattle.controller.proofs.Words.{carries_payload, Place, SlotSurroundings, Di
 use Rattle.controller.proofs.Words.{status_words, NodePast, past_of, jump_taken, nodes-most, kept_notes, Arrival}
 use Rattle.controller.proofs.Words.{Outcome, EndsAs, hearing_of, is_silent_arrival, kept, intent_by, message_carried}
 use Rattle.controller.proofs.Words.{Turn, Ended, Begun, Planned, ControllerView, turn_intent, cond_both, take-take}
-use Rattle.controller.proofs.Words.{silent_slots_after, is_active_entry, may_follow, may_start, Intent, Hearing}
-use Rattle.ttp_world.specs.Clock.{slot_change, join_deviation, notes_in, begins_round}
+use Rattle.controller.proofs.Words.{silent_slots_after, is_active_entry, may_follow, may_start, Intent, slot_change}
+use Rattle.controller.proofs.Words.{join_deviation, notes_in, begins_round}
+use Rattle.ttp_world.specs.Reception.{Hearing}
 use Rattle.controller.specs.ControllerWithin.{IsPossible, IsPlannedWithin, IsControllerWithin, IsTurnWithin}
 use Rattle.controller.specs.StandsFor.{message_planned, payload_planned, Begins, Plans, frames_planned, most_slots}
 use Rattle.controller.specs.StandsFor.{Ends}
@@ -84,10 +85,6 @@ phase_act-kept phase.Listening list k on armed past few =
     ap (λ due. cond (may_start list k && due) Start Listen) (due-kept past.limit past.silent_slots few)
 phase_act-kept _ list k on armed past few = refl
 
-pub act-kept : (list : Medl) (k : ℕ) (on armed : Bool) (past : NodePast) → past.limit ≤ most_silent
-    → act list k on armed (kept past) ≡ act list k on armed past
-act-kept list k on armed past few = phase_act-kept past.phase list k on armed past few
-
 -- What it sends, and what it makes of what it hears.
 
 pub record DecidesAlike (list : Medl) (k : ℕ) (past : NodePast) (chosen : Chosen) (does : Act) : Type 0 where
@@ -128,7 +125,7 @@ pub act_kept-of : (list : Medl) (k : ℕ) (on armed : Bool) (past : NodePast) (d
     → act list k on armed past ≡ act list k on armed (past_of list k diary surroundings)
 act_kept-of list k on armed past diary surroundings valid node is =
     ap (act list k on armed) is
-    ∙ act-kept list k on armed (past_of list k diary surroundings)
+    ∙ phase_act-kept (past_of list k diary surroundings).phase list k on armed (past_of list k diary surroundings)
     (omega (arith, limit_of-within list k diary node, nodes-most list valid))
 
 pub Begins-turn : {list : Medl} {k : ℕ} {past : NodePast} {now : Turn} {sends : Intent} (slots : ℕ) (on armed : Bool)

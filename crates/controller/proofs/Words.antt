@@ -1,5 +1,4 @@
 -- The words of this crate's proofs, from one place.
-pub use Rattle.ack_check.specs.Moves.{IsDoubtElsewhere, IsMoveOf, moved_members, taken_verdict}
 pub use Rattle.controller.specs.ControllerView.{Begun, ControllerView, Ended, Planned, Turn}
 pub use Rattle.controller.specs.Ending.{EndsAs}
 pub use Rattle.controller.specs.Hearing.{ForSignals, IsFormOf, IsJudgement, IsSeen, ReadingFits, Receives, awaited_by}
@@ -40,34 +39,32 @@ pub use Rattle.std.proofs.lemmas.Option.{get_or_from_slice_get, none-some, same_
 pub use Rattle.std.proofs.lemmas.Option.{slice_get_within}
 pub use Rattle.std.specs.Borrow.{Bor}
 pub use Rattle.std.specs.Int.{bit_at}
+pub use Rattle.std.specs.List.{flat_map, list_all}
 pub use Rattle.std.specs.Option.{option_map_or, option_or, option_to_list}
 pub use Rattle.std.specs.Prelude.{All, if◌then◌else◌, nat_le, nat_lt, slice_get, ◌==◌}
 pub use Rattle.ttp_world.proofs.Averages.{fta-between, fta-take}
 pub use Rattle.ttp_world.proofs.ListFacts.{IfSome-cond, slice_get-set_same}
 pub use Rattle.ttp_world.proofs.Lists.{IsPlaceOf, IsPlaceOf-next, node_limit-most, nodes-most}
 pub use Rattle.ttp_world.proofs.MemberSets.{members_after-Judged, members_after-Sent, members_after-Started}
-pub use Rattle.ttp_world.proofs.Slots.{entry_of-row_in, node_of-slot_after}
+pub use Rattle.ttp_world.proofs.SmallTests.{near_of_test, span-abs}
+pub use Rattle.ttp_world.proofs.WorldFacts.{AreNodes-filter, AreNodes-nil, first_of_correct}
 pub use Rattle.ttp_world.specs.Acknowledgement.{is_correct, is_open}
 pub use Rattle.ttp_world.specs.Act.{act, coming_place, is_start_due, own_act, phase_act, unacknowledged_act}
 pub use Rattle.ttp_world.specs.After.{ack_answered, correction_after, is_active_entry, members_after, notes_after}
 pub use Rattle.ttp_world.specs.After.{past_after, place_after, silent_slots_after}
+pub use Rattle.ttp_world.specs.Clock.{begins_round, is_corrected, join_deviation, notes_in, slot_change}
 pub use Rattle.ttp_world.specs.Conduct.{carries_payload, channel_join, delivery, join_entry, judging_entry}
 pub use Rattle.ttp_world.specs.Conduct.{listening_entry, new_entry, node_frames, payload_taken, verdict_entry}
 pub use Rattle.ttp_world.specs.Diary.{Diary, History, Place, SlotSurroundings, Surroundings, cstate_at, diary_of}
 pub use Rattle.ttp_world.specs.Diary.{entry_of, joined_place, may_follow, next_place, phase_after}
 pub use Rattle.ttp_world.specs.Fitting.{carried, is_formed, is_joinable_state, joinable, payload_in}
-pub use Rattle.ttp_world.specs.Medium.{Bits, Noise, SentFrame, Signal, Silence, heard, is_silence, surroundings_in}
-pub use Rattle.ttp_world.specs.Medium.{surroundings_of}
+pub use Rattle.ttp_world.specs.Medium.{Bits, Signal, Silence, heard, is_silence, surroundings_in, surroundings_of}
 pub use Rattle.ttp_world.specs.Medl.{IsValid, is_bare, is_wide, kind_at, may_start, member_bytes, member_width}
 pub use Rattle.ttp_world.specs.Medl.{node_limit, payload_length, plan_at}
+pub use Rattle.ttp_world.specs.Membership.{AreNodes}
 pub use Rattle.ttp_world.specs.Messages.{flag, status_words}
 pub use Rattle.ttp_world.specs.Outgoing.{nothing_chosen}
 pub use Rattle.ttp_world.specs.Past.{NodePast, limit_of, past_of, state_of}
-pub use Rattle.ttp_world.specs.Reception.{Candidates, Expected, Hearing, better_view, candidate_sets, candidates}
-pub use Rattle.ttp_world.specs.Reception.{entry_deviation, expected_header, expected_length, expected_of}
-pub use Rattle.ttp_world.specs.Reception.{heard_deviation, is_expected_form, is_first_view, is_taken_from_a}
-pub use Rattle.ttp_world.specs.Reception.{is_within_window, verdict_of, verdict_of_view, view_of, view_of_bits}
-pub use Rattle.ttp_world.specs.Reception.{view_of_frame}
 pub use Rattle.ttp_world.specs.Script.{AreBounded, IsWithinSpan, drift_of, is_armed, is_on, jump_of, reading_error}
 pub use Rattle.ttp_world.specs.World.{BegunNode, BegunSlot, chosen_of, frames_in, frames_of, hearing_in, is_loaded}
 pub use Rattle.ttp_world.specs.World.{jump_taken, node_of, row_in, sends_payload, slot_after}
@@ -82,7 +79,6 @@ pub use Rattle.ttp_world.specs.declared.node.Delivered.{Delivered}
 pub use Rattle.ttp_world.specs.declared.node.Entry.{Entry}
 pub use Rattle.ttp_world.specs.declared.node.Phase.{Phase}
 pub use Rattle.ttp_world.specs.declared.node.Verdict.{Verdict}
-pub use Rattle.ttp_world.specs.declared.node.Verdict.TheVariants.{Correct}
 pub use Rattle.ttp_world.specs.declared.script.Channel.{Channel}
 pub use Rattle.ttp_world.specs.declared.script.Script.{Script}
 pub use Rattle.ttp_world.specs.declared.script.TheConstants.{DRIFT_LIMIT, SLOT_LIMIT}

@@ -1,6 +1,7 @@
 -- Bits are seen by how late they are, by the node that sent them.
 use Rattle.controller.proofs.Words.{◌≡◌, Some, w64, FitsSigned, rules, ap, subst, ◌∙◌, to_z-of_z, Arrival, IsSeen}
-use Rattle.controller.proofs.Words.{awaited_meant, BytesAre, view_of_bits}
+use Rattle.controller.proofs.Words.{awaited_meant, BytesAre}
+use Rattle.ttp_world.specs.Reception.{view_of_bits}
 use Rattle.controller.proofs.Heard.{of_bits}
 use Rattle.controller.proofs.hearing.see.Goals as goal
 

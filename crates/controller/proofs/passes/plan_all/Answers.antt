@@ -38,9 +38,6 @@ pub returns-clause-incidents : goal.returns-clause-incidents
 returns-clause-incidents c =
     all-new c.loop-k.invariant.passed (omega arith) c.requires.incidents (λ k x y by was. rw by.2 was)
 
-pub returns-clause-slot : goal.returns-clause-slot
-returns-clause-slot c = AreSent-slot c.loop-k.invariant
-
 pub returns-clause-medium : goal.returns-clause-medium
 returns-clause-medium c = AreSent-near c.loop-k.invariant c.requires.seats
 

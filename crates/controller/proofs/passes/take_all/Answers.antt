@@ -1,9 +1,6 @@
 use Rattle.controller.proofs.Words.{arith}
-use Rattle.controller.proofs.Parts.{ArePassed-none, ArePassed-more, ArePassed-coming, each-new}
+use Rattle.controller.proofs.Parts.{ArePassed-more, ArePassed-coming, each-new}
 use Rattle.controller.proofs.passes.take_all.Goals as goal
-
-pub loop-j-init : goal.loop-j-init
-loop-j-init c = (ArePassed-none c.args.seats.now, c.of-known.ensures)
 
 pub take_one-requires-clause-controller : goal.take_one-requires-clause-controller
 take_one-requires-clause-controller c =
@@ -14,9 +11,6 @@ pub take_one-requires-clause-incidents : goal.take_one-requires-clause-incidents
 take_one-requires-clause-incidents c =
     c.requires.incidents.each c.loop-j.j _
     (ArePassed-coming c.loop-j.invariant.0 c.index-seats-j.result (omega arith))
-
-pub take_one-requires-clause-known : goal.take_one-requires-clause-known
-take_one-requires-clause-known c = c.loop-j.invariant.1
 
 pub loop-j-preserved : goal.loop-j-preserved
 loop-j-preserved c = (
