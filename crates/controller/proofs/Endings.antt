@@ -1,47 +1,36 @@
 -- The end of a slot: the entry that a node makes by what comes to it, and how far it takes the node's clock.
-use Rattle.controller.proofs.Words.{◌≡◌, ◌≢◌, arith, ℕ, Bool, true, false, cond, not, refl, sym, subst, ◌∙◌, ◌+◌, ◌≤◌}
-use Rattle.controller.proofs.Words.{ℤ, pos, ◌+ℤ◌, ◌-ℤ◌, ◌&&◌, Option, Some, None, IfSome, unwrap_or, unsigned_abs, ◌<◌}
-use Rattle.controller.proofs.Words.{FitsSigned, w64, to_z, of_z, length, ◌==◌, nat_le, nat_tests, eqb-true, and_parts}
-use Rattle.controller.proofs.Words.{ints, to_z-of_z, Medl, Ack, Act, Off, Listen, Start, Send, CState, ChannelView}
-use Rattle.controller.proofs.Words.{Chosen, Delivered, Entry, Phase, Verdict, is_correct, coming_place, phase_act}
-use Rattle.controller.proofs.Words.{past_after, correction_after, is_corrected, join_deviation, slot_change}
-use Rattle.controller.proofs.Words.{carries_payload, channel_join, new_entry, Place, SlotSurroundings, phase_after}
-use Rattle.controller.proofs.Words.{carried, is_joinable_state, Signal, Bits, plan_at, member_width, IsValid, NodePast}
-use Rattle.controller.proofs.Words.{Expected, Hearing, entry_deviation, expected_of, heard_deviation, is_taken_from_a}
-use Rattle.controller.proofs.Words.{verdict_of, view_of, jump_taken, IsDeviation, Arrival, EndsAs, hearing_of, kept}
-use Rattle.controller.proofs.Words.{loaded_length, offset_of_arrival, ArrivalFits, IsPossible, IsPlannedWithin}
-use Rattle.controller.proofs.Words.{IsEntryWithin, IsNearEnough, IsPastWithin}
-use Rattle.std.proofs.Common.{◌⊎◌, inl}
-use Rattle.std.proofs.Common.{inr, neg_ℤ, ◌≤ℤ◌, IsTrue}
-use Rattle.std.proofs.Common.{max}
-use Rattle.std.specs.Option.{option_or}
-use Rattle.std.proofs.lemmas.Bool.{cond_both, eqb-false}
+use Rattle.controller.proofs.Words.{ap, ◌≡◌, ◌≢◌, arith, ℕ, Bool, true, false, cond, not, refl, sym, subst, ◌∙◌, ◌+◌}
+use Rattle.controller.proofs.Words.{◌≤◌, ℤ, pos, ◌+ℤ◌, ◌-ℤ◌, ◌&&◌, Option, Some, None, IfSome, unwrap_or, unsigned_abs}
+use Rattle.controller.proofs.Words.{◌<◌, FitsSigned, w64, to_z, of_z, length, ◌==◌, nat_le, nat_tests, eqb-true}
+use Rattle.controller.proofs.Words.{and_parts, ints, to_z-of_z, Medl, Ack, Act, Off, Listen, Start, Send, CState}
+use Rattle.controller.proofs.Words.{ChannelView, Chosen, Delivered, Entry, Phase, Verdict, is_correct, coming_place}
+use Rattle.controller.proofs.Words.{phase_act, past_after, correction_after, carries_payload, channel_join, new_entry}
+use Rattle.controller.proofs.Words.{Place, SlotSurroundings, phase_after, carried, is_joinable_state, Signal, Bits}
+use Rattle.controller.proofs.Words.{plan_at, member_width, IsValid, NodePast, jump_taken, IsDeviation, Arrival, EndsAs}
+use Rattle.controller.proofs.Words.{hearing_of, kept, loaded_length, offset_of_arrival, ArrivalFits, IsEntryWithin}
+use Rattle.controller.proofs.Words.{IsNearEnough, IsPastWithin, Turn, Planned, ◌⊎◌, inl, inr, neg_ℤ, ◌≤ℤ◌, IsTrue, max}
+use Rattle.controller.proofs.Words.{option_or, cond_both, eqb-false, Gone, Retry, Leave, Judge, is_open, is_start_due}
+use Rattle.controller.proofs.Words.{own_act, unacknowledged_act, join_entry, judging_entry, verdict_entry, is_bare}
+use Rattle.controller.proofs.Words.{kind_at, payload_length, Intent, ReadingFits, most_clock, fta-between, JumpFits}
+use Rattle.controller.proofs.Words.{near_of_test, is_corrected, join_deviation, slot_change, first_of_correct}
+use Rattle.ttp_world.specs.Reception.{Expected, Hearing, entry_deviation, expected_of, heard_deviation, is_taken_from_a}
+use Rattle.ttp_world.specs.Reception.{verdict_of, view_of, better_view, is_expected_form, is_within_window}
+use Rattle.ttp_world.specs.Reception.{verdict_of_view, view_of_frame}
+use Rattle.ack_check.specs.Moves.{taken_verdict}
+use Rattle.controller.specs.ControllerWithin.{IsPossible, IsPlannedWithin, IsControllerWithin, IsTurnWithin}
+use Rattle.controller.proofs.Heard.{signal_from, clock_from, shows_a, shows_b}
+use Rattle.controller.proofs.Sets.{joinable-within}
+use Rattle.controller.proofs.Standing.{loaded_or_bare}
+use Rattle.controller.proofs.Stints.{correction_after-take, kept_after-within, zero_near}
+use Rattle.ttp_world.proofs.DeliveredSizes.{of_form as not_bad}
 use Rattle.ttp_world.specs.declared.node.Ack.TheVariants as ack
-use Rattle.ttp_world.specs.declared.node.Act.TheVariants.{Gone, Retry, Leave, Judge}
 use Rattle.ttp_world.specs.declared.node.ChannelView.TheVariants as view
 use Rattle.ttp_world.specs.declared.node.Entry.TheVariants as entry
 use Rattle.ttp_world.specs.declared.node.Phase.TheVariants as phase
 use Rattle.ttp_world.specs.declared.node.Reason.TheVariants as reason
 use Rattle.ttp_world.specs.declared.node.Verdict.TheVariants as verdict
-use Rattle.ttp_world.specs.Acknowledgement.{is_open}
-use Rattle.ttp_world.specs.Act.{is_start_due, own_act, unacknowledged_act}
-use Rattle.ttp_world.specs.Conduct.{join_entry, judging_entry, verdict_entry}
-use Rattle.ttp_world.specs.Medl.{is_bare, kind_at, payload_length}
-use Rattle.ttp_world.specs.Reception.{better_view}
-use Rattle.ttp_world.specs.Reception.{is_expected_form, is_within_window, verdict_of_view}
-use Rattle.ttp_world.specs.Reception.{view_of_frame}
-use Rattle.ttp_world.proofs.Averages.{fta-between}
-use Rattle.ack_check.specs.Moves.{taken_verdict}
 use Rattle.medium.specs.declared.arrival.Arrival.TheVariants as arrival
 use Rattle.controller.specs.declared.controller.Intent.TheVariants as intent
-use Rattle.controller.specs.Hearing.{ReadingFits}
-use Rattle.controller.specs.Limits.{most_clock}
-use Rattle.controller.proofs.Heard.{signal_from, clock_from, shows_a, shows_b}
-use Rattle.controller.proofs.Sets.{joinable-within}
-use Rattle.controller.proofs.Stints.{correction_after-take, kept_after-within, zero_near}
-use Rattle.ttp_world.proofs.DeliveredSizes.{of_form as not_bad}
-use Rattle.ttp_world.proofs.WorldFacts.{first_of_correct}
-use Rattle.ttp_world.proofs.SmallTests.{near_of_test}
 
 -- A node that sends its frame is at its own slot.
 
@@ -85,16 +74,11 @@ sends-own list k past does possible sends =
 loaded-bare : (bare : Bool) (size : ℕ) → cond (not (cond bare 0 size == 0)) size 0 ≡ cond bare 0 size
 loaded-bare bare size = grind (arith, nat_tests)
 
-loaded_length-cond : (list : Medl) (k : ℕ) (loads : Bool)
-    → loaded_length list k (cond loads intent.Loaded intent.Bare) ≡ cond loads (plan_at list k).payload 0
-loaded_length-cond list k true = refl
-loaded_length-cond list k false = refl
-
 pub loaded_length-own : (list : Medl) (k : ℕ) (place : Place) → place.slot ≡ k
     → loaded_length list k (cond (carries_payload list place) intent.Loaded intent.Bare)
     ≡ payload_length list place.round place.slot
 loaded_length-own list k place own =
-    loaded_length-cond list k (carries_payload list place)
+    loaded_or_bare (loaded_length list k) (carries_payload list place)
     ∙ (λ i. cond (carries_payload list place) (plan_at list (sym own i)).payload 0)
     ∙ loaded-bare (is_bare (kind_at list place.round place.slot)) (plan_at list place.slot).payload
 
@@ -125,11 +109,6 @@ first_of : (P : Entry → Type 0) (x y : Option Entry) → P entry.Waited → If
 first_of P None None waits p q = waits
 first_of P None (Some e) waits p q = q
 first_of P (Some e) y waits p q = p
-
-if_joins : (P : Entry → Type 0) (joins : Bool) (c : CState) (deviation : ℤ)
-    → (joins ≡ true → P (entry.Joined c.slot c deviation)) → IfSome (join_entry deviation (cond joins (Some c) None)) P
-if_joins P true c deviation made = made refl
-if_joins P false c deviation made = tt
 
 -- a sum of small numbers is small
 measured-fits : (own offset error : ℤ) → unsigned_abs own + unsigned_abs offset + unsigned_abs error ≤ most_clock
@@ -210,10 +189,12 @@ module _ (list : Medl) (k : ℕ) (past : NodePast) (a b : Arrival) (error jump :
       → IfSome (channel_join list late (signal_from sender came)) (IsMade list k past a b error jump)
   made_on (arrival.Bits bytes offset) sender late valid fits lands =
       let c = carried (member_width list) bytes.now in
-      if_joins (IsMade list k past a b error jump) (is_joinable_state list c && _) c _ (λ joins. record {
+      cond_both (is_joinable_state list c && _) (Some c) None
+      (λ joinable. IfSome (join_entry (late sender) joinable) (IsMade list k past a b error jump))
+      (λ joins. record {
         within = (joinable-within list bytes.now valid (and_parts _ _ joins).0, fits);
         lands = lands c;
-      })
+      }) (λ not. tt)
   made_on _ sender late valid fits lands = tt
 
   -- by what it does
@@ -261,26 +242,41 @@ past_after-corrected list k past e s valid node within next =
 abbrev pub furthest : ℤ → ℤ → ℤ → ℕ
 furthest own a b = max (unsigned_abs own) (max (unsigned_abs a) (unsigned_abs b))
 
+-- by what came of a sender, and late or early by so much
+joined_near : (offset jump drift deviation corrected w came error : ℤ) (most : ℕ) → unsigned_abs came ≤ most
+    → (neg_ℤ w ≤ℤ corrected) × (corrected ≤ℤ w) → deviation ≡ (came -ℤ (offset +ℤ jump)) +ℤ error
+    → unsigned_abs (offset +ℤ (jump +ℤ (drift +ℤ (deviation +ℤ corrected))))
+    ≤ most + unsigned_abs error + unsigned_abs drift + unsigned_abs w
+joined_near offset jump drift deviation corrected w came error most near small is =
+    omega (arith, ints, small.0, small.1)
+
 change_near : (e : Entry) (offset : ℤ) (s : SlotSurroundings) (corrected w : ℤ) (a b : Arrival) (error : ℤ)
     → (neg_ℤ w ≤ℤ corrected) × (corrected ≤ℤ w) → Lands a b (offset +ℤ s.jump) error s.jump e
     → unsigned_abs (offset +ℤ slot_change e s corrected)
     ≤ furthest (offset +ℤ s.jump) (offset_of_arrival a) (offset_of_arrival b) + unsigned_abs error
     + unsigned_abs s.drift + unsigned_abs w
-change_near entry.Off offset s corrected w a b error near lands = omega (arith, ints, lands)
-change_near (entry.Joined sender cstate deviation) offset s corrected w a b error near lands =
-    omega (arith, ints, near.0, near.1, lands)
-change_near _ offset s corrected w a b error near lands = omega (arith, ints, near.0, near.1)
+change_near entry.Off offset s corrected w a b error near lands =
+    let still = ap (λ (z : ℤ). unsigned_abs (offset +ℤ z)) lands in omega (arith, still)
+change_near (entry.Joined sender cstate deviation) offset s corrected w a b error near (inl is) =
+    joined_near offset s.jump s.drift deviation corrected w (offset_of_arrival a) error
+    (furthest (offset +ℤ s.jump) (offset_of_arrival a) (offset_of_arrival b)) (omega arith) near is
+change_near (entry.Joined sender cstate deviation) offset s corrected w a b error near (inr is) =
+    joined_near offset s.jump s.drift deviation corrected w (offset_of_arrival b) error
+    (furthest (offset +ℤ s.jump) (offset_of_arrival a) (offset_of_arrival b)) (omega arith) near is
+change_near _ offset s corrected w a b error near lands =
+    let still = joined_near offset s.jump s.drift (pos 0) corrected w (offset +ℤ s.jump) (pos 0)
+    (furthest (offset +ℤ s.jump) (offset_of_arrival a) (offset_of_arrival b)) (omega arith) near (omega (arith, ints)) in
+    omega (arith, still)
 
-pub past_after-near : (list : Medl) (k : ℕ) (past : NodePast) (e : Entry) (s : SlotSurroundings) (a b : Arrival)
-    (error : ℤ) → IsValid list → k < length list.slots → IsPastWithin list k past
-    → IsMade list k past a b error s.jump e
-    → unsigned_abs (past_after list k past e s).offset
+pub past_after-near : {list : Medl} {k : ℕ} {past new : NodePast} {now : Turn} {sends : Intent} {a b : Arrival}
+    {error : ℤ} {e : Entry} (s : SlotSurroundings) → IsControllerWithin list k past now sends
+    → IsMade list k past a b error s.jump e → new ≡ kept (past_after list k past e s)
+    → unsigned_abs new.offset
     ≤ furthest (past.offset +ℤ s.jump) (offset_of_arrival a) (offset_of_arrival b) + unsigned_abs error
     + unsigned_abs s.drift + unsigned_abs list.window
-past_after-near list k past e s a b error valid node within made =
-    change_near e past.offset s _ list.window a b error
-    (past_after-corrected list k past e s valid node within made.within)
-    made.lands
+past_after-near {list = list} {k = k} {past = past} {a = a} {b = b} {error = error} {e = e} s within made is =
+    rw is (change_near e past.offset s _ list.window a b error
+    (past_after-corrected list k past e s within.valid within.node within.within made.within) made.lands)
 
 -- A slot that was planned so.
 
@@ -289,32 +285,39 @@ pub record IsEnded (e : Entry) (handed : Option Delivered) (list : Medl) (k : �
   pub ends : EndsAs e handed list k past does message a b (past.offset +ℤ jump) error
   pub made : IsMade list k past a b error jump e
 
+clock_fits : (offset jump : ℤ) → JumpFits offset jump → FitsSigned w64 (offset +ℤ jump)
+clock_fits offset jump fits = omega (arith, ints)
+
+reading_fits : (list : Medl) (own : ℤ) (came : Arrival) (error drift : ℤ) → ArrivalFits list own came error drift
+    → ReadingFits own came error
+reading_fits list own came error drift fits = omega arith
+
 -- what a call of the machine's numbers says of it
-pub ended-by : (made : Entry) (handed : Option Delivered) (given list : Medl) (k : ℕ) (past : NodePast) (does : Act)
-    (jump : ℤ) (message : Option ℕ) (a b : Arrival) (error drift offset : ℤ) → IsValid list
-    → IsPlannedWithin list k past does jump message → ArrivalFits list (past.offset +ℤ jump) a error drift
-    → ArrivalFits list (past.offset +ℤ jump) b error drift → FitsSigned w64 offset → FitsSigned w64 jump
-    → FitsSigned w64 error → given ≡ list → offset ≡ past.offset
-    → EndsAs made handed given k past does message a b
+pub ended-by : (made : Entry) (handed : Option Delivered) {list : Medl} {k : ℕ} {past : NodePast} {now : Turn}
+    {sends : Intent} {does : Act} {jump : ℤ} {message : Option ℕ} (a b : Arrival) (error drift offset : ℤ)
+    → IsControllerWithin list k past now sends → now ≡ Planned does jump message
+    → ArrivalFits list (past.offset +ℤ jump) a error drift → ArrivalFits list (past.offset +ℤ jump) b error drift
+    → FitsSigned w64 offset → FitsSigned w64 jump → FitsSigned w64 error → offset ≡ past.offset
+    → EndsAs made handed list k past does message a b
     (to_z w64 (of_z w64 (to_z w64 (of_z w64 offset) +ℤ to_z w64 (of_z w64 jump)))) (to_z w64 (of_z w64 error))
     → IsEnded made handed list k past does jump message a b error
-ended-by made handed given list k past does jump message a b error drift offset valid planned fits_a fits_b few_offset
-    few_jump few_error same is said =
+ended-by made handed {list = list} {k = k} {past = past} {does = does} {jump = jump} {message = message} a b error drift
+    offset within turn fits_a fits_b few_offset few_jump few_error is said =
+    let planned : IsPlannedWithin list k past does jump message = subst (IsTurnWithin list k past) turn within.turn in
     let own = past.offset +ℤ jump in
-    let few_own : FitsSigned w64 own = omega (arith, ints, planned.begun.fits) in
-    let plain = rw (
+    let ends = rw (
       to_z-of_z w64 offset few_offset,
       to_z-of_z w64 jump few_jump,
       to_z-of_z w64 error few_error,
       is,
-      to_z-of_z w64 own few_own,
+      to_z-of_z w64 own (clock_fits past.offset jump planned.begun.fits),
     ) at said in
-    let ends = subst (λ (l : Medl). EndsAs made handed l k past does message a b own error) same plain in
     let ending = ends planned.chosen planned.carries (signal_from 0 a) (signal_from 1 b) (clock_from a b) (shows_a a b)
     (shows_b a b) in
     record {
       ends = ends;
       made = subst (IsMade list k past a b error jump) (sym ending.entry)
-          (new_entry-made list k past a b error jump planned.chosen jump does valid (omega (arith, fits_a))
-          (omega (arith, fits_b)) (possible-at list k past does planned.begun.possible) planned.begun.taken);
+          (new_entry-made list k past a b error jump planned.chosen jump does within.valid
+          (reading_fits list own a error drift fits_a) (reading_fits list own b error drift fits_b)
+          (possible-at list k past does planned.begun.possible) planned.begun.taken);
     }

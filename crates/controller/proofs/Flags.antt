@@ -1,14 +1,12 @@
 -- Flags that are set one after another, the lowest first: each is added to the word of those before it.
-use Rattle.controller.proofs.Words.{◌≡◌, ◌∙◌, ◌+◌, ◌-◌, ◌*◌, ◌^◌, ◌<◌, ℕ, suc, Bool, true, false, arith, ap, subst, sym}
-use Rattle.controller.proofs.Words.{bit_at, if◌then◌else◌}
-use Rattle.std.proofs.Common.{◌%◌}
+use Rattle.controller.proofs.Words.{◌≡◌, ◌∙◌, ◌+◌, ◌-◌, ◌*◌, ◌^◌, ◌<◌, ℕ, suc, Bool, true, false, arith, ap, sym}
+use Rattle.controller.proofs.Words.{bit_at, if◌then◌else◌, ◌%◌, flag}
 use Rattle.std.specs.Int.RustNames.{bit_and, bit_or}
 use Rattle.std.proofs.Math.Nat.{mod-eq_of_lt, pow-suc}
 use Rattle.std.proofs.Math.Pow.{ones_split}
 use Rattle.std.proofs.lemmas.Nat.{and_le_l, and_mask, and_mod, mod_low, or_disjoint, pow_pos}
 use Rattle.std.proofs.lemmas.Nat.Bits.{and_pow, bit_at_above}
 use Rattle.bitflags.specs.Sets.{without}
-use Rattle.ttp_world.specs.Messages.{flag}
 
 -- to set a bit above all that are set is to add it
 or_above : (word k : ℕ) → word < 2 ^ k → bit_or word (2 ^ k) ≡ word + 2 ^ k
@@ -41,17 +39,12 @@ pub record IsAdded (k old new : ℕ) (stands : Bool) : Type 0 where
   pub below : new < 2 ^ suc k
 
 -- so it is after flag k is set or cleared, where that flag is above all that are set
-set_above : (k old : ℕ) (stands : Bool) → k < 64 → old < 2 ^ k
-    → IsAdded k old (if stands then bit_or old (2 ^ k) else without 64 old (2 ^ k)) stands
-set_above k old true within below =
-    let sum = or_above old k below in
-    record { sum = sum; below = omega (arith, sum, pow-suc 2 k) }
-set_above k old false within below =
-    let size : suc (63 - k) + k ≡ 64 = omega arith in
-    let same = ap (λ bits. without bits old (2 ^ k)) (sym size) ∙ without_above old (63 - k) k below in
-    record { sum = same ∙ omega arith; below = omega (arith, same, pow-suc 2 k) }
-
 pub added : (k : ℕ) {old new : ℕ} {stands : Bool} → k < 64 → old < 2 ^ k
     → new ≡ (if stands then bit_or old (2 ^ k) else without 64 old (2 ^ k)) → IsAdded k old new stands
-added k {old} {new} {stands} within below set =
-    subst (λ word. IsAdded k old word stands) (sym set) (set_above k old stands within below)
+added k {old} {stands = true} within below set =
+    let sum = set ∙ or_above old k below in
+    record { sum = sum; below = omega (arith, sum, pow-suc 2 k) }
+added k {old} {stands = false} within below set =
+    let size : suc (63 - k) + k ≡ 64 = omega arith in
+    let same = set ∙ ap (λ bits. without bits old (2 ^ k)) (sym size) ∙ without_above old (63 - k) k below in
+    record { sum = same ∙ omega arith; below = omega (arith, same, pow-suc 2 k) }

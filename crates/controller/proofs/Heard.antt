@@ -1,24 +1,20 @@
 -- What a node hears, judges and delivers, by what comes to it.
 use Rattle.controller.proofs.Words.{◌≡◌, ℕ, zero, suc, ℤ, refl, ◌+ℤ◌, ◌-ℤ◌, List, ap, sym, subst, pos, true, Option}
 use Rattle.controller.proofs.Words.{Some, None, unwrap_or, ◌∙◌, not, IfSome, Bor, ◌==◌, Medl, Ack, CState, ChannelView}
-use Rattle.controller.proofs.Words.{Entry, Correct, carries_payload, delivery, Place, Signal, Bits, NodePast, Expected}
-use Rattle.controller.proofs.Words.{Hearing, entry_deviation, expected_of, heard_deviation, is_taken_from_a, verdict_of}
-use Rattle.controller.proofs.Words.{view_of, expected_length, Shows, Arrival, is_silent_arrival, IsSeen}
-use Rattle.controller.proofs.Words.{offset_of_arrival}
-use Rattle.std.proofs.lemmas.Bool.{ne_eqb}
+use Rattle.controller.proofs.Words.{Entry, carries_payload, delivery, Place, Signal, Bits, NodePast, Shows, Arrival}
+use Rattle.controller.proofs.Words.{is_silent_arrival, IsSeen, offset_of_arrival, ne_eqb, listening_entry, joinable}
+use Rattle.controller.proofs.Words.{Silence, ForSignals, deviation_by, Receives, awaited_by, IsJudgement, is_silence}
+use Rattle.ttp_world.specs.Medium.{Noise}
+use Rattle.ttp_world.specs.declared.node.Verdict.TheVariants.{Correct}
+use Rattle.ttp_world.specs.Reception.{Expected, Hearing, entry_deviation, expected_of, heard_deviation, is_taken_from_a}
+use Rattle.ttp_world.specs.Reception.{verdict_of, view_of, expected_length, is_first_view}
 use Rattle.ttp_world.specs.declared.node.ChannelView.TheVariants.{First}
-use Rattle.ttp_world.specs.declared.node.Entry.TheVariants as entry
-use Rattle.ttp_world.specs.Conduct.{listening_entry}
-use Rattle.ttp_world.specs.Fitting.{joinable}
-use Rattle.ttp_world.specs.Medium.{Silence, Noise, is_silence}
-use Rattle.ttp_world.specs.Reception.{is_first_view}
 use Rattle.ttp_world.proofs.EntriesMade.{listening_entry-holds}
-use Rattle.medium.specs.declared.arrival.Arrival.TheVariants as arrival
 use Rattle.controller.specs.declared.hearing.Judgement.{Judgement}
 use Rattle.controller.specs.declared.hearing.Receiver.{Receiver}
 use Rattle.controller.specs.declared.hearing.Seen.{Seen}
-use Rattle.controller.specs.Hearing.{ForSignals, deviation_by, Receives, awaited_by}
-use Rattle.controller.specs.Hearing.{IsJudgement}
+use Rattle.ttp_world.specs.declared.node.Entry.TheVariants as entry
+use Rattle.medium.specs.declared.arrival.Arrival.TheVariants as arrival
 
 -- Whatever comes to a node shows some signals.
 
@@ -72,30 +68,20 @@ of_bits P own error came bytes offset is here =
 
 -- Judgements: where channel A is seen as the first candidate, channel B changes nothing.
 
--- The first candidate on channel A.
-
-first_is_correct : (b : ChannelView) (a : Ack) → Correct ≡ verdict_of First b a
-first_is_correct First a = refl
-first_is_correct _ a = refl
-
-first_is_taken : (b : ChannelView) → true ≡ is_taken_from_a First b
-first_is_taken First = refl
-first_is_taken _ = refl
+first_is_taken : (b : ChannelView) (a : Ack) → (Correct ≡ verdict_of First b a) × (true ≡ is_taken_from_a First b)
+first_is_taken First a = (refl, refl)
+first_is_taken _ a = (refl, refl)
 
 first_of_test : (v : ChannelView) → is_first_view v ≡ true → v ≡ First
 first_of_test First is = refl
 first_of_test _ is = cc
 
--- of both deviations, that of channel A
-taken_deviation : (d : ℤ) (b : Option ℤ) → d ≡ entry_deviation true (Some d) b
-taken_deviation d None = refl
-taken_deviation d (Some b) = refl
-
 -- a frame that is seen so carried bits
 first_heard : (list : Medl) (e : Expected) (late : ℕ → ℤ) (sent : Signal) (b : Option ℤ)
     → view_of list e late sent ≡ First
     → unwrap_or (heard_deviation late sent) (pos 0) ≡ entry_deviation true (heard_deviation late sent) b
-first_heard list e late (Bits sender bytes) b is = taken_deviation (late sender) b
+first_heard list e late (Bits sender bytes) None is = refl
+first_heard list e late (Bits sender bytes) (Some b) is = refl
 first_heard list e late _ b is = cc
 
 pub IsJudgement-first : (list : Medl) (e : Expected) (a : Ack) (h : Hearing) (seen : Seen) (deviation : ℤ)
@@ -106,25 +92,21 @@ IsJudgement-first list e a h seen deviation is first late =
     let view_a : view_of list e h.deviation h.a ≡ First = sym is.view ∙ first_of_test seen.view first in
     let view_b = view_of list e h.deviation h.b in
     record {
-      verdict = rw view_a (first_is_correct view_b a);
-      deviation = rw (late, is.deviation, view_a, ← first_is_taken view_b)
+      verdict = rw view_a (first_is_taken view_b a).0;
+      deviation = rw (late, is.deviation, view_a, ← (first_is_taken view_b a).1)
           (first_heard list e h.deviation h.a (heard_deviation h.deviation h.b) view_a);
       from_a = sym (ap is_first_view view_a);
     }
 
 -- What a receiver expects is what the node expects by its past.
 
-received : (list : Medl) (past : NodePast) (receiver : Receiver) → Receives list past receiver
-    → awaited_by receiver ≡ expected_of list receiver.number past
-received list past receiver is = cc
-
 pub IsJudgement-received : (list : Medl) (past : NodePast) (receiver : Receiver) (h : Hearing) (found : Judgement)
     (e : Expected) (a : Ack)
     → Receives list past receiver → e ≡ awaited_by receiver → a ≡ receiver.ack → IsJudgement found list e a h
     → IsJudgement found list (expected_of list receiver.number past) past.ack h
 IsJudgement-received list past receiver h found e a is expects acks judges =
-    subst (λ (x : Expected). IsJudgement found list x past.ack h) (expects ∙ received list past receiver is)
-    (subst (λ (x : Ack). IsJudgement found list e x h) (acks ∙ is.ack) judges)
+    let awaited : e ≡ expected_of list receiver.number past = cc in
+    rw (awaited, acks ∙ is.ack) at judges
 
 -- What a correct verdict delivers.
 

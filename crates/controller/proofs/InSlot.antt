@@ -1,32 +1,27 @@
 -- Controllers in a slot of the world: what each stands for at each turn is its node of the slot after the history, and
 -- what they send in the second pass is on the medium.
-use Rattle.controller.proofs.Words.{◌≡◌, ℕ, ◌<◌, ◌≤◌, ℤ, ◌+ℤ◌, Bool, List, [], ◌∷◌, ◌++◌, length, min, Option, is_some}
-use Rattle.controller.proofs.Words.{refl, ap, sym, ◌∙◌, subst, arith, ◌+◌, get_or, set, unsigned_abs, pos, flat_map}
-use Rattle.controller.proofs.Words.{slice_get, None, Some, below, Medl, Act, Chosen, Entry, Channel, Script, SLOT_LIMIT}
-use Rattle.controller.proofs.Words.{act, new_entry, delivery, node_frames, History, diary_of, heard, surroundings_of}
-use Rattle.controller.proofs.Words.{status_words, past_of, is_on, is_armed, jump_of, reading_error, BegunNode}
-use Rattle.controller.proofs.Words.{jump_taken, node_of, slot_after, chosen_of, frames_of, node_of-slot_after, Arrival}
-use Rattle.controller.proofs.Words.{Carried, Outcome, Seat, hearing_of, view_clock, view_intent, turn_jump, IsBegun}
-use Rattle.controller.proofs.Words.{kept, HasBegun, IsOutcomeOf, CarriesFrames, payload_handed, HaveBegun}
-use Rattle.controller.proofs.Words.{IsPlannedFrom, SendsOne, Stands, IsSameNode, Begins, Plans, Ends, view_past}
-use Rattle.controller.proofs.Words.{frames_planned, most_slots, message_planned, Turn, Ended, Begun, Planned}
-use Rattle.controller.proofs.Words.{ControllerView, AreSeats, IsFromWithin}
-use Rattle.std.specs.Option.{option_map_or}
-use Rattle.std.proofs.lemmas.List.{append-nil, length-map}
+use Rattle.controller.proofs.Words.{◌≡◌, ℕ, ◌<◌, ◌≤◌, ℤ, ◌+ℤ◌, Bool, List, [], ◌∷◌, length, min, Option, is_some, refl}
+use Rattle.controller.proofs.Words.{ap, sym, ◌∙◌, subst, arith, ◌+◌, get_or, set, unsigned_abs, pos, slice_get, None}
+use Rattle.controller.proofs.Words.{Some, Medl, Act, Chosen, Entry, Channel, Script, SLOT_LIMIT, act, new_entry}
+use Rattle.controller.proofs.Words.{delivery, node_frames, History, diary_of, heard, surroundings_of, status_words}
+use Rattle.controller.proofs.Words.{past_of, is_on, is_armed, jump_of, reading_error, BegunNode, jump_taken, node_of}
+use Rattle.controller.proofs.Words.{slot_after, chosen_of, frames_of, Arrival, Carried, Outcome, Seat, hearing_of}
+use Rattle.controller.proofs.Words.{view_clock, view_intent, turn_jump, IsBegun, kept, HasBegun, IsOutcomeOf}
+use Rattle.controller.proofs.Words.{CarriesFrames, payload_handed, HaveBegun, IsPlannedFrom, SendsOne, Turn, Ended}
+use Rattle.controller.proofs.Words.{Begun, Planned, ControllerView, AreSeats, IsFromWithin, option_map_or, append-nil}
+use Rattle.controller.proofs.Words.{length-map, entry_of, surroundings_in, frames_in, hearing_in, row_in, StandsAfter}
+use Rattle.controller.proofs.Words.{StandsForNode, jump_begun, HasPlanned, frames_by, IsFromClocks, PlansIn, flat_map}
+use Rattle.ttp_world.proofs.Slots.{node_of-slot_after, entry_of-row_in}
+use Rattle.ttp_base.specs.NodeSet.{below}
+use Rattle.controller.specs.StandsFor.{Stands, IsSameNode, Begins, Plans, Ends, view_past, frames_planned, most_slots}
+use Rattle.controller.specs.StandsFor.{message_planned, clock_begun}
 use Rattle.ttp_base.proofs.Below.{flat_map-next}
-use Rattle.ttp_world.specs.declared.script.Channel.TheVariants as channel
-use Rattle.ttp_world.specs.Diary.{entry_of}
-use Rattle.ttp_world.specs.Medium.{surroundings_in, SentFrame}
-use Rattle.ttp_world.specs.World.{frames_in, hearing_in, row_in}
 use Rattle.ttp_world.proofs.Silences.{is_silent_to-row_in}
-use Rattle.ttp_world.proofs.Slots.{entry_of-row_in}
-use Rattle.medium.specs.StandsFor.{MediumStandsFor, ShowsHeard, StandsAtBeginning}
-use Rattle.controller.specs.Passes.{StandsAfter, StandsForNode, jump_begun, HasPlanned, frames_by}
-use Rattle.controller.specs.Passes.{IsFromClocks, PlansIn}
-use Rattle.controller.specs.StandsFor.{clock_begun}
+use Rattle.medium.specs.StandsFor.{ShowsHeard, StandsAtBeginning}
 use Rattle.controller.proofs.Near.{AreHanded}
 use Rattle.controller.proofs.Payloads.{payload_planned-handed}
 use Rattle.controller.proofs.Parts.{ArePassed, ArePassed-none, ArePassed-more, ArePassed-coming, each-of}
+use Rattle.ttp_world.specs.declared.script.Channel.TheVariants as channel
 
 length-diary_of : (history : History) (k : ℕ) → length (diary_of history k) ≡ length history
 length-diary_of history k = length-map history (λ row. entry_of row k)
@@ -162,13 +157,11 @@ pub sends-nothing : {list : Medl} {script : Script} {k : ℕ} {chosen : Chosen} 
     → HasPlanned (slot_after list script history) chosen k new.controller
     × ([] ≡ frames_by (slot_after list script history) chosen k))
     → SendsOne list script k chosen old new carried carried
-sends-nothing {list = list} {script = script} {carried = carried} old new planned same plans = record {
+sends-nothing old new planned same plans = record {
   planned = planned;
   plans = λ history begun. (plans history begun).0;
   incidents = same;
-  puts = λ history frames begun carries. subst
-      (λ (sent : List SentFrame). CarriesFrames (slot_after list script history) sent carried)
-      (sym (append-nil frames) ∙ ap (λ (sent : List SentFrame). frames ++ sent) (plans history begun).1) carries;
+  puts = λ history frames begun carries. rw (← (plans history begun).1, append-nil frames) carries;
   clocks = λ slot clock is from. from;
 }
 
@@ -199,9 +192,7 @@ module _ {list : Medl} {script : Script} {slot : ℕ} {chosen : List Chosen} whe
   AreSent-none {seats = seats} {carried = carried} begins = record {
     passed = ArePassed-none seats;
     from = record { frames = []; stands = begins script (clock_in seats) };
-    carries = λ history long begun.
-        let clock = λ (p : ℕ). (node_of (slot_after list script history) p).clock in
-        subst (λ (t : ℕ). MediumStandsFor carried script t [] clock) (sym long) (begins script clock);
+    carries = λ history long begun. rw long (begins script _);
   }
 
   pub AreSent-more : {k : ℕ} {old new : List Seat} {before after : Carried} (d planned : Seat)
@@ -217,8 +208,7 @@ module _ {list : Medl} {script : Script} {slot : ℕ} {chosen : List Chosen} whe
             sent.from;
         carries = λ history long begun.
             let s = slot_after list script history in
-            subst (λ (frames : List SentFrame). CarriesFrames s frames after)
-            (sym (flat_map-next (frames_of s chosen) k))
+            rw (flat_map-next (frames_of s chosen) k)
             (sends.puts history _ (each-of begun k coming) (sent.carries history long begun));
       }
 
@@ -235,8 +225,7 @@ module _ {list : Medl} {script : Script} {slot : ℕ} {chosen : List Chosen} whe
       record {
         frames = sent.from.frames;
         clock = clock_in old;
-        stands = subst (λ (t : ℕ). MediumStandsFor carried script t sent.from.frames (clock_in old))
-            (sym sent.from.stands.slot) sent.from.stands;
+        stands = rw (← sent.from.stands.slot) at sent.from.stands;
         near = λ p. near (slice_get old p) p refl;
       }
     where

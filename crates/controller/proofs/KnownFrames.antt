@@ -1,25 +1,21 @@
 -- What is known of the bytes on a channel.
 use Rattle.controller.proofs.Words.{◌≡◌, ℕ, List, [], ◌∷◌, ◌++◌, ap, sym, ◌∙◌, subst, if◌then◌else◌, Medl, CState}
-use Rattle.controller.proofs.Words.{Place, joined_place, is_wide, expected_header, expected_length, Arrival, BytesAre}
-use Rattle.controller.proofs.Words.{found_by}
+use Rattle.controller.proofs.Words.{Place, joined_place, is_wide, Arrival, BytesAre, found_by, is_formed, payload_in}
+use Rattle.controller.proofs.Words.{member_bytes, IsPartOf, IsFormOf, KnownView, IsKnownOf, IsSameState}
+use Rattle.ttp_world.specs.Reception.{expected_header, expected_length}
 use Rattle.std.specs.Str.{bytes_eq}
 use Rattle.ttp_frame.specs.declared.judging.Expect.{Expect}
 use Rattle.ttp_frame.specs.declared.judging.FrameMatch.{FrameMatch}
 use Rattle.ttp_frame.specs.declared.judging.FrameMatch.TheVariants.{Match, Differs, Invalid}
 use Rattle.ttp_frame.specs.Match.{match_of}
-use Rattle.ttp_world.specs.Fitting.{is_formed, payload_in}
 use Rattle.ttp_world.specs.Frame.{big_endian, is_explicit, word_bytes}
-use Rattle.ttp_world.specs.Medl.{member_bytes}
 use Rattle.medium.specs.declared.arrival.Arrival.TheVariants as arrival
-use Rattle.medium.specs.Shows.{IsPartOf}
-use Rattle.controller.specs.Hearing.{IsFormOf}
-use Rattle.controller.specs.KnownFrame.{KnownView, IsKnownOf, IsSameState}
 
 -- what is judged by the form of the list is what bytes are to a receiver of that C-state
-pub judged-found : (list : Medl) (bytes : List ℕ) (form : Expect) (place : Place) (c : CState) (found : FrameMatch)
+pub judged-found : {list : Medl} {form : Expect} {place : Place} {found : FrameMatch} (bytes : List ℕ) (c : CState)
     → IsFormOf list place form → joined_place c ≡ place
     → found ≡ match_of form.wide bytes form.header form.payload list.schedule c → found ≡ found_by list bytes c
-judged-found list bytes form place c found is at answer =
+judged-found {list = list} bytes c is at answer =
     let header = is.header ∙ ap (expected_header list) (sym at) in
     let payload = is.payload ∙ ap (expected_length list) (sym at) in
     answer ∙ (λ i. match_of (is.wide i) bytes (header i) (payload i) list.schedule c)

@@ -1,21 +1,17 @@
 -- Clocks stay near 0: what a slot's jumps, errors and drifts add up to.
-use Rattle.controller.proofs.Words.{◌≡◌, ℕ, ◌+◌, ◌^◌, ◌<◌, ◌≤◌, ℤ, pos, ◌+ℤ◌, [], length, Some, unsigned_abs, w64, to_z}
-use Rattle.controller.proofs.Words.{of_z, ap, sym, ◌∙◌, subst, arith, slice_get, All, ints, to_z-of_z, All-get_or}
-use Rattle.controller.proofs.Words.{Incidents, Medl, Channel, Script, SLOT_LIMIT, Signal, Bits, heard, IsValid}
-use Rattle.controller.proofs.Words.{reading_error, Arrival, Carried, Shows, ArrivalFits, IsBegun, offset_of_arrival}
-use Rattle.controller.proofs.Words.{view_clock, turn_jump, IsPlannedFrom, most_ahead, most_ahead_in, IsEnded}
-use Rattle.controller.proofs.Words.{IsControllerOf, IsFromWithin, IsIncidentsOf, IsSameNode, ControllerStandsFor, Ended}
-use Rattle.controller.proofs.Words.{ControllerView}
-use Rattle.std.proofs.lemmas.Int.{fits_signed_from_abs}
-use Rattle.std.proofs.lemmas.Option.{get_or_from_slice_get}
+use Rattle.controller.proofs.Words.{◌≡◌, ℕ, ◌+◌, ◌^◌, ◌<◌, ◌≤◌, ℤ, pos, [], length, Some, unsigned_abs, w64, to_z, of_z}
+use Rattle.controller.proofs.Words.{ap, sym, ◌∙◌, subst, arith, slice_get, All, ints, to_z-of_z, All-get_or, Medl}
+use Rattle.controller.proofs.Words.{Channel, Script, SLOT_LIMIT, Signal, Bits, heard, IsValid, reading_error, Arrival}
+use Rattle.controller.proofs.Words.{Carried, Shows, ArrivalFits, IsBegun, offset_of_arrival, view_clock, IsPlannedFrom}
+use Rattle.controller.proofs.Words.{most_ahead, most_ahead_in, IsEnded, IsControllerOf, IsFromWithin, IsIncidentsOf}
+use Rattle.controller.proofs.Words.{Ended, ControllerView, fits_signed_from_abs, get_or_from_slice_get, DRIFT_LIMIT}
+use Rattle.controller.proofs.Words.{AreBounded, IsWithinSpan, drift_of, IsPlanned, JumpFits, StaysNear, most_error}
+use Rattle.controller.proofs.Words.{most_jump, max, most_clock, lit≤, add-le-add, le_trans, span-abs}
+use Rattle.ttp_world.specs.declared.events.Incidents.{Incidents}
+use Rattle.controller.specs.StandsFor.{IsSameNode, ControllerStandsFor}
 use Rattle.ttp_world.specs.declared.script.Channel.TheVariants as channel
-use Rattle.ttp_world.specs.declared.script.TheConstants.{DRIFT_LIMIT}
-use Rattle.ttp_world.specs.Script.{AreBounded, IsWithinSpan, drift_of}
 use Rattle.medium.specs.declared.arrival.Arrival.TheVariants as arrival
 use Rattle.medium.specs.StandsFor as medium
-use Rattle.controller.specs.Limits.{IsPlanned, JumpFits, StaysNear}
-use Rattle.controller.specs.PlantWithin.{most_error, most_jump}
-use Rattle.ttp_world.proofs.SmallTests.{span-abs}
 
 -- and stays the same as 64 bits
 same_number : (bound : ℕ) (z : ℤ) → IsWithinSpan bound z → bound ≤ 2 ^ 62 → to_z w64 (of_z w64 z) ≡ z
@@ -26,22 +22,17 @@ same_number bound z within few =
 -- The beginning. The clock of a controller between two slots is what it keeps.
 
 pub ended-clock : (view : ControllerView) → view.turn ≡ Ended → view_clock view ≡ view.past.offset
-ended-clock view ended = ap (λ turn. view.past.offset +ℤ turn_jump turn) ended ∙ add-nothing view.past.offset
-  where
-    add-nothing : (z : ℤ) → z +ℤ pos 0 ≡ z
-    add-nothing z = omega (arith, ints)
+ended-clock view ended = rw ended (omega (arith, ints))
 
 pub jump_same : {incidents : Incidents} → AreBounded incidents → to_z w64 (of_z w64 incidents.jump) ≡ incidents.jump
-jump_same {incidents = incidents} bounds = same_number most_jump incidents.jump bounds.jump (omega arith)
+jump_same {incidents = incidents} bounds = same_number most_jump incidents.jump bounds.jump (lit≤ tt)
 
 module _ {list : Medl} {k : ℕ} {old : ControllerView} {incidents : Incidents} (slot : ℕ)
     (of : IsControllerOf list IsEnded (most_ahead slot) k old) (bounds : AreBounded incidents) where
   -- what the clock comes to with the jump
   jumped : unsigned_abs old.past.offset + unsigned_abs (to_z w64 (of_z w64 incidents.jump)) ≤ most_ahead_in slot
-  jumped =
-      let own = ap unsigned_abs (ended-clock old of.turn) in
-      let jump = ap unsigned_abs (jump_same bounds) in
-      omega (arith, own, jump, span-abs most_jump incidents.jump bounds.jump, of.clock)
+  jumped = rw (jump_same bounds, ← ended-clock old of.turn)
+      (add-le-add of.clock (span-abs most_jump incidents.jump bounds.jump))
 
   pub jump_fits : slot ≤ SLOT_LIMIT → JumpFits old.past.offset (to_z w64 (of_z w64 incidents.jump))
   jump_fits few = omega (arith, jumped)
@@ -54,7 +45,7 @@ module _ {list : Medl} {k : ℕ} {old : ControllerView} {incidents : Incidents} 
     list = same.list ∙ of.list;
     node = same.node ∙ of.node;
     turn = begun;
-    clock = omega (arith, jumped, clock);
+    clock = le_trans clock jumped;
   }
 
 -- before the first slot it is at 0
@@ -92,8 +83,8 @@ handed {script = script} {slot = slot} {k = k} {incidents = incidents} {drift = 
     let drift_is = get_or_from_slice_get script.drift k drift (pos 0) here in
     let within = subst (IsWithinSpan DRIFT_LIMIT) drift_is
     (All-get_or (IsWithinSpan DRIFT_LIMIT) script.drift k (pos 0) node all) in
-    let same_error = same_number most_error incidents.error happens.bounds.error (omega arith) in
-    let same_drift = same_number DRIFT_LIMIT drift within (omega arith) in
+    let same_error = same_number most_error incidents.error happens.bounds.error (lit≤ tt) in
+    let same_drift = same_number DRIFT_LIMIT drift within (lit≤ tt) in
     subst (λ (q : ℤ × ℤ). AreHanded script slot k q.0 q.1) (λ i. (sym same_error i, sym same_drift i)) (record {
       error_is = ap (λ (w : Incidents). w.error) happens.value;
       drift_is = sym drift_is;
@@ -109,6 +100,20 @@ shown-near (Bits sender sent) (arrival.Bits bytes offset) clock bound shows near
 shown-near (Bits sender sent) _ clock bound shows near = absurd shows
 shown-near _ came clock bound shows near = rw shows (omega arith)
 
+-- what a slot adds up, where each part is within its limit
+sum_fits : (slot own came error drift window : ℕ) → slot < SLOT_LIMIT → own ≤ most_ahead_in slot
+    → came ≤ most_ahead_in slot → error ≤ most_error → drift ≤ 1000 → window ≤ 1000000
+    → own + came + error + drift + window ≤ most_clock
+sum_fits slot own came error drift window early near sent read drifts wide = omega arith
+
+sum_near : (slot own a b error drift window after : ℕ) → own ≤ most_ahead_in slot → a ≤ most_ahead_in slot
+    → b ≤ most_ahead_in slot → error ≤ most_error → drift ≤ 1000 → window ≤ 1000000
+    → after ≤ max own (max a b) + error + drift + window → after ≤ most_ahead (slot + 1)
+sum_near slot own a b error drift window after near near_a near_b read drifts wide stays = omega arith
+
+window_small : {list given : Medl} → IsValid list → given ≡ list → unsigned_abs given.window ≤ 1000000
+window_small valid is = rw is (omega (arith, ints, valid.window.0, valid.window.1))
+
 -- So all that a controller is to add up fits, and its clock stays near 0.
 module _ {carried : Carried} {script : Script} {list : Medl} {k : ℕ} {view : ControllerView} {error drift : ℤ}
     (valid : IsValid list) (from : IsFromWithin carried script (most_ahead_in carried.slot))
@@ -120,30 +125,21 @@ module _ {carried : Carried} {script : Script} {list : Medl} {k : ℕ} {view : C
       shown-near (heard script carried.slot k c from.frames) came from.clock (most_ahead_in carried.slot)
       (shows carried.slot from.frames from.clock from.stands) from.near
 
-  window-small : unsigned_abs view.list.window ≤ 1000000
-  window-small =
-      subst (λ (l : Medl). unsigned_abs l.window ≤ 1000000) (sym of.list)
-      (omega (arith, ints, valid.window.0, valid.window.1))
-
   pub arrival_fits : (c : Channel) (came : Arrival) → carried.slot < SLOT_LIMIT
       → medium.ShowsHeard carried script k c came → ArrivalFits view.list (view_clock view) came error drift
   arrival_fits c came early shows =
-      let near = heard-near c came shows in
-      let window = window-small in
-      omega (arith, of.clock, near, handed.few_error, handed.few_drift, window)
+      sum_fits carried.slot _ _ _ _ _ early of.clock (heard-near c came shows) handed.few_error handed.few_drift
+      (window_small valid of.list)
 
   pub ended-controller : {new : ControllerView} (a b : Arrival) → medium.ShowsHeard carried script k channel.A a
       → medium.ShowsHeard carried script k channel.B b → IsSameNode view new
       → StaysNear new.past.offset view a b error drift → new.turn ≡ Ended
       → IsControllerOf list IsEnded (most_ahead (carried.slot + 1)) k new
   ended-controller {new = new} a b on_a on_b same near turn =
-      let own = ap unsigned_abs (ended-clock new turn) in
-      let near_a = heard-near channel.A a on_a in
-      let near_b = heard-near channel.B b on_b in
-      let window = window-small in
       record {
         list = same.list ∙ of.list;
         node = same.node ∙ of.node;
         turn = turn;
-        clock = omega (arith, own, of.clock, near_a, near_b, handed.few_error, handed.few_drift, window, near);
+        clock = rw (ended-clock new turn) (sum_near carried.slot _ _ _ _ _ _ _ of.clock (heard-near channel.A a on_a)
+            (heard-near channel.B b on_b) handed.few_error handed.few_drift (window_small valid of.list) near);
       }

@@ -1,22 +1,16 @@
 -- A pass over a part of a cluster's nodes: each element is written once.
 use Rattle.controller.proofs.Words.{◌≡◌, ◌≢◌, ℕ, zero, suc, ◌+◌, ◌-◌, ◌<◌, ◌≤◌, List, [], ◌∷◌, ◌++◌, length, get_or}
 use Rattle.controller.proofs.Words.{set, Some, refl, sym, ap, ◌∙◌, subst, arith, slice_get, slice_get_within, same_Some}
-use Rattle.controller.proofs.Words.{none-some}
-use Rattle.std.proofs.Common.{⊎_elim, below_more}
-use Rattle.std.proofs.lemmas.Bool.{cases_lt}
-use Rattle.std.proofs.lemmas.List.{length-set}
-use Rattle.std.proofs.lemmas.Option.{slice_get-get_or}
+use Rattle.controller.proofs.Words.{none-some, ⊎_elim, below_more, cases_lt, length-set, same_lists}
+use Rattle.controller.proofs.Words.{get_or_from_slice_get, slice_get-get_or, slice_get-set_same}
 use Rattle.controller.specs.Parts.{EachFrom}
-use Rattle.ttp_world.proofs.ListFacts.{slice_get-set_same}
 
 -- what is at a place after a write
 
 slice_get-set_other : {X : Type 0} (xs : List X) (i k : ℕ) (y : X) → k ≢ i → slice_get (set xs i y) k ≡ slice_get xs k
-slice_get-set_other [] i k y other = refl
 slice_get-set_other (x ∷ xs) zero zero y other = absurd (other refl)
-slice_get-set_other (x ∷ xs) zero (suc k) y other = refl
-slice_get-set_other (x ∷ xs) (suc i) zero y other = refl
 slice_get-set_other (x ∷ xs) (suc i) (suc k) y other = slice_get-set_other xs i k y (λ same. other (ap suc same))
+slice_get-set_other _ i k y other = refl
 
 -- what was and is at a place that was written
 pub record IsPassed {X : Type 0} (R : ℕ → X → X → Type 0) (k : ℕ) (old new : List X) : Type 0 where
@@ -81,25 +75,14 @@ module _ {X : Type 0} {R : ℕ → X → X → Type 0} {i : ℕ} {old new : List
       each-new all was (λ j x y by. let at : j ≡ 0 + j = omega arith in
       subst (λ (n : ℕ). P n x → Q n y) at (step j x y by))
 
--- When all were written as they stand in another list, they are that list.
-
-same_lists : {X : Type 0} (xs ys : List X) → length xs ≡ length ys
-    → ((k : ℕ) (y : X) → slice_get ys k ≡ Some y → slice_get xs k ≡ Some y) → xs ≡ ys
-same_lists [] [] count same = refl
-same_lists [] (y ∷ ys) count same = absurd (omega (arith, count))
-same_lists (x ∷ xs) [] count same = absurd (omega (arith, count))
-same_lists (x ∷ xs) (y ∷ ys) count same =
-    let first : x ≡ y = same_Some _ _ (same 0 y refl) in
-    let rest = same_lists xs ys (omega (arith, count)) (λ k z here. same (suc k) z here) in
-    λ i. first i ∷ rest i
-
+-- when all were written as they stand in another list, they are that list
 pub all-copied : {X : Type 0} {i : ℕ} {old new : List X} (from : List X)
     → ArePassed (λ j before after. slice_get from j ≡ Some after) i old new → length old ≤ i → length old ≡ length from
     → new ≡ from
 all-copied {new = new} from passed all count =
-    same_lists new from (passed.count ∙ count) (λ k y here.
-    let at = passed.done k (omega (arith, slice_get_within from k y here, count)) in
-    at.is ∙ sym at.by ∙ here)
+    same_lists new from (passed.count ∙ count) (λ k d within.
+    let at = passed.done k (omega (arith, passed.count)) in
+    get_or_from_slice_get new k at.after d at.is ∙ sym (get_or_from_slice_get from k at.after d at.by))
 
 -- What holds of each element holds of the one at a place of a part that begins with node 0.
 pub each-of : {X : Type 0} {P : ℕ → X → Type 0} {xs : List X} {x : X} → EachFrom 0 P xs → (k : ℕ)

@@ -3,18 +3,16 @@ use Rattle.controller.proofs.Words.{◌≡◌, ℕ, ◌<◌, ◌≤◌, ℤ, Boo
 use Rattle.controller.proofs.Words.{◌+◌, arith, All, All-get_or, slice_get_within, Medl, Act, Send, Chosen, Script, act}
 use Rattle.controller.proofs.Words.{coming_place, carries_payload, Diary, History, Surroundings, diary_of}
 use Rattle.controller.proofs.Words.{surroundings_of, IsValid, plan_at, nothing_chosen, NodePast, past_of, is_on}
-use Rattle.controller.proofs.Words.{is_armed, BegunNode, node_of, slot_after, chosen_of, node_of-slot_after, Seat}
-use Rattle.controller.proofs.Words.{intent_by, loaded_length, view_intent, turn_intent, kept, HasBegun, HaveBegun}
-use Rattle.controller.proofs.Words.{IsPayloadBefore, IsPayloadFor, payload_handed, PlantStandsFor, IsSameNode, Stands}
-use Rattle.controller.proofs.Words.{view_past, payload_planned, Begun, ControllerView}
-use Rattle.ttp_world.specs.World.{BegunSlot, sends_payload, is_loaded}
-use Rattle.controller.specs.declared.controller.Intent.{Intent}
-use Rattle.controller.specs.declared.controller.Intent.TheVariants as intent
-use Rattle.controller.specs.Passes.{AreChosen, ArePayloadsFor}
-use Rattle.controller.specs.Passes.{intent_before}
-use Rattle.controller.specs.PlantStands.{MayStep}
+use Rattle.controller.proofs.Words.{is_armed, BegunNode, node_of, slot_after, chosen_of, Seat, intent_by, loaded_length}
+use Rattle.controller.proofs.Words.{view_intent, turn_intent, kept, HasBegun, HaveBegun, IsPayloadBefore, IsPayloadFor}
+use Rattle.controller.proofs.Words.{payload_handed, Begun, ControllerView, BegunSlot, sends_payload, is_loaded, Intent}
+use Rattle.controller.proofs.Words.{AreChosen, ArePayloadsFor, intent_before}
+use Rattle.ttp_world.proofs.Slots.{node_of-slot_after}
+use Rattle.controller.specs.PlantStands.{PlantStandsFor, MayStep}
+use Rattle.controller.specs.StandsFor.{IsSameNode, Stands, view_past, payload_planned}
 use Rattle.controller.specs.PlantView.{PlantView}
-use Rattle.controller.proofs.Standing.{act_kept-of}
+use Rattle.controller.proofs.Standing.{act_kept-of, loaded_or_bare}
+use Rattle.controller.specs.declared.controller.Intent.TheVariants as intent
 
 -- the payload that is handed to a node is as long as it asks for, where that which is chosen for a frame that carries
 -- payload is as long as the list says
@@ -30,15 +28,10 @@ intent_by-kept list past Send = refl
 intent_by-kept list past _ = refl
 
 -- the payload is the one that the node's frame carries
-
-carried_or : (carries : Bool) (chosen : Chosen)
-    → cond carries chosen.payload [] ≡ payload_handed (cond carries intent.Loaded intent.Bare) chosen
-carried_or true chosen = refl
-carried_or false chosen = refl
-
 payload_by-intent : (list : Medl) (past : NodePast) (chosen : Chosen) (a : Act)
     → payload_planned list past chosen a ≡ payload_handed (intent_by list past a) chosen
-payload_by-intent list past chosen Send = carried_or (carries_payload list (coming_place list past)) chosen
+payload_by-intent list past chosen Send =
+    sym (loaded_or_bare (λ wanted. payload_handed wanted chosen) (carries_payload list (coming_place list past)))
 payload_by-intent list past chosen _ = refl
 
 pub payload_planned-handed : {view : ControllerView} {diary : Diary} {surroundings : Surroundings} {a : Act} {jump : ℤ}

@@ -1,11 +1,8 @@
 -- What a slot makes of a plant, and leaves for the hosts of its nodes.
 use Rattle.controller.proofs.Words.{◌≡◌, ℕ, zero, suc, ◌+◌, ◌<◌, List, [], ◌∷◌, length, get_or, Some, refl, sym, ap}
 use Rattle.controller.proofs.Words.{◌∙◌, subst, arith, slice_get, none-some, same_Some, Medl, Chosen, Script, History}
-use Rattle.controller.proofs.Words.{Seat, IsOutcomeOf, PlantStandsFor, no_outcome, outcomes_of, plant_of, AreSeats}
-use Rattle.controller.proofs.Words.{IsEnded, most_ahead}
-use Rattle.std.proofs.Common.{add-one}
-use Rattle.controller.specs.Passes.{AreLeft, HaveEnded}
-use Rattle.controller.specs.PlantStands.{IsStep}
+use Rattle.controller.proofs.Words.{Seat, IsOutcomeOf, AreSeats, IsEnded, most_ahead, add-one, AreLeft, HaveEnded}
+use Rattle.controller.specs.PlantStands.{PlantStandsFor, no_outcome, outcomes_of, plant_of, IsStep}
 use Rattle.controller.proofs.Parts.{each-of}
 
 -- each place of a list has something

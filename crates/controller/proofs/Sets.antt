@@ -1,21 +1,16 @@
 -- Sets of a list's nodes: they have room in its frames, and those on which a node joins are such.
 use Rattle.controller.proofs.Words.{ℕ, ◌<◌, Bool, true, false, ◌∷◌, [], List, length, subst, sym, arith, ◌≡◌, refl}
 use Rattle.controller.proofs.Words.{IfSome, ◌&&◌, ◌∙◌, bit_at, ◌==◌, and_parts, nat_tests, Medl, Ack, carried}
-use Rattle.controller.proofs.Words.{is_joinable_state, IsValid, is_wide, member_width, AreNodes, nodes-most}
-use Rattle.std.specs.List.{list_all}
-use Rattle.std.specs.Prelude.{nat_lt}
-use Rattle.std.proofs.lemmas.Bool.{ltb-true}
+use Rattle.controller.proofs.Words.{is_joinable_state, IsValid, is_wide, member_width, nodes-most, nat_lt, ltb-true}
+use Rattle.controller.proofs.Words.{node_limit, node_limit-most, IsCStateWithin, AreNodes, list_all}
+use Rattle.ttp_world.specs.Reception.{Candidates, candidate_sets, candidates}
 use Rattle.ttp_base.proofs.NodeLists.{filter-below, with_node-nil}
 use Rattle.ttp_base.proofs.NodeSets.{has_node-sieve, same_sieve}
 use Rattle.ttp_base.proofs.SetWords.{HasWord, HasWord-filter, HasWord-only, HasWord-with, HasWord-without}
 use Rattle.ttp_base.proofs.SetWords.{set_bits-small}
 use Rattle.ttp_base.specs.NodeSet.{most_nodes, has_node, with_node, without_node, members_in}
-use Rattle.ttp_world.specs.declared.node.Ack.TheVariants as ack
-use Rattle.ttp_world.specs.Medl.{node_limit}
-use Rattle.ttp_world.specs.Reception.{Candidates, candidate_sets, candidates}
-use Rattle.ttp_world.proofs.Lists.{node_limit-most}
 use Rattle.ttp_frame.specs.Shape.{HaveRoom}
-use Rattle.controller.specs.Within.{IsCStateWithin}
+use Rattle.ttp_world.specs.declared.node.Ack.TheVariants as ack
 
 -- a set has a word of the list's frames
 abbrev HasListWord : Medl → List ℕ → Type 0
@@ -24,34 +19,31 @@ HasListWord list members = HasWord (node_limit list) members
 has_room : (list : Medl) (members : List ℕ) → HasListWord list members → HaveRoom (is_wide list) members
 has_room list members word = set_bits-small (node_limit list) members word (node_limit-most list)
 
-nodes-word : (list : Medl) (members : List ℕ) → IsValid list → AreNodes list members → HasListWord list members
-nodes-word list members valid are =
-    subst (HasListWord list) (sym are)
-    (HasWord-filter (node_limit list) (has_node members) (length list.slots) valid.count.1 (nodes-most list valid))
+module _ (list : Medl) (valid : IsValid list) where
+  nodes-word : (members : List ℕ) → AreNodes list members → HasListWord list members
+  nodes-word members are = rw are
+      (HasWord-filter (node_limit list) (has_node members) (length list.slots) valid.count.1 (nodes-most list valid))
 
-with_node-word : (list : Medl) (members : List ℕ) (k : ℕ) → IsValid list → k < length list.slots
-    → HasListWord list members → HasListWord list (with_node members k)
-with_node-word list members k valid node has =
-    HasWord-with (node_limit list) members k has (omega (arith, valid.count)) (omega (arith, nodes-most list valid))
+  with_node-word : (members : List ℕ) (k : ℕ) → k < length list.slots → HasListWord list members
+      → HasListWord list (with_node members k)
+  with_node-word members k node has =
+      HasWord-with (node_limit list) members k has (omega (arith, valid.count)) (omega (arith, nodes-most list valid))
 
-without_node-word : (list : Medl) (members : List ℕ) (k : ℕ) → IsValid list → k < length list.slots
-    → HasListWord list members → HasListWord list (without_node members k)
-without_node-word list members k valid node has =
-    HasWord-without (node_limit list) members k has (omega (arith, nodes-most list valid))
+  without_node-word : (members : List ℕ) (k : ℕ) → k < length list.slots → HasListWord list members
+      → HasListWord list (without_node members k)
+  without_node-word members k node has =
+      HasWord-without (node_limit list) members k has (omega (arith, nodes-most list valid))
 
-pub nodes-room : (list : Medl) (members : List ℕ) → IsValid list → AreNodes list members
-    → HaveRoom (is_wide list) members
-nodes-room list members valid are = has_room list members (nodes-word list members valid are)
+  pub nodes-room : (members : List ℕ) → AreNodes list members → HaveRoom (is_wide list) members
+  nodes-room members are = has_room list members (nodes-word members are)
 
-pub with_node-room : (list : Medl) (members : List ℕ) (k : ℕ) → IsValid list → AreNodes list members
-    → k < length list.slots → HaveRoom (is_wide list) (with_node members k)
-with_node-room list members k valid are node =
-    has_room list _ (with_node-word list members k valid node (nodes-word list members valid are))
+  pub with_node-room : (members : List ℕ) (k : ℕ) → AreNodes list members → k < length list.slots
+      → HaveRoom (is_wide list) (with_node members k)
+  with_node-room members k are node = has_room list _ (with_node-word members k node (nodes-word members are))
 
-pub only-room : (list : Medl) (k : ℕ) → IsValid list → k < length list.slots → HaveRoom (is_wide list) (k ∷ [])
-only-room list k valid node =
-    has_room list _ (HasWord-only (node_limit list) k (omega (arith, valid.count))
-    (omega (arith, nodes-most list valid)))
+  pub only-room : (k : ℕ) → k < length list.slots → HaveRoom (is_wide list) (k ∷ [])
+  only-room k node = has_room list _ (HasWord-only (node_limit list) k (omega (arith, valid.count))
+      (omega (arith, nodes-most list valid)))
 
 pub ruleset rooms = (nodes-room, with_node-room, only-room, with_node-nil, nodes-most)
 
@@ -61,30 +53,28 @@ pub record HaveRooms (list : Medl) (c : Candidates) : Type 0 where
   pub first : HaveRoom (is_wide list) c.first
   pub second : IfSome c.second (HaveRoom (is_wide list))
 
-candidate_sets-room : (list : Medl) (a : Ack) (own : ℕ) (members : List ℕ) → IsValid list → own < length list.slots
-    → ((x : ℕ) → a ≡ ack.Doubt x → x < length list.slots) → HasListWord list members
-    → HaveRooms list (candidate_sets a own members)
-candidate_sets-room list ack.Closed own members valid node doubt has =
-    record { first = has_room list _ has; second = tt }
-candidate_sets-room list ack.First own members valid node doubt has = record {
-  first = has_room list _ (with_node-word list members own valid node has);
-  second = has_room list _ (without_node-word list members own valid node has);
-}
-candidate_sets-room list (ack.Doubt x) own members valid node doubt has = record {
-  first = has_room list _ (without_node-word list (with_node members own) x valid (doubt x refl)
-      (with_node-word list members own valid node has));
-  second = has_room list _ (with_node-word list (without_node members own) x valid (doubt x refl)
-      (without_node-word list members own valid node has));
-}
+module _ (list : Medl) (a : Ack) (own : ℕ) (valid : IsValid list) (node : own < length list.slots)
+    (doubt : (x : ℕ) → a ≡ ack.Doubt x → x < length list.slots) where
+  candidate_sets-room : (b : Ack) (members : List ℕ) → a ≡ b → HasListWord list members
+      → HaveRooms list (candidate_sets b own members)
+  candidate_sets-room ack.Closed members same has = record { first = has_room list _ has; second = tt }
+  candidate_sets-room ack.First members same has = record {
+    first = has_room list _ (with_node-word list valid members own node has);
+    second = has_room list _ (without_node-word list valid members own node has);
+  }
+  candidate_sets-room (ack.Doubt x) members same has = record {
+    first = has_room list _ (without_node-word list valid (with_node members own) x (doubt x same)
+        (with_node-word list valid members own node has));
+    second = has_room list _ (with_node-word list valid (without_node members own) x (doubt x same)
+        (without_node-word list valid members own node has));
+  }
 
--- where they are made of nodes of the list
-pub candidates-room : (list : Medl) (a : Ack) (own : ℕ) (members : List ℕ) (sender : ℕ) → IsValid list
-    → own < length list.slots → sender < length list.slots
-    → ((x : ℕ) → a ≡ ack.Doubt x → x < length list.slots) → AreNodes list members
-    → HaveRooms list (candidates a own members sender)
-candidates-room list a own members sender valid node sends doubt are =
-    candidate_sets-room list a own (with_node members sender) valid node doubt
-    (with_node-word list members sender valid sends (nodes-word list members valid are))
+  -- where they are made of nodes of the list
+  pub candidates-room : (members : List ℕ) (sender : ℕ) → sender < length list.slots → AreNodes list members
+      → HaveRooms list (candidates a own members sender)
+  candidates-room members sender sends are =
+      candidate_sets-room a (with_node members sender) refl
+      (with_node-word list valid members sender sends (nodes-word list valid members are))
 
 -- A C-state on which a node joins is one of the list.
 

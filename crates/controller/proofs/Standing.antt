@@ -1,28 +1,27 @@
 -- What a controller stands for at each turn of a slot: what it keeps is all that the rules ask of its node's past.
 use Rattle.controller.proofs.Words.{◌≡◌, ◌≢◌, ℕ, zero, ◌+◌, ◌≤◌, min, ℤ, ◌+ℤ◌, Bool, true, false, cond, ◌&&◌, List, []}
-use Rattle.controller.proofs.Words.{◌∷◌, length, take, refl, ap, sym, ◌∙◌, arith, ◌<◌, Some, None, Option, subst, suc}
+use Rattle.controller.proofs.Words.{◌∷◌, length, take, refl, ap, sym, ◌∙◌, arith, ◌<◌, None, Option, subst, suc}
 use Rattle.controller.proofs.Words.{is_some, ◌++◌, nat_le, nat_tests, length-take, Medl, Act, Start, Listen, Send, Off}
 use Rattle.controller.proofs.Words.{Chosen, Delivered, Entry, Phase, act, phase_act, coming_place, past_after}
-use Rattle.controller.proofs.Words.{notes_after, correction_after, place_after, slot_change, join_deviation}
-use Rattle.controller.proofs.Words.{node_frames, new_entry, delivery, carries_payload, Place, SlotSurroundings, Diary}
-use Rattle.controller.proofs.Words.{Surroundings, IsValid, status_words, NodePast, past_of, Hearing, jump_taken}
-use Rattle.controller.proofs.Words.{nodes-most, kept_notes, Arrival, Outcome, EndsAs, hearing_of, is_silent_arrival}
-use Rattle.controller.proofs.Words.{kept, intent_by, message_carried, IsPossible, IsPlannedWithin, message_planned}
-use Rattle.controller.proofs.Words.{payload_planned, Begins, Plans, frames_planned, most_slots, Ends, Turn, Ended}
-use Rattle.controller.proofs.Words.{Begun, Planned, ControllerView}
-use Rattle.std.proofs.lemmas.List.{take-take}
-use Rattle.ttp_world.specs.declared.node.Entry.TheVariants as entry
-use Rattle.ttp_world.specs.declared.node.Phase.TheVariants as phase
-use Rattle.ttp_world.specs.After.{silent_slots_after, is_active_entry}
-use Rattle.ttp_world.specs.Clock.{notes_in, begins_round}
-use Rattle.ttp_world.specs.Diary.{may_follow}
-use Rattle.ttp_world.specs.Medl.{may_start}
+use Rattle.controller.proofs.Words.{notes_after, correction_after, place_after, node_frames, new_entry, delivery}
+use Rattle.controller.proofs.Words.{carries_payload, Place, SlotSurroundings, Diary, Surroundings, IsValid}
+use Rattle.controller.proofs.Words.{status_words, NodePast, past_of, jump_taken, nodes-most, kept_notes, Arrival}
+use Rattle.controller.proofs.Words.{Outcome, EndsAs, hearing_of, is_silent_arrival, kept, intent_by, message_carried}
+use Rattle.controller.proofs.Words.{Turn, Ended, Begun, Planned, ControllerView, turn_intent, cond_both, take-take}
+use Rattle.controller.proofs.Words.{silent_slots_after, is_active_entry, may_follow, may_start, Intent, slot_change}
+use Rattle.controller.proofs.Words.{join_deviation, notes_in, begins_round}
+use Rattle.ttp_world.specs.Reception.{Hearing}
+use Rattle.controller.specs.ControllerWithin.{IsPossible, IsPlannedWithin, IsControllerWithin, IsTurnWithin}
+use Rattle.controller.specs.StandsFor.{message_planned, payload_planned, Begins, Plans, frames_planned, most_slots}
+use Rattle.controller.specs.StandsFor.{Ends}
 use Rattle.ttp_world.proofs.Entries.{new_entry-follows}
 use Rattle.ttp_world.proofs.Pasts.{past_of-cons}
 use Rattle.cold_start.specs.Listening.{most_silent}
-use Rattle.controller.specs.declared.controller.Intent.TheVariants as intent
 use Rattle.controller.proofs.Heard.{silence-shown}
 use Rattle.controller.proofs.Stints.{limit_of-within, correction_after-take}
+use Rattle.ttp_world.specs.declared.node.Entry.TheVariants as entry
+use Rattle.ttp_world.specs.declared.node.Phase.TheVariants as phase
+use Rattle.controller.specs.declared.controller.Intent.TheVariants as intent
 
 -- Silent slots.
 
@@ -86,10 +85,6 @@ phase_act-kept phase.Listening list k on armed past few =
     ap (λ due. cond (may_start list k && due) Start Listen) (due-kept past.limit past.silent_slots few)
 phase_act-kept _ list k on armed past few = refl
 
-pub act-kept : (list : Medl) (k : ℕ) (on armed : Bool) (past : NodePast) → past.limit ≤ most_silent
-    → act list k on armed (kept past) ≡ act list k on armed past
-act-kept list k on armed past few = phase_act-kept past.phase list k on armed past few
-
 -- What it sends, and what it makes of what it hears.
 
 pub record DecidesAlike (list : Medl) (k : ℕ) (past : NodePast) (chosen : Chosen) (does : Act) : Type 0 where
@@ -130,15 +125,15 @@ pub act_kept-of : (list : Medl) (k : ℕ) (on armed : Bool) (past : NodePast) (d
     → act list k on armed past ≡ act list k on armed (past_of list k diary surroundings)
 act_kept-of list k on armed past diary surroundings valid node is =
     ap (act list k on armed) is
-    ∙ act-kept list k on armed (past_of list k diary surroundings)
+    ∙ phase_act-kept (past_of list k diary surroundings).phase list k on armed (past_of list k diary surroundings)
     (omega (arith, limit_of-within list k diary node, nodes-most list valid))
 
-pub Begins-turn : (list : Medl) (k : ℕ) (past : NodePast) (slots : ℕ) (now : Turn) (on armed : Bool) (jump : ℤ)
-    (does : Act) (jumped : ℤ) → IsValid list → k < length list.slots
+pub Begins-turn : {list : Medl} {k : ℕ} {past : NodePast} {now : Turn} {sends : Intent} (slots : ℕ) (on armed : Bool)
+    (jump : ℤ) (does : Act) (jumped : ℤ) → IsControllerWithin list k past now sends
     → does ≡ act list k on armed past → jumped ≡ jump_taken does jump
     → Begins (view_at list k past slots now) (view_at list k past slots (Begun does jumped)) on armed jump
-Begins-turn list k past slots now on armed jump does jumped valid node is taken = λ diary surroundings stands.
-    let done = is ∙ act_kept-of list k on armed past diary surroundings valid node stands.past in
+Begins-turn {list} {k} {past} slots on armed jump does jumped within is taken = λ diary surroundings stands.
+    let done = is ∙ act_kept-of list k on armed past diary surroundings within.valid within.node stands.past in
     record {
       past = stands.past;
       slots = stands.slots;
@@ -147,16 +142,17 @@ Begins-turn list k past slots now on armed jump does jumped valid node is taken 
 
 -- The plan.
 
-message_carried-cond : (loads : Bool) (number : ℕ)
-    → message_carried (cond loads intent.Loaded intent.Bare) number ≡ cond loads (Some number) None
-message_carried-cond true number = refl
-message_carried-cond false number = refl
+-- what is told of a frame with payload or of one without is told of either
+pub loaded_or_bare : {X : Type 0} (f : Intent → X) (loads : Bool)
+    → f (cond loads intent.Loaded intent.Bare) ≡ cond loads (f intent.Loaded) (f intent.Bare)
+loaded_or_bare f true = refl
+loaded_or_bare f false = refl
 
 -- what a node sends tells the message in its frame
-pub message_carried-planned : (list : Medl) (past : NodePast) (chosen : Chosen) (does : Act)
+message_carried-planned : (list : Medl) (past : NodePast) (chosen : Chosen) (does : Act)
     → message_carried (intent_by list past does) chosen.number ≡ message_planned list past chosen does
 message_carried-planned list past chosen Send =
-    message_carried-cond (carries_payload list (coming_place list past)) chosen.number
+    loaded_or_bare (λ wanted. message_carried wanted chosen.number) (carries_payload list (coming_place list past))
 message_carried-planned list past chosen _ = refl
 
 -- the frame of node k, of whatever was chosen with this payload
@@ -166,26 +162,46 @@ IsFrameOf list k past does payload planned =
     → frames_planned k planned ≡ node_frames list k past chosen does
 
 -- where it sends nothing, there is none
-never_quiet : (loads : Bool) → cond loads intent.Loaded intent.Bare ≢ intent.Quiet
-never_quiet true = λ quiet. cc
-never_quiet false = λ quiet. cc
-
 pub nothing-sent : (list : Medl) (k : ℕ) (past : NodePast) (does : Act) → intent_by list past does ≡ intent.Quiet
     → IsFrameOf list k past does [] None
 nothing-sent list k past Start quiet chosen paid = absurd cc
 nothing-sent list k past Send quiet chosen paid =
-    absurd (never_quiet (carries_payload list (coming_place list past)) quiet)
+    absurd (cond_both (carries_payload list (coming_place list past)) intent.Loaded intent.Bare
+    (λ sends. sends ≢ intent.Quiet) (λ loaded same. cc) (λ bare same. cc) quiet)
 nothing-sent list k past _ quiet chosen paid = refl
 
-pub Plans-turn : (list : Medl) (k : ℕ) (past : NodePast) (slots : ℕ) (now : Turn) (does : Act) (jumped again : ℤ)
-    (number : ℕ) (payload : List ℕ) (message : Option ℕ) (planned : Option (List ℕ))
-    → now ≡ Begun does jumped → again ≡ jumped
-    → message ≡ message_carried (intent_by list past does) number
-    → IsFrameOf list k past does payload planned
+-- what a controller that has begun a slot was to send
+sends-begun : {list : Medl} {k : ℕ} {past : NodePast} {now : Turn} {sends : Intent} {does : Act} {jumped : ℤ}
+    → IsControllerWithin list k past now sends → now ≡ Begun does jumped → sends ≡ intent_by list past does
+sends-begun {list} {past = past} within begun = within.intent ∙ ap (turn_intent list past) begun
+
+-- once it has planned, it has nothing more to send
+pub planned-within : {list : Medl} {k : ℕ} {past : NodePast} {now : Turn} {sends left : Intent} {does : Act}
+    {jumped again : ℤ} {message : Option ℕ} (number : ℕ) → IsControllerWithin list k past now sends
+    → now ≡ Begun does jumped → again ≡ jumped → message ≡ message_carried sends number → left ≡ intent.Quiet
+    → IsControllerWithin list k past (Planned does again message) left
+planned-within {list} {k} {past} {does = does} number within begun same carries quiet = rw same (record {
+  valid = within.valid;
+  node = within.node;
+  within = within.within;
+  clock = within.clock;
+  turn = record {
+    begun = subst (IsTurnWithin list k past) begun within.turn;
+    chosen = record { number = number; payload = [] };
+    carries = carries ∙ ap (λ wanted. message_carried wanted number) (sends-begun within begun)
+        ∙ message_carried-planned list past (record { number = number; payload = [] }) does;
+  };
+  intent = quiet;
+})
+
+pub Plans-turn : {list : Medl} {k : ℕ} {past : NodePast} {now : Turn} {sends : Intent} {does : Act} {jumped : ℤ}
+    (slots : ℕ) (again : ℤ) (number : ℕ) (payload : List ℕ) (message : Option ℕ) (planned : Option (List ℕ))
+    → IsControllerWithin list k past now sends → now ≡ Begun does jumped → again ≡ jumped
+    → message ≡ message_carried sends number → IsFrameOf list k past does payload planned
     → Plans (view_at list k past slots now) (view_at list k past slots (Planned does again message)) number payload
     planned
-Plans-turn list k past slots now does jumped again number payload message planned begun same carries frames =
-    λ diary surroundings a jump chosen stands numbered paid.
+Plans-turn {list} {k} {past} {does = does} {jumped = jumped} slots again number payload message planned within begun same
+    carries frames = λ diary surroundings a jump chosen stands numbered paid.
     let read = past_of list k diary surroundings in
     let turns = sym begun ∙ stands.turn in
     let acts : does ≡ a = cc in
@@ -193,18 +209,13 @@ Plans-turn list k past slots now does jumped again number payload message planne
     let alike = decides-alike list k read chosen a in
     let carried =
     carries
-    ∙ (λ i. message_carried (intent_by list past does) (sym numbered i))
+    ∙ (λ i. message_carried (sends-begun within begun i) (sym numbered i))
     ∙ message_carried-planned list past chosen does
     ∙ (λ i. message_planned list (stands.past i) chosen (acts i))
     ∙ alike.message in
-    let asked =
-    (λ i. payload_planned list (stands.past i) chosen (acts i))
-    ∙ alike.payload
-    ∙ paid in
+    let asked = (λ i. payload_planned list (stands.past i) chosen (acts i)) ∙ alike.payload ∙ paid in
     record {
-      frames = frames chosen asked
-          ∙ (λ i. node_frames list k (stands.past i) chosen (acts i))
-          ∙ alike.frames;
+      frames = frames chosen asked ∙ (λ i. node_frames list k (stands.past i) chosen (acts i)) ∙ alike.frames;
       stands = record {
         past = stands.past;
         slots = stands.slots;
@@ -258,18 +269,21 @@ read_next list k past diary surroundings does chosen h s valid node is possible 
     (new_entry-follows list k possible.on possible.armed diary surroundings chosen h) in
     past_of-cons list k diary surroundings (new_entry list k read chosen h does) s follows
 
-pub Ends-controller : (list : Medl) (k : ℕ) (past : NodePast) (slots : ℕ) (t : Turn) (new : NodePast) (ended : ℕ)
-    (outcome : Outcome) (made : Entry) (handed : Option Delivered) (does : Act) (jump : ℤ) (message : Option ℕ)
-    (a b : Arrival) (error drift : ℤ) (x : SlotSurroundings) → IsValid list → k < length list.slots
-    → t ≡ Planned does jump message → IsPlannedWithin list k past does jump message
+pub Ends-controller : {list : Medl} {k : ℕ} {past : NodePast} {now : Turn} {sends : Intent} {does : Act} {jump : ℤ}
+    {message : Option ℕ} (slots : ℕ) (new : NodePast) (ended : ℕ) (outcome : Outcome) (made : Entry)
+    (handed : Option Delivered) (a b : Arrival) (error drift : ℤ) (silent : Bool)
+    → IsControllerWithin list k past now sends → now ≡ Planned does jump message
     → EndsAs made handed list k past does message a b (past.offset +ℤ jump) error
-    → x.jump ≡ jump → x.drift ≡ drift → x.is_silent ≡ (is_silent_arrival a && is_silent_arrival b)
-    → new ≡ kept (past_after list k past made x) → ended ≡ min (slots + 1) most_slots
-    → outcome.delivered ≡ handed → outcome.status.words ≡ status_words list slots new (is_some handed)
-    → Ends (view_at list k past slots t) (view_at list k new ended Ended) outcome a b error drift
-Ends-controller list k past slots t new ended outcome made handed does jump message a b error drift x valid node turn planned
-    ends jumps drifts silent entered counted delivered status =
+    → silent ≡ (is_silent_arrival a && is_silent_arrival b)
+    → new ≡ kept (past_after list k past made (record { jump = jump; drift = drift; is_silent = silent }))
+    → ended ≡ min (slots + 1) most_slots → outcome.delivered ≡ handed
+    → outcome.status.words ≡ status_words list slots new (is_some handed)
+    → Ends (view_at list k past slots now) (view_at list k new ended Ended) outcome a b error drift
+Ends-controller {list} {k} {past} {does = does} {jump = jump} {message = message} slots new ended outcome made handed a
+    b error drift silent within turn ends quiet_is entered counted delivered status =
     λ diary surroundings there jumped chosen sent_a sent_b clock s stands shown_a shown_b around.
+    let x : SlotSurroundings = record { jump = jump; drift = drift; is_silent = silent } in
+    let planned : IsPlannedWithin list k past does jump message = subst (IsTurnWithin list k past) turn within.turn in
     let read = past_of list k diary surroundings in
     let turns = sym turn ∙ stands.turn in
     let acts : does ≡ there = cc in
@@ -286,12 +300,12 @@ Ends-controller list k past slots t new ended outcome made handed does jump mess
     let e = new_entry list k read chosen h there in
     let makes = is.entry ∙ from_kept in
     let possible = subst (IsPossible list k past) acts planned.begun.possible in
-    let quiet = silent ∙ (λ i. silence-shown a sent_a clock shown_a i && silence-shown b sent_b clock shown_b i)
+    let quiet = quiet_is ∙ (λ i. silence-shown a sent_a clock shown_a i && silence-shown b sent_b clock shown_b i)
     ∙ sym around.silent in
     let changes : (corrected : ℤ) → slot_change e x corrected ≡ slot_change e s corrected =
-    λ corrected. taken_change list k read chosen h there x s corrected (jumps ∙ same ∙ around.jump)
-    (drifts ∙ sym around.drift) in
-    let next = read_next list k past diary surroundings there chosen h s valid node stands.past possible in
+    λ corrected. taken_change list k read chosen h there x s corrected (same ∙ around.jump) (sym around.drift) in
+    let next = read_next list k past diary surroundings there chosen h s within.valid within.node stands.past
+    possible in
     let kept_new =
     entered
     ∙ (λ i. kept (past_after list k (stands.past i) (makes i) x))

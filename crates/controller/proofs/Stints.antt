@@ -2,26 +2,18 @@
 use Rattle.controller.proofs.Words.{◌≡◌, ◌≢◌, ℕ, ◌+◌, ◌*◌, ◌<◌, ◌≤◌, ℤ, pos, Bool, true, false, cond, List, [], ◌∷◌}
 use Rattle.controller.proofs.Words.{◌++◌, length, take, Option, Some, None, refl, sym, subst, ◌∙◌, ap, arith, All}
 use Rattle.controller.proofs.Words.{IfSome, nat_tests, ints, length-take, Medl, Ack, Entry, Verdict, is_correct}
-use Rattle.controller.proofs.Words.{past_after, correction_after, is_corrected, Place, Diary, SlotSurroundings}
-use Rattle.controller.proofs.Words.{phase_after, IsValid, plan_at, AreNodes, NodePast, nodes-most, IsMoveOf, kept_notes}
-use Rattle.controller.proofs.Words.{kept, IsAckWithin, IsNearEnough, IsPastWithin, IsEntryWithin}
-use Rattle.std.specs.Option.{option_to_list}
-use Rattle.std.proofs.lemmas.List.Elements.{All-nil, All-cons, All-take}
+use Rattle.controller.proofs.Words.{past_after, correction_after, Place, Diary, SlotSurroundings, phase_after, IsValid}
+use Rattle.controller.proofs.Words.{plan_at, NodePast, nodes-most, kept_notes, kept, IsAckWithin, IsNearEnough}
+use Rattle.controller.proofs.Words.{IsPastWithin, IsEntryWithin, option_to_list, All-nil, All-cons, All-take}
+use Rattle.controller.proofs.Words.{ack_answered, members_after, next_place, limit_of, IsPlaceOf, IsPlaceOf-next}
+use Rattle.controller.proofs.Words.{members_after-Judged, slots_to_own, IsJudgedWithin, IfSome-cond, fta-take, AreNodes}
+use Rattle.controller.proofs.Words.{is_corrected, AreNodes-filter, AreNodes-nil}
+use Rattle.ack_check.specs.Moves.{IsMoveOf, moved_members, IsDoubtElsewhere}
+use Rattle.ttp_world.specs.Counts.{is_rejection}
+use Rattle.ack_check.specs.declared.moves.AckMove.{AckMove}
 use Rattle.ttp_world.specs.declared.node.Ack.TheVariants as ack
 use Rattle.ttp_world.specs.declared.node.Entry.TheVariants as entry
 use Rattle.ttp_world.specs.declared.node.Verdict.TheVariants as verdict
-use Rattle.ttp_world.specs.After.{ack_answered, members_after}
-use Rattle.ttp_world.specs.Counts.{is_rejection}
-use Rattle.ttp_world.specs.Diary.{next_place}
-use Rattle.ttp_world.specs.Past.{limit_of}
-use Rattle.ttp_world.proofs.Lists.{IsPlaceOf, IsPlaceOf-next}
-use Rattle.ttp_world.proofs.MemberSets.{members_after-Judged}
-use Rattle.ack_check.specs.Moves.{moved_members, IsDoubtElsewhere}
-use Rattle.ack_check.specs.declared.moves.AckMove.{AckMove}
-use Rattle.controller.specs.Within.{slots_to_own, IsJudgedWithin}
-use Rattle.ttp_world.proofs.Averages.{fta-take}
-use Rattle.ttp_world.proofs.WorldFacts.{AreNodes-filter, AreNodes-nil}
-use Rattle.ttp_world.proofs.ListFacts.{IfSome-cond}
 
 -- How far a node's own slot is.
 
@@ -34,8 +26,6 @@ nearer : (list : Medl) (k : ℕ) (place : Place) → place.slot < length list.sl
     → (next_place list place).slot ≢ k
     → slots_to_own list k (next_place list place).slot + 1 ≡ slots_to_own list k place.slot
 nearer list k place within node other = grind (arith, nat_tests)
-
--- Sets.
 
 -- Acknowledgements.
 

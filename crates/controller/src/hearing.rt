@@ -34,14 +34,14 @@ use ttp_world::{Ack, CState, ChannelView, Delivered, Entry, Medl, Payload, Reaso
 
 /// What a node measures by how late a frame comes to it: its clock in this slot, and its reading error, in
 /// microticks.
-#[derive(Clone, Copy, Debug)]
+#[derive(Clone, Copy)]
 pub(crate) struct Reading {
     pub(crate) own: i64,
     pub(crate) error: i64,
 }
 
 /// What an active node judges the slot of another node by.
-#[derive(Clone, Copy, Debug)]
+#[derive(Clone, Copy)]
 pub(crate) struct Receiver {
     /// The node's own number.
     pub(crate) number: u8,
@@ -52,7 +52,7 @@ pub(crate) struct Receiver {
 }
 
 /// What an active node makes of what it hears in the slot of another node.
-#[derive(Clone, Copy, Debug, PartialEq, Eq)]
+#[derive(Clone, Copy)]
 pub(crate) struct Judgement {
     pub(crate) verdict: Verdict,
     /// How late the frame came whose view is taken, in microticks; 0 where no channel carried bits.
@@ -62,7 +62,7 @@ pub(crate) struct Judgement {
 }
 
 // The frame that a receiver expects: that of a place, with the members of one of two candidates.
-#[derive(Clone, Copy, Debug)]
+#[derive(Clone, Copy)]
 struct Expected {
     place: SlotClock,
     first: NodeSet,
@@ -70,7 +70,7 @@ struct Expected {
 }
 
 // How a channel is seen, and how late what came on it is, if it is bits.
-#[derive(Clone, Copy, Debug)]
+#[derive(Clone, Copy)]
 struct Seen {
     view: ChannelView,
     deviation: Option<i64>,

@@ -27,7 +27,7 @@ use ttp_base::NodeSet;
 use ttp_world::{CState, Entry, Medl, NodeState, Phase};
 
 /// What comes to a node from outside in a slot, which contracts see as its surroundings.
-#[derive(Clone, Copy, Debug, PartialEq, Eq)]
+#[derive(Clone, Copy)]
 pub(crate) struct Outside {
     /// How far its clock jumps, and how far it drifts, in microticks.
     pub(crate) jump: i64,

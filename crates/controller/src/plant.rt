@@ -143,6 +143,7 @@ impl Plant {
     }
 
     /// What a node delivered in the newest slot, if it delivered.
+    #[tactic(auto, using(crate::proofs::Plants::outcome_there))]
     pub fn delivered(&self, k: u8) -> Option<&Delivered>
         requires { k < length self.now.list.slots }
         ensures { option_copied result ≡ (outcome_at self.now k).delivered }
@@ -151,6 +152,7 @@ impl Plant {
     }
 
     /// The status of a node after the newest slot, zeros before the first.
+    #[tactic(auto, using(crate::proofs::Plants::outcome_there))]
     pub fn status(&self, k: u8) -> StatusWords
         requires { k < length self.now.list.slots }
         ensures { result ≡ (outcome_at self.now k).status }

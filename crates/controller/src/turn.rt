@@ -3,7 +3,7 @@
 use ttp_world::Act;
 
 /// Where a controller is in a slot, and what it knows of it.
-#[derive(Clone, Copy, Debug, PartialEq, Eq)]
+#[derive(Clone, Copy)]
 pub enum Turn {
     /// It has ended one, or none has come yet.
     Ended,

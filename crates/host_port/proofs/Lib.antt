@@ -2,3 +2,4 @@ pub mod PayloadWords
 pub mod RingLists
 pub mod ReaderLists
 pub mod LineQueues
+pub mod Names

@@ -1,6 +1,7 @@
 -- Pairs that wait in queues, one queue for each place, and become lines in the order of the reads.
-use Rattle.std.proofs.Common.{◌≡◌, ◌≢◌, ℕ, ◌+◌, ◌<◌, List, [], ◌∷◌, ◌++◌, length, map, take, drop, set, get_or, Option}
-use Rattle.std.proofs.Common.{Some, None, All, refl, sym, ap, ◌∙◌, arith, IfSome, option_to_list}
+use Rattle.host_port.proofs.Names.{◌≡◌, ◌≢◌, ℕ, ◌+◌, ◌<◌, List, [], ◌∷◌, ◌++◌, length, map, take, drop, set, get_or}
+use Rattle.host_port.proofs.Names.{Option, Some, None, All, refl, sym, ap, ◌∙◌, arith, IfSome, option_to_list, Source}
+use Rattle.host_port.proofs.Names.{ReadLine, source_place, got_of, calls_at, pairs_at, queue_at, AreQueued}
 use Rattle.std.proofs.lemmas.Bool.Decides.{nat_tests}
 use Rattle.std.proofs.lemmas.Grind.{common_steps}
 use Rattle.std.proofs.lemmas.List.{map-append, map-set, get_or-map, get_or-set_same, get_or-set_other, length-map}
@@ -9,11 +10,6 @@ use Rattle.std.proofs.lemmas.List.Elements.{filter-append, All-push}
 use Rattle.std.proofs.Math.ListN.{get_or-map as get_or-map_default}
 use Rattle.nbw_ring.specs.declared.view.Message.{Message}
 use Rattle.nbw_ring.specs.States.{ReaderState}
-use Rattle.ttp_world.specs.declared.script.Source.{Source}
-use Rattle.host_port.specs.declared.report.ReadLine.{ReadLine}
-use Rattle.host_port.specs.Rings.{source_place}
-use Rattle.host_port.specs.Reading.{got_of}
-use Rattle.host_port.specs.Queues.{calls_at, pairs_at, queue_at, AreQueued}
 use Rattle.host_port.proofs.ReaderLists.{within_list}
 
 -- A queue is taken from.

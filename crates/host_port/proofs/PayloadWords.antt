@@ -1,11 +1,9 @@
 -- A word of a payload, byte by byte.
-use Rattle.std.proofs.Common.{◌≡◌, ℕ, ◌+◌, ◌*◌, ◌<◌, ◌≤◌, ◌^◌, ◌∷◌, [], map, ap, ◌∙◌, arith, zero-add, lit<}
-use Rattle.std.proofs.lemmas.List.FromFn.{map-range_with_len_more}
+use Rattle.host_port.proofs.Names.{◌≡◌, ℕ, ◌+◌, ◌*◌, ◌<◌, ◌≤◌, ◌^◌, ◌∷◌, [], map, ap, ◌∙◌, arith, zero-add, lit<}
+use Rattle.host_port.proofs.Names.{map-range_with_len_more, below, append_byte, number_in}
 use Rattle.std.proofs.lemmas.List.Sums.{fold-append}
 use Rattle.std.proofs.lemmas.Grind.{pow_more}
 use Rattle.std.proofs.Math.Nat.{pow-le-pow_right}
-use Rattle.ttp_base.specs.NodeSet.{below}
-use Rattle.ttp_world.specs.Fitting.{append_byte, number_in}
 
 -- the number of one byte more
 pub number_in-more : (byte : ℕ → ℕ) (j : ℕ)

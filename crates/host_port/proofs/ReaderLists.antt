@@ -1,17 +1,14 @@
 -- Lists of readers and writers: one for each place, as they are lent, read and settled.
-use Rattle.std.proofs.Common.{◌≡◌, ℕ, zero, suc, ◌+◌, ◌<◌, ◌==◌, Bool, true, false, cond, List, [], ◌∷◌, ◌++◌, length}
-use Rattle.std.proofs.Common.{map, take, set, get_or, Option, Some, None, option_map, inl, inr, refl, sym, ap, ◌∙◌}
-use Rattle.std.proofs.Common.{arith, add-one, zero-add, subst, IfSome, ◌≤◌, Result, Ok, Err, OnErr, below_more}
-use Rattle.std.proofs.lemmas.Bool.{cases_eq}
+use Rattle.host_port.proofs.Names.{◌≡◌, ℕ, zero, suc, ◌+◌, ◌<◌, ◌==◌, Bool, true, false, cond, List, [], ◌∷◌, ◌++◌}
+use Rattle.host_port.proofs.Names.{length, map, take, set, get_or, Option, Some, None, option_map, inl, inr, refl, sym}
+use Rattle.host_port.proofs.Names.{ap, ◌∙◌, arith, add-one, zero-add, subst, IfSome, ◌≤◌, Result, Ok, Err, OnErr}
+use Rattle.host_port.proofs.Names.{cases_eq, cond_both, Source, ControllerState, source_place, at_source}
+use Rattle.host_port.proofs.Names.{HaveBuffers, rings_read, IsItsRing, AreTheirRings, reads_at, lent, IsLeft, Reads}
+use Rattle.host_port.proofs.Names.{buffers_of, got_of, settled, all_settled, all_lent}
 use Rattle.std.proofs.lemmas.List.{map-set, set-get_or, get_or-set_same, get_or_read, get_or-map, length-map}
 use Rattle.nbw_ring.specs.States.{RingState, WriterState, ReaderState, new_reader}
 use Rattle.ttp_world.specs.declared.host_lines.HostRead.{HostRead}
-use Rattle.ttp_world.specs.declared.script.Source.{Source}
-use Rattle.host_port.specs.Rings.{ControllerState, source_place, at_source, HaveBuffers}
 use Rattle.host_port.specs.Writing.{written}
-use Rattle.host_port.specs.Reading.{rings_read, IsItsRing, AreTheirRings, reads_at, lent, IsLeft, Reads, buffers_of}
-use Rattle.host_port.specs.Reading.{got_of, settled, all_settled, IsReaderSettled}
-use Rattle.host_port.specs.Queues.{all_lent}
 
 -- a place lies within a list where something is so of what is there that is not so of what is told for no place
 pub within_list : {A : Type 0} (P : A → Type 0) (d : A) (xs : List A) (i : ℕ) → (P d → ⊥) → P (get_or xs i d)
@@ -73,31 +70,22 @@ all_lent-more reads node first (w ∷ ws) zero place within sum =
 all_lent-more reads node first (w ∷ ws) (suc i) place within sum = ap (λ l. lent w (reads_at reads node first) ∷ l)
     (all_lent-more reads node (first + 1) ws i place (omega arith) (omega arith))
 
-pub all_lent-next : (reads : List HostRead) (node : ℕ) (ws : List (Option WriterState)) (i : ℕ) → i < length ws
-    → all_lent reads node 0 (take (i + 1) ws)
-    ≡ all_lent reads node 0 (take i ws) ++ lent (get_or ws i None) (reads_at reads node i) ∷ []
-all_lent-next reads node ws i within = rw add-one (all_lent-more reads node 0 ws i i within (zero-add i))
-
-none_lent : (reads : ℕ) (none : Bool) (w : Option WriterState) → w ≡ None
-    → cond none None (option_map (λ v. new_reader v reads) w) ≡ None
-none_lent reads true w is = refl
-none_lent reads false w is = ap (option_map (λ v. new_reader v reads)) is
-
 pub all_lent-at : (reads : List HostRead) (node first : ℕ) (ws : List (Option WriterState)) (i place : ℕ)
     → first + i ≡ place
     → get_or (all_lent reads node first ws) i None ≡ lent (get_or ws i None) (reads_at reads node place)
 all_lent-at reads node first [] i place sum =
-    sym (none_lent (reads_at reads node place) (reads_at reads node place == 0) None refl)
+    cond_both (reads_at reads node place == 0) None None (λ r. None ≡ r) (λ is. refl) (λ some. refl)
 all_lent-at reads node first (w ∷ ws) zero place sum =
     let same : first ≡ place = omega arith in ap (λ p. lent w (reads_at reads node p)) same
 all_lent-at reads node first (w ∷ ws) (suc i) place sum = all_lent-at reads node (first + 1) ws i place (omega arith)
 
--- each reads the ring of its writer
-lent-ring : (w : Option WriterState) (reads : ℕ) (none : Bool)
-    → IsItsRing (ring_written w) (ring_read (cond none None (option_map (λ v. new_reader v reads) w)))
-lent-ring w reads true = tt
-lent-ring (Some w) reads false = refl
-lent-ring None reads false = tt
+-- each reads the ring of its writer, and got nothing yet
+lent-new : (w : Option WriterState) (reads : ℕ) (none : Bool) →
+    let r = cond none None (option_map (λ v. new_reader v reads) w) in
+    IsItsRing (ring_written w) (ring_read r) × (got_of r ≡ [])
+lent-new w reads true = (tt, refl)
+lent-new (Some w) reads false = (refl, refl)
+lent-new None reads false = (tt, refl)
 
 pub all_lent-rings : (reads : List HostRead) (node first : ℕ) (ws : List (Option WriterState))
     → AreTheirRings (map ring_written ws) (rings_read (all_lent reads node first ws))
@@ -107,22 +95,15 @@ all_lent-rings reads node first (w ∷ ws) =
       count = ap suc rest.count;
       each = λ place. elim place as (λ p. IsItsRing (get_or (map ring_written (w ∷ ws)) p None) (get_or (rings_read
           (all_lent reads node first (w ∷ ws))) p None)) [
-            | zero ↦ lent-ring w (reads_at reads node first) (reads_at reads node first == 0)
+            | zero ↦ (lent-new w (reads_at reads node first) (reads_at reads node first == 0)).0
             | suc p ↦ rest.each p
           ];
     }
 
--- and got nothing yet
-lent-got : (w : Option WriterState) (reads : ℕ) (none : Bool)
-    → got_of (cond none None (option_map (λ v. new_reader v reads) w)) ≡ []
-lent-got w reads true = refl
-lent-got (Some w) reads false = refl
-lent-got None reads false = refl
-
 pub all_lent-got : (reads : List HostRead) (node : ℕ) (ws : List (Option WriterState)) (place : ℕ)
     → got_of (get_or (all_lent reads node 0 ws) place None) ≡ []
 all_lent-got reads node ws place = ap got_of (all_lent-at reads node 0 ws place place (zero-add place))
-    ∙ lent-got (get_or ws place None) (reads_at reads node place) (reads_at reads node place == 0)
+    ∙ (lent-new (get_or ws place None) (reads_at reads node place) (reads_at reads node place == 0)).1
 
 -- A host reads.
 
@@ -248,19 +229,6 @@ pub next_settled : {ws now : List (Option WriterState)} {rs : List (Option Reade
 next_settled {ws} {now} {rs} {i} {writer} {reader} next new done =
     (λ k. set (next.settled_so k) i ((done ∙ (λ j. settled (next_writer next j) (next.reader_is j))) k))
     ∙ rw add-one (all_settled-more ws rs i next.writers next.readers)
-
-pub settled_along : {w v : Option WriterState} {r q : Option ReaderState} → w ≡ v → r ≡ q → IsReaderSettled w r
-    → IsReaderSettled v q
-settled_along ws rs settled_so = rw (← ws, ← rs) settled_so
-
--- one more
-pub settled_next : (ws : List (Option WriterState)) (rs : List (Option ReaderState)) (i : ℕ)
-    {writer : Option WriterState} {reader : Option ReaderState} → writer ≡ get_or ws i None → reader ≡ get_or rs i None
-    → IsReaderSettled writer reader → ((j : ℕ) → j < i → IsReaderSettled (get_or ws j None) (get_or rs j None))
-    → (j : ℕ)
-    → j < i + 1 → IsReaderSettled (get_or ws j None) (get_or rs j None)
-settled_next ws rs i here there settled_one below =
-    below_more _ _ below (rw (← here, ← there) settled_one)
 
 -- one of the readers reads the ring of its writer
 pub same_ring : {ws now : List (Option WriterState)} {rs : List (Option ReaderState)} {i : ℕ}

@@ -1,10 +1,10 @@
 -- A correct frame delivers the payload of the channel that the judgement names.
-use Rattle.controller.proofs.Words.{◌≡◌, ℕ, List, ap, sym, ◌∙◌, rules, Bor, Correct, coming_place, expected_of}
-use Rattle.controller.proofs.Words.{verdict_of, view_of, hearing_of}
-use Rattle.ttp_world.specs.Conduct.{payload_taken}
+use Rattle.controller.proofs.Words.{◌≡◌, ℕ, List, ap, sym, ◌∙◌, rules, Bor, coming_place, hearing_of, payload_taken}
+use Rattle.ttp_world.specs.declared.node.Verdict.TheVariants.{Correct}
+use Rattle.ttp_world.specs.Reception.{expected_of, verdict_of, view_of}
 use Rattle.controller.proofs.Heard.{carries_some}
-use Rattle.controller.proofs.hearing.deliver.Goals as goal
 use Rattle.controller.proofs.hearing.deliver.Goals.{then-judgement, else-judgement}
+use Rattle.controller.proofs.hearing.deliver.Goals as goal
 
 pub returns : goal.returns
 returns c k past own error coming sent_a sent_b clock shows_a shows_b is =

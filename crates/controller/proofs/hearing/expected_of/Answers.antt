@@ -10,6 +10,6 @@ returns-clause-expected c =
     let is = c.requires.receiver in
     let sends : c.sender-sender.result < length list.slots =
     omega (arith, c.sender-sender.ensures.exists, is.coming.slots) in
-    let rooms = candidates-room list receiver.ack receiver.number receiver.members c.sender-sender.result
-    c.requires.valid is.number sends is.doubt is.members in
+    let rooms = candidates-room list receiver.ack receiver.number c.requires.valid is.number is.doubt receiver.members
+    c.sender-sender.result sends is.members in
     record { place = is.coming; first = search (rules, rooms.first); second = search (rules, rooms.second) }

@@ -1,4 +1,4 @@
-use Rattle.controller.proofs.Words.{◌+◌, subst, arith, Surroundings, diary_of, ControllerStandsFor}
+use Rattle.controller.proofs.Words.{◌+◌, arith}
 use Rattle.earlier_slots.proofs.SameWorlds.{surroundings_of-same}
 use Rattle.controller.proofs.laws.plants_of_scripts_that_agree.Goals as goal
 
@@ -9,8 +9,7 @@ returns c plant one other history agree stands = record {
   are = stands.are;
   seats = record {
     each = λ j seat here.
-        subst (λ (s : Surroundings). ControllerStandsFor seat.controller (diary_of history (0 + j)) s)
-        (surroundings_of-same agree history (0 + j) (omega (arith, stands.slot)))
-        (stands.seats.each j seat here);
+        rw (surroundings_of-same agree history (0 + j) (omega (arith, stands.slot)))
+        at (stands.seats.each j seat here);
   };
 }

@@ -1,9 +1,6 @@
 use Rattle.controller.proofs.Words.{◌+◌, arith, chosen_of}
-use Rattle.controller.proofs.Parts.{ArePassed-none, ArePassed-more, ArePassed-coming, each-new}
+use Rattle.controller.proofs.Parts.{ArePassed-more, ArePassed-coming, each-new}
 use Rattle.controller.proofs.passes.begin_all.Goals as goal
-
-pub loop-j-init : goal.loop-j-init
-loop-j-init c = ArePassed-none c.args.seats.now
 
 pub begin_one-requires-clause-controller : goal.begin_one-requires-clause-controller
 begin_one-requires-clause-controller c =

@@ -1,6 +1,5 @@
 use Rattle.controller.proofs.Words.{◌+◌, Chosen, IsBegun, IsPayloadBefore, IsPayloadFor, IsIncidentsOf, IsControllerOf}
-use Rattle.controller.proofs.Words.{most_ahead_in}
-use Rattle.controller.specs.Passes.{BeginsSlot}
+use Rattle.controller.proofs.Words.{most_ahead_in, BeginsSlot}
 use Rattle.controller.proofs.Parts.{ArePassed}
 use Rattle.controller.proofs.passes.begin_all.Given as goal
 

@@ -1,12 +1,8 @@
-use Rattle.controller.proofs.Words.{sym, ◌∙◌, ap, act, is_on, is_armed, jump_of, intent_by}
+use Rattle.controller.proofs.Words.{sym, ◌∙◌, ap, is_on, is_armed, jump_of}
 use Rattle.controller.proofs.InSlot.{begun-node}
-use Rattle.controller.proofs.Near.{jump_same, jump_fits, begun-controller}
+use Rattle.controller.proofs.Near.{jump_same, begun-controller}
 use Rattle.controller.proofs.Payloads.{payload-begun}
 use Rattle.controller.proofs.passes.begin_one.Goals as goal
-
-pub begin-requires-clause-clock : goal.begin-requires-clause-clock
-begin-requires-clause-clock c =
-    jump_fits c.args.slot c.requires.controller c.incidents_after-seat.ensures.bounds c.requires.slot
 
 pub returns-clause-controller : goal.returns-clause-controller
 returns-clause-controller c =
@@ -27,9 +23,7 @@ returns-clause-begins c history long stands =
 
 pub returns-clause-payload : goal.returns-clause-payload
 returns-clause-payload c chosen before =
-    let view = c.args.seat.now.controller in
     let armed = ap (λ w. w.armed) c.incidents_after-seat.ensures.value in
     rw c.keep_look_up.ensures
     (payload-begun c.args.script.now c.args.slot c.args.k chosen c.begin.ensures.same
-    (c.begin.ensures.sends
-    ∙ (λ i. intent_by view.list view.past (act view.list view.node (c.is_on.ensures i) (armed i) view.past))) before)
+    (rw (c.is_on.ensures, armed) at c.begin.ensures.sends) before)

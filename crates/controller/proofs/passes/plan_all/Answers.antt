@@ -1,7 +1,4 @@
-use Rattle.controller.proofs.Words.{◌≡◌, ℕ, length, get_or, sym, subst, arith, flat_map, below, Incidents}
-use Rattle.controller.proofs.Words.{nothing_chosen, slot_after, frames_of, Chosen, CarriesFrames, IsPayloadFor}
-use Rattle.controller.proofs.Words.{SendsOne, IsIncidentsOf}
-use Rattle.std.proofs.lemmas.List.{get_or_read}
+use Rattle.controller.proofs.Words.{◌≡◌, length, arith, nothing_chosen, get_or_read}
 use Rattle.controller.proofs.InSlot.{AreSent-none, AreSent-more, AreSent-slot, AreSent-near}
 use Rattle.controller.proofs.Near.{planned-controller}
 use Rattle.controller.proofs.Parts.{ArePassed-coming, each-of, all-new}
@@ -17,10 +14,8 @@ send_one-requires-clause-controller c =
 
 pub send_one-requires-clause-payload : goal.send_one-requires-clause-payload
 send_one-requires-clause-payload c =
-    let seat = get_or c.loop-k.seats c.loop-k.k c.index-seats-k.result in
-    subst (IsPayloadFor seat.controller)
-    (sym (get_or_read c.args.chosen.now c.loop-k.k c.index-chosen-k.result
-    (omega (arith, c.requires.count, c.requires.nodes)) c.index-chosen-k.is nothing_chosen))
+    rw (get_or_read c.args.chosen.now c.loop-k.k c.index-chosen-k.result
+    (omega (arith, c.requires.count, c.requires.nodes)) c.index-chosen-k.is nothing_chosen)
     (each-of c.requires.chosen c.loop-k.k
     (ArePassed-coming c.loop-k.invariant.passed c.index-seats-k.result (omega arith)))
 
@@ -32,11 +27,8 @@ send_one-requires-clause-incidents c =
 pub loop-k-preserved : goal.loop-k-preserved
 loop-k-preserved c =
     AreSent-more c.index-seats-k.result _ c.loop-k.invariant (omega arith)
-    (subst (λ (m : Chosen). SendsOne c.args.list.now c.args.script.now c.loop-k.k m
-    (get_or c.loop-k.seats c.loop-k.k c.index-seats-k.result) c.send_one.new.seat c.loop-k.medium c.send_one.new.medium)
-    (get_or_read c.args.chosen.now c.loop-k.k c.index-chosen-k.result
-    (omega (arith, c.requires.count, c.requires.nodes)) c.index-chosen-k.is nothing_chosen)
-    c.send_one.ensures)
+    (rw (get_or_read c.args.chosen.now c.loop-k.k c.index-chosen-k.result
+    (omega (arith, c.requires.count, c.requires.nodes)) c.index-chosen-k.is nothing_chosen) at c.send_one.ensures)
 
 pub returns-clause-seats : goal.returns-clause-seats
 returns-clause-seats c =
@@ -44,11 +36,7 @@ returns-clause-seats c =
 
 pub returns-clause-incidents : goal.returns-clause-incidents
 returns-clause-incidents c =
-    all-new c.loop-k.invariant.passed (omega arith) c.requires.incidents (λ k x y by was.
-    subst (λ (i : Incidents). IsIncidentsOf c.args.script.now c.args.slot k i) (sym by.2) was)
-
-pub returns-clause-slot : goal.returns-clause-slot
-returns-clause-slot c = AreSent-slot c.loop-k.invariant
+    all-new c.loop-k.invariant.passed (omega arith) c.requires.incidents (λ k x y by was. rw by.2 was)
 
 pub returns-clause-medium : goal.returns-clause-medium
 returns-clause-medium c = AreSent-near c.loop-k.invariant c.requires.seats
@@ -59,7 +47,5 @@ returns-clause-plan c history begun =
 
 pub returns-clause-carries : goal.returns-clause-carries
 returns-clause-carries c history long begun =
-    let s = slot_after c.args.list.now c.args.script.now history in
     let all : c.loop-k.k ≡ length c.args.list.now.slots = omega (arith, c.requires.nodes) in
-    subst (λ (n : ℕ). CarriesFrames s (flat_map (frames_of s c.args.chosen.now) (below n)) c.loop-k.medium) all
-    (c.loop-k.invariant.carries history long begun)
+    rw all at (c.loop-k.invariant.carries history long begun)

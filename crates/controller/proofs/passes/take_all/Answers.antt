@@ -1,9 +1,6 @@
-use Rattle.controller.proofs.Words.{sym, subst, arith, AreKnownOf}
-use Rattle.controller.proofs.Parts.{ArePassed-none, ArePassed-more, ArePassed-coming, each-new}
+use Rattle.controller.proofs.Words.{arith}
+use Rattle.controller.proofs.Parts.{ArePassed-more, ArePassed-coming, each-new}
 use Rattle.controller.proofs.passes.take_all.Goals as goal
-
-pub loop-j-init : goal.loop-j-init
-loop-j-init c = (ArePassed-none c.args.seats.now, c.of-known.ensures)
 
 pub take_one-requires-clause-controller : goal.take_one-requires-clause-controller
 take_one-requires-clause-controller c =
@@ -15,15 +12,11 @@ take_one-requires-clause-incidents c =
     c.requires.incidents.each c.loop-j.j _
     (ArePassed-coming c.loop-j.invariant.0 c.index-seats-j.result (omega arith))
 
-pub take_one-requires-clause-known : goal.take_one-requires-clause-known
-take_one-requires-clause-known c = c.loop-j.invariant.1
-
 pub loop-j-preserved : goal.loop-j-preserved
 loop-j-preserved c = (
   ArePassed-more c.loop-j.invariant.0 c.index-seats-j.result (omega arith)
       (c.take_one.ensures.controller, c.take_one.ensures.ends),
-  subst (AreKnownOf c.args.list.now c.carried-a.result c.carried-b.result) (sym c.take_one.ensures.keeps)
-      c.loop-j.invariant.1,
+  rw c.take_one.ensures.keeps c.loop-j.invariant.1,
 )
 
 pub returns-clause-seats : goal.returns-clause-seats

@@ -1,5 +1,5 @@
-use Rattle.controller.proofs.Words.{◌+◌, AreKnownOf, IsEnded, IsControllerOf, most_ahead}
-use Rattle.controller.specs.Passes.{EndsSlot}
+use Rattle.controller.proofs.Words.{◌+◌, IsEnded, IsControllerOf, most_ahead, EndsSlot}
+use Rattle.controller.specs.KnownFrames.{AreKnownOf}
 use Rattle.controller.proofs.Parts.{ArePassed}
 use Rattle.controller.proofs.passes.take_all.Given as goal
 

@@ -1,9 +1,6 @@
 use Rattle.controller.proofs.Words.{Some, length, refl, sym, ap, ◌∙◌, arith, slice_get_read}
-use Rattle.controller.proofs.Parts.{ArePassed-none, ArePassed-more, ArePassed-coming, all-copied}
+use Rattle.controller.proofs.Parts.{ArePassed-more, ArePassed-coming, all-copied}
 use Rattle.controller.proofs.seat.copy_seats.Goals as goal
-
-pub loop-k-init : goal.loop-k-init
-loop-k-init c = ArePassed-none c.args.to.now
 
 pub copy_from-requires : goal.copy_from-requires
 copy_from-requires c =

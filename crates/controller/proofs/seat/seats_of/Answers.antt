@@ -1,12 +1,9 @@
-use Rattle.controller.proofs.Words.{◌+◌, ◌++◌, List, ◌∷◌, [], ap, ◌∙◌, refl, arith, Outcome, Seat, no_outcome}
-use Rattle.std.proofs.lemmas.List.{length_push, map-append, replicate_more}
+use Rattle.controller.proofs.Words.{◌+◌, ◌++◌, List, ◌∷◌, [], ap, ◌∙◌, arith, Outcome, Seat, length_push}
+use Rattle.controller.proofs.Words.{map-append, replicate_more}
+use Rattle.controller.specs.PlantStands.{no_outcome}
 use Rattle.controller.proofs.Near.{first-controller}
-use Rattle.controller.proofs.Parts.{each-none, each-push}
+use Rattle.controller.proofs.Parts.{each-push}
 use Rattle.controller.proofs.seat.seats_of.Goals as goal
-
-pub loop-k-init : goal.loop-k-init
-loop-k-init c =
-    rw c.new-seats.ensures (record { count = refl; seats = each-none; stand = each-none; outcomes = refl })
 
 pub loop-k-preserved : goal.loop-k-preserved
 loop-k-preserved c =

@@ -1,6 +1,5 @@
-use Rattle.controller.proofs.Words.{◌≡◌, length, no_outcome, outcomes_of, AreSeats, IsEnded, most_ahead}
-use Rattle.std.proofs.Common.{replicate}
-use Rattle.controller.specs.PlantStands.{AllStandAtFirst}
+use Rattle.controller.proofs.Words.{◌≡◌, length, AreSeats, IsEnded, most_ahead, replicate}
+use Rattle.controller.specs.PlantStands.{no_outcome, outcomes_of, AllStandAtFirst}
 use Rattle.controller.proofs.seat.seats_of.Given as goal
 
 abbrev pub invariant-loop-k : goal.invariant-loop-k

@@ -1,4 +1,4 @@
-use Rattle.std.proofs.Common.{arith}
+use Rattle.host_port.proofs.Names.{arith}
 use Rattle.host_port.proofs.RingLists.{new_more, new_all}
 use Rattle.host_port.proofs.port.incoming_rings.Goals as goal
 

@@ -1,5 +1,4 @@
-use Rattle.std.proofs.Common.{◌≡◌, take, vec_len, vec_capacity, length}
-use Rattle.host_port.specs.Queues.{all_lent}
+use Rattle.host_port.proofs.Names.{◌≡◌, take, vec_len, vec_capacity, length, all_lent}
 use Rattle.host_port.proofs.reading.lend_all.Given as goal
 
 abbrev pub invariant-loop-place : goal.invariant-loop-place

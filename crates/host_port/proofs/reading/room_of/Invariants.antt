@@ -1,5 +1,4 @@
-use Rattle.std.proofs.Common.{◌≡◌, take, sum_by}
-use Rattle.host_port.specs.Queues.{spare_of}
+use Rattle.host_port.proofs.Names.{◌≡◌, take, sum_by, spare_of}
 use Rattle.host_port.proofs.reading.room_of.Given as goal
 
 abbrev pub invariant-loop-reader : goal.invariant-loop-reader

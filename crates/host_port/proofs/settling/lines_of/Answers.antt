@@ -1,9 +1,7 @@
-use Rattle.std.proofs.Common.{map, get_or, vec_len, vec_capacity, refl, ap, ◌∙◌, arith}
-use Rattle.std.proofs.lemmas.Bool.{false≢true}
+use Rattle.host_port.proofs.Names.{map, get_or, vec_len, vec_capacity, refl, ap, ◌∙◌, arith, false≢true, ReadLine}
+use Rattle.host_port.proofs.Names.{into_iter_items}
 use Rattle.std.proofs.lemmas.List.{get_or_default}
 use Rattle.ttp_world.specs.declared.script.Source.TheVariants.{Status}
-use Rattle.host_port.specs.declared.report.ReadLine.{ReadLine}
-use Rattle.std.specs.Vec.Iter.{into_iter_items}
 use Rattle.host_port.proofs.LineQueues.{next_some, lined_more}
 use Rattle.host_port.proofs.settling.lines_of.Goals.{in-Some, in_default}
 use Rattle.host_port.proofs.settling.lines_of.Goals as goal

@@ -1,5 +1,4 @@
-use Rattle.std.proofs.Common.{◌≡◌, ◌≤◌, map, vec_len, vec_capacity, length}
-use Rattle.std.specs.Vec.Iter.{into_iter_items}
+use Rattle.host_port.proofs.Names.{◌≡◌, ◌≤◌, map, vec_len, vec_capacity, length, into_iter_items}
 use Rattle.host_port.proofs.LineQueues.{AreLined}
 use Rattle.host_port.proofs.settling.lines_of.Given as goal
 

@@ -1,5 +1,4 @@
-use Rattle.std.proofs.Common.{◌≡◌, length, ap, arith}
-use Rattle.std.specs.Vec.Iter.{into_iter_items, into_iter_len}
+use Rattle.host_port.proofs.Names.{◌≡◌, length, ap, arith, into_iter_items, into_iter_len}
 use Rattle.host_port.proofs.LineQueues.{queue_within, queue_before, queue_after, queue_other, if_taken}
 use Rattle.host_port.proofs.settling.next_pair.Goals as goal
 

@@ -1,9 +1,8 @@
-use Rattle.std.proofs.Common.{◌++◌, ◌∷◌, [], None, inl, map, take, refl, sym, ap, ◌∙◌, arith}
+use Rattle.host_port.proofs.Names.{◌++◌, ◌∷◌, [], None, inl, map, take, refl, sym, ap, ◌∙◌, arith, below_more}
+use Rattle.host_port.proofs.Names.{into_iter_items, settled, got_of}
 use Rattle.std.proofs.lemmas.List.{map-append, map_more, get_or-set_other, length-set}
-use Rattle.std.specs.Vec.Iter.{into_iter_items}
-use Rattle.host_port.specs.Reading.{settled, got_of}
 use Rattle.host_port.proofs.ReaderLists.{read_alike, ring_written, settled_rings, all_settled-none, is_next}
-use Rattle.host_port.proofs.ReaderLists.{next_writer, next_settled, settled_next, same_ring, settled_along, on_err}
+use Rattle.host_port.proofs.ReaderLists.{next_writer, next_settled, same_ring, on_err}
 use Rattle.host_port.proofs.settling.settle_all.Goals as goal
 
 pub returns-in_err-queues-clause-err : goal.returns-in_err-queues-clause-err
@@ -46,8 +45,8 @@ loop-place-preserved c =
       pairs = ap (map into_iter_items) c.push_reserved.ensures.items
           ∙ (map-append into_iter_items c.loop-place.queues.items (c.in_ok-settle_one.field-0 ∷ [])
           ∙ ((λ k. so.pairs k ++ queue k ∷ []) ∙ sym (map_more got_of rs place None next.readers)));
-      whole = settled_next c.args.writers.now rs place (next_writer next) next.reader_is
-          (settled_along writer reader c.in_ok-settle_one.ensures.whole) so.whole;
+      whole = below_more _ _ so.whole (rw (← next_writer next, ← next.reader_is)
+          (rw (writer, reader) at c.in_ok-settle_one.ensures.whole));
       readers = λ i far.
           get_or-set_other c.loop-place.readers.items place i c.take-reader.new.self None (λ same. absurd (omega arith))
           ∙ so.readers i (omega arith);

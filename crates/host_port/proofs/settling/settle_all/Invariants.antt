@@ -1,6 +1,5 @@
-use Rattle.std.proofs.Common.{◌≡◌, ℕ, ◌<◌, ◌≤◌, None, map, take, get_or, vec_len, vec_capacity, length}
-use Rattle.std.specs.Vec.Iter.{into_iter_items}
-use Rattle.host_port.specs.Reading.{all_settled, IsReaderSettled, got_of}
+use Rattle.host_port.proofs.Names.{◌≡◌, ℕ, ◌<◌, ◌≤◌, None, map, take, get_or, vec_len, vec_capacity, length}
+use Rattle.host_port.proofs.Names.{into_iter_items, all_settled, IsReaderSettled, got_of}
 use Rattle.host_port.proofs.settling.settle_all.Given as goal
 
 abbrev pub invariant-loop-place : goal.invariant-loop-place

@@ -1,4 +1,4 @@
-use Rattle.std.proofs.Common.{◌*◌, ◌+◌, get_or, arith}
+use Rattle.host_port.proofs.Names.{◌*◌, ◌+◌, get_or, arith}
 use Rattle.host_port.proofs.PayloadWords.{number_in-more, number-below, number-fits}
 use Rattle.host_port.proofs.words.last_word.Goals as goal
 

@@ -1,6 +1,4 @@
-use Rattle.std.proofs.Common.{◌≡◌, ◌<◌, ◌*◌, ◌+◌, ◌^◌, map, get_or}
-use Rattle.ttp_base.specs.NodeSet.{below}
-use Rattle.ttp_world.specs.Fitting.{number_in}
+use Rattle.host_port.proofs.Names.{◌≡◌, ◌<◌, ◌*◌, ◌+◌, ◌^◌, map, get_or, below, number_in}
 use Rattle.host_port.proofs.words.last_word.Given as goal
 
 abbrev pub invariant-loop-j : goal.invariant-loop-j

@@ -1,7 +1,5 @@
-use Rattle.std.proofs.Common.{◌++◌, ◌∷◌, [], sym, ◌∙◌, arith, zero-add}
+use Rattle.host_port.proofs.Names.{◌++◌, ◌∷◌, [], sym, ◌∙◌, arith, zero-add, map-range_with_len_more, payload_word}
 use Rattle.std.proofs.lemmas.List.{take_more_set, length-set}
-use Rattle.std.proofs.lemmas.List.FromFn.{map-range_with_len_more}
-use Rattle.ttp_world.specs.Words.{payload_word}
 use Rattle.host_port.proofs.words.put_words.Goals as goal
 
 pub loop-i-preserved : goal.loop-i-preserved

@@ -1,8 +1,7 @@
 use Rattle.controller.proofs.Words.{◌≢◌, ap, sym, subst, ◌∙◌, w64, FitsSigned, rules, arith, ints, to_z-of_z}
-use Rattle.controller.proofs.Words.{correction_after}
-use Rattle.ttp_world.specs.declared.node.Entry.TheVariants as entry
-use Rattle.controller.specs.Within.{AreChangesWithin}
+use Rattle.controller.proofs.Words.{correction_after, AreChangesWithin}
 use Rattle.controller.proofs.Endings.{slot_change-on}
+use Rattle.ttp_world.specs.declared.node.Entry.TheVariants as entry
 use Rattle.controller.proofs.node.Node.clock_change.Goals as goal
 
 pub returns-in_default-clause-value : goal.returns-in_default-clause-value

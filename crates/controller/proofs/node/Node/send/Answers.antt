@@ -1,5 +1,4 @@
-use Rattle.controller.proofs.Words.{rules, or-false, nodes-most}
-use Rattle.ttp_world.proofs.MemberSets.{members_after-Sent}
+use Rattle.controller.proofs.Words.{rules, or-false, nodes-most, members_after-Sent}
 use Rattle.controller.proofs.node.Node.send.Goals as goal
 
 pub returns : goal.returns

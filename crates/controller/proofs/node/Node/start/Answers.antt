@@ -1,5 +1,4 @@
-use Rattle.controller.proofs.Words.{rules, nodes-most}
-use Rattle.ttp_world.proofs.MemberSets.{members_after-Started}
+use Rattle.controller.proofs.Words.{rules, nodes-most, members_after-Started}
 use Rattle.controller.proofs.node.Node.start.Goals as goal
 
 pub returns : goal.returns

@@ -1,5 +1,4 @@
-use Rattle.controller.proofs.Words.{ap, ◌∙◌, sym, arith, unsigned_abs, diary_of, surroundings_of, past_of, Ended}
-use Rattle.ttp_world.specs.Past.{state_of}
+use Rattle.controller.proofs.Words.{◌∙◌, diary_of, surroundings_of, past_of, Ended, state_of}
 use Rattle.controller.proofs.Near.{ended-clock}
 use Rattle.controller.proofs.Parts.{each-of}
 use Rattle.controller.proofs.plant.Plant.node.Goals as goal
@@ -15,5 +14,4 @@ returns-clause-shows c = λ script history stands.
 pub returns-clause-near : goal.returns-clause-near
 returns-clause-near c =
     let of = c.seat.ensures.is in
-    let clock = ap unsigned_abs (c.state.ensures.clock ∙ sym (ended-clock c.seat.result.now.controller of.turn)) in
-    omega (arith, clock, of.clock)
+    rw (c.state.ensures.clock, ← ended-clock c.seat.result.now.controller of.turn) of.clock

@@ -1,7 +1,5 @@
-use Rattle.std.proofs.Common.{None, length, get_or, sum_by, ap, ◌∙◌, sym, arith, zero-add}
-use Rattle.host_port.specs.Reading.{got_of, reads_at, lent}
-use Rattle.host_port.specs.Rings.{source_place}
-use Rattle.host_port.specs.Queues.{calls_at, spare_of}
+use Rattle.host_port.proofs.Names.{None, length, get_or, sum_by, ap, ◌∙◌, sym, arith, zero-add, got_of, reads_at, lent}
+use Rattle.host_port.proofs.Names.{source_place, calls_at, spare_of}
 use Rattle.host_port.proofs.ReaderLists.{all_lent-at, all_lent-rings, all_lent-got}
 use Rattle.host_port.proofs.ends.ControllerEnd.lend_reads.Goals as goal
 

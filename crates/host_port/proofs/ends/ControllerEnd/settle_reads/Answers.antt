@@ -1,7 +1,5 @@
-use Rattle.std.proofs.Common.{None, inl, refl, length, get_or, sym, ap, ◌∙◌}
-use Rattle.host_port.specs.Reading.{ReadersState, got_of, pairs_from}
-use Rattle.host_port.specs.Rings.{source_place}
-use Rattle.host_port.specs.Queues.{calls_at, queue_at}
+use Rattle.host_port.proofs.Names.{None, inl, refl, length, get_or, sym, ap, ◌∙◌, ReadersState, got_of, pairs_from}
+use Rattle.host_port.proofs.Names.{source_place, calls_at, queue_at}
 use Rattle.host_port.proofs.LineQueues.{queue_of}
 use Rattle.host_port.proofs.ReaderLists.{all_settled-none, on_err}
 use Rattle.host_port.proofs.ends.ControllerEnd.settle_reads.Goals as goal

@@ -1,5 +1,4 @@
-use Rattle.std.proofs.Common.{◌+◌, map, ap, ◌∙◌}
-use Rattle.ttp_world.specs.Words.{words_of_payload}
+use Rattle.host_port.proofs.Names.{◌+◌, map, ap, ◌∙◌, words_of_payload}
 use Rattle.host_port.proofs.ReaderLists.{ring_written, written_rings}
 use Rattle.host_port.proofs.port.Port.deliver.Goals as goal
 

@@ -1,5 +1,4 @@
-use Rattle.std.proofs.Common.{map, ap, ◌∙◌}
-use Rattle.host_port.specs.Reading.{ReadersState, buffers_of}
+use Rattle.host_port.proofs.Names.{map, ap, ◌∙◌, ReadersState, buffers_of}
 use Rattle.host_port.proofs.ReaderLists.{ring_read, still_rings, reads_there}
 use Rattle.host_port.proofs.reading.HostReaders.read.Goals as goal
 
