@@ -12,8 +12,7 @@ use Rattle.cluster_run.proofs.Words.{incoming_shape, reader_at, calls_in, IsRing
 use Rattle.cluster_run.proofs.Words.{reads_of_valid, HaveRoomForReads, zero, suc, recursion_from_All, ReadLine}
 use Rattle.cluster_run.proofs.Words.{IsReaderSettled, settled, got_of, pairs_from, desk_numbers, SettlesReads}
 use Rattle.cluster_run.proofs.Words.{SettlesReadsOf, read_of, AreLinesBy, queue_of, all_settled, get_or-map, replicate}
-use Rattle.cluster_run.proofs.Words.{length-replicate, outcomes_of, HaveHandedOn, reader_in, reads_of_host, is_host}
-use Rattle.cluster_run.proofs.Words.{filter, TellsReads}
+use Rattle.cluster_run.proofs.Words.{length-replicate, outcomes_of, HaveHandedOn, TellsReads}
 use Rattle.std.proofs.lemmas.List.{get_or-map as get_or-map_within}
 use Rattle.cluster_run.proofs.Changes.{AreChanged}
 use Rattle.cluster_run.proofs.HandingOn.{no_desk}
@@ -205,15 +204,7 @@ abbrev nobody : ℕ → List (Option ReadersState)
 nobody n = replicate n None
 
 none_there : (n k : ℕ) → readers_at (nobody n) k ≡ None
-none_there zero k = refl
-none_there (suc n) zero = refl
-none_there (suc n) (suc k) = none_there n k
-
-none_settled : (e : ControllerState) → SettlesReadsOf e None e
-none_settled e = record {
-  whole = λ from. is_settled-none (at_source e from);
-  settled_is = λ from. settled-none (at_source e from);
-}
+none_there n k = grind steps
 
 pub none_read : (at : CurrentSlot) (old new : Nodes) → reads_in at.script.now at.slot ≡ []
     → HaveHandedOn (outcomes_of new.seats.items) (desk_ends old.desks.items) (desk_ends new.desks.items)
@@ -221,30 +212,25 @@ pub none_read : (at : CurrentSlot) (old new : Nodes) → reads_in at.script.now 
     → TellsReads at old new []
 none_read at old new quiet handed =
     let n = length (desk_ends old.desks.items) in
-    let ends = desk_ends new.desks.items in
     record {
-      handed = ends;
+      handed = desk_ends new.desks.items;
       first = nobody n;
       last = nobody n;
       handed_are = handed;
-      lent = record {
+      lent = rw quiet (record {
         count = length-replicate n None;
-        each = λ k near. record {
-          readers = λ from. ap (λ o. reader_in o from) (none_there n k)
-              ∙ sym (ap (λ reads. lent (at_source (end_at (desk_ends old.desks.items) k) from) (reads_from reads k from)) quiet);
-          calls = ap calls_in (none_there n k);
-          own = λ x is. absurd (none-some x (sym (none_there n k) ∙ is));
-        };
-      };
-      read = record {
+        each = λ k near. rw (none_there n k)
+            (record { readers = λ from. refl; calls = refl; own = λ x is. absurd (none-some x is) });
+      });
+      read = rw quiet (record {
         count = refl;
         rings = λ k. refl;
-        each = λ k from. rw quiet refl;
-        calls = λ k clear. ap (λ o. reads_of_host k (calls_in o)) (none_there n k) ∙ sym (ap (filter (is_host k)) quiet);
+        each = λ k from. refl;
+        calls = λ k clear. rw (none_there n k) refl;
+      });
+      settles = record {
+        each = λ k near. rw (none_there n k)
+            (record { whole = λ from. is_settled-none _; settled_is = λ from. settled-none _ });
       };
-      settles = record { each = λ k near. rw (none_there n k) (none_settled (end_at ends k)) };
-      told = λ got. record {
-        reads_are = sym quiet;
-        pairs = λ k from. sym (ap (λ o. got_of (reader_in o from)) (none_there n k));
-      };
+      told = λ got. rw quiet (record { reads_are = refl; pairs = λ k from. rw (none_there n k) refl });
     }
