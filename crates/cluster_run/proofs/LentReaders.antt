@@ -157,11 +157,7 @@ pub settles_readers : (old new : ControllerState) (r : ReadersState)
     → ((from : Source) → IsReaderSettled (at_source old from) (at_source r.readers from))
     → new ≡ all_settled old r.readers
     → SettlesReadsOf old (Some r) new
-settles_readers old new r whole joined = record {
-  whole = whole;
-  settled_is = λ from.
-      ap (λ (e : ControllerState). at_source e from) joined ∙ all_settled-at old r.readers (source_place from);
-}
+settles_readers old new r whole joined = grind (steps, all_settled-at)
 
 hosted : (k : ℕ) (lines : List ReadLine) → AllByRecursion (λ (line : ReadLine). line.host ≡ k) lines
     → map read_of lines
@@ -173,11 +169,7 @@ hosted k (line ∷ lines) all = λ i. record { host = all.0 i; source = line.sou
 pub lines_queued : (k : ℕ) (r : ReadersState) (lines : List ReadLine)
     → map (λ (line : ReadLine). line.source) lines ≡ r.calls → All (λ (line : ReadLine). line.host ≡ k) lines
     → ((from : Source) → pairs_from from lines ≡ got_of (at_source r.readers from)) → AreLinesBy k (Some r) lines
-lines_queued k r lines sources hosts pairs = record {
-  reads = hosted k lines (recursion_from_All (λ (line : ReadLine). line.host ≡ k) lines hosts)
-      ∙ ap (map (λ from. record { host = k; source = from })) sources;
-  pairs = pairs;
-}
+lines_queued k r lines sources hosts pairs = grind (steps, hosted, recursion_from_All)
 
 -- The first hosts' are settled, so many: the other desks and readers are as they were.
 pub record AreReadersSettled (k : ℕ) (old_readers readers : List (Option ReadersState)) (old desks : List Desk)

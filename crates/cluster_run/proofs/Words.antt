@@ -57,7 +57,7 @@ pub use Rattle.host_port.specs.declared.report.WriteLine.{WriteLine}
 pub use Rattle.line_text.proofs.PayloadWords.{words_tell}
 pub use Rattle.line_text.specs.HostLines.{AreBytes, HasWords, bytes_in, message_in}
 pub use Rattle.nbw_ring.specs.Numbers.{limit, most_number}
-pub use Rattle.nbw_ring.specs.States.{ReaderState, RingState, WriterState, new_reader, settlement_of, with_joined}
+pub use Rattle.nbw_ring.specs.States.{ReaderState, RingState, WriterState, new_reader, with_joined}
 pub use Rattle.nbw_ring.specs.declared.view.Message.{Message}
 pub use Rattle.nbw_ring.specs.declared.view.Shape.{Shape}
 pub use Rattle.std.proofs.Crossing.{crosses}
