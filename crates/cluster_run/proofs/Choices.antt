@@ -1,5 +1,5 @@
 -- What a node's fetcher got is a message of its host: the fetch was one attempt, which no write of the slot overtook.
-use Rattle.cluster_run.proofs.Words.{◌≡◌, ℕ, zero, suc, ◌+◌, ◌-◌, ◌/◌, ◌<◌, ◌≤◌, Bool, true, false, List, [], ◌∷◌, ◌++◌}
+use Rattle.cluster_run.proofs.Words.{◌≡◌, ℕ, zero, suc, ◌+◌, ◌/◌, ◌<◌, ◌≤◌, Bool, true, false, List, [], ◌∷◌, ◌++◌}
 use Rattle.cluster_run.proofs.Words.{length, map, get_or, Option, Some, None, IsSomeAnd, All, refl, sym, ap, subst, ◌∙◌}
 use Rattle.cluster_run.proofs.Words.{arith, cond, slice_get, ◌&&◌, nat_le, le-leb, map-append, length-map, All-head}
 use Rattle.cluster_run.proofs.Words.{none-some, same_Some, Message, Shape, WriterState, ReaderState, new_reader}

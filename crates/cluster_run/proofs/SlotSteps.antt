@@ -6,7 +6,7 @@ use Rattle.cluster_run.proofs.Words.{arith, ◌==◌, reverse, AllByRecursion, l
 use Rattle.cluster_run.proofs.Words.{length-map, get_or_past, Message, WriterState, new_reader, HostRead, Shape, Medl}
 use Rattle.cluster_run.proofs.Words.{Entry, Script, Source, History, read_messages, is_legal_read, are_legal_reads}
 use Rattle.cluster_run.proofs.Words.{never_fall, ring_messages, reads_in, Numbers, row_in, world, length-world, Outcome}
-use Rattle.cluster_run.proofs.Words.{outcomes_of, ReadLine, WriteLine, ReadersState, reads_from, lent, at_source}
+use Rattle.cluster_run.proofs.Words.{outcomes_of, ReadLine, WriteLine, ReadersState, reads_from, at_source}
 use Rattle.cluster_run.proofs.Words.{incoming_shape, CurrentSlot, Desk, Nodes, next_slot, outcome_of, desk_ends}
 use Rattle.cluster_run.proofs.Words.{desk_numbers, end_at, reader_in, reader_at, IsClear, AreLinesOf, read_of}
 use Rattle.cluster_run.proofs.Words.{number_told, read_shown, ring_words, words_read, pair_of, pairs_read}

@@ -1,6 +1,6 @@
 use Rattle.cluster_run.proofs.Words.{◌≡◌, ◌∷◌, ◌++◌, [], take, length, get_or, Some, None, sym, ap, ◌∙◌, arith}
 use Rattle.cluster_run.proofs.Words.{option_map, vec_len, vec_capacity, filter_map, with_items_is, All-push, write_at}
-use Rattle.cluster_run.proofs.Words.{written, Takes, host_at, WritesBytes, at_any, host_write, within_list}
+use Rattle.cluster_run.proofs.Words.{Takes, host_at, WritesBytes, at_any, host_write, within_list}
 use Rattle.cluster_run.proofs.Sends.{written_more, takes_after, room_after, takes-some, taken_some, taken_none}
 use Rattle.cluster_run.proofs.Sends.{taken_room}
 use Rattle.cluster_run.proofs.sending.write_all.Goals.{in-Some, in_default}
