@@ -1,7 +1,8 @@
 -- Lists that a loop changes place by place.
 use Rattle.cluster_run.proofs.Words.{◌≡◌, ℕ, ◌+◌, ◌<◌, ◌≤◌, List, [], ◌∷◌, ◌++◌, length, set, get_or, sym, ap, ◌∙◌}
-use Rattle.cluster_run.proofs.Words.{subst, below_more, arith, get_or-set_same, get_or-set_other, at_any, steps}
-use Rattle.cluster_run.proofs.Words.{get_or_append_left, get_or_push, with_items, with_items_is}
+use Rattle.cluster_run.proofs.Words.{subst, below_more, arith, at_any, steps, get_or_append_left, get_or_push}
+use Rattle.cluster_run.proofs.Words.{with_items_is}
+use Rattle.std.specs.Vec.{with_items}
 use Rattle.std.proofs.Common.{Vec}
 
 -- What a call with a vector's slice left as it was is as it was in the vector.
@@ -41,17 +42,4 @@ pub both_more : {A B : Type 0} {P : ℕ → A → A → B → B → Type 0} {d :
     → x ≡ get_or now k x → y ≡ get_or is k y → P k x new y next
     → AreBothChanged P d e (k + 1) old (set now k new) was (set is k next)
 both_more {P = P} {d = d} {e = e} {k = k} {old = old} {now = now} {was = was} {is = is} x new y next so near near' here
-    here' by = record {
-      first = changed_more x new so.first near here tt;
-      second = changed_more y next so.second near' here' tt;
-      done = below_more
-          (λ j. P j (get_or old j d) (get_or (set now k new) j d) (get_or was j e) (get_or (set is k next) j e)) k
-          (λ j earlier. rw (get_or-set_other now k j new d (omega arith), get_or-set_other is k j next e (omega arith))
-          (so.done j earlier))
-          (rw (
-            ← (here ∙ at_any now k x d near ∙ so.first.rest k (omega arith)),
-            ← (here' ∙ at_any is k y e near' ∙ so.second.rest k (omega arith)),
-            get_or-set_same now k new d near,
-            get_or-set_same is k next e near',
-          ) by);
-    }
+    here' by = grind (steps, changed_more, at_any)

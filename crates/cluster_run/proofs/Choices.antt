@@ -1,5 +1,5 @@
 -- What a node's fetcher got is a message of its host: the fetch was one attempt, which no write of the slot overtook.
-use Rattle.cluster_run.proofs.Words.{◌≡◌, ℕ, zero, suc, ◌+◌, ◌-◌, ◌/◌, ◌<◌, ◌≤◌, Bool, true, false, List, [], ◌∷◌, ◌++◌}
+use Rattle.cluster_run.proofs.Words.{◌≡◌, ℕ, zero, suc, ◌+◌, ◌/◌, ◌<◌, ◌≤◌, Bool, true, false, List, [], ◌∷◌, ◌++◌}
 use Rattle.cluster_run.proofs.Words.{length, map, get_or, Option, Some, None, IsSomeAnd, All, refl, sym, ap, subst, ◌∙◌}
 use Rattle.cluster_run.proofs.Words.{arith, cond, slice_get, ◌&&◌, nat_le, le-leb, map-append, length-map, All-head}
 use Rattle.cluster_run.proofs.Words.{none-some, same_Some, Message, Shape, WriterState, ReaderState, new_reader}
@@ -29,10 +29,8 @@ pub record HasRing (list : Medl) (k : ℕ) (messages : List (List ℕ)) (pairs :
 pub has_ring : (list : Medl) (k : ℕ) (messages : List (List ℕ)) (pairs : List Message) (end : HostState)
     → 1 ≤ (plan_at list k).payload → IsRingOf (message_shape list k) messages pairs end
     → HasRing list k messages pairs end
-has_ring list k messages pairs end some ring = record {
-  shape_is = shape_there list k some;
-  there = rw (shape_there list k some) at ring;
-}
+has_ring list k messages pairs end some ring =
+    record { shape_is = shape_there list k some; there = rw (shape_there list k some) at ring }
 
 -- A message by its words.
 
@@ -85,9 +83,6 @@ module _ (before new : List (List ℕ)) (w : WriterState) (f : ReaderState)
         high = there.within;
       }
 
-  pub tries_one : f.tries ≡ 1
-  tries_one = omega (arith, attempt.tries)
-
 -- What is chosen for a node, and its ring after the slot's writes and its fetch.
 
 pub record IsNodeChoice (list : Medl) (script : Script) (slot k : ℕ) (loaded : Bool) (pairs : List Message)
@@ -120,8 +115,6 @@ module _ (list : Medl) (script : Script) (slot k : ℕ) (valid : IsValidScript l
       omega (arith, valid.writes k slot, ap (λ (s : Shape). s.buffers) ring.shape_is) in
       let got = got_one before more w f ring.messages_are (some_message list script k slot) few attempt
       settles.whole.0 settles.whole.1 in
-      let tries = tries_one before more w f ring.messages_are (some_message list script k slot) few attempt
-      settles.whole.0 settles.whole.1 in
       let i = got.number in
       let m = get_or (before ++ more) i [] in
       let size : length m ≡ len = message_sizes list script k (suc slot) valid i [] got.high in
@@ -136,7 +129,7 @@ module _ (list : Medl) (script : Script) (slot k : ℕ) (valid : IsValidScript l
       let end : IsRing shape (words_written list script k (suc slot))
       (pairs ++ pair_of (source.Node k) (before ++ more) i ∷ []) (with_joined (with_messages w more) f) =
       subst (λ ms. IsRing shape (words_written list script k (suc slot)) (pairs ++ ms) (with_joined (with_messages w more) f))
-      got.one (settled_ring f whole (λ several. tries ∙ sym (ap length got.one)) settles.whole.1) in
+      got.one (settled_ring f whole (λ several. omega (arith, attempt.tries, ap length got.one)) settles.whole.1) in
       record {
         message = λ _. choice ∙ ap (λ n. message_chosen list script slot k (Some n)) (sym number);
         legal = ap (λ n. is_legal_message list script slot k (Some n)) number

@@ -1,20 +1,23 @@
 -- What a slot hands on to hosts: a controller may deliver it, and it is in the rings of the world after the slot.
 use Rattle.cluster_run.proofs.Words.{◌≡◌, ◌≢◌, ℕ, ◌<◌, ◌≤◌, true, List, length, Option, Some, None, IfSome, refl, sym}
-use Rattle.cluster_run.proofs.Words.{subst, Medl, Chosen, Delivered, Entry, Script, History, plan_at, chosen_of}
-use Rattle.cluster_run.proofs.Words.{frames_in, is_loaded, node_past, slot_after, delivered_at, steps, ℤ, Listen, Send}
-use Rattle.cluster_run.proofs.Words.{Judge, carries_payload, delivery, new_entry, payload_taken, verdict_entry}
-use Rattle.cluster_run.proofs.Words.{joinable, NodePast, Hearing, expected_length, expected_of, verdict_of, view_of}
-use Rattle.cluster_run.proofs.Words.{is_armed, is_on, BegunNode, hearing_in, node_after, node_of, sends_payload}
-use Rattle.cluster_run.proofs.Words.{carries, taken_size, node_of-slot_after, entry_of-row_in, ◌+◌, [], ◌∷◌, map, set}
-use Rattle.cluster_run.proofs.Words.{get_or, ap, ◌∙◌, arith, get_or-set_same, map-set, WriterState, Source}
-use Rattle.cluster_run.proofs.Words.{words_of_payload, Outcome, ControllerState, source_place, at_source, written}
-use Rattle.cluster_run.proofs.Words.{written_at, HasRoom, IsNewest, Desk, HaveHandedOn, delivered_to, handed_on}
-use Rattle.cluster_run.proofs.Words.{number_handed, outcome_of, rings_of, desk_ends, desk_numbers, message_count, ◌++◌}
-use Rattle.cluster_run.proofs.Words.{is_some, map-append, get_or-set_other, Message, Shape, delivered_of, new_messages}
-use Rattle.cluster_run.proofs.Words.{ring_messages, status_words, incoming_shape, IsRingOf, ring_words, words_read}
-use Rattle.cluster_run.proofs.Words.{length-append, get_or-map, cond, IsSomeAnd, option_map, eq-eqb, length-map}
-use Rattle.cluster_run.proofs.Words.{IsValid, word_count, shape_of, MayHandOn, number_told, IsRing, ◌^◌, SLOT_LIMIT}
-use Rattle.cluster_run.proofs.Words.{in_messages, number_delivered, plan_few, read_alike, within_list, written_rings}
+use Rattle.cluster_run.proofs.Words.{Medl, Chosen, Entry, Script, History, plan_at, chosen_of, frames_in, is_loaded}
+use Rattle.cluster_run.proofs.Words.{node_past, slot_after, delivered_at, steps, ℤ, joinable, NodePast, is_armed, is_on}
+use Rattle.cluster_run.proofs.Words.{hearing_in, node_after, node_of, sends_payload, node_of-slot_after}
+use Rattle.cluster_run.proofs.Words.{entry_of-row_in, ◌+◌, [], ◌∷◌, map, set, get_or, ap, ◌∙◌, arith, get_or-set_same}
+use Rattle.cluster_run.proofs.Words.{map-set, WriterState, Source, words_of_payload, Outcome, ControllerState}
+use Rattle.cluster_run.proofs.Words.{source_place, at_source, written, written_at, HasRoom, IsNewest, Desk}
+use Rattle.cluster_run.proofs.Words.{HaveHandedOn, delivered_to, handed_on, number_handed, outcome_of, rings_of}
+use Rattle.cluster_run.proofs.Words.{desk_ends, desk_numbers, message_count, ◌++◌, is_some, map-append}
+use Rattle.cluster_run.proofs.Words.{get_or-set_other, Message, Shape, delivered_of, new_messages, ring_messages}
+use Rattle.cluster_run.proofs.Words.{status_words, incoming_shape, IsRingOf, ring_words, words_read, length-append}
+use Rattle.cluster_run.proofs.Words.{get_or-map, cond, IsSomeAnd, option_map, eq-eqb, length-map, IsValid, word_count}
+use Rattle.cluster_run.proofs.Words.{shape_of, MayHandOn, number_told, IsRing, ◌^◌, SLOT_LIMIT, in_messages}
+use Rattle.cluster_run.proofs.Words.{number_delivered, plan_few, read_alike, within_list, written_rings}
+use Rattle.ttp_world.specs.declared.node.Delivered.{Delivered}
+use Rattle.ttp_world.specs.declared.node.Act.TheVariants.{Judge, Listen, Send}
+use Rattle.ttp_world.specs.Reception.{Hearing, expected_length, expected_of, verdict_of, view_of}
+use Rattle.ttp_world.specs.Conduct.{delivery, new_entry, payload_taken, verdict_entry}
+use Rattle.ttp_world.proofs.DeliveredSizes.{carries, taken_size}
 use Rattle.ttp_world.specs.declared.node.Act.{Act}
 use Rattle.ttp_world.specs.declared.node.CState.{CState}
 use Rattle.ttp_world.specs.declared.node.Verdict.{Verdict}
@@ -67,49 +70,31 @@ made list k past chosen h does judges = tt
 -- node k in it does what it can do
 possible : (list : Medl) (script : Script) (history : History) (k : ℕ)
     → IsPossible list k (node_after list script history k).past (node_after list script history k).act
-possible list script history k = record {
-  on = is_on script k (length history);
-  armed = is_armed script k (length history);
-  is = refl;
-}
-
-judges_other : (list : Medl) (script : Script) (history : History) (k : ℕ)
-    → (node_after list script history k).act ≡ Judge → (coming_place list (node_past list script history k)).slot ≢ k
-judges_other list script history k judges =
-    possible-at list k (node_past list script history k) Judge (rw judges at (possible list script history k))
+possible list script history k =
+    record { on = is_on script k (length history); armed = is_armed script k (length history); is = refl }
 
 pub delivered-deliverable : (list : Medl) (script : Script) (history : History) (chosen : List Chosen) (r : ℕ)
     → r < length list.slots → IfSome (delivered_at (slot_after list script history) chosen r) (IsDeliverable list r)
 delivered-deliverable list script history chosen r node =
     let s = slot_after list script history in
-    let h = hearing_in s (frames_in s chosen) r in
-    let judges : (node_of s r).act ≡ Judge → (coming_place list (node_of s r).past).slot ≢ r =
-    subst (λ (n : BegunNode). n.act ≡ Judge → (coming_place list n.past).slot ≢ r)
-    (sym (node_of-slot_after list script history r node)) (judges_other list script history r) in
-    subst (λ (e : Entry). IfSome (delivery list r (node_of s r).past h e) (IsDeliverable list r))
-    (sym (entry_of-row_in s chosen r node))
-    (made list r (node_of s r).past (chosen_of chosen r) h (node_of s r).act judges)
+    rw (entry_of-row_in s chosen r node)
+    (made list r (node_of s r).past (chosen_of chosen r) (hearing_in s (frames_in s chosen) r) (node_of s r).act
+    (rw (node_of-slot_after list script history r node)
+    (λ judges. possible-at list r _ Judge (rw judges at (possible list script history r)))))
 
 -- A node whose frame carries a message has payload in the list.
 
-pub record SendsOwn (list : Medl) (past : NodePast) (does : Act) : Type 0 where
-  pub sends : does ≡ Send
-  pub carries : carries_payload list (coming_place list past) ≡ true
-
-sends_own : (list : Medl) (past : NodePast) (does : Act) → sends_payload list past does ≡ true → SendsOwn list past does
-sends_own list past Send is = record { sends = refl; carries = is }
-sends_own list past does is = absurd cc
-
-loaded_node : (list : Medl) (script : Script) (history : History) (k : ℕ)
-    → sends_payload list (node_after list script history k).past (node_after list script history k).act ≡ true
-    → 1 ≤ (plan_at list k).payload
-loaded_node list script history k loaded = grind (steps, carries, possible, possible-at, sends_own)
+loaded_at : (list : Medl) (k : ℕ) (past : NodePast) (does : Act) → IsPossible list k past does
+    → sends_payload list past does ≡ true → 1 ≤ (plan_at list k).payload
+loaded_at list k past Send can is =
+    rw (← possible-at list k past Send can) (carries list (coming_place list past) is).some
+loaded_at list k past does can is = absurd cc
 
 pub loaded-payload : (list : Medl) (script : Script) (history : History) (k : ℕ) → k < length list.slots
     → is_loaded (slot_after list script history) k ≡ true → 1 ≤ (plan_at list k).payload
 loaded-payload list script history k node =
-    subst (λ (n : BegunNode). sends_payload list n.past n.act ≡ true → 1 ≤ (plan_at list k).payload)
-    (sym (node_of-slot_after list script history k node)) (loaded_node list script history k)
+    rw (node_of-slot_after list script history k node)
+    (loaded_at list k (node_after list script history k).past _ (possible list script history k))
 
 -- The number of a message that was just written.
 
@@ -121,13 +106,8 @@ newest_of_written (Some w) words n newest = omega (arith, newest, length-append 
 pub number_written : (end : ControllerState) (from : Source) (words : List ℕ) (n : ℕ) → HasRoom (at_source end from)
     → IsNewest (at_source (written_at end from words) from) n → n ≡ message_count (at_source end from)
 number_written end from words n room newest =
-    grind (
-      steps,
-      get_or-set_same,
-      newest_of_written,
-      within_list HasRoom None end (source_place from)
-          (λ none. none) room,
-    )
+    let near = within_list HasRoom None end (source_place from) (λ none. none) room in
+    grind (steps, get_or-set_same, newest_of_written)
 
 rings_delivered : (end : ControllerState) (delivered : Option Delivered)
     → rings_of (delivered_to end delivered) ≡ rings_of end
@@ -219,27 +199,15 @@ pub handed_ring : {list : Medl} {script : Script} {row : List Entry} {before : H
     → IsRingOf (incoming_shape list k from) (words_read list script (row ∷ before) k from) pairs
     (at_source (handed_on end outcome) from)
 handed_ring {list} {script} {row} {before} {k} {outcome} source.Status pairs end handed ring =
-    let after = delivered_to end outcome.delivered in
-    let here : at_source (handed_on end outcome) source.Status
-    ≡ written (at_source end source.Status) outcome.status.words = at_written after source.Status outcome.status.words
-    ∙ ap (λ w. written w outcome.status.words) (status_stays end outcome.delivered) in
-    let messages : words_read list script (row ∷ before) k source.Status
-    ≡ words_read list script before k source.Status ++ outcome.status.words ∷ [] =
-    map-append (ring_words source.Status) (ring_messages list script before k source.Status)
-    (status_words list (length before) (node_past list script (row ∷ before) k)
-    (is_some (delivered_of list script before row k)) ∷ [])
-    ∙ ap (λ ws. words_read list script before k source.Status ++ ws ∷ []) (sym handed.status) in
-    rw (messages, here)
+    let d = outcome.delivered in
+    rw (at_written (delivered_to end d) source.Status outcome.status.words, status_stays end d, map-append, ← handed.status)
     (one_more (incoming_shape list k source.Status) (words_read list script before k source.Status) pairs
     (at_source end source.Status) outcome.status.words ring)
 handed_ring {list} {script} {row} {before} {k} {outcome} (source.Node p) pairs end handed ring =
-    let shape = incoming_shape list k (source.Node p) in
-    let messages = ring_messages list script before k (source.Node p) in
-    let here : at_source (handed_on end outcome) (source.Node p)
-    ≡ at_source (delivered_to end outcome.delivered) (source.Node p) =
-    at_other (delivered_to end outcome.delivered) source.Status (source.Node p) outcome.status.words
+    let here = at_other (delivered_to end outcome.delivered) source.Status (source.Node p) outcome.status.words
     (λ same. absurd (omega (arith, same))) in
-    rw (here, ← handed.delivered) (delivered_ring shape messages pairs end outcome.delivered p ring)
+    rw (here, ← handed.delivered) (delivered_ring (incoming_shape list k (source.Node p))
+    (ring_messages list script before k (source.Node p)) pairs end outcome.delivered p ring)
 
 -- what a controller's end holds, as messages of the world
 pub record HoldsCame (list : Medl) (script : Script) (history : History) (k : ℕ) (pairs : Source → List Message)

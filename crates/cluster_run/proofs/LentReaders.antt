@@ -12,8 +12,7 @@ use Rattle.cluster_run.proofs.Words.{incoming_shape, reader_at, calls_in, IsRing
 use Rattle.cluster_run.proofs.Words.{reads_of_valid, HaveRoomForReads, zero, suc, recursion_from_All, ReadLine}
 use Rattle.cluster_run.proofs.Words.{IsReaderSettled, settled, got_of, pairs_from, desk_numbers, SettlesReads}
 use Rattle.cluster_run.proofs.Words.{SettlesReadsOf, read_of, AreLinesBy, queue_of, all_settled, get_or-map, replicate}
-use Rattle.cluster_run.proofs.Words.{length-replicate, outcomes_of, HaveHandedOn, reader_in, reads_of_host, is_host}
-use Rattle.cluster_run.proofs.Words.{filter, TellsReads}
+use Rattle.cluster_run.proofs.Words.{length-replicate, outcomes_of, HaveHandedOn, TellsReads}
 use Rattle.std.proofs.lemmas.List.{get_or-map as get_or-map_within}
 use Rattle.cluster_run.proofs.Changes.{AreChanged}
 use Rattle.cluster_run.proofs.HandingOn.{no_desk}
@@ -158,11 +157,7 @@ pub settles_readers : (old new : ControllerState) (r : ReadersState)
     → ((from : Source) → IsReaderSettled (at_source old from) (at_source r.readers from))
     → new ≡ all_settled old r.readers
     → SettlesReadsOf old (Some r) new
-settles_readers old new r whole joined = record {
-  whole = whole;
-  settled_is = λ from.
-      ap (λ (e : ControllerState). at_source e from) joined ∙ all_settled-at old r.readers (source_place from);
-}
+settles_readers old new r whole joined = grind (steps, all_settled-at)
 
 hosted : (k : ℕ) (lines : List ReadLine) → AllByRecursion (λ (line : ReadLine). line.host ≡ k) lines
     → map read_of lines
@@ -174,11 +169,7 @@ hosted k (line ∷ lines) all = λ i. record { host = all.0 i; source = line.sou
 pub lines_queued : (k : ℕ) (r : ReadersState) (lines : List ReadLine)
     → map (λ (line : ReadLine). line.source) lines ≡ r.calls → All (λ (line : ReadLine). line.host ≡ k) lines
     → ((from : Source) → pairs_from from lines ≡ got_of (at_source r.readers from)) → AreLinesBy k (Some r) lines
-lines_queued k r lines sources hosts pairs = record {
-  reads = hosted k lines (recursion_from_All (λ (line : ReadLine). line.host ≡ k) lines hosts)
-      ∙ ap (map (λ from. record { host = k; source = from })) sources;
-  pairs = pairs;
-}
+lines_queued k r lines sources hosts pairs = grind (steps, hosted, recursion_from_All)
 
 -- The first hosts' are settled, so many: the other desks and readers are as they were.
 pub record AreReadersSettled (k : ℕ) (old_readers readers : List (Option ReadersState)) (old desks : List Desk)
@@ -205,15 +196,7 @@ abbrev nobody : ℕ → List (Option ReadersState)
 nobody n = replicate n None
 
 none_there : (n k : ℕ) → readers_at (nobody n) k ≡ None
-none_there zero k = refl
-none_there (suc n) zero = refl
-none_there (suc n) (suc k) = none_there n k
-
-none_settled : (e : ControllerState) → SettlesReadsOf e None e
-none_settled e = record {
-  whole = λ from. is_settled-none (at_source e from);
-  settled_is = λ from. settled-none (at_source e from);
-}
+none_there n k = grind steps
 
 pub none_read : (at : CurrentSlot) (old new : Nodes) → reads_in at.script.now at.slot ≡ []
     → HaveHandedOn (outcomes_of new.seats.items) (desk_ends old.desks.items) (desk_ends new.desks.items)
@@ -221,30 +204,25 @@ pub none_read : (at : CurrentSlot) (old new : Nodes) → reads_in at.script.now 
     → TellsReads at old new []
 none_read at old new quiet handed =
     let n = length (desk_ends old.desks.items) in
-    let ends = desk_ends new.desks.items in
     record {
-      handed = ends;
+      handed = desk_ends new.desks.items;
       first = nobody n;
       last = nobody n;
       handed_are = handed;
-      lent = record {
+      lent = rw quiet (record {
         count = length-replicate n None;
-        each = λ k near. record {
-          readers = λ from. ap (λ o. reader_in o from) (none_there n k)
-              ∙ sym (ap (λ reads. lent (at_source (end_at (desk_ends old.desks.items) k) from) (reads_from reads k from)) quiet);
-          calls = ap calls_in (none_there n k);
-          own = λ x is. absurd (none-some x (sym (none_there n k) ∙ is));
-        };
-      };
-      read = record {
+        each = λ k near. rw (none_there n k)
+            (record { readers = λ from. refl; calls = refl; own = λ x is. absurd (none-some x is) });
+      });
+      read = rw quiet (record {
         count = refl;
         rings = λ k. refl;
-        each = λ k from. rw quiet refl;
-        calls = λ k clear. ap (λ o. reads_of_host k (calls_in o)) (none_there n k) ∙ sym (ap (filter (is_host k)) quiet);
+        each = λ k from. refl;
+        calls = λ k clear. rw (none_there n k) refl;
+      });
+      settles = record {
+        each = λ k near. rw (none_there n k)
+            (record { whole = λ from. is_settled-none _; settled_is = λ from. settled-none _ });
       };
-      settles = record { each = λ k near. rw (none_there n k) (none_settled (end_at ends k)) };
-      told = λ got. record {
-        reads_are = sym quiet;
-        pairs = λ k from. sym (ap (λ o. got_of (reader_in o from)) (none_there n k));
-      };
+      told = λ got. rw quiet (record { reads_are = refl; pairs = λ k from. rw (none_there n k) refl });
     }

@@ -12,5 +12,4 @@ pub mod SlotParts
 pub mod ReportTexts
 pub mod Sends
 pub mod LentReaders
-pub mod NextClusters
 mod Sent

@@ -4,7 +4,7 @@ use Rattle.cluster_run.proofs.Words.{Option, Some, None, refl, sym, ap, ◌∙�
 use Rattle.cluster_run.proofs.Words.{map-append, append-nil, HostRead, ReadLine, is_host, read_of, lines_by, queue_of}
 use Rattle.cluster_run.proofs.Words.{AreDue, steps, ◌↔◌, IfNone, append_cancel_left, filter-append, ◌≤◌, inl, inr}
 use Rattle.cluster_run.proofs.Words.{arith, ◌==◌, cases_lt, get_or_past, Source, ReadersState, calls_in, reads_of_host}
-use Rattle.cluster_run.proofs.Words.{AllGot, AreLinesOf, AreQueuesOf, ◌+◌, ◌&&◌, ◌||◌, subst, nat_le, reverse}
+use Rattle.cluster_run.proofs.Words.{AllGot, AreLinesOf, AreQueuesOf, ◌&&◌, ◌||◌, subst, nat_le, reverse}
 use Rattle.cluster_run.proofs.Words.{AllByRecursion, list_all, and_parts, le-leb, Message, Medl, Script, History}
 use Rattle.cluster_run.proofs.Words.{ring_messages, ReadMessage, read_messages, never_fall, is_legal_read, pairs_from}
 use Rattle.cluster_run.proofs.Words.{source_place, read_shown, pairs_read_in, not, reverse-append, is_same_source}

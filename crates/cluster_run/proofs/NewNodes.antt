@@ -1,12 +1,12 @@
 -- The nodes of a new cluster, as their ends are made one after another: their rings have the zeros of the world.
-use Rattle.cluster_run.proofs.Words.{◌≡◌, All-nil, ℕ, zero, suc, ◌+◌, ◌*◌, Bool, true, false, cond, List, [], ◌∷◌}
-use Rattle.cluster_run.proofs.Words.{length, map, get_or, replicate, Option, Some, None, refl, sym, ap, subst, ◌∙◌, All}
-use Rattle.cluster_run.proofs.Words.{length-replicate, length-range_with_len, Shape, WriterState, below, Medl, Script}
-use Rattle.cluster_run.proofs.Words.{Source, plan_at, word_count, words_of_payload, shape_of, message_shape}
-use Rattle.cluster_run.proofs.Words.{incoming_shape, IsNew, GotEach, SawAtMost, joined_pairs, IsRingOf, words_written}
-use Rattle.cluster_run.proofs.Words.{words_read, steps, map_agree-below, number_in, zeros_of, payload_word, ◌++◌, arith}
-use Rattle.cluster_run.proofs.Words.{ControllerState, HostState, at_source, AreNewEnds, Nodes, AreBytesBefore}
-use Rattle.cluster_run.proofs.Words.{desk_ends, end_at, host_at, nodes_view, NodesStandFor, StandsForSome}
+use Rattle.cluster_run.proofs.Words.{◌≡◌, All-nil, ℕ, ◌+◌, ◌*◌, Bool, true, false, cond, List, [], ◌∷◌, length, map}
+use Rattle.cluster_run.proofs.Words.{get_or, replicate, Option, Some, None, refl, sym, ap, subst, ◌∙◌, All, fill_by_all}
+use Rattle.cluster_run.proofs.Words.{length-replicate, Shape, WriterState, Medl, Script, Source, plan_at, word_count}
+use Rattle.cluster_run.proofs.Words.{words_of_payload, shape_of, message_shape, incoming_shape, IsNew, GotEach}
+use Rattle.cluster_run.proofs.Words.{SawAtMost, joined_pairs, IsRingOf, words_written, words_read, steps}
+use Rattle.cluster_run.proofs.Words.{map_agree-below, number_in, zeros_of, payload_word, ◌++◌, arith, ControllerState}
+use Rattle.cluster_run.proofs.Words.{HostState, at_source, AreNewEnds, Nodes, AreBytesBefore, desk_ends, end_at}
+use Rattle.cluster_run.proofs.Words.{host_at, nodes_view, NodesStandFor, StandsForSome}
 use Rattle.std.proofs.lemmas.List.{length-append}
 use Rattle.cluster_run.specs.Nodes.{AreNewNodes}
 use Rattle.cluster_run.proofs.Changes.{pushed_more}
@@ -15,22 +15,15 @@ use Rattle.ttp_world.specs.declared.script.Source.TheVariants as source
 -- The words of zeros are zeros.
 
 zero_at : (n k : ℕ) → ◌≡◌ {A = ℕ} (get_or (replicate n 0) k 0) 0
-zero_at zero k = refl
-zero_at (suc n) zero = refl
-zero_at (suc n) (suc k) = zero_at n k
+zero_at n k = grind steps
 
 word_of_zeros : (n i : ℕ) → payload_word (replicate n 0) i ≡ 0
 word_of_zeros n i = ap number_in
     (map_agree-below (λ j. get_or (replicate n 0) (8 * i + j) 0) (λ j. 0) 8 (λ j near. zero_at n (8 * i + j)))
 
-map-zero : (xs : List ℕ) → map {B = ℕ} (λ x. 0) xs ≡ replicate (length xs) 0
-map-zero [] = refl
-map-zero (x ∷ xs) = ap (λ zs. 0 ∷ zs) (map-zero xs)
-
 words_of_zeros : (n : ℕ) → words_of_payload (replicate n 0) ≡ replicate (word_count n) 0
-words_of_zeros n = ap (λ m. map (payload_word (replicate n 0)) (below (word_count m))) (length-replicate n 0)
-    ∙ map_agree-below (payload_word (replicate n 0)) (λ x. 0) (word_count n) (λ i near. word_of_zeros n i)
-    ∙ map-zero (below (word_count n)) ∙ ap (λ m. replicate m 0) (length-range_with_len 0 (word_count n))
+words_of_zeros n = rw length-replicate (sym (fill_by_all (payload_word (replicate n 0)) (replicate (word_count n) 0)
+    (word_count n) 0 (length-replicate (word_count n) 0) (λ i near. zero_at (word_count n) i ∙ sym (word_of_zeros n i))))
 
 -- A new ring.
 

@@ -123,13 +123,11 @@ got_more n old mid new so reads clear =
       keeps = keeps_more n (Some old) (Some mid) (Some new) so.keeps (reads_keep (Some mid) (Some new) reads);
       count = ap length g.got ∙ length-append mid.got (m ∷ []) ∙ (omega (arith, so.count));
       once = tries_more n old mid new so reads;
-      least = subst (AllByRecursion (λ (e : Message). old.floor ≤ e.number)) (sym g.got)
-          (each-append (λ (e : Message). old.floor ≤ e.number) mid.got (m ∷ []) so.least
+      least = rw g.got (each-append (λ (e : Message). old.floor ≤ e.number) mid.got (m ∷ []) so.least
           (omega (arith, so.keeps.floor, up), tt));
-      most = subst (AllByRecursion (λ (e : Message). e.number ≤ new.floor)) (sym g.got)
-          (each-append (λ (e : Message). e.number ≤ new.floor) mid.got (m ∷ [])
+      most = rw g.got (each-append (λ (e : Message). e.number ≤ new.floor) mid.got (m ∷ [])
           (each-raised mid.got mid.floor new.floor (omega (arith, g.floor, up)) so.most) (omega (arith, g.floor), tt));
-      rise = subst Rises (sym g.got) (rises-push mid.got m mid.floor so.rise so.most up);
+      rise = rw g.got (rises-push mid.got m mid.floor so.rise so.most up);
     }
 
 got_next : (n : ℕ) (old : ReaderState) (mid new : Option ReaderState) → IsSomeAnd mid (GotEvery n old)
@@ -198,8 +196,7 @@ module _ {done : List HostRead} {r : HostRead} {start old new : List (Option Rea
   rings_more : (k : ℕ) → rings_in (readers_at new k) ≡ rings_in (readers_at start k)
   rings_more k =
       elim (cases_eq r.host k) [
-        | inl own ↦ subst (λ j. rings_in (readers_at new j) ≡ rings_in (readers_at start j)) own
-            (is.own.rings ∙ so.rings r.host)
+        | inl own ↦ rw (← own) (is.own.rings ∙ so.rings r.host)
         | inr other ↦ ap rings_in (is.others k other) ∙ so.rings k
       ]
 
@@ -228,9 +225,7 @@ module _ {done : List HostRead} {r : HostRead} {start old new : List (Option Rea
       → reads_of_host k (calls_in (readers_at new k)) ≡ filter (is_host k) (done ++ r ∷ [])
   calls_more k clear =
       elim (cases_eq r.host k) [
-        | inl own ↦
-            subst (λ j. reads_of_host j (calls_in (readers_at new j)) ≡ filter (is_host j) (done ++ r ∷ [])) own
-            (own_more (λ from. rw own (clear from)))
+        | inl own ↦ rw (← own) (own_more (λ from. rw own (clear from)))
         | inr other ↦
             ap (λ o. reads_of_host k (calls_in o)) (is.others k other) ∙ so.calls k (λ from. was_clear k from (clear from))
             ∙ sym (host_more-other done r k other)

@@ -7,8 +7,9 @@ use Rattle.cluster_run.proofs.Words.{words_of_payload, Numbers, SlotNumbers, wor
 use Rattle.cluster_run.proofs.Words.{bytes_in, words_tell, AreBytesBefore, node_shown, report_numbers, writes_shown}
 use Rattle.cluster_run.proofs.Words.{read_shown, ring_words, IsNext, steps, range_with_len, map_each-below}
 use Rattle.cluster_run.proofs.Words.{node_line_of, more_write_lines, read_line, slot_lines, HasRead, messages_read}
-use Rattle.cluster_run.proofs.Words.{HasWords, message_in, HasMessage, IsListed, node_texts, source_payload_size}
-use Rattle.cluster_run.proofs.Words.{read_text, report_lines, write_text, ShowsSlot, ClusterView, plan_few}
+use Rattle.cluster_run.proofs.Words.{HasWords, message_in, ShowsSlot, ClusterView, plan_few}
+use Rattle.trace_text.specs.ReportText.{HasMessage, IsListed, node_texts, source_payload_size, read_text, report_lines}
+use Rattle.trace_text.specs.ReportText.{write_text}
 use Rattle.ttp_world.proofs.HostPayloads.{IsMessageOf}
 use Rattle.line_text.specs.LineParts.{HasDigits}
 use Rattle.line_text.proofs.MemberDigits.{state_of-digits}

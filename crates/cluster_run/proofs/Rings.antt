@@ -1,10 +1,8 @@
 -- What a ring of the cluster has, and what it is once messages are written and a reader is settled.
-use Rattle.cluster_run.proofs.Words.{◌≡◌, ◌≢◌, ℕ, ◌≤◌, ◌^◌, List, ◌++◌, ◌∷◌, [], length, Option, Some, None, IsSomeAnd}
-use Rattle.cluster_run.proofs.Words.{refl, sym, ap, ◌∙◌, arith, IsSome, append-nil, length-append, All-push, Message}
-use Rattle.cluster_run.proofs.Words.{Shape, WriterState, ReaderState, with_joined, settlement_of, HasSeen, HasRoom}
-use Rattle.cluster_run.proofs.Words.{Takes, word_count, GotEach, SawAtMost, IsRing, message_count}
+use Rattle.cluster_run.proofs.Words.{◌≡◌, ◌≢◌, ℕ, ◌≤◌, ◌^◌, List, ◌++◌, length, Option, Some, None, IsSomeAnd, refl}
+use Rattle.cluster_run.proofs.Words.{sym, ap, ◌∙◌, arith, IsSome, All-push, Message, Shape, WriterState, ReaderState}
+use Rattle.cluster_run.proofs.Words.{with_joined, HasSeen, HasRoom, steps, Takes, word_count, IsRing, message_count}
 use Rattle.std.proofs.lemmas.List.Concat.{flat_map-append}
-use Rattle.nbw_ring.specs.declared.view.Settlement.{Settlement}
 
 pub ring_some : (shape : Shape) (messages : List (List ℕ)) (pairs : List Message) (end : Option WriterState)
     → IsSomeAnd end (IsRing shape messages pairs) → IsSome end
@@ -32,23 +30,10 @@ room_of shape messages pairs (Some w) ring few = omega (arith, ap length ring.me
 pub ring_more : {shape : Shape} {messages : List (List ℕ)} {pairs : List Message} {w : WriterState}
     (more : List (List ℕ)) (n : ℕ) → IsRing shape messages pairs w
     → IsRing shape (messages ++ more) pairs (record w { messages = w.messages ++ more; steps = n })
-ring_more {w = w} more n ring = record {
-  shape_is = ring.shape_is;
-  messages_are = ap (λ ms. ms ++ more) ring.messages_are;
-  pairs_are = ring.pairs_are;
-  seen = λ j s within. omega (arith, ring.seen j s within, length-append w.messages more);
-  once = ring.once;
-}
+ring_more {w = w} more n ring = grind steps
 
 -- and once a reader is settled
 pub settled_ring : {shape : Shape} {messages : List (List ℕ)} {pairs : List Message} {w : WriterState} (r : ReaderState)
     → IsRing shape messages pairs w → (shape.buffers ≢ 1 → r.tries ≡ length r.got) → HasSeen w r
     → IsRing shape messages (pairs ++ r.got) (with_joined w r)
-settled_ring {w = w} r ring once seen = record {
-  shape_is = ring.shape_is;
-  messages_are = ring.messages_are;
-  pairs_are = flat_map-append (λ (s : Settlement). s.pairs) w.joined (settlement_of r ∷ [])
-      ∙ (λ i. ring.pairs_are i ++ append-nil r.got i);
-  seen = All-push (SawAtMost w.messages) w.joined (settlement_of r) ring.seen seen;
-  once = λ more. All-push GotEach w.joined (settlement_of r) (ring.once more) (once more);
-}
+settled_ring {w = w} r ring once seen = grind (steps, All-push, flat_map-append)

@@ -2,13 +2,12 @@
 use Rattle.cluster_run.proofs.Words.{◌≡◌, ℕ, ◌+◌, ◌<◌, ◌≤◌, Bool, true, false, cond, List, [], ◌∷◌, ◌++◌, length, map}
 use Rattle.cluster_run.proofs.Words.{set, take, drop, get_or, count_by, Option, Some, None, option_map, refl, sym, ap}
 use Rattle.cluster_run.proofs.Words.{◌∙◌, arith, ◌==◌, IsSome, filter_map, false≢true, eq-eqb, eqb-true}
-use Rattle.cluster_run.proofs.Words.{false_from_ne_true, append-nil, length-map, length-set, take_more}
-use Rattle.cluster_run.proofs.Words.{take-append-drop, get_or-set_same, get_or-set_other, HostWrite, payload_of_host}
-use Rattle.cluster_run.proofs.Words.{words_of_payload, WriteLine, HostState, written, Takes, HasRoom, host_at}
-use Rattle.cluster_run.proofs.Words.{with_messages, after_writes, message_count, host_write_line, host_write_lines}
-use Rattle.cluster_run.proofs.Words.{steps, cons_option, filter_map-append, most_number, messages_by, length-append}
-use Rattle.cluster_run.proofs.Words.{suc, IfSome, All, subst, ForSome, All-head, none-some, same_Some, Message}
-use Rattle.cluster_run.proofs.Words.{ReaderState, new_reader, Medl, Chosen, Script, EVENT_LIMIT, plan_at}
+use Rattle.cluster_run.proofs.Words.{false_from_ne_true, append-nil, length-map, take_more, take-append-drop, HostWrite}
+use Rattle.cluster_run.proofs.Words.{payload_of_host, words_of_payload, WriteLine, HostState, written, Takes, HasRoom}
+use Rattle.cluster_run.proofs.Words.{host_at, with_messages, after_writes, message_count, host_write_line}
+use Rattle.cluster_run.proofs.Words.{host_write_lines, steps, cons_option, filter_map-append, most_number, messages_by}
+use Rattle.cluster_run.proofs.Words.{length-append, suc, IfSome, All, subst, ForSome, All-head, none-some, same_Some}
+use Rattle.cluster_run.proofs.Words.{Message, ReaderState, new_reader, Medl, Chosen, Script, EVENT_LIMIT, plan_at}
 use Rattle.cluster_run.proofs.Words.{messages_before, nothing_chosen, messages_written, writes_in, word_count}
 use Rattle.cluster_run.proofs.Words.{BegunSlot, Numbers, is_loaded, world, AreBytes, Seat, CurrentSlot, AreBytesBefore}
 use Rattle.cluster_run.proofs.Words.{HaveBegunFor, HaveChosen, next_slot, writes_shown, words_written, AreLent, Fetches}
@@ -77,19 +76,7 @@ pub written_more : (old ends : List HostState) (writes : List HostWrite) (lines 
     (set ends w.host (written (host_at ends w.host) (words_of_payload w.payload)))
     (lines ++ host_write_line ends w.host 0 ∷ [])
 written_more old ends writes lines w so within some =
-    grind (
-      steps,
-      after_more,
-      count_after,
-      eq-eqb,
-      eqb-true,
-      false_from_ne_true,
-      get_or-set_other,
-      get_or-set_same,
-      length-set,
-      was_some,
-      write_lines-more,
-    )
+    grind (steps, after_more, count_after, eq-eqb, eqb-true, false_from_ne_true, was_some, write_lines-more)
 
 -- What a ring takes, it takes after the writes, and it has room for one more of so many.
 
@@ -131,11 +118,6 @@ taken_room h xs i x y within here is =
     let whole : length (filter_map h xs) ≡ length (front ++ back) = ap length
     (ap (filter_map h) (sym (take-append-drop (i + 1) xs)) ∙ filter_map-append h (take (i + 1) xs) (drop (i + 1) xs)) in
     omega (arith, one, whole, length-append (filter_map h (take i xs)) (y ∷ []), length-append front back)
-
-pub written_along : {old ends ends' : List HostState} {writes writes' : List HostWrite} {lines lines' : List WriteLine}
-    → writes' ≡ writes → ends' ≡ ends → lines' ≡ lines → AreWritten old writes ends lines
-    → AreWritten old writes' ends' lines'
-written_along {old} e f l so = rw (e, f, l) so
 
 -- The slot of a list's node.
 pub plan_there : (list : Medl) (k : ℕ) (plan : SlotPlan) → slice_get list.slots k ≡ Some plan → plan_at list k ≡ plan

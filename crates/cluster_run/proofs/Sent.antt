@@ -23,15 +23,7 @@ controller_send =
 seat_send : IsSend Seat.the_row
 seat_send = search (sendable, crosses, controller_send, incidents.the_field_send, outcome.the_field_send) depth 20
 
+ruleset parts = (seat_send, desk.the_send, medium.the_send, medium.the_sync, list.the_sync, script.the_sync)
+
 pub job_send : (κ : NamedLft) → IsSend (EndJob.the_row κ)
-job_send κ =
-    search (
-      sendable,
-      crosses,
-      seat_send,
-      desk.the_send,
-      medium.the_send,
-      medium.the_sync,
-      list.the_sync,
-      script.the_sync,
-    ) depth 20
+job_send κ = search (sendable, crosses, parts) depth 20

@@ -1,16 +1,15 @@
 -- The nodes at the end of a slot, in two parts, one after the other, and whole: they are ready for it once it is
 -- planned.
 use Rattle.cluster_run.proofs.Words.{◌≡◌, ℕ, ◌+◌, ◌-◌, ◌<◌, List, [], ◌++◌, length, map, get_or, take, drop, None, sym}
-use Rattle.cluster_run.proofs.Words.{ap, subst, ◌∙◌, arith, cases_lt, map-append, length-map, take-append-drop, Medl}
-use Rattle.cluster_run.proofs.Words.{Script, slot_after, delivered_at, no_outcome, outcomes_of, Seat, ControllerState}
-use Rattle.cluster_run.proofs.Words.{Desk, MayHandOn, HasPartEnded, handed_on, number_handed, outcome_of, rings_of}
-use Rattle.cluster_run.proofs.Words.{end_at, desk_ends, desk_numbers, steps, ⊎_elim, get_or-append-add, each-front}
-use Rattle.cluster_run.proofs.Words.{each-back, each-joined, IsPartReady, Outcome, zero-add, ◌≤◌, History, Numbers}
-use Rattle.cluster_run.proofs.Words.{world, length-world, IsPlanned, HaveBegun, StandAfter, AreSeats, AreIncidents}
-use Rattle.cluster_run.proofs.Words.{most_ahead_in, CurrentSlot, Nodes, HaveBegunFor, next_slot, pairs_read}
-use Rattle.cluster_run.proofs.Words.{IsSlotEnded, MayEndSlot, NodesStandAt, IsFromWithin, MayEnd, ArePlannedNodes}
-use Rattle.cluster_run.proofs.Words.{AreReady, NodesView, length-append}
+use Rattle.cluster_run.proofs.Words.{ap, ◌∙◌, arith, cases_lt, map-append, length-map, take-append-drop, Medl, Script}
+use Rattle.cluster_run.proofs.Words.{slot_after, no_outcome, Seat, ControllerState, Desk, HasPartEnded, handed_on}
+use Rattle.cluster_run.proofs.Words.{number_handed, outcome_of, rings_of, end_at, desk_ends, steps, ⊎_elim}
+use Rattle.cluster_run.proofs.Words.{get_or-append-add, each-front, each-back, each-joined, IsPartReady, Outcome}
+use Rattle.cluster_run.proofs.Words.{zero-add, ◌≤◌, History, Numbers, world, length-world, HaveBegun, StandAfter}
+use Rattle.cluster_run.proofs.Words.{CurrentSlot, Nodes, HaveBegunFor, next_slot, pairs_read, IsSlotEnded, MayEndSlot}
+use Rattle.cluster_run.proofs.Words.{NodesStandAt, MayEnd, ArePlannedNodes, AreReady, NodesView, length-append, subst}
 use Rattle.medium.specs.Carried.{Carried}
+use Rattle.controller.specs.PlantWithin.{IsFromWithin, most_ahead_in}
 use Rattle.controller.specs.Parts.{EachFrom}
 use Rattle.cluster_run.proofs.HandingOn.{delivered-deliverable, HoldsCame, may_hand_on}
 
@@ -73,12 +72,7 @@ part_of_whole {l} {sc} {ds = ds} first each ends seats count desks ready =
         planned = each _ may.planned;
         carries = may.carries;
         hands_on = λ j near.
-            let at : 0 + (first + j) ≡ first + j = omega arith in
-            subst (λ (end : ControllerState). MayHandOn end
-            (delivered_at (slot_after l sc may.history) may.chosen (first + j))) (ends j near)
-            (subst (λ k. MayHandOn (end_at (desk_ends ds) (first + j))
-            (delivered_at (slot_after l sc may.history) may.chosen k))
-            at (may.hands_on (first + j) (omega (arith, near, desks))));
+            rw (← ends j near) (rw (zero-add (first + j)) at (may.hands_on (first + j) (omega (arith, near, desks))));
       };
     }
 
@@ -90,8 +84,8 @@ joined_at : {X : Type 0} (d : X) (f : ControllerState → Outcome → X) {half :
     → ((j : ℕ) → j < length ends2 → get_or xs2 j d ≡ f (end_at ends2 j) (outcome_of os2 j))
     → (j : ℕ) → j < length ends → get_or xs j d ≡ f (end_at ends j) (outcome_of os j)
 joined_at d f {half = half} {ends = ends} {os = os} {xs = xs} e o x front back j near = ⊎_elim
-    (λ less. at_front d j x less ∙ front j (omega (arith, less, e.count))
-    ∙ (λ i. f (sym (at_front [] j e less) i) (sym (at_front no_outcome j o less) i)))
+    (λ less. rw (at_front d j x less, at_front [] j e less, at_front no_outcome j o less)
+    (front j (omega (arith, less, e.count))))
     (λ more.
     let at : half + (j - half) ≡ j = omega (arith, more) in
     subst (λ k. get_or xs k d ≡ f (end_at ends k) (outcome_of os k)) at
@@ -124,12 +118,10 @@ module _ {half : ℕ} {ss ss1 ss2 : List Seat} {ds ds1 ds2 : List Desk} (c : Are
       → HasPartEnded l sc carried half ss2 ss2' ds2 ds2' → HasPartEnded l sc carried 0 ss ss' ds ds'
   both_ended {ss' = ss'} {ss1' = ss1'} {ss2' = ss2'} {ds' = ds'} {ds1' = ds1'} {ds2' = ds2'} c' d' front back =
       let seats : AreParts half ss' ss1' ss2' = record { is = c'; count = front.count ∙ c.count } in
-      let outcomes : AreParts half (outcomes_of ss') (outcomes_of ss1') (outcomes_of ss2') =
-      mapped (λ (seat : Seat). seat.outcome) seats in
+      let outcomes = mapped (λ (seat : Seat). seat.outcome) seats in
       let parts : AreParts half ds' ds1' ds2' = record { is = d'; count = same_many ds1' ds1 front.rings ∙ d.count } in
-      let after : AreParts half (desk_ends ds') (desk_ends ds1') (desk_ends ds2') = mapped (λ (desk : Desk). desk.end) parts in
-      let told : AreParts half (desk_numbers ds') (desk_numbers ds1') (desk_numbers ds2') =
-      mapped (λ (desk : Desk). desk.delivered) parts in
+      let after = mapped (λ (desk : Desk). desk.end) parts in
+      let told = mapped (λ (desk : Desk). desk.delivered) parts in
       let next : half ≡ 0 + length ss1' = omega (arith, seats.count) in
       let next_seat : half ≡ 0 + length ss1 = omega (arith, c.count) in
       record {
@@ -154,14 +146,14 @@ module _ {half : ℕ} {ss ss1 ss2 : List Seat} {ds ds1 ds2 : List Desk} (c : Are
 
 -- Once the controllers have begun the slot.
 
-module _ (at : CurrentSlot) {numbers : Numbers} {view : NodesView} {old begun now : List Seat} (is : now ≡ begun)
+module _ (at : CurrentSlot) {numbers : Numbers} {view : NodesView} {old begun : List Seat}
     (stands : NodesStandAt at.list.now at.script.now at.slot view numbers) (was : old ≡ view.seats)
     (begin : (history : History) → length history ≡ at.slot → StandAfter at.script.now history 0 old
     → HaveBegun (slot_after at.list.now at.script.now history) 0 begun) where
-  pub has_begun : HaveBegun (next_slot at.list.now at.script.now numbers) 0 now
+  pub has_begun : HaveBegun (next_slot at.list.now at.script.now numbers) 0 begun
   has_begun = grind (steps, length-world)
 
-  pub has_begun_for : HaveBegunFor at numbers now view.host_ends
+  pub has_begun_for : HaveBegunFor at numbers begun view.host_ends
   has_begun_for = record { count = stands.count; begun = has_begun; written = stands.stands.written }
 
 -- Once it is planned.
@@ -182,11 +174,9 @@ may_end at nodes may =
       hands_on = λ j near.
           let node : j < length list.slots =
           omega (arith, near, may.are.desks, length-map nodes.desks.items (λ (d : Desk). d.end)) in
-          let here : j ≡ 0 + j = omega arith in
           let came : HoldsCame list script history j (pairs_read list script may.numbers j) (end_at ends j) =
-          record { each = λ from. may.read j node from } in
-          subst (λ k. MayHandOn (end_at ends j) (delivered_at (slot_after list script history) chosen k)) here
-          (may_hand_on came (delivered_at (slot_after list script history) chosen j) at.valid
+          record { each = may.read j node } in
+          rw (zero-add j) (may_hand_on came _ at.valid
           (omega (arith, length-world list script may.numbers, may.count, at.within, at.valid_script.slots))
           (delivered-deliverable list script history chosen j node));
     }
@@ -194,16 +184,15 @@ may_end at nodes may =
 pub part_ready : (at : CurrentSlot) (nodes : Nodes) → MayEndSlot at nodes → AreReady at nodes
 part_ready at nodes may =
     let are = may.are in
-    let is = sym are.slot_is in
     record {
       list = at.valid;
       nodes = omega (arith, are.seats_count);
       drifts = at.valid_script.drift_count;
       drift = at.valid_script.drift;
       slot = omega (arith, are.slot_is, at.within, at.valid_script.slots);
-      medium = subst (λ n. IsFromWithin nodes.medium at.script.now (most_ahead_in n)) is are.medium;
-      incidents = subst (λ n. AreIncidents at.script.now n 0 nodes.seats.items) is are.incidents;
-      seats_are = subst (λ n. AreSeats at.list.now IsPlanned (most_ahead_in n) 0 nodes.seats.items) is are.seats;
+      medium = subst (λ n. IsFromWithin nodes.medium at.script.now (most_ahead_in n)) (sym are.slot_is) are.medium;
+      incidents = rw are.slot_is are.incidents;
+      seats_are = rw are.slot_is are.seats;
       count = are.desks ∙ sym are.seats_count;
       may = may_end at nodes may;
     }

@@ -2,27 +2,31 @@
 -- Each of its reads gets a message, the numbers of these are legal, and the rings keep what was got of them.
 use Rattle.cluster_run.proofs.Words.{◌≡◌, ℕ, ◌+◌, ◌<◌, ◌≤◌, Bool, true, false, cond, ◌&&◌, List, [], ◌∷◌, ◌++◌, length}
 use Rattle.cluster_run.proofs.Words.{map, get_or, Option, Some, None, option_map, inl, inr, refl, sym, ap, ◌∙◌, subst}
-use Rattle.cluster_run.proofs.Words.{arith, ◌==◌, reverse, is_some, AllByRecursion, list_all, ForSome, cases_lt, eq-eqb}
+use Rattle.cluster_run.proofs.Words.{arith, ◌==◌, reverse, AllByRecursion, list_all, ForSome, cases_lt, eq-eqb}
 use Rattle.cluster_run.proofs.Words.{length-map, get_or_past, Message, WriterState, new_reader, HostRead, Shape, Medl}
-use Rattle.cluster_run.proofs.Words.{Delivered, Entry, Script, Source, History, read_messages, is_legal_read}
-use Rattle.cluster_run.proofs.Words.{are_legal_reads, never_fall, ring_messages, status_words, message_chosen, reads_in}
-use Rattle.cluster_run.proofs.Words.{Numbers, node_past, row_in, world, chosen_of, length-world, Outcome, outcomes_of}
-use Rattle.cluster_run.proofs.Words.{ReadLine, WriteLine, ReadersState, reads_from, lent, at_source, incoming_shape}
-use Rattle.cluster_run.proofs.Words.{CurrentSlot, Desk, Nodes, next_slot, outcome_of, desk_ends, desk_numbers, end_at}
-use Rattle.cluster_run.proofs.Words.{reader_in, reader_at, IsClear, AreLinesOf, read_of, number_told, read_shown}
-use Rattle.cluster_run.proofs.Words.{ring_words, words_read, pair_of, pairs_read, pairs_read_in, IsRingOf, IsSlotEnded}
-use Rattle.cluster_run.proofs.Words.{NodesStandAt, TellsReads, nodes_view, steps, AreOfHosts, delivered_of-row_in}
+use Rattle.cluster_run.proofs.Words.{Entry, Script, Source, History, read_messages, is_legal_read, are_legal_reads}
+use Rattle.cluster_run.proofs.Words.{never_fall, ring_messages, reads_in, Numbers, row_in, world, length-world, Outcome}
+use Rattle.cluster_run.proofs.Words.{outcomes_of, ReadLine, WriteLine, ReadersState, reads_from, at_source}
+use Rattle.cluster_run.proofs.Words.{incoming_shape, CurrentSlot, Desk, Nodes, next_slot, outcome_of, desk_ends}
+use Rattle.cluster_run.proofs.Words.{desk_numbers, end_at, reader_in, reader_at, IsClear, AreLinesOf, read_of}
+use Rattle.cluster_run.proofs.Words.{number_told, read_shown, ring_words, words_read, pair_of, pairs_read}
+use Rattle.cluster_run.proofs.Words.{pairs_read_in, IsRingOf, IsSlotEnded, NodesStandAt, TellsReads, nodes_view, steps}
 use Rattle.cluster_run.proofs.Words.{HaveEnded, HavePlannedSlot, IsSlotPlanned, below, IsLegal, is_legal_message}
-use Rattle.cluster_run.proofs.Words.{writes_in, SlotNumbers, legal-after, most_ahead, NodeLine, SlotReport}
-use Rattle.cluster_run.proofs.Words.{HaveEndedSlot, node_shown, report_numbers, writes_shown, IsNextOf, NodesStandFor}
-use Rattle.cluster_run.proofs.Words.{fill_by_all, all-below, entry_of, are_legal_messages, are_same_numbers}
-use Rattle.cluster_run.proofs.Words.{is_legal_slot, message_of, message_of-row_in, length-row_in, row_of_world}
-use Rattle.cluster_run.proofs.Words.{row_of_world-told, number_in_frame, newest_number, get_or-map}
+use Rattle.cluster_run.proofs.Words.{SlotNumbers, legal-after, most_ahead, NodeLine, SlotReport, HaveEndedSlot}
+use Rattle.cluster_run.proofs.Words.{node_shown, report_numbers, IsNextOf, NodesStandFor, fill_by_all, all-below}
+use Rattle.cluster_run.proofs.Words.{entry_of, are_legal_messages, are_same_numbers, is_legal_slot, message_of}
+use Rattle.cluster_run.proofs.Words.{length-row_in, row_of_world, row_of_world-told, number_in_frame, newest_number}
+use Rattle.cluster_run.proofs.Words.{get_or-map, cluster_at, IsNext, ClusterStandsFor, cluster_of, AreBytesBefore}
+use Rattle.cluster_run.proofs.Words.{IsOnCourse, ClusterSteps}
+use Rattle.ttp_world.proofs.Carried.{AreOfHosts, delivered_of-row_in, message_of-row_in}
 use Rattle.nbw_ring.specs.Numbers.{newest_number as newest_in, IsMessageOf}
 use Rattle.controller.specs.Passes.{IsOutcomeOf}
 use Rattle.controller.proofs.Plants.{left_at}
 use Rattle.ttp_world.proofs.LegalRuns.{are_same_numbers-refl as same_numbers}
 use Rattle.ttp_world.proofs.LineLists.{map_of_map}
+use Rattle.cluster_run.specs.declared.progress.Progress.{Progress}
+use Rattle.cluster_run.specs.declared.progress.Course.{Course}
+use Rattle.cluster_run.specs.Runs.{IsToldOf}
 use Rattle.cluster_run.proofs.Choices.{found}
 use Rattle.cluster_run.proofs.HandingOn.{delivered-deliverable, IsHandedOf, handed_ring, HoldsCame, number_is_told}
 use Rattle.cluster_run.proofs.Lines.{message_told, messages_told, pairs_of, each_line, never_fall-lines, TellsRing}
@@ -175,9 +179,7 @@ module _ (so : TakenSlot) where
 
   of_hosts : AreOfHosts (next_slot list script so.numbers) so.mid.chosen.items
   of_hosts = record {
-    message = λ k node loaded. planned.chosen.messages k node loaded
-        ∙ ap (λ n. message_chosen list script n k (Some (chosen_of so.mid.chosen.items k).number))
-        (sym (length-world list script so.numbers));
+    message = λ k node loaded. rw (← length-world list script so.numbers) at (planned.chosen.messages k node loaded);
   }
 
   abbrev outcome : ℕ → Outcome
@@ -188,14 +190,8 @@ module _ (so : TakenSlot) where
 
   handed_of : (k : ℕ) → k < length list.slots → IsHandedOf list script row before k (outcome k)
   handed_of k node =
-      let left = left_here k node in
-      let same = sym (delivered_of-row_in list script before so.mid.chosen.items k of_hosts) in
-      record {
-        delivered = left.delivered ∙ same;
-        status = left.status
-            ∙ ap (λ (d : Option Delivered). status_words list (length before) (node_past list script (row ∷ before) k)
-            (is_some d)) same;
-      }
+      let same = delivered_of-row_in list script before so.mid.chosen.items k of_hosts in
+      record { delivered = rw same (left_here k node).delivered; status = rw same (left_here k node).status }
 
   came : (k : ℕ) → k < length list.slots
       → HoldsCame list script before k (pairs_read list script so.numbers k) (end_at (desk_ends so.mid.desks.items) k)
@@ -211,27 +207,22 @@ module _ (so : TakenSlot) where
 
   -- What was read.
 
-  abbrev ring : (k : ℕ) → k < length list.slots → Source → RingSlot
+  ring : (k : ℕ) → k < length list.slots → (from : Source) → RingSlot (words before k from) (words (row ∷ before) k from)
+      (pairs_read list script so.numbers k from) (incoming_shape list k from)
+      (at_source (end_at (desk_ends so.mid.desks.items) k) from) (at_source (end_at so.tells.handed k) from)
+      (reader_at so.tells.first k from) (reader_at so.tells.last k from)
   ring k near from =
       let few = ring_messages-few list script row before k from in
       let count = length-words list script before k from in
       let is = (came k near).each from in
+      let end : k < length (desk_ends so.mid.desks.items) = omega (arith, near, ends_count) in
       record {
-        shape = incoming_shape list k from;
-        before = words before k from;
-        after = words (row ∷ before) k from;
-        pairs = pairs_read list script so.numbers k from;
-        writer = at_source (end_at (desk_ends so.mid.desks.items) k) from;
-        later = at_source (end_at so.tells.handed k) from;
-        lent = reader_at so.tells.first k from;
-        read = reader_at so.tells.last k from;
         some = buffers_some list k from so.at.valid.buffers.0;
         there = omega (arith, count, ring_messages-some list script before k from);
         few = omega (arith, count, length-words list script (row ∷ before) k from, few);
         is = is;
-        be = rw (so.tells.handed_are.ends k (omega (arith, near, ends_count)))
-            (handed_ring from _ _ (handed_of k near) is);
-        lent_by = rw ((so.tells.lent.each k (omega (arith, near, ends_count))).readers from) (lent_if _ _ (reads_from reads k from == 0));
+        be = rw (so.tells.handed_are.ends k end) (handed_ring from _ _ (handed_of k near) is);
+        lent_by = rw ((so.tells.lent.each k end).readers from) (lent_if _ _ (reads_from reads k from == 0));
         settles = (so.tells.settles.each k (omega (arith, near, last_count))).whole from;
       }
 
@@ -239,7 +230,7 @@ module _ (so : TakenSlot) where
       → IsClear (reader_at so.tells.first k from) (reader_at so.tells.last k from)
   clear k from =
       elim (cases_lt k (length list.slots)) [
-        | inl near ↦ clear_of (ring k near from)
+        | inl near ↦ clear_of _ _ _ _ _ (ring k near from)
         | inr past ↦ rw (no_reader so.tells.first k (length list.slots) from first_count past) tt
       ]
 
@@ -247,9 +238,10 @@ module _ (so : TakenSlot) where
   are_lines : AreLinesOf reads so.tells.last so.reads
   are_lines = so.tells.told (λ k. so.tells.read.calls k (clear k))
 
-  ring_is : (k : ℕ) (near : k < length list.slots) (from : Source) → IsRingRead (ring k near from)
-  ring_is k near from =
-      ring_read (ring k near from) (reads_from reads k from) (so.tells.read.each k from) (clear k from)
+  ring_is : (k : ℕ) → k < length list.slots → (from : Source) → IsRingRead (words before k from)
+      (words (row ∷ before) k from) (pairs_read list script so.numbers k from) (incoming_shape list k from)
+      (at_source (end_at so.tells.handed k) from) (reader_at so.tells.last k from)
+  ring_is k near from = ring_read _ _ _ _ _ (reads_from reads k from) (ring k near from) (so.tells.read.each k from) (clear k from)
 
   got_of_ring : (k : ℕ) (from : Source)
       → AreGotOf (words before k from) (words (row ∷ before) k from) (pairs_of k from so.reads)
@@ -353,11 +345,8 @@ module _ (so : TakenSlot) where
 
     legal_at : (k : ℕ) → k < length list.slots
         → is_legal_message list script (length before) k (message_of (entry_of row k)) ≡ true
-    legal_at k node = ap (is_legal_message list script (length before) k)
-        (message_of-row_in (next_slot list script numbers) so.mid.chosen.items k node)
-        ∙ ap (λ n. is_legal_message list script n k (number_in_frame
-        (next_slot list script numbers) so.mid.chosen.items k))
-        (length-world list script numbers) ∙ planned.chosen.legal k node
+    legal_at k node = rw (message_of-row_in (next_slot list script numbers) so.mid.chosen.items k node)
+        (rw (← length-world list script numbers) at (planned.chosen.legal k node))
 
     messages_legal : are_legal_messages list script (length before) row told.sent ≡ true
     messages_legal =
@@ -376,9 +365,8 @@ module _ (so : TakenSlot) where
         λ i. messages_legal i && reads i
 
     legal : IsLegal list script numbers → IsLegal list script (told ∷ numbers)
-    legal older = legal-after list script told numbers older
-        (rw rows slot_legal)
-        (rw so.stands.count reads_rise)
+    legal older =
+        legal-after list script told numbers older (rw rows slot_legal) (rw so.stands.count reads_rise)
 
     pub is_next : IsNextOf list script numbers (nodes_view so.new) (report_of nodes)
     is_next = record {
@@ -386,10 +374,25 @@ module _ (so : TakenSlot) where
       shows = record {
         slot = sym slots;
         nodes = rw rows are;
-        writes = so.plans.lines_are ∙ ap (λ n. writes_shown list script n [] (writes_in script n)) (sym slots);
+        writes = rw slots so.plans.lines_are;
         reads = reads_shown_are
             ∙ (λ i. map (read_shown list script (sym rows i ∷ before))
             (read_messages (reads_in script (sym slots i)) told.read));
       };
       legal = legal;
     }
+
+-- So a cluster whose nodes were taken through it is next to what it stood for.
+pub next_cluster : (course : Course) (at : Progress) {nodes : Nodes} {numbers : Numbers} (new : Nodes)
+    (report : SlotReport) → at.nodes ≡ Some nodes → ClusterStandsFor (cluster_at course at) numbers
+    → ((ns : Numbers) → NodesStandAt course.list.now course.script.now at.done (nodes_view nodes) ns
+    → IsNextOf course.list.now course.script.now ns (nodes_view new) report)
+    → IsNext (cluster_of course.list.now course.script.now (at.done + 1) (Some new) report) numbers
+next_cluster course at {nodes = nodes} {numbers = numbers} new report were stands next = grind steps
+
+-- what a slot makes of a cluster is what is told
+pub told_next : (course : Course) (old new : Progress) → IsOnCourse course old → old.done < course.script.now.slots
+    → ClusterSteps (cluster_at course old) (cluster_at course new)
+    → AreBytesBefore course.list.now course.script.now new.done
+    → new.done ≡ old.done + 1 → IsToldOf (cluster_at course old) (cluster_at course new) course.list.now new.report
+told_next course old new within slot steps bytes done = search

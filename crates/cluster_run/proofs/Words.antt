@@ -12,12 +12,10 @@ pub use Rattle.std.proofs.Common.{ap, append_assoc, arith, below_more, cond, cou
 pub use Rattle.std.proofs.Common.{is_some, length, map, not, option_map, refl, replicate, set, subst, suc, sym, take}
 pub use Rattle.std.proofs.Common.{true, vec_capacity, vec_len, zero, zero-add, ℕ, ℤ, ⊎_elim, ◌&&◌, ◌*◌, ◌++◌, ◌+◌, ◌-◌}
 pub use Rattle.std.proofs.Common.{◌/◌, ◌<◌, ◌^◌, ◌||◌, ◌∙◌, ◌∷◌, ◌≡◌, ◌≢◌, ◌≤◌}
-pub use Rattle.cluster_run.specs.Choosing.{AreBytesBefore, HaveBegunFor, HaveChosen, MayChoose, next_slot}
-pub use Rattle.cluster_run.specs.Choosing.{number_in_frame}
+pub use Rattle.cluster_run.specs.Choosing.{AreBytesBefore, HaveBegunFor, HaveChosen, next_slot, number_in_frame}
 pub use Rattle.cluster_run.specs.Ending.{HasPartEnded, HaveHandedOn, IsPartReady, MayEnd, MayHandOn, delivered_to}
 pub use Rattle.cluster_run.specs.Ending.{handed_on, number_handed, outcome_of}
 pub use Rattle.cluster_run.specs.Ends.{AreNewEnds, desk_ends, desk_numbers, end_at, host_at, rings_of}
-pub use Rattle.cluster_run.specs.Jobs.{HaveHostsDone}
 pub use Rattle.cluster_run.specs.Progress.{IsOnCourse, cluster_at}
 pub use Rattle.cluster_run.specs.Reading.{AllGot, AreDue, AreLentTo, AreLinesBy, AreLinesOf, AreQueuesOf}
 pub use Rattle.cluster_run.specs.Reading.{AreReadersLent, AreReadersOfAll, HaveRead, IsClear, IsRead, HaveRoomForReads}
@@ -30,9 +28,9 @@ pub use Rattle.cluster_run.specs.Rings.{GotEach, IsRing, IsRingOf, SawAtMost, jo
 pub use Rattle.cluster_run.specs.Rings.{pair_sent, pairs_read, pairs_read_in, pairs_sent, ring_words, words_read}
 pub use Rattle.cluster_run.specs.Rings.{words_written}
 pub use Rattle.cluster_run.specs.Sending.{AreLent, FetchAll, Fetches, FetchesOne, MayFetchAll, MayFetchAlone, MayLend}
-pub use Rattle.cluster_run.specs.Sending.{MaySettle, MaySettleAfter, MayWriteAll, SettlesFetch, WritesBytes}
-pub use Rattle.cluster_run.specs.Sending.{after_writes, choice_by, choice_of, fetcher_lent, message_count, messages_by}
-pub use Rattle.cluster_run.specs.Sending.{with_messages, host_write_line, host_write_lines}
+pub use Rattle.cluster_run.specs.Sending.{MaySettle, MayWriteAll, SettlesFetch, WritesBytes, after_writes, choice_by}
+pub use Rattle.cluster_run.specs.Sending.{fetcher_lent, message_count, messages_by, with_messages, host_write_line}
+pub use Rattle.cluster_run.specs.Sending.{host_write_lines}
 pub use Rattle.cluster_run.specs.Slots.{ArePlannedNodes, AreReady, HavePlannedSlot, IsNext, IsNextOf, IsSlotEnded}
 pub use Rattle.cluster_run.specs.Slots.{IsSlotPlanned, MayEndSlot, NodesStandAt, StandsForSome, ClusterSteps}
 pub use Rattle.cluster_run.specs.Slots.{TellsReads}
@@ -41,14 +39,10 @@ pub use Rattle.cluster_run.specs.Standing.{cluster_of, nodes_view}
 pub use Rattle.cluster_run.specs.declared.current.CurrentSlot.{CurrentSlot}
 pub use Rattle.cluster_run.specs.declared.nodes.Desk.{Desk}
 pub use Rattle.cluster_run.specs.declared.nodes.Nodes.{Nodes}
-pub use Rattle.cluster_run.specs.declared.progress.Course.{Course}
-pub use Rattle.cluster_run.specs.declared.progress.Progress.{Progress}
 pub use Rattle.controller.proofs.Parts.{each-back, each-front, each-joined, each-of}
-pub use Rattle.controller.specs.Limits.{IsPlanned}
 pub use Rattle.controller.specs.Passes.{AreChosen, HaveBegun, HaveEnded, StandAfter, StandsAfter, delivered_at}
 pub use Rattle.controller.specs.PlantStands.{no_outcome, outcomes_of}
-pub use Rattle.controller.specs.PlantWithin.{AreIncidents, AreSeats, IsControllerOf, IsEnded, IsFromWithin, most_ahead}
-pub use Rattle.controller.specs.PlantWithin.{most_ahead_in}
+pub use Rattle.controller.specs.PlantWithin.{IsControllerOf, IsEnded, most_ahead}
 pub use Rattle.controller.specs.StandsFor.{ShowsState, Stands, ControllerStandsFor}
 pub use Rattle.controller.specs.declared.controller.Outcome.{Outcome}
 pub use Rattle.controller.specs.declared.seat.Seat.{Seat}
@@ -63,7 +57,7 @@ pub use Rattle.host_port.specs.declared.report.WriteLine.{WriteLine}
 pub use Rattle.line_text.proofs.PayloadWords.{words_tell}
 pub use Rattle.line_text.specs.HostLines.{AreBytes, HasWords, bytes_in, message_in}
 pub use Rattle.nbw_ring.specs.Numbers.{limit, most_number}
-pub use Rattle.nbw_ring.specs.States.{ReaderState, RingState, WriterState, new_reader, settlement_of, with_joined}
+pub use Rattle.nbw_ring.specs.States.{ReaderState, RingState, WriterState, new_reader, with_joined}
 pub use Rattle.nbw_ring.specs.declared.view.Message.{Message}
 pub use Rattle.nbw_ring.specs.declared.view.Shape.{Shape}
 pub use Rattle.std.proofs.Crossing.{crosses}
@@ -73,26 +67,19 @@ pub use Rattle.std.proofs.lemmas.Bool.Decides.{nat_tests}
 pub use Rattle.std.proofs.lemmas.Grind.{common_steps}
 pub use Rattle.std.proofs.lemmas.List.{append-nil, append_cancel_left, drop_more, get_or-append-add, get_or-set_other}
 pub use Rattle.std.proofs.lemmas.List.{get_or-set_same, get_or_append_left, get_or_past, get_or_push, length-map}
-pub use Rattle.std.proofs.lemmas.List.{length-replicate, length-set, map-append, map-set, nil_from_length}
-pub use Rattle.std.proofs.lemmas.List.{reverse-append, take-append-drop, take_all, take_more, with_items_is}
+pub use Rattle.std.proofs.lemmas.List.{length-replicate, map-append, map-set, nil_from_length, reverse-append}
+pub use Rattle.std.proofs.lemmas.List.{take-append-drop, take_all, take_more, with_items_is}
 pub use Rattle.std.proofs.lemmas.List.Elements.{All-append, All-from_recursion, All-get_or, All-head, All-nil, All-push}
 pub use Rattle.std.proofs.lemmas.List.Elements.{All-tail, filter-append, filter_map-append, recursion_from_All}
 pub use Rattle.std.proofs.lemmas.List.FromFn.{fill_by_all, length-range_with_len}
 pub use Rattle.std.proofs.lemmas.Option.{get_or_from_slice_get, none-some, same_Some, slice_get-get_or, slice_get_read}
 pub use Rattle.std.proofs.lemmas.Option.{slice_get_within}
-pub use Rattle.std.proofs.lemmas.Result.{IfErr-weaker, on_ok_weaker}
-pub use Rattle.std.specs.Int.{to_be_bytes, w64}
 pub use Rattle.std.specs.List.{AllByRecursion, cons_option, filter_map, flat_map, list_all, range_with_len}
 pub use Rattle.std.specs.Option.{ForSome}
 pub use Rattle.std.specs.Prelude.{IfNone, IsSome, filter, nat_le, reverse, slice_get, unwrap_or, ◌==◌, ◌↔◌, ◌⊎◌}
-pub use Rattle.std.specs.Vec.{with_items}
 pub use Rattle.std.specs.Vec.Iter.{into_iter_items, into_iter_len}
-pub use Rattle.trace_text.specs.ReportText.{HasMessage, IsListed, node_texts, source_payload_size, read_text}
-pub use Rattle.trace_text.specs.ReportText.{report_lines, write_text}
 pub use Rattle.ttp_base.proofs.Below.{all-below, map-next, map_agree-below, map_each-below}
 pub use Rattle.ttp_base.specs.NodeSet.{below}
-pub use Rattle.ttp_world.proofs.Carried.{AreOfHosts, delivered_of-row_in, message_of-row_in}
-pub use Rattle.ttp_world.proofs.DeliveredSizes.{carries, taken_size}
 pub use Rattle.ttp_world.proofs.HostMessages.{IsValidWrite, few_messages, filter_map-each, message_sizes, some_message}
 pub use Rattle.ttp_world.proofs.HostMessages.{valid_write_at, valid_writes}
 pub use Rattle.ttp_world.proofs.HostPayloads.{HasRead, IsReadOf, messages_read, reads_of_valid}
@@ -100,7 +87,6 @@ pub use Rattle.ttp_world.proofs.LegalSlots.{legal-after}
 pub use Rattle.ttp_world.proofs.ListFacts.{at_any, filter_map-few}
 pub use Rattle.ttp_world.proofs.Slots.{entry_of-row_in, length-row_in, node_of-slot_after}
 pub use Rattle.ttp_world.proofs.Worlds.{length-world, row_of_world, row_of_world-told}
-pub use Rattle.ttp_world.specs.Conduct.{carries_payload, delivery, new_entry, payload_taken, verdict_entry}
 pub use Rattle.ttp_world.specs.Diary.{Diary, History, Surroundings, diary_of, entry_of}
 pub use Rattle.ttp_world.specs.Fitting.{joinable, number_in}
 pub use Rattle.ttp_world.specs.Legal.{IsLegal, ReadMessage, are_legal_messages, are_legal_reads, are_same_numbers}
@@ -109,20 +95,16 @@ pub use Rattle.ttp_world.specs.Legal.{is_same_source, never_fall, read_messages}
 pub use Rattle.ttp_world.specs.Medl.{IsValid, no_plan, plan_at}
 pub use Rattle.ttp_world.specs.Outgoing.{message_chosen, messages_before, nothing_chosen, out_messages, zeros_of}
 pub use Rattle.ttp_world.specs.Past.{NodePast, past_of, state_of}
-pub use Rattle.ttp_world.specs.Reception.{Hearing, expected_length, expected_of, verdict_of, view_of}
 pub use Rattle.ttp_world.specs.Script.{HostWrite, IsSource, IsValidScript, host_write, is_armed, is_on}
 pub use Rattle.ttp_world.specs.Script.{messages_written, payload_of_host, reads_in, write_at, write_in, writes_in}
 pub use Rattle.ttp_world.specs.Trace.{message_shown, more_write_lines, node_line_of, number_delivered, read_line}
 pub use Rattle.ttp_world.specs.Trace.{slot_lines}
 pub use Rattle.ttp_world.specs.Words.{payload_word, word_count, words_of_payload}
-pub use Rattle.ttp_world.specs.World.{BegunNode, BegunSlot, Numbers, SlotNumbers, chosen_of, frames_in, hearing_in}
-pub use Rattle.ttp_world.specs.World.{is_loaded, node_after, node_of, node_past, row_in, sends_payload, slot_after}
-pub use Rattle.ttp_world.specs.World.{world}
+pub use Rattle.ttp_world.specs.World.{BegunSlot, Numbers, SlotNumbers, chosen_of, frames_in, hearing_in, is_loaded}
+pub use Rattle.ttp_world.specs.World.{node_after, node_of, node_past, row_in, sends_payload, slot_after, world}
 pub use Rattle.ttp_world.specs.declared.host_lines.HostRead.{HostRead}
 pub use Rattle.ttp_world.specs.declared.medl.Medl.{Medl}
-pub use Rattle.ttp_world.specs.declared.node.Act.TheVariants.{Judge, Listen, Send}
 pub use Rattle.ttp_world.specs.declared.node.Chosen.{Chosen}
-pub use Rattle.ttp_world.specs.declared.node.Delivered.{Delivered}
 pub use Rattle.ttp_world.specs.declared.node.Entry.{Entry}
 pub use Rattle.ttp_world.specs.declared.script.Script.{Script}
 pub use Rattle.ttp_world.specs.declared.script.Source.{Source}

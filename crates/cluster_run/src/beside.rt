@@ -160,6 +160,18 @@ fn back_half<'a>(at: &CurrentSlot<'a>, nodes: &mut Nodes) -> Result<EndJob<'a>, 
     })
 }
 
+// Puts the back half behind the front half again.
+fn join_back(nodes: &mut Nodes, mut back: EndJob<'_>) -> Result<(), Memory>
+    ensures seats { OnOk result (nodes.new.seats.items ≡ nodes.old.seats.items ++ back.entry.seats.items) }
+    ensures desks { OnOk result (nodes.new.desks.items ≡ nodes.old.desks.items ++ back.entry.desks.items) }
+    ensures host_ends { OnOk result (nodes.new.host_ends ≡ nodes.old.host_ends) }
+    ensures chosen { OnOk result (nodes.new.chosen ≡ nodes.old.chosen) }
+{
+    nodes.seats.append(&mut back.seats)?;
+    nodes.desks.append(&mut back.desks)?;
+    Ok(())
+}
+
 /// The two halves of the nodes end the slot beside the reads of hosts, with the workers.
 pub(crate) fn end_staying<'b, 'a, R: Wait, G: Gate>(
     rt: &R,
@@ -182,7 +194,7 @@ pub(crate) fn end_staying<'b, 'a, R: Wait, G: Gate>(
         script: at.script,
         medium: &medium,
     };
-    let (hired, mut back, read) = end_beside(
+    let (hired, back, read) = end_beside(
         rt,
         hired,
         &mut nodes.seats,
@@ -192,8 +204,7 @@ pub(crate) fn end_staying<'b, 'a, R: Wait, G: Gate>(
         &common,
         gate,
     );
-    nodes.seats.append(&mut back.seats)?;
-    nodes.desks.append(&mut back.desks)?;
+    join_back(nodes, back)?;
     match read {
         HostJob::Read { readers, .. } => Ok((hired, readers)),
         HostJob::Write { .. } => unreachable!(),

@@ -23,7 +23,7 @@ fn write_and_choose<'b, 'a, R: Threads + Wait + Sync, G: Gate>(
     staff: &mut Option<Hired<'b, 'a>>,
     at: &CurrentSlot<'a>,
     places: &'a [usize],
-    mut ends: Vec<HostEnd>,
+    ends: Vec<HostEnd>,
     seats: &[Seat],
     chosen: &mut [Chosen],
     gate: &G,
@@ -32,12 +32,12 @@ fn write_and_choose<'b, 'a, R: Threads + Wait + Sync, G: Gate>(
     requires may { MayChoose at.now seats.now ends.items chosen.old }
     ensures { IfOk result (λ r. ChoosesAll at.now seats.now ends.items r.0.items chosen.new r.1.items) }
 {
-    let fetchers = lend_fetchers(at.alloc, ends.as_mut_slice(), seats)?;
+    let (ends, fetchers) = lend_fetchers(at.alloc, ends, seats)?;
     let lines = Vec::with_capacity(at.alloc, places.len())?;
-    let (mut ends, lines, fetchers) = write_and_fetch(
+    let (ends, lines, fetchers) = write_and_fetch(
         rt, staff, ends, fetchers, at.script, places, lines, gate,
     );
-    settle_fetchers(at.list, ends.as_mut_slice(), fetchers, chosen);
+    let ends = settle_fetchers(at.list, ends, fetchers, chosen);
     Ok((ends, lines))
 }
 

@@ -41,9 +41,8 @@ fn fetch_for<G: Gate>(
     chosen: &mut Chosen,
     gate: &G,
 ) -> Result<(), Memory>
-    requires ring { loaded ≡ true → IsSome end.old }
     requires limit { len ≤ PAYLOAD_LIMIT }
-    requires may { MaySettleAfter len loaded end.old }
+    requires may { (loaded ≡ true → IsSome end.old) × MaySettleAfter len loaded end.old }
     ensures fetches { OnOk result (FetchesOne len loaded end.old end.old end.new chosen.old chosen.new) }
 {
     if !loaded {

@@ -6,7 +6,6 @@ ghost use Rattle.ttp_world.specs.Script.{host_write};
 ghost use Rattle.ttp_world.specs.Words.{words_of_payload, word_count};
 ghost use Rattle.ttp_world.specs.World.{BegunSlot};
 ghost use Rattle.controller.specs.Passes.{HaveBegun};
-ghost use Rattle.host_port.specs.Reading.{IsReaderSettled, settled};
 ghost use Rattle.line_text.specs.HostLines.{AreBytes, bytes_in};
 ghost use Rattle.ttp_world.specs.Medl.{IsValid, plan_at};
 ghost use Rattle.ttp_world.specs.Outgoing.{nothing_chosen};
@@ -14,7 +13,7 @@ ghost use Rattle.host_port.specs.Writing.{written, Takes, HasRoom};
 ghost use Rattle.cluster_run.specs.Ends.{host_at};
 ghost use Rattle.cluster_run.specs.Jobs.{MayWriteAt, HaveWrittenAt};
 ghost use Rattle.cluster_run.specs.Sending.{fetcher_lent, AreLent, MayLend, host_write_line, WritesBytes};
-ghost use Rattle.cluster_run.specs.Sending.{Fetches, MayFetch, MayFetchAll, FetchAll, MaySettle, choice_of};
+ghost use Rattle.cluster_run.specs.Sending.{Fetches, MayFetch, MayFetchAll, FetchAll, MaySettle};
 ghost use Rattle.cluster_run.specs.Sending.{SettlesFetch};
 
 use crate::beside::write_beside;
@@ -39,24 +38,23 @@ pub(crate) fn lend_one(end: &mut HostEnd, loaded: bool) -> Result<Option<Fetcher
     Ok(None)
 }
 
-/// A fetcher for each node whose frame carries a message in the slot that has begun.
+/// A fetcher for each node whose frame carries a message in the slot that has begun. The ends are handed out with them.
 pub(crate) fn lend_fetchers(
     alloc: Global,
-    ends: &mut [HostEnd],
+    mut ends: Vec<HostEnd>,
     seats: &[Seat],
-) -> Result<Vec<Option<Fetcher>>, Memory>
-    requires seats { length seats.now ≡ length ends.old }
-    requires rings { MayLend seats.now ends.old }
-    ensures fetchers { IfOk result (λ fetchers. (s : BegunSlot) → HaveBegun s 0 seats.now
-        → AreLent s ends.old fetchers.items) }
-    ensures ends { ends.new ≡ ends.old }
+) -> Result<(Vec<HostEnd>, Vec<Option<Fetcher>>), Memory>
+    requires seats { length seats.now ≡ length ends.items }
+    requires rings { MayLend seats.now ends.items }
+    ensures ends { IfOk result (λ r. r.0.items ≡ ends.items) }
+    ensures fetchers { IfOk result (λ r. (s : BegunSlot) → HaveBegun s 0 seats.now → AreLent s ends.items r.1.items) }
 {
     let mut fetchers = Vec::with_capacity(alloc, ends.len())?;
     for k in 0..ends.len() {
         let loaded = is_loaded(&seats[k].controller);
         fetchers.push_reserved(lend_one(&mut ends[k], loaded)?);
     }
-    Ok(fetchers)
+    Ok((ends, fetchers))
 }
 
 // What a slice of bytes holds is bytes. The call does nothing, and tells its caller so.
@@ -207,9 +205,7 @@ fn payload_of(words: &[u64], len: u8) -> Payload
 pub(crate) fn settle_one(end: &mut HostEnd, fetcher: Option<Fetcher>, len: u8, chosen: &mut Chosen)
     requires limit { len ≤ PAYLOAD_LIMIT }
     requires fetcher { ForSome fetcher (MaySettle end.old len) }
-    ensures chosen { chosen.new ≡ choice_of fetcher len chosen.old }
-    ensures whole { IsReaderSettled end.old fetcher }
-    ensures settled { end.new ≡ settled end.old fetcher }
+    ensures { SettlesFetch len fetcher end.old end.new chosen.old chosen.new }
 {
     if let Some(fetcher) = fetcher {
         if let Some(pair) = end.settle_fetch(fetcher) {
@@ -219,23 +215,23 @@ pub(crate) fn settle_one(end: &mut HostEnd, fetcher: Option<Fetcher>, len: u8, c
     }
 }
 
-/// Takes all fetchers back, and chooses for each node the message that its fetcher got.
+/// Takes all fetchers back, and chooses for each node the message that its fetcher got. The ends are handed out.
 pub(crate) fn settle_fetchers(
     list: &Medl,
-    ends: &mut [HostEnd],
+    mut ends: Vec<HostEnd>,
     mut fetchers: Vec<Option<Fetcher>>,
     chosen: &mut [Chosen],
-)
+) -> Vec<HostEnd>
     requires list { IsValid list.now }
-    requires count { length ends.old ≡ length list.now.slots }
-    requires chosen_count { length chosen.old ≡ length ends.old }
-    requires fetchers_count { length fetchers.items ≡ length ends.old }
-    requires fetchers { (k : ℕ) → k < length ends.old
-        → ForSome (get_or fetchers.items k None) (MaySettle (host_at ends.old k) (plan_at list.now k).payload) }
-    ensures ends_count { length ends.new ≡ length ends.old }
+    requires count { length ends.items ≡ length list.now.slots }
+    requires chosen_count { length chosen.old ≡ length ends.items }
+    requires fetchers_count { length fetchers.items ≡ length ends.items }
+    requires fetchers { (k : ℕ) → k < length ends.items
+        → ForSome (get_or fetchers.items k None) (MaySettle (host_at ends.items k) (plan_at list.now k).payload) }
+    ensures ends_count { length result.items ≡ length ends.items }
     ensures chosen_count { length chosen.new ≡ length chosen.old }
-    ensures settles { (k : ℕ) → k < length ends.old → SettlesFetch (plan_at list.now k).payload
-        (get_or fetchers.items k None) (host_at ends.old k) (host_at ends.new k)
+    ensures settles { (k : ℕ) → k < length ends.items → SettlesFetch (plan_at list.now k).payload
+        (get_or fetchers.items k None) (host_at ends.items k) (host_at result.items k)
         (get_or chosen.old k nothing_chosen) (get_or chosen.new k nothing_chosen) }
 {
     for k in 0..ends.len() {
@@ -243,4 +239,5 @@ pub(crate) fn settle_fetchers(
         let fetcher = fetchers[k].take();
         settle_one(&mut ends[k], fetcher, len, &mut chosen[k]);
     }
+    ends
 }

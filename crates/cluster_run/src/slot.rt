@@ -122,23 +122,17 @@ fn plan<'b, 'a, R: Threads + Wait + Sync, G: Gate>(
     requires bytes { AreBytesBefore at.now.list.now at.now.script.now at.now.slot }
     ensures { IfOk result (λ lines. IsSlotPlanned at.now nodes.old nodes.new lines.items) }
 {
-    begin_all(&mut nodes.seats, at.list, at.script, 0, at.slot);
-    let writes = choose(
-        rt,
-        staff,
-        at,
-        &mut nodes.host_ends,
-        &nodes.seats,
-        &mut nodes.chosen,
-        gate,
-    )?;
+    let seats = nodes.seats.as_mut_slice();
+    let chosen = nodes.chosen.as_mut_slice();
+    begin_all(seats, at.list, at.script, 0, at.slot);
+    let writes = choose(rt, staff, at, &mut nodes.host_ends, seats, chosen, gate)?;
     plan_all(
-        &mut nodes.seats,
+        seats,
         &mut nodes.medium,
         at.list,
         at.script,
         at.slot,
-        &nodes.chosen,
+        chosen,
     );
     Ok(writes)
 }

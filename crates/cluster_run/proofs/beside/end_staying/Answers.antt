@@ -25,15 +25,15 @@ returns-clause-ended g c =
     let ss1 = c.end_beside-hired.new.seats in
     let ds1 = c.end_beside-hired.new.desks in
     let medium = c.deref.ensures ∙ c.in_ok-medium.ensures ∙ b.medium in
-    let seats : c.append.new.self.items ≡ ss1 ++ left.seats.items =
-    c.in_ok-append.ensures.items ∙ ap (λ xs. xs ++ left.seats.items) (with_items_is half.seats ss1
+    let seats : c.join_back.new.nodes.seats.items ≡ ss1 ++ left.seats.items =
+    c.in_ok-join_back.ensures.seats ∙ ap (λ xs. xs ++ left.seats.items) (with_items_is half.seats ss1
     (omega (arith, c.end_beside-hired.auto.seats, c.deref_mut.ensures.len))) in
-    let desks : c.append-2.new.self.items ≡ ds1 ++ left.desks.items =
-    c.in_ok-append-2.ensures.items ∙ ap (λ xs. xs ++ left.desks.items) (with_items_is half.desks ds1
+    let desks : c.join_back.new.nodes.desks.items ≡ ds1 ++ left.desks.items =
+    c.in_ok-join_back.ensures.desks ∙ ap (λ xs. xs ++ left.desks.items) (with_items_is half.desks ds1
     (omega (arith, c.end_beside-hired.auto.desks, c.deref_mut-2.ensures.len))) in
     record {
-      host_ends = b.host_ends;
-      chosen = b.chosen;
+      host_ends = c.in_ok-join_back.ensures.host_ends ∙ b.host_ends;
+      chosen = c.in_ok-join_back.ensures.chosen ∙ b.chosen;
       ended =
           both_ended (record { is = b.seats; count = b.first }) (record { is = b.desks; count = b.desks_count ∙ b.first })
           seats desks (rw (c.deref_mut.ensures.value, c.deref_mut-2.ensures.value, medium) at e.front)

@@ -1,20 +1,7 @@
-use Rattle.cluster_run.proofs.Words.{◌<◌, length, None, subst, sym, ◌∙◌, arith, IsSome, slice_get-get_or, is_loaded}
-use Rattle.cluster_run.proofs.Words.{each-of, at_any, payload_few, MaySettleAfter}
+use Rattle.cluster_run.proofs.Words.{◌<◌, length, None, ◌∙◌, arith, slice_get-get_or, each-of, at_any, payload_few}
 use Rattle.cluster_run.proofs.Changes.{both_more}
 use Rattle.cluster_run.proofs.Sends.{plan_there}
 use Rattle.cluster_run.proofs.fetching.fetch_each.Goals as goal
-
-pub fetch_for-requires-clause-ring : goal.fetch_for-requires-clause-ring
-fetch_for-requires-clause-ring g c κs within = λ loaded.
-    let k = c.loop-k.k in
-    let so = c.loop-k.invariant in
-    let may = c.requires.may.lend in
-    let near : k < length c.loop-k.ends = omega (arith, so.first.count, c.loop-k-test.true) in
-    let seat = slice_get-get_or c.args.seats.now k c.index-seats-k.result
-    (omega (arith, c.requires.seats, so.first.count, near)) in
-    let is = sym (c.is_loaded-loaded.ensures may.slot k (each-of may.begun k seat)) ∙ loaded in
-    subst IsSome (sym (so.first.rest k (omega arith)) ∙ at_any c.loop-k.ends k None c.index-ends-k.result near)
-    (may.rings k (omega (arith, near, so.first.count)) is)
 
 pub fetch_for-requires-clause-limit : goal.fetch_for-requires-clause-limit
 fetch_for-requires-clause-limit g c κs within =
@@ -25,13 +12,13 @@ fetch_for-requires-clause-may g c κs within =
     let k = c.loop-k.k in
     let so = c.loop-k.invariant in
     let may = c.requires.may in
-    let near : k < length c.loop-k.ends = omega (arith, so.first.count, c.loop-k-test.true) in
-    let seat = slice_get-get_or c.args.seats.now k c.index-seats-k.result
-    (omega (arith, c.requires.seats, so.first.count, near)) in
+    let now : k < length c.loop-k.ends = omega (arith, so.first.count, c.loop-k-test.true) in
+    let near : k < length c.args.ends.now = omega (arith, so.first.count, now) in
+    let seat = slice_get-get_or c.args.seats.now k c.index-seats-k.result (omega (arith, c.requires.seats, near)) in
     let loaded = c.is_loaded-loaded.ensures may.lend.slot k (each-of may.lend.begun k seat) in
-    let end = sym (so.first.rest k (omega arith)) ∙ at_any c.loop-k.ends k None c.index-ends-k.result near in
-    rw (← plan_there c.args.list.now k c.get.result.now c.get.ensures, loaded)
-    (subst (MaySettleAfter _ (is_loaded may.lend.slot k)) end (may.settle k (omega (arith, near, so.first.count))))
+    let end = at_any c.loop-k.ends k c.index-ends-k.result None now ∙ so.first.rest k (omega arith) in
+    rw (← plan_there c.args.list.now k c.get.result.now c.get.ensures, loaded, end)
+    (may.lend.rings k near, may.settle k near)
 
 pub loop-k-preserved : goal.loop-k-preserved
 loop-k-preserved g c =

@@ -1,4 +1,4 @@
-use Rattle.cluster_run.proofs.Words.{sym, ◌∙◌, settled}
+use Rattle.cluster_run.proofs.Words.{sym, ◌∙◌}
 use Rattle.cluster_run.proofs.Sends.{lent_may}
 use Rattle.cluster_run.proofs.fetching.fetch_loaded.Goals as goal
 
@@ -17,10 +17,6 @@ returns g c =
       fetches = record {
         tried = c.fetch_one.new.fetcher;
         fetches = rw c.in_ok-fetcher.ensures.fetcher at c.fetch_one.ensures.fetches;
-        settles = record {
-          whole = rw c.lend_one.ensures.end at c.settle_one.ensures.whole;
-          settled_is = rw c.lend_one.ensures.end at c.settle_one.ensures.settled;
-          choice_is = c.settle_one.ensures.chosen;
-        };
+        settles = rw c.lend_one.ensures.end at c.settle_one.ensures;
       };
     }

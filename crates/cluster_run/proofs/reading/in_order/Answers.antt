@@ -1,7 +1,7 @@
-use Rattle.cluster_run.proofs.Words.{◌≡◌, ◌+◌, ◌∷◌, ◌++◌, take, drop, map, get_or, sym, ap, ◌∙◌, subst, arith, vec_len}
+use Rattle.cluster_run.proofs.Words.{◌≡◌, ◌+◌, ◌∷◌, ◌++◌, take, drop, map, get_or, sym, ap, ◌∙◌, arith, vec_len}
 use Rattle.cluster_run.proofs.Words.{vec_capacity, take_more, take-append-drop, HostRead, into_iter_items, take_all}
 use Rattle.cluster_run.proofs.Words.{drop_more}
-use Rattle.cluster_run.proofs.Lines.{AreInOrder, line_taken, line_there, all_in_order}
+use Rattle.cluster_run.proofs.Lines.{line_taken, line_there, all_in_order}
 use Rattle.cluster_run.proofs.reading.in_order.Goals.{in-Some, in_default}
 use Rattle.ttp_world.specs.declared.script.Source.TheVariants as source
 use Rattle.cluster_run.proofs.reading.in_order.Goals as goal
@@ -42,7 +42,5 @@ returns-clause-reads c = λ due.
 
 pub returns-clause-lines : goal.returns-clause-lines
 returns-clause-lines c = λ due.
-    let whole = map into_iter_items c.args.queues.now in
-    all_in_order due
-    (subst (λ xs. AreInOrder xs whole (map into_iter_items c.loop-read.queues) c.loop-read.lines.items)
-    (take_all c.loop-read.read-index c.args.reads.now c.loop-read-test.false) (c.loop-read.invariant.ordered due))
+    all_in_order due (rw (take_all c.loop-read.read-index c.args.reads.now c.loop-read-test.false)
+    at (c.loop-read.invariant.ordered due))

@@ -1,5 +1,5 @@
-use Rattle.cluster_run.proofs.Words.{◌≡◌, ◌<◌, [], None, length, get_or, sym, ap, ◌∙◌, subst, arith, length-map}
-use Rattle.cluster_run.proofs.Words.{set_back, AreLentTo, Desk, end_at, desk_ends, readers_at, at_any, get_or-map}
+use Rattle.cluster_run.proofs.Words.{◌≡◌, ◌<◌, [], None, length, get_or, sym, ap, ◌∙◌, arith, length-map, set_back}
+use Rattle.cluster_run.proofs.Words.{AreLentTo, Desk, end_at, desk_ends, at_any, get_or-map}
 use Rattle.cluster_run.proofs.Changes.{pushed_more}
 use Rattle.cluster_run.proofs.reading.lend_readers.Goals as goal
 
@@ -10,7 +10,6 @@ loop-k-preserved c =
     let old_desks = c.args.desks.now in
     let ends = desk_ends old_desks in
     let reads = c.args.reads.now in
-    let new = c.in_ok-lend_one.field-0 in
     let desk = c.index-desks-k.result in
     let was = get_or c.loop-k.desks k desk in
     let within : k < length ends =
@@ -22,9 +21,9 @@ loop-k-preserved c =
           (ap (λ e. record was { end = e }) c.lend_one.ensures.end ∙ sym c.index-desks-k.is) ∙ so.desks;
       count = omega (arith, c.push_reserved.ensures.len, so.count);
       room = c.push_reserved.ensures.capacity ∙ so.room;
-      lent = λ i near. subst (λ xs. AreLentTo reads i (end_at ends i) (readers_at xs i)) (sym c.push_reserved.ensures.items)
-          (pushed_more (λ i. AreLentTo reads i (end_at ends i)) None k c.loop-k.readers.items new
-          (omega (arith, so.count)) so.lent (subst (λ e. AreLentTo reads k e new) end c.in_ok-lend_one.ensures.lent) i near);
+      lent = λ i near. rw c.push_reserved.ensures.items
+          (pushed_more (λ i. AreLentTo reads i (end_at ends i)) None k c.loop-k.readers.items c.in_ok-lend_one.field-0
+          (omega (arith, so.count)) so.lent (rw end at c.in_ok-lend_one.ensures.lent) i near);
     }
 
 pub returns-clause-lent : goal.returns-clause-lent

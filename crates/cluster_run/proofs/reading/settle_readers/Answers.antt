@@ -1,6 +1,6 @@
-use Rattle.cluster_run.proofs.Words.{◌≡◌, ◌<◌, ◌∷◌, [], None, length, map, get_or, sym, ap, ◌∙◌, subst, arith}
-use Rattle.cluster_run.proofs.Words.{into_iter_items, length-map, map-append, AreReadersOfEnd, ControllerState, Desk}
-use Rattle.cluster_run.proofs.Words.{desk_ends, end_at, readers_at, AreLinesBy, at_any, get_or-map, read_alike}
+use Rattle.cluster_run.proofs.Words.{◌<◌, ◌∷◌, [], None, length, map, get_or, sym, ap, ◌∙◌, subst, arith}
+use Rattle.cluster_run.proofs.Words.{into_iter_items, length-map, map-append, Desk, readers_at, AreLinesBy, at_any}
+use Rattle.cluster_run.proofs.Words.{get_or-map, read_alike}
 use Rattle.std.proofs.lemmas.List.{length-append}
 use Rattle.cluster_run.proofs.Changes.{changed_more, pushed_more}
 use Rattle.cluster_run.proofs.HandingOn.{no_desk}
@@ -14,16 +14,13 @@ settle_one-requires c = record {
       let readers = c.loop-k.readers.items in
       let so = c.loop-k.invariant.settled in
       let old = c.args.desks.now in
-      let desk = c.index-desks-k.result in
       let end = λ (d : Desk). d.end in
       let many = length-map old end in
       let now : k < length c.loop-k.desks = omega (arith, so.desks_are.count, c.loop-k-test.true) in
       let near : k < length readers =
-      omega (arith, so.readers_are.count, c.requires.own.count, many, so.desks_are.count, c.loop-k-test.true) in
-      let end_is : (get_or c.loop-k.desks k desk).end ≡ end_at (desk_ends old) k =
-      ap end (at_any c.loop-k.desks k desk no_desk now ∙ so.desks_are.rest k (omega arith))
-      ∙ sym (get_or-map end old k no_desk) in
-      subst (λ (e : ControllerState). AreReadersOfEnd e x) (sym end_is)
+      omega (arith, so.readers_are.count, c.requires.own.count, many, so.desks_are.count, now) in
+      rw (ap end (at_any c.loop-k.desks k c.index-desks-k.result no_desk now ∙ so.desks_are.rest k (omega arith))
+      ∙ sym (get_or-map end old k no_desk))
       (c.requires.own.own k (omega (arith, many, so.desks_are.count, now)) x
       (sym (c.index_mut.ensures.value ∙ at_any readers k c.index_mut.result.now None near
       ∙ so.readers_are.rest k (omega arith)) ∙ sym c.take-own.ensures.value ∙ is));

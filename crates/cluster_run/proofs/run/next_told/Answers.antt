@@ -1,5 +1,6 @@
-use Rattle.cluster_run.proofs.Words.{cluster_at, on_ok_weaker, IfErr-weaker}
-use Rattle.cluster_run.proofs.NextClusters.{told_next}
+use Rattle.cluster_run.proofs.Words.{cluster_at}
+use Rattle.std.proofs.lemmas.Result.{IfErr-weaker, on_ok_weaker}
+use Rattle.cluster_run.proofs.SlotSteps.{told_next}
 use Rattle.cluster_run.proofs.run.next_told.Goals as goal
 
 pub told-requires : goal.told-requires

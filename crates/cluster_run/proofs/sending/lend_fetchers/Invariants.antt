@@ -4,9 +4,9 @@ use Rattle.cluster_run.proofs.sending.lend_fetchers.Given as goal
 
 abbrev pub invariant-loop-k : goal.invariant-loop-k
 invariant-loop-k l = record {
-  ends : l.ends ≡ l.fn.ends;
+  ends : l.ends.items ≡ l.fn.ends.items;
   count : vec_len l.fetchers ≡ l.k;
-  room : vec_capacity l.fetchers ≡ length l.fn.ends;
+  room : vec_capacity l.fetchers ≡ length l.fn.ends.items;
   lent : (s : BegunSlot) → HaveBegun s 0 l.seats → (j : ℕ) → j < l.k
-      → get_or l.fetchers.items j None ≡ fetcher_lent (is_loaded s j) (host_at l.fn.ends j);
+      → get_or l.fetchers.items j None ≡ fetcher_lent (is_loaded s j) (host_at l.fn.ends.items j);
 }

@@ -1,4 +1,5 @@
-use Rattle.cluster_run.proofs.Words.{◌≡◌, ◌*◌, take, length, w64, to_be_bytes, flat_map}
+use Rattle.cluster_run.proofs.Words.{◌≡◌, ◌*◌, take, length, flat_map}
+use Rattle.std.specs.Int.{to_be_bytes, w64}
 use Rattle.cluster_run.proofs.sending.payload_of.Given as goal
 
 abbrev pub invariant-loop-i : goal.invariant-loop-i

@@ -6,5 +6,5 @@ abbrev pub invariant-loop-k : goal.invariant-loop-k
 invariant-loop-k l = record {
   taken : AreChanged (λ j old new. Unit {0}) None l.k l.fn.fetchers.items l.fetchers.items;
   settled : AreBothChanged (λ j. SettlesFetch (plan_at l.list j).payload (get_or l.fn.fetchers.items j None)) None
-      nothing_chosen l.k l.fn.ends l.ends l.fn.chosen l.chosen;
+      nothing_chosen l.k l.fn.ends.items l.ends.items l.fn.chosen l.chosen;
 }

@@ -1,4 +1,4 @@
-use Rattle.cluster_run.proofs.Words.{length, map, sym, ap, subst, ◌∙◌, with_items_is, IsPartReady, desk_ends, rings_of}
+use Rattle.cluster_run.proofs.Words.{length, map, ap, ◌∙◌, with_items_is, desk_ends, rings_of}
 use Rattle.cluster_run.proofs.Changes.{kept_items}
 use Rattle.cluster_run.proofs.SlotParts.{same_many, ends_slot, part_ready}
 use Rattle.cluster_run.proofs.LentReaders.{all_lent_for, hosts_within, may_read_all, still_own}
@@ -6,11 +6,8 @@ use Rattle.cluster_run.proofs.slot.end_read.Goals as goal
 
 pub end_and_read-requires-clause-ready : goal.end_and_read-requires-clause-ready
 end_and_read-requires-clause-ready g c κs within =
-    let at = c.args.at.now in
-    let nodes = c.args.nodes.now in
-    subst (IsPartReady at.list.now at.script.now nodes.medium 0 nodes.seats.items)
-    (sym (kept_items nodes.desks c.deref_mut.ensures.value c.deref_mut.ensures.len c.lend_readers.ensures.desks))
-    (part_ready at nodes c.requires.may)
+    rw (kept_items c.args.nodes.now.desks c.deref_mut.ensures.value c.deref_mut.ensures.len c.lend_readers.ensures.desks)
+    (part_ready c.args.at.now c.args.nodes.now c.requires.may)
 
 pub end_and_read-requires-clause-left : goal.end_and_read-requires-clause-left
 end_and_read-requires-clause-left g c κs within =

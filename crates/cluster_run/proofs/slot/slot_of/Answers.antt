@@ -1,4 +1,4 @@
-use Rattle.cluster_run.proofs.Words.{map, sym, ap, subst, ◌∙◌, length, below, desk_numbers, HaveEndedSlot, node_shown}
+use Rattle.cluster_run.proofs.Words.{ap, ◌∙◌, length, desk_numbers, HaveEndedSlot}
 use Rattle.cluster_run.proofs.SlotSteps.{TakenSlot, row as row_taken, before as world_before, has_ended, is_next}
 use Rattle.cluster_run.proofs.slot.slot_of.Goals as goal
 
@@ -21,11 +21,8 @@ returns-clause-steps g c = λ numbers stands.
     } in
     let row = row_taken so in
     let before = world_before so in
-    let there = subst (λ ks. HaveEndedSlot at.list.now at.script.now row before ks (desk_numbers c.deref-2.result.now))
-    (sym c.deref.ensures.value)
-    (subst (λ ds. HaveEndedSlot at.list.now at.script.now row before new.seats.items (desk_numbers ds))
-    (sym c.deref-2.ensures.value) (has_ended so)) in
-    let lines = c.in_ok-lines.ensures at.list.now at.script.now row before there
-    ∙ ap (λ n. map (node_shown at.list.now at.script.now row before) (below n))
-    (ap length c.deref.ensures.value ∙ so.ends.are.seats_count) in
+    let there : HaveEndedSlot at.list.now at.script.now row before c.deref.result.now (desk_numbers c.deref-2.result.now) =
+    rw (c.deref.ensures.value, c.deref-2.ensures.value) (has_ended so) in
+    let lines = rw (ap length c.deref.ensures.value ∙ so.ends.are.seats_count)
+    at (c.in_ok-lines.ensures at.list.now at.script.now row before there) in
     rw c.from_vec.ensures (is_next so c.in_ok-lines.lines lines)

@@ -1,4 +1,4 @@
-use Rattle.cluster_run.proofs.NextClusters.{next_cluster}
+use Rattle.cluster_run.proofs.SlotSteps.{next_cluster}
 use Rattle.cluster_run.proofs.progress.Progress.slot.Goals as goal
 
 pub returns-clause-steps : goal.returns-clause-steps
