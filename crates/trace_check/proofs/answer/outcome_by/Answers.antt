@@ -5,8 +5,8 @@ use Rattle.trace_check.proofs.FewLines.{IsWrongBehind, amiss-counted, more-count
 use Rattle.trace_check.proofs.Outcomes.{whole-trace, first_wrong-no_trace, one_first_wrong}
 use Rattle.trace_check.proofs.OwnNumbers.{is_trace-numbers, numbers-is_trace}
 use Rattle.ttp_world.proofs.ListFacts.{nothing_in as empty_rest}
-use Rattle.trace_check.proofs.answer.verify.Goals as goal
-use Rattle.trace_check.proofs.answer.verify.Goals.{in-Ok, in-Err}
+use Rattle.trace_check.proofs.answer.outcome_by.Goals as goal
+use Rattle.trace_check.proofs.answer.outcome_by.Goals.{in-Ok, in-Err}
 
 pub returns-in-Ok-empty-clause-same : goal.returns-in-Ok-empty-clause-same
 returns-in-Ok-empty-clause-same c =
@@ -45,7 +45,7 @@ wrong_behind c =
     ]
 
 -- the same where the answer is given
-answered : (c : goal.After-drop-follower-8)
+answered : (c : goal.After-line_behind)
     → IsWrongBehind c.args.list.now c.args.script.now c.args.text.now c.match-follow.left.now
 answered c =
     let list = c.args.list.now in
@@ -66,7 +66,7 @@ pub line_behind-requires : goal.line_behind-requires
 line_behind-requires c =
     let wrong = wrong_behind c in subst (λ n. n + 1 < 2 ^ 32) (sym wrong.counted) wrong.few
 
-first_wrong : (c : goal.After-drop-follower-8)
+first_wrong : (c : goal.After-line_behind)
     → IsFirstWrong c.args.list.now c.args.script.now c.args.text.now c.line_behind.result
 first_wrong c =
     let wrong = answered c in
