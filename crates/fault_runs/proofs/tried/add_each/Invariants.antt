@@ -1,6 +1,6 @@
 use Rattle.fault_runs.proofs.Words.{◌≡◌, take, map, tried_of}
 use Rattle.run_costs.specs.Standing.{IsRunOfList}
-use Rattle.fault_runs.proofs.tried.try_each.Given as goal
+use Rattle.fault_runs.proofs.tried.add_each.Given as goal
 
 -- the runs of the faults so far
 abbrev pub invariant-loop-fault : goal.invariant-loop-fault

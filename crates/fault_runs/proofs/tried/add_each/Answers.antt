@@ -1,6 +1,6 @@
 use Rattle.fault_runs.proofs.Words.{◌≡◌, ◌+◌, ◌++◌, ◌∷◌, [], take, ap, sym, ◌∙◌, map-append, take_more, map, Event}
 use Rattle.fault_runs.proofs.Words.{tried_of}
-use Rattle.fault_runs.proofs.tried.try_each.Goals as goal
+use Rattle.fault_runs.proofs.tried.add_each.Goals as goal
 
 pub loop-fault-preserved : goal.loop-fault-preserved
 loop-fault-preserved c =
