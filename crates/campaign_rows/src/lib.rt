@@ -4,7 +4,7 @@
 //! campaign give for a literal list, script and fault are these bytes, and the check computes them.
 //! They are the lines of five nodes in one round, of which node 0 starts in slot 10, and a campaign
 //! of two nodes as a whole.
-#![tactic(auto, unfolding(ttp_base::specs::NodeSet::with_node, ttp_base::specs::NodeSet::members_in, ttp_world::specs::Trace::digits))]
+#![tactic(auto)]
 
 ghost use Rattle.std.specs.Prelude.{◌≡◌, codes, map, pos, negsuc};
 ghost use Rattle.ttp_world.specs.declared.script.Event.TheVariants as event;

@@ -39,8 +39,7 @@ fn put_leave(text: &mut Text, leave: Leave) -> Result<(), Memory>
     ensures { OnOk result (text.new ≡ text.old ++ leave_word leave) }
 {
     text.put_number(u64::from(leave.node))?;
-    text.put(":")?;
-    text.put_number(u64::from(leave.slot))?;
+    text.put_labelled(":", u64::from(leave.slot))?;
     text.put(":")?;
     put_reason(text, leave.reason)
 }
@@ -75,8 +74,7 @@ fn put_span(text: &mut Text, span: Option<Span>) -> Result<(), Memory>
     match span {
         Some(span) => {
             text.put_number(u64::from(span.first))?;
-            text.put(" ")?;
-            text.put_number(u64::from(span.last))
+            text.put_labelled(" ", u64::from(span.last))
         }
         None => text.put("- -"),
     }

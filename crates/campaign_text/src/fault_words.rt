@@ -37,27 +37,22 @@ fn put_loss(
 ) -> Result<(), Memory>
     ensures { OnOk result (text.new ≡ text.old ++ loss_words word.now node channels fault from to) }
 {
-    text.put(word)?;
-    text.put_number(u64::from(node))?;
+    text.put_labelled(word, u64::from(node))?;
     text.put(" ")?;
     put_channels(text, channels)?;
     text.put(" ")?;
     put_kind(text, fault)?;
-    text.put(" ")?;
-    text.put_number(u64::from(from))?;
-    text.put(" ")?;
-    text.put_number(u64::from(to))
+    text.put_labelled(" ", u64::from(from))?;
+    text.put_labelled(" ", u64::from(to))
 }
 
 fn put_jump(text: &mut Text, node: u8, value: i64, slot: u32) -> Result<(), Memory>
     ensures { OnOk result (text.new ≡ text.old ++ fault_words (event.Jump node value slot)) }
 {
-    text.put("jump ")?;
-    text.put_number(u64::from(node))?;
+    text.put_labelled("jump ", u64::from(node))?;
     text.put(" ")?;
     text.put_signed(value)?;
-    text.put(" ")?;
-    text.put_number(u64::from(slot))
+    text.put_labelled(" ", u64::from(slot))
 }
 
 /// Adds a fault as the line of a script, without its line feed. What is no loss and no jump has no words.

@@ -23,15 +23,12 @@ fn put_keep(text: &mut Text, keep: Keep) -> Result<bool, Memory>
 {
     match keep {
         Keep::Yes { start } => {
-            text.put("keeps yes start ")?;
-            text.put_number(u64::from(start))?;
+            text.put_labelled("keeps yes start ", u64::from(start))?;
             Ok(true)
         }
         Keep::No { rule, slot } => {
-            text.put("keeps no H")?;
-            text.put_number(u64::from(rule))?;
-            text.put(" ")?;
-            text.put_number(u64::from(slot))?;
+            text.put_labelled("keeps no H", u64::from(rule))?;
+            text.put_labelled(" ", u64::from(slot))?;
             Ok(false)
         }
     }
@@ -44,15 +41,12 @@ fn put_back(text: &mut Text, back: Back) -> Result<bool, Memory>
 {
     match back {
         Back::Yes { start } => {
-            text.put("returns yes start ")?;
-            text.put_number(u64::from(start))?;
+            text.put_labelled("returns yes start ", u64::from(start))?;
             Ok(true)
         }
         Back::No { rule, slot } => {
-            text.put("returns no Q")?;
-            text.put_number(u64::from(rule))?;
-            text.put(" ")?;
-            text.put_number(u64::from(slot))?;
+            text.put_labelled("returns no Q", u64::from(rule))?;
+            text.put_labelled(" ", u64::from(slot))?;
             Ok(false)
         }
     }
@@ -83,14 +77,10 @@ fn put_head_words(
 ) -> Result<(), Memory>
     ensures { OnOk result (text.new ≡ text.old ++ head_words name.now nodes slots first last) }
 {
-    text.put(name)?;
-    text.put_number(u64::from(nodes))?;
-    text.put(" slots ")?;
-    text.put_number(u64::from(slots))?;
-    text.put(" from ")?;
-    text.put_number(u64::from(first))?;
-    text.put(" to ")?;
-    text.put_number(u64::from(last))?;
+    text.put_labelled(name, u64::from(nodes))?;
+    text.put_labelled(" slots ", u64::from(slots))?;
+    text.put_labelled(" from ", u64::from(first))?;
+    text.put_labelled(" to ", u64::from(last))?;
     text.put("\n")
 }
 
@@ -175,10 +165,8 @@ fn fault_node(fault: &Event) -> u8
 fn put_place(text: &mut Text, fault: &Event) -> Result<(), Memory>
     ensures { OnOk result (text.new ≡ text.old ++ place_words fault.now) }
 {
-    text.put("slot ")?;
-    text.put_number(u64::from(fault_slot(fault)))?;
-    text.put(" node ")?;
-    text.put_number(u64::from(fault_node(fault)))?;
+    text.put_labelled("slot ", u64::from(fault_slot(fault)))?;
+    text.put_labelled(" node ", u64::from(fault_node(fault)))?;
     text.put(" ")
 }
 
@@ -213,17 +201,11 @@ pub fn put_run(
 pub fn put_counts(text: &mut Text, name: &str, counts: &Counts) -> Result<(), Memory>
     ensures { OnOk result (text.new ≡ text.old ++ counts_line name.now counts.now) }
 {
-    text.put(name)?;
-    text.put_number(counts.runs)?;
-    text.put(" same ")?;
-    text.put_number(counts.same)?;
-    text.put(" hurt ")?;
-    text.put_number(counts.hurt)?;
-    text.put(" split ")?;
-    text.put_number(counts.split)?;
-    text.put(" torn ")?;
-    text.put_number(counts.torn)?;
-    text.put(" dead ")?;
-    text.put_number(counts.dead)?;
+    text.put_labelled(name, counts.runs)?;
+    text.put_labelled(" same ", counts.same)?;
+    text.put_labelled(" hurt ", counts.hurt)?;
+    text.put_labelled(" split ", counts.split)?;
+    text.put_labelled(" torn ", counts.torn)?;
+    text.put_labelled(" dead ", counts.dead)?;
     text.put("\n")
 }

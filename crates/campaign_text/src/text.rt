@@ -74,6 +74,14 @@ impl Text {
         self.put_bytes(digits.bytes())
     }
 
+    /// Adds a label, and a number in decimal digits.
+    pub(crate) fn put_labelled(&mut self, label: &str, number: u64) -> Result<(), Memory>
+        ensures { OnOk result (self.new ≡ self.old ++ (label.now ++ decimal number)) }
+    {
+        self.put(label)?;
+        self.put_number(number)
+    }
+
     /// Adds a number in decimal digits, with a `-` before a negative one.
     #[tactic(auto, using(ttp_base::proofs::Room::room))]
     pub fn put_signed(&mut self, number: i64) -> Result<(), Memory>

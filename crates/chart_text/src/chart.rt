@@ -247,6 +247,41 @@ fn room_for(campaign: &Campaign<'_>, longest: usize) -> Option<usize>
     longest.max(all).checked_add(300)
 }
 
+// Writes the chart of the marked slots, with room for the longest line.
+fn put_with_room<K: Sink>(
+    alloc: Global,
+    campaign: &Campaign<'_>,
+    frame: Frame,
+    marks: &[bool],
+    survey: &Survey,
+    out: &mut K,
+) -> Result<(), ChartFault>
+    requires readable { IsReadable campaign.now }
+    requires size { frame.size ≡ size_of_campaign campaign.now }
+    requires marks { length marks.now ≡ frame.size.slots }
+    requires shown { frame.many ≡ length (marked_slots marks.now) }
+    requires some { 1 ≤ frame.many }
+    requires many { survey.now.many ≡ length campaign.now.faults }
+    requires counts { survey.now.counts ≡ all_counts frame.size campaign.now.faults }
+    requires longest { survey.now.longest ≡ longest_text campaign.now.faults }
+    ensures ok { OnOk result (WroteLines (K.output out.old) (K.output out.new)
+        (chart_of frame.size campaign.now.own (marked_slots marks.now) campaign.now.faults
+        (counts_sum (map (λ piece. piece.kept) campaign.now.pieces))
+        (counts_sum (map (λ piece. piece.broken) campaign.now.pieces)))) }
+    ensures failed { IfErr result (λ why. LeftOfChart why (marked_slots marks.now) (K.output out.old) (K.output out.new)
+        (chart_of frame.size campaign.now.own (marked_slots marks.now) campaign.now.faults
+        (counts_sum (map (λ piece. piece.kept) campaign.now.pieces))
+        (counts_sum (map (λ piece. piece.broken) campaign.now.pieces)))) }
+{
+    let Some(room) = room_for(campaign, survey.longest) else {
+        return Err(ChartFault::Memory);
+    };
+    let Ok(mut buffer) = Buffer::with_room(alloc, room) else {
+        return Err(ChartFault::Memory);
+    };
+    put_marked(campaign, frame, marks, survey, &mut buffer, out)
+}
+
 // The nodes and slots of a campaign's runs.
 fn size_of_campaign(campaign: &Campaign<'_>) -> Size
     ensures size { result ≡ size_of_campaign campaign.now }
@@ -314,12 +349,6 @@ pub fn put_chart<K: Sink>(
     if many == 0 {
         return Err(ChartFault::NoSlot);
     }
-    let Some(room) = room_for(campaign, survey.longest) else {
-        return Err(ChartFault::Memory);
-    };
-    let Ok(mut buffer) = Buffer::with_room(alloc, room) else {
-        return Err(ChartFault::Memory);
-    };
     let frame = Frame { size, many };
-    put_marked(campaign, frame, &marks, &survey, &mut buffer, out)
+    put_with_room(alloc, campaign, frame, &marks, &survey, out)
 }

@@ -11,7 +11,7 @@ use crate::size::Size;
 use whole_campaign::FaultShown;
 
 /// What came of a fault.
-#[derive(Clone, Copy, Debug, PartialEq, Eq)]
+#[derive(Clone, Copy)]
 pub enum Outcome {
     /// The run cost what the script's own does.
     Same,
@@ -30,7 +30,7 @@ pub enum Outcome {
 }
 
 /// How a fault looks in a chart: by its outcome, and for two of them by whether the test covers the fault.
-#[derive(Clone, Copy, Debug, PartialEq, Eq)]
+#[derive(Clone, Copy)]
 pub enum Look {
     Same,
     SameOut,
@@ -176,15 +176,10 @@ pub(crate) fn look_selector(look: Look) -> &'static str
     ensures short { length result.now ≤ 8 }
 {
     match look {
-        Look::Same => "same",
         Look::SameOut => "same.out",
-        Look::Cost => "cost",
         Look::CostOut => "cost.out",
-        Look::Late => "late",
-        Look::Hurt => "hurt",
-        Look::Split => "split",
-        Look::Torn => "torn",
-        Look::Dead => "dead",
+        Look::Same | Look::Cost | Look::Late | Look::Hurt | Look::Split | Look::Torn | Look::Dead =>
+            look_text(look),
     }
 }
 
@@ -232,13 +227,8 @@ pub(crate) fn look_letter_colour(look: Look) -> &'static str
     match look {
         Look::Same => "#5c7482",
         Look::SameOut => "#505050",
-        Look::Cost => "#000000",
-        Look::CostOut => "#000000",
-        Look::Late => "#000000",
-        Look::Hurt => "#000000",
-        Look::Split => "#ffffff",
-        Look::Torn => "#ffffff",
-        Look::Dead => "#ffffff",
+        Look::Cost | Look::CostOut | Look::Late | Look::Hurt => "#000000",
+        Look::Split | Look::Torn | Look::Dead => "#ffffff",
     }
 }
 

@@ -8,7 +8,8 @@ ghost use Rattle.ttp_world.specs.declared.script.Script.{Script};
 ghost use Rattle.ttp_world.specs.declared.script.TheConstants.{EVENT_LIMIT};
 ghost use Rattle.ttp_world.specs.Medl.{IsValid};
 ghost use Rattle.ttp_world.specs.Script.{IsValidScript};
-ghost use Rattle.campaign.specs.Lines.{Summary, campaign_lines};
+ghost use Rattle.campaign.specs.CostText.{cost_words};
+ghost use Rattle.campaign.specs.Lines.{Summary, summary, campaign_lines};
 ghost use Rattle.campaign.specs.declared.cost.Cost.{Cost};
 ghost use Rattle.campaign.specs.ZerosWorld.{zeros_world};
 ghost use Rattle.seen_costs.specs.States.{AreShown};
@@ -260,6 +261,48 @@ fn put_end<K: Sink>(tally: &mut Tally, out: &mut K) -> Result<(), CampaignFault>
     put_formed(formed, tally, out)
 }
 
+// All lines, by the script's own run, which has not begun.
+fn put_lines<R: Threads + Sync, K: Sink>(
+    rt: &R,
+    alloc: Global,
+    common: &Common,
+    first: u32,
+    last: u32,
+    threads: usize,
+    own: &mut OwnRun,
+    out: &mut K,
+) -> Result<(), CampaignFault>
+    requires may { MayTry common.now }
+    requires run { IsOwnAfter own.old common.now.list.now common.now.script.now 0 }
+    ensures ok { OnOk result (WroteLines (K.output out.old) (K.output out.new)
+        (campaign_lines common.now.list.now common.now.script.now first last)) }
+    ensures err { IfErr result (λ why. LeftFewerBy why (K.output out.old) (K.output out.new)
+        (campaign_lines common.now.list.now common.now.script.now first last)) }
+{
+    let mut tally = Tally::new(alloc);
+    if let Err(why) = put_front(common, first, last, &mut tally, out) {
+        return Err(why);
+    }
+    if let Err(why) = put_slots(
+        rt, alloc, common, first, last, threads, own, &mut tally, out,
+    ) {
+        return Err(why);
+    }
+    put_end(&mut tally, out)
+}
+
+// The words of what the script's own run costs.
+fn own_words(alloc: Global, list: &Medl, script: &Script) -> Result<Text, Memory>
+    requires valid { IsValid list.now }
+    requires script { IsValidScript list.now script.now }
+    ensures { IfOk result (λ words. words ≡ cost_words list.now (summary list.now script.now).cost) }
+{
+    let mut words = Text::new(alloc);
+    let cost = cost_of(alloc, list, script)?;
+    form_words(list, &cost, &mut words)?;
+    Ok(words)
+}
+
 /// Writes the campaign of a script over the slots of a range, each line as one piece. Slots that the script
 /// does not have are passed over.
 ///
@@ -294,15 +337,10 @@ pub fn put_campaign<R: Threads + Sync, K: Sink>(
     ensures memory { result ≡ Err fault.Memory
         → WroteFewer (K.output out.old) (K.output out.new) (campaign_lines list.now script.now first last) }
 {
-    let mut words = Text::new(alloc);
-    let mut tally = Tally::new(alloc);
+    let Ok(words) = own_words(alloc, list, script) else {
+        return Err(CampaignFault::Memory);
+    };
     let Ok(mut own) = OwnRun::new(alloc, list, script) else {
-        return Err(CampaignFault::Memory);
-    };
-    let Ok(cost) = cost_of(alloc, list, script) else {
-        return Err(CampaignFault::Memory);
-    };
-    let Ok(()) = form_words(list, &cost, &mut words) else {
         return Err(CampaignFault::Memory);
     };
     let common = Common {
@@ -310,13 +348,5 @@ pub fn put_campaign<R: Threads + Sync, K: Sink>(
         script,
         own: words.bytes(),
     };
-    if let Err(why) = put_front(&common, first, last, &mut tally, out) {
-        return Err(why);
-    }
-    if let Err(why) = put_slots(
-        rt, alloc, &common, first, last, threads, &mut own, &mut tally, out,
-    ) {
-        return Err(why);
-    }
-    put_end(&mut tally, out)
+    put_lines(rt, alloc, &common, first, last, threads, &mut own, out)
 }

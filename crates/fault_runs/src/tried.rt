@@ -1,10 +1,15 @@
 //! The runs of faults, side by side.
-ghost use Rattle.std.specs.Prelude.{◌≡◌, ◌<◌, map, All, IfOk, OnOk};
+ghost use Rattle.std.specs.Prelude.{◌≡◌, ◌<◌, [], map, All, IfOk, OnOk};
 ghost use Rattle.std.specs.Thread.{IsSync};
 ghost use Rattle.ttp_world.specs.Medl.{IsValid};
 ghost use Rattle.ttp_world.specs.Script.{IsValidScript};
+ghost use Rattle.campaign.specs.declared.cost.Cost.{Cost};
+ghost use Rattle.campaign.specs.Cost.{says_yes};
 ghost use Rattle.campaign.specs.CostText.{cost_words};
+ghost use Rattle.campaign.specs.Lines.{fault_line};
+ghost use Rattle.campaign.specs.Tried.{with_fault};
 ghost use Rattle.campaign_text.specs.Listing.{in_order};
+ghost use Rattle.campaign_text.specs.Told.{told_summary};
 ghost use Rattle.single_faults.specs.Tried.{MayStand};
 ghost use Rattle.run_costs.specs.Standing.{IsRunOfList};
 ghost use Rattle.fault_runs.specs.Tries.{MayTry, IsPastOf, tried_of};
@@ -48,6 +53,57 @@ pub(crate) fn form_words(list: &Medl, cost: &Cost, words: &mut Text) -> Result<(
     put_cost(words, list, cost)
 }
 
+// The line of a fault, with these words of what the run of its script cost, and whether the test of that script says yes.
+fn line_of(
+    alloc: Global,
+    list: &Medl,
+    more: &Script,
+    fault: &Event,
+    words: &[u8],
+) -> Result<(Text, bool), Memory>
+    requires valid { IsValid list.now }
+    requires script { IsValidScript list.now more.now }
+    ensures line { (cost : Cost) → words.now ≡ cost_words list.now cost
+        → IfOk result (λ shown. shown.0 ≡ fault_line list.now fault.now (told_summary list.now more.now cost)) }
+    ensures yes { IfOk result (λ shown. shown.1 ≡ says_yes list.now more.now) }
+{
+    let mut line = Text::new(alloc);
+    let yes = put_run(&mut line, list, more, fault, words)?;
+    Ok((line, yes))
+}
+
+// The run of a fault, whose script this is.
+fn try_more(
+    alloc: Global,
+    common: &Common,
+    past: &SeenRun,
+    fault: &Event,
+    more: &Script,
+    words: &mut Text,
+    run: &mut SeenRun,
+) -> Result<Tried, Memory>
+    requires may { MayTry common.now }
+    requires past { IsPastOf common.now past.now }
+    requires more { more.now ≡ with_fault common.now.script.now fault.now }
+    requires script { IsValidScript common.now.list.now more.now }
+    requires run { IsRunOfList run.old.run common.now.list.now }
+    ensures tried { IfOk result (λ tried. tried ≡ tried_of common.now.list.now common.now.script.now fault.now) }
+    ensures run { OnOk result (IsRunOfList run.new.run common.now.list.now) }
+{
+    let (list, script) = (common.list, common.script);
+    let cost = cost_from(alloc, list, script, fault, more, past, run)?;
+    form_words(list, &cost, words)?;
+    let shown = line_of(alloc, list, more, fault, words.bytes())?;
+    let is_same = common.own == words.bytes();
+    let (line, yes) = shown;
+    Ok(Tried {
+        line,
+        yes,
+        cost,
+        is_same,
+    })
+}
+
 // The run of a fault, by the script's own run as far as it has come. Its cost is formed in `words`, and it is made
 // in `run`.
 fn try_one(
@@ -67,21 +123,52 @@ fn try_one(
 {
     more_is_valid(common.list, common.script, fault);
     let more = with_fault(alloc, common.script, fault)?;
-    let (list, script) = (common.list, common.script);
-    let cost = cost_from(alloc, list, script, fault, &more, past, run)?;
-    form_words(list, &cost, words)?;
-    let mut line = Text::new(alloc);
-    let yes = put_run(&mut line, list, &more, fault, words.bytes())?;
-    let is_same = common.own == words.bytes();
-    Ok(Tried {
-        line,
-        yes,
-        cost,
-        is_same,
-    })
+    try_more(alloc, common, past, fault, &more, words, run)
 }
 
-// Those of some faults, one after another.
+// Adds those of some faults, one after another.
+fn add_each(
+    alloc: Global,
+    common: &Common,
+    past: &SeenRun,
+    faults: &[Event],
+    words: &mut Text,
+    run: &mut SeenRun,
+    all: &mut Vec<Tried>,
+) -> Result<(), Memory>
+    requires may { MayTry common.now }
+    requires past { IsPastOf common.now past.now }
+    requires faults { All (MayStand common.now.list.now common.now.script.now) faults.now }
+    requires run { IsRunOfList run.old.run common.now.list.now }
+    requires none { all.old.items ≡ [] }
+    ensures { OnOk result (all.new.items ≡ map (tried_of common.now.list.now common.now.script.now) faults.now) }
+{
+    for fault in faults {
+        all.push(try_one(alloc, common, past, fault, words, run)?)?;
+    }
+    Ok(())
+}
+
+// Adds those of some faults, made in one run after another.
+fn add_all(
+    alloc: Global,
+    common: &Common,
+    past: &SeenRun,
+    faults: &[Event],
+    all: &mut Vec<Tried>,
+) -> Result<(), Memory>
+    requires may { MayTry common.now }
+    requires past { IsPastOf common.now past.now }
+    requires faults { All (MayStand common.now.list.now common.now.script.now) faults.now }
+    requires none { all.old.items ≡ [] }
+    ensures { OnOk result (all.new.items ≡ map (tried_of common.now.list.now common.now.script.now) faults.now) }
+{
+    let mut words = Text::new(alloc);
+    let mut run = SeenRun::new(alloc, common.list, common.script)?;
+    add_each(alloc, common, past, faults, &mut words, &mut run, all)
+}
+
+// Those of some faults. A run is made where there are any.
 fn try_each(
     alloc: Global,
     common: &Common,
@@ -97,11 +184,7 @@ fn try_each(
     if faults.is_empty() {
         return Ok(all);
     }
-    let mut words = Text::new(alloc);
-    let mut run = SeenRun::new(alloc, common.list, common.script)?;
-    for fault in faults {
-        all.push(try_one(alloc, common, past, fault, &mut words, &mut run)?)?;
-    }
+    add_all(alloc, common, past, faults, &mut all)?;
     Ok(all)
 }
 

@@ -1,8 +1,9 @@
 //! The answer.
-ghost use Rattle.std.specs.Prelude.{◌≡◌, ◌↔◌, ℕ, true, IfOk};
+ghost use Rattle.std.specs.Prelude.{◌≡◌, ◌↔◌, ℕ, [], true, IfOk};
 ghost use Rattle.ttp_world.specs.Medl.{IsValid};
 ghost use Rattle.ttp_world.specs.Script.{IsValidScript};
 ghost use Rattle.trace_check.specs.Answer.{is_trace, IsFirstWrong};
+ghost use Rattle.trace_check.specs.Following.{FollowerStandsFor};
 
 use crate::follow::Follower;
 use crate::text::line_behind;
@@ -18,6 +19,24 @@ pub enum Outcome {
     /// It is the trace of no run. The line, counted from 1, is the first that no run has that has the
     /// lines before it.
     Differs { line: u32 },
+}
+
+// What a text is, by a run that has not begun.
+fn outcome_by(follower: &mut Follower, list: &Medl, script: &Script, text: &[u8]) -> Outcome
+    requires list { IsValid list.now }
+    requires script { IsValidScript list.now script.now }
+    requires stands { FollowerStandsFor follower.old list.now script.now [] }
+    ensures same { (result ≡ Outcome.Same) ↔ (is_trace list.now script.now text.now ≡ true) }
+    ensures differs { (line : ℕ) → (result ≡ Outcome.Differs line) ↔ IsFirstWrong list.now script.now text.now line }
+{
+    let left = match follower.follow(list, script, text) {
+        Ok([]) => return Outcome::Same,
+        Ok(rest) => rest,
+        Err(wrong) => wrong.text,
+    };
+    Outcome::Differs {
+        line: line_behind(&text[..text.len() - left.len()]),
+    }
 }
 
 /// Whether a text is the trace of a run of a list and a script, whichever legal message numbers the run
@@ -37,12 +56,5 @@ pub fn verify(alloc: Global, list: &Medl, script: &Script, text: &[u8]) -> Resul
         (outcome ≡ Outcome.Differs line) ↔ IsFirstWrong list.now script.now text.now line) }
 {
     let mut follower = Follower::new(alloc, list)?;
-    let left = match follower.follow(list, script, text) {
-        Ok([]) => return Ok(Outcome::Same),
-        Ok(rest) => rest,
-        Err(wrong) => wrong.text,
-    };
-    Ok(Outcome::Differs {
-        line: line_behind(&text[..text.len() - left.len()]),
-    })
+    Ok(outcome_by(&mut follower, list, script, text))
 }

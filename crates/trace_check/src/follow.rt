@@ -37,10 +37,13 @@ impl Follower {
         requires { IsValid list.now }
         ensures { (script : Said) → IfOk result (λ f. FollowerStandsFor f list.now script []) }
     {
+        let outgoing = Outgoing::new(alloc, list)?;
+        let incoming = Incoming::new(alloc, list)?;
+        let plant = Plant::new(alloc, list)?;
         Ok(Follower {
-            plant: Plant::new(alloc, list)?,
-            outgoing: Outgoing::new(alloc, list)?,
-            incoming: Incoming::new(alloc, list)?,
+            plant,
+            outgoing,
+            incoming,
             lines: NodeLines::new(),
             line: Line::new(),
         })

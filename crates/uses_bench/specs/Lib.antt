@@ -1,2 +1,3 @@
 pub mod SafeTrace
 pub mod LastLines
+pub mod Asked

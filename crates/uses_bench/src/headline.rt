@@ -2,12 +2,11 @@
 ghost use Rattle.std.specs.Prelude.{IfOk, IfErr};
 ghost use Rattle.uses_bench.specs.SafeTrace.{IsSafeTrace, IsMissed};
 
+use crate::ask::ask;
 use crate::memory::{Missing, holding, sink_of, words_of};
 use std::alloc::Global;
 use std::sync::Wait;
 use std::thread::Threads;
-use ttp_base::OpenGate;
-use ttp_top::bench;
 
 /// The text of a run of a script for a list, whose files have these bytes, where the text has no more than
 /// `room` bytes.
@@ -24,8 +23,7 @@ pub fn safe_trace<R: Threads + Wait + Sync>(
     let words = words_of(alloc, &["run", "list", "script"])?;
     let mut library = holding(alloc, list, script, &[])?;
     let mut out = sink_of(alloc, room)?;
-    let gate = OpenGate::new();
-    let status = bench(rt, alloc, &words, &mut library, &mut out, &gate, &mut None);
+    let status = ask(rt, alloc, &words, &mut library, &mut out);
     if status != 0 {
         return Err(Missing::Status(status));
     }

@@ -2,13 +2,12 @@
 ghost use Rattle.std.specs.Prelude.{IfOk};
 ghost use Rattle.uses_bench.specs.LastLines.{AreTested, EndsWith};
 
+use crate::ask::ask;
 use crate::headline::safe_trace;
 use crate::memory::{Missing, holding, sink_of, words_of};
 use std::alloc::Global;
 use std::sync::Wait;
 use std::thread::Threads;
-use ttp_base::OpenGate;
-use ttp_top::bench;
 
 // What `keeps` writes of these files.
 fn tested<R: Threads + Wait + Sync>(
@@ -23,8 +22,7 @@ fn tested<R: Threads + Wait + Sync>(
     let words = words_of(alloc, &["keeps", "list", "script"])?;
     let mut library = holding(alloc, list, script, &[])?;
     let mut out = sink_of(alloc, room)?;
-    let gate = OpenGate::new();
-    match bench(rt, alloc, &words, &mut library, &mut out, &gate, &mut None) {
+    match ask(rt, alloc, &words, &mut library, &mut out) {
         0 => Ok(Vec::from_slice(alloc, out.bytes())?),
         status => Err(Missing::Status(status)),
     }

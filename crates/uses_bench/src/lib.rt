@@ -6,6 +6,7 @@
 //! proof. They stand on public contracts and lemmas alone, and nothing stands on them.
 #![tactic(auto)]
 
+mod ask;
 mod headline;
 mod last_lines;
 mod memory;

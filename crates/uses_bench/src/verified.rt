@@ -2,13 +2,12 @@
 ghost use Rattle.std.specs.Prelude.{◌≡◌, ◌⊎◌, IfOk, IfErr};
 ghost use Rattle.uses_bench.specs.SafeTrace.{IsMissed};
 
+use crate::ask::ask;
 use crate::headline::safe_trace;
 use crate::memory::{Missing, holding, sink_of, words_of};
 use std::alloc::Global;
 use std::sync::Wait;
 use std::thread::Threads;
-use ttp_base::OpenGate;
-use ttp_top::bench;
 
 // More bytes than the line of a verdict has.
 const VERDICT_ROOM: usize = 256;
@@ -28,6 +27,5 @@ pub fn verify_run<R: Threads + Wait + Sync>(
     let words = words_of(alloc, &["verify", "list", "script", "trace"])?;
     let mut library = holding(alloc, list, script, text.as_slice())?;
     let mut out = sink_of(alloc, VERDICT_ROOM)?;
-    let gate = OpenGate::new();
-    Ok(bench(rt, alloc, &words, &mut library, &mut out, &gate, &mut None))
+    Ok(ask(rt, alloc, &words, &mut library, &mut out))
 }

@@ -134,8 +134,8 @@ pub(crate) fn put_digits(line: &mut Draft, more: u8, v: u64)
     }
 }
 
-// The value of a small number, as those of nodes and of frames that they accepted are.
-fn small_number_text(v: u64) -> Option<&'static str>
+// The value of a number from 0 to 7.
+fn number_text_from_0(v: u64) -> Option<&'static str>
     ensures text { IfSome result (λ t. t.now ≡ number_text v) }
     ensures short { IfSome result (λ t. length t.now ≤ 6) }
 {
@@ -148,6 +148,16 @@ fn small_number_text(v: u64) -> Option<&'static str>
         5 => Some("b101"),
         6 => Some("b110"),
         7 => Some("b111"),
+        _ => None,
+    }
+}
+
+// The value of a number from 8 to 15.
+fn number_text_from_8(v: u64) -> Option<&'static str>
+    ensures text { IfSome result (λ t. t.now ≡ number_text v) }
+    ensures short { IfSome result (λ t. length t.now ≤ 6) }
+{
+    match v {
         8 => Some("b1000"),
         9 => Some("b1001"),
         10 => Some("b1010"),
@@ -156,6 +166,16 @@ fn small_number_text(v: u64) -> Option<&'static str>
         13 => Some("b1101"),
         14 => Some("b1110"),
         15 => Some("b1111"),
+        _ => None,
+    }
+}
+
+// The value of a number from 16 to 23.
+fn number_text_from_16(v: u64) -> Option<&'static str>
+    ensures text { IfSome result (λ t. t.now ≡ number_text v) }
+    ensures short { IfSome result (λ t. length t.now ≤ 6) }
+{
+    match v {
         16 => Some("b10000"),
         17 => Some("b10001"),
         18 => Some("b10010"),
@@ -164,6 +184,16 @@ fn small_number_text(v: u64) -> Option<&'static str>
         21 => Some("b10101"),
         22 => Some("b10110"),
         23 => Some("b10111"),
+        _ => None,
+    }
+}
+
+// The value of a number from 24 to 31.
+fn number_text_from_24(v: u64) -> Option<&'static str>
+    ensures text { IfSome result (λ t. t.now ≡ number_text v) }
+    ensures short { IfSome result (λ t. length t.now ≤ 6) }
+{
+    match v {
         24 => Some("b11000"),
         25 => Some("b11001"),
         26 => Some("b11010"),
@@ -172,6 +202,20 @@ fn small_number_text(v: u64) -> Option<&'static str>
         29 => Some("b11101"),
         30 => Some("b11110"),
         31 => Some("b11111"),
+        _ => None,
+    }
+}
+
+// The value of a small number, as those of nodes and of frames that they accepted are.
+fn small_number_text(v: u64) -> Option<&'static str>
+    ensures text { IfSome result (λ t. t.now ≡ number_text v) }
+    ensures short { IfSome result (λ t. length t.now ≤ 6) }
+{
+    match v / 8 {
+        0 => number_text_from_0(v),
+        1 => number_text_from_8(v),
+        2 => number_text_from_16(v),
+        3 => number_text_from_24(v),
         _ => None,
     }
 }

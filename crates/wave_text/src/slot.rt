@@ -53,6 +53,15 @@ fn node_at(slot: &SlotShown, node: u8) -> NodeShown
     }
 }
 
+// The newest message of a port in a slot.
+fn message_at<'m>(moment: &'m Moment, port: &Port) -> &'m Option<Message>
+    requires port { HasLetters port.now }
+    requires moment { ShowsNewest moment.now port.now }
+    ensures { result.now ≡ port_message port.now moment.now.slot }
+{
+    &moment.messages[table_place(port.host, port.what)]
+}
+
 // Writes the changes of a port.
 fn put_changes_of_port<K: Sink>(
     port: &Port,
@@ -71,16 +80,10 @@ fn put_changes_of_port<K: Sink>(
         (port_changes port.now (option_map (port_message port.now) (slot_before before.entry))
         (port_message port.now now.now.slot))) }
 {
-    let at = table_place(port.host, port.what);
+    let now = message_at(now, port);
     match before {
-        None => put_port_changes(port, None, &now.messages[at], drafts, out),
-        Some(before) => put_port_changes(
-            port,
-            Some(&before.messages[at]),
-            &now.messages[at],
-            drafts,
-            out,
-        ),
+        None => put_port_changes(port, None, now, drafts, out),
+        Some(before) => put_port_changes(port, Some(message_at(before, port)), now, drafts, out),
     }
 }
 

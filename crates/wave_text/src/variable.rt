@@ -1,7 +1,7 @@
 //! The variables of a waveform.
 
 /// A variable of the cluster.
-#[derive(Clone, Copy, Debug, PartialEq, Eq)]
+#[derive(Clone, Copy)]
 pub enum ClusterVariable {
     /// Whether all nodes whose members count hold the same.
     Agree,
@@ -13,7 +13,7 @@ pub enum ClusterVariable {
 }
 
 /// A variable of a node.
-#[derive(Clone, Copy, Debug, PartialEq, Eq)]
+#[derive(Clone, Copy)]
 pub enum NodeVariable {
     Sends,
     Phase,
@@ -28,7 +28,7 @@ pub enum NodeVariable {
 }
 
 /// A variable of a host: the number of the message that a port gave or took in a slot, or its bytes.
-#[derive(Clone, Copy, Debug, PartialEq, Eq)]
+#[derive(Clone, Copy)]
 pub enum PortVariable {
     Number,
     Data,

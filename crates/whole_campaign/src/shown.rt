@@ -3,7 +3,7 @@ use campaign::Counts;
 use ttp_world::{Back, Keep};
 
 /// What a fault does, as its first word.
-#[derive(Clone, Copy, Debug, PartialEq, Eq)]
+#[derive(Clone, Copy)]
 pub enum Doing {
     /// A node's frames are lost as it sends.
     Send,
@@ -14,7 +14,7 @@ pub enum Doing {
 }
 
 /// What the test of a script says.
-#[derive(Clone, Copy, Debug, PartialEq, Eq)]
+#[derive(Clone, Copy)]
 pub enum Test {
     /// The single-fault hypothesis.
     Keep(Keep),
@@ -23,7 +23,7 @@ pub enum Test {
 }
 
 /// What the line of a fault says.
-#[derive(Clone, Copy, Debug, PartialEq, Eq)]
+#[derive(Clone, Copy)]
 pub struct FaultShown {
     /// The slot in which the fault begins.
     pub slot: u32,
@@ -55,7 +55,7 @@ pub struct FaultLine<'a> {
 }
 
 /// A piece of a campaign: the range that its first line names, and the counts of its last two lines.
-#[derive(Clone, Copy, Debug, PartialEq, Eq)]
+#[derive(Clone, Copy)]
 pub struct Piece {
     pub first: u32,
     pub last: u32,

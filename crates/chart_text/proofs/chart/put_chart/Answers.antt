@@ -3,21 +3,21 @@ use Rattle.chart_text.specs.Key.{all_counts}
 use Rattle.chart_text.proofs.Whole.{chart-whole, wrote-whole, left-whole}
 use Rattle.chart_text.proofs.chart.put_chart.Goals as goal
 
-pub put_marked-requires-clause-counts : goal.put_marked-requires-clause-counts
-put_marked-requires-clause-counts g c =
+pub put_with_room-requires-clause-counts : goal.put_with_room-requires-clause-counts
+put_with_room-requires-clause-counts g c =
     c.survey_of-survey.ensures.counts ∙ ap (all_counts c.size_of_campaign-size.result) c.faults.ensures
 
 pub returns-clause-ok : goal.returns-clause-ok
 returns-clause-ok g c =
-    wrote-whole c.put_marked.result (g.K.Sink.output c.args.out.now) (g.K.Sink.output c.put_marked.new.out) _ _
+    wrote-whole c.put_with_room.result (g.K.Sink.output c.args.out.now) (g.K.Sink.output c.put_with_room.new.out) _ _
     (chart-whole c.args.campaign.now c.args.asked c.size_of_campaign-size.result (marked_slots c.deref-2.result.now)
     c.size_of_campaign-size.ensures.size (ap marked_slots c.deref-2.ensures.value ∙ c.in-Ok.ensures.marks))
-    c.put_marked.ensures.ok
+    c.put_with_room.ensures.ok
 
 pub returns-clause-left : goal.returns-clause-left
 returns-clause-left g c =
     let shown = ap marked_slots c.deref-2.ensures.value ∙ c.in-Ok.ensures.marks in
-    left-whole c.put_marked.result _ _ (g.K.Sink.output c.args.out.now) (g.K.Sink.output c.put_marked.new.out) _ _ shown
+    left-whole c.put_with_room.result _ _ (g.K.Sink.output c.args.out.now) (g.K.Sink.output c.put_with_room.new.out) _ _ shown
     (chart-whole c.args.campaign.now c.args.asked c.size_of_campaign-size.result (marked_slots c.deref-2.result.now)
     c.size_of_campaign-size.ensures.size shown)
-    c.put_marked.ensures.failed
+    c.put_with_room.ensures.failed

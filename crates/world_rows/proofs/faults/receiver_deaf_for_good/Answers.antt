@@ -1,0 +1,7 @@
+use Rattle.std.proofs.Common.{refl}
+use Rattle.world_rows.proofs.OnLiterals.{runs_on_literals}
+use Rattle.world_rows.proofs.faults.receiver_deaf_for_good.Goals as goal
+
+pub returns : goal.returns
+unfolding runs_on_literals
+returns c = record { run = (refl, refl); keeps = refl }

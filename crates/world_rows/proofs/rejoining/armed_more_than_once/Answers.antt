@@ -1,0 +1,7 @@
+use Rattle.std.proofs.Common.{refl}
+use Rattle.world_rows.proofs.OnLiterals.{runs_on_literals}
+use Rattle.world_rows.proofs.rejoining.armed_more_than_once.Goals as goal
+
+pub returns : goal.returns
+unfolding runs_on_literals
+returns c = record { lines = refl }
