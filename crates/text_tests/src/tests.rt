@@ -2,7 +2,6 @@
 
 mod faced_nodes;
 mod generated;
-mod host_lines;
 mod lines;
 mod lists;
 mod reports;
