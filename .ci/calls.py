@@ -18,6 +18,7 @@ import sys
 import tempfile
 
 import rules
+import samples
 import traces
 from counted import TOP, UNPROVED, Counted, answer
 
@@ -285,6 +286,112 @@ def modes(counted, texts):
                       (1, "differs at line 83\n"))
 
 
+# The keys for modes at the top and in slot 1, the modes that there are, and a letter for each that says whether slot 1 is live in it.
+LIVE = (
+    ("", "", "y"), ("", "requests = false\n", "y"), ("", 'live = "n"\n', "n"), ("modes = 1\n", "", "y"), ("modes = 3\n", "", "yyy"),
+    ("modes = 8\n", "", "yyyyyyyy"), ("modes = 3\n", 'live = "yyn"\n', "yyn"), ("modes = 3\n", 'live = "yny"\n', "yny"),
+    ("modes = 3\n", 'live = "nny"\nrequests = false\n', "nny"), ("modes = 8\n", 'live = "nnnnnnny"\n', "nnnnnnny"),
+    ("modes = 8\n", 'live = "nnnnnnnn"\n', "nnnnnnnn"),
+)
+
+
+def live_in(counted, texts):
+    """Whether a slot is live in each mode: node 2 asks for the mode, and what node 0 gets from node 1 afterwards is live or not."""
+    asking = texts.named["B"] + "requests = true\n"
+    for top, keys, letters in LIVE:
+        listed = texts.named["plain"] + top + texts.named["F"] + texts.named["B"] + keys + asking + texts.named["S"]
+        for mode, letter in enumerate(letters):
+            files = {"list": listed, "script": f"slots 40\n{texts.part('on 4')}write 2 11 {mode + 1:02x}\n"}
+            with tempfile.TemporaryDirectory() as place:
+                for name, text in files.items():
+                    traces.written(place, name, text)
+                traces.written(place, "trace", answer(["run", "list", "script"], cwd=place)[1])
+                _, text, _ = answer(["modes", "list", "script", "trace"], cwd=place)
+            found = re.findall("^slot 37 node 0 mode ([0-9]*) next [-0-9]* live (.*)$", text, re.M)
+            counted.check(f"mode {mode} of {top!r} and {keys!r}", found, [(str(mode), "yes" if letter == "y" else "no")])
+
+
+# The events of a generated script, worked out by a program of its own.
+GENERATED = """\
+error 0 0 0 59
+error 1 4 0 59
+error 2 5 0 59
+error 3 5 0 59
+error 4 -5 0 59
+error 5 -2 0 59
+send 1 AB noise 25 25
+receive 4 AB noise 39 39
+write 0 0 0000
+read 1 0 status
+read 1 0 0
+read 2 1 status
+read 3 2 status
+read 4 3 status
+write 4 4 040404
+read 5 4 status
+read 5 4 4
+read 0 5 status
+write 0 6 0606
+"""
+DRIFTS = "drift 0 -3\ndrift 1 1\ndrift 2 2\ndrift 3 0\ndrift 4 2\ndrift 5 -2\n"
+
+
+def generated(counted, texts):
+    """The script of six nodes for 60 slots and the number 5 by the second reading, and what `sample` says of its run."""
+    data = {0: 2, 4: 3}
+    slots = "".join(
+        f'[[slot]]\nkinds = "{"N" if k in data else "I"}"\ndata = {data.get(k, 0)}\nsync = true\nstart = {str(k == 1).lower()}\n'
+        for k in range(6)
+    )
+    listed = "version = 1\nrounds = 1\nschedule = 0\nbuffers = 2\ndrift = 3\nerror = 5\nwindow = 88\n" + slots
+    medl = rules.List(listed)
+    lines = samples.script_text(medl, 60, 5).splitlines(keepends=True)
+    counted.check("the first lines of a generated script", "".join(lines[:7]), f"slots 60\n{texts.part('on 6')}")
+    counted.check("the drifts of a generated script", "".join(line for line in lines if line.startswith("drift ")), DRIFTS)
+    events = "".join(line for line in lines[7:] if not line.startswith("drift "))
+    counted.check("the events of a generated script", events[:len(GENERATED)], GENERATED)
+    with tempfile.TemporaryDirectory() as place:
+        traces.written(place, "list", listed)
+        counted.check("its run", answer(["sample", "list", "60", "5"], cwd=place)[:2], (0, samples.lines_of(medl, 60, 5)))
+
+
+# A trace of two slots, of which the second one has the rule that its script breaks.
+TWO_SLOTS = """\
+ttpbench trace 1 nodes 4 rounds 1 slots 2 schedule 00000a
+slot 0 node 0 wait peer - msg - mem 0000 acc 0 rej 0 ack none clock 0
+slot 0 node 1 wait peer - msg - mem 0000 acc 0 rej 0 ack none clock 0
+slot 0 node 2 wait peer - msg - mem 0000 acc 0 rej 0 ack none clock 0
+slot 0 node 3 off peer - msg - mem 0000 acc 0 rej 0 ack none clock -5
+slot 0 host 2 write 1
+slot 0 host 1 read 2 0 00
+slot 1 node 0 start peer 0 msg - mem 0001 acc 1 rej 0 ack first clock 0
+slot 1 node 1 join peer 0 msg - mem 0003 acc 1 rej 0 ack none clock 0
+slot 1 node 2 join peer 0 msg - mem 0001 acc 1 rej 0 ack none clock 0
+slot 1 node 3 denied peer 0 msg - mem 0000 acc 0 rej 0 ack none clock -9
+keeps no H6 1
+returns yes start 1
+"""
+
+
+def shown_slots(counted, texts):
+    """A picture of one slot shows that more happens in the other one, and no more of that; a campaign of one slot has no other one."""
+    kept, broken = "kept {} same 8 hurt 0 split 0 torn 0 dead 0\n", "broken 2 same 2 hurt 0 split 0 torn 0 dead 0\n"
+    # The faults of node 0 alone.
+    front = "".join(text_of(os.path.join(TOP, ".ci", "campaigns", "quiet.22.txt")).splitlines(keepends=True)[:18])
+    files = {"trace": TWO_SLOTS, "campaign": front + kept.format(14) + broken, "counted": front + kept.format(15) + broken}
+    with tempfile.TemporaryDirectory() as place:
+        for name, text in files.items():
+            traces.written(place, name, text)
+        status, text, _ = answer(["picture", "trace", "0", "0"], name="ttplab", cwd=place)
+        found = (status, ", shown: slots 0 to 0; more happens in slot 1</text>" in text, "H6</text>" in text)
+        counted.check("a picture of one slot", found, (0, True, False))
+        rows = (
+            (["chart", "campaign", "23", "30"], "campaign: no slot to show\n"), (["chart", "counted"], "campaign: line 19\n"),
+        )
+        for words, right in rows:
+            counted.check(" ".join(words), answer(words, name="ttplab", cwd=place)[:2], (4, right))
+
+
 def status_after(slot):
     """The words of node 5's status after a slot of the loaded run; nodes 0 and 3 have left."""
     time, place = slot - 16, slot % 8
@@ -343,7 +450,8 @@ def main():
     cases = [case for name in TABLES for case in cases_in(name, texts)]
     cases += [*of_sizes(texts), *of_letters(texts)]
     tasks = [(case.what, lambda case=case: case.check(counted)) for case in cases]
-    tasks += [(task.__name__, lambda task=task: task(counted, texts)) for task in (writes, loaded, equal_traces, modes)]
+    more = (writes, loaded, equal_traces, modes, live_in, generated, shown_slots)
+    tasks += [(task.__name__, lambda task=task: task(counted, texts)) for task in more]
     counted.side_by_side(tasks)
     return counted.end()
 

@@ -1,4 +1,4 @@
-//! Commands over a library and a sink in memory: files and lines that fail, gates, and clusters that are kept.
+//! Commands over a library and a sink in memory: lines that fail, gates, and clusters that are kept.
 //! What commands write to the byte is compared where the real program runs.
 
 mod forms;
@@ -8,7 +8,6 @@ mod race;
 
 use cluster_run::Cluster;
 use std::alloc::Global;
-use std::process::Abort;
 use std::sync::Wait;
 use std::thread::Threads;
 use ttp_base::{Gate, List, Memory, MemoryLibrary, MemorySink, OpenGate};
@@ -35,14 +34,13 @@ fn joined<R: AllocGlobal>(rt: &R, parts: &[&str]) -> Result<String, Memory> {
 }
 
 // A call of `bench`: its words, what the library holds under `list`, `script` and `trace`, and which call of the
-// library fails, and which of the sink; 0 is none.
+// sink fails; 0 is none.
 #[derive(Clone, Copy)]
 struct Call<'a> {
     words: &'a [&'a str],
     list: &'a str,
     script: &'a str,
     trace: &'a [u8],
-    bad_load: u32,
     bad_write: u32,
 }
 
@@ -53,20 +51,12 @@ fn call_of<'a>(words: &'a [&'a str], list: &'a str, script: &'a str) -> Call<'a>
         list,
         script,
         trace: b"".as_slice(),
-        bad_load: 0,
         bad_write: 0,
     }
 }
 
-// The number of the call that fails.
-fn failing(alloc: Global, call: u32) -> Result<List<u32>, Memory> {
-    let mut calls = List::new(alloc);
-    calls.push(call)?;
-    Ok(calls)
-}
-
 fn library_of(alloc: Global, call: &Call<'_>) -> Result<MemoryLibrary, Memory> {
-    let mut library = MemoryLibrary::new(alloc, failing(alloc, call.bad_load)?);
+    let mut library = MemoryLibrary::new(alloc, List::new(alloc));
     library.add("list", call.list.as_bytes())?;
     library.add("script", call.script.as_bytes())?;
     library.add("trace", call.trace)?;
@@ -74,7 +64,9 @@ fn library_of(alloc: Global, call: &Call<'_>) -> Result<MemoryLibrary, Memory> {
 }
 
 fn sink_of(alloc: Global, call: &Call<'_>) -> Result<MemorySink, Memory> {
-    MemorySink::new(alloc, 65_536, failing(alloc, call.bad_write)?)
+    let mut fails = List::new(alloc);
+    fails.push(call.bad_write)?;
+    MemorySink::new(alloc, 65_536, fails)
 }
 
 fn words_of(alloc: Global, call: &Call<'_>) -> Result<Vec<String>, Memory> {

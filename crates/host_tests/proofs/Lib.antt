@@ -1,2 +1,1 @@
 mod NewPorts
-mod QuietScripts

@@ -1,9 +1,8 @@
 //! A small trace, whose picture has each kind of element.
-use picture_text::{Span, put_picture};
+use picture_text::put_picture;
 use std::alloc::Global;
 use std::str;
-use std::test::Fail;
-use ttp_base::{List, MemorySink};
+use ttp_base::{List, Memory, MemorySink};
 use whole_trace::read_whole;
 
 const TRACE: &str = "ttpbench trace 1 nodes 4 rounds 1 slots 2 schedule 00000a
@@ -39,44 +38,32 @@ const LINES: &[&str] = &[
     "<text x=\"727\" y=\"401\">its host reads its status</text>\n</svg>\n",
 ];
 
-fn no_failures(alloc: Global) -> List<u32> {
-    List::new(alloc)
-}
-
-#[test]
-fn a_picture(rt: HostRuntime) -> Result<(), Fail> {
-    let trace = read_whole(TRACE.as_bytes())?;
-    let mut sink = MemorySink::new(rt.alloc(), 16_000, no_failures(rt.alloc()))?;
-    put_picture(&trace, None, &mut sink)?;
-    let text = str::from_utf8(sink.bytes())?;
-    assert_eq!(rt; text.len(), 9176);
-    for line in LINES {
-        assert!(rt; text.contains(*line), "{line}");
+/// Whether a text has all these lines.
+pub(crate) fn has_lines(text: &str, lines: &[&str]) -> bool {
+    for line in lines {
+        if !text.contains(*line) {
+            return false;
+        }
     }
-    Ok(())
+    true
+}
+
+fn is_picture(bytes: &[u8]) -> bool {
+    match str::from_utf8(bytes) {
+        Ok(text) => text.len() == 9176 && has_lines(text, LINES),
+        Err(_) => false,
+    }
+}
+
+fn has_picture(alloc: Global) -> Result<bool, Memory> {
+    let Ok(trace) = read_whole(TRACE.as_bytes()) else {
+        return Ok(false);
+    };
+    let mut sink = MemorySink::new(alloc, 16_000, List::new(alloc))?;
+    Ok(put_picture(&trace, None, &mut sink).is_ok() && is_picture(sink.bytes()))
 }
 
 #[test]
-fn one_slot(rt: HostRuntime) -> Result<(), Fail> {
-    let trace = read_whole(TRACE.as_bytes())?;
-    let mut sink = MemorySink::new(rt.alloc(), 16_000, no_failures(rt.alloc()))?;
-    assert_eq!(rt; trace.head().slots, 2);
-    let asked = Span { first: 0, last: 0 };
-    put_picture(&trace, Some(asked), &mut sink)?;
-    let text = str::from_utf8(sink.bytes())?;
-    assert!(rt; text.contains(", shown: slots 0 to 0; more happens in slot 1</text>"));
-    assert!(rt; !text.contains("H6</text>"));
-    Ok(())
-}
-
-#[test]
-fn a_failure(rt: HostRuntime) -> Result<(), Fail> {
-    let trace = read_whole(TRACE.as_bytes())?;
-    let mut fail = List::new(rt.alloc());
-    fail.push(2)?;
-    let mut sink = MemorySink::new(rt.alloc(), 16_000, fail)?;
-    assert!(rt; put_picture(&trace, None, &mut sink).is_err());
-    assert!(rt; sink.bytes().starts_with(HEAD.as_bytes()));
-    assert!(rt; sink.bytes().len() < 200);
-    Ok(())
+fn a_picture(rt: HostRuntime) {
+    assert!(rt; matches!(has_picture(rt.alloc()), Ok(true)));
 }

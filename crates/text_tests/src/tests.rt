@@ -1,8 +1,8 @@
 //! Values from outside, and cases that were worked out by hand; each file says of what.
 
 mod faced_nodes;
+mod faulty;
 mod generated;
-mod host_lines;
 mod lines;
 mod lists;
 mod reports;

@@ -2,7 +2,6 @@
 
 use super::{FIVE_NODES, START, answer_at, call_of, joined, let_go};
 use cluster_run::Cluster;
-use std::process::Abort;
 use std::sync::Wait;
 use std::thread::Threads;
 use ttp_base::{Memory, OpenGate};
@@ -23,19 +22,18 @@ fn done_after<R: Threads + Wait + Sync + AllocGlobal>(
     }
 }
 
-fn keeps_until_the_next<R: Threads + Wait + Sync + AllocGlobal + Abort>(
+fn keeps_until_the_next<R: Threads + Wait + Sync + AllocGlobal>(
     rt: &R,
     kept: &mut Option<Cluster>,
-) -> Result<(), Memory> {
-    assert!(rt; done_after(rt, "12", kept)? == Some(12));
-    assert!(rt; done_after(rt, "0", kept)?.is_none());
-    Ok(())
+) -> Result<bool, Memory> {
+    let is_kept = matches!(done_after(rt, "12", kept)?, Some(12));
+    Ok(done_after(rt, "0", kept)?.is_none() && is_kept)
 }
 
 #[test]
-fn the_cluster_is_kept(rt: HostRuntime) -> Result<(), Memory> {
+fn the_cluster_is_kept(rt: HostRuntime) {
     let mut kept = None;
-    let told = keeps_until_the_next(&rt, &mut kept);
+    let keeps = keeps_until_the_next(&rt, &mut kept);
     let_go(kept);
-    told
+    assert!(rt; matches!(keeps, Ok(true)));
 }

@@ -5,7 +5,6 @@
 
 use super::{FIRST, HEAD, SLOT, answer_past, call_of, joined, text_of};
 use std::hint::spin_loop;
-use std::process::Abort;
 use std::sync::Wait;
 use std::sync::atomic::AtomicU64;
 use std::sync::atomic::Ordering::SeqCst;
@@ -144,17 +143,18 @@ fn has_each(text: &str, parts: &[&str]) -> bool {
 
 // The run has these lines, both threads are held, none of them to the end, and each place is passed once for
 // each step.
-fn runs_beside<R: Threads + Wait + Sync + AllocGlobal + Abort>(
+fn runs_beside<R: Threads + Wait + Sync + AllocGlobal>(
     rt: &R,
     case: &Case<'_>,
-) -> Result<(), Memory> {
+) -> Result<bool, Memory> {
     let gate = Beside::new(case.holds);
     let (status, written) = answer_beside(rt, case, &gate)?;
-    assert!(rt; status == 0);
-    assert!(rt; gate.held_both());
-    assert!(rt; has_each(text_of(&written), case.lines));
-    assert!(rt; gate.passes() == case.passes);
-    Ok(())
+    Ok(
+        status == 0
+            && gate.held_both()
+            && gate.passes() == case.passes
+            && has_each(text_of(&written), case.lines),
+    )
 }
 
 // Before slot 17 five nodes publish 85 statuses of four words, and four deliver the message of slot 12, of
@@ -166,84 +166,87 @@ const WORDS: u64 = 344;
 const FETCHES: u64 = 1;
 
 // In 20 slots there are 100 statuses, eight messages are delivered and two fetched, and the host writes.
+const LATE: Case<'static> = Case {
+    list: &[HEAD, FIRST, SLOT, LOADED, SLOT, SLOT],
+    script: "slots 20\non 0 0\non 1 0\non 2 0\non 3 0\non 4 0\nwrite 2 17 0102030405060708\n",
+    // The write waits at its word until the fetch has begun, and the fetch at its word until that one was put.
+    holds: [
+        Hold {
+            place: 2,
+            before: WORDS,
+            other: 5,
+            until: FETCHES + 1,
+        },
+        Hold {
+            place: 5,
+            before: FETCHES,
+            other: 3,
+            until: MESSAGES + 1,
+        },
+    ],
+    lines: &[
+        "slot 17 node 2 send peer 2 msg 0 mem 001f acc 1 rej 0 ack first clock 0\n",
+        "slot 17 host 2 write 1\n",
+    ],
+    passes: [109, 409, 109, 2, 2, 2],
+};
+
+const EARLY: Case<'static> = Case {
+    list: &[THREE_BUFFERS, FIRST, SLOT, LOADED, SLOT, SLOT],
+    script: "slots 20\non 0 0\non 1 0\non 2 0\non 3 0\non 4 0\nwrite 2 17 0102030405060708\nwrite 2 17 1112131415161718\n",
+    // The fetch waits until a second write begins, and this one until the fetch has all words of the first.
+    holds: [
+        Hold {
+            place: 1,
+            before: MESSAGES + 1,
+            other: 6,
+            until: FETCHES + 1,
+        },
+        Hold {
+            place: 4,
+            before: FETCHES,
+            other: 1,
+            until: MESSAGES + 2,
+        },
+    ],
+    lines: &[
+        "slot 17 node 2 send peer 2 msg 1 mem 001f acc 1 rej 0 ack first clock 0\n",
+        "slot 17 host 2 write 1\nslot 17 host 2 write 2\n",
+    ],
+    passes: [110, 410, 110, 2, 2, 2],
+};
+
 #[test]
-fn hosts_write_beside_fetches(rt: HostRuntime) -> Result<(), Memory> {
-    let late = Case {
-        list: &[HEAD, FIRST, SLOT, LOADED, SLOT, SLOT],
-        script: "slots 20\non 0 0\non 1 0\non 2 0\non 3 0\non 4 0\nwrite 2 17 0102030405060708\n",
-        // The write waits at its word until the fetch has begun, and the fetch at its word until that one was put.
-        holds: [
-            Hold {
-                place: 2,
-                before: WORDS,
-                other: 5,
-                until: FETCHES + 1,
-            },
-            Hold {
-                place: 5,
-                before: FETCHES,
-                other: 3,
-                until: MESSAGES + 1,
-            },
-        ],
-        lines: &[
-            "slot 17 node 2 send peer 2 msg 0 mem 001f acc 1 rej 0 ack first clock 0\n",
-            "slot 17 host 2 write 1\n",
-        ],
-        passes: [109, 409, 109, 2, 2, 2],
-    };
-    runs_beside(&rt, &late)?;
-    let early = Case {
-        list: &[THREE_BUFFERS, FIRST, SLOT, LOADED, SLOT, SLOT],
-        script: "slots 20\non 0 0\non 1 0\non 2 0\non 3 0\non 4 0\nwrite 2 17 0102030405060708\nwrite 2 17 1112131415161718\n",
-        // The fetch waits until a second write begins, and this one until the fetch has all words of the first.
-        holds: [
-            Hold {
-                place: 1,
-                before: MESSAGES + 1,
-                other: 6,
-                until: FETCHES + 1,
-            },
-            Hold {
-                place: 4,
-                before: FETCHES,
-                other: 1,
-                until: MESSAGES + 2,
-            },
-        ],
-        lines: &[
-            "slot 17 node 2 send peer 2 msg 1 mem 001f acc 1 rej 0 ack first clock 0\n",
-            "slot 17 host 2 write 1\nslot 17 host 2 write 2\n",
-        ],
-        passes: [110, 410, 110, 2, 2, 2],
-        ..late
-    };
-    runs_beside(&rt, &early)
+fn hosts_write_beside_fetches(rt: HostRuntime) {
+    assert!(rt;
+        matches!(runs_beside(&rt, &LATE), Ok(true)) && matches!(runs_beside(&rt, &EARLY), Ok(true))
+    );
 }
 
 // Four nodes publish 44 statuses before slot 11. In it the first one who comes waits until two more have, which are
 // those of the other half; the last of these waits until the first half has its second one.
+const HALVES: Case<'static> = Case {
+    list: &[HEAD, FIRST, SLOT, SLOT, SLOT],
+    script: "slots 15\non 0 0\non 1 0\non 2 0\non 3 0\nread 1 11 status\n",
+    holds: [
+        Hold {
+            place: 1,
+            before: 44,
+            other: 1,
+            until: 47,
+        },
+        Hold {
+            place: 1,
+            before: 46,
+            other: 1,
+            until: 48,
+        },
+    ],
+    lines: &["\nslot 11 host 1 read status "],
+    passes: [60, 240, 60, 1, 4, 1],
+};
+
 #[test]
-fn two_halves_have_as_many_nodes(rt: HostRuntime) -> Result<(), Memory> {
-    let case = Case {
-        list: &[HEAD, FIRST, SLOT, SLOT, SLOT],
-        script: "slots 15\non 0 0\non 1 0\non 2 0\non 3 0\nread 1 11 status\n",
-        holds: [
-            Hold {
-                place: 1,
-                before: 44,
-                other: 1,
-                until: 47,
-            },
-            Hold {
-                place: 1,
-                before: 46,
-                other: 1,
-                until: 48,
-            },
-        ],
-        lines: &["\nslot 11 host 1 read status "],
-        passes: [60, 240, 60, 1, 4, 1],
-    };
-    runs_beside(&rt, &case)
+fn two_halves_have_as_many_nodes(rt: HostRuntime) {
+    assert!(rt; matches!(runs_beside(&rt, &HALVES), Ok(true)));
 }

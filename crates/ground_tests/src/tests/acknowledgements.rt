@@ -11,81 +11,135 @@ fn doubting() -> AckState {
     state
 }
 
+// The states before a move: the last one in which node 4 is doubted.
+#[derive(Clone, Copy)]
+enum Before {
+    Closed,
+    First,
+    Doubt,
+}
+
+fn state_of(before: Before) -> AckState {
+    let mut state = AckState::new();
+    match before {
+        Before::Closed => state,
+        Before::First => {
+            state.after_send();
+            state
+        }
+        Before::Doubt => doubting(),
+    }
+}
+
+// A state, the verdict on the frame of node 5, and the move and the state that follow.
+const ROWS: &[(Before, Verdict, AckMove, Ack)] = &[
+    (
+        Before::Closed,
+        Verdict::Correct,
+        AckMove::Accept,
+        Ack::Closed,
+    ),
+    (
+        Before::First,
+        Verdict::Correct,
+        AckMove::Accept,
+        Ack::Closed,
+    ),
+    (
+        Before::First,
+        Verdict::Tentative,
+        AckMove::Hold,
+        Ack::Doubt(5),
+    ),
+    (
+        Before::Doubt,
+        Verdict::Correct,
+        AckMove::Resolve { other: 4 },
+        Ack::Closed,
+    ),
+    (
+        Before::Doubt,
+        Verdict::Denied,
+        AckMove::Leave,
+        Ack::Doubt(4),
+    ),
+    (
+        Before::First,
+        Verdict::Incorrect,
+        AckMove::Reject { counted: true },
+        Ack::First,
+    ),
+    (
+        Before::Doubt,
+        Verdict::Invalid,
+        AckMove::Reject { counted: true },
+        Ack::Doubt(4),
+    ),
+    (
+        Before::First,
+        Verdict::Null,
+        AckMove::Reject { counted: false },
+        Ack::First,
+    ),
+    (
+        Before::Closed,
+        Verdict::Tentative,
+        AckMove::Reject { counted: true },
+        Ack::Closed,
+    ),
+    (
+        Before::Doubt,
+        Verdict::Tentative,
+        AckMove::Reject { counted: true },
+        Ack::Doubt(4),
+    ),
+    (
+        Before::First,
+        Verdict::Denied,
+        AckMove::Reject { counted: true },
+        Ack::First,
+    ),
+];
+
+fn follows(before: Before, verdict: Verdict, asked: AckMove, after: Ack) -> bool {
+    let mut state = state_of(before);
+    let answer = state.step(5, verdict);
+    let is_closed = state.value() == Ack::Closed;
+    answer == asked && state.value() == after && state.is_open() != is_closed
+}
+
+fn all_follow() -> bool {
+    for (before, verdict, asked, after) in ROWS {
+        if !follows(*before, *verdict, *asked, *after) {
+            return false;
+        }
+    }
+    true
+}
+
 #[test]
 fn moves_follow_the_table(rt: HostRuntime) {
-    let closed = AckState::new();
-    let mut first = closed;
-    first.after_send();
-    let doubt = doubting();
-    let rows: &[(AckState, Verdict, AckMove, Ack)] = &[
-        (closed, Verdict::Correct, AckMove::Accept, Ack::Closed),
-        (first, Verdict::Correct, AckMove::Accept, Ack::Closed),
-        (first, Verdict::Tentative, AckMove::Hold, Ack::Doubt(5)),
-        (
-            doubt,
-            Verdict::Correct,
-            AckMove::Resolve { other: 4 },
-            Ack::Closed,
-        ),
-        (doubt, Verdict::Denied, AckMove::Leave, Ack::Doubt(4)),
-        (
-            first,
-            Verdict::Incorrect,
-            AckMove::Reject { counted: true },
-            Ack::First,
-        ),
-        (
-            doubt,
-            Verdict::Invalid,
-            AckMove::Reject { counted: true },
-            Ack::Doubt(4),
-        ),
-        (
-            first,
-            Verdict::Null,
-            AckMove::Reject { counted: false },
-            Ack::First,
-        ),
-        (
-            closed,
-            Verdict::Tentative,
-            AckMove::Reject { counted: true },
-            Ack::Closed,
-        ),
-        (
-            doubt,
-            Verdict::Tentative,
-            AckMove::Reject { counted: true },
-            Ack::Doubt(4),
-        ),
-        (
-            first,
-            Verdict::Denied,
-            AckMove::Reject { counted: true },
-            Ack::First,
-        ),
-    ];
-    for (before, verdict, asked, after) in rows.iter() {
-        let mut state = *before;
-        let answer = state.step(5, *verdict);
-        assert!(rt; answer == *asked, "at {verdict:?}");
-        assert!(rt; state.value() == *after, "at {verdict:?}");
-        let closed = state.value() == Ack::Closed;
-        assert!(rt; state.is_open() != closed, "at {verdict:?}");
-    }
+    assert!(rt; all_follow());
+}
+
+// Whether node 2 tells these candidates on a frame of node 5, where it holds nodes 1 and 4 for members.
+fn has_candidates(state: &AckState, first: u32, second: Option<u32>) -> bool {
+    let members = NodeSet::empty().with(1).with(4);
+    let (one, other) = state.candidates(2, members, 5);
+    one.bits() == first
+        && match other {
+            Some(other) => second == Some(other.bits()),
+            None => second.is_none(),
+        }
 }
 
 #[test]
 fn candidates_tell_whether_a_frame_was_received(rt: HostRuntime) {
-    let members = NodeSet::empty().with(1).with(4);
-    let mut state = AckState::new();
-    let (first, second) = state.candidates(2, members, 5);
-    assert!(rt; first.bits() == 0b11_0010 && second.is_none());
-    state.after_send();
-    let (first, second) = state.candidates(2, members, 5);
-    assert!(rt; first.bits() == 0b11_0110);
-    assert!(rt; second.expect(&rt, "no second candidate").bits() == 0b11_0010);
-    let (first, second) = doubting().candidates(2, members, 5);
-    assert!(rt; first.bits() == 0b10_0110);
-    assert!(rt; second.expect(&rt, "no second candidate").bits() == 0b11_0010);
+    let closed = state_of(Before::Closed);
+    let first = state_of(Before::First);
+    assert!(rt;
+        has_candidates(&closed, 0b11_0010, None)
+            && has_candidates(&first, 0b11_0110, Some(0b11_0010))
+            && has_candidates(&doubting(), 0b10_0110, Some(0b11_0010))
+    );
 }

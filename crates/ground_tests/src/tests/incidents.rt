@@ -1,9 +1,8 @@
 //! What happens to nodes in slots at the edges of events, worked out by hand.
-ghost use Rattle.std.specs.Prelude.{◌≡◌, ℕ, ◌+◌, ◌<◌, ◌≤◌, length, All, IfOk, ◌∷◌, []};
+ghost use Rattle.std.specs.Prelude.{◌≡◌, ℕ, ◌+◌, ◌<◌, ◌≤◌, length, unsigned_abs, All, IfOk, ◌∷◌, []};
 ghost use Rattle.ttp_world.specs.Events.{IsBounded};
 
 use std::alloc::Global;
-use std::test::Fail;
 use ttp_base::{List, Memory};
 use ttp_world::{
     Channels, Event, Events, Fault, FlippedBit, HostRead, Incidents, Kind, LastLookUp, Medl,
@@ -86,60 +85,81 @@ fn faults(alloc: Global) -> Result<List<Event>, Memory>
     let events = and(events, sending(0, ON_A, Fault::Silence, 6, 8))?;
     let events = and(events, receiving(23, ON_B, Fault::Noise, 0, 19_999))?;
     let events = and(events, receiving(23, ON_A, Fault::Silence, 19_999, 19_999))?;
+    with_flips(events)
+}
+
+fn with_flips(events: List<Event>) -> Result<List<Event>, Memory>
+    requires room { length events ≤ 16 }
+    requires events { All IsBounded events }
+    ensures len { IfOk result (λ events. length events ≤ 20) }
+    ensures events { IfOk result (All IsBounded) }
+{
     let events = and(events, flip(2, ON_A, 9, 4))?;
     let events = and(events, flip(2, ON_BOTH, 9, 4))?;
     let events = and(events, flip(2, ON_A, 8, 5))?;
-    let events = and(events, flip(2, ON_B, 2_047, 4))?;
-    Ok(events)
+    and(events, flip(2, ON_B, 2_047, 4))
 }
 
-// Those, with errors and jumps that add up, and a node that is armed in the last slot.
+fn error(value: i64, from: u32, to: u32) -> Event
+    requires { unsigned_abs value ≤ 10000 }
+    ensures { IsBounded result }
+{
+    Event::Error {
+        node: 1,
+        value,
+        from,
+        to,
+    }
+}
+
+fn jump(value: i64) -> Event
+    requires { unsigned_abs value ≤ 10000 }
+    ensures { IsBounded result }
+{
+    Event::Jump {
+        node: 1,
+        value,
+        slot: 12,
+    }
+}
+
+// Events with errors and jumps that add up.
+fn with_clocks(events: List<Event>) -> Result<List<Event>, Memory>
+    requires room { length events ≤ 20 }
+    requires events { All IsBounded events }
+    ensures len { IfOk result (λ events. length events ≤ 25) }
+    ensures events { IfOk result (All IsBounded) }
+{
+    let events = and(events, error(7, 10, 12))?;
+    let events = and(events, error(-3, 12, 14))?;
+    let events = and(events, error(10_000, 12, 12))?;
+    let events = and(events, jump(5))?;
+    and(events, jump(-2))
+}
+
+// All of those, and a node that is armed in the last slot.
 fn all_kinds(alloc: Global) -> Result<Events, Memory> {
-    let events = faults(alloc)?;
-    let (node, slot) = (1, 12);
-    let late = Event::Error {
-        node,
-        value: 7,
-        from: 10,
-        to: slot,
-    };
-    let early = Event::Error {
-        node,
-        value: -3,
-        from: slot,
-        to: 14,
-    };
-    let most = Event::Error {
-        node,
-        value: 10_000,
-        from: slot,
-        to: slot,
-    };
-    let ahead = Event::Jump {
-        node,
-        value: 5,
-        slot,
-    };
-    let back = Event::Jump {
-        node,
-        value: -2,
-        slot,
-    };
+    let events = with_clocks(faults(alloc)?)?;
     let armed = Event::Arm {
         node: 22,
         slot: 19_999,
     };
-    let events = and(and(and(events, late)?, early)?, most)?;
-    let events = and(and(and(events, ahead)?, back)?, armed)?;
-    Events::index(alloc, events)
+    Events::index(alloc, and(events, armed)?)
+}
+
+fn switched(alloc: Global) -> Result<List<Option<u32>>, Memory>
+    ensures { IfOk result (λ on. length on ≡ 2) }
+{
+    let mut on = List::new(alloc);
+    on.push(Some(3))?;
+    on.push(None)?;
+    Ok(on)
 }
 
 fn script_of(alloc: Global, events: Events) -> Result<Script, Memory>
     ensures { IfOk result (λ script. length script.on ≡ 2) }
 {
-    let mut on = List::new(alloc);
-    on.push(Some(3))?;
-    on.push(None)?;
+    let on = switched(alloc)?;
     Ok(Script {
         slots: 20_000,
         on,
@@ -251,29 +271,35 @@ fn is_due(script: &Script, edge: &(u8, u32, Incidents), last: &mut LastLookUp) -
     script.incidents(node, slot) == due && is_due_after(script, edge, last)
 }
 
-// The first edge in the order of the table, and then backwards, at which something else happens. Backwards,
-// each look-up begins behind its answer.
-fn wrong_edge(script: &Script) -> Option<(u8, u32)> {
-    let mut last = LastLookUp::none();
+// Whether what is due happens at each edge in the order of the table.
+fn has_edges(script: &Script, last: &mut LastLookUp) -> bool {
     for edge in EDGES {
-        if !is_due(script, edge, &mut last) {
-            return Some((edge.0, edge.1));
+        if !is_due(script, edge, last) {
+            return false;
         }
     }
-    for edge in EDGES.iter().rev() {
-        if !is_due_after(script, edge, &mut last) {
-            return Some((edge.0, edge.1));
-        }
-    }
-    None
+    true
 }
 
-#[test]
-fn incidents_at_the_edges_of_events(rt: HostRuntime) -> Result<(), Fail> {
-    let script = full_script(rt.alloc())?;
-    let wrong = wrong_edge(&script);
-    assert!(rt; wrong.is_none(), "node and slot {wrong:?}");
-    Ok(())
+// The same backwards, where each look-up begins behind its answer.
+fn has_edges_backwards(script: &Script, last: &mut LastLookUp) -> bool {
+    for edge in EDGES.iter().rev() {
+        if !is_due_after(script, edge, last) {
+            return false;
+        }
+    }
+    true
+}
+
+fn has_all_edges(script: &Script) -> bool {
+    let mut last = LastLookUp::none();
+    has_edges(script, &mut last) && has_edges_backwards(script, &mut last)
+}
+
+// Whether node 0 is silent from slot 3 on, until something else happens in slot 5.
+fn stands(script: &Script) -> bool {
+    let standing = script.incidents_from(0, 3, &mut LastLookUp::none());
+    standing.incidents == SILENCED && standing.until == 5
 }
 
 const FLIPS: &[FlippedBit] = &[
@@ -294,17 +320,24 @@ const FLIPS: &[FlippedBit] = &[
 // Nodes and slots in which nothing is flipped.
 const UNFLIPPED: &[(u8, u32)] = &[(2, 3), (2, 6), (1, 4), (3, 4)];
 
-#[test]
-fn flips_in_the_order_of_the_script(rt: HostRuntime) -> Result<(), Fail> {
-    let script = full_script(rt.alloc())?;
-    assert!(rt; script.flips(2, 4) == FLIPS && script.flips(2, 5).len() == 1);
+// Whether the flips are in the order of the script.
+fn has_flips(script: &Script) -> bool {
     for (node, slot) in UNFLIPPED {
-        assert!(rt;
-            script.flips(*node, *slot).is_empty(),
-            "node {node} in slot {slot}"
-        );
+        if !script.flips(*node, *slot).is_empty() {
+            return false;
+        }
     }
-    Ok(())
+    script.flips(2, 4) == FLIPS && script.flips(2, 5).len() == 1
+}
+
+fn happens(alloc: Global) -> Result<bool, Memory> {
+    let script = full_script(alloc)?;
+    Ok(has_all_edges(&script) && stands(&script) && has_flips(&script))
+}
+
+#[test]
+fn incidents_at_the_edges_of_events(rt: HostRuntime) {
+    assert!(rt; matches!(happens(rt.alloc()), Ok(true)));
 }
 
 fn write(node: u8, slot: u32, bytes: &[u8]) -> Event
@@ -362,13 +395,21 @@ fn is_written(script: &Script, place: usize, host: u8, bytes: &[u8]) -> bool {
     }
 }
 
+fn has_payloads(script: &Script) -> bool {
+    is_written(script, 2, 1, &[2, 3])
+        && is_written(script, 6, 0, &[])
+        && script.write(3).is_none()
+        && script.write(7).is_none()
+}
+
+fn has_lines_of_hosts(alloc: Global) -> Result<bool, Memory> {
+    let script = script_of(alloc, of_hosts(alloc)?)?;
+    Ok(has_reads(&script) && has_writes(&script) && has_payloads(&script))
+}
+
 #[test]
-fn lines_of_hosts_in_the_order_of_the_script(rt: HostRuntime) -> Result<(), Fail> {
-    let script = script_of(rt.alloc(), of_hosts(rt.alloc())?)?;
-    assert!(rt; has_reads(&script) && has_writes(&script));
-    assert!(rt; is_written(&script, 2, 1, &[2, 3]) && is_written(&script, 6, 0, &[]));
-    assert!(rt; script.write(3).is_none() && script.write(7).is_none());
-    Ok(())
+fn lines_of_hosts_in_the_order_of_the_script(rt: HostRuntime) {
+    assert!(rt; matches!(has_lines_of_hosts(rt.alloc()), Ok(true)));
 }
 
 #[test]
@@ -385,18 +426,23 @@ fn is_quiet(script: &Script) -> bool {
 // A node, a slot, and whether the node is on in it.
 const SWITCHED: &[(u8, u32, bool)] = &[(0, 2, false), (0, 3, true), (1, 19_999, false)];
 
-#[test]
-fn nothing_happens_without_events(rt: HostRuntime) -> Result<(), Fail> {
-    let script = script_of(rt.alloc(), Events::none(rt.alloc()))?;
-    assert!(rt; is_quiet(&script));
+fn are_switched(script: &Script) -> bool {
     for (node, slot, on) in SWITCHED {
-        assert!(rt; (*node as usize) < script.on.len());
-        assert!(rt;
-            script.is_on(*node, *slot) == *on,
-            "node {node} in slot {slot}"
-        );
+        if (*node as usize) >= script.on.len() || script.is_on(*node, *slot) != *on {
+            return false;
+        }
     }
-    Ok(())
+    true
+}
+
+fn nothing_happens(alloc: Global) -> Result<bool, Memory> {
+    let script = script_of(alloc, Events::none(alloc))?;
+    Ok(is_quiet(&script) && are_switched(&script))
+}
+
+#[test]
+fn nothing_happens_without_events(rt: HostRuntime) {
+    assert!(rt; matches!(nothing_happens(rt.alloc()), Ok(true)));
 }
 
 // A list whose fields are all told from one another.
@@ -446,10 +492,12 @@ fn is_copied(copy: &Medl) -> bool {
     numbers && copy.slots.len() == 1 && is_copied_plan(copy.slots.get(0))
 }
 
+fn copies(alloc: Global) -> Result<bool, Memory> {
+    let copy = full_list(alloc)?.copy(alloc)?;
+    Ok(is_copied(&copy))
+}
+
 #[test]
-fn copy_of_a_list(rt: HostRuntime) -> Result<(), Fail> {
-    let list = full_list(rt.alloc())?;
-    let copy = list.copy(rt.alloc())?;
-    assert!(rt; is_copied(&copy));
-    Ok(())
+fn copy_of_a_list(rt: HostRuntime) {
+    assert!(rt; matches!(copies(rt.alloc()), Ok(true)));
 }

@@ -2,9 +2,8 @@
 ghost use Rattle.std.specs.Prelude.{◌≡◌, ◌≤◌, All, IfOk, length};
 ghost use Rattle.ttp_world.specs.Events.{IsBounded};
 
-use medium::{Arrival, Medium, Outgoing};
+use medium::{Arrival, Medium, Outgoing, received};
 use std::alloc::Global;
-use std::test::Fail;
 use ttp_base::{List, Memory};
 use ttp_world::{Channel, Channels, Event, Events, Fault, Medl, Script};
 
@@ -103,11 +102,11 @@ fn script(alloc: Global, lines: [Line; 2]) -> Result<Script, Memory> {
     })
 }
 
-fn is_heard(arrival: Arrival, heard: Heard) -> bool {
+fn is_heard(arrival: &Arrival, heard: Heard) -> bool {
     match (arrival, heard) {
         (Arrival::Silence, Heard::Silence) | (Arrival::Noise, Heard::Noise) => true,
         (Arrival::Bits { bytes, offset }, Heard::Bits(wanted, ahead)) => {
-            bytes == wanted && offset == ahead
+            *bytes == wanted && *offset == ahead
         }
         _ => false,
     }
@@ -287,27 +286,53 @@ fn put_frames(medium: &mut Medium, script: &Script, sends: [bool; 2]) {
     }
 }
 
-// Whether node 2 hears on channels A and B what it is due to hear.
-fn are_heard(alloc: Global, medium: &mut Medium, row: &Row) -> Result<[bool; 2], Memory> {
-    let (lines, sends, a, b) = *row;
-    let script = script(alloc, lines)?;
-    put_frames(medium, &script, sends);
+// Whether node 2 hears on channels A and B what it is due to hear, by a script of the lines of a row.
+fn hears(medium: &mut Medium, script: &Script, row: &Row) -> bool {
+    let (_, sends, a, b) = *row;
+    put_frames(medium, script, sends);
     let incidents = script.incidents(2, 3);
-    Ok([
-        is_heard(medium.heard(&incidents, Channel::A), a),
-        is_heard(medium.heard(&incidents, Channel::B), b),
-    ])
+    is_heard(&medium.heard(&incidents, Channel::A), a)
+        && is_heard(&medium.heard(&incidents, Channel::B), b)
+}
+
+fn are_heard(alloc: Global, medium: &mut Medium, row: &Row) -> Result<bool, Memory> {
+    let script = script(alloc, row.0)?;
+    Ok(hears(medium, &script, row))
+}
+
+fn all_are_heard(alloc: Global) -> Result<bool, Memory> {
+    let mut medium = Medium::new(alloc, &empty_list(alloc))?;
+    for row in ROWS {
+        if !are_heard(alloc, &mut medium, row)? {
+            return Ok(false);
+        }
+    }
+    Ok(true)
 }
 
 #[test]
-fn a_third_node_hears_what_is_left(rt: HostRuntime) -> Result<(), Fail> {
-    let mut medium = Medium::new(rt.alloc(), &empty_list(rt.alloc()))?;
-    for (i, row) in ROWS.iter().enumerate() {
-        let [on_a, on_b] = are_heard(rt.alloc(), &mut medium, row)?;
-        assert!(rt; on_a, "channel A of row {i}");
-        assert!(rt; on_b, "channel B of row {i}");
-    }
-    Ok(())
+fn a_third_node_hears_what_is_left(rt: HostRuntime) {
+    assert!(rt; matches!(all_are_heard(rt.alloc()), Ok(true)));
+}
+
+// Whether node 2 hears nothing of the frame that a receiver without faults hears.
+fn hears_less(medium: &mut Medium, script: &Script) -> bool {
+    put_frames(medium, script, FIRST);
+    let carried = medium.carried(Channel::A);
+    let heard = received(&carried, &script.incidents(2, 3), Channel::A);
+    is_heard(&carried, ZERO) && is_heard(heard, Heard::Silence)
+}
+
+// The receiver of node 2 is dead on channel A.
+fn is_received(alloc: Global) -> Result<bool, Memory> {
+    let mut medium = Medium::new(alloc, &empty_list(alloc))?;
+    let script = script(alloc, [Line::ReceiveSilence(2, A), Line::None])?;
+    Ok(hears_less(&mut medium, &script))
+}
+
+#[test]
+fn a_receiver_with_a_fault_hears_less_than_is_carried(rt: HostRuntime) {
+    assert!(rt; matches!(is_received(rt.alloc()), Ok(true)));
 }
 
 #[test]

@@ -1,28 +1,34 @@
 //! The places of a cycle of two rounds of four slots, one after the other, worked out by hand.
-ghost use Rattle.std.specs.Prelude.{◌≡◌, [], ◌∷◌, length, true, false, IfOk};
+ghost use Rattle.std.specs.Prelude.{◌≡◌, [], ◌∷◌, ◌++◌, length, true, false, IfOk, OnOk};
 ghost use Rattle.ttp_world.specs.declared.medl.Kind.TheVariants as kind;
 ghost use Rattle.ttp_world.specs.Medl.{IsValid};
 
 use slot_clock::SlotClock;
 use std::alloc::Global;
-use std::test::Fail;
 use ttp_base::{List, Memory, NodeSet};
 use ttp_world::{CState, Kind, Medl, SlotPlan};
 
-fn slot_plan(alloc: Global) -> Result<SlotPlan, Memory>
-    ensures { IfOk result (λ plan. plan ≡ record {
+fn two_kinds(alloc: Global) -> Result<List<Kind>, Memory>
+    ensures { IfOk result (λ kinds. kinds ≡ kind.I ∷ kind.I ∷ []) }
+{
+    let mut kinds = List::new(alloc);
+    kinds.push(Kind::I)?;
+    kinds.push(Kind::I)?;
+    Ok(kinds)
+}
+
+fn add_slot(alloc: Global, slots: &mut List<SlotPlan>) -> Result<(), Memory>
+    ensures { OnOk result (slots.new ≡ slots.old ++ record {
       kinds = kind.I ∷ kind.I ∷ [];
       payload = 0;
       sync = true;
       start = true;
       requests = false;
       live = 1;
-    }) }
+    } ∷ []) }
 {
-    let mut kinds = List::new(alloc);
-    kinds.push(Kind::I)?;
-    kinds.push(Kind::I)?;
-    Ok(SlotPlan {
+    let kinds = two_kinds(alloc)?;
+    slots.push(SlotPlan {
         kinds,
         payload: 0,
         sync: true,
@@ -39,10 +45,10 @@ fn four_nodes(alloc: Global) -> Result<Medl, Memory>
     ensures slots { IfOk result (λ list. length list.slots ≡ 4) }
 {
     let mut slots = List::new(alloc);
-    slots.push(slot_plan(alloc)?)?;
-    slots.push(slot_plan(alloc)?)?;
-    slots.push(slot_plan(alloc)?)?;
-    slots.push(slot_plan(alloc)?)?;
+    add_slot(alloc, &mut slots)?;
+    add_slot(alloc, &mut slots)?;
+    add_slot(alloc, &mut slots)?;
+    add_slot(alloc, &mut slots)?;
     Ok(Medl {
         version: 1,
         rounds: 2,
@@ -56,9 +62,48 @@ fn four_nodes(alloc: Global) -> Result<Medl, Memory>
     })
 }
 
-#[test]
-fn places_follow_one_another(rt: HostRuntime) -> Result<(), Fail> {
-    let list = four_nodes(rt.alloc())?;
+// The time, round and slot of each place, and whether it ends a round.
+const PLACES: &[(u16, u8, u8, bool)] = &[
+    (65534, 0, 2, false),
+    (65535, 0, 3, true),
+    (0, 1, 0, false),
+    (1, 1, 1, false),
+    (2, 1, 2, false),
+    (3, 1, 3, true),
+    (4, 0, 0, false),
+];
+
+// Whether a clock stands at a place.
+fn stands_at(clock: &SlotClock, members: NodeSet, place: &(u16, u8, u8, bool)) -> bool {
+    let (time, round, slot, last) = *place;
+    let cstate = clock.cstate(members);
+    let is_state = cstate.time == time
+        && cstate.round == round
+        && cstate.slot == slot
+        && cstate.members == members;
+    is_state && is_at(clock, round, slot) && clock.ends_round() == last
+}
+
+fn is_at(clock: &SlotClock, round: u8, slot: u8) -> bool {
+    clock.round() == round
+        && clock.sender() == slot
+        && clock.is_slot_of(slot)
+        && !clock.is_slot_of(200)
+}
+
+fn follows(clock: &mut SlotClock, members: NodeSet) -> bool {
+    for place in PLACES {
+        if !stands_at(clock, members, place) {
+            return false;
+        }
+        clock.next();
+    }
+    true
+}
+
+// Whether the places of the list follow one another.
+fn follow_in_list(alloc: Global) -> Result<bool, Memory> {
+    let list = four_nodes(alloc)?;
     let members = NodeSet::empty().with(1).with(3);
     let mut clock = SlotClock::at(
         &list,
@@ -69,24 +114,10 @@ fn places_follow_one_another(rt: HostRuntime) -> Result<(), Fail> {
             members,
         },
     );
-    // The time, round and slot of each place, and whether it ends a round.
-    let rows: &[(u16, u8, u8, bool)] = &[
-        (65534, 0, 2, false),
-        (65535, 0, 3, true),
-        (0, 1, 0, false),
-        (1, 1, 1, false),
-        (2, 1, 2, false),
-        (3, 1, 3, true),
-        (4, 0, 0, false),
-    ];
-    for (time, round, slot, last) in rows.iter() {
-        let cstate = clock.cstate(members);
-        assert!(rt; cstate.time == *time && cstate.members == members);
-        assert!(rt; cstate.round == *round && clock.round() == *round);
-        assert!(rt; cstate.slot == *slot && clock.sender() == *slot);
-        assert!(rt; clock.is_slot_of(*slot) && !clock.is_slot_of(200));
-        assert!(rt; clock.ends_round() == *last);
-        clock.next();
-    }
-    Ok(())
+    Ok(follows(&mut clock, members))
+}
+
+#[test]
+fn places_follow_one_another(rt: HostRuntime) {
+    assert!(rt; matches!(follow_in_list(rt.alloc()), Ok(true)));
 }

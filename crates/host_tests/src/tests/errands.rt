@@ -107,28 +107,34 @@ fn count_in_threads<R: Threads + Wait + Sync>(
     Ok(counted)
 }
 
-#[test]
-fn all_rounds_are_counted(rt: HostRuntime) -> Result<(), AllocError> {
-    for rounds in [0u64, 1, 2, 1000] {
-        let counts = count_in_threads(&rt, rt.alloc(), rounds)?;
-        assert_eq!(rt; counts, (rounds, rounds));
+// Whether both numbers are counted up in so many rounds.
+fn is_counted<R: Threads + Wait + Sync>(rt: &R, alloc: Global, rounds: u64) -> bool
+    requires { rounds ≤ 1000 }
+{
+    match count_in_threads(rt, alloc, rounds) {
+        Ok((front, back)) => front == rounds && back == rounds,
+        Err(_) => false,
     }
-    Ok(())
+}
+
+#[test]
+fn all_rounds_are_counted(rt: HostRuntime) {
+    for rounds in [0u64, 1, 2, 1000] {
+        assert!(rt; is_counted(&rt, rt.alloc(), rounds));
+    }
+}
+
+// Whether a giver without a worker counts both numbers up, after which a worker that comes has nothing to do.
+fn is_counted_alone<R: Wait>(rt: &R, alloc: Global) -> Result<bool, AllocError> {
+    let (table, seat) = open::<Tally, CountUp>(alloc)?;
+    let (giver, worker) = hire(&table.shared, seat);
+    let (front, back) = count_up(rt, &mut Some(giver), 10);
+    serve(rt, &mut Some(worker));
+    Ok(front == 10 && back == 10)
 }
 
 // A worker that never comes is no hang: who gave it a job takes it back.
 #[test]
-fn a_job_that_nobody_begins_is_done_all_the_same(rt: HostRuntime) -> Result<(), AllocError> {
-    let (table, seat) = open::<Tally, CountUp>(rt.alloc())?;
-    let (giver, worker) = hire(&table.shared, seat);
-    assert_eq!(rt; count_up(&rt, &mut Some(giver), 10), (10, 10));
-    // Its giver is gone, so it has nothing to do.
-    worker.serve(
-        &rt,
-        &|job: Tally| -> Tally
-            requires { job.count < 1000 }
-            ensures { result.count ≡ job.count + 1 }
-        { counted_up(job) },
-    );
-    Ok(())
+fn a_job_that_nobody_begins_is_done_all_the_same(rt: HostRuntime) {
+    assert!(rt; matches!(is_counted_alone(&rt, rt.alloc()), Ok(true)));
 }

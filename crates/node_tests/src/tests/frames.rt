@@ -91,7 +91,7 @@ fn place_of(slot: u8, time: u16, members: NodeSet) -> CState {
 
 // What came on a channel: the frame that a node expects, the same with the node itself taken out, or the
 // first of them so late that it is outside the window.
-#[derive(Clone, Copy, Debug)]
+#[derive(Clone, Copy)]
 enum Came {
     Silence,
     Noise,
@@ -286,54 +286,63 @@ fn decides(
     Ok(judges(rt, &mut node, &list, others, came, entry, byte))
 }
 
+// Whether a receiver is answered, what comes on the channels, the verdict and the deviation that it enters, and
+// the first byte that it delivers.
+type Judgement = (bool, Came, Came, Verdict, i64, Option<u8>);
+
+const JUDGEMENTS: &[Judgement] = &[
+    (true, Came::Right, Came::Wrong, Verdict::Correct, 7, Some(7)),
+    (true, Came::Right, Came::Late, Verdict::Correct, 7, Some(7)),
+    (true, Came::Noise, Came::Right, Verdict::Correct, 7, Some(8)),
+    (true, Came::Late, Came::Right, Verdict::Correct, 7, Some(8)),
+    (true, Came::Wrong, Came::Right, Verdict::Correct, 7, Some(8)),
+    (
+        true,
+        Came::Wrong,
+        Came::Silence,
+        Verdict::Incorrect,
+        7,
+        None,
+    ),
+    (true, Came::Late, Came::Wrong, Verdict::Incorrect, 7, None),
+    (
+        false,
+        Came::Right,
+        Came::Wrong,
+        Verdict::Correct,
+        7,
+        Some(7),
+    ),
+    (
+        false,
+        Came::Silence,
+        Came::Wrong,
+        Verdict::Tentative,
+        7,
+        None,
+    ),
+    (true, Came::Late, Came::Late, Verdict::Invalid, 997, None),
+    (true, Came::Noise, Came::Silence, Verdict::Invalid, 0, None),
+    (true, Came::Silence, Came::Silence, Verdict::Null, 0, None),
+];
+
+fn decides_as_due(rt: &impl Abort, alloc: Global, row: &Judgement) -> bool {
+    let (answered, on_a, on_b, verdict, deviation, byte) = *row;
+    let entry = Entry::Judged {
+        sender: 1,
+        verdict,
+        deviation,
+    };
+    matches!(
+        decides(rt, alloc, answered, (on_a, on_b), &entry, byte),
+        Ok(true)
+    )
+}
+
 #[test]
 fn better_channel_decides(rt: HostRuntime) {
-    let rows: &[(bool, Came, Came, Verdict, i64, Option<u8>)] = &[
-        (true, Came::Right, Came::Wrong, Verdict::Correct, 7, Some(7)),
-        (true, Came::Right, Came::Late, Verdict::Correct, 7, Some(7)),
-        (true, Came::Noise, Came::Right, Verdict::Correct, 7, Some(8)),
-        (true, Came::Late, Came::Right, Verdict::Correct, 7, Some(8)),
-        (true, Came::Wrong, Came::Right, Verdict::Correct, 7, Some(8)),
-        (
-            true,
-            Came::Wrong,
-            Came::Silence,
-            Verdict::Incorrect,
-            7,
-            None,
-        ),
-        (true, Came::Late, Came::Wrong, Verdict::Incorrect, 7, None),
-        (
-            false,
-            Came::Right,
-            Came::Wrong,
-            Verdict::Correct,
-            7,
-            Some(7),
-        ),
-        (
-            false,
-            Came::Silence,
-            Came::Wrong,
-            Verdict::Tentative,
-            7,
-            None,
-        ),
-        (true, Came::Late, Came::Late, Verdict::Invalid, 997, None),
-        (true, Came::Noise, Came::Silence, Verdict::Invalid, 0, None),
-        (true, Came::Silence, Came::Silence, Verdict::Null, 0, None),
-    ];
-    for (answered, on_a, on_b, verdict, deviation, byte) in rows {
-        let entry = Entry::Judged {
-            sender: 1,
-            verdict: *verdict,
-            deviation: *deviation,
-        };
-        let came = (*on_a, *on_b);
-        assert!(rt;
-            decides(&rt, rt.alloc(), *answered, came, &entry, *byte) == Ok(true),
-            "{on_a:?} {on_b:?}"
-        );
+    for row in JUDGEMENTS {
+        assert!(rt; decides_as_due(&rt, rt.alloc(), row));
     }
 }
 
@@ -381,22 +390,34 @@ fn joins(
     Ok(enters(rt, &mut node, &list, came, entry))
 }
 
+// Whether a node joins as it is due to on what comes on the channels, with this deviation where it joins.
+fn joins_as_due(
+    rt: &impl Abort,
+    alloc: Global,
+    came: (Came, Came),
+    deviation: Option<i64>,
+) -> bool {
+    let entry = match deviation {
+        Some(deviation) => joined(deviation),
+        None => Entry::Waited,
+    };
+    matches!(joins(rt, alloc, came, &entry), Ok(true))
+}
+
+const JOINS: &[(Came, Came, Option<i64>)] = &[
+    (Came::Right, Came::Late, Some(7)),
+    (Came::Late, Came::Right, Some(997)),
+    (Came::Noise, Came::Right, Some(7)),
+    (Came::Silence, Came::Right, Some(7)),
+    (Came::Wrong, Came::Right, Some(7)),
+    (Came::Noise, Came::Wrong, None),
+    (Came::Silence, Came::Silence, None),
+];
+
 #[test]
 fn nodes_join_on_either_channel(rt: HostRuntime) {
-    let rows: &[(Came, Came, Entry)] = &[
-        (Came::Right, Came::Late, joined(7)),
-        (Came::Late, Came::Right, joined(997)),
-        (Came::Noise, Came::Right, joined(7)),
-        (Came::Silence, Came::Right, joined(7)),
-        (Came::Wrong, Came::Right, joined(7)),
-        (Came::Noise, Came::Wrong, Entry::Waited),
-        (Came::Silence, Came::Silence, Entry::Waited),
-    ];
-    for (on_a, on_b, entry) in rows {
-        assert!(rt;
-            joins(&rt, rt.alloc(), (*on_a, *on_b), entry) == Ok(true),
-            "{on_a:?} {on_b:?}"
-        );
+    for (on_a, on_b, deviation) in JOINS {
+        assert!(rt; joins_as_due(&rt, rt.alloc(), (*on_a, *on_b), *deviation));
     }
 }
 
@@ -466,5 +487,5 @@ fn is_denied(rt: &impl Abort, alloc: Global) -> Result<bool, Memory> {
 
 #[test]
 fn denied_node_leaves(rt: HostRuntime) {
-    assert!(rt; is_denied(&rt, rt.alloc()) == Ok(true));
+    assert!(rt; matches!(is_denied(&rt, rt.alloc()), Ok(true)));
 }

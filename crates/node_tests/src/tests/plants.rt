@@ -184,10 +184,9 @@ fn has_started(alloc: Global) -> Result<bool, Memory> {
 fn a_cluster_starts(rt: HostRuntime) {
     let alloc = rt.alloc();
     laws::plants_of_scripts_that_agree();
-    assert!(rt; begins(alloc) == Ok(true));
     // Node 0 waits for two rounds, then starts, and node 1 sends the first frame after it.
     for slots in 1..10u32 {
-        assert!(rt; stands_at_0(alloc, slots) == Ok(true), "in slot {slots}");
+        assert!(rt; matches!(stands_at_0(alloc, slots), Ok(true)));
     }
-    assert!(rt; has_started(alloc) == Ok(true));
+    assert!(rt; matches!(begins(alloc), Ok(true)) && matches!(has_started(alloc), Ok(true)));
 }

@@ -4,23 +4,16 @@ ghost use Rattle.ttp_world.specs.Medl.{IsValid};
 
 use super::scripts::list_of;
 use medl_text::{Field, FieldName, MedlError, put_schedule, read_medl};
-use std::alloc::{AllocError, Global};
-use std::test::Fail;
+use std::alloc::Global;
 use ttp_base::{List, Memory, MemorySink};
 use ttp_world::{Kind, Medl};
 
 const LIST: &str =
-    "version = 1\nrounds = 1\nschedule = 4660\nbuffers = 4\ndrift = 1\nerror = 2\nwindow = 64\n
+    "version = 1\nrounds = 1\nschedule = 4660\nbuffers = 4\ndrift = 1\nerror = 2\nwindow = 64\nmodes = 3\n
 [[slot]]\nkinds = \"I\"\ndata = 0\nsync = true\nstart = true\n
-[[slot]]\nkinds = \"N\"\ndata = 240\nsync = true\nstart = false\nrequests = true\n
+[[slot]]\nkinds = \"N\"\ndata = 240\nsync = true\nstart = false\nrequests = true\nlive = \"yny\"\n
 [[slot]]\nkinds = \"I\"\ndata = 0\nsync = true\nstart = false\n
 [[slot]]\nkinds = \"I\"\ndata = 0\nsync = true\nstart = false\n";
-
-const NUMBERS: &str = "rounds = 1\nschedule = 0\nbuffers = 2\ndrift = 0\nerror = 0\nwindow = 1\n";
-
-const BARE: &str = "kinds = \"I\"\ndata = 0\n";
-
-const SLOT: &str = "[[slot]]\nkinds = \"I\"\ndata = 0\nsync = true\nstart = false\n";
 
 // Whether a list is shown as this table.
 fn is_shown(alloc: Global, list: &Medl, table: &[u8]) -> Result<bool, Memory>
@@ -43,6 +36,7 @@ fn has_numbers(list: &Medl) -> bool {
         && list.drift == 1
         && list.error == 2
         && list.window == 64
+        && list.modes == 3
         && list.version == 1
 }
 
@@ -69,63 +63,28 @@ fn is_read(alloc: Global) -> Result<bool, Memory> {
     Ok(
         has_numbers(&list)
             && ends_with_kind(&list, Kind::I)
-            && has_slot_1(&list, 240, true, 1)
+            && has_slot_1(&list, 240, true, 5)
             && is_shown(alloc, &list, TABLE)?,
     )
 }
 
 #[test]
-fn a_list_is_read_and_shown(rt: HostRuntime) -> Result<(), Fail> {
-    assert!(rt; is_read(rt.alloc())?);
-    Ok(())
+fn a_list_is_read_and_shown(rt: HostRuntime) {
+    assert!(rt; matches!(is_read(rt.alloc()), Ok(true)));
 }
 
-#[test]
-fn a_refusal_names_its_key(rt: HostRuntime) {
+fn is_refused(alloc: Global) -> bool {
     let field = Field {
         name: FieldName::Rounds,
         slot: None,
     };
-    let told = read_medl(rt.alloc(), b"version = 1\n").err();
-    assert!(rt; told == Some(MedlError::Missing { field }));
-    assert!(rt; FieldName::DataSize.key() == "data");
-}
-
-// Four slots, with this key for modes at the top, and these of slot 1.
-fn list_with(alloc: Global, top: &str, keys: &str) -> Result<String, AllocError> {
-    format!(in alloc;
-        "version = 1\n{NUMBERS}{top}\n{SLOT}[[slot]]\nsync = true\nstart = false\n{BARE}\n{keys}\n{SLOT}{SLOT}"
-    )
-}
-
-// The keys at the top and in slot 1; the number of modes, and those in which slot 1 is live.
-const RIGHT_KEYS: &[(&str, &str, u8, u8)] = &[
-    ("", "", 1, 1),
-    ("", "requests = false", 1, 1),
-    ("", "live = \"n\"", 1, 0),
-    ("modes = 1", "", 1, 1),
-    ("modes = 3", "", 3, 7),
-    ("modes = 8", "", 8, 255),
-    ("modes = 3", "live = \"yyn\"", 3, 3),
-    ("modes = 3", "live = \"yny\"", 3, 5),
-    ("modes = 3", "live = \"nny\"\nrequests = false", 3, 4),
-    ("modes = 8", "live = \"nnnnnnny\"", 8, 128),
-    ("modes = 8", "live = \"nnnnnnnn\"", 8, 0),
-];
-
-fn has_modes(alloc: Global, case: &(&str, &str, u8, u8)) -> Result<bool, AllocError> {
-    let (top, keys, modes, live) = *case;
-    let text = list_with(alloc, top, keys)?;
-    match read_medl(alloc, text.as_bytes()) {
-        Ok(list) => Ok(list.modes == modes && has_slot_1(&list, 0, false, live)),
-        Err(_) => Ok(false),
+    match read_medl(alloc, b"version = 1\n") {
+        Ok(_) => false,
+        Err(told) => told == MedlError::Missing { field },
     }
 }
 
 #[test]
-fn keys_for_modes_that_are_right(rt: HostRuntime) -> Result<(), Fail> {
-    for case in RIGHT_KEYS {
-        assert!(rt; has_modes(rt.alloc(), case)?, "{} {}", case.0, case.1);
-    }
-    Ok(())
+fn a_refusal_names_its_key(rt: HostRuntime) {
+    assert!(rt; is_refused(rt.alloc()) && FieldName::DataSize.key() == "data");
 }

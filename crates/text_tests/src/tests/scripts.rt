@@ -5,19 +5,18 @@ ghost use Rattle.ttp_world.specs.Script.{IsValidScript};
 
 use medl_text::read_medl;
 use script_text::read_script;
-use std::alloc::{AllocError, Global};
-use std::test::Fail;
-use ttp_world::{Event, Fault, Medl, Script};
+use std::alloc::Global;
+use ttp_world::{Channels, FlippedBit, HostRead, Incidents, Medl, Script, Source};
 
 // The most bytes of a script file.
 const LIMIT: usize = 1_048_576;
 
-/// Four nodes, of which node 1 alone sends payload.
+/// Four nodes, of which nodes 1 and 2 send payload.
 pub(crate) const FOUR_NODES: &str =
     "version = 1\nrounds = 1\nschedule = 0\nbuffers = 2\ndrift = 0\nerror = 0\nwindow = 1\n
 [[slot]]\nkinds = \"I\"\ndata = 0\nsync = true\nstart = true\n
 [[slot]]\nkinds = \"N\"\ndata = 2\nsync = true\nstart = false\n
-[[slot]]\nkinds = \"I\"\ndata = 0\nsync = true\nstart = false\n
+[[slot]]\nkinds = \"X\"\ndata = 2\nsync = true\nstart = false\n
 [[slot]]\nkinds = \"I\"\ndata = 0\nsync = true\nstart = false\n";
 
 /// The list of a text, where it has one.
@@ -44,94 +43,128 @@ pub(crate) fn script_of(alloc: Global, list: &Medl, text: &[u8]) -> Option<Scrip
     }
 }
 
-/// The script of a text for the list of another.
-pub(crate) fn script_for(alloc: Global, list: &str, text: &[u8]) -> Option<Script> {
-    let list = list_of(alloc, list)?;
-    script_of(alloc, &list, text)
-}
-
-// Whether an event is the one that stands at a place of the script with every form.
-fn is_due(place: usize, event: &Event) -> bool {
-    match (place, event) {
-        (
-            0,
-            Event::Send {
-                node,
-                channels,
-                fault,
-                from,
-                to,
-            },
-        ) => {
-            *node == 2
-                && channels.a
-                && channels.b
-                && *fault == Fault::Noise
-                && (*from, *to) == (3, 19)
-        }
-        (
-            1,
-            Event::Receive {
-                node,
-                channels,
-                fault,
-                from,
-                to,
-            },
-        ) => {
-            *node == 3
-                && !channels.a
-                && channels.b
-                && *fault == Fault::Silence
-                && (*from, *to) == (4, 4)
-        }
-        (
-            2,
-            Event::Flip {
-                node,
-                channels,
-                bit,
-                slot,
-            },
-        ) => { *node == 1 && channels.a && !channels.b && (*bit, *slot) == (2_047, 19) }
-        (
-            3,
-            Event::Flip {
-                node,
-                channels,
-                bit,
-                slot,
-            },
-        ) => { *node == 1 && channels.a && channels.b && (*bit, *slot) == (8, 0) }
-        (
-            4,
-            Event::Error {
-                node,
-                value,
-                from,
-                to,
-            },
-        ) => { *node == 2 && *value == -10_000 && (*from, *to) == (0, 19) }
-        (
-            5,
-            Event::Error {
-                node,
-                value,
-                from,
-                to,
-            },
-        ) => { *node == 2 && *value == 10_000 && (*from, *to) == (19, 19) }
-        (6, Event::Jump { node, value, slot }) => *node == 0 && *value == 1_000_000 && *slot == 3,
-        (7, Event::Jump { node, value, slot }) => *node == 0 && *value == 0 && *slot == 19,
-        (8 | 9, Event::Arm { node, slot }) => *node == 3 && *slot == 7,
-        _ => false,
-    }
-}
-
+// Events of each form, and then lines of hosts in other spellings, from place 10 on.
 const EVERY_FORM: &[u8] = b"slots 20\non 0 0\ndrift 3 -1000\nsend 2 AB noise 3 19\n\
     receive 3 B silence 4 4\nflip 1 A 2047 19\nflip 1 AB 8 0\nerror 2 -10000 0 19\n\
     error 2 10000 19 19\ndrift 0 1000\njump 0 1000000 3\njump 0 -0 19\n# twice\narm 3 7\n\
-    arm 3 7\non 3 19";
+    arm 3 7\non 3 19\nwrite 1 3 aF09\n\t write \t001  4\tDEad \r\nread 1 3 status\n\
+    read 0 3 1\nread  2\t19 000000001\t\n# write 1 5 0000\nwrite 2 3 0ff0\nread 0 3 1\n\
+    write 1 19 ffFF\nread 3 0 2";
+
+const ON_A: Channels = Channels { a: true, b: false };
+
+const ON_B: Channels = Channels { a: false, b: true };
+
+const ON_BOTH: Channels = Channels { a: true, b: true };
+
+const ON_NONE: Channels = Channels { a: false, b: false };
+
+const NOTHING: Incidents = Incidents {
+    send_silence: ON_NONE,
+    send_noise: ON_NONE,
+    receive_silence: ON_NONE,
+    receive_noise: ON_NONE,
+    has_flip: false,
+    armed: false,
+    error: 0,
+    jump: 0,
+};
+
+const IN_ERROR: Incidents = Incidents {
+    error: -10_000,
+    ..NOTHING
+};
+
+const NOISY: Incidents = Incidents {
+    send_noise: ON_BOTH,
+    ..NOTHING
+};
+
+const FLIPPED: Incidents = Incidents {
+    has_flip: true,
+    ..NOTHING
+};
+
+// A node, a slot, and what happens to the node in it.
+const EDGES: &[(u8, u32, Incidents)] = &[
+    (2, 0, IN_ERROR),
+    (2, 2, IN_ERROR),
+    (
+        2,
+        3,
+        Incidents {
+            error: -10_000,
+            ..NOISY
+        },
+    ),
+    (
+        2,
+        18,
+        Incidents {
+            error: -10_000,
+            ..NOISY
+        },
+    ),
+    (2, 19, NOISY),
+    (3, 3, NOTHING),
+    (
+        3,
+        4,
+        Incidents {
+            receive_silence: ON_B,
+            ..NOTHING
+        },
+    ),
+    (3, 5, NOTHING),
+    (
+        3,
+        7,
+        Incidents {
+            armed: true,
+            ..NOTHING
+        },
+    ),
+    (3, 8, NOTHING),
+    (1, 0, FLIPPED),
+    (1, 19, FLIPPED),
+    (0, 2, NOTHING),
+    (
+        0,
+        3,
+        Incidents {
+            jump: 1_000_000,
+            ..NOTHING
+        },
+    ),
+    (0, 4, NOTHING),
+    (0, 19, NOTHING),
+];
+
+fn has_edges(script: &Script) -> bool {
+    for (node, slot, due) in EDGES {
+        if script.incidents(*node, *slot) != *due {
+            return false;
+        }
+    }
+    true
+}
+
+const FIRST_FLIP: &[FlippedBit] = &[FlippedBit {
+    channels: ON_BOTH,
+    bit: 8,
+}];
+
+const LAST_FLIP: &[FlippedBit] = &[FlippedBit {
+    channels: ON_A,
+    bit: 2_047,
+}];
+
+fn has_events(script: &Script) -> bool {
+    script.events.as_slice().len() == 19
+        && script.flips(1, 0) == FIRST_FLIP
+        && script.flips(1, 19) == LAST_FLIP
+        && has_edges(script)
+}
 
 fn has_clocks(script: &Script) -> bool {
     script.slots == 20
@@ -139,25 +172,70 @@ fn has_clocks(script: &Script) -> bool {
         && script.drift.as_slice() == [1_000, 0, 0, -1_000].as_slice()
 }
 
-// The first event that is not due at its place, or the place after all where they are not ten.
-fn wrong_event(script: &Script) -> Option<usize> {
-    let events = script.events.as_slice();
-    for (place, event) in events.iter().enumerate() {
-        if !is_due(place, event) {
-            return Some(place);
-        }
+/// Whether a host writes these bytes by the event at a place of a script.
+pub(crate) fn is_written(script: &Script, place: usize, host: u8, bytes: &[u8]) -> bool {
+    match script.write(place) {
+        Some(write) => write.host == host && write.payload.bytes() == bytes,
+        None => false,
     }
-    if events.len() == 10 {
-        None
-    } else {
-        Some(events.len())
-    }
+}
+
+fn has_writes(script: &Script) -> bool {
+    script.writes(3) == [10, 15].as_slice()
+        && is_written(script, 10, 1, &[0xaf, 0x09])
+        && is_written(script, 15, 2, &[0x0f, 0xf0])
+}
+
+fn has_late_writes(script: &Script) -> bool {
+    script.writes(4) == [11].as_slice()
+        && script.writes(19) == [17].as_slice()
+        && is_written(script, 11, 1, &[0xde, 0xad])
+        && is_written(script, 17, 1, &[0xff, 0xff])
+}
+
+const OF_NODE_1: HostRead = HostRead {
+    host: 0,
+    source: Source::Node(1),
+};
+
+const FIRST_READS: &[HostRead] = &[HostRead {
+    host: 3,
+    source: Source::Node(2),
+}];
+
+const READS: &[HostRead] = &[
+    HostRead {
+        host: 1,
+        source: Source::Status,
+    },
+    OF_NODE_1,
+    OF_NODE_1,
+];
+
+const LAST_READS: &[HostRead] = &[HostRead {
+    host: 2,
+    source: Source::Node(1),
+}];
+
+fn has_reads(script: &Script) -> bool {
+    script.reads(0) == FIRST_READS && script.reads(3) == READS && script.reads(19) == LAST_READS
+}
+
+fn has_lines(script: &Script) -> bool {
+    has_clocks(script)
+        && has_events(script)
+        && has_writes(script)
+        && has_late_writes(script)
+        && has_reads(script)
 }
 
 // Whether the script with every form is read.
 fn is_every_form_read(alloc: Global) -> bool {
-    match script_for(alloc, FOUR_NODES, EVERY_FORM) {
-        Some(script) => has_clocks(&script) && wrong_event(&script).is_none(),
+    let Some(list) = list_of(alloc, FOUR_NODES) else {
+        return false;
+    };
+    match script_of(alloc, &list, EVERY_FORM) {
+        Some(script) => has_lines(&script),
         None => false,
     }
 }
@@ -165,27 +243,4 @@ fn is_every_form_read(alloc: Global) -> bool {
 #[test]
 fn a_script_with_every_form(rt: HostRuntime) {
     assert!(rt; is_every_form_read(rt.alloc()));
-}
-
-// As many lines as a file has room for.
-fn longest(alloc: Global) -> Result<Vec<u8>, AllocError> {
-    let mut text = Vec::from_slice(alloc, b"slots 1\n")?;
-    for _ in 0..131_071u32 {
-        text.extend_from_slice(b"arm 0 0\n")?;
-    }
-    Ok(text)
-}
-
-fn has_each_event(alloc: Global, text: &[u8]) -> bool {
-    match script_for(alloc, FOUR_NODES, text) {
-        Some(script) => script.events.as_slice().len() == 131_071,
-        None => false,
-    }
-}
-
-#[test]
-fn as_many_events_as_a_file_has_room_for(rt: HostRuntime) -> Result<(), Fail> {
-    let text = longest(rt.alloc())?;
-    assert!(rt; has_each_event(rt.alloc(), &text));
-    Ok(())
 }

@@ -1,17 +1,23 @@
 //! Waveforms.
 
 use super::small::{TRACE, WAVE};
-use std::test::Fail;
-use ttp_base::{List, MemorySink};
+use std::alloc::Global;
+use ttp_base::{List, Memory, MemorySink};
 use wave_text::put_wave;
 use whole_trace::read_whole;
 
+// Whether the trace has this waveform.
+fn has_wave(alloc: Global, text: &[u8], wave: &[u8]) -> Result<bool, Memory> {
+    let Ok(trace) = read_whole(text) else {
+        return Ok(false);
+    };
+    let mut sink = MemorySink::new(alloc, 4000, List::new(alloc))?;
+    let written = put_wave(alloc, &trace, &mut sink);
+    Ok(written.is_ok() && sink.bytes() == wave)
+}
+
 #[test]
-fn a_small_trace(rt: HostRuntime) -> Result<(), Fail> {
-    let trace = read_whole(TRACE.as_bytes())?;
-    let mut sink = MemorySink::new(rt.alloc(), 4000, List::new(rt.alloc()))?;
-    let written = put_wave(rt.alloc(), &trace, &mut sink);
-    assert!(rt; written.is_ok());
-    assert_eq!(rt; sink.bytes(), WAVE.as_bytes());
-    Ok(())
+fn a_small_trace(rt: HostRuntime) {
+    let has_wave = has_wave(rt.alloc(), TRACE.as_bytes(), WAVE.as_bytes());
+    assert!(rt; matches!(has_wave, Ok(true)));
 }

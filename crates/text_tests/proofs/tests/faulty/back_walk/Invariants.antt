@@ -1,0 +1,6 @@
+use Rattle.hypothesis.specs.FaultyRuns.{IsBackAt}
+use Rattle.text_tests.proofs.tests.faulty.back_walk.Given as goal
+
+-- the slots so far
+abbrev pub invariant-loop-slot : goal.invariant-loop-slot
+invariant-loop-slot l = IsBackAt l.list l.script l.slot l.walk

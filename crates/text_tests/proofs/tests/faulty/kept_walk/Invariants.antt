@@ -1,0 +1,6 @@
+use Rattle.hypothesis.specs.FaultyRuns.{IsKeptAt}
+use Rattle.text_tests.proofs.tests.faulty.kept_walk.Given as goal
+
+-- the slots so far
+abbrev pub invariant-loop-slot : goal.invariant-loop-slot
+invariant-loop-slot l = IsKeptAt l.list l.script l.slot l.walk
