@@ -1,5 +1,5 @@
-//! Tests of the lowest crates: the ground, what happens to nodes in slots, check words and frames; and of the
-//! medium and the parts of a node.
+//! Tests of the lowest crates: the ground, what happens to nodes in slots, check words and frames; of the medium
+//! and the parts of a node; and of controllers, alone and as a plant.
 //!
 //! They stand in a crate of their own, above the calls, so that no crate is proved a second time with them. The
 //! crate has nothing but tests, and nothing stands on it.

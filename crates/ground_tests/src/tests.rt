@@ -1,13 +1,18 @@
 //! Values from outside, and runs that were worked out by hand; each file says of what.
 
 mod acknowledgements;
+mod alone;
 mod averages;
 mod base;
 mod check_words;
 mod frames;
+mod heard;
 mod incidents;
 mod listening;
 mod mediums;
 mod members;
+mod parts;
 mod places;
+mod plants;
+mod slots;
 mod verdicts;

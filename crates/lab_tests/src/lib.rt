@@ -8,4 +8,6 @@
 #[cfg(test)]
 mod calls;
 #[cfg(test)]
+mod campaigns;
+#[cfg(test)]
 mod forms;

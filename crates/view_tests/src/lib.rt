@@ -1,4 +1,5 @@
-//! Tests of the views of a trace and of what they stand on: the reading of a line and of a whole trace.
+//! Tests of the views of a trace and of a campaign, and of what they stand on: the reading of a line, of a whole
+//! trace and of a whole campaign.
 //!
 //! They stand in a crate of their own, so that no crate is proved a second time with them. The crate has nothing
 //! but tests, and nothing stands on it.

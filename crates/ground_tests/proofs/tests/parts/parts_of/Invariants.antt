@@ -1,6 +1,6 @@
 use Rattle.ttp_world.specs.Diary.{History}
 use Rattle.controller.specs.PlantStands.{PlantStandsFor, plant_of}
-use Rattle.node_tests.proofs.tests.parts.parts_of.Given as goal
+use Rattle.ground_tests.proofs.tests.parts.parts_of.Given as goal
 
 abbrev pub invariant-loop-slot : goal.invariant-loop-slot
 invariant-loop-slot l = record {

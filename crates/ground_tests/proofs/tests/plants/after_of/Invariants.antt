@@ -1,7 +1,7 @@
 use Rattle.std.proofs.Common.{◌≡◌}
 use Rattle.ttp_world.specs.Diary.{History}
 use Rattle.controller.specs.PlantStands.{PlantStandsFor}
-use Rattle.node_tests.proofs.tests.plants.after_of.Given as goal
+use Rattle.ground_tests.proofs.tests.plants.after_of.Given as goal
 
 abbrev pub invariant-loop : goal.invariant-loop
 invariant-loop l = record {

@@ -4,7 +4,7 @@ use Rattle.ttp_world.specs.World.{row_in, slot_after}
 use Rattle.controller.proofs.Payloads.{chosen-step, nothing-chosen}
 use Rattle.controller.specs.PlantStands.{PlantStandsFor, MayStep, plant_of}
 use Rattle.controller.specs.declared.seat.Seat.{Seat}
-use Rattle.node_tests.proofs.tests.parts.parts_of.Goals as goal
+use Rattle.ground_tests.proofs.tests.parts.parts_of.Goals as goal
 
 pub loop-slot-init : goal.loop-slot-init
 loop-slot-init c =

@@ -1,6 +1,6 @@
 use Rattle.std.proofs.Common.{arith}
 use Rattle.controller.proofs.Parts.{each-front, each-back, each-joined}
-use Rattle.node_tests.proofs.tests.parts.begin_in_parts.Goals as goal
+use Rattle.ground_tests.proofs.tests.parts.begin_in_parts.Goals as goal
 
 pub returns-clause-begin : goal.returns-clause-begin
 returns-clause-begin c history long stand =

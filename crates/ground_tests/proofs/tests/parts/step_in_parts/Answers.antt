@@ -1,6 +1,6 @@
 use Rattle.std.proofs.Common.{sym, arith}
 use Rattle.controller.proofs.Plants.{is-step}
-use Rattle.node_tests.proofs.tests.parts.step_in_parts.Goals as goal
+use Rattle.ground_tests.proofs.tests.parts.step_in_parts.Goals as goal
 
 pub returns-clause-steps : goal.returns-clause-steps
 returns-clause-steps c history stands =
