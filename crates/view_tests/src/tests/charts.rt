@@ -1,5 +1,5 @@
 //! A campaign over one node in one slot, and its chart. The lines come from the description of the format.
-use crate::tests::has_lines;
+use super::pictures::has_lines;
 use chart_text::put_chart;
 use std::alloc::Global;
 use std::str;
