@@ -1,7 +1,7 @@
 //! What a verdict asks of the members and counts of the node that gave it.
 
 /// What a verdict on a sender's slot asks of the members and counts of the node that gave it.
-#[derive(Clone, Copy, Debug, PartialEq, Eq)]
+#[derive(Clone, Copy, PartialEq, Eq)]
 pub enum AckMove {
     /// The sender is a member, and its frame is accepted.
     Accept,

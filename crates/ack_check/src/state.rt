@@ -16,7 +16,7 @@ use ttp_world::{Ack, Verdict};
 ///
 /// Contracts see it as an acknowledgement, whose doubt is about a node number below 24. A copy goes on
 /// by itself.
-#[derive(Clone, Copy, Debug, PartialEq, Eq)]
+#[derive(Clone, Copy, PartialEq, Eq)]
 pub struct AckState {
     ack: Ack,
 }

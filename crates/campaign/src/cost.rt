@@ -4,7 +4,7 @@ use ttp_base::{List, NodeSet};
 use ttp_world::Reason;
 
 /// A node that left.
-#[derive(Clone, Copy, Debug, PartialEq, Eq)]
+#[derive(Clone, Copy)]
 pub struct Leave {
     pub node: u8,
     /// The slot in which it left.
@@ -13,14 +13,14 @@ pub struct Leave {
 }
 
 /// The first and the last of some slots, which are counted from 0.
-#[derive(Clone, Copy, Debug, PartialEq, Eq)]
+#[derive(Clone, Copy)]
 pub struct Span {
     pub first: u32,
     pub last: u32,
 }
 
 /// What a run costs.
-#[derive(Debug, Drop)]
+#[derive(Drop)]
 pub struct Cost {
     /// The nodes that left, each with the newest time.
     pub left: List<Leave>,
@@ -33,7 +33,7 @@ pub struct Cost {
 }
 
 /// What some runs come to.
-#[derive(Clone, Copy, Debug, PartialEq, Eq)]
+#[derive(Clone, Copy)]
 pub struct Counts {
     /// How many they are.
     pub runs: u64,

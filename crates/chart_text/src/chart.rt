@@ -35,7 +35,7 @@ use ttp_base::{Line, Memory, Sink};
 use whole_campaign::{Campaign, Pieces};
 
 /// Why a chart was not written whole.
-#[derive(Clone, Copy, Debug, PartialEq, Eq)]
+#[derive(Clone, Copy, PartialEq, Eq)]
 pub enum ChartFault {
     /// No slot is to be shown, and nothing was written.
     NoSlot,

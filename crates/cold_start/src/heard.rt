@@ -3,7 +3,7 @@
 use ttp_world::CState;
 
 /// What a listening node heard in a slot.
-#[derive(Clone, Copy, Debug, PartialEq, Eq)]
+#[derive(Clone, Copy, PartialEq, Eq)]
 pub enum Heard {
     /// Silence on both channels.
     Silent,
@@ -14,7 +14,7 @@ pub enum Heard {
 }
 
 /// What a listening node does at the end of a slot.
-#[derive(Clone, Copy, Debug, PartialEq, Eq)]
+#[derive(Clone, Copy, PartialEq, Eq)]
 pub enum ListenMove {
     /// It listens on.
     Wait,

@@ -11,7 +11,7 @@ use std::marker::Model;
 ///
 /// Contracts see it as the two numbers. The count stops at 65535, the largest limit there is. A copy
 /// listens by itself.
-#[derive(Clone, Copy, Debug, PartialEq, Eq)]
+#[derive(Clone, Copy)]
 pub struct Listener {
     limit: u16,
     silent_slots: u16,

@@ -25,7 +25,7 @@ use ttp_base::Memory;
 use ttp_world::{Act, Delivered, LastLookUp, Medl, NodeState, StatusWords};
 
 /// What a node's next plan sends.
-#[derive(Clone, Copy, Debug, PartialEq, Eq)]
+#[derive(Clone, Copy)]
 pub enum Intent {
     /// Nothing.
     Quiet,
@@ -36,7 +36,7 @@ pub enum Intent {
 }
 
 /// What a slot leaves for a node's host.
-#[derive(Debug, Drop)]
+#[derive(Drop)]
 pub struct Outcome {
     /// The payload of a correct frame.
     pub delivered: Option<Delivered>,

@@ -16,7 +16,7 @@ use bitflags::{Flag, Flags, bitflag_items};
 use ttp_world::{Ack, CState, Entry, Medl, NodeState, Phase, StatusWords};
 
 /// The flags of a status: what a node is after a slot, and what it did in it.
-#[derive(Clone, Copy, PartialEq, Eq, Debug)]
+#[derive(Clone, Copy)]
 pub struct StatusFlags(u64);
 
 bitflag_items! {

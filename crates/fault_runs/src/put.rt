@@ -31,7 +31,7 @@ use ttp_base::{List, Memory, Sink};
 use ttp_world::{Entry, Event, Medl, NodeState, Script};
 
 /// Why a campaign was not written whole.
-#[derive(Clone, Copy, Debug, PartialEq, Eq)]
+#[derive(Clone, Copy, PartialEq, Eq)]
 pub enum CampaignFault {
     /// The sink's count of faults rose.
     Failed,

@@ -10,7 +10,7 @@ use std::marker::Model;
 ///
 /// Contracts see it as the list of the last four of them, or of all where there are fewer, the newest
 /// first.
-#[derive(Debug, Drop)]
+#[derive(Drop)]
 pub struct Measures {
     newest: i64,
     second: i64,

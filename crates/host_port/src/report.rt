@@ -14,7 +14,7 @@ pub struct ReadLine {
 }
 
 /// A message that a host wrote in a slot, by its number in the host's outgoing ring.
-#[derive(Clone, Copy, Debug, PartialEq, Eq)]
+#[derive(Clone, Copy)]
 pub struct WriteLine {
     pub host: u8,
     /// Counted from 1, since message 0 is the zeros.
@@ -23,7 +23,7 @@ pub struct WriteLine {
 
 /// A node after a slot. The message is the one in the frame that it sent, or the one that it
 /// delivered, by its number in its ring.
-#[derive(Clone, Copy, Debug, PartialEq, Eq)]
+#[derive(Clone, Copy)]
 pub struct NodeLine {
     /// What is shown of it.
     pub state: NodeState,

@@ -136,7 +136,7 @@ fn sender_loss(
 }
 
 /// Which jumps a script may have.
-#[derive(Clone, Copy, PartialEq, Eq)]
+#[derive(Clone, Copy)]
 pub(crate) enum Jumps {
     /// Far ones alone, each its node's first.
     Far,

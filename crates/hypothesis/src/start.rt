@@ -15,7 +15,7 @@ use ttp_base::NodeSet;
 use ttp_world::{Medl, SLOT_LIMIT, Script};
 
 /// The slot of the start, counted from 0, and the node that starts.
-#[derive(Clone, Copy, Debug)]
+#[derive(Clone, Copy)]
 pub struct Start {
     pub slot: u32,
     pub node: u8,

@@ -16,7 +16,7 @@ use whole_trace::{Whole, read_whole};
 pub(crate) const TEXT_LIMIT: usize = 134_217_728;
 
 /// Why a text is not shown.
-#[derive(Clone, Copy, Debug, PartialEq, Eq)]
+#[derive(Clone, Copy, PartialEq, Eq)]
 pub(crate) enum TextFault {
     /// It has more bytes than such a text may have.
     TooLarge,

@@ -4,7 +4,7 @@ use ttp_world::{Ack, Back, Keep, Payload, Source};
 
 /// What a node did in a slot, as the word of its line: the verdict, where it judged another's slot,
 /// and the reason, where it left. `docs/TRACES.md` has the words.
-#[derive(Clone, Copy, Debug, PartialEq, Eq)]
+#[derive(Clone, Copy)]
 pub enum Word {
     Off,
     Wait,
@@ -24,7 +24,7 @@ pub enum Word {
 }
 
 /// What a line of a trace says.
-#[derive(Debug, Drop)]
+#[derive(Drop)]
 pub enum TraceLine {
     /// The first line.
     Header {
@@ -74,7 +74,7 @@ pub enum TraceLine {
 }
 
 /// What the line of a node says: the same as [`TraceLine::Node`], in a small value.
-#[derive(Clone, Copy, Debug, PartialEq, Eq)]
+#[derive(Clone, Copy)]
 pub struct NodeLine {
     pub slot: u32,
     pub node: u8,

@@ -10,7 +10,7 @@ use ttp_base::Line;
 use ttp_world::Source;
 
 /// A message as its ring gives it to the host that reads it.
-#[derive(Clone, Copy, Debug)]
+#[derive(Clone, Copy)]
 pub struct RingMessage<'a> {
     /// The ring that it was read from.
     pub source: Source,

@@ -10,7 +10,7 @@ use crate::flip::is_among;
 use ttp_world::{Channel, Incidents};
 
 /// What comes to a receiver on one channel in a slot.
-#[derive(Clone, Copy, Debug)]
+#[derive(Clone, Copy)]
 pub enum Arrival<'a> {
     /// Nothing.
     Silence,

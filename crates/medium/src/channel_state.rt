@@ -23,7 +23,7 @@ pub(crate) struct Sent<'a> {
 }
 
 /// What is on a channel.
-#[derive(Clone, Copy, Debug, PartialEq, Eq)]
+#[derive(Clone, Copy)]
 pub(crate) enum Content {
     Silence,
     Noise,
@@ -34,7 +34,7 @@ pub(crate) enum Content {
 
 /// A channel in a slot, with a buffer for the one frame that it may carry. Contracts see what is on
 /// it, and the clock of the node that sent that.
-#[derive(Debug, Drop)]
+#[derive(Drop)]
 pub(crate) struct ChannelState {
     content: Content,
     frame: Outgoing,

@@ -17,7 +17,7 @@ use ttp_world::{Channel, FlippedBit, Incidents, Medl, Script};
 ///
 /// Each channel has a buffer of 256 bytes. They lie in the value itself: a cluster has one medium,
 /// which it seldom moves, and so the medium takes no memory at all.
-#[derive(Debug, Drop)]
+#[derive(Drop)]
 pub struct Medium {
     slot: u32,
     a: ChannelState,

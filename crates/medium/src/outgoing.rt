@@ -8,7 +8,7 @@ use std::marker::Model;
 use ttp_world::{Channel, FlippedBit};
 
 /// A frame that is to be sent, at most 256 bytes, which contracts see as the list of its bytes.
-#[derive(Debug, Drop)]
+#[derive(Drop)]
 pub struct Outgoing {
     /// How many bytes there are.
     pub len: u16,

@@ -3,7 +3,7 @@
 use ttp_base::Memory;
 
 /// A key of a list file, in the order in which the keys are looked at.
-#[derive(Clone, Copy, Debug, PartialEq, Eq)]
+#[derive(Clone, Copy, PartialEq, Eq)]
 pub enum FieldName {
     Version,
     Rounds,
@@ -56,7 +56,7 @@ impl FieldName {
 }
 
 /// A key at the top of the file, or in an element of `slot`.
-#[derive(Clone, Copy, Debug, PartialEq, Eq)]
+#[derive(Clone, Copy, PartialEq, Eq)]
 pub struct Field {
     pub name: FieldName,
     /// The number of the element, counted from 0, where the key stands in one.
@@ -67,7 +67,7 @@ pub struct Field {
 ///
 /// Where several things are wrong, the first one in this order is told; the fields are those of
 /// `docs/FORMATS.md`.
-#[derive(Clone, Copy, Debug, PartialEq, Eq)]
+#[derive(Clone, Copy, PartialEq, Eq)]
 pub enum MedlError {
     /// The bytes are no UTF-8, or no TOML document.
     NotToml,

@@ -9,7 +9,7 @@ use std::marker::Model;
 ///
 /// Contracts see it as two numbers, `accepted`, which begins with one for the node's own frame, and
 /// `rejected`. A copy counts by itself.
-#[derive(Clone, Copy, Debug, PartialEq, Eq)]
+#[derive(Clone, Copy)]
 pub struct Clique {
     accepted: u8,
     rejected: u8,

@@ -10,7 +10,7 @@ use ttp_base::NodeSet;
 /// The nodes that an active node holds for members.
 ///
 /// Contracts see it as the list of the members in ascending order. A copy is a set of its own.
-#[derive(Clone, Copy, Debug, PartialEq, Eq)]
+#[derive(Clone, Copy)]
 pub struct Membership {
     members: NodeSet,
 }

@@ -15,7 +15,7 @@ use ttp_world::{CState, Chosen, Delivered, Entry, Medl};
 
 /// Which mode a node runs, where it knows that, and which one it runs next, where it was asked for one.
 /// A mode is a number below the list's `modes`.
-#[derive(Clone, Copy, Debug, PartialEq, Eq)]
+#[derive(Clone, Copy, PartialEq, Eq)]
 pub struct Modes {
     pub mode: Option<u8>,
     pub next: Option<u8>,

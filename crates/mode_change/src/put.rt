@@ -76,7 +76,7 @@ fn put_all<K: Sink>(
 }
 
 /// Why the text of modes was not written whole.
-#[derive(Clone, Copy, Debug, PartialEq, Eq)]
+#[derive(Clone, Copy, PartialEq, Eq)]
 pub enum ModeFault {
     /// The sink's count of faults rose.
     Failed,

@@ -26,7 +26,7 @@ pub struct Reader {
 }
 
 /// What an attempt to read answers.
-#[derive(Clone, Copy, Debug, PartialEq, Eq)]
+#[derive(Clone, Copy, PartialEq, Eq)]
 pub enum Try {
     /// The message of this number was got.
     Got { number: u64 },

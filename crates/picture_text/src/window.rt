@@ -8,14 +8,14 @@ use shown_slot::agreement;
 use whole_trace::{NodeShown, SlotShown};
 
 /// The slots from `first` to `last`, both of them too.
-#[derive(Clone, Copy, Debug, PartialEq, Eq)]
+#[derive(Clone, Copy)]
 pub struct Span {
     pub first: u32,
     pub last: u32,
 }
 
 /// What a slot is looked for by.
-#[derive(Clone, Copy, Debug, PartialEq, Eq)]
+#[derive(Clone, Copy)]
 pub(crate) enum Sought {
     Strange,
     Start,

@@ -12,7 +12,7 @@ pub(crate) const INCREMENT: u64 = 1_442_695_040_888_963_407;
 pub(crate) const MOST_DRAWS: u32 = 100;
 
 /// The draws that begin at a number, of which so many were made.
-#[derive(Debug, Drop)]
+#[derive(Drop)]
 pub(crate) struct Draws {
     pub(crate) number: u64,
     pub(crate) count: u32,

@@ -1,7 +1,7 @@
 //! The first words of lines.
 
 /// A form of a script's line, which the line's first word names.
-#[derive(Clone, Copy, Debug, PartialEq, Eq)]
+#[derive(Clone, Copy, PartialEq, Eq)]
 pub(crate) enum Keyword {
     Slots,
     On,

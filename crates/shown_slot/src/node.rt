@@ -8,7 +8,7 @@ use ttp_world::Ack;
 use whole_trace::NodeShown;
 
 /// Who sent in a slot.
-#[derive(Clone, Copy, Debug, PartialEq, Eq)]
+#[derive(Clone, Copy)]
 pub enum Sender {
     Nobody,
     Node(u8),
@@ -17,7 +17,7 @@ pub enum Sender {
 }
 
 /// The clock that is furthest behind and the one that is furthest ahead, in microticks.
-#[derive(Clone, Copy, Debug, PartialEq, Eq)]
+#[derive(Clone, Copy)]
 pub struct ClockRange {
     pub low: i64,
     pub high: i64,

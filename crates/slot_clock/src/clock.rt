@@ -12,7 +12,7 @@ use ttp_world::{CState, Medl};
 ///
 /// Contracts see it as the place, and the list's numbers of rounds and of slots. A copy goes on by
 /// itself.
-#[derive(Clone, Copy, Debug, PartialEq, Eq)]
+#[derive(Clone, Copy)]
 pub struct SlotClock {
     time: u16,
     round: u8,

@@ -12,7 +12,7 @@ use ttp_base::Memory;
 use ttp_world::{Medl, Script};
 
 /// What a text is to a list and a script.
-#[derive(Clone, Copy, Debug, PartialEq, Eq)]
+#[derive(Clone, Copy, PartialEq, Eq)]
 pub enum Outcome {
     /// It is the trace of a run.
     Same,

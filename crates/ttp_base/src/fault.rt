@@ -3,11 +3,11 @@
 use std::alloc::{AllocError, AllocFailed};
 
 /// Memory was refused. Nothing else is ever told by it.
-#[derive(Clone, Copy, Debug, PartialEq, Eq)]
+#[derive(Clone, Copy, PartialEq, Eq)]
 pub struct Memory;
 
 /// The outside failed: what was asked of a sink was not done.
-#[derive(Clone, Copy, Debug, PartialEq, Eq)]
+#[derive(Clone, Copy, PartialEq, Eq)]
 pub struct Failed;
 
 impl From<AllocError> for Memory {

@@ -9,7 +9,7 @@ pub trait Gate: Sync {
 }
 
 /// A gate that holds nothing back.
-#[derive(Clone, Copy, Debug)]
+#[derive(Clone, Copy)]
 pub struct OpenGate;
 
 impl OpenGate {

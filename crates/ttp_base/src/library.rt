@@ -5,7 +5,7 @@ ghost use Rattle.ttp_base.specs.Outside.{Files, Gives, AskedFor, HasRisen, NoneR
 use std::alloc::Global;
 
 /// Why nothing was loaded.
-#[derive(Clone, Copy, Debug, PartialEq, Eq)]
+#[derive(Clone, Copy, PartialEq, Eq)]
 pub enum LoadError {
     /// The outside failed, or holds nothing under the name.
     Failed,

@@ -8,7 +8,7 @@ use std::marker::Model;
 /// A growing list, which contracts see as the list of its items in their order.
 ///
 /// Only [`List::push`] takes memory.
-#[derive(Debug, Drop)]
+#[derive(Drop)]
 pub struct List<T> {
     items: Vec<T>,
 }

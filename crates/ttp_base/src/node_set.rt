@@ -10,7 +10,7 @@ use std::marker::Model;
 /// order.
 ///
 /// It lies in one word: no call takes memory, and each takes the same few steps whatever the set.
-#[derive(Clone, Copy, Debug, PartialEq, Eq)]
+#[derive(Clone, Copy, PartialEq, Eq)]
 pub struct NodeSet {
     bits: u32,
 }

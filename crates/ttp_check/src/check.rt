@@ -10,7 +10,7 @@ use std::marker::Model;
 ///
 /// It stands for a start and all bytes that it was fed since, and contracts see it as the word of
 /// these. It is one word of 32 bits: a copy stands for the same, and goes on by itself.
-#[derive(Clone, Copy, Debug, PartialEq, Eq)]
+#[derive(Clone, Copy, PartialEq, Eq)]
 pub struct Check {
     word: u32,
 }

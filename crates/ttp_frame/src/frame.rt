@@ -9,7 +9,7 @@ use crate::pieces::{sent_of, state_bytes, state_len, unsent_of, word_of};
 use ttp_world::CState;
 
 /// A frame that is to be sent.
-#[derive(Clone, Copy, Debug)]
+#[derive(Clone, Copy)]
 pub struct FrameIn<'a> {
     /// Whether its membership has three bytes, as in lists of version 2; else it has two.
     pub wide: bool,

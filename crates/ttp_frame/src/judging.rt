@@ -11,7 +11,7 @@ use crate::pieces::{IMPLICIT, ends_with_word, sent_of, state_bytes, state_len, u
 use ttp_world::CState;
 
 /// The frame that a receiver expects.
-#[derive(Clone, Copy, Debug, PartialEq, Eq)]
+#[derive(Clone, Copy)]
 pub struct Expect {
     /// Whether memberships have three bytes, as in lists of version 2; else they have two.
     pub wide: bool,
@@ -23,7 +23,7 @@ pub struct Expect {
 }
 
 /// What bytes are to a receiver.
-#[derive(Clone, Copy, Debug, PartialEq, Eq)]
+#[derive(Clone, Copy, PartialEq, Eq)]
 pub enum FrameMatch {
     /// The expected frame, from a sender with the receiver's C-state.
     Match,

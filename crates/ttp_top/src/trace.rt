@@ -15,7 +15,7 @@ use ttp_base::{Failed, Gate, Sink};
 use ttp_world::Medl;
 
 /// Why a trace was not written to its end.
-#[derive(Clone, Copy, Debug, PartialEq, Eq)]
+#[derive(Clone, Copy, PartialEq, Eq)]
 pub(crate) enum RunFault {
     /// Memory was refused for a slot.
     Memory,

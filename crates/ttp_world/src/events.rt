@@ -14,7 +14,7 @@ use std::marker::Model;
 use ttp_base::{List, Memory};
 
 /// What happens to a node in a slot, all but what its host does.
-#[derive(Clone, Copy, Debug, PartialEq, Eq)]
+#[derive(Clone, Copy, PartialEq, Eq)]
 pub struct Incidents {
     /// The channels on which what it sends is silenced.
     pub send_silence: Channels,
@@ -35,7 +35,7 @@ pub struct Incidents {
 }
 
 /// What happens to a node from a slot on, and how long it does.
-#[derive(Clone, Copy, Debug, PartialEq, Eq)]
+#[derive(Clone, Copy)]
 pub struct Standing {
     /// What happens to it in that slot, all but what its host does.
     pub incidents: Incidents,
@@ -45,7 +45,7 @@ pub struct Standing {
 }
 
 /// A bit of a frame that is flipped on these channels.
-#[derive(Clone, Copy, Debug, PartialEq, Eq)]
+#[derive(Clone, Copy, PartialEq, Eq)]
 pub struct FlippedBit {
     pub channels: Channels,
     /// Counted from the first byte's most significant.
@@ -56,7 +56,7 @@ pub struct FlippedBit {
 ///
 /// They have an index, which is made once: what happens to a node in a slot is found by a binary
 /// search in it, however many events there are and however many cover the slot.
-#[derive(Debug, Drop)]
+#[derive(Drop)]
 pub struct Events {
     items: List<Event>,
     index: Index,
@@ -77,7 +77,7 @@ impl Model for Events {
 
 /// Where the last look-up ended. The next one begins there, and is short where it asks for the same node
 /// in one of the next slots. No answer rests on it.
-#[derive(Clone, Copy, Debug, PartialEq, Eq)]
+#[derive(Clone, Copy)]
 pub struct LastLookUp {
     steps: usize,
 }

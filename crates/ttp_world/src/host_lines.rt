@@ -10,14 +10,14 @@ use std::alloc::Global;
 use ttp_base::{List, Memory};
 
 /// A read of a node's host: whose host reads, and from which ring.
-#[derive(Clone, Copy, Debug, PartialEq, Eq)]
+#[derive(Clone, Copy, PartialEq, Eq)]
 pub struct HostRead {
     pub host: u8,
     pub source: Source,
 }
 
 /// A message that a node's host writes to its outgoing ring, as it lies in the script.
-#[derive(Clone, Copy, Debug)]
+#[derive(Clone, Copy)]
 pub struct Written<'a> {
     pub host: u8,
     pub payload: &'a Payload,

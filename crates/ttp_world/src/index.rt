@@ -21,14 +21,14 @@ pub(crate) const NODE_KEYS: u64 = 4_294_967_296;
 const FEW: usize = 2;
 
 /// What the events make of a node from a key on, up to the key of the next step.
-#[derive(Clone, Copy, Debug, PartialEq, Eq)]
+#[derive(Clone, Copy)]
 pub(crate) struct Step {
     pub(crate) key: u64,
     pub(crate) incidents: Incidents,
 }
 
 /// The steps of all nodes, the flipped bits, and what hosts do, each in the order of its keys.
-#[derive(Debug, Drop)]
+#[derive(Drop)]
 pub(crate) struct Index {
     pub(crate) steps: List<Step>,
     pub(crate) flips: Sorted<FlippedBit>,

@@ -1,7 +1,7 @@
 //! The answers of the tests of scripts: of the single-fault hypothesis, and of what armed nodes are owed.
 
 /// Whether a script keeps the single-fault hypothesis.
-#[derive(Clone, Copy, Debug, PartialEq, Eq)]
+#[derive(Clone, Copy, PartialEq, Eq)]
 pub enum Keep {
     /// It does, and the cluster starts in this slot.
     Yes { start: u32 },
@@ -10,7 +10,7 @@ pub enum Keep {
 }
 
 /// Whether each node that is armed to listen again is owed its place.
-#[derive(Clone, Copy, Debug, PartialEq, Eq)]
+#[derive(Clone, Copy, PartialEq, Eq)]
 pub enum Back {
     /// It is, and the cluster starts in this slot.
     Yes { start: u32 },

@@ -9,7 +9,7 @@ use ttp_base::{List, Memory};
 ///
 /// A frame with explicit C-state carries the sender's controller state; one with implicit C-state
 /// does not, and its check word is computed over the frame together with that state.
-#[derive(Clone, Copy, Debug, PartialEq, Eq)]
+#[derive(Clone, Copy, PartialEq, Eq)]
 pub enum Kind {
     /// Explicit C-state, no payload.
     I,
@@ -36,7 +36,7 @@ impl Kind {
 }
 
 /// One slot of the TDMA round. Node k owns slot k.
-#[derive(Debug, Drop)]
+#[derive(Drop)]
 pub struct SlotPlan {
     /// The kind of the slot's frame in each round of the cluster cycle.
     pub kinds: List<Kind>,
@@ -54,7 +54,7 @@ pub struct SlotPlan {
 
 /// A message descriptor list (MEDL, SAE AS6003), which all nodes of a cluster share. The ranges are
 /// those of a valid one.
-#[derive(Debug, Drop)]
+#[derive(Drop)]
 pub struct Medl {
     /// 1 for up to 16 nodes, and 2 for up to 24, whose frames carry one byte of members more.
     pub version: u8,

@@ -5,7 +5,7 @@ use ttp_base::NodeSet;
 
 /// The controller state (C-state, SAE AS6003) that explicit frames carry and over which each check
 /// word is computed.
-#[derive(Clone, Copy, Debug, PartialEq, Eq)]
+#[derive(Clone, Copy, PartialEq, Eq)]
 pub struct CState {
     /// Slots since the cold start, modulo 65536.
     pub time: u16,
@@ -18,7 +18,7 @@ pub struct CState {
 }
 
 /// How a receiver sees what came on one channel in a slot.
-#[derive(Clone, Copy, Debug, PartialEq, Eq)]
+#[derive(Clone, Copy, PartialEq, Eq)]
 pub enum ChannelView {
     /// Nothing came.
     Silent,
@@ -33,7 +33,7 @@ pub enum ChannelView {
 }
 
 /// What a receiver makes of a slot.
-#[derive(Clone, Copy, Debug, PartialEq, Eq)]
+#[derive(Clone, Copy, PartialEq, Eq)]
 pub enum Verdict {
     /// Silence on both channels.
     Null,
@@ -50,7 +50,7 @@ pub enum Verdict {
 }
 
 /// What an active node knows of its own newest frame.
-#[derive(Clone, Copy, Debug, PartialEq, Eq)]
+#[derive(Clone, Copy, PartialEq, Eq)]
 pub enum Ack {
     /// It was received, or it was not its own frame that made the node active.
     Closed,
@@ -61,7 +61,7 @@ pub enum Ack {
 }
 
 /// Why an active node left.
-#[derive(Clone, Copy, Debug, PartialEq, Eq)]
+#[derive(Clone, Copy, PartialEq, Eq)]
 pub enum Reason {
     /// Two successors have not received its newest frame.
     Denied,
@@ -72,7 +72,7 @@ pub enum Reason {
 }
 
 /// What a node is after a slot.
-#[derive(Clone, Copy, Debug, PartialEq, Eq)]
+#[derive(Clone, Copy, PartialEq, Eq)]
 pub enum Phase {
     /// It is not switched on yet.
     Off,
@@ -85,7 +85,7 @@ pub enum Phase {
 }
 
 /// What a node does in a slot, by its past alone.
-#[derive(Clone, Copy, Debug, PartialEq, Eq)]
+#[derive(Clone, Copy, PartialEq, Eq)]
 pub enum Act {
     /// It is off.
     Off,
@@ -106,7 +106,7 @@ pub enum Act {
 }
 
 /// What a node did in a slot.
-#[derive(Clone, Copy, Debug, PartialEq, Eq)]
+#[derive(Clone, Copy, PartialEq, Eq)]
 pub enum Entry {
     /// It was off.
     Off,
@@ -145,7 +145,7 @@ pub enum Entry {
 
 /// What is shown of a node after a slot. In every phase but Active it shows no members, both counts
 /// 0 and a closed acknowledgement.
-#[derive(Clone, Copy, Debug, PartialEq, Eq)]
+#[derive(Clone, Copy, PartialEq, Eq)]
 pub struct NodeState {
     pub phase: Phase,
     /// What it did in the newest slot.
@@ -163,7 +163,7 @@ pub struct NodeState {
 }
 
 /// The message that a node is to send in a slot, if it sends one with payload.
-#[derive(Debug, Drop)]
+#[derive(Drop)]
 pub struct Chosen {
     /// Its number in the node's outgoing ring.
     pub number: u64,
@@ -172,7 +172,7 @@ pub struct Chosen {
 }
 
 /// What a receiver hands to its host.
-#[derive(Debug, Drop)]
+#[derive(Drop)]
 pub struct Delivered {
     /// The node whose frame carried it.
     pub sender: u8,
@@ -182,7 +182,7 @@ pub struct Delivered {
 /// The status message of a node for one slot: the slot's number; the flags; the C-state of the slot
 /// with the members after it, as a number of 48 bits, or of 56 for a list of version 2, or 0 where
 /// the node is not active; and `256 * accepted + rejected`.
-#[derive(Clone, Copy, Debug, PartialEq, Eq)]
+#[derive(Clone, Copy, PartialEq, Eq)]
 pub struct StatusWords {
     pub words: [u64; 4],
 }

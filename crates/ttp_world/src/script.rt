@@ -39,21 +39,21 @@ pub const LAST_FLIPPED_BIT: u16 = 2_047;
 pub const PAYLOAD_LIMIT: usize = 240;
 
 /// One of the two channels of the bus.
-#[derive(Clone, Copy, Debug, PartialEq, Eq)]
+#[derive(Clone, Copy, PartialEq, Eq)]
 pub enum Channel {
     A,
     B,
 }
 
 /// Some of the two channels.
-#[derive(Clone, Copy, Debug, PartialEq, Eq)]
+#[derive(Clone, Copy, PartialEq, Eq)]
 pub struct Channels {
     pub a: bool,
     pub b: bool,
 }
 
 /// What a send or receive fault makes of a frame.
-#[derive(Clone, Copy, Debug, PartialEq, Eq)]
+#[derive(Clone, Copy, PartialEq, Eq)]
 pub enum Fault {
     /// Nothing is left.
     Silence,
@@ -62,7 +62,7 @@ pub enum Fault {
 }
 
 /// What a host reads: its own node's status, or the messages of a node that sends payload.
-#[derive(Clone, Copy, Debug, PartialEq, Eq)]
+#[derive(Clone, Copy, PartialEq, Eq)]
 pub enum Source {
     /// The status ring of the host's own node.
     Status,
@@ -71,7 +71,7 @@ pub enum Source {
 }
 
 /// The payload of a frame, at most 240 bytes, which contracts see as the list of its bytes.
-#[derive(Debug, Drop)]
+#[derive(Drop)]
 pub struct Payload {
     /// How many bytes there are.
     pub len: u8,
@@ -122,7 +122,7 @@ fn put_front(out: &mut [u8; PAYLOAD_LIMIT], bytes: &[u8])
 
 /// One line of a script that speaks of slots. Slots are counted from 0, and a fault that has two of
 /// them stands in both and in those between.
-#[derive(Debug, Drop)]
+#[derive(Drop)]
 pub enum Event {
     /// What a node sends is silenced or turned into noise, on these channels.
     Send {
@@ -181,7 +181,7 @@ pub enum Event {
 }
 
 /// A script for a list: what happens to a cluster, slot by slot.
-#[derive(Debug, Drop)]
+#[derive(Drop)]
 pub struct Script {
     /// How many slots the run has.
     pub slots: u32,

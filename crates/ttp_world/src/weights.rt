@@ -10,7 +10,7 @@ use crate::events::Incidents;
 use crate::script::{Channels, Event, Fault};
 
 /// Numbers of events on each channel.
-#[derive(Clone, Copy, Debug, PartialEq, Eq)]
+#[derive(Clone, Copy)]
 pub(crate) struct Counts {
     pub(crate) a: i64,
     pub(crate) b: i64,
@@ -18,7 +18,7 @@ pub(crate) struct Counts {
 
 /// What belongs to no channel: how many events arm the node, and the sums of its reading errors and
 /// jumps in microticks.
-#[derive(Clone, Copy, Debug, PartialEq, Eq)]
+#[derive(Clone, Copy)]
 pub(crate) struct Sums {
     pub(crate) arms: i64,
     pub(crate) error: i64,
@@ -27,7 +27,7 @@ pub(crate) struct Sums {
 
 /// For each kind of event how many there are, and for those with numbers their sum. Negative numbers
 /// are those of events that end.
-#[derive(Clone, Copy, Debug, PartialEq, Eq)]
+#[derive(Clone, Copy)]
 pub(crate) struct Weights {
     pub(crate) send_silence: Counts,
     pub(crate) send_noise: Counts,

@@ -1,7 +1,7 @@
 //! The answer of the test for one two-faced sender.
 
 /// Whether a script has at most one two-faced sender, in bounds that are promised to be stood.
-#[derive(Clone, Copy, Debug, PartialEq, Eq)]
+#[derive(Clone, Copy, PartialEq, Eq)]
 pub enum Faced {
     /// It has, and the cluster starts in this slot.
     Yes { start: u32 },

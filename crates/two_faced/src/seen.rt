@@ -15,7 +15,7 @@ use ttp_base::Memory;
 use ttp_world::{Medl, Script};
 
 /// How far apart clocks came, in microticks, and after which slot, counted from 0.
-#[derive(Clone, Copy, Debug, PartialEq, Eq)]
+#[derive(Clone, Copy, PartialEq, Eq)]
 pub struct Seen {
     pub value: i64,
     pub slot: u32,

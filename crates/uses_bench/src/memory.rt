@@ -9,7 +9,7 @@ use std::alloc::{AllocError, Global};
 use ttp_base::{List, Memory, MemoryLibrary, MemorySink};
 
 /// Why a caller has no answer.
-#[derive(Clone, Copy, Debug, PartialEq, Eq)]
+#[derive(Clone, Copy, PartialEq, Eq)]
 pub enum Missing {
     /// Memory was refused to the caller.
     Memory,

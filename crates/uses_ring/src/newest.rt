@@ -10,14 +10,14 @@ use std::thread::{Threads, join};
 use ttp_base::{Memory, OpenGate};
 
 /// What was measured, and when.
-#[derive(Clone, Copy, Debug, PartialEq, Eq)]
+#[derive(Clone, Copy)]
 pub struct Measurement {
     pub value: u64,
     pub time: u64,
 }
 
 /// What the reader has of the writer.
-#[derive(Clone, Copy, Debug, PartialEq, Eq)]
+#[derive(Clone, Copy)]
 pub enum Seen {
     /// This measurement.
     Newest(Measurement),

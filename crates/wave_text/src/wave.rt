@@ -20,7 +20,7 @@ use ttp_base::{Failed, Line, Sink};
 use whole_trace::{SlotShown, Slots, Whole};
 
 /// Why a waveform was not written whole.
-#[derive(Clone, Copy, Debug, PartialEq, Eq)]
+#[derive(Clone, Copy, PartialEq, Eq)]
 pub enum WaveFault {
     /// The sink's count of faults rose.
     Failed,

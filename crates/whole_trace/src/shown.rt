@@ -4,7 +4,7 @@ use ttp_base::NodeSet;
 use ttp_world::{Ack, Payload, Source};
 
 /// What the line of a node says beside its slot and its node.
-#[derive(Clone, Copy, Debug, PartialEq, Eq)]
+#[derive(Clone, Copy)]
 pub struct NodeShown {
     pub word: Word,
     /// The node of which the word speaks, if it speaks of one.
@@ -20,7 +20,7 @@ pub struct NodeShown {
 }
 
 /// What the line of a host says beside its slot.
-#[derive(Debug, Drop)]
+#[derive(Drop)]
 pub enum HostLine {
     /// A message that a host wrote.
     Write {
@@ -37,7 +37,7 @@ pub enum HostLine {
 }
 
 /// What the first line of a trace says.
-#[derive(Clone, Copy, Debug, PartialEq, Eq)]
+#[derive(Clone, Copy)]
 pub struct Head {
     pub version: u8,
     pub nodes: u8,

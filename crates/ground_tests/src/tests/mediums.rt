@@ -25,7 +25,7 @@ enum Line {
 }
 
 // What is heard on a channel: bits by their bytes, and by the offset of the node that sent them.
-#[derive(Clone, Copy, Debug)]
+#[derive(Clone, Copy)]
 enum Heard {
     Silence,
     Noise,

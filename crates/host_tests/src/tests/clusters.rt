@@ -61,7 +61,7 @@ fn a_cluster_does_its_first_slot(rt: HostRuntime) {
 }
 
 // What a watcher was told: of how many slots, and of how many reads in them.
-#[derive(Clone, Copy, Debug, PartialEq, Eq)]
+#[derive(Clone, Copy, PartialEq, Eq)]
 struct Told {
     slots: u32,
     reads: usize,
