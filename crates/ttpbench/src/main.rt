@@ -9,8 +9,10 @@
 use std::env::Env;
 use std::io::BufWriter;
 use std::process::ExitCode;
+use std::sync::Wait;
+use std::thread::Threads;
 use std::{env, io};
-use ttp_base::{FileLibrary, OpenGate, StreamSink};
+use ttp_base::{FileLibrary, Library, OpenGate, Sink, StreamSink};
 use ttp_top::bench;
 
 // How many bytes of output are handed to the system at once.
@@ -28,21 +30,23 @@ fn main(rt: HostRuntime) -> ExitCode {
                 return ExitCode::from(7);
             };
             let mut out = StreamSink::new(buffered);
-            let gate = OpenGate::new();
-            let status = bench(
-                &rt,
-                rt.alloc(),
-                &words,
-                &mut library,
-                &mut out,
-                &gate,
-                &mut None,
-            );
+            let status = status_of(&rt, &words, &mut library, &mut out);
             ExitCode::from(if out.end().is_ok() { status } else { 6 })
         }
         Err(error) if error.kind() == io::ErrorKind::OutOfMemory => ExitCode::from(7),
         Err(_) => ExitCode::from(8),
     }
+}
+
+// The status of the command that the words spell; the cluster that it keeps is let go.
+fn status_of<R: Threads + Wait + Sync + AllocGlobal, L: Library, K: Sink>(
+    rt: &R,
+    words: &[String],
+    library: &mut L,
+    out: &mut K,
+) -> u8 {
+    let gate = OpenGate::new();
+    bench(rt, rt.alloc(), words, library, out, &gate, &mut None)
 }
 
 // The words after the program's name.
