@@ -16,6 +16,7 @@ ghost use Rattle.ttp_top.specs.Tests.Promise.{KeepsPromise, PrecisionPromise};
 ghost use Rattle.ttp_top.specs.Traces.Promise.{VerifyPromise, ModesPromise};
 
 use crate::faced::precision;
+use crate::kept::let_go;
 use crate::modes::modes;
 use crate::run::{keeps, run};
 use crate::sample::sample;
@@ -167,6 +168,6 @@ pub fn bench<R: Threads + Wait + Sync, L: Library, K: Sink, G: Gate>(
     // A cluster is kept exactly after status 0 of `run` and of `sample`, whatever was kept before.
     ensures kept { is_some kept.new ≡ (runs_cluster (form_of (texts_of words.now)) && (result == 0)) }
 {
-    *kept = None;
+    let_go(kept.take());
     obey(rt, alloc, command_of(words), library, out, gate, kept)
 }

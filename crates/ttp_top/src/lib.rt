@@ -23,7 +23,7 @@
 //! two slots it stands for legal message numbers whose lines were written (`HasWritten`). Each text
 //! is written a line at a time, each line as one piece; after a failed write nothing more is
 //! written. `sample` does all slots in `src/totals.rt` before its first line, and forms no text of
-//! a slot. `src/kept.rt` is the one function that lets a cluster go, since each that may do so is
+//! a slot. `src/kept.rt` has the one function that lets a cluster go, since each that may do so is
 //! proved part by part of what a cluster holds.
 //!
 //! `run` and `sample` alone start threads and wait, in slots in which hosts write or read. A slot
