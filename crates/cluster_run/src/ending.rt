@@ -105,17 +105,7 @@ fn end_both<R: Threads + Sync, G: Gate>(rt: &R, front: Part, back: Part, common:
             front_desks.now }
         ensures { HasPartEnded common.entry.now.list.now common.entry.now.script.now common.entry.now.medium.now
             first front_seats.entry.now front_seats.exit.now front_desks.entry.now front_desks.exit.now }
-    {
-        end_part(
-            Part {
-                first,
-                seats: &mut *front_seats,
-                desks: &mut *front_desks,
-            },
-            common,
-            gate,
-        )
-    };
+    { end_from(first, front_seats, front_desks, common, gate) };
     let Part {
         first: half,
         seats: back_seats,
@@ -126,17 +116,7 @@ fn end_both<R: Threads + Sync, G: Gate>(rt: &R, front: Part, back: Part, common:
             back_desks.now }
         ensures { HasPartEnded common.entry.now.list.now common.entry.now.script.now common.entry.now.medium.now
             half back_seats.entry.now back_seats.exit.now back_desks.entry.now back_desks.exit.now }
-    {
-        end_part(
-            Part {
-                first: half,
-                seats: &mut *back_seats,
-                desks: &mut *back_desks,
-            },
-            common,
-            gate,
-        )
-    };
+    { end_from(half, back_seats, back_desks, common, gate) };
     join_mut(rt, &mut end_front, &mut end_back);
 }
 
