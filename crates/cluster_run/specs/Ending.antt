@@ -1,6 +1,5 @@
 -- What a controller hands on to its host at the end of a slot.
 use Rattle.std.specs.Prelude.{◌≡◌, ℕ, ◌+◌, ◌<◌, ◌≤◌, List, length, map, get_or, All, Option, Some, None, option_map}
-use Rattle.std.specs.Borrow.{MutBor}
 use Rattle.std.specs.Option.{ForSome}
 use Rattle.medium.specs.Carried.{Carried}
 use Rattle.ttp_world.specs.declared.medl.Medl.{Medl}
@@ -22,8 +21,6 @@ use Rattle.controller.specs.PlantStands.{no_outcome, outcomes_of}
 use Rattle.controller.specs.declared.seat.Seat.{Seat}
 use Rattle.host_port.specs.Rings.{ControllerState, at_source}
 use Rattle.host_port.specs.Writing.{written_at, HasRoom, Takes}
-use Rattle.cluster_run.specs.declared.ending.Common.{Common}
-use Rattle.cluster_run.specs.declared.ending.Part.{Part}
 use Rattle.cluster_run.specs.declared.nodes.Desk.{Desk}
 use Rattle.cluster_run.specs.Ends.{rings_of, end_at, desk_ends, desk_numbers}
 use Rattle.cluster_run.specs.Sending.{message_count}
@@ -95,13 +92,3 @@ pub record HasPartEnded (l : Medl) (sc : Script) (carried : Carried) (first : �
       → HaveEnded l sc history chosen first seats'
   pub rings : map rings_of (desk_ends desks') ≡ map rings_of (desk_ends desks)
   pub handed : HaveHandedOn (outcomes_of seats') (desk_ends desks) (desk_ends desks') (desk_numbers desks')
-
--- what a call leaves of a part that it was given: the number of its first node, its seats and its desks
-abbrev pub LeftOfPart : Type 0
-LeftOfPart = ℕ × (MutBor (List Seat) × (MutBor (List Desk) × Unit {0}))
-
--- a part has ended its slot so, with what all parts read
-abbrev pub EndsPart : Common → Part → LeftOfPart → Type 0
-EndsPart common part left =
-    HasPartEnded common.list.now common.script.now common.medium.now part.first part.seats.now left.1.0.now
-    part.desks.now left.1.1.0.now

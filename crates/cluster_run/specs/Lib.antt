@@ -9,6 +9,7 @@ pub mod Choosing
 pub mod Ending
 pub mod Reading
 pub mod Jobs
+pub mod Halves
 pub mod Report
 pub mod Texts
 pub mod Slots

@@ -1,7 +1,8 @@
 //! A slot with workers that stay.
-ghost use Rattle.std.specs.Prelude.{◌≡◌, ◌≤◌, ◌++◌, length, vec_capacity, IfOk, OnOk};
+ghost use Rattle.std.specs.Prelude.{◌≡◌, ◌≤◌, length, vec_capacity, IsSome, IfOk, OnOk};
 ghost use Rattle.std.specs.Arc.{arc_value};
 ghost use Rattle.cluster_run.specs.Ending.{IsPartReady, HasPartEnded};
+ghost use Rattle.cluster_run.specs.Halves.{IsBackHalf, IsBackAgain};
 ghost use Rattle.cluster_run.specs.Jobs.{IsJobReady, HasJobEnded, MayHostsDo, HaveHostsDone};
 ghost use Rattle.cluster_run.specs.Jobs.{MayWriteAt, HaveWrittenAt};
 ghost use Rattle.cluster_run.specs.Reading.{HaveRoomForReads, HaveRead};
@@ -50,30 +51,27 @@ fn fetch_beside<'b, 'a, R: Wait, G: Gate>(
     (hosts, job, fetchers)
 }
 
-/// The worker makes the writes of hosts beside the fetches.
+/// The worker makes the writes of hosts beside the fetches. It is hired.
 pub(crate) fn write_beside<'b, 'a, R: Wait, G: Gate>(
     rt: &R,
-    hired: Hired<'b, 'a>,
+    staff: &mut Option<Hired<'b, 'a>>,
     ends: Vec<HostEnd>,
     fetchers: Vec<Option<Fetcher>>,
     script: &'a Script,
     places: &'a [usize],
     lines: Vec<WriteLine>,
     gate: &G,
-) -> (
-    Hired<'b, 'a>,
-    (Vec<HostEnd>, Vec<WriteLine>),
-    Vec<Option<Fetcher>>,
-)
+) -> (Vec<HostEnd>, Vec<WriteLine>, Vec<Option<Fetcher>>)
+    requires staff { IsSome staff.old }
     requires writes { MayWriteAt script.now places.now ends.items lines.items (vec_capacity lines) }
     requires fetchers { MayFetchAll fetchers.items }
-    ensures written { HaveWrittenAt script.now places.now ends.items result.1.0.items result.1.1.items }
+    ensures written { HaveWrittenAt script.now places.now ends.items result.0.items result.1.items }
     ensures fetches { FetchAll fetchers.items result.2.items }
 {
     let Hired {
         ends: ending,
         hosts,
-    } = hired;
+    } = staff.take().unwrap();
     let job = HostJob::Write {
         script,
         places,
@@ -81,15 +79,12 @@ pub(crate) fn write_beside<'b, 'a, R: Wait, G: Gate>(
         lines,
     };
     let (hosts, job, fetchers) = fetch_beside(rt, hosts, job, fetchers, gate);
+    *staff = Some(Hired {
+        ends: ending,
+        hosts,
+    });
     match job {
-        HostJob::Write { ends, lines, .. } => (
-            Hired {
-                ends: ending,
-                hosts,
-            },
-            (ends, lines),
-            fetchers,
-        ),
+        HostJob::Write { ends, lines, .. } => (ends, lines, fetchers),
         HostJob::Read { .. } => unreachable!(),
     }
 }
@@ -128,70 +123,33 @@ fn end_beside<'b, 'a, R: Wait, G: Gate>(
     (Hired { ends, hosts }, back, read)
 }
 
-// Takes the back half out of the nodes, with the medium that both halves read. Another one lies there then, which nobody
-// reads before it carries the frames of the next slot.
-fn back_half<'a>(at: &CurrentSlot<'a>, nodes: &mut Nodes) -> Result<EndJob<'a>, Memory>
-    requires nodes { length nodes.old.seats.items ≤ 256 }
-    requires desks { length nodes.old.desks.items ≡ length nodes.old.seats.items }
-    ensures list { IfOk result (λ back. back.list.now ≡ at.now.list.now) }
-    ensures script { IfOk result (λ back. back.script.now ≡ at.now.script.now) }
-    ensures medium { IfOk result (λ back. arc_value back.medium ≡ nodes.old.medium) }
-    ensures first { IfOk result (λ back. length nodes.new.seats.items ≡ back.first) }
-    ensures seats { IfOk result (λ back. nodes.old.seats.items ≡ nodes.new.seats.items ++ back.seats.items) }
-    ensures desks { IfOk result (λ back. nodes.old.desks.items ≡ nodes.new.desks.items ++ back.desks.items) }
-    ensures desks_count { OnOk result (length nodes.new.desks.items ≡ length nodes.new.seats.items) }
-    ensures host_ends { OnOk result (nodes.new.host_ends ≡ nodes.old.host_ends) }
-    ensures chosen { OnOk result (nodes.new.chosen ≡ nodes.old.chosen) }
-{
-    let half = nodes.seats.len() / 2;
-    let medium = mem::replace(&mut nodes.medium, Medium::new(at.alloc, at.list)?);
-    let Ok(medium) = Arc::new(at.alloc, medium) else {
-        return Err(Memory);
-    };
-    let seats = nodes.seats.split_off(half)?;
-    let desks = nodes.desks.split_off(half)?;
-    Ok(EndJob {
-        list: at.list,
-        script: at.script,
-        medium,
-        first: half as u8,
-        seats,
-        desks,
-    })
-}
-
-// Puts the back half behind the front half again.
-fn join_back(nodes: &mut Nodes, mut back: EndJob<'_>) -> Result<(), Memory>
-    ensures seats { OnOk result (nodes.new.seats.items ≡ nodes.old.seats.items ++ back.entry.seats.items) }
-    ensures desks { OnOk result (nodes.new.desks.items ≡ nodes.old.desks.items ++ back.entry.desks.items) }
-    ensures host_ends { OnOk result (nodes.new.host_ends ≡ nodes.old.host_ends) }
-    ensures chosen { OnOk result (nodes.new.chosen ≡ nodes.old.chosen) }
-{
-    nodes.seats.append(&mut back.seats)?;
-    nodes.desks.append(&mut back.desks)?;
-    Ok(())
-}
-
-/// The two halves of the nodes end the slot beside the reads of hosts, with the workers.
-pub(crate) fn end_staying<'b, 'a, R: Wait, G: Gate>(
+// Both halves end the slot beside these reads, with the workers, which are hired. The readers are handed out again.
+fn end_halves_beside<'b, 'a, R: Wait, G: Gate>(
     rt: &R,
-    hired: Hired<'b, 'a>,
-    at: &CurrentSlot<'a>,
+    staff: &mut Option<Hired<'b, 'a>>,
     nodes: &mut Nodes,
+    medium: Arc<Medium>,
+    back: EndJob<'a>,
     readers: Vec<Option<HostReaders>>,
     reads: &'a [HostRead],
     gate: &G,
-) -> Result<(Hired<'b, 'a>, Vec<Option<HostReaders>>), Memory>
-    requires ready { AreReady at.now nodes.old }
+) -> (EndJob<'a>, Vec<Option<HostReaders>>)
+    requires staff { IsSome staff.old }
+    requires front { IsPartReady back.list.now back.script.now (arc_value medium) 0 nodes.old.seats.items
+        nodes.old.desks.items }
+    requires back { IsJobReady back }
     requires left { HaveRoomForReads reads.now readers.items }
-    ensures ended { OnOk result (AllHaveEnded at.now nodes.old nodes.new) }
-    ensures read { IfOk result (λ r. HaveRead reads.now readers.items r.1.items) }
+    ensures front { HasPartEnded back.entry.list.now back.entry.script.now (arc_value medium) 0 nodes.old.seats.items
+        nodes.new.seats.items nodes.old.desks.items nodes.new.desks.items }
+    ensures back { HasJobEnded back.entry result.0 }
+    ensures read { HaveRead reads.now readers.items result.1.items }
+    ensures host_ends { nodes.new.host_ends ≡ nodes.old.host_ends }
+    ensures chosen { nodes.new.chosen ≡ nodes.old.chosen }
 {
-    let back = back_half(at, nodes)?;
-    let medium = Arc::try_clone(&back.medium)?;
+    let hired = staff.take().unwrap();
     let common = Common {
-        list: at.list,
-        script: at.script,
+        list: back.list,
+        script: back.script,
         medium: &medium,
     };
     let (hired, back, read) = end_beside(
@@ -204,9 +162,80 @@ pub(crate) fn end_staying<'b, 'a, R: Wait, G: Gate>(
         &common,
         gate,
     );
-    join_back(nodes, back)?;
+    *staff = Some(hired);
     match read {
-        HostJob::Read { readers, .. } => Ok((hired, readers)),
+        HostJob::Read { readers, .. } => (back, readers),
         HostJob::Write { .. } => unreachable!(),
     }
+}
+
+// Takes the medium out, to be read by two. Another one lies there then, which nobody reads before it carries the frames
+// of the next slot.
+fn share_medium(
+    at: &CurrentSlot<'_>,
+    medium: &mut Medium,
+) -> Result<(Arc<Medium>, Arc<Medium>), Memory>
+    ensures { IfOk result (λ r. (arc_value r.0 ≡ medium.old) × (arc_value r.1 ≡ medium.old)) }
+{
+    let medium = mem::replace(medium, Medium::new(at.alloc, at.list)?);
+    let Ok(medium) = Arc::new(at.alloc, medium) else {
+        return Err(Memory);
+    };
+    let shared = Arc::try_clone(&medium)?;
+    Ok((medium, shared))
+}
+
+// Takes the back half out of the nodes, with the medium, which is handed out for the front half too.
+fn back_half<'a>(
+    at: &CurrentSlot<'a>,
+    nodes: &mut Nodes,
+) -> Result<(EndJob<'a>, Arc<Medium>), Memory>
+    requires nodes { length nodes.old.seats.items ≤ 256 }
+    requires desks { length nodes.old.desks.items ≡ length nodes.old.seats.items }
+    ensures { IfOk result (λ r. IsBackHalf at.now nodes.old nodes.new r.0 (arc_value r.1)) }
+{
+    let half = nodes.seats.len() / 2;
+    let (medium, shared) = share_medium(at, &mut nodes.medium)?;
+    let seats = nodes.seats.split_off(half)?;
+    let desks = nodes.desks.split_off(half)?;
+    let back = EndJob {
+        list: at.list,
+        script: at.script,
+        medium,
+        first: half as u8,
+        seats,
+        desks,
+    };
+    Ok((back, shared))
+}
+
+// Puts the back half behind the front half again.
+fn join_back(nodes: &mut Nodes, mut back: EndJob<'_>) -> Result<(), Memory>
+    ensures { OnOk result (IsBackAgain nodes.old back.entry nodes.new) }
+{
+    nodes.seats.append(&mut back.seats)?;
+    nodes.desks.append(&mut back.desks)?;
+    Ok(())
+}
+
+/// The two halves of the nodes end the slot beside the reads of hosts, with the workers, which are hired.
+pub(crate) fn end_staying<'b, 'a, R: Wait, G: Gate>(
+    rt: &R,
+    staff: &mut Option<Hired<'b, 'a>>,
+    at: &CurrentSlot<'a>,
+    nodes: &mut Nodes,
+    readers: Vec<Option<HostReaders>>,
+    reads: &'a [HostRead],
+    gate: &G,
+) -> Result<Vec<Option<HostReaders>>, Memory>
+    requires staff { IsSome staff.old }
+    requires ready { AreReady at.now nodes.old }
+    requires left { HaveRoomForReads reads.now readers.items }
+    ensures ended { OnOk result (AllHaveEnded at.now nodes.old nodes.new) }
+    ensures read { IfOk result (λ left. HaveRead reads.now readers.items left.items) }
+{
+    let (back, medium) = back_half(at, nodes)?;
+    let (back, readers) = end_halves_beside(rt, staff, nodes, medium, back, readers, reads, gate);
+    join_back(nodes, back)?;
+    Ok(readers)
 }

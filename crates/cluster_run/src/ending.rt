@@ -1,7 +1,7 @@
 //! The end of a slot: each controller takes what its node hears, and hands on what its host is to get.
 ghost use Rattle.std.specs.Prelude.{◌≡◌};
 ghost use Rattle.cluster_run.specs.Ending.{MayHandOn, delivered_to, handed_on, number_handed};
-ghost use Rattle.cluster_run.specs.Ending.{IsPartReady, HasPartEnded, EndsPart};
+ghost use Rattle.cluster_run.specs.Ending.{IsPartReady, HasPartEnded};
 
 use crate::nodes::Desk;
 use controller::{Outcome, Seat, take_all};
@@ -17,14 +17,6 @@ pub(crate) struct Common<'a> {
     pub(crate) list: &'a Medl,
     pub(crate) script: &'a Script,
     pub(crate) medium: &'a Medium,
-}
-
-/// A part of the nodes, those from a first one on.
-#[derive(Drop)]
-pub(crate) struct Part<'a> {
-    pub(crate) first: u8,
-    pub(crate) seats: &'a mut [Seat],
-    pub(crate) desks: &'a mut [Desk],
 }
 
 // A controller delivers a payload, if there is one, and answers its number.
@@ -49,24 +41,7 @@ fn hand_on<G: Gate>(desk: &mut Desk, outcome: &Outcome, gate: &G)
     desk.end.publish(&outcome.status, gate);
 }
 
-// The controllers of a part end the slot, and then hand on what it left, one after another.
-fn end_part<G: Gate>(part: Part, common: &Common, gate: &G)
-    requires { IsPartReady common.now.list.now common.now.script.now common.now.medium.now part.first part.seats.now
-        part.desks.now }
-    ensures { EndsPart common.now part.entry part.exit }
-{
-    let Part {
-        first,
-        seats,
-        desks,
-    } = part;
-    take_all(seats, common.medium, common.list, common.script, first);
-    for j in 0..desks.len() {
-        hand_on(&mut desks[j], &seats[j].outcome, gate);
-    }
-}
-
-/// The nodes from a first one on end the slot, one after another.
+/// The controllers of the nodes from a first one on end the slot, and then hand on what it left, one after another.
 pub(crate) fn end_from<G: Gate>(
     first: u8,
     seats: &mut [Seat],
@@ -78,65 +53,44 @@ pub(crate) fn end_from<G: Gate>(
     ensures { HasPartEnded common.now.list.now common.now.script.now common.now.medium.now first seats.old seats.new
         desks.old desks.new }
 {
-    let part = Part {
-        first,
-        seats,
-        desks,
-    };
-    end_part(part, common, gate);
+    take_all(seats, common.medium, common.list, common.script, first);
+    for j in 0..desks.len() {
+        hand_on(&mut desks[j], &seats[j].outcome, gate);
+    }
 }
 
-// Two parts end the slot, each in a thread.
-fn end_both<R: Threads + Sync, G: Gate>(rt: &R, front: Part, back: Part, common: &Common, gate: &G)
-    requires front { IsPartReady common.now.list.now common.now.script.now common.now.medium.now front.first
-        front.seats.now front.desks.now }
-    requires back { IsPartReady common.now.list.now common.now.script.now common.now.medium.now back.first
-        back.seats.now back.desks.now }
-    ensures front { EndsPart common.now front.entry front.exit }
-    ensures back { EndsPart common.now back.entry back.exit }
+// Both halves of the nodes end the slot, each in a thread.
+fn end_both<R: Threads + Sync, G: Gate>(
+    rt: &R,
+    half: u8,
+    front_seats: &mut [Seat],
+    back_seats: &mut [Seat],
+    front_desks: &mut [Desk],
+    back_desks: &mut [Desk],
+    common: &Common,
+    gate: &G,
+)
+    requires front { IsPartReady common.now.list.now common.now.script.now common.now.medium.now 0 front_seats.old
+        front_desks.old }
+    requires back { IsPartReady common.now.list.now common.now.script.now common.now.medium.now half back_seats.old
+        back_desks.old }
+    ensures front { HasPartEnded common.now.list.now common.now.script.now common.now.medium.now 0 front_seats.old
+        front_seats.new front_desks.old front_desks.new }
+    ensures back { HasPartEnded common.now.list.now common.now.script.now common.now.medium.now half back_seats.old
+        back_seats.new back_desks.old back_desks.new }
 {
-    let Part {
-        first,
-        seats: front_seats,
-        desks: front_desks,
-    } = front;
     let mut end_front = ||
-        requires { IsPartReady common.now.list.now common.now.script.now common.now.medium.now first front_seats.now
+        requires { IsPartReady common.now.list.now common.now.script.now common.now.medium.now 0 front_seats.now
             front_desks.now }
-        ensures { HasPartEnded common.entry.now.list.now common.entry.now.script.now common.entry.now.medium.now
-            first front_seats.entry.now front_seats.exit.now front_desks.entry.now front_desks.exit.now }
-    {
-        end_part(
-            Part {
-                first,
-                seats: &mut *front_seats,
-                desks: &mut *front_desks,
-            },
-            common,
-            gate,
-        )
-    };
-    let Part {
-        first: half,
-        seats: back_seats,
-        desks: back_desks,
-    } = back;
+        ensures { HasPartEnded common.entry.now.list.now common.entry.now.script.now common.entry.now.medium.now 0
+            front_seats.entry.now front_seats.exit.now front_desks.entry.now front_desks.exit.now }
+    { end_from(0, front_seats, front_desks, common, gate) };
     let mut end_back = ||
         requires { IsPartReady common.now.list.now common.now.script.now common.now.medium.now half back_seats.now
             back_desks.now }
         ensures { HasPartEnded common.entry.now.list.now common.entry.now.script.now common.entry.now.medium.now
             half back_seats.entry.now back_seats.exit.now back_desks.entry.now back_desks.exit.now }
-    {
-        end_part(
-            Part {
-                first: half,
-                seats: &mut *back_seats,
-                desks: &mut *back_desks,
-            },
-            common,
-            gate,
-        )
-    };
+    { end_from(half, back_seats, back_desks, common, gate) };
     join_mut(rt, &mut end_front, &mut end_back);
 }
 
@@ -155,15 +109,14 @@ pub(crate) fn end_halves<R: Threads + Sync, G: Gate>(
     let half = seats.len() / 2;
     let (front_seats, back_seats) = seats.split_at_mut(half);
     let (front_desks, back_desks) = desks.split_at_mut(half);
-    let front = Part {
-        first: 0,
-        seats: front_seats,
-        desks: front_desks,
-    };
-    let back = Part {
-        first: half as u8,
-        seats: back_seats,
-        desks: back_desks,
-    };
-    end_both(rt, front, back, common, gate);
+    end_both(
+        rt,
+        half as u8,
+        front_seats,
+        back_seats,
+        front_desks,
+        back_desks,
+        common,
+        gate,
+    );
 }

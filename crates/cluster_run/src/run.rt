@@ -4,8 +4,8 @@ ghost use Rattle.cluster_run.specs.Progress.{MayRun, HasRunOn};
 
 use crate::jobs::{EndJob, HostJob};
 use crate::progress::{Course, Progress};
-use crate::staff::{Ends, Hired, Hosts, await_service, serve_ends, serve_hosts};
-use errand::ends::{Worker, hire, open};
+use crate::staff::{Ends, Hired, Hosts, await_service, serve_ends, serve_hosts, tables_of};
+use errand::ends::{Worker, hire};
 use host_port::SlotReport;
 use std::sync::Wait;
 use std::thread::{Threads, join_mut};
@@ -191,9 +191,9 @@ fn run_beside_both<'b, 'a, R: Threads + Wait + Sync, G: Gate, W: Watch>(
     left
 }
 
-/// All slots that are left. Two workers are hired for them before the first one in which a host does something, and go
-/// after the last. Where memory is refused for that, all is done without them.
-pub(crate) fn run_all<'a, R: Threads + Wait + Sync, G: Gate, W: Watch>(
+// The slots that are left, with two workers that are hired for them. Where memory is refused for that, all is done
+// without them.
+fn run_hired<'a, R: Threads + Wait + Sync, G: Gate, W: Watch>(
     rt: &R,
     course: &Course<'a>,
     at: &mut Progress,
@@ -205,25 +205,8 @@ pub(crate) fn run_all<'a, R: Threads + Wait + Sync, G: Gate, W: Watch>(
     ensures runs { HasRunOn W.follows W.leaves course.now at.old at.new out.old out.new result }
     ensures done { OnOk result (at.new.done ≡ course.now.script.now.slots) }
 {
-    let slots = course.script.slots;
-    run_slots(
-        rt,
-        &mut None,
-        course,
-        first_busy(course.script),
-        at,
-        watch,
-        out,
-        gate,
-    )?;
-    if at.done == slots {
-        return Ok(());
-    }
-    let Ok((ends_table, ends_seat)) = open::<EndJob<'a>, Ends>(course.alloc) else {
-        return run_slots(rt, &mut None, course, slots, at, watch, out, gate);
-    };
-    let Ok((hosts_table, hosts_seat)) = open::<HostJob<'a>, Hosts>(course.alloc) else {
-        return run_slots(rt, &mut None, course, slots, at, watch, out, gate);
+    let Ok(((ends_table, ends_seat), (hosts_table, hosts_seat))) = tables_of(course.alloc) else {
+        return run_staffed(rt, &mut None, course, at, watch, out, gate);
     };
     let (ends, ends_worker) = hire(&ends_table.shared, ends_seat);
     let (hosts, hosts_worker) = hire(&hosts_table.shared, hosts_seat);
@@ -237,4 +220,26 @@ pub(crate) fn run_all<'a, R: Threads + Wait + Sync, G: Gate, W: Watch>(
         out,
         gate,
     )
+}
+
+/// All slots that are left. Two workers are hired for them before the first one in which a host does something, and go
+/// after the last. Where memory is refused for that, all is done without them.
+pub(crate) fn run_all<R: Threads + Wait + Sync, G: Gate, W: Watch>(
+    rt: &R,
+    course: &Course<'_>,
+    at: &mut Progress,
+    watch: &mut W,
+    out: &mut W::Out,
+    gate: &G,
+) -> Result<(), W::Fault>
+    requires may { MayRun W.follows course.now at.old out.old }
+    ensures runs { HasRunOn W.follows W.leaves course.now at.old at.new out.old out.new result }
+    ensures done { OnOk result (at.new.done ≡ course.now.script.now.slots) }
+{
+    let first = first_busy(course.script);
+    run_slots(rt, &mut None, course, first, at, watch, out, gate)?;
+    if at.done == course.script.slots {
+        return Ok(());
+    }
+    run_hired(rt, course, at, watch, out, gate)
 }

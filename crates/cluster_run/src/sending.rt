@@ -178,14 +178,10 @@ pub(crate) fn write_and_fetch<'b, 'a, R: Threads + Wait + Sync, G: Gate>(
         let (ends, lines) = write_all(ends, script, places, lines, gate);
         return (ends, lines, fetch_all(fetchers, gate));
     }
-    let Some(hired) = staff.take() else {
+    if staff.is_none() {
         return write_started(rt, ends, fetchers, script, places, lines, gate);
-    };
-    let (hired, (ends, lines), fetchers) = write_beside(
-        rt, hired, ends, fetchers, script, places, lines, gate,
-    );
-    *staff = Some(hired);
-    (ends, lines, fetchers)
+    }
+    write_beside(rt, staff, ends, fetchers, script, places, lines, gate)
 }
 
 // The payload of so many bytes that has these words.

@@ -101,12 +101,10 @@ fn end_and_read<'b, 'a, R: Threads + Wait + Sync, G: Gate>(
     ensures ended { OnOk result (AllHaveEnded at.now nodes.old nodes.new) }
     ensures read { IfOk result (λ left. HaveRead reads.now readers.items left.items) }
 {
-    let Some(hired) = staff.take() else {
+    if staff.is_none() {
         return Ok(end_with_started(rt, at, nodes, readers, reads, gate));
-    };
-    let (hired, readers) = end_staying(rt, hired, at, nodes, readers, reads, gate)?;
-    *staff = Some(hired);
-    Ok(readers)
+    }
+    end_staying(rt, staff, at, nodes, readers, reads, gate)
 }
 
 // Controllers begin the slot, hosts write, and what is to be sent is planned and put on the medium. The

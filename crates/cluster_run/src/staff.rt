@@ -1,5 +1,8 @@
 //! Workers that stay for a run: one ends slots for the back half of the nodes, and one does what hosts do.
-ghost use Rattle.std.specs.Prelude.{◌≡◌, Some};
+ghost use Rattle.std.specs.Prelude.{◌≡◌, None, Some, IfOk};
+ghost use Rattle.errand.specs.declared.note.Role.TheVariants.{Alone};
+ghost use Rattle.errand.specs.Ends.{IsSeated};
+ghost use Rattle.errand.specs.Turns.{bare};
 ghost use Rattle.cluster_run.specs.declared.jobs.EndJob.{EndJob};
 ghost use Rattle.cluster_run.specs.declared.jobs.HostJob.{HostJob};
 ghost use Rattle.cluster_run.specs.Jobs.{IsJobReady, HasJobEnded, MayHostsDo, HaveHostsDone};
@@ -8,8 +11,9 @@ use crate::ending::{Common, end_from};
 use crate::jobs::{EndJob, HostJob};
 use crate::reading::read_all;
 use crate::sending::write_all;
-use errand::ends::{Giver, Waiting, Worker};
+use errand::ends::{End, Giver, Waiting, Whole, Worker, open};
 use errand::rule::Errand;
+use std::alloc::{AllocError, Global};
 use std::sync::Wait;
 use ttp_base::Gate;
 
@@ -36,6 +40,21 @@ impl<'a> Errand<HostJob<'a>> for Hosts {
 pub(crate) struct Hired<'b, 'a> {
     pub(crate) ends: Giver<'b, EndJob<'a>, Ends>,
     pub(crate) hosts: Giver<'b, HostJob<'a>, Hosts>,
+}
+
+/// A table for the jobs of one worker, with its end.
+type Table<J, D> = (Whole<J, D>, End<J>);
+
+/// A table for each worker, before it is hired.
+pub(crate) fn tables_of<'a>(
+    alloc: Global,
+) -> Result<(Table<EndJob<'a>, Ends>, Table<HostJob<'a>, Hosts>), AllocError>
+    ensures ends { IfOk result (λ r. IsSeated r.0.0.shared.table_id r.0.1.table_id × (r.0.1.me ≡ bare Alone None)) }
+    ensures hosts { IfOk result (λ r. IsSeated r.1.0.shared.table_id r.1.1.table_id × (r.1.1.me ≡ bare Alone None)) }
+{
+    let ends = open(alloc)?;
+    let hosts = open(alloc)?;
+    Ok((ends, hosts))
 }
 
 /// Looks for a while whether both begin to serve.

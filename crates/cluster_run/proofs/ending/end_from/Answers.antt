@@ -1,14 +1,14 @@
 use Rattle.cluster_run.proofs.Words.{◌≡◌, ◌<◌, length, refl, sym, ap, ◌∙◌, arith, length-map, Seat, no_outcome}
 use Rattle.cluster_run.proofs.Words.{outcomes_of, Desk, outcome_of, at_any, slice_get_read, get_or-map}
 use Rattle.cluster_run.proofs.HandingOn.{handed_more, have_handed_on, no_desk}
-use Rattle.cluster_run.proofs.ending.end_part.Goals as goal
+use Rattle.cluster_run.proofs.ending.end_from.Goals as goal
 
 pub hand_on-requires-clause-room : goal.hand_on-requires-clause-room
 hand_on-requires-clause-room g c κs within =
     let j = c.loop-j.j in
     let so = c.loop-j.invariant in
     let may = c.requires.may in
-    let old = c.args.part.desks.now in
+    let old = c.args.desks.now in
     let end = λ (d : Desk). d.end in
     let near : j < length c.loop-j.desks = omega (arith, so.changed.count, c.loop-j-test.true) in
     let seats = c.take_all.new.seats in
