@@ -1,78 +1,17 @@
 //! What a node makes of right, wrong, late and missing frames, worked out by hand.
-ghost use Rattle.std.specs.Prelude.{◌≡◌, ◌≤◌, true, false, [], ◌∷◌, ◌++◌, unsigned_abs, IfOk};
-ghost use Rattle.ttp_world.specs.Medl.{IsValid};
+ghost use Rattle.std.specs.Prelude.{◌≡◌, ◌≤◌, unsigned_abs};
 ghost use Rattle.controller.specs.PlantWithin.{IsEnded};
 ghost use Rattle.controller.specs.Limits.{offset_of_arrival};
 
+use super::lists::mixed_nodes;
 use super::slots::{no_outcome, through_slot};
 use controller::{Controller, Outcome};
 use medium::{Arrival, Outgoing};
 use std::alloc::Global;
 use std::process::Abort;
-use ttp_base::{List, Memory, NodeSet};
+use ttp_base::NodeSet;
 use ttp_frame::{FrameIn, encode};
-use ttp_world::{CState, Delivered, Entry, Kind, Medl, Reason, SlotPlan, Verdict};
-
-// Adds the slot of one more node.
-fn add_slot(
-    alloc: Global,
-    slots: &mut List<SlotPlan>,
-    kind: Kind,
-    payload: u8,
-    start: bool,
-) -> Result<(), Memory>
-    ensures { IfOk result (λ _. slots.new ≡ slots.old ++ record {
-      kinds = kind ∷ [];
-      payload = payload;
-      sync = true;
-      start = start;
-      requests = false;
-      live = 1;
-    } ∷ []) }
-{
-    let mut kinds = List::new(alloc);
-    let Ok(()) = kinds.push(kind) else {
-        return Err(Memory);
-    };
-    slots.push(SlotPlan {
-        kinds,
-        payload,
-        sync: true,
-        start,
-        requests: false,
-        live: 1,
-    })
-}
-
-// Four nodes, of which node 1 sends its C-state and two bytes of payload.
-fn four_nodes(alloc: Global) -> Result<Medl, Memory>
-    ensures { IfOk result IsValid }
-{
-    let mut slots = List::new(alloc);
-    let Ok(()) = add_slot(alloc, &mut slots, Kind::I, 0, true) else {
-        return Err(Memory);
-    };
-    let Ok(()) = add_slot(alloc, &mut slots, Kind::X, 2, false) else {
-        return Err(Memory);
-    };
-    let Ok(()) = add_slot(alloc, &mut slots, Kind::N, 2, false) else {
-        return Err(Memory);
-    };
-    let Ok(()) = add_slot(alloc, &mut slots, Kind::I, 0, false) else {
-        return Err(Memory);
-    };
-    Ok(Medl {
-        version: 1,
-        rounds: 1,
-        schedule: 7,
-        buffers: 2,
-        drift: 0,
-        error: 1,
-        window: 100,
-        modes: 1,
-        slots,
-    })
-}
+use ttp_world::{CState, Delivered, Entry, Medl, Reason, Verdict};
 
 // Nodes 0, 1 and 3.
 fn three_members() -> NodeSet {
@@ -273,17 +212,17 @@ fn decides(
     came: (Came, Came),
     entry: &Entry,
     byte: Option<u8>,
-) -> Result<bool, Memory> {
+) -> bool {
     let number = if answered { 3 } else { 0 };
-    let Ok(list) = four_nodes(alloc) else {
-        return Err(Memory);
+    let Ok(list) = mixed_nodes(alloc) else {
+        return false;
     };
     let Ok(mut node) = Controller::new(alloc, &list, number) else {
-        return Err(Memory);
+        return false;
     };
     become_receiver(rt, &mut node, &list, answered);
     let others = three_members().without(number);
-    Ok(judges(rt, &mut node, &list, others, came, entry, byte))
+    judges(rt, &mut node, &list, others, came, entry, byte)
 }
 
 // Whether a receiver is answered, what comes on the channels, the verdict and the deviation that it enters, and
@@ -333,10 +272,7 @@ fn decides_as_due(rt: &impl Abort, alloc: Global, row: &Judgement) -> bool {
         verdict,
         deviation,
     };
-    matches!(
-        decides(rt, alloc, answered, (on_a, on_b), &entry, byte),
-        Ok(true)
-    )
+    decides(rt, alloc, answered, (on_a, on_b), &entry, byte)
 }
 
 #[test]
@@ -375,19 +311,14 @@ fn enters(
 }
 
 // Whether node 3 enters this.
-fn joins(
-    rt: &impl Abort,
-    alloc: Global,
-    came: (Came, Came),
-    entry: &Entry,
-) -> Result<bool, Memory> {
-    let Ok(list) = four_nodes(alloc) else {
-        return Err(Memory);
+fn joins(rt: &impl Abort, alloc: Global, came: (Came, Came), entry: &Entry) -> bool {
+    let Ok(list) = mixed_nodes(alloc) else {
+        return false;
     };
     let Ok(mut node) = Controller::new(alloc, &list, 3) else {
-        return Err(Memory);
+        return false;
     };
-    Ok(enters(rt, &mut node, &list, came, entry))
+    enters(rt, &mut node, &list, came, entry)
 }
 
 // Whether a node joins as it is due to on what comes on the channels, with this deviation where it joins.
@@ -401,7 +332,7 @@ fn joins_as_due(
         Some(deviation) => joined(deviation),
         None => Entry::Waited,
     };
-    matches!(joins(rt, alloc, came, &entry), Ok(true))
+    joins(rt, alloc, came, &entry)
 }
 
 const JOINS: &[(Came, Came, Option<i64>)] = &[
@@ -474,18 +405,18 @@ fn leaves(rt: &impl Abort, node: &mut Controller, list: &Medl) -> bool
 }
 
 // Whether node 0, which nobody answers, doubts first and then leaves.
-fn is_denied(rt: &impl Abort, alloc: Global) -> Result<bool, Memory> {
-    let Ok(list) = four_nodes(alloc) else {
-        return Err(Memory);
+fn is_denied(rt: &impl Abort, alloc: Global) -> bool {
+    let Ok(list) = mixed_nodes(alloc) else {
+        return false;
     };
     let Ok(mut node) = Controller::new(alloc, &list, 0) else {
-        return Err(Memory);
+        return false;
     };
     become_receiver(rt, &mut node, &list, false);
-    Ok(doubts(rt, &mut node, &list) && leaves(rt, &mut node, &list))
+    doubts(rt, &mut node, &list) && leaves(rt, &mut node, &list)
 }
 
 #[test]
 fn denied_node_leaves(rt: HostRuntime) {
-    assert!(rt; matches!(is_denied(&rt, rt.alloc()), Ok(true)));
+    assert!(rt; is_denied(&rt, rt.alloc()));
 }

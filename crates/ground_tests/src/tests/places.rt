@@ -101,23 +101,30 @@ fn follows(clock: &mut SlotClock, members: NodeSet) -> bool {
     true
 }
 
-// Whether the places of the list follow one another.
-fn follow_in_list(alloc: Global) -> Result<bool, Memory> {
-    let list = four_nodes(alloc)?;
+// Whether the places of a list follow one another.
+fn follow_in(list: &Medl) -> bool
+    requires valid { IsValid list.now }
+    requires rounds { list.now.rounds ≡ 2 }
+    requires slots { length list.now.slots ≡ 4 }
+{
     let members = NodeSet::empty().with(1).with(3);
-    let mut clock = SlotClock::at(
-        &list,
-        &CState {
-            time: 65534,
-            round: 0,
-            slot: 2,
-            members,
-        },
-    );
-    Ok(follows(&mut clock, members))
+    let place = CState {
+        time: 65534,
+        round: 0,
+        slot: 2,
+        members,
+    };
+    follows(&mut SlotClock::at(list, &place), members)
+}
+
+fn follow_in_list(alloc: Global) -> bool {
+    match &four_nodes(alloc) {
+        Ok(list) => follow_in(list),
+        Err(_) => false,
+    }
 }
 
 #[test]
 fn places_follow_one_another(rt: HostRuntime) {
-    assert!(rt; matches!(follow_in_list(rt.alloc()), Ok(true)));
+    assert!(rt; follow_in_list(rt.alloc()));
 }
