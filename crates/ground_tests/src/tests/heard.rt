@@ -41,8 +41,12 @@ enum Came {
 
 // A frame with this header, C-state and payload.
 fn frame_of(rt: &impl Abort, header: u8, cstate: CState, payload: &[u8]) -> Outgoing {
-    assert!(rt; header <= 2 && payload.len() <= 2 && cstate.members.bits() < 0x1_0000);
-    assert!(rt; header != 1 || payload.len() == 0);
+    assert!(rt;
+        header <= 2
+            && payload.len() <= 2
+            && cstate.members.bits() < 0x1_0000
+            && (header != 1 || payload.len() == 0)
+    );
     let mut bytes = [0u8; 256];
     let frame = FrameIn {
         wide: false,
@@ -138,19 +142,21 @@ fn has_joined(node: &Controller) -> bool {
 
 // Takes a new node up to node 1's slot, so that it holds nodes 0, 1 and 3 for members, and its clock is 4 ahead.
 // Node 3 joins on node 0's frame, and owes no answer. Node 0 joins on node 3's frame and then sends one that is
-// not answered.
-fn become_receiver(rt: &impl Abort, node: &mut Controller, list: &Medl, answered: bool)
+// not answered. Tells whether it came so far.
+fn becomes_receiver(rt: &impl Abort, node: &mut Controller, list: &Medl, answered: bool) -> bool
     requires list { list.now ≡ node.old.list }
     requires turn { IsEnded node.old.turn }
     ensures list { list.now ≡ node.new.list }
     ensures turn { IsEnded node.new.turn }
 {
     let (sender, time) = if answered { (0, 4) } else { (3, 3) };
-    assert!(rt; !sends_as_it_joins(rt, node, list, sender, time));
-    if !answered {
-        assert!(rt; sends_after(rt, node, list, &Arrival::Silence, 0));
+    if sends_as_it_joins(rt, node, list, sender, time) {
+        return false;
     }
-    assert!(rt; has_joined(node));
+    if !answered && !sends_after(rt, node, list, &Arrival::Silence, 0) {
+        return false;
+    }
+    has_joined(node)
 }
 
 // The first byte of what is delivered.
@@ -220,9 +226,9 @@ fn decides(
     let Ok(mut node) = Controller::new(alloc, &list, number) else {
         return false;
     };
-    become_receiver(rt, &mut node, &list, answered);
     let others = three_members().without(number);
-    judges(rt, &mut node, &list, others, came, entry, byte)
+    becomes_receiver(rt, &mut node, &list, answered)
+        && judges(rt, &mut node, &list, others, came, entry, byte)
 }
 
 // Whether a receiver is answered, what comes on the channels, the verdict and the deviation that it enters, and
@@ -412,8 +418,9 @@ fn is_denied(rt: &impl Abort, alloc: Global) -> bool {
     let Ok(mut node) = Controller::new(alloc, &list, 0) else {
         return false;
     };
-    become_receiver(rt, &mut node, &list, false);
-    doubts(rt, &mut node, &list) && leaves(rt, &mut node, &list)
+    becomes_receiver(rt, &mut node, &list, false)
+        && doubts(rt, &mut node, &list)
+        && leaves(rt, &mut node, &list)
 }
 
 #[test]

@@ -2,6 +2,7 @@
 ghost use Rattle.std.specs.Prelude.{◌≡◌, ◌≤◌, length, unsigned_abs, All, IfOk};
 ghost use Rattle.ttp_world.specs.Events.{IsBounded};
 
+use super::lists::let_go;
 use std::alloc::Global;
 use ttp_base::{List, Memory};
 use ttp_world::{
@@ -171,8 +172,12 @@ fn switched(alloc: Global) -> Result<List<Option<u32>>, Memory>
     ensures { IfOk result (λ on. length on ≡ 2) }
 {
     let mut on = List::new(alloc);
-    on.push(Some(3))?;
-    on.push(None)?;
+    let Ok(()) = on.push(Some(3)) else {
+        return Err(Memory);
+    };
+    let Ok(()) = on.push(None) else {
+        return Err(Memory);
+    };
     Ok(on)
 }
 
@@ -348,10 +353,12 @@ fn has_flips(script: &Script) -> bool {
 }
 
 fn happens(alloc: Global) -> bool {
-    match &script_with(alloc, all_kinds(alloc)) {
-        Ok(script) => has_all_edges(script) && stands(script) && has_flips(script),
-        Err(_) => false,
-    }
+    let Ok(script) = script_with(alloc, all_kinds(alloc)) else {
+        return false;
+    };
+    let is_right = has_all_edges(&script) && stands(&script) && has_flips(&script);
+    let_go(script);
+    is_right
 }
 
 #[test]
@@ -431,10 +438,12 @@ fn has_payloads(script: &Script) -> bool {
 }
 
 fn has_lines_of_hosts(alloc: Global) -> bool {
-    match &script_with(alloc, of_hosts(alloc)) {
-        Ok(script) => has_reads(script) && has_writes(script) && has_payloads(script),
-        Err(_) => false,
-    }
+    let Ok(script) = script_with(alloc, of_hosts(alloc)) else {
+        return false;
+    };
+    let is_right = has_reads(&script) && has_writes(&script) && has_payloads(&script);
+    let_go(script);
+    is_right
 }
 
 #[test]
@@ -466,10 +475,12 @@ fn are_switched(script: &Script) -> bool {
 }
 
 fn nothing_happens(alloc: Global) -> bool {
-    match &script_of(alloc, Events::none(alloc)) {
-        Ok(script) => is_quiet(script) && are_switched(script),
-        Err(_) => false,
-    }
+    let Ok(script) = script_of(alloc, Events::none(alloc)) else {
+        return false;
+    };
+    let is_right = is_quiet(&script) && are_switched(&script);
+    let_go(script);
+    is_right
 }
 
 #[test]

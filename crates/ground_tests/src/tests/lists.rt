@@ -1,10 +1,14 @@
-//! Lists of four nodes.
+//! Lists of four nodes, and where scripts are let go.
 ghost use Rattle.std.specs.Prelude.{◌≡◌, ◌≤◌, ℕ, [], ◌∷◌, ◌++◌, length, true, false, IfOk};
 ghost use Rattle.ttp_world.specs.Medl.{IsValid, plan_at};
 
 use std::alloc::Global;
 use ttp_base::{List, Memory};
-use ttp_world::{Kind, Medl, SlotPlan};
+use ttp_world::{Kind, Medl, Script, SlotPlan};
+
+/// Lets a script go. A function of its own, since what a script holds is let go part by part in each function that
+/// may do so.
+pub(super) fn let_go(_script: Script) {}
 
 // Adds the slot of one more node.
 fn add_slot(

@@ -2,6 +2,7 @@
 ghost use Rattle.std.specs.Prelude.{◌≡◌, ◌≤◌, All, IfOk, length};
 ghost use Rattle.ttp_world.specs.Events.{IsBounded};
 
+use super::lists::let_go;
 use medium::{Arrival, Medium, Outgoing, received};
 use std::alloc::Global;
 use ttp_base::{List, Memory};
@@ -90,15 +91,32 @@ fn event(line: Line) -> Event
     }
 }
 
-fn script(alloc: Global, lines: [Line; 2]) -> Result<Script, Memory> {
+fn events(alloc: Global, lines: [Line; 2]) -> Result<List<Event>, Memory>
+    ensures len { IfOk result (λ events. length events ≤ 2) }
+    ensures events { IfOk result (All IsBounded) }
+{
     let mut events = List::new(alloc);
-    events.push(event(lines[0]))?;
-    events.push(event(lines[1]))?;
+    let Ok(()) = events.push(event(lines[0])) else {
+        return Err(Memory);
+    };
+    let Ok(()) = events.push(event(lines[1])) else {
+        return Err(Memory);
+    };
+    Ok(events)
+}
+
+fn script(alloc: Global, lines: [Line; 2]) -> Result<Script, Memory> {
+    let Ok(events) = events(alloc, lines) else {
+        return Err(Memory);
+    };
+    let Ok(events) = Events::index(alloc, events) else {
+        return Err(Memory);
+    };
     Ok(Script {
         slots: 6,
         on: List::new(alloc),
         drift: List::new(alloc),
-        events: Events::index(alloc, events)?,
+        events,
     })
 }
 
@@ -296,10 +314,12 @@ fn hears(medium: &mut Medium, script: &Script, row: &Row) -> bool {
 }
 
 fn are_heard(alloc: Global, medium: &mut Medium, row: &Row) -> bool {
-    match &script(alloc, row.0) {
-        Ok(script) => hears(medium, script, row),
-        Err(_) => false,
-    }
+    let Ok(script) = script(alloc, row.0) else {
+        return false;
+    };
+    let is_right = hears(medium, &script, row);
+    let_go(script);
+    is_right
 }
 
 fn each_is_heard(alloc: Global, medium: &mut Medium) -> bool {
@@ -333,10 +353,12 @@ fn hears_less(medium: &mut Medium, script: &Script) -> bool {
 
 // The receiver of node 2 is dead on channel A.
 fn is_received(alloc: Global, medium: &mut Medium) -> bool {
-    match &script(alloc, [Line::ReceiveSilence(2, A), Line::None]) {
-        Ok(script) => hears_less(medium, script),
-        Err(_) => false,
-    }
+    let Ok(script) = script(alloc, [Line::ReceiveSilence(2, A), Line::None]) else {
+        return false;
+    };
+    let is_right = hears_less(medium, &script);
+    let_go(script);
+    is_right
 }
 
 fn less_is_received(alloc: Global) -> bool {

@@ -13,7 +13,7 @@ ghost use Rattle.controller.specs.PlantStands.{plant_of, MayStep, Steps};
 ghost use Rattle.controller.specs.PlantWithin.{most_ahead, most_ahead_in, IsEnded, AreSeats, AreIncidents};
 ghost use Rattle.controller.specs.PlantWithin.{IsFromWithin};
 
-use super::lists::bare_nodes;
+use super::lists::{bare_nodes, let_go};
 use super::plants::{after, nothing_for_all, quiet_script};
 use controller::{Plant, Seat, begin_all, plan_all, seats_of, take_all};
 use medium::Medium;
@@ -129,7 +129,9 @@ fn after_in_parts(alloc: Global, slots: u32) -> Result<Vec<Seat>, Memory>
     let Ok(script) = quiet_script(alloc) else {
         return Err(Memory);
     };
-    parts_of(alloc, &list, &script, slots)
+    let seats = parts_of(alloc, &list, &script, slots);
+    let_go(script);
+    seats
 }
 
 // Whether a plant shows of a node what its seat shows.

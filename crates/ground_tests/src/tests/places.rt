@@ -12,8 +12,12 @@ fn two_kinds(alloc: Global) -> Result<List<Kind>, Memory>
     ensures { IfOk result (λ kinds. kinds ≡ kind.I ∷ kind.I ∷ []) }
 {
     let mut kinds = List::new(alloc);
-    kinds.push(Kind::I)?;
-    kinds.push(Kind::I)?;
+    let Ok(()) = kinds.push(Kind::I) else {
+        return Err(Memory);
+    };
+    let Ok(()) = kinds.push(Kind::I) else {
+        return Err(Memory);
+    };
     Ok(kinds)
 }
 
@@ -27,7 +31,9 @@ fn add_slot(alloc: Global, slots: &mut List<SlotPlan>) -> Result<(), Memory>
       live = 1;
     } ∷ []) }
 {
-    let kinds = two_kinds(alloc)?;
+    let Ok(kinds) = two_kinds(alloc) else {
+        return Err(Memory);
+    };
     slots.push(SlotPlan {
         kinds,
         payload: 0,
@@ -45,10 +51,18 @@ fn four_nodes(alloc: Global) -> Result<Medl, Memory>
     ensures slots { IfOk result (λ list. length list.slots ≡ 4) }
 {
     let mut slots = List::new(alloc);
-    add_slot(alloc, &mut slots)?;
-    add_slot(alloc, &mut slots)?;
-    add_slot(alloc, &mut slots)?;
-    add_slot(alloc, &mut slots)?;
+    let Ok(()) = add_slot(alloc, &mut slots) else {
+        return Err(Memory);
+    };
+    let Ok(()) = add_slot(alloc, &mut slots) else {
+        return Err(Memory);
+    };
+    let Ok(()) = add_slot(alloc, &mut slots) else {
+        return Err(Memory);
+    };
+    let Ok(()) = add_slot(alloc, &mut slots) else {
+        return Err(Memory);
+    };
     Ok(Medl {
         version: 1,
         rounds: 2,

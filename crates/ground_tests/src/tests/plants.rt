@@ -3,7 +3,7 @@ ghost use Rattle.std.specs.Prelude.{◌≡◌, ◌<◌, ◌≤◌, ℕ, [], All,
 ghost use Rattle.ttp_world.specs.Medl.{IsValid, plan_at};
 ghost use Rattle.ttp_world.specs.Script.{IsValidScript};
 
-use super::lists::bare_nodes;
+use super::lists::{bare_nodes, let_go};
 use controller::{Controller, Plant, is_loaded, laws};
 use std::alloc::Global;
 use ttp_base::{List, Memory};
@@ -78,7 +78,9 @@ pub(super) fn after(alloc: Global, slots: u32) -> Result<Plant, Memory>
     let Ok(script) = quiet_script(alloc) else {
         return Err(Memory);
     };
-    after_of(alloc, &list, &script, slots)
+    let plant = after_of(alloc, &list, &script, slots);
+    let_go(script);
+    plant
 }
 
 // Whether a plant shows what it shows before the first slot.
