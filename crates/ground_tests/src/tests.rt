@@ -9,6 +9,7 @@ mod frames;
 mod heard;
 mod incidents;
 mod listening;
+mod lists;
 mod mediums;
 mod members;
 mod parts;

@@ -12,7 +12,7 @@
 //! `specs/Traces` and `specs/Tests` have the promises of commands in their own words. `verify` and
 //! `modes` speak of the whole text however much of it is loaded, since no trace is longer than a
 //! load may be (trace_size), and `proofs/Traces/Fronts.antt` shows that the bytes that are loaded
-//! decide. `main` of ttpbench calls it, and so does `run_bench` of bench_tests, over a library and
+//! decide. `main` of ttpbench calls it, and so does `run_bench` of host_tests, over a library and
 //! a sink in memory:
 //!
 //! ```text

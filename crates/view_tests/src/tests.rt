@@ -1,6 +1,9 @@
-//! What a line, a trace and its views are: public calls alone.
+//! What a line, a trace and its views are, campaigns, and the commands of `lab`: public calls alone.
 
+mod calls;
+mod campaigns;
 mod charts;
+mod forms;
 mod laws;
 mod lines;
 mod pictures;

@@ -1,74 +1,14 @@
 //! A node that hears nobody, slot by slot, worked out by hand.
-ghost use Rattle.std.specs.Prelude.{◌≡◌, ◌≤◌, ℕ, [], ◌∷◌, ◌++◌, length, true, false, unsigned_abs, IfOk};
-ghost use Rattle.ttp_world.specs.declared.medl.Kind.TheVariants as kind;
-ghost use Rattle.ttp_world.specs.Medl.{IsValid, plan_at};
+ghost use Rattle.std.specs.Prelude.{◌≡◌, ◌≤◌, unsigned_abs};
 ghost use Rattle.controller.specs.PlantWithin.{IsEnded};
 
+use super::lists::bare_nodes;
 use super::slots::{no_outcome, through_slot};
 use controller::{Controller, Outcome};
 use medium::Arrival;
 use std::alloc::Global;
 use std::process::Abort;
-use ttp_base::{List, Memory};
-use ttp_world::{Ack, Entry, Kind, Medl, NodeState, Phase, SlotPlan, Verdict};
-
-// Adds the slot of one more node.
-fn add_slot(alloc: Global, slots: &mut List<SlotPlan>) -> Result<(), Memory>
-    ensures { IfOk result (λ _. slots.new ≡ slots.old ++ record {
-      kinds = kind.I ∷ [];
-      payload = 0;
-      sync = true;
-      start = true;
-      requests = false;
-      live = 1;
-    } ∷ []) }
-{
-    let mut kinds = List::new(alloc);
-    let Ok(()) = kinds.push(Kind::I) else {
-        return Err(Memory);
-    };
-    slots.push(SlotPlan {
-        kinds,
-        payload: 0,
-        sync: true,
-        start: true,
-        requests: false,
-        live: 1,
-    })
-}
-
-/// Four nodes whose frames are all bare, each of which may start.
-pub(super) fn four_nodes(alloc: Global) -> Result<Medl, Memory>
-    ensures valid { IfOk result IsValid }
-    ensures slots { IfOk result (λ list. length list.slots ≡ 4) }
-    ensures buffers { IfOk result (λ list. list.buffers ≡ 2) }
-    ensures bare { (k : ℕ) → IfOk result (λ list. (plan_at list k).payload ≡ 0) }
-{
-    let mut slots = List::new(alloc);
-    let Ok(()) = add_slot(alloc, &mut slots) else {
-        return Err(Memory);
-    };
-    let Ok(()) = add_slot(alloc, &mut slots) else {
-        return Err(Memory);
-    };
-    let Ok(()) = add_slot(alloc, &mut slots) else {
-        return Err(Memory);
-    };
-    let Ok(()) = add_slot(alloc, &mut slots) else {
-        return Err(Memory);
-    };
-    Ok(Medl {
-        version: 1,
-        rounds: 1,
-        schedule: 0,
-        buffers: 2,
-        drift: 0,
-        error: 0,
-        window: 1,
-        modes: 1,
-        slots,
-    })
-}
+use ttp_world::{Ack, Entry, Medl, NodeState, Phase, Verdict};
 
 // Takes node 1 through a slot in which it hears nothing, and tells whether it sends.
 fn silent_slot(
@@ -135,40 +75,42 @@ fn starts(rt: &impl Abort, node: &mut Controller, list: &Medl) -> bool
     sends && is_alone(&node.state())
 }
 
-// Takes node 1, which is off, through its slots up to the one after its start.
-fn comes_on(rt: &impl Abort, node: &mut Controller, list: &Medl)
+// Takes node 1, which is off, through its slots up to the one after its start, and tells whether it enters what is
+// due in each.
+fn comes_on(rt: &impl Abort, node: &mut Controller, list: &Medl) -> bool
     requires list { list.now ≡ node.old.list }
     requires turn { IsEnded node.old.turn }
 {
-    assert!(rt; passes(rt, node, list, false, &Entry::Off));
+    if !passes(rt, node, list, false, &Entry::Off) {
+        return false;
+    }
     // It comes on, and hears nothing for two rounds and one slot more, for node 1.
     for _ in 0..9u8 {
-        assert!(rt; passes(rt, node, list, true, &Entry::Waited));
+        if !passes(rt, node, list, true, &Entry::Waited) {
+            return false;
+        }
     }
-    assert!(rt; starts(rt, node, list));
     // The next slot is that of node 2.
     let entry = Entry::Judged {
         sender: 2,
         verdict: Verdict::Null,
         deviation: 0,
     };
-    assert!(rt; passes(rt, node, list, true, &entry));
+    starts(rt, node, list) && passes(rt, node, list, true, &entry)
 }
 
-// Takes node 1 from off up to the slot after its start, and tells whether it was off at first.
-fn starts_from_off(rt: &impl Abort, alloc: Global) -> Result<bool, Memory> {
-    let Ok(list) = four_nodes(alloc) else {
-        return Err(Memory);
+// Takes node 1 from off up to the slot after its start, and tells whether it was off at first and then came on.
+fn starts_from_off(rt: &impl Abort, alloc: Global) -> bool {
+    let Ok(list) = bare_nodes(alloc) else {
+        return false;
     };
     let Ok(mut node) = Controller::new(alloc, &list, 1) else {
-        return Err(Memory);
+        return false;
     };
-    let is_off = node.state().phase == Phase::Off;
-    comes_on(rt, &mut node, &list);
-    Ok(is_off)
+    node.state().phase == Phase::Off && comes_on(rt, &mut node, &list)
 }
 
 #[test]
 fn a_node_that_hears_nobody_starts(rt: HostRuntime) {
-    assert!(rt; matches!(starts_from_off(&rt, rt.alloc()), Ok(true)));
+    assert!(rt; starts_from_off(&rt, rt.alloc()));
 }

@@ -25,16 +25,21 @@ fn stays_grown(list: List<u32>) -> bool {
     items.as_slice() == [7, 9].as_slice() && List::from_vec(items).as_slice() == [7, 9].as_slice()
 }
 
-// Whether a list begins with no item, and grows.
-fn grows(alloc: Global) -> Result<bool, Memory> {
-    let list = grown(alloc)?;
-    let is_right = List::<u32>::new(alloc).len() == 0 && is_grown(&list);
-    Ok(stays_grown(list) && is_right)
+// Whether a list grows, and stays as it is in a vector.
+fn grows(alloc: Global) -> bool {
+    match grown(alloc) {
+        Ok(list) => is_grown(&list) && stays_grown(list),
+        Err(_) => false,
+    }
+}
+
+fn begins_empty(alloc: Global) -> bool {
+    List::<u32>::new(alloc).len() == 0
 }
 
 #[test]
 fn a_list_grows(rt: HostRuntime) {
-    assert!(rt; matches!(grows(rt.alloc()), Ok(true)));
+    assert!(rt; begins_empty(rt.alloc()) && grows(rt.alloc()));
 }
 
 fn has_two(set: NodeSet) -> bool {
@@ -82,17 +87,22 @@ fn a_line_takes_each_kind_of_text(rt: HostRuntime) {
     assert!(rt; is_line_of_each_kind(&line) && Line::new().room() == 640);
 }
 
-#[test]
 #[tactic(auto, using(ttp_base::proofs::Room::room))]
-fn a_line_is_cut_and_goes_on(rt: HostRuntime) {
+fn is_cut_and_goes_on() -> bool {
     let mut line = Line::new();
     line.put_text("slot 12 node ");
-    let head = line.len();
-    assert!(rt; head == 13);
+    if line.len() != 13 {
+        return false;
+    }
     line.put_number(3);
-    line.cut(head);
+    line.cut(13);
     line.put_bytes(b"40");
-    assert!(rt; line.bytes() == b"slot 12 node 40".as_slice());
+    line.bytes() == b"slot 12 node 40".as_slice()
+}
+
+#[test]
+fn a_line_is_cut_and_goes_on(rt: HostRuntime) {
+    assert!(rt; is_cut_and_goes_on());
 }
 
 #[test]
@@ -118,14 +128,32 @@ fn gives(
     }
 }
 
+// The second call is to fail.
+fn second(alloc: Global) -> Result<List<u32>, Memory> {
+    let mut fail = List::new(alloc);
+    match fail.push(2) {
+        Ok(()) => Ok(fail),
+        Err(_) => Err(Memory),
+    }
+}
+
+// A library with one more text under a name.
+fn with(library: Result<MemoryLibrary, Memory>, text: &[u8]) -> Result<MemoryLibrary, Memory> {
+    let Ok(mut library) = library else {
+        return Err(Memory);
+    };
+    match library.add("a", text) {
+        Ok(()) => Ok(library),
+        Err(_) => Err(Memory),
+    }
+}
+
 // A library whose second call is to fail.
 fn library_in_memory(alloc: Global) -> Result<MemoryLibrary, Memory> {
-    let mut fail = List::new(alloc);
-    fail.push(2)?;
-    let mut library = MemoryLibrary::new(alloc, fail);
-    library.add("a", b"one")?;
-    library.add("a", b"three")?;
-    Ok(library)
+    match second(alloc) {
+        Ok(fail) => with(with(Ok(MemoryLibrary::new(alloc, fail)), b"one"), b"three"),
+        Err(_) => Err(Memory),
+    }
 }
 
 // A name, a limit, and what comes: the first `limit + 1` bytes. Nothing is held under the last name.
@@ -145,14 +173,16 @@ fn gives_each(alloc: Global, library: &mut MemoryLibrary) -> bool {
     library.faults() == 2
 }
 
-fn loads_from_memory(alloc: Global) -> Result<bool, Memory> {
-    let mut library = library_in_memory(alloc)?;
-    Ok(gives_each(alloc, &mut library))
+fn loads_from_memory(alloc: Global) -> bool {
+    match &mut library_in_memory(alloc) {
+        Ok(library) => gives_each(alloc, library),
+        Err(_) => false,
+    }
 }
 
 #[test]
 fn a_library_in_memory(rt: HostRuntime) {
-    assert!(rt; matches!(loads_from_memory(rt.alloc()), Ok(true)));
+    assert!(rt; loads_from_memory(rt.alloc()));
 }
 
 // Each piece, and how it is refused, if it is: the second call is to fail, and then one byte is left.
@@ -175,19 +205,22 @@ fn takes_pieces(sink: &mut MemorySink) -> bool {
 }
 
 fn sink_in_memory(alloc: Global) -> Result<MemorySink, Memory> {
-    let mut fail = List::new(alloc);
-    fail.push(2)?;
-    MemorySink::new(alloc, 6, fail)
+    match second(alloc) {
+        Ok(fail) => MemorySink::new(alloc, 6, fail),
+        Err(_) => Err(Memory),
+    }
 }
 
-fn takes_to_memory(alloc: Global) -> Result<bool, Memory> {
-    let mut sink = sink_in_memory(alloc)?;
-    Ok(takes_pieces(&mut sink))
+fn takes_to_memory(alloc: Global) -> bool {
+    match &mut sink_in_memory(alloc) {
+        Ok(sink) => takes_pieces(sink),
+        Err(_) => false,
+    }
 }
 
 #[test]
 fn a_sink_in_memory(rt: HostRuntime) {
-    assert!(rt; matches!(takes_to_memory(rt.alloc()), Ok(true)));
+    assert!(rt; takes_to_memory(rt.alloc()));
 }
 
 // A limit is four bytes, and what comes is one byte past the limit, and no more.

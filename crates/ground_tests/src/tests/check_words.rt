@@ -38,16 +38,31 @@ fn next_number(number: u32) -> u32 {
     number.wrapping_mul(1_664_525).wrapping_add(1_013_904_223)
 }
 
+// Bytes, and their check word from 0 on.
+const WORDS: &[(&[u8], u32)] = &[
+    (b"", 0),
+    (&[1], 0x5d_6dcb),
+    (&[2], 0xba_db96),
+    (&[4], 0x28_dae7),
+];
+
+fn are_published() -> bool {
+    for (bytes, word) in WORDS {
+        if word_of(0, bytes) != *word {
+            return false;
+        }
+    }
+    true
+}
+
+fn go_on_from_a_start() -> bool {
+    let digits = b"123456789";
+    word_of(0xfe_dcba, digits) == 0x79_79bd && word_of(0xab_cdef, digits) == 0x1f_23b8
+}
+
 #[test]
 fn published_words(rt: HostRuntime) {
-    assert!(rt;
-        word_of(0, b"") == 0
-            && word_of(0, &[1]) == 0x5d_6dcb
-            && word_of(0, &[2]) == 0xba_db96
-            && word_of(0, &[4]) == 0x28_dae7
-            && word_of(0xfe_dcba, b"123456789") == 0x79_79bd
-            && word_of(0xab_cdef, b"123456789") == 0x1f_23b8
-    );
+    assert!(rt; are_published() && go_on_from_a_start());
 }
 
 // Fills the bytes with the numbers that follow one, and gives the last of them.
@@ -85,10 +100,14 @@ fn pieces_have_the_word_of_the_whole(rt: HostRuntime) {
     }
 }
 
+// Whether a check that began at 7 is another one after a byte, that of its word.
+fn is_told_after_a_byte(check: &mut Check) -> bool {
+    check.feed(b"a");
+    *check != Check::new(7) && *check == Check::new(check.word())
+}
+
 #[test]
 fn checks_are_compared_by_their_words(rt: HostRuntime) {
     let mut check = Check::new(7);
-    let is_new = check == Check::new(7);
-    check.feed(b"a");
-    assert!(rt; is_new && check != Check::new(7) && check == Check::new(check.word()));
+    assert!(rt; check == Check::new(7) && is_told_after_a_byte(&mut check));
 }

@@ -1,11 +1,12 @@
 //! Published frames, and frames beside those of an encoder that goes bit by bit.
-ghost use Rattle.std.specs.Prelude.{◌≡◌, ◌*◌, ◌^◌, ◌<◌, ◌≤◌, true, false, [], ◌∷◌, ◌++◌, length, IfOk, IfSome, OnOk};
+ghost use Rattle.std.specs.Prelude.{◌≡◌, ◌*◌, ◌^◌, ◌<◌, ◌≤◌, length, IfSome};
 ghost use Rattle.ttp_world.specs.Medl.{member_bytes, IsValid};
 
-use std::alloc::{AllocError, Global};
-use ttp_base::{List, Memory, NodeSet};
+use super::lists::mixed_nodes;
+use std::alloc::Global;
+use ttp_base::NodeSet;
 use ttp_frame::{Expect, FrameIn, FrameMatch, encode, is_joinable_state, judge, read_explicit};
-use ttp_world::{CState, Kind, Medl, SlotPlan};
+use ttp_world::{CState, Medl};
 
 // The number of words that members have.
 fn room(wide: bool) -> u32
@@ -136,13 +137,48 @@ fn register_after(register: u32, byte: u8) -> u32 {
     register
 }
 
-fn push_number(bytes: &mut Vec<u8>, number: u32, count: u32) -> Result<(), AllocError>
+// The bytes of an encoder that goes bit by bit: the first `len` of these.
+#[derive(Clone, Copy)]
+struct Slow {
+    len: usize,
+    bytes: [u8; 256],
+}
+
+fn no_bytes() -> Slow {
+    Slow {
+        len: 0,
+        bytes: [0; 256],
+    }
+}
+
+// Puts a byte behind the others.
+fn push(slow: &mut Slow, byte: u8) {
+    if slow.len < 256 {
+        slow.bytes[slow.len] = byte;
+        slow.len += 1;
+    }
+}
+
+fn push_all(slow: &mut Slow, bytes: &[u8]) {
+    for byte in bytes {
+        push(slow, *byte);
+    }
+}
+
+fn push_number(slow: &mut Slow, number: u32, count: u32)
     requires { count ≤ 4 }
 {
     for k in 0..count {
-        bytes.push(((number >> (8 * (count - 1 - k))) & 0xff) as u8)?;
+        push(slow, ((number >> (8 * (count - 1 - k))) & 0xff) as u8);
     }
-    Ok(())
+}
+
+// Those that were put.
+fn put_bytes(slow: &Slow) -> &[u8] {
+    match slow.bytes.get(..slow.len) {
+        Some(bytes) => bytes,
+        None => &[],
+    }
 }
 
 fn register_after_all(register: u32, bytes: &[u8]) -> u32 {
@@ -153,47 +189,46 @@ fn register_after_all(register: u32, bytes: &[u8]) -> u32 {
     register
 }
 
-fn slow_state(alloc: Global, cstate: &CState, wide: bool) -> Result<Vec<u8>, AllocError> {
-    let mut state = Vec::new(alloc);
-    push_number(&mut state, u32::from(cstate.time), 2)?;
-    state.push(cstate.round)?;
-    state.push(cstate.slot)?;
-    push_number(&mut state, cstate.members.bits(), if wide { 3 } else { 2 })?;
-    Ok(state)
+fn slow_state(cstate: &CState, wide: bool) -> Slow {
+    let mut state = no_bytes();
+    push_number(&mut state, u32::from(cstate.time), 2);
+    push(&mut state, cstate.round);
+    push(&mut state, cstate.slot);
+    push_number(&mut state, cstate.members.bits(), if wide { 3 } else { 2 });
+    state
 }
 
 // What is sent of a frame before its check word.
-fn slow_front(alloc: Global, frame: &FrameIn, state: &[u8]) -> Result<Vec<u8>, AllocError> {
-    let mut bytes = Vec::new(alloc);
-    bytes.push(frame.header)?;
+fn slow_front(frame: &FrameIn, state: &[u8]) -> Slow {
+    let mut front = no_bytes();
+    push(&mut front, frame.header);
     if frame.header != 0 {
-        bytes.extend_from_slice(state)?;
+        push_all(&mut front, state);
     }
-    bytes.extend_from_slice(frame.payload)?;
-    Ok(bytes)
+    push_all(&mut front, frame.payload);
+    front
 }
 
-fn slow_frame(alloc: Global, frame: &FrameIn, start: u32) -> Result<Vec<u8>, AllocError> {
-    let state = slow_state(alloc, &frame.cstate, frame.wide)?;
-    let mut bytes = slow_front(alloc, frame, &state)?;
-    let unsent = if frame.header == 0 {
-        register_after_all(start, &state)
+// The check word of a frame whose front this is. Where the C-state is not sent, the word goes over it all the same.
+fn slow_word(header: u8, start: u32, state: &[u8], front: &[u8]) -> u32 {
+    let unsent = if header == 0 {
+        register_after_all(start, state)
     } else {
         start
     };
-    let register = register_after_all(unsent, &bytes);
-    push_number(&mut bytes, register, 3)?;
-    Ok(bytes)
+    register_after_all(unsent, front)
 }
 
-fn is_slow_frame(
-    alloc: Global,
-    frame: &FrameIn,
-    start: u32,
-    bytes: &[u8],
-) -> Result<bool, AllocError> {
-    let slow = slow_frame(alloc, frame, start)?;
-    Ok(slow.as_slice() == bytes)
+fn slow_frame(frame: &FrameIn, start: u32) -> Slow {
+    let state = slow_state(&frame.cstate, frame.wide);
+    let mut bytes = slow_front(frame, put_bytes(&state));
+    let word = slow_word(frame.header, start, put_bytes(&state), put_bytes(&bytes));
+    push_number(&mut bytes, word, 3);
+    bytes
+}
+
+fn is_slow_frame(frame: &FrameIn, start: u32, bytes: &[u8]) -> bool {
+    put_bytes(&slow_frame(frame, start)) == bytes
 }
 
 // The next of a sequence of numbers that looks like chance.
@@ -294,22 +329,22 @@ fn flips_are_seen(bytes: &mut [u8], start: u32, expect: &Expect, cstate: &CState
 }
 
 // A frame beside the slow one, and with flips.
-fn is_right(alloc: Global, frame: &FrameIn, size: u8, start: u32) -> Result<bool, AllocError> {
+fn is_right(frame: &FrameIn, size: u8, start: u32) -> bool {
     let mut out = [0xffu8; 256];
     let Some(len) = encoded(frame, start, &mut out) else {
-        return Ok(false);
+        return false;
     };
     let expect = Expect {
         wide: frame.wide,
         header: frame.header,
         payload: size,
     };
-    let is_same = is_slow_frame(alloc, frame, start, &out[..len])?;
-    Ok(flips_are_seen(&mut out[..len], start, &expect, &frame.cstate) && is_same)
+    is_slow_frame(frame, start, &out[..len])
+        && flips_are_seen(&mut out[..len], start, &expect, &frame.cstate)
 }
 
 // Whether the frame of a round is right.
-fn is_as_slow(alloc: Global, round: u32, number: &mut u32) -> Result<bool, AllocError>
+fn is_as_slow(round: u32, number: &mut u32) -> bool
     requires { round < 32 }
 {
     let payload = some_payload(number);
@@ -322,72 +357,22 @@ fn is_as_slow(alloc: Global, round: u32, number: &mut u32) -> Result<bool, Alloc
         cstate: some_state(number, wide),
         payload: &payload[..size as usize],
     };
-    is_right(alloc, &frame, size, next_number(number) & 0xff_ffff)
+    is_right(&frame, size, next_number(number) & 0xff_ffff)
 }
 
-fn are_as_slow(alloc: Global) -> Result<bool, AllocError> {
+fn are_as_slow() -> bool {
     let mut number = 1;
     for round in 0..32u32 {
-        if !is_as_slow(alloc, round, &mut number)? {
-            return Ok(false);
+        if !is_as_slow(round, &mut number) {
+            return false;
         }
     }
-    Ok(true)
+    true
 }
 
 #[test]
 fn frames_of_all_kinds(rt: HostRuntime) {
-    assert!(rt; matches!(are_as_slow(rt.alloc()), Ok(true)));
-}
-
-fn add_slot(
-    alloc: Global,
-    slots: &mut List<SlotPlan>,
-    kind: Kind,
-    payload: u8,
-    start: bool,
-) -> Result<(), Memory>
-    ensures { OnOk result (slots.new ≡ slots.old ++ record {
-      kinds = kind ∷ [];
-      payload = payload;
-      sync = true;
-      start = start;
-      requests = false;
-      live = 1;
-    } ∷ []) }
-{
-    let mut kinds = List::new(alloc);
-    kinds.push(kind)?;
-    slots.push(SlotPlan {
-        kinds,
-        payload,
-        sync: true,
-        start,
-        requests: false,
-        live: 1,
-    })
-}
-
-// Four nodes with frames of all kinds, of which node 0 alone may start.
-fn four_nodes(alloc: Global) -> Result<Medl, Memory>
-    ensures { IfOk result IsValid }
-{
-    let mut slots = List::new(alloc);
-    add_slot(alloc, &mut slots, Kind::I, 0, true)?;
-    add_slot(alloc, &mut slots, Kind::X, 2, false)?;
-    add_slot(alloc, &mut slots, Kind::N, 2, false)?;
-    add_slot(alloc, &mut slots, Kind::I, 0, false)?;
-    Ok(Medl {
-        version: 1,
-        rounds: 1,
-        schedule: 7,
-        buffers: 2,
-        drift: 0,
-        error: 0,
-        window: 1,
-        modes: 1,
-        slots,
-    })
+    assert!(rt; are_as_slow());
 }
 
 // A C-state's round, slot and members, and whether a node may join on it.
@@ -471,12 +456,14 @@ fn all_join_as_due(list: &Medl) -> bool
 }
 
 // Whether nodes join on the states and on the frames of four nodes as they are due to.
-fn join_in_list(alloc: Global) -> Result<bool, Memory> {
-    let list = four_nodes(alloc)?;
-    Ok(are_joinable(&list) && all_join_as_due(&list))
+fn join_in_list(alloc: Global) -> bool {
+    match &mixed_nodes(alloc) {
+        Ok(list) => are_joinable(list) && all_join_as_due(list),
+        Err(_) => false,
+    }
 }
 
 #[test]
 fn nodes_join_on_states_and_frames_that_the_list_gives(rt: HostRuntime) {
-    assert!(rt; matches!(join_in_list(rt.alloc()), Ok(true)));
+    assert!(rt; join_in_list(rt.alloc()));
 }

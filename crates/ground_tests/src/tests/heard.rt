@@ -1,78 +1,17 @@
 //! What a node makes of right, wrong, late and missing frames, worked out by hand.
-ghost use Rattle.std.specs.Prelude.{◌≡◌, ◌≤◌, true, false, [], ◌∷◌, ◌++◌, unsigned_abs, IfOk};
-ghost use Rattle.ttp_world.specs.Medl.{IsValid};
+ghost use Rattle.std.specs.Prelude.{◌≡◌, ◌≤◌, unsigned_abs};
 ghost use Rattle.controller.specs.PlantWithin.{IsEnded};
 ghost use Rattle.controller.specs.Limits.{offset_of_arrival};
 
+use super::lists::mixed_nodes;
 use super::slots::{no_outcome, through_slot};
 use controller::{Controller, Outcome};
 use medium::{Arrival, Outgoing};
 use std::alloc::Global;
 use std::process::Abort;
-use ttp_base::{List, Memory, NodeSet};
+use ttp_base::NodeSet;
 use ttp_frame::{FrameIn, encode};
-use ttp_world::{CState, Delivered, Entry, Kind, Medl, Reason, SlotPlan, Verdict};
-
-// Adds the slot of one more node.
-fn add_slot(
-    alloc: Global,
-    slots: &mut List<SlotPlan>,
-    kind: Kind,
-    payload: u8,
-    start: bool,
-) -> Result<(), Memory>
-    ensures { IfOk result (λ _. slots.new ≡ slots.old ++ record {
-      kinds = kind ∷ [];
-      payload = payload;
-      sync = true;
-      start = start;
-      requests = false;
-      live = 1;
-    } ∷ []) }
-{
-    let mut kinds = List::new(alloc);
-    let Ok(()) = kinds.push(kind) else {
-        return Err(Memory);
-    };
-    slots.push(SlotPlan {
-        kinds,
-        payload,
-        sync: true,
-        start,
-        requests: false,
-        live: 1,
-    })
-}
-
-// Four nodes, of which node 1 sends its C-state and two bytes of payload.
-fn four_nodes(alloc: Global) -> Result<Medl, Memory>
-    ensures { IfOk result IsValid }
-{
-    let mut slots = List::new(alloc);
-    let Ok(()) = add_slot(alloc, &mut slots, Kind::I, 0, true) else {
-        return Err(Memory);
-    };
-    let Ok(()) = add_slot(alloc, &mut slots, Kind::X, 2, false) else {
-        return Err(Memory);
-    };
-    let Ok(()) = add_slot(alloc, &mut slots, Kind::N, 2, false) else {
-        return Err(Memory);
-    };
-    let Ok(()) = add_slot(alloc, &mut slots, Kind::I, 0, false) else {
-        return Err(Memory);
-    };
-    Ok(Medl {
-        version: 1,
-        rounds: 1,
-        schedule: 7,
-        buffers: 2,
-        drift: 0,
-        error: 1,
-        window: 100,
-        modes: 1,
-        slots,
-    })
-}
+use ttp_world::{CState, Delivered, Entry, Medl, Reason, Verdict};
 
 // Nodes 0, 1 and 3.
 fn three_members() -> NodeSet {
@@ -102,8 +41,12 @@ enum Came {
 
 // A frame with this header, C-state and payload.
 fn frame_of(rt: &impl Abort, header: u8, cstate: CState, payload: &[u8]) -> Outgoing {
-    assert!(rt; header <= 2 && payload.len() <= 2 && cstate.members.bits() < 0x1_0000);
-    assert!(rt; header != 1 || payload.len() == 0);
+    assert!(rt;
+        header <= 2
+            && payload.len() <= 2
+            && cstate.members.bits() < 0x1_0000
+            && (header != 1 || payload.len() == 0)
+    );
     let mut bytes = [0u8; 256];
     let frame = FrameIn {
         wide: false,
@@ -199,19 +142,21 @@ fn has_joined(node: &Controller) -> bool {
 
 // Takes a new node up to node 1's slot, so that it holds nodes 0, 1 and 3 for members, and its clock is 4 ahead.
 // Node 3 joins on node 0's frame, and owes no answer. Node 0 joins on node 3's frame and then sends one that is
-// not answered.
-fn become_receiver(rt: &impl Abort, node: &mut Controller, list: &Medl, answered: bool)
+// not answered. Tells whether it came so far.
+fn becomes_receiver(rt: &impl Abort, node: &mut Controller, list: &Medl, answered: bool) -> bool
     requires list { list.now ≡ node.old.list }
     requires turn { IsEnded node.old.turn }
     ensures list { list.now ≡ node.new.list }
     ensures turn { IsEnded node.new.turn }
 {
     let (sender, time) = if answered { (0, 4) } else { (3, 3) };
-    assert!(rt; !sends_as_it_joins(rt, node, list, sender, time));
-    if !answered {
-        assert!(rt; sends_after(rt, node, list, &Arrival::Silence, 0));
+    if sends_as_it_joins(rt, node, list, sender, time) {
+        return false;
     }
-    assert!(rt; has_joined(node));
+    if !answered && !sends_after(rt, node, list, &Arrival::Silence, 0) {
+        return false;
+    }
+    has_joined(node)
 }
 
 // The first byte of what is delivered.
@@ -273,17 +218,17 @@ fn decides(
     came: (Came, Came),
     entry: &Entry,
     byte: Option<u8>,
-) -> Result<bool, Memory> {
+) -> bool {
     let number = if answered { 3 } else { 0 };
-    let Ok(list) = four_nodes(alloc) else {
-        return Err(Memory);
+    let Ok(list) = mixed_nodes(alloc) else {
+        return false;
     };
     let Ok(mut node) = Controller::new(alloc, &list, number) else {
-        return Err(Memory);
+        return false;
     };
-    become_receiver(rt, &mut node, &list, answered);
     let others = three_members().without(number);
-    Ok(judges(rt, &mut node, &list, others, came, entry, byte))
+    becomes_receiver(rt, &mut node, &list, answered)
+        && judges(rt, &mut node, &list, others, came, entry, byte)
 }
 
 // Whether a receiver is answered, what comes on the channels, the verdict and the deviation that it enters, and
@@ -333,10 +278,7 @@ fn decides_as_due(rt: &impl Abort, alloc: Global, row: &Judgement) -> bool {
         verdict,
         deviation,
     };
-    matches!(
-        decides(rt, alloc, answered, (on_a, on_b), &entry, byte),
-        Ok(true)
-    )
+    decides(rt, alloc, answered, (on_a, on_b), &entry, byte)
 }
 
 #[test]
@@ -375,19 +317,14 @@ fn enters(
 }
 
 // Whether node 3 enters this.
-fn joins(
-    rt: &impl Abort,
-    alloc: Global,
-    came: (Came, Came),
-    entry: &Entry,
-) -> Result<bool, Memory> {
-    let Ok(list) = four_nodes(alloc) else {
-        return Err(Memory);
+fn joins(rt: &impl Abort, alloc: Global, came: (Came, Came), entry: &Entry) -> bool {
+    let Ok(list) = mixed_nodes(alloc) else {
+        return false;
     };
     let Ok(mut node) = Controller::new(alloc, &list, 3) else {
-        return Err(Memory);
+        return false;
     };
-    Ok(enters(rt, &mut node, &list, came, entry))
+    enters(rt, &mut node, &list, came, entry)
 }
 
 // Whether a node joins as it is due to on what comes on the channels, with this deviation where it joins.
@@ -401,7 +338,7 @@ fn joins_as_due(
         Some(deviation) => joined(deviation),
         None => Entry::Waited,
     };
-    matches!(joins(rt, alloc, came, &entry), Ok(true))
+    joins(rt, alloc, came, &entry)
 }
 
 const JOINS: &[(Came, Came, Option<i64>)] = &[
@@ -474,18 +411,19 @@ fn leaves(rt: &impl Abort, node: &mut Controller, list: &Medl) -> bool
 }
 
 // Whether node 0, which nobody answers, doubts first and then leaves.
-fn is_denied(rt: &impl Abort, alloc: Global) -> Result<bool, Memory> {
-    let Ok(list) = four_nodes(alloc) else {
-        return Err(Memory);
+fn is_denied(rt: &impl Abort, alloc: Global) -> bool {
+    let Ok(list) = mixed_nodes(alloc) else {
+        return false;
     };
     let Ok(mut node) = Controller::new(alloc, &list, 0) else {
-        return Err(Memory);
+        return false;
     };
-    become_receiver(rt, &mut node, &list, false);
-    Ok(doubts(rt, &mut node, &list) && leaves(rt, &mut node, &list))
+    becomes_receiver(rt, &mut node, &list, false)
+        && doubts(rt, &mut node, &list)
+        && leaves(rt, &mut node, &list)
 }
 
 #[test]
 fn denied_node_leaves(rt: HostRuntime) {
-    assert!(rt; matches!(is_denied(&rt, rt.alloc()), Ok(true)));
+    assert!(rt; is_denied(&rt, rt.alloc()));
 }

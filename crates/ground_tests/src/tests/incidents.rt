@@ -1,7 +1,8 @@
 //! What happens to nodes in slots at the edges of events, worked out by hand.
-ghost use Rattle.std.specs.Prelude.{◌≡◌, ℕ, ◌+◌, ◌<◌, ◌≤◌, length, unsigned_abs, All, IfOk, ◌∷◌, []};
+ghost use Rattle.std.specs.Prelude.{◌≡◌, ◌≤◌, length, unsigned_abs, All, IfOk};
 ghost use Rattle.ttp_world.specs.Events.{IsBounded};
 
+use super::lists::let_go;
 use std::alloc::Global;
 use ttp_base::{List, Memory};
 use ttp_world::{
@@ -28,16 +29,23 @@ const NOTHING: Incidents = Incidents {
     jump: 0,
 };
 
-// Some events with one more.
-fn and(mut events: List<Event>, event: Event) -> Result<List<Event>, Memory>
-    requires room { length events < 100 }
+// Some events with one more, if there is memory, of 100 at most.
+fn and(events: Result<List<Event>, Memory>, event: Event) -> Result<List<Event>, Memory>
     requires event { IsBounded event }
-    requires events { All IsBounded events }
-    ensures len { IfOk result (λ more. length more ≡ length events + 1) }
+    requires events { IfOk events (All IsBounded) }
+    ensures len { IfOk result (λ more. length more ≤ 100) }
     ensures events { IfOk result (All IsBounded) }
 {
-    events.push(event)?;
-    Ok(events)
+    let Ok(mut events) = events else {
+        return Err(Memory);
+    };
+    if events.len() >= 100 {
+        return Err(Memory);
+    }
+    match events.push(event) {
+        Ok(()) => Ok(events),
+        Err(_) => Err(Memory),
+    }
 }
 
 fn sending(node: u8, channels: Channels, fault: Fault, from: u32, to: u32) -> Event
@@ -77,26 +85,25 @@ fn flip(node: u8, channels: Channels, bit: u16, slot: u32) -> Event
 
 // Faults, of which two touch and two overlap, and some that reach to the ends of the longest run.
 fn faults(alloc: Global) -> Result<List<Event>, Memory>
-    ensures len { IfOk result (λ events. length events ≤ 20) }
-    ensures events { IfOk result (All IsBounded) }
+    ensures { IfOk result (All IsBounded) }
 {
-    let events = and(List::new(alloc), sending(0, ON_BOTH, Fault::Silence, 3, 5))?;
-    let events = and(events, sending(0, ON_A, Fault::Noise, 5, 5))?;
-    let events = and(events, sending(0, ON_A, Fault::Silence, 6, 8))?;
-    let events = and(events, receiving(23, ON_B, Fault::Noise, 0, 19_999))?;
-    let events = and(events, receiving(23, ON_A, Fault::Silence, 19_999, 19_999))?;
-    with_flips(events)
+    let events = and(
+        Ok(List::new(alloc)),
+        sending(0, ON_BOTH, Fault::Silence, 3, 5),
+    );
+    let events = and(events, sending(0, ON_A, Fault::Noise, 5, 5));
+    let events = and(events, sending(0, ON_A, Fault::Silence, 6, 8));
+    let events = and(events, receiving(23, ON_B, Fault::Noise, 0, 19_999));
+    and(events, receiving(23, ON_A, Fault::Silence, 19_999, 19_999))
 }
 
-fn with_flips(events: List<Event>) -> Result<List<Event>, Memory>
-    requires room { length events ≤ 16 }
-    requires events { All IsBounded events }
-    ensures len { IfOk result (λ events. length events ≤ 20) }
-    ensures events { IfOk result (All IsBounded) }
+fn with_flips(events: Result<List<Event>, Memory>) -> Result<List<Event>, Memory>
+    requires { IfOk events (All IsBounded) }
+    ensures { IfOk result (All IsBounded) }
 {
-    let events = and(events, flip(2, ON_A, 9, 4))?;
-    let events = and(events, flip(2, ON_BOTH, 9, 4))?;
-    let events = and(events, flip(2, ON_A, 8, 5))?;
+    let events = and(events, flip(2, ON_A, 9, 4));
+    let events = and(events, flip(2, ON_BOTH, 9, 4));
+    let events = and(events, flip(2, ON_A, 8, 5));
     and(events, flip(2, ON_B, 2_047, 4))
 }
 
@@ -124,53 +131,68 @@ fn jump(value: i64) -> Event
 }
 
 // Events with errors and jumps that add up.
-fn with_clocks(events: List<Event>) -> Result<List<Event>, Memory>
-    requires room { length events ≤ 20 }
-    requires events { All IsBounded events }
-    ensures len { IfOk result (λ events. length events ≤ 25) }
-    ensures events { IfOk result (All IsBounded) }
+fn with_clocks(events: Result<List<Event>, Memory>) -> Result<List<Event>, Memory>
+    requires { IfOk events (All IsBounded) }
+    ensures { IfOk result (All IsBounded) }
 {
-    let events = and(events, error(7, 10, 12))?;
-    let events = and(events, error(-3, 12, 14))?;
-    let events = and(events, error(10_000, 12, 12))?;
-    let events = and(events, jump(5))?;
+    let events = and(events, error(7, 10, 12));
+    let events = and(events, error(-3, 12, 14));
+    let events = and(events, error(10_000, 12, 12));
+    let events = and(events, jump(5));
     and(events, jump(-2))
 }
 
 // All of those, and a node that is armed in the last slot.
-fn all_kinds(alloc: Global) -> Result<Events, Memory> {
-    let events = with_clocks(faults(alloc)?)?;
+fn all_kinds(alloc: Global) -> Result<List<Event>, Memory>
+    ensures len { IfOk result (λ events. length events ≤ 100) }
+    ensures events { IfOk result (All IsBounded) }
+{
     let armed = Event::Arm {
         node: 22,
         slot: 19_999,
     };
-    Events::index(alloc, and(events, armed)?)
+    and(with_clocks(with_flips(faults(alloc))), armed)
+}
+
+// A script of these, in whose 20,000 slots node 0 is on from slot 3 on, and node 1 in none.
+fn script_with(alloc: Global, events: Result<List<Event>, Memory>) -> Result<Script, Memory>
+    requires len { IfOk events (λ events. length events ≤ 100) }
+    requires events { IfOk events (All IsBounded) }
+{
+    let Ok(events) = events else {
+        return Err(Memory);
+    };
+    match Events::index(alloc, events) {
+        Ok(events) => script_of(alloc, events),
+        Err(_) => Err(Memory),
+    }
 }
 
 fn switched(alloc: Global) -> Result<List<Option<u32>>, Memory>
     ensures { IfOk result (λ on. length on ≡ 2) }
 {
     let mut on = List::new(alloc);
-    on.push(Some(3))?;
-    on.push(None)?;
+    let Ok(()) = on.push(Some(3)) else {
+        return Err(Memory);
+    };
+    let Ok(()) = on.push(None) else {
+        return Err(Memory);
+    };
     Ok(on)
 }
 
 fn script_of(alloc: Global, events: Events) -> Result<Script, Memory>
     ensures { IfOk result (λ script. length script.on ≡ 2) }
 {
-    let on = switched(alloc)?;
+    let Ok(on) = switched(alloc) else {
+        return Err(Memory);
+    };
     Ok(Script {
         slots: 20_000,
         on,
         drift: List::new(alloc),
         events,
     })
-}
-
-// The run of all kinds of events.
-fn full_script(alloc: Global) -> Result<Script, Memory> {
-    script_of(alloc, all_kinds(alloc)?)
 }
 
 const SILENCED: Incidents = Incidents {
@@ -330,14 +352,18 @@ fn has_flips(script: &Script) -> bool {
     script.flips(2, 4) == FLIPS && script.flips(2, 5).len() == 1
 }
 
-fn happens(alloc: Global) -> Result<bool, Memory> {
-    let script = full_script(alloc)?;
-    Ok(has_all_edges(&script) && stands(&script) && has_flips(&script))
+fn happens(alloc: Global) -> bool {
+    let Ok(script) = script_with(alloc, all_kinds(alloc)) else {
+        return false;
+    };
+    let is_right = has_all_edges(&script) && stands(&script) && has_flips(&script);
+    let_go(script);
+    is_right
 }
 
 #[test]
 fn incidents_at_the_edges_of_events(rt: HostRuntime) {
-    assert!(rt; matches!(happens(rt.alloc()), Ok(true)));
+    assert!(rt; happens(rt.alloc()));
 }
 
 fn write(node: u8, slot: u32, bytes: &[u8]) -> Event
@@ -358,15 +384,24 @@ fn read(node: u8, slot: u32, source: Source) -> Event
 }
 
 // Hosts that write and read twice in slot 7, among lines of other slots and kinds.
-fn of_hosts(alloc: Global) -> Result<Events, Memory> {
-    let events = and(List::new(alloc), read(3, 7, Source::Node(1)))?;
-    let events = and(events, write(1, 9, &[1]))?;
-    let events = and(events, write(1, 7, &[2, 3]))?;
-    let events = and(events, flip(1, ON_A, 9, 7))?;
-    let events = and(events, read(2, 6, Source::Status))?;
-    let events = and(events, read(0, 7, Source::Status))?;
-    let events = and(events, write(0, 7, &[]))?;
-    Events::index(alloc, events)
+fn of_hosts(alloc: Global) -> Result<List<Event>, Memory>
+    ensures len { IfOk result (λ events. length events ≤ 100) }
+    ensures events { IfOk result (All IsBounded) }
+{
+    let events = and(Ok(List::new(alloc)), read(3, 7, Source::Node(1)));
+    let events = and(events, write(1, 9, &[1]));
+    let events = and(events, write(1, 7, &[2, 3]));
+    with_hosts(and(events, flip(1, ON_A, 9, 7)))
+}
+
+fn with_hosts(events: Result<List<Event>, Memory>) -> Result<List<Event>, Memory>
+    requires { IfOk events (All IsBounded) }
+    ensures len { IfOk result (λ events. length events ≤ 100) }
+    ensures events { IfOk result (All IsBounded) }
+{
+    let events = and(events, read(2, 6, Source::Status));
+    let events = and(events, read(0, 7, Source::Status));
+    and(events, write(0, 7, &[]))
 }
 
 const READS: &[HostRead] = &[
@@ -402,14 +437,18 @@ fn has_payloads(script: &Script) -> bool {
         && script.write(7).is_none()
 }
 
-fn has_lines_of_hosts(alloc: Global) -> Result<bool, Memory> {
-    let script = script_of(alloc, of_hosts(alloc)?)?;
-    Ok(has_reads(&script) && has_writes(&script) && has_payloads(&script))
+fn has_lines_of_hosts(alloc: Global) -> bool {
+    let Ok(script) = script_with(alloc, of_hosts(alloc)) else {
+        return false;
+    };
+    let is_right = has_reads(&script) && has_writes(&script) && has_payloads(&script);
+    let_go(script);
+    is_right
 }
 
 #[test]
 fn lines_of_hosts_in_the_order_of_the_script(rt: HostRuntime) {
-    assert!(rt; matches!(has_lines_of_hosts(rt.alloc()), Ok(true)));
+    assert!(rt; has_lines_of_hosts(rt.alloc()));
 }
 
 #[test]
@@ -435,14 +474,18 @@ fn are_switched(script: &Script) -> bool {
     true
 }
 
-fn nothing_happens(alloc: Global) -> Result<bool, Memory> {
-    let script = script_of(alloc, Events::none(alloc))?;
-    Ok(is_quiet(&script) && are_switched(&script))
+fn nothing_happens(alloc: Global) -> bool {
+    let Ok(script) = script_of(alloc, Events::none(alloc)) else {
+        return false;
+    };
+    let is_right = is_quiet(&script) && are_switched(&script);
+    let_go(script);
+    is_right
 }
 
 #[test]
 fn nothing_happens_without_events(rt: HostRuntime) {
-    assert!(rt; matches!(nothing_happens(rt.alloc()), Ok(true)));
+    assert!(rt; nothing_happens(rt.alloc()));
 }
 
 // A list whose fields are all told from one another.
@@ -492,12 +535,21 @@ fn is_copied(copy: &Medl) -> bool {
     numbers && copy.slots.len() == 1 && is_copied_plan(copy.slots.get(0))
 }
 
-fn copies(alloc: Global) -> Result<bool, Memory> {
-    let copy = full_list(alloc)?.copy(alloc)?;
-    Ok(is_copied(&copy))
+fn has_copy(alloc: Global, list: &Medl) -> bool {
+    match &list.copy(alloc) {
+        Ok(copy) => is_copied(copy),
+        Err(_) => false,
+    }
+}
+
+fn copies(alloc: Global) -> bool {
+    match &full_list(alloc) {
+        Ok(list) => has_copy(alloc, list),
+        Err(_) => false,
+    }
 }
 
 #[test]
 fn copy_of_a_list(rt: HostRuntime) {
-    assert!(rt; matches!(copies(rt.alloc()), Ok(true)));
+    assert!(rt; copies(rt.alloc()));
 }

@@ -2,6 +2,7 @@
 ghost use Rattle.std.specs.Prelude.{◌≡◌, ◌≤◌, All, IfOk, length};
 ghost use Rattle.ttp_world.specs.Events.{IsBounded};
 
+use super::lists::let_go;
 use medium::{Arrival, Medium, Outgoing, received};
 use std::alloc::Global;
 use ttp_base::{List, Memory};
@@ -90,15 +91,32 @@ fn event(line: Line) -> Event
     }
 }
 
-fn script(alloc: Global, lines: [Line; 2]) -> Result<Script, Memory> {
+fn events(alloc: Global, lines: [Line; 2]) -> Result<List<Event>, Memory>
+    ensures len { IfOk result (λ events. length events ≤ 2) }
+    ensures events { IfOk result (All IsBounded) }
+{
     let mut events = List::new(alloc);
-    events.push(event(lines[0]))?;
-    events.push(event(lines[1]))?;
+    let Ok(()) = events.push(event(lines[0])) else {
+        return Err(Memory);
+    };
+    let Ok(()) = events.push(event(lines[1])) else {
+        return Err(Memory);
+    };
+    Ok(events)
+}
+
+fn script(alloc: Global, lines: [Line; 2]) -> Result<Script, Memory> {
+    let Ok(events) = events(alloc, lines) else {
+        return Err(Memory);
+    };
+    let Ok(events) = Events::index(alloc, events) else {
+        return Err(Memory);
+    };
     Ok(Script {
         slots: 6,
         on: List::new(alloc),
         drift: List::new(alloc),
-        events: Events::index(alloc, events)?,
+        events,
     })
 }
 
@@ -295,24 +313,34 @@ fn hears(medium: &mut Medium, script: &Script, row: &Row) -> bool {
         && is_heard(&medium.heard(&incidents, Channel::B), b)
 }
 
-fn are_heard(alloc: Global, medium: &mut Medium, row: &Row) -> Result<bool, Memory> {
-    let script = script(alloc, row.0)?;
-    Ok(hears(medium, &script, row))
+fn are_heard(alloc: Global, medium: &mut Medium, row: &Row) -> bool {
+    let Ok(script) = script(alloc, row.0) else {
+        return false;
+    };
+    let is_right = hears(medium, &script, row);
+    let_go(script);
+    is_right
 }
 
-fn all_are_heard(alloc: Global) -> Result<bool, Memory> {
-    let mut medium = Medium::new(alloc, &empty_list(alloc))?;
+fn each_is_heard(alloc: Global, medium: &mut Medium) -> bool {
     for row in ROWS {
-        if !are_heard(alloc, &mut medium, row)? {
-            return Ok(false);
+        if !are_heard(alloc, medium, row) {
+            return false;
         }
     }
-    Ok(true)
+    true
+}
+
+fn all_are_heard(alloc: Global) -> bool {
+    match &mut Medium::new(alloc, &empty_list(alloc)) {
+        Ok(medium) => each_is_heard(alloc, medium),
+        Err(_) => false,
+    }
 }
 
 #[test]
 fn a_third_node_hears_what_is_left(rt: HostRuntime) {
-    assert!(rt; matches!(all_are_heard(rt.alloc()), Ok(true)));
+    assert!(rt; all_are_heard(rt.alloc()));
 }
 
 // Whether node 2 hears nothing of the frame that a receiver without faults hears.
@@ -324,15 +352,25 @@ fn hears_less(medium: &mut Medium, script: &Script) -> bool {
 }
 
 // The receiver of node 2 is dead on channel A.
-fn is_received(alloc: Global) -> Result<bool, Memory> {
-    let mut medium = Medium::new(alloc, &empty_list(alloc))?;
-    let script = script(alloc, [Line::ReceiveSilence(2, A), Line::None])?;
-    Ok(hears_less(&mut medium, &script))
+fn is_received(alloc: Global, medium: &mut Medium) -> bool {
+    let Ok(script) = script(alloc, [Line::ReceiveSilence(2, A), Line::None]) else {
+        return false;
+    };
+    let is_right = hears_less(medium, &script);
+    let_go(script);
+    is_right
+}
+
+fn less_is_received(alloc: Global) -> bool {
+    match &mut Medium::new(alloc, &empty_list(alloc)) {
+        Ok(medium) => is_received(alloc, medium),
+        Err(_) => false,
+    }
 }
 
 #[test]
 fn a_receiver_with_a_fault_hears_less_than_is_carried(rt: HostRuntime) {
-    assert!(rt; matches!(is_received(rt.alloc()), Ok(true)));
+    assert!(rt; less_is_received(rt.alloc()));
 }
 
 #[test]

@@ -13,7 +13,7 @@ ghost use Rattle.controller.specs.PlantStands.{plant_of, MayStep, Steps};
 ghost use Rattle.controller.specs.PlantWithin.{most_ahead, most_ahead_in, IsEnded, AreSeats, AreIncidents};
 ghost use Rattle.controller.specs.PlantWithin.{IsFromWithin};
 
-use super::alone::four_nodes;
+use super::lists::{bare_nodes, let_go};
 use super::plants::{after, nothing_for_all, quiet_script};
 use controller::{Plant, Seat, begin_all, plan_all, seats_of, take_all};
 use medium::Medium;
@@ -123,13 +123,15 @@ fn after_in_parts(alloc: Global, slots: u32) -> Result<Vec<Seat>, Memory>
     requires { slots ≤ 12 }
     ensures { IfOk result (λ seats. length seats.items ≡ 4) }
 {
-    let Ok(list) = four_nodes(alloc) else {
+    let Ok(list) = bare_nodes(alloc) else {
         return Err(Memory);
     };
     let Ok(script) = quiet_script(alloc) else {
         return Err(Memory);
     };
-    parts_of(alloc, &list, &script, slots)
+    let seats = parts_of(alloc, &list, &script, slots);
+    let_go(script);
+    seats
 }
 
 // Whether a plant shows of a node what its seat shows.
@@ -140,24 +142,24 @@ fn shows(whole: &Plant, seat: &Seat, k: u8) -> bool
 }
 
 // Whether after so many slots a node is the same both ways.
-fn is_same(alloc: Global, slots: u32, k: u8) -> Result<bool, Memory>
+fn is_same(alloc: Global, slots: u32, k: u8) -> bool
     requires slots { slots ≤ 12 }
     requires k { k < 4 }
 {
     let Ok(whole) = after(alloc, slots) else {
-        return Err(Memory);
+        return false;
     };
     let Ok(parts) = after_in_parts(alloc, slots) else {
-        return Err(Memory);
+        return false;
     };
-    Ok(shows(&whole, &parts[k as usize], k))
+    shows(&whole, &parts[k as usize], k)
 }
 
 #[test]
 fn a_slot_is_taken_in_parts(rt: HostRuntime) {
     for slots in 0..13u32 {
         for k in 0..4u8 {
-            assert!(rt; matches!(is_same(rt.alloc(), slots, k), Ok(true)));
+            assert!(rt; is_same(rt.alloc(), slots, k));
         }
     }
 }
@@ -165,23 +167,29 @@ fn a_slot_is_taken_in_parts(rt: HostRuntime) {
 // That a thread may be handed such a value, and may share one.
 fn may_cross<T: Send + Sync>(_value: &T) {}
 
-// That the seats and the medium of the cluster may cross to a thread.
-fn cross(alloc: Global) -> Result<(), Memory> {
-    let Ok(list) = four_nodes(alloc) else {
-        return Err(Memory);
-    };
-    let Ok(seats) = seats_of(alloc, &list) else {
-        return Err(Memory);
-    };
-    let Ok(medium) = Medium::new(alloc, &list) else {
-        return Err(Memory);
+// That the seats and the medium of a cluster may cross to a thread; whether there is memory for them.
+fn cross(alloc: Global, list: &Medl) -> bool
+    requires { IsValid list.now }
+{
+    let Ok(seats) = seats_of(alloc, list) else {
+        return false;
     };
     may_cross(&seats);
+    let Ok(medium) = Medium::new(alloc, list) else {
+        return false;
+    };
     may_cross(&medium);
-    Ok(())
+    true
+}
+
+fn crosses(alloc: Global) -> bool {
+    match &bare_nodes(alloc) {
+        Ok(list) => cross(alloc, list),
+        Err(_) => false,
+    }
 }
 
 #[test]
 fn parts_may_go_to_threads(rt: HostRuntime) {
-    assert!(rt; cross(rt.alloc()).is_ok());
+    assert!(rt; crosses(rt.alloc()));
 }

@@ -12,8 +12,12 @@ fn two_kinds(alloc: Global) -> Result<List<Kind>, Memory>
     ensures { IfOk result (λ kinds. kinds ≡ kind.I ∷ kind.I ∷ []) }
 {
     let mut kinds = List::new(alloc);
-    kinds.push(Kind::I)?;
-    kinds.push(Kind::I)?;
+    let Ok(()) = kinds.push(Kind::I) else {
+        return Err(Memory);
+    };
+    let Ok(()) = kinds.push(Kind::I) else {
+        return Err(Memory);
+    };
     Ok(kinds)
 }
 
@@ -27,7 +31,9 @@ fn add_slot(alloc: Global, slots: &mut List<SlotPlan>) -> Result<(), Memory>
       live = 1;
     } ∷ []) }
 {
-    let kinds = two_kinds(alloc)?;
+    let Ok(kinds) = two_kinds(alloc) else {
+        return Err(Memory);
+    };
     slots.push(SlotPlan {
         kinds,
         payload: 0,
@@ -45,10 +51,18 @@ fn four_nodes(alloc: Global) -> Result<Medl, Memory>
     ensures slots { IfOk result (λ list. length list.slots ≡ 4) }
 {
     let mut slots = List::new(alloc);
-    add_slot(alloc, &mut slots)?;
-    add_slot(alloc, &mut slots)?;
-    add_slot(alloc, &mut slots)?;
-    add_slot(alloc, &mut slots)?;
+    let Ok(()) = add_slot(alloc, &mut slots) else {
+        return Err(Memory);
+    };
+    let Ok(()) = add_slot(alloc, &mut slots) else {
+        return Err(Memory);
+    };
+    let Ok(()) = add_slot(alloc, &mut slots) else {
+        return Err(Memory);
+    };
+    let Ok(()) = add_slot(alloc, &mut slots) else {
+        return Err(Memory);
+    };
     Ok(Medl {
         version: 1,
         rounds: 2,
@@ -101,23 +115,30 @@ fn follows(clock: &mut SlotClock, members: NodeSet) -> bool {
     true
 }
 
-// Whether the places of the list follow one another.
-fn follow_in_list(alloc: Global) -> Result<bool, Memory> {
-    let list = four_nodes(alloc)?;
+// Whether the places of a list follow one another.
+fn follow_in(list: &Medl) -> bool
+    requires valid { IsValid list.now }
+    requires rounds { list.now.rounds ≡ 2 }
+    requires slots { length list.now.slots ≡ 4 }
+{
     let members = NodeSet::empty().with(1).with(3);
-    let mut clock = SlotClock::at(
-        &list,
-        &CState {
-            time: 65534,
-            round: 0,
-            slot: 2,
-            members,
-        },
-    );
-    Ok(follows(&mut clock, members))
+    let place = CState {
+        time: 65534,
+        round: 0,
+        slot: 2,
+        members,
+    };
+    follows(&mut SlotClock::at(list, &place), members)
+}
+
+fn follow_in_list(alloc: Global) -> bool {
+    match &four_nodes(alloc) {
+        Ok(list) => follow_in(list),
+        Err(_) => false,
+    }
 }
 
 #[test]
 fn places_follow_one_another(rt: HostRuntime) {
-    assert!(rt; matches!(follow_in_list(rt.alloc()), Ok(true)));
+    assert!(rt; follow_in_list(rt.alloc()));
 }

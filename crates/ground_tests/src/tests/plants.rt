@@ -3,7 +3,7 @@ ghost use Rattle.std.specs.Prelude.{◌≡◌, ◌<◌, ◌≤◌, ℕ, [], All,
 ghost use Rattle.ttp_world.specs.Medl.{IsValid, plan_at};
 ghost use Rattle.ttp_world.specs.Script.{IsValidScript};
 
-use super::alone::four_nodes;
+use super::lists::{bare_nodes, let_go};
 use controller::{Controller, Plant, is_loaded, laws};
 use std::alloc::Global;
 use ttp_base::{List, Memory};
@@ -72,13 +72,15 @@ pub(super) fn after(alloc: Global, slots: u32) -> Result<Plant, Memory>
     requires { slots ≤ 12 }
     ensures { IfOk result (λ plant. length plant.list.slots ≡ 4) }
 {
-    let Ok(list) = four_nodes(alloc) else {
+    let Ok(list) = bare_nodes(alloc) else {
         return Err(Memory);
     };
     let Ok(script) = quiet_script(alloc) else {
         return Err(Memory);
     };
-    after_of(alloc, &list, &script, slots)
+    let plant = after_of(alloc, &list, &script, slots);
+    let_go(script);
+    plant
 }
 
 // Whether a plant shows what it shows before the first slot.
@@ -99,37 +101,37 @@ fn is_like(copy: &Plant, plant: &Plant) -> bool
 }
 
 // Whether the frame of node 0's new controller carries no message.
-fn is_quiet(alloc: Global, list: &Medl) -> Result<bool, Memory>
+fn is_quiet(alloc: Global, list: &Medl) -> bool
     requires { IsValid list.now }
 {
     match &Controller::new(alloc, list, 0) {
-        Ok(node) => Ok(!is_loaded(node)),
-        Err(_) => Err(Memory),
+        Ok(node) => !is_loaded(node),
+        Err(_) => false,
     }
 }
 
 // Whether a plant shows nothing, and a copy of it the same.
-fn copies(alloc: Global, list: &Medl) -> Result<bool, Memory>
+fn copies(alloc: Global, list: &Medl) -> bool
     requires valid { IsValid list.now }
     requires slots { length list.now.slots ≡ 4 }
 {
     let Ok(plant) = Plant::new(alloc, list) else {
-        return Err(Memory);
+        return false;
     };
     let Ok(mut copy) = Plant::new(alloc, list) else {
-        return Err(Memory);
+        return false;
     };
     copy.copy_from(&plant);
-    Ok(is_unused(&plant) && is_like(&copy, &plant))
+    is_unused(&plant) && is_like(&copy, &plant)
 }
 
 // Whether node 2's clock stands at 0 after so many slots.
-fn stands_at_0(alloc: Global, slots: u32) -> Result<bool, Memory>
+fn stands_at_0(alloc: Global, slots: u32) -> bool
     requires { slots ≤ 12 }
 {
     match &after(alloc, slots) {
-        Ok(plant) => Ok(plant.node(2).offset == 0),
-        Err(_) => Err(Memory),
+        Ok(plant) => plant.node(2).offset == 0,
+        Err(_) => false,
     }
 }
 
@@ -162,21 +164,18 @@ fn is_told(plant: &Plant) -> bool
 }
 
 // Whether a controller and a plant of the cluster begin so, before the first slot.
-fn begins(alloc: Global) -> Result<bool, Memory> {
-    let Ok(list) = four_nodes(alloc) else {
-        return Err(Memory);
-    };
-    match is_quiet(alloc, &list) {
-        Ok(true) => copies(alloc, &list),
-        answer => answer,
+fn begins(alloc: Global) -> bool {
+    match &bare_nodes(alloc) {
+        Ok(list) => is_quiet(alloc, list) && copies(alloc, list),
+        Err(_) => false,
     }
 }
 
 // Whether the tenth slot was the first one after the start.
-fn has_started(alloc: Global) -> Result<bool, Memory> {
+fn has_started(alloc: Global) -> bool {
     match &after(alloc, 10) {
-        Ok(plant) => Ok(is_answered(plant) && is_sent(plant) && is_told(plant)),
-        Err(_) => Err(Memory),
+        Ok(plant) => is_answered(plant) && is_sent(plant) && is_told(plant),
+        Err(_) => false,
     }
 }
 
@@ -186,7 +185,7 @@ fn a_cluster_starts(rt: HostRuntime) {
     laws::plants_of_scripts_that_agree();
     // Node 0 waits for two rounds, then starts, and node 1 sends the first frame after it.
     for slots in 1..10u32 {
-        assert!(rt; matches!(stands_at_0(alloc, slots), Ok(true)));
+        assert!(rt; stands_at_0(alloc, slots));
     }
-    assert!(rt; matches!(begins(alloc), Ok(true)) && matches!(has_started(alloc), Ok(true)));
+    assert!(rt; begins(alloc) && has_started(alloc));
 }

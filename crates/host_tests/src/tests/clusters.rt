@@ -48,16 +48,18 @@ fn has_first_slot<R: Threads + Wait + Sync>(rt: &R, cluster: &mut Cluster) -> bo
     report.slot == 0 && report.nodes.len() == 5 && report.reads.len() == 0
 }
 
-fn begins<R: Threads + Wait + Sync>(rt: &R, alloc: Global) -> Result<bool, Memory> {
-    let mut cluster = poll_cluster(alloc)?;
+fn begins<R: Threads + Wait + Sync>(rt: &R, alloc: Global) -> bool {
+    let Ok(mut cluster) = poll_cluster(alloc) else {
+        return false;
+    };
     let is_right = has_first_slot(rt, &mut cluster);
     let_go(cluster);
-    Ok(is_right)
+    is_right
 }
 
 #[test]
 fn a_cluster_does_its_first_slot(rt: HostRuntime) {
-    assert!(rt; matches!(begins(&rt, rt.alloc()), Ok(true)));
+    assert!(rt; begins(&rt, rt.alloc()));
 }
 
 // What a watcher was told: of how many slots, and of how many reads in them.
@@ -120,18 +122,20 @@ fn is_whole<R: Threads + Wait + Sync>(rt: &R, cluster: &mut Cluster, told: &mut 
 }
 
 // Who watches may end a run, and another one goes on.
-fn goes_on<R: Threads + Wait + Sync>(rt: &R, alloc: Global, most: u32) -> Result<bool, Memory> {
-    let mut cluster = poll_cluster(alloc)?;
+fn goes_on<R: Threads + Wait + Sync>(rt: &R, alloc: Global, most: u32) -> bool {
+    let Ok(mut cluster) = poll_cluster(alloc) else {
+        return false;
+    };
     let mut told = Told { slots: 0, reads: 0 };
     let is_right = is_ended(rt, &mut cluster, &mut told, most)
         && is_whole(rt, &mut cluster, &mut told);
     let_go(cluster);
-    Ok(is_right)
+    is_right
 }
 
 #[test]
 fn a_run_tells_of_each_slot(rt: HostRuntime) {
     for most in [1u32, 11, 12, 13, 20] {
-        assert!(rt; matches!(goes_on(&rt, rt.alloc(), most), Ok(true)));
+        assert!(rt; goes_on(&rt, rt.alloc(), most));
     }
 }

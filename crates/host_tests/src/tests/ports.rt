@@ -296,22 +296,28 @@ fn is_fetched(port: &Port, end: &mut HostEnd, fetcher: Fetcher, answer: Try) -> 
 }
 
 // Whether a controller that fetches beside its host's write gets a message, and a fetcher that is not used nothing.
-fn fetches_beside<R: Threads + Sync>(rt: &R, alloc: Global) -> Result<bool, Memory> {
-    let (port, mut end) = written_port(alloc)?;
-    let unused = port.lend_fetch(&mut end)?;
-    let fetcher = port.lend_fetch(&mut end)?;
+fn fetches_beside<R: Threads + Sync>(rt: &R, alloc: Global) -> bool {
+    let Ok((port, mut end)) = written_port(alloc) else {
+        return false;
+    };
+    let Ok(unused) = port.lend_fetch(&mut end) else {
+        return false;
+    };
+    let Ok(fetcher) = port.lend_fetch(&mut end) else {
+        return false;
+    };
     let ((written, mut end), (answer, fetcher)) = join(
         rt,
         || write_one(&port, end),
         || fetch_one(&port, fetcher),
     );
     let is_nothing = is_nothing_fetched(&port, &mut end, unused);
-    Ok(is_fetched(&port, &mut end, fetcher, answer) && is_nothing && written == 1)
+    is_fetched(&port, &mut end, fetcher, answer) && is_nothing && written == 1
 }
 
 #[test]
 fn a_controller_fetches_beside_its_host(rt: HostRuntime) {
     for _ in 0..20u8 {
-        assert!(rt; matches!(fetches_beside(&rt, rt.alloc()), Ok(true)));
+        assert!(rt; fetches_beside(&rt, rt.alloc()));
     }
 }

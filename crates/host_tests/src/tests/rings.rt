@@ -198,19 +198,25 @@ fn tries_next(ring: &Ring, reader: &mut Reader) -> bool
 }
 
 // Whether a reader gets the newest message, and then the one that is written next.
-fn is_read<R: Wait>(rt: &R, alloc: Global) -> Result<bool, Memory> {
-    let (ring, mut writer) = written(alloc, 2, 2, 2)?;
-    let mut reader = ring.lend(&mut writer, 3)?;
+fn is_read<R: Wait>(rt: &R, alloc: Global) -> bool {
+    let Ok((ring, mut writer)) = written(alloc, 2, 2, 2) else {
+        return false;
+    };
+    let Ok(mut reader) = ring.lend(&mut writer, 3) else {
+        return false;
+    };
     let is_newest = reads_newest(rt, &ring, &writer, &mut reader);
     write_next(&ring, &mut writer, 2, &OpenGate::new());
     let is_next = tries_next(&ring, &mut reader);
-    let pairs = ring.settle(&mut writer, reader)?.into_pairs();
-    Ok(is_newest && is_next && are_pairs(&pairs))
+    match ring.settle(&mut writer, reader) {
+        Ok(receipts) => is_newest && is_next && are_pairs(&receipts.into_pairs()),
+        Err(_) => false,
+    }
 }
 
 #[test]
 fn a_message_is_written_and_read(rt: HostRuntime) {
-    assert!(rt; matches!(is_read(&rt, rt.alloc()), Ok(true)));
+    assert!(rt; is_read(&rt, rt.alloc()));
 }
 
 // Keeps the places that were passed, as decimal digits, the first one first.
@@ -331,42 +337,44 @@ fn is_answer<R: Threads + Sync>(
     buffers: usize,
     places: (u32, u32),
     wanted: Try,
-) -> Result<bool, Memory>
+) -> bool
     requires { (0 < buffers) × (buffers ≤ 16) }
 {
-    let (answer, _, right) = played(rt, alloc, buffers, places.0, places.1)?;
-    Ok(answer == wanted && right)
+    let Ok((answer, _, right)) = played(rt, alloc, buffers, places.0, places.1) else {
+        return false;
+    };
+    answer == wanted && right
 }
 
 // Whether a ring of one buffer is not read while it is written.
-fn is_not_read<R: Threads + Sync>(rt: &R, alloc: Global) -> Result<bool, Memory> {
+fn is_not_read<R: Threads + Sync>(rt: &R, alloc: Global) -> bool {
     let open = Try::Overrun {
         number: 3,
         begin: 7,
         end: 7,
     };
-    let (answer, loads, right) = played(rt, alloc, 1, 0, 2)?;
-    Ok(answer == open && right && loads == 0)
+    let Ok((answer, loads, right)) = played(rt, alloc, 1, 0, 2) else {
+        return false;
+    };
+    answer == open && right && loads == 0
 }
 
 // Whether one message more leaves the buffer of message 3 as it is, and the next one begins to take it.
-fn decides<R: Threads + Sync>(rt: &R, alloc: Global) -> Result<bool, Memory> {
+fn decides<R: Threads + Sync>(rt: &R, alloc: Global) -> bool {
     let got = Try::Got { number: 3 };
     let overrun = Try::Overrun {
         number: 3,
         begin: 6,
         end: 9,
     };
-    Ok(
-        is_answer(rt, alloc, 2, (6, 0), got)?
-            && is_answer(rt, alloc, 2, (6, 2), overrun)?
-            && is_not_read(rt, alloc)?,
-    )
+    is_answer(rt, alloc, 2, (6, 0), got)
+        && is_answer(rt, alloc, 2, (6, 2), overrun)
+        && is_not_read(rt, alloc)
 }
 
 #[test]
 fn the_last_load_decides(rt: HostRuntime) {
-    assert!(rt; matches!(decides(&rt, rt.alloc()), Ok(true)));
+    assert!(rt; decides(&rt, rt.alloc()));
 }
 
 // Two readers at once.
@@ -407,20 +415,23 @@ fn write_and_read<R: Threads + Sync>(
 }
 
 // Whether a writer and three readers in threads get what was written, and a last reader the newest.
-fn is_stable<R: Threads + Sync>(
-    rt: &R,
-    alloc: Global,
-    width: usize,
-    buffers: usize,
-) -> Result<bool, Memory>
+fn is_stable<R: Threads + Sync>(rt: &R, alloc: Global, width: usize, buffers: usize) -> bool
     requires width { (0 < width) × (width ≤ 32) }
     requires buffers { (0 < buffers) × (buffers ≤ 16) }
 {
     let count = STEPS / (width + 2);
-    let (ring, mut writer) = written(alloc, width, buffers, 0)?;
-    let one = ring.lend(&mut writer, count)?;
-    let two = ring.lend(&mut writer, count)?;
-    let three = ring.lend(&mut writer, count)?;
+    let Ok((ring, mut writer)) = written(alloc, width, buffers, 0) else {
+        return false;
+    };
+    let Ok(one) = ring.lend(&mut writer, count) else {
+        return false;
+    };
+    let Ok(two) = ring.lend(&mut writer, count) else {
+        return false;
+    };
+    let Ok(three) = ring.lend(&mut writer, count) else {
+        return false;
+    };
     let ((one, two), (mut writer, three)) = join(
         rt,
         || -> (Reader, Reader)
@@ -437,14 +448,14 @@ fn is_stable<R: Threads + Sync>(
         is_right(&ring, &mut writer, two, width),
         is_right(&ring, &mut writer, three, width),
     ];
-    Ok(is_newest_read(&ring, &mut writer, width)? && are_right == [true; 3])
+    matches!(is_newest_read(&ring, &mut writer, width), Ok(true)) && are_right == [true; 3]
 }
 
 #[test]
 fn readers_get_what_was_written(rt: HostRuntime) {
     for buffers in [1, 2, 4, 16] {
         for width in [1, 4, 32] {
-            assert!(rt; matches!(is_stable(&rt, rt.alloc(), width, buffers), Ok(true)));
+            assert!(rt; is_stable(&rt, rt.alloc(), width, buffers));
         }
     }
 }

@@ -74,14 +74,14 @@ fn are_bounds(list: &Medl) -> bool
 }
 
 // Whether they are those of four nodes.
-fn bounds_are_told(alloc: Global) -> Result<bool, Memory> {
+fn bounds_are_told(alloc: Global) -> bool {
     match &four_nodes(alloc) {
-        Ok(list) => Ok(are_bounds(list)),
-        Err(_) => Err(Memory),
+        Ok(list) => are_bounds(list),
+        Err(_) => false,
     }
 }
 
 #[test]
 fn bounds_of_four_nodes(rt: HostRuntime) {
-    assert!(rt; bounds_are_told(rt.alloc()) == Ok(true));
+    assert!(rt; bounds_are_told(rt.alloc()));
 }

@@ -5,7 +5,7 @@ ghost use Rattle.ttp_world.specs.Script.{IsValidScript};
 ghost use Rattle.two_faced.specs.declared.faced.Faced.TheVariants as faced;
 ghost use Rattle.two_faced.specs.Faced.{faced_of};
 
-use super::scripts::{list_of, script_of};
+use super::scripts::{let_go, list_of, script_of};
 use std::alloc::Global;
 use ttp_world::{Medl, Script};
 use two_faced::{Faced, Seen, bound, find_faced, find_seen, halved};
@@ -51,7 +51,9 @@ fn is_kept(alloc: Global) -> bool {
     let Some(script) = script_of(alloc, &list, KEEPING.as_bytes()) else {
         return false;
     };
-    bound(&list) == 50 && is_owed_law(&list, &script, 3)
+    let is_right = bound(&list) == 50 && is_owed_law(&list, &script, 3);
+    let_go(script);
+    is_right
 }
 
 #[test]
@@ -77,7 +79,9 @@ fn is_seen(alloc: Global, list: &Medl, case: &(&str, Seen)) -> bool
     let Some(script) = script_of(alloc, list, case.0.as_bytes()) else {
         return false;
     };
-    find_seen(alloc, list, &script, 3).ok() == Some(case.1)
+    let seen = find_seen(alloc, list, &script, 3);
+    let_go(script);
+    seen.ok() == Some(case.1)
 }
 
 fn are_seen(alloc: Global) -> bool {

@@ -7,7 +7,7 @@ ghost use Rattle.ttp_world.specs.Script.{IsValidScript};
 ghost use Rattle.hypothesis.specs.FaultyRuns.{IsKeptAt, IsBackAt};
 ghost use Rattle.hypothesis.specs.Standing.{told_start};
 
-use super::scripts::{FOUR_NODES, list_of, script_of};
+use super::scripts::{FOUR_NODES, let_go, list_of, script_of};
 use hypothesis::{BackFaulty, KeptFaulty, Start, start_of};
 use std::alloc::Global;
 use ttp_world::{Medl, Script};
@@ -81,6 +81,16 @@ fn are_faulty(list: &Medl, script: &Script, start: Start) -> bool
         && back_after(list, script, start, 59) == 0
 }
 
+fn are_faulty_from_start(list: &Medl, script: &Script) -> bool
+    requires valid { IsValid list.now }
+    requires script { IsValidScript list.now script.now }
+{
+    match start_of(list, script) {
+        Some(start) => are_faulty(list, script, start),
+        None => false,
+    }
+}
+
 fn are_told(alloc: Global) -> bool {
     let Some(list) = list_of(alloc, FOUR_NODES) else {
         return false;
@@ -88,10 +98,9 @@ fn are_told(alloc: Global) -> bool {
     let Some(script) = script_of(alloc, &list, LOST) else {
         return false;
     };
-    match start_of(&list, &script) {
-        Some(start) => are_faulty(&list, &script, start),
-        None => false,
-    }
+    let is_right = are_faulty_from_start(&list, &script);
+    let_go(script);
+    is_right
 }
 
 #[test]

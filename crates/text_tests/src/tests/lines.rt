@@ -123,33 +123,35 @@ fn state_of(row: &Row) -> NodeState {
 }
 
 // Whether the line of a row's node is its text. Its members can be written in four digits.
-fn is_line(alloc: Global, list: &Medl, row: &Row, newest: &mut NodeLines) -> Result<bool, Memory>
+fn is_line(alloc: Global, list: &Medl, row: &Row, newest: &mut NodeLines) -> bool
     requires { list.now.version ≡ 1 }
 {
     let state = state_of(row);
     if state.members.bits() >= 65_536 {
-        return Ok(false);
+        return false;
     }
-    let mut out = sink_with(alloc, 111)?;
+    let Ok(mut out) = sink_with(alloc, 111) else {
+        return false;
+    };
     let written = put_node_line(list, row.0, &state, row.4, newest, &mut out);
-    Ok(written.is_ok() && out.bytes() == row.5.as_bytes())
+    written.is_ok() && out.bytes() == row.5.as_bytes()
 }
 
-fn are_lines(alloc: Global) -> Result<bool, Memory> {
+fn are_lines(alloc: Global) -> bool {
     let narrow = list(alloc, 1);
     let mut newest = NodeLines::new();
     newest.begin(17);
     for row in ROWS {
-        if !is_line(alloc, &narrow, row, &mut newest)? {
-            return Ok(false);
+        if !is_line(alloc, &narrow, row, &mut newest) {
+            return false;
         }
     }
-    Ok(true)
+    true
 }
 
 #[test]
 fn lines_of_one_slot(rt: HostRuntime) {
-    assert!(rt; matches!(are_lines(rt.alloc()), Ok(true)));
+    assert!(rt; are_lines(rt.alloc()));
 }
 
 // The state of the widest line there can be: the members of a list of version 2 have six digits.
@@ -166,53 +168,54 @@ const WIDEST: &str =
     "slot 19999 node 23 correct peer 23 msg 20000 mem 80001b acc 255 rej 255 ack doubt:22 clock -576460752303423488\n";
 
 // Whether the widest line with a message is written into a sink with so much room, whole or not at all.
-fn is_widest_line(alloc: Global, room: usize, is_whole: bool) -> Result<bool, Memory> {
+fn is_widest_line(alloc: Global, room: usize, is_whole: bool) -> bool {
     let state = widest_state();
     if state.members.bits() >= 16_777_216 {
-        return Ok(false);
+        return false;
     }
     let mut newest = NodeLines::new();
     newest.begin(19_999);
-    let mut out = sink_with(alloc, room)?;
+    let Ok(mut out) = sink_with(alloc, room) else {
+        return false;
+    };
     let wide = list(alloc, 2);
     let written = put_node_line(&wide, 23, &state, Some(20_000), &mut newest, &mut out);
     let due = if is_whole { WIDEST } else { "" };
-    Ok(written.is_ok() == is_whole && out.bytes() == due.as_bytes())
+    written.is_ok() == is_whole && out.bytes() == due.as_bytes()
 }
 
-fn is_one_piece(alloc: Global) -> Result<bool, Memory> {
-    Ok(is_widest_line(alloc, 111, true)? && is_widest_line(alloc, 110, false)?)
+fn is_one_piece(alloc: Global) -> bool {
+    is_widest_line(alloc, 111, true) && is_widest_line(alloc, 110, false)
 }
 
 #[test]
 fn a_wide_line_is_one_piece(rt: HostRuntime) {
-    assert!(rt; matches!(is_one_piece(rt.alloc()), Ok(true)));
+    assert!(rt; is_one_piece(rt.alloc()));
 }
 
 // Whether the line of a message that node 1's host reads is this text.
-fn is_read_line(
-    alloc: Global,
-    message: &RingMessage,
-    line: &mut Line,
-    text: &str,
-) -> Result<bool, Memory>
+fn is_read_line(alloc: Global, message: &RingMessage, line: &mut Line, text: &str) -> bool
     requires { HasWords message.now.source message.now.size message.now.words.now }
 {
-    let mut sink = sink_with(alloc, 100)?;
+    let Ok(mut sink) = sink_with(alloc, 100) else {
+        return false;
+    };
     let written = put_read_line(11, 1, message, line, &mut sink);
-    Ok(written.is_ok() && sink.bytes() == text.as_bytes())
+    written.is_ok() && sink.bytes() == text.as_bytes()
 }
 
-fn is_write_line(alloc: Global, line: &mut Line) -> Result<bool, Memory> {
-    let mut sink = sink_with(alloc, 100)?;
+fn is_write_line(alloc: Global, line: &mut Line) -> bool {
+    let Ok(mut sink) = sink_with(alloc, 100) else {
+        return false;
+    };
     let written = put_write_line(19_999, 23, 60_000, line, &mut sink);
-    Ok(written.is_ok() && sink.bytes() == b"slot 19999 host 23 write 60000\n".as_slice())
+    written.is_ok() && sink.bytes() == b"slot 19999 host 23 write 60000\n".as_slice()
 }
 
 const PART: [u64; 2] = [0xffee_ddcc_bbaa_9988, 0x7700_0000_0000_0000];
 
 // Whether the lines of messages of nine bytes and of one are right.
-fn are_read_lines(alloc: Global, line: &mut Line) -> Result<bool, Memory> {
+fn are_read_lines(alloc: Global, line: &mut Line) -> bool {
     let nine = RingMessage {
         source: Source::Node(23),
         number: 20_000,
@@ -225,19 +228,17 @@ fn are_read_lines(alloc: Global, line: &mut Line) -> Result<bool, Memory> {
         words: &PART[1..],
         size: 1,
     };
-    Ok(
-        is_read_line(
-            alloc,
-            &nine,
-            line,
-            "slot 11 host 1 read 23 20000 ffeeddccbbaa998877\n",
-        )? && is_read_line(alloc, &one, line, "slot 11 host 1 read 0 0 77\n")?,
-    )
+    is_read_line(
+        alloc,
+        &nine,
+        line,
+        "slot 11 host 1 read 23 20000 ffeeddccbbaa998877\n",
+    ) && is_read_line(alloc, &one, line, "slot 11 host 1 read 0 0 77\n")
 }
 
 // Whether so many bytes are written where the longest line there is and then a short one come into a sink with so
 // much room: a line that is longer than its sink is refused whole.
-fn is_longest_line(alloc: Global, room: usize, written: usize) -> Result<bool, Memory> {
+fn is_longest_line(alloc: Global, room: usize, written: usize) -> bool {
     let words: [u64; 30] = [0x6162_6364_6566_6768; 30];
     let message = RingMessage {
         source: Source::Node(23),
@@ -246,70 +247,70 @@ fn is_longest_line(alloc: Global, room: usize, written: usize) -> Result<bool, M
         size: 240,
     };
     let mut line = Line::new();
-    let mut sink = sink_with(alloc, room)?;
+    let Ok(mut sink) = sink_with(alloc, room) else {
+        return false;
+    };
     let is_whole = put_read_line(19_999, 23, &message, &mut line, &mut sink).is_ok();
     let is_taken = put_write_line(3, 4, 5, &mut line, &mut sink).is_ok();
     let bytes = sink.bytes();
-    Ok(
-        is_whole == (written > 22)
-            && is_taken
-            && bytes.len() == written
-            && bytes.ends_with(b"slot 3 host 4 write 5\n".as_slice()),
-    )
+    is_whole == (written > 22)
+        && is_taken
+        && bytes.len() == written
+        && bytes.ends_with(b"slot 3 host 4 write 5\n".as_slice())
 }
 
-fn are_host_lines(alloc: Global) -> Result<bool, Memory> {
+fn are_host_lines(alloc: Global) -> bool {
     let mut line = Line::new();
-    Ok(are_read_lines(alloc, &mut line)? && is_write_line(alloc, &mut line)?)
+    are_read_lines(alloc, &mut line) && is_write_line(alloc, &mut line)
 }
 
 // A payload of 240 bytes makes the longest line there is.
-fn is_longest_one_piece(alloc: Global) -> Result<bool, Memory> {
-    Ok(is_longest_line(alloc, 600, 33 + 480 + 1 + 22)? && is_longest_line(alloc, 513, 22)?)
+fn is_longest_one_piece(alloc: Global) -> bool {
+    is_longest_line(alloc, 600, 33 + 480 + 1 + 22) && is_longest_line(alloc, 513, 22)
 }
 
 #[test]
 fn lines_of_hosts(rt: HostRuntime) {
     let alloc = rt.alloc();
-    assert!(rt;
-        matches!(are_host_lines(alloc), Ok(true)) && matches!(is_longest_one_piece(alloc), Ok(true))
-    );
+    assert!(rt; are_host_lines(alloc) && is_longest_one_piece(alloc));
 }
 
-fn is_keep_line(alloc: Global, keep: &Keep, room: usize, text: &str) -> Result<bool, Memory> {
-    let mut out = sink_with(alloc, room)?;
+fn is_keep_line(alloc: Global, keep: &Keep, room: usize, text: &str) -> bool {
+    let Ok(mut out) = sink_with(alloc, room) else {
+        return false;
+    };
     let written = put_keep(keep, &mut out).is_ok();
-    Ok(written != text.is_empty() && out.bytes() == text.as_bytes())
+    written != text.is_empty() && out.bytes() == text.as_bytes()
 }
 
-fn is_back_line(alloc: Global, back: &Back, room: usize, text: &str) -> Result<bool, Memory> {
-    let mut out = sink_with(alloc, room)?;
+fn is_back_line(alloc: Global, back: &Back, room: usize, text: &str) -> bool {
+    let Ok(mut out) = sink_with(alloc, room) else {
+        return false;
+    };
     let written = put_back(back, &mut out).is_ok();
-    Ok(written != text.is_empty() && out.bytes() == text.as_bytes())
+    written != text.is_empty() && out.bytes() == text.as_bytes()
 }
 
 // Lines that are longer than their sinks are refused whole.
-fn are_answers(alloc: Global) -> Result<bool, Memory> {
+fn are_answers(alloc: Global) -> bool {
     let keep = Keep::No { rule: 4, slot: 0 };
     let back = Back::No { rule: 2, slot: 0 };
-    Ok(
-        is_keep_line(
+    is_keep_line(
+        alloc,
+        &Keep::Yes { start: 20_070 },
+        22,
+        "keeps yes start 20070\n",
+    ) && is_keep_line(alloc, &keep, 13, "")
+        && is_back_line(
             alloc,
-            &Keep::Yes { start: 20_070 },
-            22,
-            "keeps yes start 20070\n",
-        )? && is_keep_line(alloc, &keep, 13, "")?
-            && is_back_line(
-                alloc,
-                &Back::No { rule: 8, slot: 37 },
-                21,
-                "returns no Q8 37\n",
-            )?
-            && is_back_line(alloc, &back, 15, "")?,
-    )
+            &Back::No { rule: 8, slot: 37 },
+            21,
+            "returns no Q8 37\n",
+        )
+        && is_back_line(alloc, &back, 15, "")
 }
 
 #[test]
 fn answers_of_both_tests(rt: HostRuntime) {
-    assert!(rt; matches!(are_answers(rt.alloc()), Ok(true)));
+    assert!(rt; are_answers(rt.alloc()));
 }

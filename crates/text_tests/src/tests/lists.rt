@@ -5,7 +5,7 @@ ghost use Rattle.ttp_world.specs.Medl.{IsValid};
 use super::scripts::list_of;
 use medl_text::{Field, FieldName, MedlError, put_schedule, read_medl};
 use std::alloc::Global;
-use ttp_base::{List, Memory, MemorySink};
+use ttp_base::{List, MemorySink};
 use ttp_world::{Kind, Medl};
 
 const LIST: &str =
@@ -16,11 +16,13 @@ const LIST: &str =
 [[slot]]\nkinds = \"I\"\ndata = 0\nsync = true\nstart = false\n";
 
 // Whether a list is shown as this table.
-fn is_shown(alloc: Global, list: &Medl, table: &[u8]) -> Result<bool, Memory>
+fn is_shown(alloc: Global, list: &Medl, table: &[u8]) -> bool
     requires { IsValid list.now }
 {
-    let mut out = MemorySink::new(alloc, 2048, List::new(alloc))?;
-    Ok(put_schedule(list, &mut out).is_ok() && out.bytes() == table)
+    let Ok(mut out) = MemorySink::new(alloc, 2048, List::new(alloc)) else {
+        return false;
+    };
+    put_schedule(list, &mut out).is_ok() && out.bytes() == table
 }
 
 const TABLE: &[u8] = b"ttpbench schedule 1 nodes 4 rounds 1 schedule 001234
@@ -56,21 +58,19 @@ fn has_slot_1(list: &Medl, payload: u8, requests: bool, live: u8) -> bool {
 }
 
 // Whether a list is read as it says, and shown.
-fn is_read(alloc: Global) -> Result<bool, Memory> {
+fn is_read(alloc: Global) -> bool {
     let Some(list) = list_of(alloc, LIST) else {
-        return Ok(false);
+        return false;
     };
-    Ok(
-        has_numbers(&list)
-            && ends_with_kind(&list, Kind::I)
-            && has_slot_1(&list, 240, true, 5)
-            && is_shown(alloc, &list, TABLE)?,
-    )
+    has_numbers(&list)
+        && ends_with_kind(&list, Kind::I)
+        && has_slot_1(&list, 240, true, 5)
+        && is_shown(alloc, &list, TABLE)
 }
 
 #[test]
 fn a_list_is_read_and_shown(rt: HostRuntime) {
-    assert!(rt; matches!(is_read(rt.alloc()), Ok(true)));
+    assert!(rt; is_read(rt.alloc()));
 }
 
 fn is_refused(alloc: Global) -> bool {

@@ -94,15 +94,17 @@ const LINES: &str = "slot 11 node 0 correct peer 2 msg 7 mem 0007 acc 3 rej 0 ac
     slot 11 host 2 write 6\n";
 
 // Whether a sink with so much room takes all lines, or where it is full some first ones, and none after them.
-fn are_lines(alloc: Global, list: &Medl, report: &SlotReport, room: usize) -> Result<bool, Memory>
+fn are_lines(alloc: Global, list: &Medl, report: &SlotReport, room: usize) -> bool
     requires version { list.now.version ≡ 1 }
     requires nodes { length report.now.nodes ≤ 3 }
     requires digits { All (λ line. HasDigits list.now line.state) report.now.nodes }
     requires reads { report.now.reads ≡ [] }
 {
-    let mut out = MemorySink::new(alloc, room, List::new(alloc))?;
+    let Ok(mut out) = MemorySink::new(alloc, room, List::new(alloc)) else {
+        return false;
+    };
     let is_whole = put_slot(list, report, &mut NodeLines::new(), &mut out).is_ok();
-    Ok(is_whole == (room >= LINES.len()) && are_first_lines(out.bytes(), is_whole))
+    is_whole == (room >= LINES.len()) && are_first_lines(out.bytes(), is_whole)
 }
 
 fn are_first_lines(written: &[u8], is_whole: bool) -> bool {
@@ -115,26 +117,28 @@ fn are_first_lines(written: &[u8], is_whole: bool) -> bool {
 }
 
 // Whether the report of a slot for this list has its lines in a sink that is full at any place, or has room for all.
-fn is_written(alloc: Global, list: &Medl) -> Result<bool, Memory>
+fn is_written(alloc: Global, list: &Medl) -> bool
     requires { list.now.version ≡ 1 }
 {
-    let report = report(alloc, list)?;
+    let Ok(report) = report(alloc, list) else {
+        return false;
+    };
     for room in 0..LINES.len() + 2 {
-        if !are_lines(alloc, list, &report, room)? {
-            return Ok(false);
+        if !are_lines(alloc, list, &report, room) {
+            return false;
         }
     }
-    Ok(true)
+    true
 }
 
-fn is_report_written(alloc: Global) -> Result<bool, Memory> {
+fn is_report_written(alloc: Global) -> bool {
     match list_of(alloc, FOUR_NODES) {
-        Some(list) => Ok(list.version == 1 && is_written(alloc, &list)?),
-        None => Ok(false),
+        Some(list) => list.version == 1 && is_written(alloc, &list),
+        None => false,
     }
 }
 
 #[test]
 fn lines_of_a_report(rt: HostRuntime) {
-    assert!(rt; matches!(is_report_written(rt.alloc()), Ok(true)));
+    assert!(rt; is_report_written(rt.alloc()));
 }

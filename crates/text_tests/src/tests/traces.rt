@@ -2,10 +2,9 @@
 ghost use Rattle.ttp_world.specs.Medl.{IsValid};
 ghost use Rattle.ttp_world.specs.Script.{IsValidScript};
 
-use super::scripts::{FOUR_NODES, list_of, script_of};
+use super::scripts::{FOUR_NODES, let_go, list_of, script_of};
 use std::alloc::Global;
 use trace_check::{Outcome, verify};
-use ttp_base::Memory;
 use ttp_world::{Medl, Script};
 
 const LINES: &str = "ttpbench trace 1 nodes 4 rounds 1 slots 1 schedule 000000
@@ -16,31 +15,42 @@ slot 0 node 3 off peer - msg - mem 0000 acc 0 rej 0 ack none clock 0
 keeps no H4 0
 ";
 
+// Whether a trace is told so, by this list and this script.
+fn has_outcome(alloc: Global, list: &Medl, script: &Script, trace: &[u8], due: Outcome) -> bool
+    requires list { IsValid list.now }
+    requires script { IsValidScript list.now script.now }
+{
+    match verify(alloc, list, script, trace) {
+        Ok(outcome) => outcome == due,
+        Err(_) => false,
+    }
+}
+
 // Whether the trace is told from its lines before the last one, by this list and this script.
-fn is_told(alloc: Global, list: &Medl, script: &Script) -> Result<bool, Memory>
+fn is_told(alloc: Global, list: &Medl, script: &Script) -> bool
     requires list { IsValid list.now }
     requires script { IsValidScript list.now script.now }
 {
     let whole = LINES.as_bytes();
     let part = whole.get(..LINES.len().saturating_sub(14)).unwrap_or(whole);
-    Ok(
-        verify(alloc, list, script, whole)? == Outcome::Same
-            && verify(alloc, list, script, part)? == Outcome::Differs { line: 6 },
-    )
+    has_outcome(alloc, list, script, whole, Outcome::Same)
+        && has_outcome(alloc, list, script, part, Outcome::Differs { line: 6 })
 }
 
 // Whether it is so for four nodes and a script that switches none on.
-fn is_told_of_four(alloc: Global) -> Result<bool, Memory> {
+fn is_told_of_four(alloc: Global) -> bool {
     let Some(list) = list_of(alloc, FOUR_NODES) else {
-        return Ok(false);
+        return false;
     };
     let Some(script) = script_of(alloc, &list, b"slots 1\n".as_slice()) else {
-        return Ok(false);
+        return false;
     };
-    is_told(alloc, &list, &script)
+    let is_right = is_told(alloc, &list, &script);
+    let_go(script);
+    is_right
 }
 
 #[test]
 fn a_trace_is_told_from_a_part_of_it(rt: HostRuntime) {
-    assert!(rt; matches!(is_told_of_four(rt.alloc()), Ok(true)));
+    assert!(rt; is_told_of_four(rt.alloc()));
 }

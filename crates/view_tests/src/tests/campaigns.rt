@@ -7,7 +7,7 @@ use fault_runs::{has_room, processors, put_campaign};
 use medl_text::read_medl;
 use script_text::read_script;
 use std::thread::Threads;
-use ttp_base::{List, Memory, MemorySink};
+use ttp_base::{List, MemorySink};
 use ttp_world::{Medl, Script};
 
 // Five nodes, of which node 0 starts in slot 10.
@@ -45,26 +45,28 @@ fn is_put<R: Threads + Sync + AllocGlobal>(
     list: &Medl,
     script: &Script,
     threads: usize,
-) -> Result<bool, Memory>
+) -> bool
     requires valid { IsValid list.now }
     requires script { IsValidScript list.now script.now }
 {
     if !has_room(script) {
-        return Ok(false);
+        return false;
     }
-    let mut out = MemorySink::new(rt.alloc(), 10_000, List::new(rt.alloc()))?;
+    let Ok(mut out) = MemorySink::new(rt.alloc(), 10_000, List::new(rt.alloc())) else {
+        return false;
+    };
     let put = put_campaign(rt, rt.alloc(), list, script, SLOT, SLOT, threads, &mut out);
-    Ok(put.is_ok() && out.bytes().len() == LENGTH && sum_of(out.bytes()) == SUM)
+    put.is_ok() && out.bytes().len() == LENGTH && sum_of(out.bytes()) == SUM
 }
 
 // Whether it is so for five nodes.
-fn is_put_of_five<R: Threads + Sync + AllocGlobal>(rt: &R, threads: usize) -> Result<bool, Memory> {
+fn is_put_of_five<R: Threads + Sync + AllocGlobal>(rt: &R, threads: usize) -> bool {
     let Ok(list) = read_medl(rt.alloc(), FIVE.as_bytes()) else {
-        return Ok(false);
+        return false;
     };
     match read_script(rt.alloc(), &list, QUIET) {
         Ok(script) => is_put(rt, &list, &script, threads),
-        Err(_) => Ok(false),
+        Err(_) => false,
     }
 }
 
@@ -73,6 +75,6 @@ fn is_put_of_five<R: Threads + Sync + AllocGlobal>(rt: &R, threads: usize) -> Re
 fn the_same_text_in_several_threads(rt: HostRuntime) {
     assert!(rt; processors(&rt) >= 1);
     for threads in 1..4usize {
-        assert!(rt; matches!(is_put_of_five(&rt, threads), Ok(true)));
+        assert!(rt; is_put_of_five(&rt, threads));
     }
 }

@@ -1,6 +1,6 @@
 //! Each command once, and sinks that fail at the first lines. What refuses a call is compared where the real
 //! program runs.
-use crate::calls::{Call, answer};
+use super::calls::{Call, answer};
 use std::thread::Threads;
 use ttp_base::Memory;
 
@@ -54,30 +54,29 @@ fn has_front<R: AllocGlobal + Threads + Sync>(
     call: &Call<'_>,
     bad_write: u32,
     front: Option<&[u8]>,
-) -> Result<bool, Memory> {
-    let (status, written) = answer(rt, &Call { bad_write, ..*call })?;
-    Ok(status == 6 && front == Some(written.as_slice()))
+) -> bool {
+    let call = Call { bad_write, ..*call };
+    let Ok((status, written)) = answer(rt, &call) else {
+        return false;
+    };
+    status == 6 && front == Some(written.as_slice())
 }
 
 // Whether a sink that fails at one of the first lines of a text has those before it.
-fn has_fronts<R: AllocGlobal + Threads + Sync>(
-    rt: &R,
-    call: &Call<'_>,
-    text: &str,
-) -> Result<bool, Memory> {
+fn has_fronts<R: AllocGlobal + Threads + Sync>(rt: &R, call: &Call<'_>, text: &str) -> bool {
     let mut bad_write = 0u32;
     let mut before = 0usize;
     for line in text.split('\n') {
         bad_write = bad_write.saturating_add(1);
         if line.is_empty() || bad_write > LINES {
-            return Ok(true);
+            return true;
         }
-        if !has_front(rt, call, bad_write, text.as_bytes().get(..before))? {
-            return Ok(false);
+        if !has_front(rt, call, bad_write, text.as_bytes().get(..before)) {
+            return false;
         }
         before = before.saturating_add(line.len()).saturating_add(1);
     }
-    Ok(false)
+    false
 }
 
 // A text of bytes, which is empty where they are none.
@@ -86,20 +85,18 @@ fn text_of(bytes: &[u8]) -> &str {
 }
 
 // Whether a call answers as its row says, also where a line can't be written.
-fn is_answered<R: AllocGlobal + Threads + Sync>(
-    rt: &R,
-    row: &Row,
-    files: &[(&str, &str)],
-) -> Result<bool, Memory> {
+fn is_answered<R: AllocGlobal + Threads + Sync>(rt: &R, row: &Row, files: &[(&str, &str)]) -> bool {
     let (words, line) = *row;
     let call = Call {
         words,
         files,
         bad_write: 0,
     };
-    let (status, written) = answer(rt, &call)?;
+    let Ok((status, written)) = answer(rt, &call) else {
+        return false;
+    };
     let text = text_of(&written);
-    Ok(status == 0 && text.starts_with(line) && has_fronts(rt, &call, text)?)
+    status == 0 && text.starts_with(line) && has_fronts(rt, &call, text)
 }
 
 // What `campaign` writes.
@@ -117,20 +114,19 @@ fn campaign_of<R: AllocGlobal + Threads + Sync>(
 }
 
 // All calls answer as their rows say, with these files.
-fn are_answered<R: AllocGlobal + Threads + Sync>(
-    rt: &R,
-    files: &[(&str, &str)],
-) -> Result<bool, Memory> {
+fn are_answered<R: AllocGlobal + Threads + Sync>(rt: &R, files: &[(&str, &str)]) -> bool {
     for row in COMMANDS {
-        if !is_answered(rt, row, files)? {
-            return Ok(false);
+        if !is_answered(rt, row, files) {
+            return false;
         }
     }
-    Ok(true)
+    true
 }
 
-fn are_answered_of_files<R: AllocGlobal + Threads + Sync>(rt: &R) -> Result<bool, Memory> {
-    let campaign = campaign_of(rt, &[("list", LIST), ("script", SCRIPT)])?;
+fn are_answered_of_files<R: AllocGlobal + Threads + Sync>(rt: &R) -> bool {
+    let Ok(campaign) = campaign_of(rt, &[("list", LIST), ("script", SCRIPT)]) else {
+        return false;
+    };
     let files = [
         ("list", LIST),
         ("script", SCRIPT),
@@ -142,5 +138,5 @@ fn are_answered_of_files<R: AllocGlobal + Threads + Sync>(rt: &R) -> Result<bool
 
 #[test]
 fn each_command_is_answered(rt: HostRuntime) {
-    assert!(rt; matches!(are_answered_of_files(&rt), Ok(true)));
+    assert!(rt; are_answered_of_files(&rt));
 }

@@ -8,7 +8,7 @@ use std::sync::Wait;
 use std::sync::atomic::AtomicU64;
 use std::sync::atomic::Ordering::SeqCst;
 use std::thread::Threads;
-use ttp_base::{Gate, Memory};
+use ttp_base::Gate;
 
 // A hold lasts no longer.
 const TURNS: u64 = 10_000_000;
@@ -125,12 +125,18 @@ fn is_run<R: Threads + Wait + Sync + AllocGlobal>(
     rt: &R,
     gate: &Holds,
     kept: &mut Option<Cluster>,
-) -> Result<bool, Memory> {
-    let list = joined(rt, FIVE_NODES)?;
-    let script = joined(rt, &[START, "read 1 11 status\n"])?;
+) -> bool {
+    let Ok(list) = joined(rt, FIVE_NODES) else {
+        return false;
+    };
+    let Ok(script) = joined(rt, &[START, "read 1 11 status\n"]) else {
+        return false;
+    };
     let call = call_of(&["run", "list", "script"], &list, &script);
-    let (status, text) = answer_at(rt, &call, gate, kept)?;
-    Ok(status == 0 && text_of(&text).ends_with("keeps yes start 10\n"))
+    let Ok((status, text)) = answer_at(rt, &call, gate, kept) else {
+        return false;
+    };
+    status == 0 && text_of(&text).ends_with("keeps yes start 10\n")
 }
 
 // Whether a call without words answers 2, and keeps no cluster.
@@ -138,20 +144,22 @@ fn is_no_form<R: Threads + Wait + Sync + AllocGlobal>(
     rt: &R,
     gate: &Holds,
     kept: &mut Option<Cluster>,
-) -> Result<bool, Memory> {
-    let (status, _usage) = answer_at(rt, &call_of(&[], "", ""), gate, kept)?;
-    Ok(status == 2 && kept.is_none())
+) -> bool {
+    let Ok((status, _usage)) = answer_at(rt, &call_of(&[], "", ""), gate, kept) else {
+        return false;
+    };
+    status == 2 && kept.is_none()
 }
 
 // The cluster that ran is kept, until the next call.
 fn runs_and_keeps<R: Threads + Wait + Sync + AllocGlobal>(
     rt: &R,
     kept: &mut Option<Cluster>,
-) -> Result<bool, Memory> {
+) -> bool {
     let gate = Holds::new();
-    let is_run = is_run(rt, &gate, kept)?;
+    let is_run = is_run(rt, &gate, kept);
     let is_right = is_run && gate.passed() && is_kept(kept);
-    Ok(is_no_form(rt, &gate, kept)? && is_right)
+    is_no_form(rt, &gate, kept) && is_right
 }
 
 #[test]
@@ -159,5 +167,5 @@ fn controllers_and_hosts_run_at_once(rt: HostRuntime) {
     let mut kept = None;
     let runs = runs_and_keeps(&rt, &mut kept);
     let_go(kept);
-    assert!(rt; matches!(runs, Ok(true)));
+    assert!(rt; runs);
 }

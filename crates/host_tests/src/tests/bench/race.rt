@@ -143,18 +143,15 @@ fn has_each(text: &str, parts: &[&str]) -> bool {
 
 // The run has these lines, both threads are held, none of them to the end, and each place is passed once for
 // each step.
-fn runs_beside<R: Threads + Wait + Sync + AllocGlobal>(
-    rt: &R,
-    case: &Case<'_>,
-) -> Result<bool, Memory> {
+fn runs_beside<R: Threads + Wait + Sync + AllocGlobal>(rt: &R, case: &Case<'_>) -> bool {
     let gate = Beside::new(case.holds);
-    let (status, written) = answer_beside(rt, case, &gate)?;
-    Ok(
-        status == 0
-            && gate.held_both()
-            && gate.passes() == case.passes
-            && has_each(text_of(&written), case.lines),
-    )
+    let Ok((status, written)) = answer_beside(rt, case, &gate) else {
+        return false;
+    };
+    status == 0
+        && gate.held_both()
+        && gate.passes() == case.passes
+        && has_each(text_of(&written), case.lines)
 }
 
 // Before slot 17 five nodes publish 85 statuses of four words, and four deliver the message of slot 12, of
@@ -218,9 +215,7 @@ const EARLY: Case<'static> = Case {
 
 #[test]
 fn hosts_write_beside_fetches(rt: HostRuntime) {
-    assert!(rt;
-        matches!(runs_beside(&rt, &LATE), Ok(true)) && matches!(runs_beside(&rt, &EARLY), Ok(true))
-    );
+    assert!(rt; runs_beside(&rt, &LATE) && runs_beside(&rt, &EARLY));
 }
 
 // Four nodes publish 44 statuses before slot 11. In it the first one who comes waits until two more have, which are
@@ -248,5 +243,5 @@ const HALVES: Case<'static> = Case {
 
 #[test]
 fn two_halves_have_as_many_nodes(rt: HostRuntime) {
-    assert!(rt; matches!(runs_beside(&rt, &HALVES), Ok(true)));
+    assert!(rt; runs_beside(&rt, &HALVES));
 }

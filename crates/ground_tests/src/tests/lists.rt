@@ -1,0 +1,106 @@
+//! Lists of four nodes, and where scripts are let go.
+ghost use Rattle.std.specs.Prelude.{◌≡◌, ◌≤◌, ℕ, [], ◌∷◌, ◌++◌, length, true, false, IfOk};
+ghost use Rattle.ttp_world.specs.Medl.{IsValid, plan_at};
+
+use std::alloc::Global;
+use ttp_base::{List, Memory};
+use ttp_world::{Kind, Medl, Script, SlotPlan};
+
+/// Lets a script go. A function of its own, since what a script holds is let go part by part in each function that
+/// may do so.
+pub(super) fn let_go(_script: Script) {}
+
+// Adds the slot of one more node.
+fn add_slot(
+    alloc: Global,
+    slots: &mut List<SlotPlan>,
+    kind: Kind,
+    payload: u8,
+    start: bool,
+) -> Result<(), Memory>
+    ensures { IfOk result (λ _. slots.new ≡ slots.old ++ record {
+      kinds = kind ∷ [];
+      payload = payload;
+      sync = true;
+      start = start;
+      requests = false;
+      live = 1;
+    } ∷ []) }
+{
+    let mut kinds = List::new(alloc);
+    let Ok(()) = kinds.push(kind) else {
+        return Err(Memory);
+    };
+    slots.push(SlotPlan {
+        kinds,
+        payload,
+        sync: true,
+        start,
+        requests: false,
+        live: 1,
+    })
+}
+
+/// Four nodes whose frames are all bare, each of which may start.
+pub(super) fn bare_nodes(alloc: Global) -> Result<Medl, Memory>
+    ensures valid { IfOk result IsValid }
+    ensures slots { IfOk result (λ list. length list.slots ≡ 4) }
+    ensures buffers { IfOk result (λ list. list.buffers ≡ 2) }
+    ensures bare { (k : ℕ) → IfOk result (λ list. (plan_at list k).payload ≡ 0) }
+{
+    let mut slots = List::new(alloc);
+    let Ok(()) = add_slot(alloc, &mut slots, Kind::I, 0, true) else {
+        return Err(Memory);
+    };
+    let Ok(()) = add_slot(alloc, &mut slots, Kind::I, 0, true) else {
+        return Err(Memory);
+    };
+    let Ok(()) = add_slot(alloc, &mut slots, Kind::I, 0, true) else {
+        return Err(Memory);
+    };
+    let Ok(()) = add_slot(alloc, &mut slots, Kind::I, 0, true) else {
+        return Err(Memory);
+    };
+    Ok(Medl {
+        version: 1,
+        rounds: 1,
+        schedule: 0,
+        buffers: 2,
+        drift: 0,
+        error: 0,
+        window: 1,
+        modes: 1,
+        slots,
+    })
+}
+
+/// Four nodes with frames of all kinds, of which node 0 alone may start, and node 1 sends its C-state and two bytes
+/// of payload.
+pub(super) fn mixed_nodes(alloc: Global) -> Result<Medl, Memory>
+    ensures { IfOk result IsValid }
+{
+    let mut slots = List::new(alloc);
+    let Ok(()) = add_slot(alloc, &mut slots, Kind::I, 0, true) else {
+        return Err(Memory);
+    };
+    let Ok(()) = add_slot(alloc, &mut slots, Kind::X, 2, false) else {
+        return Err(Memory);
+    };
+    let Ok(()) = add_slot(alloc, &mut slots, Kind::N, 2, false) else {
+        return Err(Memory);
+    };
+    let Ok(()) = add_slot(alloc, &mut slots, Kind::I, 0, false) else {
+        return Err(Memory);
+    };
+    Ok(Medl {
+        version: 1,
+        rounds: 1,
+        schedule: 7,
+        buffers: 2,
+        drift: 0,
+        error: 1,
+        window: 100,
+        modes: 1,
+        slots,
+    })
+}
