@@ -2,7 +2,6 @@
 use Rattle.chart_text.proofs.Words.{◌≡◌, ℕ, ◌+◌, Bool, true, false, List, [], ◌∷◌, subst, sym, Result, OnOk}
 use Rattle.chart_text.proofs.Words.{flat_map, Output, WroteLines, Lines, lines_below, Puts, puts_below}
 use Rattle.std.proofs.Common.{Ok, Err, ◌↔◌}
-use Rattle.std.specs.Prelude.{if◌then◌else◌}
 use Rattle.std.specs.Result.{IsOk, OnErr}
 use Rattle.ttp_base.specs.Outside.{CutShort}
 use Rattle.picture_text.proofs.Ending.{end_ok, end_failed}
@@ -58,14 +57,3 @@ pub chart_failed : {T E : Type 0} (r : Result T E) (e : E) (failed fails : Bool)
 chart_failed {T} {E} r e failed fails a b x is end start p =
     subst (λ (q : Result T E). OnErr q (CutShort a b x)) is
     (end_failed r fails a b x end (subst (λ (f : Bool). Puts f a fails b x) start p))
-
--- lines that are put where something is so, and others or none where it is not
-pub put_where : {f g : Bool} {a b : Output} {x : Lines} (is : Bool) (more : Lines) → is ≡ true → Puts f a g b x
-    → Puts f a g b (if is then x else more)
-put_where {f} {g} {a} {b} {x} is more so p =
-    subst (λ (s : Bool). Puts f a g b (if s then x else more)) (sym so) p
-
-pub put_else : {f g : Bool} {a b : Output} {more : Lines} (is : Bool) (x : Lines) → is ≡ false → Puts f a g b more
-    → Puts f a g b (if is then x else more)
-put_else {f} {g} {a} {b} {more} is x so p =
-    subst (λ (s : Bool). Puts f a g b (if s then x else more)) (sym so) p

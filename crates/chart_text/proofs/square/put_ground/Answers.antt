@@ -3,14 +3,14 @@ use Rattle.std.proofs.Common.{add-zero}
 use Rattle.picture_text.specs.Cells.{mark}
 use Rattle.chart_text.specs.Column.{ground_title}
 use Rattle.chart_text.specs.Elements.{loss_shape, jump_shape}
-use Rattle.picture_text.proofs.Puts.{puts_none}
-use Rattle.chart_text.proofs.Written.{along, put_where, put_else}
+use Rattle.picture_text.proofs.Pairs.{puts_where, puts_else, puts_unless}
+use Rattle.chart_text.proofs.Written.{along}
 use Rattle.chart_text.proofs.square.put_ground.Goals as goal
 
 pub returns-then-fault-eq0 : goal.returns-then-fault-eq0
 returns-then-fault-eq0 g c =
     let fault = c.args.fault in
-    put_where (fault.place == 0) _ (eq-eqb fault.place 0 c.if-fault-eq0.true)
+    puts_where (fault.place == 0) _ (eq-eqb fault.place 0 c.if-fault-eq0.true)
     (along
     (λ i. mark (doing_word fault.doing) loss_shape (c.chart_corner-at.ensures.x i) (c.chart_corner-at.ensures.y i)
     (ground_title fault) ∷ [])
@@ -19,8 +19,8 @@ returns-then-fault-eq0 g c =
 pub returns-then-fault-eq12 : goal.returns-then-fault-eq12
 returns-then-fault-eq12 g c =
     let fault = c.args.fault in
-    put_else (fault.place == 0) _ (ne_eqb fault.place 0 c.if-fault-eq0.false)
-    (put_where (fault.place == 12) _ (eq-eqb fault.place 12 c.if-fault-eq12.true)
+    puts_else (fault.place == 0) _ (ne_eqb fault.place 0 c.if-fault-eq0.false)
+    (puts_where (fault.place == 12) _ (eq-eqb fault.place 12 c.if-fault-eq12.true)
     (along
     (λ i. mark (doing_word fault.doing) jump_shape ((c.beside.ensures.x ∙ add-zero _ ∙ c.chart_corner-at.ensures.x) i)
     ((c.beside.ensures.y ∙ ap (λ (y : ℕ). y + 16) c.chart_corner-at.ensures.y) i) (ground_title fault) ∷ [])
@@ -28,5 +28,5 @@ returns-then-fault-eq12 g c =
 
 pub returns-else-fault-eq12 : goal.returns-else-fault-eq12
 returns-else-fault-eq12 g c =
-    put_else (c.args.fault.place == 0) _ (ne_eqb c.args.fault.place 0 c.if-fault-eq0.false)
-    (put_else (c.args.fault.place == 12) _ (ne_eqb c.args.fault.place 12 c.if-fault-eq12.false) (puts_none _ _))
+    puts_else (c.args.fault.place == 0) _ (ne_eqb c.args.fault.place 0 c.if-fault-eq0.false)
+    (puts_unless (c.args.fault.place == 12) _ (ne_eqb c.args.fault.place 12 c.if-fault-eq12.false))
