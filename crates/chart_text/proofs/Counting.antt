@@ -1,9 +1,10 @@
 -- Counting one item more.
 use Rattle.chart_text.proofs.Words.{◌≡◌, ℕ, ◌+◌, ◌<◌, ◌≤◌, ◌^◌, Bool, true, false, cond, List, [], ◌∷◌, length, get_or}
 use Rattle.chart_text.proofs.Words.{map, replicate, refl, sym, ap, ◌∙◌, arith, ◌==◌, get_or-replicate, length-replicate}
-use Rattle.chart_text.proofs.Words.{count_by-le-length, below}
+use Rattle.chart_text.proofs.Words.{as_count, count_by-le-length, below}
 use Rattle.std.specs.Prelude.{count_by}
 use Rattle.std.proofs.lemmas.List.{ext_get_or}
+use Rattle.std.proofs.lemmas.List.Sums.{sum_by-cons}
 use Rattle.std.proofs.lemmas.List.FromFn.{length-map-range_with_len, get_or-map-range_with_len}
 use Rattle.chart_text.specs.Column.{counts_by}
 use Rattle.chart_text.specs.Steps.{AreFaultsCounted}
@@ -31,3 +32,21 @@ pub counted-few : {X : Type 0} (number : X → ℕ) (counts : List ℕ) (left al
     → AreFaultsCounted number counts left all → (i : ℕ) → i < length counts → get_or counts i 0 < most
 counted-few number counts left all most few counted i less =
     omega (arith, counted i less, count_by-le-length (λ x. number x == i) all)
+
+-- one was counted
+
+count-moved : (is : Bool) (before after left all : ℕ) → after ≡ before + as_count is → before + (cond is 1 0 + left) ≡ all
+    → after + left ≡ all
+count-moved true before after left all more known = omega (arith, more, known)
+count-moved false before after left all more known = omega (arith, more, known)
+
+pub counted-next : {X : Type 0} (number : X → ℕ) (before after : List ℕ) (n : ℕ) (one : X) (left all : List X)
+    → length after ≡ length before → n ≡ number one
+    → ((i : ℕ) → i < length before → get_or after i 0 ≡ get_or before i 0 + as_count (n == i))
+    → AreFaultsCounted number before (one ∷ left) all → AreFaultsCounted number after left all
+counted-next number before after n one left all long is more counted i less =
+    let inside : i < length before = omega (arith, less, long) in
+    count-moved (number one == i) (get_or before i 0) (get_or after i 0) (count_by (λ x. number x == i) left)
+    (count_by (λ x. number x == i) all)
+    (more i inside ∙ ap (λ k. get_or before i 0 + as_count (k == i)) is)
+    (ap (λ k. get_or before i 0 + k) (sym (sum_by-cons (λ x. cond (number x == i) 1 0) one left)) ∙ counted i inside)

@@ -45,3 +45,9 @@ told_parts o a b c d e = simp append_assoc refl
 -- the title of a ground
 pub title_parts : (o a b c d e f : List ℕ) → o ++ a ++ (b ++ c) ++ (d ++ e) ++ f ≡ o ++ (a ++ b ++ c ++ d ++ e ++ f)
 title_parts o a b c d e f = simp append_assoc refl
+
+-- the line of the script's own run
+pub own_parts : (front t text u w cost e feed : List ℕ)
+    → front ++ t ++ text ++ (u ++ w) ++ cost ++ (e ++ feed)
+    ≡ (front ++ (t ++ text ++ u ++ w ++ cost) ++ e) ++ feed
+own_parts front t text u w cost e feed = simp append_assoc refl

@@ -6,5 +6,6 @@ pub mod Written
 pub mod Joined
 pub mod Taken
 pub mod Worst
+pub mod PieceCounts
 pub mod Whole
 pub mod Words

@@ -10,7 +10,7 @@ use Rattle.std.proofs.Common.{set, length-append, length-drop, inl, inr}
 use Rattle.std.specs.Prelude.{min, position}
 use Rattle.std.specs.List.{position_or_len}
 use Rattle.std.proofs.Math.ListN.{get_or-eq_default, get_or-append}
-use Rattle.std.proofs.Math.Seq.{get_or-append_seam}
+use Rattle.std.proofs.Math.Seq.{get_or-append_seam, take-append_seam}
 use Rattle.std.proofs.lemmas.Bool.{cases_lt, eqb-false, or_parts}
 use Rattle.std.proofs.lemmas.List.{append-nil, take_all, drop_all, take-append-le, drop-append-le, get_or-set_same}
 use Rattle.std.proofs.lemmas.List.Elements.{filter-append, All-filter}
@@ -240,6 +240,11 @@ pub low-next : (b : Bool) (passed number : ℕ) → (b && (passed == number)) �
     → passed + as_count b ≤ number
 low-next false passed number not_it low = omega (arith, low)
 low-next true passed number not_it low = omega (arith, low, eqb-false passed number not_it)
+
+-- marks that were written over all others
+pub written-over : (new old : List Bool) (n : ℕ) → n ≡ length new → take n (new ++ drop (length new) old) ≡ new
+written-over new old n long =
+    ap (λ (k : ℕ). take k (new ++ drop (length new) old)) long ∙ take-append_seam new (drop (length new) old)
 
 -- no slot has a mark where there are none
 pub none_marked : (n t : ℕ) → get_or (replicate n false) t false ≡ false

@@ -42,8 +42,23 @@ fn make_ground(line: &mut Line, shape: &str, at: Corner, fault: FaultShown)
     close_mark(line);
 }
 
+// Writes a ground of this shape.
+fn put_ground_at<K: Sink>(
+    shape: &str,
+    at: Corner,
+    fault: FaultShown,
+    sheet: &mut Sheet,
+    out: &mut K,
+)
+    requires { length shape.now ≤ 11 }
+    ensures { Puts sheet.old.failed (K.output out.old) sheet.new.failed (K.output out.new)
+        (mark (doing_word fault.doing) shape.now at.x at.y (ground_title fault) ∷ []) }
+{
+    make_ground(&mut sheet.line, shape, at, fault);
+    sheet.write(out);
+}
+
 // Writes the ground, where it comes with this fault.
-#[tactic(auto, using(picture_text::proofs::Puts::puts))]
 fn put_ground<K: Sink>(nodes: u8, column: u32, fault: FaultShown, sheet: &mut Sheet, out: &mut K)
     requires { (4 ≤ nodes) × (nodes ≤ 24) }
     ensures { Puts sheet.old.failed (K.output out.old) sheet.new.failed (K.output out.new)
@@ -51,16 +66,9 @@ fn put_ground<K: Sink>(nodes: u8, column: u32, fault: FaultShown, sheet: &mut Sh
 {
     let at = chart_corner(nodes, column, fault.node);
     if fault.place == 0 {
-        make_ground(&mut sheet.line, "h21v15h-21z", at, fault);
-        sheet.write(out);
+        put_ground_at("h21v15h-21z", at, fault, sheet, out);
     } else if fault.place == 12 {
-        make_ground(
-            &mut sheet.line,
-            "h21v5h-21z",
-            place_beside(at, 0, 16),
-            fault,
-        );
-        sheet.write(out);
+        put_ground_at("h21v5h-21z", place_beside(at, 0, 16), fault, sheet, out);
     }
 }
 

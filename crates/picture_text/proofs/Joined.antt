@@ -66,3 +66,14 @@ pub mark_parts : (class x y shape title : List ℕ)
 mark_parts class x y shape title =
     mark_in_parts (codes "<path") (codes " class=\"") class (codes "\"") (codes " d=\"") (codes "M") x (codes " ") y
     shape (codes ">") (codes "<title>") title (codes "</title>") (codes "</path>") newline
+
+-- an upright line
+pub pole_parts : (a d m x space y v height quote g n : List ℕ)
+    → (a ++ d ++ m) ++ x ++ space ++ y ++ v ++ height ++ (quote ++ g ++ n)
+    ≡ (a ++ (d ++ (m ++ x ++ space ++ y ++ v ++ height) ++ quote) ++ g) ++ n
+pole_parts a d m x space y v height quote g n = simp append_assoc refl
+
+-- the counts of a node, and what stands behind them
+pub counts_parts : (o a b c d e f g h : List ℕ)
+    → o ++ a ++ b ++ c ++ d ++ e ++ f ++ g ++ h ≡ o ++ (a ++ b ++ c ++ d ++ e ++ f ++ g ++ h)
+counts_parts o a b c d e f g h = simp append_assoc refl

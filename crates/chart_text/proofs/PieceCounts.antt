@@ -1,0 +1,79 @@
+-- Counts of pieces, added up one after another.
+use Rattle.chart_text.proofs.Words.{◌≡◌, ◌∙◌, ℕ, ◌+◌, ◌<◌, ◌^◌, nat_lt, Bool, true, false, ◌&&◌, List, [], ◌∷◌, map, ap, sym}
+use Rattle.chart_text.proofs.Words.{refl, arith, counts_sum, Piece}
+use Rattle.std.proofs.Common.{add-zero, zero-add, add_assoc}
+use Rattle.std.proofs.lemmas.Bool.{lt-ltb, ltb-true}
+use Rattle.campaign.specs.declared.cost.Counts.{Counts}
+use Rattle.whole_campaign.specs.Due.{no_runs}
+use Rattle.whole_campaign.specs.Readable.{counts_together, counts_fit}
+
+-- no runs before others
+pub none-first : (counts : Counts) → counts_together no_runs counts ≡ counts
+none-first counts = λ i. record {
+  runs = zero-add counts.runs i;
+  same = zero-add counts.same i;
+  hurt = zero-add counts.hurt i;
+  split = zero-add counts.split i;
+  torn = zero-add counts.torn i;
+  dead = zero-add counts.dead i;
+}
+
+together-assoc : (a b c : Counts) → counts_together (counts_together a b) c ≡ counts_together a (counts_together b c)
+together-assoc a b c = λ i. record {
+  runs = add_assoc a.runs b.runs c.runs i;
+  same = add_assoc a.same b.same c.same i;
+  hurt = add_assoc a.hurt b.hurt c.hurt i;
+  split = add_assoc a.split b.split c.split i;
+  torn = add_assoc a.torn b.torn c.torn i;
+  dead = add_assoc a.dead b.dead c.dead i;
+}
+
+-- what fits with more added to it fits
+
+both-still : {a b p q : Bool} → (a ≡ true → p ≡ true) → (b ≡ true → q ≡ true) → (a && b) ≡ true → (p && q) ≡ true
+both-still {a = true} f g is = rw (f refl) (g is)
+both-still {a = false} f g is = cc
+
+below : (n m : ℕ) → nat_lt (n + m) (2 ^ 64) ≡ true → nat_lt n (2 ^ 64) ≡ true
+below n m fits =
+    let small : n + m < 2 ^ 64 = ltb-true (n + m) (2 ^ 64) fits in
+    lt-ltb n (2 ^ 64) (omega arith)
+
+part-fits : (one other : Counts) → counts_fit (counts_together one other) ≡ true → counts_fit one ≡ true
+part-fits one other =
+    both-still
+    (both-still
+    (both-still
+    (both-still (both-still (below one.runs other.runs) (below one.same other.same)) (below one.hurt other.hurt))
+    (below one.split other.split)) (below one.torn other.torn)) (below one.dead other.dead)
+
+-- one piece more
+
+module _ (of : Piece → Counts) (sum all : Counts) (left rest : List Piece) (piece : Piece) (is : left ≡ piece ∷ rest)
+    (known : counts_together sum (counts_sum (map of left)) ≡ all) where
+  pub piece-added : counts_together (counts_together sum (of piece)) (counts_sum (map of rest)) ≡ all
+  piece-added =
+      together-assoc sum (of piece) (counts_sum (map of rest))
+      ∙ ap (λ (pieces : List Piece). counts_together sum (counts_sum (map of pieces))) (sym is)
+      ∙ known
+
+  pub piece-fits : counts_fit all ≡ true → counts_fit (counts_together sum (of piece)) ≡ true
+  piece-fits fits =
+      part-fits (counts_together sum (of piece)) (counts_sum (map of rest)) (ap counts_fit piece-added ∙ fits)
+
+-- and no piece more
+pub none-left : (of : Piece → Counts) (sum all : Counts) (left : List Piece) → left ≡ []
+    → counts_together sum (counts_sum (map of left)) ≡ all → sum ≡ all
+none-left of sum all left is known =
+    sym (ap (λ (pieces : List Piece). counts_together sum (counts_sum (map of pieces))) is ∙ added)
+    ∙ known
+  where
+    added : counts_together sum (counts_sum (map of [])) ≡ sum
+    added = λ i. record {
+      runs = add-zero sum.runs i;
+      same = add-zero sum.same i;
+      hurt = add-zero sum.hurt i;
+      split = add-zero sum.split i;
+      torn = add-zero sum.torn i;
+      dead = add-zero sum.dead i;
+    }

@@ -1,0 +1,13 @@
+use Rattle.chart_text.proofs.Words.{◌∙◌, sym, puts_one}
+use Rattle.picture_text.proofs.Pairs.{puts_where, puts_unless}
+use Rattle.chart_text.specs.Column.{is_gap}
+use Rattle.chart_text.proofs.column.put_gap.Goals as goal
+
+pub returns-then-is_gap : goal.returns-then-is_gap
+returns-then-is_gap g c =
+    puts_where (is_gap c.args.column.before c.args.column.slot) _ (sym c.is_gap.ensures ∙ c.if-is_gap.true)
+    (puts_one c.make_gap.ensures c.write.ensures)
+
+pub returns-else-is_gap : goal.returns-else-is_gap
+returns-else-is_gap g c =
+    puts_unless (is_gap c.args.column.before c.args.column.slot) _ (sym c.is_gap.ensures ∙ c.if-is_gap.false)

@@ -1,0 +1,19 @@
+use Rattle.chart_text.proofs.Words.{◌++◌, codes, place_attributes, newline}
+use Rattle.chart_text.proofs.Joined.{own_parts}
+use Rattle.chart_text.proofs.head.make_own.Goals as goal
+
+pub returns-clause-text : goal.returns-clause-text
+returns-clause-text c =
+    rw (
+      c.put_bytes-5.ensures.text,
+      c.put_bytes-4.ensures.text,
+      c.put_bytes-3.ensures.text,
+      c.put_bytes-2.ensures.text,
+      c.put_bytes.ensures.text,
+      c.bytes.ensures,
+      c.clear.ensures.text,
+      c.put_text.ensures,
+      c.open_text.ensures.text,
+    )
+    (own_parts (codes "<text" ++ place_attributes 12 38 ++ codes ">") (codes "<title>") c.args.own.text.now
+    (codes "</title>") (codes "without any of them: ") c.args.own.cost.now (codes "</text>") newline)

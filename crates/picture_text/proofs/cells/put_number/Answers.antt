@@ -1,0 +1,13 @@
+use Rattle.picture_text.proofs.Words.{◌%◌, ◌==◌}
+use Rattle.std.proofs.lemmas.Bool.{eq-eqb, ne_eqb}
+use Rattle.picture_text.proofs.Pairs.{puts_one, puts_where, puts_unless}
+use Rattle.picture_text.proofs.cells.put_number.Goals as goal
+
+pub returns-then-slot-eq0 : goal.returns-then-slot-eq0
+returns-then-slot-eq0 g c =
+    puts_where (c.args.slot % 5 == 0) _ (eq-eqb (c.args.slot % 5) 0 c.if-slot-eq0.true)
+    (puts_one c.make_number.ensures c.write.ensures)
+
+pub returns-else-slot-eq0 : goal.returns-else-slot-eq0
+returns-else-slot-eq0 g c =
+    puts_unless (c.args.slot % 5 == 0) _ (ne_eqb (c.args.slot % 5) 0 c.if-slot-eq0.false)

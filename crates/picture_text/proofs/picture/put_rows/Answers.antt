@@ -1,0 +1,5 @@
+use Rattle.picture_text.proofs.Pairs.{puts_both}
+use Rattle.picture_text.proofs.picture.put_rows.Goals as goal
+
+pub returns : goal.returns
+returns g c = puts_both (puts_both c.put_bands.ensures c.put_all_cells.ensures) c.put_all_beside.ensures
