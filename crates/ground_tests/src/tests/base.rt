@@ -1,19 +1,11 @@
 //! The public calls of ttp_base once each, and what no clause says of the real outside.
 
 use std::alloc::Global;
-use std::io::{BufWriter, Read, Write};
-use std::{fs, io};
+use std::io::{self, BufWriter, Read, Write};
 use ttp_base::{
-    Failed, FileLibrary, Gate, Library, Line, List, LoadError, Memory, MemoryLibrary, MemorySink,
-    NodeSet, OpenGate, Sink, StreamSink, front_of,
+    FileLibrary, Gate, Library, Line, List, LoadError, MemoryLibrary, MemorySink, NodeSet,
+    OpenGate, Sink, StreamSink, front_of,
 };
-
-fn grown(alloc: Global) -> Result<List<u32>, Memory> {
-    let mut list = List::new(alloc);
-    list.push(7)?;
-    list.push(9)?;
-    Ok(list)
-}
 
 fn is_grown(list: &List<u32>) -> bool {
     list.len() == 2 && *list.get(1) == 9 && list.as_slice() == [7, 9].as_slice()
@@ -22,24 +14,22 @@ fn is_grown(list: &List<u32>) -> bool {
 // Whether the items are the same in a vector, and in a list of it.
 fn stays_grown(list: List<u32>) -> bool {
     let items = list.into_vec();
-    items.as_slice() == [7, 9].as_slice() && List::from_vec(items).as_slice() == [7, 9].as_slice()
+    let is_same = items.as_slice() == [7, 9].as_slice();
+    let list = List::from_vec(items);
+    is_same & (list.as_slice() == [7, 9].as_slice())
 }
 
-// Whether a list grows, and stays as it is in a vector.
+// Whether a list begins empty, grows, and stays as it is in a vector.
 fn grows(alloc: Global) -> bool {
-    match grown(alloc) {
-        Ok(list) => is_grown(&list) && stays_grown(list),
-        Err(_) => false,
-    }
-}
-
-fn begins_empty(alloc: Global) -> bool {
-    List::<u32>::new(alloc).len() == 0
+    let mut list = List::new(alloc);
+    let is_pushed = list.len() == 0 && list.push(7).is_ok() && list.push(9).is_ok();
+    let is_right = is_pushed && is_grown(&list);
+    stays_grown(list) && is_right
 }
 
 #[test]
 fn a_list_grows(rt: HostRuntime) {
-    assert!(rt; begins_empty(rt.alloc()) && grows(rt.alloc()));
+    assert!(rt; grows(rt.alloc()));
 }
 
 fn has_two(set: NodeSet) -> bool {
@@ -114,45 +104,11 @@ fn the_ends_of_the_hexadecimal_range(rt: HostRuntime) {
     assert!(rt; line.bytes() == b"ffffffffffffffff0".as_slice());
 }
 
-// Whether a library gives what is due under a name.
-fn gives(
-    alloc: Global,
-    library: &mut impl Library,
-    name: &str,
-    limit: u32,
-    due: Result<&[u8], LoadError>,
-) -> bool {
-    match library.load(alloc, name, limit as usize) {
+// Whether what a library gave is due.
+fn is_due(loaded: Result<Vec<u8>, LoadError>, due: Result<&[u8], LoadError>) -> bool {
+    match loaded {
         Ok(bytes) => due == Ok(bytes.as_slice()),
         Err(error) => due == Err(error),
-    }
-}
-
-// The second call is to fail.
-fn second(alloc: Global) -> Result<List<u32>, Memory> {
-    let mut fail = List::new(alloc);
-    match fail.push(2) {
-        Ok(()) => Ok(fail),
-        Err(_) => Err(Memory),
-    }
-}
-
-// A library with one more text under a name.
-fn with(library: Result<MemoryLibrary, Memory>, text: &[u8]) -> Result<MemoryLibrary, Memory> {
-    let Ok(mut library) = library else {
-        return Err(Memory);
-    };
-    match library.add("a", text) {
-        Ok(()) => Ok(library),
-        Err(_) => Err(Memory),
-    }
-}
-
-// A library whose second call is to fail.
-fn library_in_memory(alloc: Global) -> Result<MemoryLibrary, Memory> {
-    match second(alloc) {
-        Ok(fail) => with(with(Ok(MemoryLibrary::new(alloc, fail)), b"one"), b"three"),
-        Err(_) => Err(Memory),
     }
 }
 
@@ -166,18 +122,21 @@ const LOADS: &[(&str, u32, Result<&[u8], LoadError>)] = &[
 
 fn gives_each(alloc: Global, library: &mut MemoryLibrary) -> bool {
     for (name, limit, due) in LOADS {
-        if !gives(alloc, library, name, *limit, *due) {
+        if !is_due(library.load(alloc, name, *limit as usize), *due) {
             return false;
         }
     }
     library.faults() == 2
 }
 
+// Whether a library of two texts under one name, whose second call is to fail, gives what is due.
 fn loads_from_memory(alloc: Global) -> bool {
-    match &mut library_in_memory(alloc) {
-        Ok(library) => gives_each(alloc, library),
-        Err(_) => false,
-    }
+    let Ok(fail) = vec![in alloc; 2u32] else {
+        return false;
+    };
+    let mut library = MemoryLibrary::new(alloc, List::from_vec(fail));
+    let is_held = library.add("a", b"one").is_ok() && library.add("a", b"three").is_ok();
+    is_held && gives_each(alloc, &mut library)
 }
 
 #[test]
@@ -185,34 +144,30 @@ fn a_library_in_memory(rt: HostRuntime) {
     assert!(rt; loads_from_memory(rt.alloc()));
 }
 
-// Each piece, and how it is refused, if it is: the second call is to fail, and then one byte is left.
-const PIECES: &[(&[u8], Option<Failed>)] = &[
-    (b"ab", None),
-    (b"cd", Some(Failed)),
-    (b"efg", None),
-    (b"hi", Some(Failed)),
-    (b"j", None),
+// Each piece, and whether it is taken: the second call is to fail, and then one byte is left.
+const PIECES: &[(&[u8], bool)] = &[
+    (b"ab", true),
+    (b"cd", false),
+    (b"efg", true),
+    (b"hi", false),
+    (b"j", true),
 ];
 
 // Whether each piece is taken or refused as it is due to be.
 fn takes_pieces(sink: &mut MemorySink) -> bool {
-    for (piece, due) in PIECES {
-        if sink.write(piece).err() != *due {
+    for (piece, is_taken) in PIECES {
+        if sink.write(piece).is_ok() != *is_taken {
             return false;
         }
     }
     sink.bytes() == b"abefgj".as_slice() && sink.faults() == 2
 }
 
-fn sink_in_memory(alloc: Global) -> Result<MemorySink, Memory> {
-    match second(alloc) {
-        Ok(fail) => MemorySink::new(alloc, 6, fail),
-        Err(_) => Err(Memory),
-    }
-}
-
 fn takes_to_memory(alloc: Global) -> bool {
-    match &mut sink_in_memory(alloc) {
+    let Ok(fail) = vec![in alloc; 2u32] else {
+        return false;
+    };
+    match &mut MemorySink::new(alloc, 6, List::from_vec(fail)) {
         Ok(sink) => takes_pieces(sink),
         Err(_) => false,
     }
@@ -223,28 +178,19 @@ fn a_sink_in_memory(rt: HostRuntime) {
     assert!(rt; takes_to_memory(rt.alloc()));
 }
 
-// A limit is four bytes, and what comes is one byte past the limit, and no more.
+// The file is the program of the tests itself, which begins as each program of 64 bits does. A limit is four
+// bytes, and what comes is one byte past the limit, and no more.
 #[test]
 fn a_file_as_it_lies(rt: HostRuntime) {
-    let path = "ground_tests_file";
-    let is_written = fs::write(&rt, path, b"0123456789".as_slice()).is_ok();
-    let is_given = gives(
-        rt.alloc(),
-        &mut FileLibrary::new(&rt),
-        path,
-        4,
-        Ok(b"01234"),
-    );
-    let is_removed = fs::remove_file(&rt, path).is_ok();
-    assert!(rt; is_written && is_given && is_removed);
+    let loaded = FileLibrary::new(&rt).load(rt.alloc(), "/proc/self/exe", 4);
+    assert!(rt; is_due(loaded, Ok(b"\x7fELF\x02")));
 }
 
-// A source that gives so many bytes, at most so many at once, is interrupted at first, and may fail at a
-// place. It tells no errors, and counts its calls.
+// A source with so many bytes left, which gives at most so many at once, is interrupted at first, and may fail
+// where so many are left. It tells no errors, and counts its calls.
 #[derive(Drop)]
 struct Pieces {
-    length: usize,
-    at: usize,
+    left: usize,
     most: usize,
     interrupts: u32,
     fails: Option<(usize, io::ErrorKind)>,
@@ -258,23 +204,19 @@ impl Read for Pieces {
             self.interrupts -= 1;
             return Err(io::Error::from(io::ErrorKind::Interrupted));
         }
-        if let Some((place, kind)) = self.fails
-            && place <= self.at
+        if let Some((left, kind)) = self.fails
+            && self.left <= left
         {
             return Err(io::Error::from(kind));
         }
-        let count = self
-            .most
-            .min(buf.len())
-            .min(self.length.saturating_sub(self.at));
-        buf[..count].fill(b'x');
-        self.at = self.at.saturating_add(count);
+        let count = self.most.min(buf.len()).min(self.left);
+        self.left -= count;
         Ok(count)
     }
 }
 
 // How many bytes there are and are asked for, how many come at once, interruptions, and where it
-// fails; how many come or why none do, how many were taken, and the number of calls.
+// fails; how many come or why none do, how many are left, and the number of calls.
 type FrontCase = (
     usize,
     usize,
@@ -286,30 +228,29 @@ type FrontCase = (
     u32,
 );
 
-const BLOCKED: Option<(usize, io::ErrorKind)> = Some((6, io::ErrorKind::WouldBlock));
+const BLOCKED: Option<(usize, io::ErrorKind)> = Some((4, io::ErrorKind::WouldBlock));
 
-const BROKEN: Option<(usize, io::ErrorKind)> = Some((6, io::ErrorKind::BrokenPipe));
+const BROKEN: Option<(usize, io::ErrorKind)> = Some((4, io::ErrorKind::BrokenPipe));
 
-const REFUSED: Option<(usize, io::ErrorKind)> = Some((6, io::ErrorKind::OutOfMemory));
+const REFUSED: Option<(usize, io::ErrorKind)> = Some((4, io::ErrorKind::OutOfMemory));
 
 const FRONT_CASES: &[FrontCase] = &[
     (10, 5, 3, 0, None, Ok(5), 5, 2),
-    (10, 20, 3, 0, None, Ok(10), 10, 5),
+    (10, 20, 3, 0, None, Ok(10), 0, 5),
     (10, 5, 1, 5000, None, Ok(5), 5, 5005),
-    (10, 0, 3, 0, None, Ok(0), 0, 0),
-    (10, 8, 3, 0, BROKEN, Err(LoadError::Failed), 6, 3),
-    (10, 8, 3, 0, BLOCKED, Err(LoadError::Failed), 6, 3),
-    (10, 8, 3, 0, REFUSED, Err(LoadError::Memory), 6, 3),
-    (10, 6, 3, 0, BROKEN, Ok(6), 6, 2),
-    (100_000, 200_000, 50_000, 0, None, Ok(100_000), 100_000, 26),
-    (100_000, 70_000, 4096, 0, None, Ok(70_000), 70_000, 18),
+    (10, 0, 3, 0, None, Ok(0), 10, 0),
+    (10, 8, 3, 0, BROKEN, Err(LoadError::Failed), 4, 3),
+    (10, 8, 3, 0, BLOCKED, Err(LoadError::Failed), 4, 3),
+    (10, 8, 3, 0, REFUSED, Err(LoadError::Memory), 4, 3),
+    (10, 6, 3, 0, BROKEN, Ok(6), 4, 2),
+    (100_000, 200_000, 50_000, 0, None, Ok(100_000), 0, 26),
+    (100_000, 70_000, 4096, 0, None, Ok(70_000), 30_000, 18),
 ];
 
 fn gives_front(alloc: Global, case: &FrontCase) -> bool {
-    let (length, count, most, interrupts, fails, expected, taken, calls) = *case;
+    let (length, count, most, interrupts, fails, expected, left, calls) = *case;
     let mut reader = Pieces {
-        length,
-        at: 0,
+        left: length,
         most,
         interrupts,
         fails,
@@ -319,7 +260,7 @@ fn gives_front(alloc: Global, case: &FrontCase) -> bool {
         Ok(bytes) => Ok(bytes.len()),
         Err(error) => Err(error),
     };
-    given == expected && reader.at == taken && reader.calls == calls
+    given == expected && reader.left == left && reader.calls == calls
 }
 
 fn gives_each_front(alloc: Global) -> bool {
@@ -336,27 +277,15 @@ fn the_front_of_what_a_reader_gives(rt: HostRuntime) {
     assert!(rt; gives_each_front(rt.alloc()));
 }
 
-// A writer that takes at most so many bytes at once and so many in all, and is interrupted at first. It
-// counts its calls.
+// A writer to which these bytes are due, that takes at most so many at once and so many in all, and is interrupted
+// at first. It counts its calls.
 #[derive(Drop)]
 struct Slow {
-    taken: Vec<u8>,
+    due: &'static [u8],
     calls: u32,
     most: usize,
     room: usize,
     interrupts: u32,
-}
-
-impl Slow {
-    fn new(alloc: Global, most: usize, room: usize, interrupts: u32) -> Slow {
-        Slow {
-            taken: Vec::new(alloc),
-            calls: 0,
-            most,
-            room,
-            interrupts,
-        }
-    }
 }
 
 impl Write for Slow {
@@ -367,7 +296,10 @@ impl Write for Slow {
             return Err(io::Error::from(io::ErrorKind::Interrupted));
         }
         let count = buf.len().min(self.most).min(self.room);
-        self.taken.extend_from_slice(&buf[..count])?;
+        let Some(due) = self.due.strip_prefix(&buf[..count]) else {
+            return Err(io::Error::from(io::ErrorKind::InvalidData));
+        };
+        self.due = due;
         self.room -= count;
         Ok(count)
     }
@@ -394,21 +326,22 @@ const STREAM_CASES: &[StreamCase] = &[
     (2, 3, 0, b"abcde", false, 3, 3),
 ];
 
-// Whether a writer was given the first bytes of a piece, so many, in so many calls.
-fn was_given(slow: &Slow, piece: &[u8], count: usize, calls: u32) -> bool {
-    piece.get(..count) == Some(slow.taken.as_slice()) && slow.calls == calls
-}
-
-fn is_given(alloc: Global, case: &StreamCase) -> bool {
+fn is_given(case: &StreamCase) -> bool {
     let (most, room, interrupts, piece, is_taken, count, calls) = *case;
-    let mut slow = Slow::new(alloc, most, room, interrupts);
+    let mut slow = Slow {
+        due: piece,
+        calls: 0,
+        most,
+        room,
+        interrupts,
+    };
     let written = StreamSink::new(&mut slow).write(piece).is_ok();
-    written == is_taken && was_given(&slow, piece, count, calls)
+    written == is_taken && piece.get(count..) == Some(slow.due) && slow.calls == calls
 }
 
-fn gives_each_piece(alloc: Global) -> bool {
+fn gives_each_piece() -> bool {
     for case in STREAM_CASES {
-        if !is_given(alloc, case) {
+        if !is_given(case) {
             return false;
         }
     }
@@ -417,26 +350,27 @@ fn gives_each_piece(alloc: Global) -> bool {
 
 #[test]
 fn a_stream_gives_each_piece_whole(rt: HostRuntime) {
-    assert!(rt; gives_each_piece(rt.alloc()));
+    assert!(rt; gives_each_piece());
 }
 
-// A stream to a vector, through a buffer of 8 bytes, after four pieces of 5 that are all taken.
-fn buffered(alloc: Global) -> Option<StreamSink<BufWriter<Vec<u8>>>> {
-    let mut sink = StreamSink::new(BufWriter::with_capacity(alloc, 8, Vec::new(alloc)).ok()?);
-    for _ in 0..4u8 {
-        sink.write(b"line\n").ok()?;
-    }
-    Some(sink)
-}
-
+// Whether a writer has all of four pieces, which go through a buffer of 8 bytes, at the end of the stream.
 fn hands_on_all(alloc: Global) -> bool {
-    match buffered(alloc) {
-        Some(sink) => match sink.end() {
-            Ok(taken) => taken.as_slice() == b"line\nline\nline\nline\n".as_slice(),
-            Err(_) => false,
-        },
-        None => false,
+    let mut slow = Slow {
+        due: b"line\nline\nline\nline\n",
+        calls: 0,
+        most: 99,
+        room: 99,
+        interrupts: 0,
+    };
+    let Ok(buffer) = BufWriter::with_capacity(alloc, 8, &mut slow) else {
+        return false;
+    };
+    let mut sink = StreamSink::new(buffer);
+    let mut is_taken = true;
+    for _ in 0..4u8 {
+        is_taken &= sink.write(b"line\n").is_ok();
     }
+    is_taken & sink.end().is_ok() && slow.due.is_empty()
 }
 
 #[test]

@@ -1,10 +1,10 @@
 //! What happens to nodes in slots at the edges of events, worked out by hand.
-ghost use Rattle.std.specs.Prelude.{◌≡◌, ◌≤◌, length, unsigned_abs, All, IfOk};
+ghost use Rattle.std.specs.Prelude.{◌≤◌, length, All};
 ghost use Rattle.ttp_world.specs.Events.{IsBounded};
 
 use super::lists::let_go;
 use std::alloc::Global;
-use ttp_base::{List, Memory};
+use ttp_base::List;
 use ttp_world::{
     Channels, Event, Events, Fault, FlippedBit, HostRead, Incidents, Kind, LastLookUp, Medl,
     Payload, Script, SlotPlan, Source,
@@ -29,171 +29,117 @@ const NOTHING: Incidents = Incidents {
     jump: 0,
 };
 
-// Some events with one more, if there is memory, of 100 at most.
-fn and(events: Result<List<Event>, Memory>, event: Event) -> Result<List<Event>, Memory>
-    requires event { IsBounded event }
-    requires events { IfOk events (All IsBounded) }
-    ensures len { IfOk result (λ more. length more ≤ 100) }
-    ensures events { IfOk result (All IsBounded) }
+// A script of these, in whose 20,000 slots no node is told to be on.
+fn script_of(alloc: Global, events: Vec<Event>) -> Option<Script>
+    requires len { length events.items ≤ 100 }
+    requires events { All IsBounded events.items }
 {
-    let Ok(mut events) = events else {
-        return Err(Memory);
-    };
-    if events.len() >= 100 {
-        return Err(Memory);
-    }
-    match events.push(event) {
-        Ok(()) => Ok(events),
-        Err(_) => Err(Memory),
+    match Events::index(alloc, List::from_vec(events)) {
+        Ok(events) => Some(Script {
+            slots: 20_000,
+            on: List::new(alloc),
+            drift: List::new(alloc),
+            events,
+        }),
+        Err(_) => None,
     }
 }
 
-fn sending(node: u8, channels: Channels, fault: Fault, from: u32, to: u32) -> Event
-    ensures { IsBounded result }
-{
+// Faults, of which two touch and two overlap, and some that reach to the ends of the longest run; flips; errors and
+// jumps that add up; and a node that is armed in the last slot.
+const EVENTS: [Event; 15] = [
     Event::Send {
-        node,
-        channels,
-        fault,
-        from,
-        to,
-    }
-}
-
-fn receiving(node: u8, channels: Channels, fault: Fault, from: u32, to: u32) -> Event
-    ensures { IsBounded result }
-{
+        node: 0,
+        channels: ON_BOTH,
+        fault: Fault::Silence,
+        from: 3,
+        to: 5,
+    },
+    Event::Send {
+        node: 0,
+        channels: ON_A,
+        fault: Fault::Noise,
+        from: 5,
+        to: 5,
+    },
+    Event::Send {
+        node: 0,
+        channels: ON_A,
+        fault: Fault::Silence,
+        from: 6,
+        to: 8,
+    },
     Event::Receive {
-        node,
-        channels,
-        fault,
-        from,
-        to,
-    }
-}
-
-fn flip(node: u8, channels: Channels, bit: u16, slot: u32) -> Event
-    ensures { IsBounded result }
-{
+        node: 23,
+        channels: ON_B,
+        fault: Fault::Noise,
+        from: 0,
+        to: 19_999,
+    },
+    Event::Receive {
+        node: 23,
+        channels: ON_A,
+        fault: Fault::Silence,
+        from: 19_999,
+        to: 19_999,
+    },
     Event::Flip {
-        node,
-        channels,
-        bit,
-        slot,
-    }
-}
-
-// Faults, of which two touch and two overlap, and some that reach to the ends of the longest run.
-fn faults(alloc: Global) -> Result<List<Event>, Memory>
-    ensures { IfOk result (All IsBounded) }
-{
-    let events = and(
-        Ok(List::new(alloc)),
-        sending(0, ON_BOTH, Fault::Silence, 3, 5),
-    );
-    let events = and(events, sending(0, ON_A, Fault::Noise, 5, 5));
-    let events = and(events, sending(0, ON_A, Fault::Silence, 6, 8));
-    let events = and(events, receiving(23, ON_B, Fault::Noise, 0, 19_999));
-    and(events, receiving(23, ON_A, Fault::Silence, 19_999, 19_999))
-}
-
-fn with_flips(events: Result<List<Event>, Memory>) -> Result<List<Event>, Memory>
-    requires { IfOk events (All IsBounded) }
-    ensures { IfOk result (All IsBounded) }
-{
-    let events = and(events, flip(2, ON_A, 9, 4));
-    let events = and(events, flip(2, ON_BOTH, 9, 4));
-    let events = and(events, flip(2, ON_A, 8, 5));
-    and(events, flip(2, ON_B, 2_047, 4))
-}
-
-fn error(value: i64, from: u32, to: u32) -> Event
-    requires { unsigned_abs value ≤ 10000 }
-    ensures { IsBounded result }
-{
+        node: 2,
+        channels: ON_A,
+        bit: 9,
+        slot: 4,
+    },
+    Event::Flip {
+        node: 2,
+        channels: ON_BOTH,
+        bit: 9,
+        slot: 4,
+    },
+    Event::Flip {
+        node: 2,
+        channels: ON_A,
+        bit: 8,
+        slot: 5,
+    },
+    Event::Flip {
+        node: 2,
+        channels: ON_B,
+        bit: 2_047,
+        slot: 4,
+    },
     Event::Error {
         node: 1,
-        value,
-        from,
-        to,
-    }
-}
-
-fn jump(value: i64) -> Event
-    requires { unsigned_abs value ≤ 10000 }
-    ensures { IsBounded result }
-{
+        value: 7,
+        from: 10,
+        to: 12,
+    },
+    Event::Error {
+        node: 1,
+        value: -3,
+        from: 12,
+        to: 14,
+    },
+    Event::Error {
+        node: 1,
+        value: 10_000,
+        from: 12,
+        to: 12,
+    },
     Event::Jump {
         node: 1,
-        value,
+        value: 5,
         slot: 12,
-    }
-}
-
-// Events with errors and jumps that add up.
-fn with_clocks(events: Result<List<Event>, Memory>) -> Result<List<Event>, Memory>
-    requires { IfOk events (All IsBounded) }
-    ensures { IfOk result (All IsBounded) }
-{
-    let events = and(events, error(7, 10, 12));
-    let events = and(events, error(-3, 12, 14));
-    let events = and(events, error(10_000, 12, 12));
-    let events = and(events, jump(5));
-    and(events, jump(-2))
-}
-
-// All of those, and a node that is armed in the last slot.
-fn all_kinds(alloc: Global) -> Result<List<Event>, Memory>
-    ensures len { IfOk result (λ events. length events ≤ 100) }
-    ensures events { IfOk result (All IsBounded) }
-{
-    let armed = Event::Arm {
+    },
+    Event::Jump {
+        node: 1,
+        value: -2,
+        slot: 12,
+    },
+    Event::Arm {
         node: 22,
         slot: 19_999,
-    };
-    and(with_clocks(with_flips(faults(alloc))), armed)
-}
-
-// A script of these, in whose 20,000 slots node 0 is on from slot 3 on, and node 1 in none.
-fn script_with(alloc: Global, events: Result<List<Event>, Memory>) -> Result<Script, Memory>
-    requires len { IfOk events (λ events. length events ≤ 100) }
-    requires events { IfOk events (All IsBounded) }
-{
-    let Ok(events) = events else {
-        return Err(Memory);
-    };
-    match Events::index(alloc, events) {
-        Ok(events) => script_of(alloc, events),
-        Err(_) => Err(Memory),
-    }
-}
-
-fn switched(alloc: Global) -> Result<List<Option<u32>>, Memory>
-    ensures { IfOk result (λ on. length on ≡ 2) }
-{
-    let mut on = List::new(alloc);
-    let Ok(()) = on.push(Some(3)) else {
-        return Err(Memory);
-    };
-    let Ok(()) = on.push(None) else {
-        return Err(Memory);
-    };
-    Ok(on)
-}
-
-fn script_of(alloc: Global, events: Events) -> Result<Script, Memory>
-    ensures { IfOk result (λ script. length script.on ≡ 2) }
-{
-    let Ok(on) = switched(alloc) else {
-        return Err(Memory);
-    };
-    Ok(Script {
-        slots: 20_000,
-        on,
-        drift: List::new(alloc),
-        events,
-    })
-}
+    },
+];
 
 const SILENCED: Incidents = Incidents {
     send_silence: ON_BOTH,
@@ -216,7 +162,7 @@ const FLIPPED: Incidents = Incidents {
 };
 
 // A node, a slot, and what happens to the node in it.
-const EDGES: &[(u8, u32, Incidents)] = &[
+const EDGES: [(u8, u32, Incidents); 21] = [
     (0, 2, NOTHING),
     (0, 3, SILENCED),
     (
@@ -283,39 +229,22 @@ const EDGES: &[(u8, u32, Incidents)] = &[
     (2, 6, NOTHING),
 ];
 
-fn is_due_after(script: &Script, edge: &(u8, u32, Incidents), last: &mut LastLookUp) -> bool {
-    let (node, slot, due) = *edge;
-    script.incidents_after(node, slot, last) == due
-}
-
+// Whether what is due happens, looked for anew and from where the last look-up ended.
 fn is_due(script: &Script, edge: &(u8, u32, Incidents), last: &mut LastLookUp) -> bool {
-    let (node, slot, due) = *edge;
-    script.incidents(node, slot) == due && is_due_after(script, edge, last)
+    script.incidents(edge.0, edge.1) == edge.2
+        && script.incidents_after(edge.0, edge.1, last) == edge.2
 }
 
-// Whether what is due happens at each edge in the order of the table.
-fn has_edges(script: &Script, last: &mut LastLookUp) -> bool {
-    for edge in EDGES {
-        if !is_due(script, edge, last) {
-            return false;
-        }
-    }
-    true
-}
-
-// The same backwards, where each look-up begins behind its answer.
-fn has_edges_backwards(script: &Script, last: &mut LastLookUp) -> bool {
-    for edge in EDGES.iter().rev() {
-        if !is_due_after(script, edge, last) {
-            return false;
-        }
-    }
-    true
-}
-
+// Whether what is due happens at each edge in the order of the table and then backwards, where each look-up begins
+// behind its answer.
 fn has_all_edges(script: &Script) -> bool {
     let mut last = LastLookUp::none();
-    has_edges(script, &mut last) && has_edges_backwards(script, &mut last)
+    for k in 0..42usize {
+        if !is_due(script, &EDGES[k.min(41 - k)], &mut last) {
+            return false;
+        }
+    }
+    true
 }
 
 // Whether node 0 is silent from slot 3 on, until something else happens in slot 5.
@@ -324,36 +253,54 @@ fn stands(script: &Script) -> bool {
     standing.incidents == SILENCED && standing.until == 5
 }
 
-const FLIPS: &[FlippedBit] = &[
-    FlippedBit {
-        channels: ON_A,
-        bit: 9,
-    },
-    FlippedBit {
-        channels: ON_BOTH,
-        bit: 9,
-    },
-    FlippedBit {
-        channels: ON_B,
-        bit: 2_047,
-    },
+// A node, a slot, and the bits that are flipped, in the order of the script.
+const FLIPS: &[(u8, u32, &[FlippedBit])] = &[
+    (2, 3, &[]),
+    (
+        2,
+        4,
+        &[
+            FlippedBit {
+                channels: ON_A,
+                bit: 9,
+            },
+            FlippedBit {
+                channels: ON_BOTH,
+                bit: 9,
+            },
+            FlippedBit {
+                channels: ON_B,
+                bit: 2_047,
+            },
+        ],
+    ),
+    (
+        2,
+        5,
+        &[FlippedBit {
+            channels: ON_A,
+            bit: 8,
+        }],
+    ),
+    (2, 6, &[]),
+    (1, 4, &[]),
+    (3, 4, &[]),
 ];
 
-// Nodes and slots in which nothing is flipped.
-const UNFLIPPED: &[(u8, u32)] = &[(2, 3), (2, 6), (1, 4), (3, 4)];
-
-// Whether the flips are in the order of the script.
 fn has_flips(script: &Script) -> bool {
-    for (node, slot) in UNFLIPPED {
-        if !script.flips(*node, *slot).is_empty() {
+    for (node, slot, due) in FLIPS {
+        if script.flips(*node, *slot) != *due {
             return false;
         }
     }
-    script.flips(2, 4) == FLIPS && script.flips(2, 5).len() == 1
+    true
 }
 
 fn happens(alloc: Global) -> bool {
-    let Ok(script) = script_with(alloc, all_kinds(alloc)) else {
+    let Ok(events) = Vec::from_array(alloc, EVENTS) else {
+        return false;
+    };
+    let Some(script) = script_of(alloc, events) else {
         return false;
     };
     let is_right = has_all_edges(&script) && stands(&script) && has_flips(&script);
@@ -364,6 +311,72 @@ fn happens(alloc: Global) -> bool {
 #[test]
 fn incidents_at_the_edges_of_events(rt: HostRuntime) {
     assert!(rt; happens(rt.alloc()));
+}
+
+// A slot, what hosts read in it, and the places of what they write.
+const LINES: &[(u32, &[HostRead], &[usize])] = &[
+    (
+        7,
+        &[
+            HostRead {
+                host: 3,
+                source: Source::Node(1),
+            },
+            HostRead {
+                host: 0,
+                source: Source::Status,
+            },
+        ],
+        &[2, 6],
+    ),
+    (
+        6,
+        &[HostRead {
+            host: 2,
+            source: Source::Status,
+        }],
+        &[],
+    ),
+    (9, &[], &[1]),
+];
+
+fn has_lines(script: &Script) -> bool {
+    for (slot, reads, writes) in LINES {
+        if script.reads(*slot) != *reads || script.writes(*slot) != *writes {
+            return false;
+        }
+    }
+    true
+}
+
+// A place, who writes there, if anybody does, and what.
+const WRITES: &[(usize, Option<u8>, &[u8])] = &[
+    (2, Some(1), &[2, 3]),
+    (6, Some(0), &[]),
+    (3, None, &[]),
+    (7, None, &[]),
+];
+
+fn is_written(script: &Script, place: usize, host: Option<u8>, bytes: &[u8]) -> bool {
+    match script.write(place) {
+        Some(write) => host == Some(write.host) && write.payload.bytes() == bytes,
+        None => host.is_none(),
+    }
+}
+
+fn has_writes(script: &Script) -> bool {
+    for (place, host, bytes) in WRITES {
+        if !is_written(script, *place, *host, bytes) {
+            return false;
+        }
+    }
+    true
+}
+
+fn read(node: u8, slot: u32, source: Source) -> Event
+    ensures { IsBounded result }
+{
+    Event::Read { node, slot, source }
 }
 
 fn write(node: u8, slot: u32, bytes: &[u8]) -> Event
@@ -377,71 +390,29 @@ fn write(node: u8, slot: u32, bytes: &[u8]) -> Event
     }
 }
 
-fn read(node: u8, slot: u32, source: Source) -> Event
-    ensures { IsBounded result }
-{
-    Event::Read { node, slot, source }
-}
-
 // Hosts that write and read twice in slot 7, among lines of other slots and kinds.
-fn of_hosts(alloc: Global) -> Result<List<Event>, Memory>
-    ensures len { IfOk result (λ events. length events ≤ 100) }
-    ensures events { IfOk result (All IsBounded) }
-{
-    let events = and(Ok(List::new(alloc)), read(3, 7, Source::Node(1)));
-    let events = and(events, write(1, 9, &[1]));
-    let events = and(events, write(1, 7, &[2, 3]));
-    with_hosts(and(events, flip(1, ON_A, 9, 7)))
-}
-
-fn with_hosts(events: Result<List<Event>, Memory>) -> Result<List<Event>, Memory>
-    requires { IfOk events (All IsBounded) }
-    ensures len { IfOk result (λ events. length events ≤ 100) }
-    ensures events { IfOk result (All IsBounded) }
-{
-    let events = and(events, read(2, 6, Source::Status));
-    let events = and(events, read(0, 7, Source::Status));
-    and(events, write(0, 7, &[]))
-}
-
-const READS: &[HostRead] = &[
-    HostRead {
-        host: 3,
-        source: Source::Node(1),
-    },
-    HostRead {
-        host: 0,
-        source: Source::Status,
-    },
-];
-
-fn has_reads(script: &Script) -> bool {
-    script.reads(7) == READS && script.reads(6).len() == 1 && script.reads(9).is_empty()
-}
-
-fn has_writes(script: &Script) -> bool {
-    script.writes(7) == [2, 6].as_slice() && script.writes(9) == [1].as_slice()
-}
-
-fn is_written(script: &Script, place: usize, host: u8, bytes: &[u8]) -> bool {
-    match script.write(place) {
-        Some(write) => write.host == host && write.payload.bytes() == bytes,
-        None => false,
-    }
-}
-
-fn has_payloads(script: &Script) -> bool {
-    is_written(script, 2, 1, &[2, 3])
-        && is_written(script, 6, 0, &[])
-        && script.write(3).is_none()
-        && script.write(7).is_none()
-}
-
 fn has_lines_of_hosts(alloc: Global) -> bool {
-    let Ok(script) = script_with(alloc, of_hosts(alloc)) else {
+    let flip = Event::Flip {
+        node: 1,
+        channels: ON_A,
+        bit: 9,
+        slot: 7,
+    };
+    let Ok(events) = vec![in alloc;
+        read(3, 7, Source::Node(1)),
+        write(1, 9, &[1]),
+        write(1, 7, &[2, 3]),
+        flip,
+        read(2, 6, Source::Status),
+        read(0, 7, Source::Status),
+        write(0, 7, &[]),
+    ] else {
         return false;
     };
-    let is_right = has_reads(&script) && has_writes(&script) && has_payloads(&script);
+    let Some(script) = script_of(alloc, events) else {
+        return false;
+    };
+    let is_right = has_lines(&script) && has_writes(&script);
     let_go(script);
     is_right
 }
@@ -474,9 +445,16 @@ fn are_switched(script: &Script) -> bool {
     true
 }
 
+// Whether nothing happens by a script without events, in which node 0 is on from slot 3 on, and node 1 never.
 fn nothing_happens(alloc: Global) -> bool {
-    let Ok(script) = script_of(alloc, Events::none(alloc)) else {
+    let Ok(on) = vec![in alloc; Some(3), None] else {
         return false;
+    };
+    let script = Script {
+        slots: 20_000,
+        on: List::from_vec(on),
+        drift: List::new(alloc),
+        events: Events::none(alloc),
     };
     let is_right = is_quiet(&script) && are_switched(&script);
     let_go(script);
@@ -489,62 +467,55 @@ fn nothing_happens_without_events(rt: HostRuntime) {
 }
 
 // A list whose fields are all told from one another.
-fn full_list(alloc: Global) -> Result<Medl, Memory> {
+fn full_list(alloc: Global) -> Option<Medl> {
+    let Ok(kinds) = vec![in alloc; Kind::N] else {
+        return None;
+    };
     let mut slots = List::new(alloc);
-    let mut kinds = List::new(alloc);
-    kinds.push(Kind::N)?;
-    slots.push(SlotPlan {
-        kinds,
+    let plan = SlotPlan {
+        kinds: List::from_vec(kinds),
         payload: 9,
         sync: true,
         start: false,
         requests: true,
         live: 5,
-    })?;
-    Ok(Medl {
-        version: 2,
-        rounds: 1,
-        schedule: 77,
-        buffers: 3,
-        drift: 4,
-        error: 5,
-        window: 60,
-        modes: 7,
-        slots,
-    })
+    };
+    match slots.push(plan) {
+        Ok(()) => Some(Medl {
+            version: 2,
+            rounds: 1,
+            schedule: 77,
+            buffers: 3,
+            drift: 4,
+            error: 5,
+            window: 60,
+            modes: 7,
+            slots,
+        }),
+        Err(_) => None,
+    }
 }
 
 fn is_copied_plan(plan: &SlotPlan) -> bool {
     plan.kinds.as_slice() == [Kind::N].as_slice()
-        && plan.payload == 9
-        && plan.sync
-        && !plan.start
-        && plan.requests
-        && plan.live == 5
+        && [plan.payload, plan.live] == [9, 5]
+        && [plan.sync, plan.start, plan.requests] == [true, false, true]
 }
 
 fn is_copied(copy: &Medl) -> bool {
-    let numbers = copy.version == 2
-        && copy.rounds == 1
+    [copy.version, copy.rounds, copy.buffers, copy.modes] == [2, 1, 3, 7]
+        && [copy.drift, copy.error, copy.window] == [4, 5, 60]
         && copy.schedule == 77
-        && copy.buffers == 3
-        && copy.drift == 4
-        && copy.error == 5
-        && copy.window == 60
-        && copy.modes == 7;
-    numbers && copy.slots.len() == 1 && is_copied_plan(copy.slots.get(0))
-}
-
-fn has_copy(alloc: Global, list: &Medl) -> bool {
-    match &list.copy(alloc) {
-        Ok(copy) => is_copied(copy),
-        Err(_) => false,
-    }
+        && copy.slots.len() == 1
+        && is_copied_plan(copy.slots.get(0))
 }
 
 fn copies(alloc: Global) -> bool {
-    match &full_list(alloc) {
-        Ok(list) => has_copy(alloc, list),
+    let Some(list) = full_list(alloc) else {
+        return false;
+    };
+    match &list.copy(alloc) {
+        Ok(copy) => is_copied(copy),
         Err(_) => false,
     }
 }
