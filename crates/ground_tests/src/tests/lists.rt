@@ -10,16 +10,22 @@ use ttp_world::{Kind, Medl, Script, SlotPlan};
 /// may do so.
 pub(super) fn let_go(_script: Script) {}
 
-// Adds the slot of one more node.
-fn add_slot(
+const I: &[Kind] = &[Kind::I];
+
+const X: &[Kind] = &[Kind::X];
+
+const N: &[Kind] = &[Kind::N];
+
+/// Adds the slot of one more node, whose frames have these kinds.
+pub(super) fn add_slot(
     alloc: Global,
     slots: &mut List<SlotPlan>,
-    kind: Kind,
+    kinds: &[Kind],
     payload: u8,
     start: bool,
 ) -> Result<(), Memory>
     ensures { IfOk result (λ _. slots.new ≡ slots.old ++ record {
-      kinds = kind ∷ [];
+      kinds = kinds.now;
       payload = payload;
       sync = true;
       start = start;
@@ -27,12 +33,11 @@ fn add_slot(
       live = 1;
     } ∷ []) }
 {
-    let mut kinds = List::new(alloc);
-    let Ok(()) = kinds.push(kind) else {
+    let Ok(kinds) = Vec::from_slice(alloc, kinds) else {
         return Err(Memory);
     };
     slots.push(SlotPlan {
-        kinds,
+        kinds: List::from_vec(kinds),
         payload,
         sync: true,
         start,
@@ -49,16 +54,16 @@ pub(super) fn bare_nodes(alloc: Global) -> Result<Medl, Memory>
     ensures bare { (k : ℕ) → IfOk result (λ list. (plan_at list k).payload ≡ 0) }
 {
     let mut slots = List::new(alloc);
-    let Ok(()) = add_slot(alloc, &mut slots, Kind::I, 0, true) else {
+    let Ok(()) = add_slot(alloc, &mut slots, I, 0, true) else {
         return Err(Memory);
     };
-    let Ok(()) = add_slot(alloc, &mut slots, Kind::I, 0, true) else {
+    let Ok(()) = add_slot(alloc, &mut slots, I, 0, true) else {
         return Err(Memory);
     };
-    let Ok(()) = add_slot(alloc, &mut slots, Kind::I, 0, true) else {
+    let Ok(()) = add_slot(alloc, &mut slots, I, 0, true) else {
         return Err(Memory);
     };
-    let Ok(()) = add_slot(alloc, &mut slots, Kind::I, 0, true) else {
+    let Ok(()) = add_slot(alloc, &mut slots, I, 0, true) else {
         return Err(Memory);
     };
     Ok(Medl {
@@ -80,16 +85,16 @@ pub(super) fn mixed_nodes(alloc: Global) -> Result<Medl, Memory>
     ensures { IfOk result IsValid }
 {
     let mut slots = List::new(alloc);
-    let Ok(()) = add_slot(alloc, &mut slots, Kind::I, 0, true) else {
+    let Ok(()) = add_slot(alloc, &mut slots, I, 0, true) else {
         return Err(Memory);
     };
-    let Ok(()) = add_slot(alloc, &mut slots, Kind::X, 2, false) else {
+    let Ok(()) = add_slot(alloc, &mut slots, X, 2, false) else {
         return Err(Memory);
     };
-    let Ok(()) = add_slot(alloc, &mut slots, Kind::N, 2, false) else {
+    let Ok(()) = add_slot(alloc, &mut slots, N, 2, false) else {
         return Err(Memory);
     };
-    let Ok(()) = add_slot(alloc, &mut slots, Kind::I, 0, false) else {
+    let Ok(()) = add_slot(alloc, &mut slots, I, 0, false) else {
         return Err(Memory);
     };
     Ok(Medl {

@@ -1,12 +1,12 @@
 //! What a third node hears of two others by the faults of each kind, worked out by hand.
-ghost use Rattle.std.specs.Prelude.{◌≡◌, ◌≤◌, All, IfOk, length};
 ghost use Rattle.ttp_world.specs.Events.{IsBounded};
 
 use super::lists::let_go;
 use medium::{Arrival, Medium, Outgoing, received};
 use std::alloc::Global;
-use ttp_base::{List, Memory};
-use ttp_world::{Channel, Channels, Event, Events, Fault, Medl, Script};
+use ttp_base::List;
+use ttp_world::Fault::{self, Noise, Silence};
+use ttp_world::{Channel, Channels, Event, Events, Medl, Script};
 
 const A: Channels = Channels { a: true, b: false };
 
@@ -18,10 +18,8 @@ const BOTH: Channels = Channels { a: true, b: true };
 #[derive(Clone, Copy)]
 enum Line {
     None,
-    SendSilence(u8, Channels),
-    SendNoise(u8, Channels),
-    ReceiveSilence(u8, Channels),
-    ReceiveNoise(u8, Channels),
+    Send(u8, Channels, Fault),
+    Receive(u8, Channels, Fault),
     Flip(u8, Channels, u16),
 }
 
@@ -49,39 +47,25 @@ const ZERO: Heard = Heard::Bits(&[0x10, 0xa5, 0xff], -7);
 
 const ONE: Heard = Heard::Bits(&[0x11, 0x00, 0x3c], 40);
 
-fn sending(node: u8, channels: Channels, fault: Fault) -> Event
-    ensures { IsBounded result }
-{
-    Event::Send {
-        node,
-        channels,
-        fault,
-        from: 3,
-        to: 3,
-    }
-}
-
-fn receiving(node: u8, channels: Channels, fault: Fault) -> Event
-    ensures { IsBounded result }
-{
-    Event::Receive {
-        node,
-        channels,
-        fault,
-        from: 2,
-        to: 4,
-    }
-}
-
 fn event(line: Line) -> Event
     ensures { IsBounded result }
 {
     match line {
         Line::None => Event::Arm { node: 9, slot: 3 },
-        Line::SendSilence(node, channels) => sending(node, channels, Fault::Silence),
-        Line::SendNoise(node, channels) => sending(node, channels, Fault::Noise),
-        Line::ReceiveSilence(node, channels) => receiving(node, channels, Fault::Silence),
-        Line::ReceiveNoise(node, channels) => receiving(node, channels, Fault::Noise),
+        Line::Send(node, channels, fault) => Event::Send {
+            node,
+            channels,
+            fault,
+            from: 3,
+            to: 3,
+        },
+        Line::Receive(node, channels, fault) => Event::Receive {
+            node,
+            channels,
+            fault,
+            from: 2,
+            to: 4,
+        },
         Line::Flip(node, channels, bit) => Event::Flip {
             node,
             channels,
@@ -91,33 +75,19 @@ fn event(line: Line) -> Event
     }
 }
 
-fn events(alloc: Global, lines: [Line; 2]) -> Result<List<Event>, Memory>
-    ensures len { IfOk result (λ events. length events ≤ 2) }
-    ensures events { IfOk result (All IsBounded) }
-{
-    let mut events = List::new(alloc);
-    let Ok(()) = events.push(event(lines[0])) else {
-        return Err(Memory);
+fn script(alloc: Global, lines: [Line; 2]) -> Option<Script> {
+    let Ok(events) = vec![in alloc; event(lines[0]), event(lines[1])] else {
+        return None;
     };
-    let Ok(()) = events.push(event(lines[1])) else {
-        return Err(Memory);
-    };
-    Ok(events)
-}
-
-fn script(alloc: Global, lines: [Line; 2]) -> Result<Script, Memory> {
-    let Ok(events) = events(alloc, lines) else {
-        return Err(Memory);
-    };
-    let Ok(events) = Events::index(alloc, events) else {
-        return Err(Memory);
-    };
-    Ok(Script {
-        slots: 6,
-        on: List::new(alloc),
-        drift: List::new(alloc),
-        events,
-    })
+    match Events::index(alloc, List::from_vec(events)) {
+        Ok(events) => Some(Script {
+            slots: 6,
+            on: List::new(alloc),
+            drift: List::new(alloc),
+            events,
+        }),
+        Err(_) => None,
+    }
 }
 
 fn is_heard(arrival: &Arrival, heard: Heard) -> bool {
@@ -177,50 +147,50 @@ const ROWS: &[Row] = &[
     // Two frames, a frame and noise, a frame beside a silenced one, and silence over noise.
     ([Line::None, Line::None], EACH, Heard::Noise, Heard::Noise),
     (
-        [Line::SendNoise(0, BOTH), Line::None],
+        [Line::Send(0, BOTH, Noise), Line::None],
         EACH,
         Heard::Noise,
         Heard::Noise,
     ),
     (
-        [Line::SendNoise(1, BOTH), Line::None],
+        [Line::Send(1, BOTH, Noise), Line::None],
         EACH,
         Heard::Noise,
         Heard::Noise,
     ),
-    ([Line::SendSilence(0, BOTH), Line::None], EACH, ONE, ONE),
-    ([Line::SendSilence(1, BOTH), Line::None], EACH, ZERO, ZERO),
+    ([Line::Send(0, BOTH, Silence), Line::None], EACH, ONE, ONE),
+    ([Line::Send(1, BOTH, Silence), Line::None], EACH, ZERO, ZERO),
     (
-        [Line::SendSilence(0, A), Line::None],
+        [Line::Send(0, A, Silence), Line::None],
         EACH,
         ONE,
         Heard::Noise,
     ),
     (
-        [Line::SendSilence(0, A), Line::SendSilence(1, B)],
+        [Line::Send(0, A, Silence), Line::Send(1, B, Silence)],
         EACH,
         ONE,
         ZERO,
     ),
     (
-        [Line::SendNoise(0, B), Line::None],
+        [Line::Send(0, B, Noise), Line::None],
         FIRST,
         ZERO,
         Heard::Noise,
     ),
     (
-        [Line::SendNoise(0, A), Line::SendSilence(0, A)],
+        [Line::Send(0, A, Noise), Line::Send(0, A, Silence)],
         FIRST,
         Heard::Silence,
         ZERO,
     ),
     (
-        [Line::SendNoise(0, A), Line::SendSilence(0, A)],
+        [Line::Send(0, A, Noise), Line::Send(0, A, Silence)],
         EACH,
         ONE,
         Heard::Noise,
     ),
-    ([Line::SendNoise(2, BOTH), Line::None], FIRST, ZERO, ZERO),
+    ([Line::Send(2, BOTH, Noise), Line::None], FIRST, ZERO, ZERO),
     // Flips inside, past the end, of one bit twice, of two bits, and of another node.
     (
         [Line::Flip(0, A, 8), Line::None],
@@ -250,43 +220,46 @@ const ROWS: &[Row] = &[
     ([Line::Flip(1, BOTH, 8), Line::None], FIRST, ZERO, ZERO),
     // The receiver's own faults over a frame, noise and silence, and another receiver's.
     (
-        [Line::ReceiveSilence(2, A), Line::None],
+        [Line::Receive(2, A, Silence), Line::None],
         FIRST,
         Heard::Silence,
         ZERO,
     ),
     (
-        [Line::ReceiveNoise(2, B), Line::None],
+        [Line::Receive(2, B, Noise), Line::None],
         FIRST,
         ZERO,
         Heard::Noise,
     ),
     (
-        [Line::ReceiveSilence(2, A), Line::ReceiveNoise(2, B)],
+        [Line::Receive(2, A, Silence), Line::Receive(2, B, Noise)],
         EACH,
         Heard::Silence,
         Heard::Noise,
     ),
     (
-        [Line::ReceiveSilence(2, A), Line::ReceiveNoise(2, B)],
+        [Line::Receive(2, A, Silence), Line::Receive(2, B, Noise)],
         NEITHER,
         Heard::Silence,
         Heard::Silence,
     ),
     (
-        [Line::ReceiveNoise(2, A), Line::ReceiveSilence(2, A)],
+        [Line::Receive(2, A, Noise), Line::Receive(2, A, Silence)],
         FIRST,
         Heard::Silence,
         ZERO,
     ),
     (
-        [Line::ReceiveNoise(2, A), Line::SendSilence(0, A)],
+        [Line::Receive(2, A, Noise), Line::Send(0, A, Silence)],
         FIRST,
         Heard::Silence,
         ZERO,
     ),
     (
-        [Line::ReceiveNoise(0, BOTH), Line::ReceiveSilence(1, BOTH)],
+        [
+            Line::Receive(0, BOTH, Noise),
+            Line::Receive(1, BOTH, Silence),
+        ],
         FIRST,
         ZERO,
         ZERO,
@@ -314,7 +287,7 @@ fn hears(medium: &mut Medium, script: &Script, row: &Row) -> bool {
 }
 
 fn are_heard(alloc: Global, medium: &mut Medium, row: &Row) -> bool {
-    let Ok(script) = script(alloc, row.0) else {
+    let Some(script) = script(alloc, row.0) else {
         return false;
     };
     let is_right = hears(medium, &script, row);
@@ -353,7 +326,7 @@ fn hears_less(medium: &mut Medium, script: &Script) -> bool {
 
 // The receiver of node 2 is dead on channel A.
 fn is_received(alloc: Global, medium: &mut Medium) -> bool {
-    let Ok(script) = script(alloc, [Line::ReceiveSilence(2, A), Line::None]) else {
+    let Some(script) = script(alloc, [Line::Receive(2, A, Silence), Line::None]) else {
         return false;
     };
     let is_right = hears_less(medium, &script);

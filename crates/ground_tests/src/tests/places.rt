@@ -1,48 +1,15 @@
 //! The places of a cycle of two rounds of four slots, one after the other, worked out by hand.
-ghost use Rattle.std.specs.Prelude.{◌≡◌, [], ◌∷◌, ◌++◌, length, true, false, IfOk, OnOk};
-ghost use Rattle.ttp_world.specs.declared.medl.Kind.TheVariants as kind;
+ghost use Rattle.std.specs.Prelude.{◌≡◌, length, IfOk};
 ghost use Rattle.ttp_world.specs.Medl.{IsValid};
 
+use super::lists::add_slot;
 use slot_clock::SlotClock;
 use std::alloc::Global;
 use ttp_base::{List, Memory, NodeSet};
-use ttp_world::{CState, Kind, Medl, SlotPlan};
+use ttp_world::{CState, Kind, Medl};
 
-fn two_kinds(alloc: Global) -> Result<List<Kind>, Memory>
-    ensures { IfOk result (λ kinds. kinds ≡ kind.I ∷ kind.I ∷ []) }
-{
-    let mut kinds = List::new(alloc);
-    let Ok(()) = kinds.push(Kind::I) else {
-        return Err(Memory);
-    };
-    let Ok(()) = kinds.push(Kind::I) else {
-        return Err(Memory);
-    };
-    Ok(kinds)
-}
-
-fn add_slot(alloc: Global, slots: &mut List<SlotPlan>) -> Result<(), Memory>
-    ensures { OnOk result (slots.new ≡ slots.old ++ record {
-      kinds = kind.I ∷ kind.I ∷ [];
-      payload = 0;
-      sync = true;
-      start = true;
-      requests = false;
-      live = 1;
-    } ∷ []) }
-{
-    let Ok(kinds) = two_kinds(alloc) else {
-        return Err(Memory);
-    };
-    slots.push(SlotPlan {
-        kinds,
-        payload: 0,
-        sync: true,
-        start: true,
-        requests: false,
-        live: 1,
-    })
-}
+// The kinds of a node's frames in the two rounds.
+const KINDS: &[Kind] = &[Kind::I, Kind::I];
 
 // Four nodes and two rounds.
 fn four_nodes(alloc: Global) -> Result<Medl, Memory>
@@ -51,16 +18,16 @@ fn four_nodes(alloc: Global) -> Result<Medl, Memory>
     ensures slots { IfOk result (λ list. length list.slots ≡ 4) }
 {
     let mut slots = List::new(alloc);
-    let Ok(()) = add_slot(alloc, &mut slots) else {
+    let Ok(()) = add_slot(alloc, &mut slots, KINDS, 0, true) else {
         return Err(Memory);
     };
-    let Ok(()) = add_slot(alloc, &mut slots) else {
+    let Ok(()) = add_slot(alloc, &mut slots, KINDS, 0, true) else {
         return Err(Memory);
     };
-    let Ok(()) = add_slot(alloc, &mut slots) else {
+    let Ok(()) = add_slot(alloc, &mut slots, KINDS, 0, true) else {
         return Err(Memory);
     };
-    let Ok(()) = add_slot(alloc, &mut slots) else {
+    let Ok(()) = add_slot(alloc, &mut slots, KINDS, 0, true) else {
         return Err(Memory);
     };
     Ok(Medl {
