@@ -9,7 +9,7 @@
 //! scripts say the same of is `AgreeBelow` of `specs/Agreement.antt`: that is what a caller has to know, and
 //! for a script with one event more [`laws::a_later_event_changes_nothing`] gives it.
 //!
-//! `laws_of_two_scripts_that_say_the_same` of law_tests calls both laws, and controller cites
+//! `laws_of_two_scripts_that_say_the_same` of ground_tests calls both laws, and controller cites
 //! `proofs/SameWorlds.antt` for what plants stand for:
 //!
 //! ```text

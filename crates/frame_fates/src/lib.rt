@@ -15,7 +15,7 @@
 //!
 //! Who has two runs by legal numbers makes them such runs by `legal-names` and `named-run` of
 //! `proofs/NamedRuns.antt`, and takes from `proofs/RunsAlike.antt` what is the same, as two_faced and
-//! trace_check do. `laws_of_payloads` of law_tests calls the laws:
+//! trace_check do. `laws_of_payloads` of ground_tests calls the laws:
 //!
 //! ```text
 //! frame_fates::laws::runs_are_alike();

@@ -4,7 +4,7 @@
 //! In between the clocks drift apart again, and each deviation is read with an error. From the bounds of a
 //! descriptor list the functions say how much of that can remain, in microticks. [`spread`] is of the clocks
 //! of two nodes at the beginning of a slot, [`needed`] of what one of them measures of a frame of the other;
-//! the other two are the same where nodes come to the group later. `bounds_of_four_nodes` of law_tests has
+//! the other two are the same where nodes come to the group later. `bounds_of_four_nodes` of ground_tests has
 //! them for four nodes in one round, with a drift of 1 and reading errors of 2; `window_broken` of
 //! hypothesis asks whether `needed(list) <= list.window`:
 //!

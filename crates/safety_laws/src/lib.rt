@@ -20,7 +20,7 @@
 //! `kept-clocks` and `kept-alike` of `proofs/Kept.antt`, the one file here that knows the hypothesis, but
 //! for the start that `slots` takes from it; two_faced and rejoin have a plan of their own, and cite
 //! `run-by_plan` of `proofs/Together.antt`. `one_mode` of mode_change calls the law on frames, and the
-//! tests of law_tests the laws of the rooms:
+//! tests of ground_tests the laws of the rooms:
 //!
 //! ```text
 //! safety_laws::same_frames(list, script, start);

@@ -8,7 +8,7 @@
 //! numbers is said of some. docs/THEOREMS.md is the page of them.
 //!
 //! A caller needs a valid list and script, legal message numbers and the answer of the test.
-//! `theorems_on_whole_runs` of law_tests calls the laws; ttp_top, whose promise of `run`, `modes` and `precision`
+//! `theorems_on_whole_runs` of ground_tests calls the laws; ttp_top, whose promise of `run`, `modes` and `precision`
 //! rests on them, cites `proofs/Runs.antt` and `proofs/ModeTexts.antt`:
 //!
 //! ```text

@@ -24,15 +24,8 @@ fn laws_of_frames() {
         payload: b"a",
     };
     let other = FrameIn {
-        wide: true,
-        header: 2,
-        cstate: CState {
-            time: 1,
-            round: 0,
-            slot: 2,
-            members: NodeSet::empty(),
-        },
         payload: b"b",
+        ..frame
     };
     ttp_frame::laws::flipped(&[0, 1, 0, 0, 0, 0, 0, 0, 0, 0, 0, 0], &frame, &other, 7);
     ttp_frame::laws::members_told();
