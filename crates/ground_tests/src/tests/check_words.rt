@@ -22,8 +22,8 @@ fn next_register(register: u32, bit: u32) -> u32 {
     }
 }
 
-// The check word, bit by bit.
-fn slow_word(start: u32, bytes: &[u8]) -> u32 {
+/// The register after some bytes, bit by bit: where it began at the start, it is their check word.
+pub(super) fn register_after(start: u32, bytes: &[u8]) -> u32 {
     let mut register = start;
     for byte in bytes {
         for place in 0..8u32 {
@@ -84,7 +84,7 @@ fn have_words(start: u32, front: &[u8], rest: &[u8], whole: &[u8]) -> bool
     check.feed(&[]);
     let copy = check;
     check.feed(rest);
-    check.word() == slow_word(start, whole) && copy.word() == slow_word(start, front)
+    check.word() == register_after(start, whole) && copy.word() == register_after(start, front)
 }
 
 #[test]

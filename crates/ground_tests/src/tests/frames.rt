@@ -2,6 +2,7 @@
 ghost use Rattle.std.specs.Prelude.{◌≡◌, ◌*◌, ◌^◌, ◌<◌, ◌≤◌, length, IfSome};
 ghost use Rattle.ttp_world.specs.Medl.{member_bytes, IsValid};
 
+use super::check_words::register_after;
 use super::lists::mixed_nodes;
 use std::alloc::Global;
 use ttp_base::NodeSet;
@@ -122,21 +123,6 @@ fn published_frames(rt: HostRuntime) {
     assert!(rt; are_encoded() && are_judged());
 }
 
-// The register after the bits of a byte, the most significant first.
-fn register_after(register: u32, byte: u8) -> u32 {
-    let mut register = register;
-    for place in 0..8u32 {
-        let bit = (u32::from(byte) >> (7 - place)) & 1;
-        let moved = (register << 1) & 0xff_ffff;
-        register = if (register >> 23) & 1 == bit {
-            moved
-        } else {
-            moved ^ 0x5d_6dcb
-        };
-    }
-    register
-}
-
 // The bytes of an encoder that goes bit by bit: the first `len` of these.
 #[derive(Clone, Copy)]
 struct Slow {
@@ -181,14 +167,6 @@ fn put_bytes(slow: &Slow) -> &[u8] {
     }
 }
 
-fn register_after_all(register: u32, bytes: &[u8]) -> u32 {
-    let mut register = register;
-    for byte in bytes {
-        register = register_after(register, *byte);
-    }
-    register
-}
-
 fn slow_state(cstate: &CState, wide: bool) -> Slow {
     let mut state = no_bytes();
     push_number(&mut state, u32::from(cstate.time), 2);
@@ -212,11 +190,11 @@ fn slow_front(frame: &FrameIn, state: &[u8]) -> Slow {
 // The check word of a frame whose front this is. Where the C-state is not sent, the word goes over it all the same.
 fn slow_word(header: u8, start: u32, state: &[u8], front: &[u8]) -> u32 {
     let unsent = if header == 0 {
-        register_after_all(start, state)
+        register_after(start, state)
     } else {
         start
     };
-    register_after_all(unsent, front)
+    register_after(unsent, front)
 }
 
 fn slow_frame(frame: &FrameIn, start: u32) -> Slow {

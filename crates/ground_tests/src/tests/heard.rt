@@ -210,27 +210,6 @@ fn judges(
     !sends && node.state().entry == *entry && first_byte(&outcome) == byte
 }
 
-// Whether a receiver judges so: node 3 where it is answered, and else node 0.
-fn decides(
-    rt: &impl Abort,
-    alloc: Global,
-    answered: bool,
-    came: (Came, Came),
-    entry: &Entry,
-    byte: Option<u8>,
-) -> bool {
-    let number = if answered { 3 } else { 0 };
-    let Ok(list) = mixed_nodes(alloc) else {
-        return false;
-    };
-    let Ok(mut node) = Controller::new(alloc, &list, number) else {
-        return false;
-    };
-    let others = three_members().without(number);
-    becomes_receiver(rt, &mut node, &list, answered)
-        && judges(rt, &mut node, &list, others, came, entry, byte)
-}
-
 // Whether a receiver is answered, what comes on the channels, the verdict and the deviation that it enters, and
 // the first byte that it delivers.
 type Judgement = (bool, Came, Came, Verdict, i64, Option<u8>);
@@ -271,14 +250,24 @@ const JUDGEMENTS: &[Judgement] = &[
     (true, Came::Silence, Came::Silence, Verdict::Null, 0, None),
 ];
 
+// Whether a receiver judges as it is due to: node 3 where it is answered, and else node 0.
 fn decides_as_due(rt: &impl Abort, alloc: Global, row: &Judgement) -> bool {
     let (answered, on_a, on_b, verdict, deviation, byte) = *row;
+    let number = if answered { 3 } else { 0 };
+    let Ok(list) = mixed_nodes(alloc) else {
+        return false;
+    };
+    let Ok(mut node) = Controller::new(alloc, &list, number) else {
+        return false;
+    };
+    let others = three_members().without(number);
     let entry = Entry::Judged {
         sender: 1,
         verdict,
         deviation,
     };
-    decides(rt, alloc, answered, (on_a, on_b), &entry, byte)
+    becomes_receiver(rt, &mut node, &list, answered)
+        && judges(rt, &mut node, &list, others, (on_a, on_b), &entry, byte)
 }
 
 #[test]
@@ -316,18 +305,7 @@ fn enters(
     !sends && node.state().entry == *entry
 }
 
-// Whether node 3 enters this.
-fn joins(rt: &impl Abort, alloc: Global, came: (Came, Came), entry: &Entry) -> bool {
-    let Ok(list) = mixed_nodes(alloc) else {
-        return false;
-    };
-    let Ok(mut node) = Controller::new(alloc, &list, 3) else {
-        return false;
-    };
-    enters(rt, &mut node, &list, came, entry)
-}
-
-// Whether a node joins as it is due to on what comes on the channels, with this deviation where it joins.
+// Whether node 3 joins as it is due to on what comes on the channels, with this deviation where it joins.
 fn joins_as_due(
     rt: &impl Abort,
     alloc: Global,
@@ -338,7 +316,13 @@ fn joins_as_due(
         Some(deviation) => joined(deviation),
         None => Entry::Waited,
     };
-    joins(rt, alloc, came, &entry)
+    let Ok(list) = mixed_nodes(alloc) else {
+        return false;
+    };
+    let Ok(mut node) = Controller::new(alloc, &list, 3) else {
+        return false;
+    };
+    enters(rt, &mut node, &list, came, &entry)
 }
 
 const JOINS: &[(Came, Came, Option<i64>)] = &[
