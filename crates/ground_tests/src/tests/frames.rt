@@ -72,20 +72,6 @@ const PUBLISHED: &[(bool, &[u8])] = &[
     (true, b"\x03\x00\x00\x00\x00\x00\x00\x01\x5e\x19\xa1"),
 ];
 
-fn is_encoded(wide: bool, bytes: &[u8]) -> bool {
-    let mut out = [0xffu8; 256];
-    let frame = FrameIn {
-        wide,
-        header: 3,
-        cstate: state(0, 0, 0, 1),
-        payload: &[],
-    };
-    match encoded(&frame, 0, &mut out) {
-        Some(len) => &out[..len] == bytes,
-        None => false,
-    }
-}
-
 // The bytes of a frame without payload, the members of its receiver, and how it is judged.
 const JUDGED: &[(&[u8], u32, FrameMatch)] = &[
     (b"\x00\xdd\xd7\x98", 1, FrameMatch::Match),
@@ -111,7 +97,17 @@ fn are_judged() -> bool {
 
 fn are_encoded() -> bool {
     for (wide, bytes) in PUBLISHED {
-        if !is_encoded(*wide, bytes) {
+        let mut out = [0xffu8; 256];
+        let frame = FrameIn {
+            wide: *wide,
+            header: 3,
+            cstate: state(0, 0, 0, 1),
+            payload: &[],
+        };
+        let Some(len) = encoded(&frame, 0, &mut out) else {
+            return false;
+        };
+        if &out[..len] != *bytes {
             return false;
         }
     }
@@ -130,12 +126,10 @@ struct Slow {
     bytes: [u8; 256],
 }
 
-fn no_bytes() -> Slow {
-    Slow {
-        len: 0,
-        bytes: [0; 256],
-    }
-}
+const NO_BYTES: Slow = Slow {
+    len: 0,
+    bytes: [0; 256],
+};
 
 // Puts a byte behind the others.
 fn push(slow: &mut Slow, byte: u8) {
@@ -168,7 +162,7 @@ fn put_bytes(slow: &Slow) -> &[u8] {
 }
 
 fn slow_state(cstate: &CState, wide: bool) -> Slow {
-    let mut state = no_bytes();
+    let mut state = NO_BYTES;
     push_number(&mut state, u32::from(cstate.time), 2);
     push(&mut state, cstate.round);
     push(&mut state, cstate.slot);
@@ -178,7 +172,7 @@ fn slow_state(cstate: &CState, wide: bool) -> Slow {
 
 // What is sent of a frame before its check word.
 fn slow_front(frame: &FrameIn, state: &[u8]) -> Slow {
-    let mut front = no_bytes();
+    let mut front = NO_BYTES;
     push(&mut front, frame.header);
     if frame.header != 0 {
         push_all(&mut front, state);
@@ -197,16 +191,12 @@ fn slow_word(header: u8, start: u32, state: &[u8], front: &[u8]) -> u32 {
     register_after(unsent, front)
 }
 
-fn slow_frame(frame: &FrameIn, start: u32) -> Slow {
-    let state = slow_state(&frame.cstate, frame.wide);
-    let mut bytes = slow_front(frame, put_bytes(&state));
-    let word = slow_word(frame.header, start, put_bytes(&state), put_bytes(&bytes));
-    push_number(&mut bytes, word, 3);
-    bytes
-}
-
 fn is_slow_frame(frame: &FrameIn, start: u32, bytes: &[u8]) -> bool {
-    put_bytes(&slow_frame(frame, start)) == bytes
+    let state = slow_state(&frame.cstate, frame.wide);
+    let mut slow = slow_front(frame, put_bytes(&state));
+    let word = slow_word(frame.header, start, put_bytes(&state), put_bytes(&slow));
+    push_number(&mut slow, word, 3);
+    put_bytes(&slow) == bytes
 }
 
 // The next of a sequence of numbers that looks like chance.
