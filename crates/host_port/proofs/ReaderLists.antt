@@ -4,8 +4,18 @@ use Rattle.host_port.proofs.Names.{length, map, take, set, get_or, Option, Some,
 use Rattle.host_port.proofs.Names.{ap, ◌∙◌, arith, add-one, zero-add, subst, IfSome, ◌≤◌, Result, Ok, Err, OnErr}
 use Rattle.host_port.proofs.Names.{cases_eq, cond_both, Source, ControllerState, source_place, at_source}
 use Rattle.host_port.proofs.Names.{HaveBuffers, rings_read, IsItsRing, AreTheirRings, reads_at, lent, IsLeft, Reads}
-use Rattle.host_port.proofs.Names.{buffers_of, got_of, settled, all_settled, all_lent}
-use Rattle.std.proofs.lemmas.List.{map-set, set-get_or, get_or-set_same, get_or_read, get_or-map, length-map}
+use Rattle.host_port.proofs.Names.{buffers_of, got_of, settled, all_settled, all_lent, spare_of, calls_at, sum_by}
+use Rattle.host_port.proofs.Names.{◌≢◌, false≢true}
+use Rattle.std.proofs.Common.{length-append}
+use Rattle.std.specs.Prelude.{if◌then◌else◌}
+use Rattle.std.proofs.lemmas.Bool.{lt-ltb}
+use Rattle.std.proofs.lemmas.Bool.Decides.{nat_tests}
+use Rattle.std.proofs.lemmas.Grind.{common_steps}
+use Rattle.std.proofs.lemmas.List.Sums.{sum_by-set, get_or-le-sum_by}
+use Rattle.nbw_ring.specs.Attempts.{Gets, GetsNothing}
+use Rattle.host_port.specs.Reading.{got_one, calls_after}
+use Rattle.std.proofs.lemmas.List.{map-set, set-get_or, get_or-set_same, get_or-set_other, get_or_read, get_or-map}
+use Rattle.std.proofs.lemmas.List.{length-map}
 use Rattle.nbw_ring.specs.States.{RingState, WriterState, ReaderState, new_reader}
 use Rattle.ttp_world.specs.declared.host_lines.HostRead.{HostRead}
 use Rattle.host_port.specs.Writing.{written}
@@ -122,19 +132,137 @@ pub still_rings : (readers : List (Option ReaderState)) (buffers place : ℕ) (o
 still_rings readers buffers place old new here reads =
     read_alike ring_read readers place old new here (read_ring buffers old new reads)
 
--- and the one that read is found where it was
-pub reads_there : {shown readers : List (Option ReaderState)} (from : Source) {place : ℕ} {old : Option ReaderState}
-    (new : Option ReaderState) → readers ≡ shown → place ≡ source_place from → old ≡ get_or readers place old
-    → IsLeft (at_source shown from)
-    → Reads (buffers_of old) old new
-    → Reads (buffers_of (at_source shown from)) (at_source shown from) (at_source (set readers place new) from)
-reads_there {shown} {readers} from {place} {old} new same placed here left reads =
-    let within : place < length readers = rw (same, placed)
-    (within_list IsLeft None shown (source_place from) (λ none. none) left) in
-    let after : get_or (set readers place new) place None ≡ new = get_or-set_same readers place new None within in
-    let before : old ≡ at_source shown from =
-    get_or_read readers place old within here None ∙ (λ k. get_or (same k) (placed k) None) in
-    rw (← before, ← placed, after) reads
+-- Where it reads, one message is got more, and there is room for one less, or nothing is.
+
+pub record IsStep (many : ℕ) (old new : Option ReaderState) : Type 0 where
+  pub got : length (got_of new) ≡ length (got_of old) + many
+  pub spare : spare_of new + many ≡ spare_of old
+
+one_more : (old new : ReaderState) (number : ℕ) → Gets old new number → IsStep 1 (Some old) (Some new)
+one_more old new number gets = record {
+  got = ap length gets.got ∙ length-append old.got (record { number = number; words = gets.words } ∷ []);
+  spare = gets.spare;
+}
+
+none_more : (old new : ReaderState) (number start last : ℕ) → GetsNothing old new number start last
+    → IsStep 0 (Some old) (Some new)
+none_more old new number start last none =
+    record { got = omega (arith, ap length none.got); spare = omega (arith, none.spare) }
+
+pub step_got : (buffers : ℕ) (old new : Option ReaderState) → Reads buffers old new → got_one new ≡ true
+    → IsStep 1 old new
+step_got buffers (Some old) (Some new) reads is =
+    elim (cases_eq buffers 1) [
+      | inl one ↦ one_more old new _ (reads.0 one).got
+      | inr more ↦ one_more old new _ ((reads.1 more).got is)
+    ]
+step_got buffers old new reads is = absurd reads
+
+pub step_none : (buffers : ℕ) (old new : Option ReaderState) → Reads buffers old new → got_one new ≡ false
+    → IsStep 0 old new
+step_none buffers (Some old) (Some new) reads is =
+    elim (cases_eq buffers 1) [
+      | inl one ↦ absurd (false≢true (sym is ∙ lt-ltb _ _ (reads.0 one).got.intact))
+      | inr more ↦ none_more old new _ _ _ ((reads.1 more).nothing is)
+    ]
+step_none buffers old new reads is = absurd reads
+
+left_spare : (r : Option ReaderState) → IsLeft r → 1 ≤ spare_of r
+left_spare (Some r) left = left
+left_spare None left = absurd left
+
+one_call : (from : Source) (calls : List Source) (place : ℕ) → place ≡ source_place from
+    → calls_at place (calls ++ from ∷ []) ≡ calls_at place calls + 1
+one_call from calls place placed = grind (arith, common_steps, nat_tests)
+
+no_call : (from : Source) (calls : List Source) (other : ℕ) → other ≢ source_place from
+    → calls_at other (calls ++ from ∷ []) ≡ calls_at other calls
+no_call from calls other apart = grind (arith, common_steps, nat_tests)
+
+-- the one that read is found where it was, and the others are as they were
+module _ {shown readers : List (Option ReaderState)} (from : Source) {place : ℕ} {old : Option ReaderState}
+    (new : Option ReaderState) (same : readers ≡ shown) (placed : place ≡ source_place from)
+    (here : old ≡ get_or readers place old) (left : IsLeft (at_source shown from)) where
+  within : place < length readers
+  within = rw (same, placed) (within_list IsLeft None shown (source_place from) (λ none. none) left)
+
+  before : old ≡ at_source shown from
+  before = get_or_read readers place old within here None ∙ (λ k. get_or (same k) (placed k) None)
+
+  after : at_source (set readers place new) from ≡ new
+  after = (λ k. get_or (set readers place new) (sym placed k) None) ∙ get_or-set_same readers place new None within
+
+  pub reads_there : Reads (buffers_of old) old new
+      → Reads (buffers_of (at_source shown from)) (at_source shown from) (at_source (set readers place new) from)
+  reads_there reads = rw (← before, after) reads
+
+  pub others_there : (other : Source) → source_place other ≢ source_place from
+      → at_source (set readers place new) other ≡ at_source shown other
+  others_there other apart =
+      get_or-set_other readers place (source_place other) new None (λ is. apart (is ∙ placed))
+      ∙ ap (λ rs. at_source rs other) same
+
+  pub calls_there : {was told : List Source} (got : Bool) → was ≡ told → got_one new ≡ got
+      → (if got then was ++ from ∷ [] else was) ≡ calls_after told from (at_source (set readers place new) from)
+  calls_there got calls is =
+      λ k. if (sym is ∙ ap got_one (sym after)) k then calls k ++ from ∷ [] else calls k
+
+  -- there is room for what is read
+  pub room_there : (len room : ℕ) → len + sum_by spare_of readers ≤ room → len < room
+  room_there len room so =
+      omega (
+        arith,
+        so,
+        left_spare (at_source shown from) left,
+        ap spare_of before,
+        ap spare_of (get_or_read readers place old within here None),
+        get_or-le-sum_by spare_of readers place None within,
+      )
+
+  -- and it is counted
+  pub room_after : {many : ℕ} (len room : ℕ) → IsStep many old new → len + sum_by spare_of readers ≤ room
+      → len + many + sum_by spare_of (set readers place new) ≤ room
+  room_after len room step so =
+      omega (
+        arith,
+        so,
+        step.spare,
+        sum_by-set spare_of readers place new None within,
+        ap spare_of (get_or_read readers place old within here None),
+      )
+
+  counts_after : {many : ℕ} (was now : List Source) → IsStep many old new
+      → calls_at place now ≡ calls_at place was + many
+      → ((p : ℕ) → p ≢ place → calls_at p now ≡ calls_at p was)
+      → ((p : ℕ) → calls_at p was ≡ length (got_of (get_or readers p None)))
+      → (p : ℕ) → calls_at p now ≡ length (got_of (get_or (set readers place new) p None))
+  counts_after was now step one others counts p =
+      let many = λ (r : Option ReaderState). length (got_of r) in
+      elim (cases_eq p place) [
+        | inl is ↦
+            subst (λ q. calls_at q now ≡ length (got_of (get_or (set readers place new) q None))) (sym is)
+            (omega (
+              arith,
+              one,
+              counts place,
+              step.got,
+              ap many (get_or_read readers place old within here None),
+              ap many (get_or-set_same readers place new None within),
+            ))
+        | inr apart ↦
+            others p apart ∙ counts p ∙ ap many (sym (get_or-set_other readers place p new None apart))
+      ]
+
+  pub counts_got : (was : List Source) → IsStep 1 old new
+      → ((p : ℕ) → calls_at p was ≡ length (got_of (get_or readers p None)))
+      → (p : ℕ) → calls_at p (was ++ from ∷ []) ≡ length (got_of (get_or (set readers place new) p None))
+  counts_got was step = counts_after was (was ++ from ∷ []) step (one_call from was place placed)
+      (λ p apart. no_call from was p (λ is. apart (is ∙ sym placed)))
+
+  pub counts_none : (was : List Source) → IsStep 0 old new
+      → ((p : ℕ) → calls_at p was ≡ length (got_of (get_or readers p None)))
+      → (p : ℕ) → calls_at p was ≡ length (got_of (get_or (set readers place new) p None))
+  counts_none was step = counts_after was was step (omega arith) (λ p apart. refl)
 
 -- the ring of a port has the port's number of buffers
 ring_buffers : (buffers : ℕ) (ring : Option RingState) (r : Option ReaderState)
