@@ -5,7 +5,7 @@ ghost use Rattle.ttp_world.specs.Script.{IsValidScript};
 ghost use Rattle.two_faced.specs.declared.faced.Faced.TheVariants as faced;
 ghost use Rattle.two_faced.specs.Faced.{faced_of};
 
-use super::scripts::{let_go, list_of, script_of};
+use super::scripts::{let_go, list_of, read_both, script_of};
 use std::alloc::Global;
 use ttp_world::{Medl, Script};
 use two_faced::{Faced, Seen, bound, find_faced, find_seen, halved};
@@ -45,10 +45,7 @@ fn is_owed_law(list: &Medl, script: &Script, node: u8) -> bool
 }
 
 fn is_kept(alloc: Global) -> bool {
-    let Some(list) = list_of(alloc, WIDE) else {
-        return false;
-    };
-    let Some(script) = script_of(alloc, &list, KEEPING.as_bytes()) else {
+    let Some((list, script)) = read_both(alloc, WIDE, KEEPING.as_bytes()) else {
         return false;
     };
     let is_right = bound(&list) == 50 && is_owed_law(&list, &script, 3);

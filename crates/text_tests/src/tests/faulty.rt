@@ -1,13 +1,12 @@
 //! Who is faulty after a slot, by walks that forget before it what they keep of the script. The rules say that a node
 //! whose frame is lost is faulty, and stays so until four rounds after it was armed.
-ghost use Rattle.std.specs.Prelude.{◌≡◌, ◌<◌, ◌≤◌, Some};
+ghost use Rattle.std.specs.Prelude.{◌≡◌, ◌<◌, Some};
 ghost use Rattle.ttp_world.specs.Hypothesis.{start_of};
 ghost use Rattle.ttp_world.specs.Medl.{IsValid};
 ghost use Rattle.ttp_world.specs.Script.{IsValidScript};
-ghost use Rattle.hypothesis.specs.FaultyRuns.{IsKeptAt, IsBackAt};
 ghost use Rattle.hypothesis.specs.Standing.{told_start};
 
-use super::scripts::{FOUR_NODES, let_go, list_of, script_of};
+use super::scripts::{FOUR_NODES, let_go, read_both};
 use hypothesis::{BackFaulty, KeptFaulty, Start, start_of};
 use std::alloc::Global;
 use ttp_world::{Medl, Script};
@@ -16,62 +15,42 @@ use ttp_world::{Medl, Script};
 const LOST: &[u8] =
     b"slots 60\non 0 0\non 1 0\non 2 0\non 3 0\nsend 2 AB silence 14 14\narm 2 30\n";
 
-// A walk over the first slots, so many, by the single-fault hypothesis.
-fn kept_walk(list: &Medl, script: &Script, start: Start, slots: u32) -> KeptFaulty
-    requires valid { IsValid list.now }
-    requires script { IsValidScript list.now script.now }
-    requires start { start_of list.now script.now ≡ Some (told_start start) }
-    ensures { IsKeptAt list.now script.now slots result }
-{
-    let mut walk = KeptFaulty::new(list, script, start);
-    for slot in 0..slots {
-        walk.step(list, script, slot);
-    }
-    walk
-}
-
-// The faulty nodes after a slot as bits.
+// The faulty nodes after a slot as bits, by the single-fault hypothesis.
 fn kept_after(list: &Medl, script: &Script, start: Start, last: u32) -> u32
     requires valid { IsValid list.now }
     requires script { IsValidScript list.now script.now }
     requires start { start_of list.now script.now ≡ Some (told_start start) }
 {
-    let walk = kept_walk(list, script, start, last);
+    let mut walk = KeptFaulty::new(list, script, start);
+    for slot in 0..last {
+        walk.step(list, script, slot);
+    }
     let mut again = walk.forgetting();
     again.step(list, script, last).bits()
 }
 
-// The same two by the test on armed nodes.
-fn back_walk(list: &Medl, script: &Script, start: Start, slots: u32) -> BackFaulty
-    requires valid { IsValid list.now }
-    requires script { IsValidScript list.now script.now }
-    requires start { start_of list.now script.now ≡ Some (told_start start) }
-    requires slots { slots ≤ script.now.slots }
-    ensures { IsBackAt list.now script.now slots result }
-{
-    let mut walk = BackFaulty::new(list, script, start);
-    for slot in 0..slots {
-        walk.step(list, script, slot);
-    }
-    walk
-}
-
+// The same by the test on armed nodes.
 fn back_after(list: &Medl, script: &Script, start: Start, last: u32) -> u32
     requires valid { IsValid list.now }
     requires script { IsValidScript list.now script.now }
     requires start { start_of list.now script.now ≡ Some (told_start start) }
     requires slot { last < script.now.slots }
 {
-    let walk = back_walk(list, script, start, last);
+    let mut walk = BackFaulty::new(list, script, start);
+    for slot in 0..last {
+        walk.step(list, script, slot);
+    }
     let mut again = walk.forgetting();
     again.step(list, script, last).bits()
 }
 
-fn are_faulty(list: &Medl, script: &Script, start: Start) -> bool
+fn are_faulty(list: &Medl, script: &Script) -> bool
     requires valid { IsValid list.now }
     requires script { IsValidScript list.now script.now }
-    requires start { start_of list.now script.now ≡ Some (told_start start) }
 {
+    let Some(start) = start_of(list, script) else {
+        return false;
+    };
     if script.slots < 60 {
         return false;
     }
@@ -81,24 +60,11 @@ fn are_faulty(list: &Medl, script: &Script, start: Start) -> bool
         && back_after(list, script, start, 59) == 0
 }
 
-fn are_faulty_from_start(list: &Medl, script: &Script) -> bool
-    requires valid { IsValid list.now }
-    requires script { IsValidScript list.now script.now }
-{
-    match start_of(list, script) {
-        Some(start) => are_faulty(list, script, start),
-        None => false,
-    }
-}
-
 fn are_told(alloc: Global) -> bool {
-    let Some(list) = list_of(alloc, FOUR_NODES) else {
+    let Some((list, script)) = read_both(alloc, FOUR_NODES, LOST) else {
         return false;
     };
-    let Some(script) = script_of(alloc, &list, LOST) else {
-        return false;
-    };
-    let is_right = are_faulty_from_start(&list, &script);
+    let is_right = are_faulty(&list, &script);
     let_go(script);
     is_right
 }

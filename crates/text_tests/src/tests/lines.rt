@@ -1,6 +1,7 @@
 //! Lines as the format of the trace gives them, of states that no run is asked for.
-ghost use Rattle.std.specs.Prelude.{◌≡◌};
-ghost use Rattle.line_text.specs.HostLines.{HasWords};
+ghost use Rattle.std.specs.Prelude.{◌<◌, IsTrue};
+ghost use Rattle.ttp_base.specs.NodeSet.{set_bits};
+ghost use Rattle.ttp_world.specs.Medl.{member_limit};
 
 use line_text::{
     NodeLines, RingMessage, put_back, put_keep, put_node_line, put_read_line, put_write_line,
@@ -10,9 +11,7 @@ use ttp_base::{Line, List, Memory, MemorySink, NodeSet};
 use ttp_world::{Ack, Back, Entry, Keep, Medl, NodeState, Phase, Source, Verdict};
 
 // A list without slots: of it a line needs the version alone.
-fn list(alloc: Global, version: u8) -> Medl
-    ensures { result.version ≡ version }
-{
+fn list(alloc: Global, version: u8) -> Medl {
     Medl {
         version,
         rounds: 1,
@@ -31,118 +30,138 @@ fn sink_with(alloc: Global, room: usize) -> Result<MemorySink, Memory> {
     MemorySink::new(alloc, room, List::new(alloc))
 }
 
-// The members {0, 1, 3, 4}.
-fn four_members() -> NodeSet {
-    NodeSet::empty().with(0).with(1).with(3).with(4)
+// An active node's line: the list's version, the node, the sender that it judged and how, a member beside four others,
+// both counts, the acknowledgement, the clock and the message; and what is written of it into a sink with so much room.
+#[derive(Clone, Copy)]
+struct Row {
+    version: u8,
+    node: u8,
+    sender: u8,
+    verdict: Verdict,
+    member: u8,
+    accepted: u8,
+    rejected: u8,
+    ack: Ack,
+    offset: i64,
+    message: Option<u64>,
+    room: usize,
+    text: &'static str,
 }
 
-// What a line shows of an active node that judged the slot of this sender, and whose clock is at 0.
-fn heard(sender: u8, verdict: Verdict, members: NodeSet) -> NodeState {
-    NodeState {
-        phase: Phase::Active,
-        entry: Entry::Judged {
-            sender,
-            verdict,
-            deviation: 0,
-        },
-        members,
-        accepted: 3,
-        rejected: 0,
-        ack: Ack::Closed,
-        offset: 0,
-    }
-}
-
-// A node, the sender that it judged, whether this is a member, the message of the slot, and the node's line.
-type Row = (u8, u8, Verdict, bool, Option<u64>, &'static str);
+const FIRST: Row = Row {
+    version: 1,
+    node: 0,
+    sender: 2,
+    verdict: Verdict::Correct,
+    member: 2,
+    accepted: 3,
+    rejected: 0,
+    ack: Ack::Closed,
+    offset: 0,
+    message: Some(2),
+    room: 111,
+    text: "slot 17 node 0 correct peer 2 msg 2 mem 001f acc 3 rej 0 ack none clock 0\n",
+};
 
 // Nodes of slot 17 that judge it alike, and then otherwise in one thing after another.
 const ROWS: &[Row] = &[
-    (
-        0,
-        2,
-        Verdict::Correct,
-        true,
-        Some(2),
-        "slot 17 node 0 correct peer 2 msg 2 mem 001f acc 3 rej 0 ack none clock 0\n",
-    ),
-    (
-        1,
-        2,
-        Verdict::Correct,
-        true,
-        Some(2),
-        "slot 17 node 1 correct peer 2 msg 2 mem 001f acc 3 rej 0 ack none clock 0\n",
-    ),
-    (
-        3,
-        2,
-        Verdict::Correct,
-        false,
-        Some(2),
-        "slot 17 node 3 correct peer 2 msg 2 mem 001b acc 3 rej 0 ack none clock 0\n",
-    ),
-    (
-        4,
-        2,
-        Verdict::Correct,
-        false,
-        Some(3),
-        "slot 17 node 4 correct peer 2 msg 3 mem 001b acc 3 rej 0 ack none clock 0\n",
-    ),
-    (
-        5,
-        2,
-        Verdict::Correct,
-        false,
-        None,
-        "slot 17 node 5 correct peer 2 msg - mem 001b acc 3 rej 0 ack none clock 0\n",
-    ),
-    (
-        6,
-        2,
-        Verdict::Tentative,
-        false,
-        None,
-        "slot 17 node 6 tentative peer 2 msg - mem 001b acc 3 rej 0 ack none clock 0\n",
-    ),
-    (
-        7,
-        3,
-        Verdict::Tentative,
-        false,
-        None,
-        "slot 17 node 7 tentative peer 3 msg - mem 001b acc 3 rej 0 ack none clock 0\n",
-    ),
+    FIRST,
+    Row {
+        node: 1,
+        text: "slot 17 node 1 correct peer 2 msg 2 mem 001f acc 3 rej 0 ack none clock 0\n",
+        ..FIRST
+    },
+    Row {
+        node: 3,
+        member: 4,
+        text: "slot 17 node 3 correct peer 2 msg 2 mem 001b acc 3 rej 0 ack none clock 0\n",
+        ..FIRST
+    },
+    Row {
+        node: 4,
+        member: 4,
+        message: Some(3),
+        text: "slot 17 node 4 correct peer 2 msg 3 mem 001b acc 3 rej 0 ack none clock 0\n",
+        ..FIRST
+    },
+    Row {
+        node: 5,
+        member: 4,
+        message: None,
+        text: "slot 17 node 5 correct peer 2 msg - mem 001b acc 3 rej 0 ack none clock 0\n",
+        ..FIRST
+    },
+    Row {
+        node: 6,
+        verdict: Verdict::Tentative,
+        member: 4,
+        message: None,
+        text: "slot 17 node 6 tentative peer 2 msg - mem 001b acc 3 rej 0 ack none clock 0\n",
+        ..FIRST
+    },
+    Row {
+        node: 7,
+        sender: 3,
+        verdict: Verdict::Tentative,
+        member: 4,
+        message: None,
+        text: "slot 17 node 7 tentative peer 3 msg - mem 001b acc 3 rej 0 ack none clock 0\n",
+        ..FIRST
+    },
 ];
 
 // What the line of a row shows of its node.
-fn state_of(row: &Row) -> NodeState {
-    let members = four_members();
-    heard(row.1, row.2, if row.3 { members.with(2) } else { members })
+fn state_of(row: &Row, members: NodeSet) -> NodeState {
+    NodeState {
+        phase: Phase::Active,
+        entry: Entry::Judged {
+            sender: row.sender,
+            verdict: row.verdict,
+            deviation: 0,
+        },
+        members,
+        accepted: row.accepted,
+        rejected: row.rejected,
+        ack: row.ack,
+        offset: row.offset,
+    }
 }
 
-// Whether the line of a row's node is its text. Its members can be written in four digits.
-fn is_line(alloc: Global, list: &Medl, row: &Row, newest: &mut NodeLines) -> bool
-    requires { list.now.version ≡ 1 }
+// Whether members can be written in a list's digits.
+fn fits(list: &Medl, members: NodeSet) -> bool
+    ensures { IsTrue result → set_bits members < member_limit list.now }
 {
-    let state = state_of(row);
-    if state.members.bits() >= 65_536 {
+    if list.version == 2 {
+        members.bits() < 16_777_216
+    } else {
+        members.bits() < 65_536
+    }
+}
+
+// Whether the line of a row's node is its text, whole or not at all.
+fn is_line(alloc: Global, row: &Row, newest: &mut NodeLines) -> bool {
+    if row.member >= 24 {
         return false;
     }
-    let Ok(mut out) = sink_with(alloc, 111) else {
+    let members = NodeSet::empty().with(0).with(1).with(3).with(4);
+    let state = state_of(row, members.with(row.member));
+    let list = list(alloc, row.version);
+    if !fits(&list, state.members) {
+        return false;
+    }
+    let Ok(mut out) = sink_with(alloc, row.room) else {
         return false;
     };
-    let written = put_node_line(list, row.0, &state, row.4, newest, &mut out);
-    written.is_ok() && out.bytes() == row.5.as_bytes()
+    let is_whole = put_node_line(&list, row.node, &state, row.message, newest, &mut out).is_ok();
+    is_whole != row.text.is_empty() && out.bytes() == row.text.as_bytes()
 }
 
-fn are_lines(alloc: Global) -> bool {
-    let narrow = list(alloc, 1);
+// Whether it is so of rows, one after another, in a slot.
+fn are_lines(alloc: Global, slot: u32, rows: &[Row]) -> bool {
     let mut newest = NodeLines::new();
-    newest.begin(17);
-    for row in ROWS {
-        if !is_line(alloc, &narrow, row, &mut newest) {
+    newest.begin(slot);
+    for row in rows {
+        if !is_line(alloc, row, &mut newest) {
             return false;
         }
     }
@@ -151,71 +170,47 @@ fn are_lines(alloc: Global) -> bool {
 
 #[test]
 fn lines_of_one_slot(rt: HostRuntime) {
-    assert!(rt; are_lines(rt.alloc()));
+    assert!(rt; are_lines(rt.alloc(), 17, ROWS));
 }
 
-// The state of the widest line there can be: the members of a list of version 2 have six digits.
-fn widest_state() -> NodeState {
-    let mut state = heard(23, Verdict::Correct, four_members().with(23));
-    state.accepted = 255;
-    state.rejected = 255;
-    state.ack = Ack::Doubt(22);
-    state.offset = -576_460_752_303_423_488;
-    state
-}
+// The widest line with a message that there can be: the members of a list of version 2 have six digits.
+const WIDEST: Row = Row {
+    version: 2,
+    node: 23,
+    sender: 23,
+    verdict: Verdict::Correct,
+    member: 23,
+    accepted: 255,
+    rejected: 255,
+    ack: Ack::Doubt(22),
+    offset: -576_460_752_303_423_488,
+    message: Some(20_000),
+    room: 111,
+    text: "slot 19999 node 23 correct peer 23 msg 20000 mem 80001b acc 255 rej 255 ack doubt:22 clock -576460752303423488\n",
+};
 
-const WIDEST: &str =
-    "slot 19999 node 23 correct peer 23 msg 20000 mem 80001b acc 255 rej 255 ack doubt:22 clock -576460752303423488\n";
+const WHOLE: &[Row] = &[WIDEST];
 
-// Whether the widest line with a message is written into a sink with so much room, whole or not at all.
-fn is_widest_line(alloc: Global, room: usize, is_whole: bool) -> bool {
-    let state = widest_state();
-    if state.members.bits() >= 16_777_216 {
-        return false;
-    }
-    let mut newest = NodeLines::new();
-    newest.begin(19_999);
-    let Ok(mut out) = sink_with(alloc, room) else {
-        return false;
-    };
-    let wide = list(alloc, 2);
-    let written = put_node_line(&wide, 23, &state, Some(20_000), &mut newest, &mut out);
-    let due = if is_whole { WIDEST } else { "" };
-    written.is_ok() == is_whole && out.bytes() == due.as_bytes()
-}
-
-fn is_one_piece(alloc: Global) -> bool {
-    is_widest_line(alloc, 111, true) && is_widest_line(alloc, 110, false)
-}
+const REFUSED: &[Row] = &[Row {
+    room: 110,
+    text: "",
+    ..WIDEST
+}];
 
 #[test]
 fn a_wide_line_is_one_piece(rt: HostRuntime) {
-    assert!(rt; is_one_piece(rt.alloc()));
-}
-
-// Whether the line of a message that node 1's host reads is this text.
-fn is_read_line(alloc: Global, message: &RingMessage, line: &mut Line, text: &str) -> bool
-    requires { HasWords message.now.source message.now.size message.now.words.now }
-{
-    let Ok(mut sink) = sink_with(alloc, 100) else {
-        return false;
-    };
-    let written = put_read_line(11, 1, message, line, &mut sink);
-    written.is_ok() && sink.bytes() == text.as_bytes()
-}
-
-fn is_write_line(alloc: Global, line: &mut Line) -> bool {
-    let Ok(mut sink) = sink_with(alloc, 100) else {
-        return false;
-    };
-    let written = put_write_line(19_999, 23, 60_000, line, &mut sink);
-    written.is_ok() && sink.bytes() == b"slot 19999 host 23 write 60000\n".as_slice()
+    let alloc = rt.alloc();
+    assert!(rt; are_lines(alloc, 19_999, WHOLE) && are_lines(alloc, 19_999, REFUSED));
 }
 
 const PART: [u64; 2] = [0xffee_ddcc_bbaa_9988, 0x7700_0000_0000_0000];
 
-// Whether the lines of messages of nine bytes and of one are right.
-fn are_read_lines(alloc: Global, line: &mut Line) -> bool {
+const HOST_LINES: &str = "slot 11 host 1 read 23 20000 ffeeddccbbaa998877\n\
+    slot 11 host 1 read 0 0 77\n\
+    slot 19999 host 23 write 60000\n";
+
+// Whether the lines of messages of nine bytes and of one that a host reads, and of one that a host writes, are right.
+fn are_host_lines(alloc: Global) -> bool {
     let nine = RingMessage {
         source: Source::Node(23),
         number: 20_000,
@@ -228,12 +223,14 @@ fn are_read_lines(alloc: Global, line: &mut Line) -> bool {
         words: &PART[1..],
         size: 1,
     };
-    is_read_line(
-        alloc,
-        &nine,
-        line,
-        "slot 11 host 1 read 23 20000 ffeeddccbbaa998877\n",
-    ) && is_read_line(alloc, &one, line, "slot 11 host 1 read 0 0 77\n")
+    let Ok(mut sink) = sink_with(alloc, 200) else {
+        return false;
+    };
+    let mut line = Line::new();
+    put_read_line(11, 1, &nine, &mut line, &mut sink).is_ok()
+        && put_read_line(11, 1, &one, &mut line, &mut sink).is_ok()
+        && put_write_line(19_999, 23, 60_000, &mut line, &mut sink).is_ok()
+        && sink.bytes() == HOST_LINES.as_bytes()
 }
 
 // Whether so many bytes are written where the longest line there is and then a short one come into a sink with so
@@ -259,11 +256,6 @@ fn is_longest_line(alloc: Global, room: usize, written: usize) -> bool {
         && bytes.ends_with(b"slot 3 host 4 write 5\n".as_slice())
 }
 
-fn are_host_lines(alloc: Global) -> bool {
-    let mut line = Line::new();
-    are_read_lines(alloc, &mut line) && is_write_line(alloc, &mut line)
-}
-
 // A payload of 240 bytes makes the longest line there is.
 fn is_longest_one_piece(alloc: Global) -> bool {
     is_longest_line(alloc, 600, 33 + 480 + 1 + 22) && is_longest_line(alloc, 513, 22)
@@ -275,39 +267,48 @@ fn lines_of_hosts(rt: HostRuntime) {
     assert!(rt; are_host_lines(alloc) && is_longest_one_piece(alloc));
 }
 
-fn is_keep_line(alloc: Global, keep: &Keep, room: usize, text: &str) -> bool {
-    let Ok(mut out) = sink_with(alloc, room) else {
-        return false;
-    };
-    let written = put_keep(keep, &mut out).is_ok();
-    written != text.is_empty() && out.bytes() == text.as_bytes()
+#[derive(Clone, Copy)]
+enum Answer {
+    Keep(Keep),
+    Back(Back),
 }
 
-fn is_back_line(alloc: Global, back: &Back, room: usize, text: &str) -> bool {
-    let Ok(mut out) = sink_with(alloc, room) else {
-        return false;
-    };
-    let written = put_back(back, &mut out).is_ok();
-    written != text.is_empty() && out.bytes() == text.as_bytes()
-}
-
-// Lines that are longer than their sinks are refused whole.
-fn are_answers(alloc: Global) -> bool {
-    let keep = Keep::No { rule: 4, slot: 0 };
-    let back = Back::No { rule: 2, slot: 0 };
-    is_keep_line(
-        alloc,
-        &Keep::Yes { start: 20_070 },
+// Answers, and what is written of their lines into a sink with so much room.
+const ANSWERS: &[(Answer, usize, &str)] = &[
+    (
+        Answer::Keep(Keep::Yes { start: 20_070 }),
         22,
         "keeps yes start 20070\n",
-    ) && is_keep_line(alloc, &keep, 13, "")
-        && is_back_line(
-            alloc,
-            &Back::No { rule: 8, slot: 37 },
-            21,
-            "returns no Q8 37\n",
-        )
-        && is_back_line(alloc, &back, 15, "")
+    ),
+    (Answer::Keep(Keep::No { rule: 4, slot: 0 }), 13, ""),
+    (
+        Answer::Back(Back::No { rule: 8, slot: 37 }),
+        21,
+        "returns no Q8 37\n",
+    ),
+    (Answer::Back(Back::No { rule: 2, slot: 0 }), 15, ""),
+];
+
+// Whether the line of an answer is its text, whole or not at all.
+fn is_answer(alloc: Global, case: &(Answer, usize, &str)) -> bool {
+    let (answer, room, text) = case;
+    let Ok(mut out) = sink_with(alloc, *room) else {
+        return false;
+    };
+    let is_whole = match answer {
+        Answer::Keep(keep) => put_keep(keep, &mut out).is_ok(),
+        Answer::Back(back) => put_back(back, &mut out).is_ok(),
+    };
+    is_whole != text.is_empty() && out.bytes() == text.as_bytes()
+}
+
+fn are_answers(alloc: Global) -> bool {
+    for case in ANSWERS {
+        if !is_answer(alloc, case) {
+            return false;
+        }
+    }
+    true
 }
 
 #[test]

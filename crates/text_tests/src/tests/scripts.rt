@@ -43,6 +43,20 @@ pub(crate) fn script_of(alloc: Global, list: &Medl, text: &[u8]) -> Option<Scrip
     }
 }
 
+/// The list of a text, and the script of one for it, where both have one.
+pub(crate) fn read_both(alloc: Global, list: &str, script: &[u8]) -> Option<(Medl, Script)>
+    ensures valid { IfSome result (λ r. IsValid r.0) }
+    ensures script { IfSome result (λ r. IsValidScript r.0 r.1) }
+{
+    let Some(list) = list_of(alloc, list) else {
+        return None;
+    };
+    match script_of(alloc, &list, script) {
+        Some(script) => Some((list, script)),
+        None => None,
+    }
+}
+
 /// Lets a script go. A function of its own, since what a script holds is let go part by part in each function that
 /// may do so.
 pub(crate) fn let_go(_script: Script) {}
@@ -163,40 +177,6 @@ const LAST_FLIP: &[FlippedBit] = &[FlippedBit {
     bit: 2_047,
 }];
 
-fn has_events(script: &Script) -> bool {
-    script.events.as_slice().len() == 19
-        && script.flips(1, 0) == FIRST_FLIP
-        && script.flips(1, 19) == LAST_FLIP
-        && has_edges(script)
-}
-
-fn has_clocks(script: &Script) -> bool {
-    script.slots == 20
-        && script.on.as_slice() == [Some(0), None, None, Some(19)].as_slice()
-        && script.drift.as_slice() == [1_000, 0, 0, -1_000].as_slice()
-}
-
-/// Whether a host writes these bytes by the event at a place of a script.
-pub(crate) fn is_written(script: &Script, place: usize, host: u8, bytes: &[u8]) -> bool {
-    match script.write(place) {
-        Some(write) => write.host == host && write.payload.bytes() == bytes,
-        None => false,
-    }
-}
-
-fn has_writes(script: &Script) -> bool {
-    script.writes(3) == [10, 15].as_slice()
-        && is_written(script, 10, 1, &[0xaf, 0x09])
-        && is_written(script, 15, 2, &[0x0f, 0xf0])
-}
-
-fn has_late_writes(script: &Script) -> bool {
-    script.writes(4) == [11].as_slice()
-        && script.writes(19) == [17].as_slice()
-        && is_written(script, 11, 1, &[0xde, 0xad])
-        && is_written(script, 17, 1, &[0xff, 0xff])
-}
-
 const OF_NODE_1: HostRead = HostRead {
     host: 0,
     source: Source::Node(1),
@@ -221,27 +201,74 @@ const LAST_READS: &[HostRead] = &[HostRead {
     source: Source::Node(1),
 }];
 
-fn has_reads(script: &Script) -> bool {
-    script.reads(0) == FIRST_READS && script.reads(3) == READS && script.reads(19) == LAST_READS
+// A slot, the flipped bits of node 1 in it, the places of what hosts write in it, and what hosts read.
+type Slot = (
+    u32,
+    &'static [FlippedBit],
+    &'static [usize],
+    &'static [HostRead],
+);
+
+const SLOTS: &[Slot] = &[
+    (0, FIRST_FLIP, &[], FIRST_READS),
+    (3, &[], &[10, 15], READS),
+    (4, &[], &[11], &[]),
+    (19, LAST_FLIP, &[17], LAST_READS),
+];
+
+fn has_slots(script: &Script) -> bool {
+    for (slot, flips, writes, reads) in SLOTS {
+        if script.flips(1, *slot) != *flips
+            || script.writes(*slot) != *writes
+            || script.reads(*slot) != *reads
+        {
+            return false;
+        }
+    }
+    true
 }
 
-fn has_lines(script: &Script) -> bool {
-    has_clocks(script)
-        && has_events(script)
-        && has_writes(script)
-        && has_late_writes(script)
-        && has_reads(script)
+fn has_clocks(script: &Script) -> bool {
+    script.slots == 20
+        && script.events.as_slice().len() == 19
+        && script.on.as_slice() == [Some(0), None, None, Some(19)].as_slice()
+        && script.drift.as_slice() == [1_000, 0, 0, -1_000].as_slice()
+}
+
+/// Whether a host writes these bytes by the event at a place of a script.
+pub(crate) fn is_written(script: &Script, place: usize, host: u8, bytes: &[u8]) -> bool {
+    match script.write(place) {
+        Some(write) => write.host == host && write.payload.bytes() == bytes,
+        None => false,
+    }
+}
+
+// A place, the host that writes by the event there, and its bytes.
+const WRITTEN: &[(usize, u8, &[u8])] = &[
+    (10, 1, &[0xaf, 0x09]),
+    (15, 2, &[0x0f, 0xf0]),
+    (11, 1, &[0xde, 0xad]),
+    (17, 1, &[0xff, 0xff]),
+];
+
+fn has_writes(script: &Script) -> bool {
+    for (place, host, bytes) in WRITTEN {
+        if !is_written(script, *place, *host, bytes) {
+            return false;
+        }
+    }
+    true
 }
 
 // Whether the script with every form is read.
 fn is_every_form_read(alloc: Global) -> bool {
-    let Some(list) = list_of(alloc, FOUR_NODES) else {
+    let Some((_list, script)) = read_both(alloc, FOUR_NODES, EVERY_FORM) else {
         return false;
     };
-    let Some(script) = script_of(alloc, &list, EVERY_FORM) else {
-        return false;
-    };
-    let is_right = has_lines(&script);
+    let is_right = has_clocks(&script)
+        && has_edges(&script)
+        && has_slots(&script)
+        && has_writes(&script);
     let_go(script);
     is_right
 }

@@ -2,7 +2,7 @@
 ghost use Rattle.ttp_world.specs.Medl.{IsValid};
 ghost use Rattle.ttp_world.specs.Script.{IsValidScript};
 
-use super::scripts::{FOUR_NODES, let_go, list_of, script_of};
+use super::scripts::{FOUR_NODES, let_go, read_both};
 use std::alloc::Global;
 use trace_check::{Outcome, verify};
 use ttp_world::{Medl, Script};
@@ -39,10 +39,7 @@ fn is_told(alloc: Global, list: &Medl, script: &Script) -> bool
 
 // Whether it is so for four nodes and a script that switches none on.
 fn is_told_of_four(alloc: Global) -> bool {
-    let Some(list) = list_of(alloc, FOUR_NODES) else {
-        return false;
-    };
-    let Some(script) = script_of(alloc, &list, b"slots 1\n".as_slice()) else {
+    let Some((list, script)) = read_both(alloc, FOUR_NODES, b"slots 1\n") else {
         return false;
     };
     let is_right = is_told(alloc, &list, &script);

@@ -1,5 +1,6 @@
 //! A call of `lab` over a library and a sink in memory.
 use lab_top::lab;
+use std::alloc::Global;
 use std::thread::Threads;
 use ttp_base::{List, Memory, MemoryLibrary, MemorySink};
 
@@ -12,55 +13,38 @@ pub(crate) struct Call<'a> {
     pub(crate) bad_write: u32,
 }
 
-fn sink_of<R: AllocGlobal>(rt: &R, call: &Call<'_>) -> Result<MemorySink, Memory> {
-    let mut fails = List::new(rt.alloc());
+/// The sink of a call.
+pub(crate) fn sink_of(alloc: Global, call: &Call<'_>) -> Result<MemorySink, Memory> {
+    let mut fails = List::new(alloc);
     fails.push(call.bad_write)?;
-    MemorySink::new(rt.alloc(), 65_536, fails)
+    MemorySink::new(alloc, 65_536, fails)
 }
 
-fn library_of<R: AllocGlobal>(rt: &R, call: &Call<'_>) -> Result<MemoryLibrary, Memory> {
-    let mut library = MemoryLibrary::new(rt.alloc(), List::new(rt.alloc()));
+fn library_of(alloc: Global, call: &Call<'_>) -> Result<MemoryLibrary, Memory> {
+    let mut library = MemoryLibrary::new(alloc, List::new(alloc));
     for (name, text) in call.files {
         library.add(name, text.as_bytes())?;
     }
     Ok(library)
 }
 
-fn words_of<R: AllocGlobal>(rt: &R, call: &Call<'_>) -> Result<Vec<String>, Memory> {
-    let mut words = Vec::new(rt.alloc());
+fn words_of(alloc: Global, call: &Call<'_>) -> Result<Vec<String>, Memory> {
+    let mut words = Vec::new(alloc);
     for word in call.words {
-        words.push(String::from_str(rt.alloc(), word)?)?;
+        words.push(String::from_str(alloc, word)?)?;
     }
     Ok(words)
 }
 
-// The one call of `lab` here.
-fn run_lab<R: AllocGlobal + Threads + Sync>(
-    rt: &R,
-    words: &[String],
-    library: &mut MemoryLibrary,
-    out: &mut MemorySink,
-) -> u8 {
-    lab(rt, rt.alloc(), words, library, out)
-}
-
-// What a call answers to these words and writes.
-fn answer_to<R: AllocGlobal + Threads + Sync>(
-    rt: &R,
-    words: &[String],
-    call: &Call<'_>,
-) -> Result<(u8, Vec<u8>), Memory> {
-    let mut library = library_of(rt, call)?;
-    let mut out = sink_of(rt, call)?;
-    let status = run_lab(rt, words, &mut library, &mut out);
-    Ok((status, Vec::from_slice(rt.alloc(), out.bytes())?))
-}
-
-/// What a call answers and writes.
+/// What a call answers that writes into this sink, if there is memory.
 pub(crate) fn answer<R: AllocGlobal + Threads + Sync>(
     rt: &R,
     call: &Call<'_>,
-) -> Result<(u8, Vec<u8>), Memory> {
-    let words = words_of(rt, call)?;
-    answer_to(rt, &words, call)
+    out: &mut MemorySink,
+) -> Option<u8> {
+    let alloc = rt.alloc();
+    let (Ok(words), Ok(mut library)) = (words_of(alloc, call), library_of(alloc, call)) else {
+        return None;
+    };
+    Some(lab(rt, alloc, &words, &mut library, out))
 }

@@ -1,8 +1,7 @@
 //! Each command once, and sinks that fail at the first lines. What refuses a call is compared where the real
 //! program runs.
-use super::calls::{Call, answer};
+use super::calls::{Call, answer, sink_of};
 use std::thread::Threads;
-use ttp_base::Memory;
 
 // Five nodes, of which node 0 starts in slot 10.
 const LIST: &str =
@@ -56,10 +55,10 @@ fn has_front<R: AllocGlobal + Threads + Sync>(
     front: Option<&[u8]>,
 ) -> bool {
     let call = Call { bad_write, ..*call };
-    let Ok((status, written)) = answer(rt, &call) else {
+    let Ok(mut out) = sink_of(rt.alloc(), &call) else {
         return false;
     };
-    status == 6 && front == Some(written.as_slice())
+    answer(rt, &call, &mut out) == Some(6) && front == Some(out.bytes())
 }
 
 // Whether a sink that fails at one of the first lines of a text has those before it.
@@ -92,51 +91,42 @@ fn is_answered<R: AllocGlobal + Threads + Sync>(rt: &R, row: &Row, files: &[(&st
         files,
         bad_write: 0,
     };
-    let Ok((status, written)) = answer(rt, &call) else {
+    let Ok(mut out) = sink_of(rt.alloc(), &call) else {
         return false;
     };
-    let text = text_of(&written);
-    status == 0 && text.starts_with(line) && has_fronts(rt, &call, text)
-}
-
-// What `campaign` writes.
-fn campaign_of<R: AllocGlobal + Threads + Sync>(
-    rt: &R,
-    files: &[(&str, &str)],
-) -> Result<Vec<u8>, Memory> {
-    let call = Call {
-        words: CAMPAIGN,
-        files,
-        bad_write: 0,
-    };
-    let (_status, text) = answer(rt, &call)?;
-    Ok(text)
-}
-
-// All calls answer as their rows say, with these files.
-fn are_answered<R: AllocGlobal + Threads + Sync>(rt: &R, files: &[(&str, &str)]) -> bool {
-    for row in COMMANDS {
-        if !is_answered(rt, row, files) {
-            return false;
-        }
+    if answer(rt, &call, &mut out) != Some(0) {
+        return false;
     }
-    true
+    let text = text_of(out.bytes());
+    text.starts_with(line) && has_fronts(rt, &call, text)
 }
 
-fn are_answered_of_files<R: AllocGlobal + Threads + Sync>(rt: &R) -> bool {
-    let Ok(campaign) = campaign_of(rt, &[("list", LIST), ("script", SCRIPT)]) else {
+// The call that writes the campaign.
+const MADE: Call<'static> = Call {
+    words: CAMPAIGN,
+    files: &[("list", LIST), ("script", SCRIPT)],
+    bad_write: 0,
+};
+
+// All calls answer as their rows say.
+fn are_answered<R: AllocGlobal + Threads + Sync>(rt: &R) -> bool {
+    let Ok(mut campaign) = sink_of(rt.alloc(), &MADE) else {
         return false;
     };
+    let mut are_right = answer(rt, &MADE, &mut campaign) == Some(0);
     let files = [
         ("list", LIST),
         ("script", SCRIPT),
         ("trace", TRACE),
-        ("campaign", text_of(&campaign)),
+        ("campaign", text_of(campaign.bytes())),
     ];
-    are_answered(rt, &files)
+    for row in COMMANDS {
+        are_right = are_right && is_answered(rt, row, &files);
+    }
+    are_right
 }
 
 #[test]
 fn each_command_is_answered(rt: HostRuntime) {
-    assert!(rt; are_answered_of_files(&rt));
+    assert!(rt; are_answered(&rt));
 }

@@ -124,87 +124,79 @@ fn no_lines(rt: HostRuntime) {
     assert!(rt; are_lines(NO_LINES, false) && are_lines(NO_LINES_OF_NODES, false));
 }
 
-fn is_node(text: &[u8]) -> bool {
-    matches!(
-        read_line(text),
-        Some(TraceLine::Node {
-            slot: 23,
-            node: 2,
-            word: Word::Tentative,
-            peer: Some(3),
-            message: None,
-            wide: true,
-            accepted: 1,
-            rejected: 2,
-            ack: Ack::Doubt(3),
-            offset: -7,
-            ..
-        })
-    )
+// Which of these lines a text is, counted from 1; 0 is none of them.
+fn number_of(text: &[u8]) -> u32 {
+    match read_line(text) {
+        Some(
+            TraceLine::Node {
+                slot: 23,
+                node: 2,
+                word: Word::Tentative,
+                peer: Some(3),
+                message: None,
+                wide: true,
+                accepted: 1,
+                rejected: 2,
+                ack: Ack::Doubt(3),
+                offset: -7,
+                ..
+            },
+        ) => 1,
+        Some(
+            TraceLine::Header {
+                version: 2,
+                nodes: 24,
+                rounds: 64,
+                slots: 20_000,
+                schedule: 0xa0f1,
+            },
+        ) => 2,
+        Some(
+            TraceLine::Write {
+                slot: 17,
+                host: 2,
+                number: 1,
+            },
+        ) => 3,
+        Some(
+            TraceLine::Read {
+                slot: 17,
+                host: 0,
+                source: Source::Node(2),
+                number: 19,
+                ..
+            },
+        ) => 4,
+        Some(TraceLine::Keep(Keep::No { rule: 6, slot: 41 })) => 5,
+        Some(TraceLine::Back(Back::No { rule: 8, slot: 37 })) => 6,
+        _ => 0,
+    }
 }
 
-fn is_header(text: &[u8]) -> bool {
-    matches!(
-        read_line(text),
-        Some(TraceLine::Header {
-            version: 2,
-            nodes: 24,
-            rounds: 64,
-            slots: 20_000,
-            schedule: 0xa0f1,
-        })
-    )
-}
+// The texts of these lines, in their order.
+const VALUES: &[&str] = &[
+    "slot 23 node 2 tentative peer 3 msg - mem 80001b acc 1 rej 2 ack doubt:3 clock -7",
+    "ttpbench trace 2 nodes 24 rounds 64 slots 20000 schedule 00a0f1",
+    "slot 17 host 2 write 1",
+    "slot 17 host 0 read 2 19 0102ff",
+    "keeps no H6 41",
+    "returns no Q8 37",
+];
 
-fn is_write(text: &[u8]) -> bool {
-    matches!(
-        read_line(text),
-        Some(TraceLine::Write {
-            slot: 17,
-            host: 2,
-            number: 1,
-        })
-    )
-}
-
-fn is_read(text: &[u8]) -> bool {
-    matches!(
-        read_line(text),
-        Some(TraceLine::Read {
-            slot: 17,
-            host: 0,
-            source: Source::Node(2),
-            number: 19,
-            ..
-        })
-    )
-}
-
-fn is_keep(text: &[u8]) -> bool {
-    matches!(
-        read_line(text),
-        Some(TraceLine::Keep(Keep::No { rule: 6, slot: 41 }))
-    )
-}
-
-fn is_back(text: &[u8]) -> bool {
-    matches!(
-        read_line(text),
-        Some(TraceLine::Back(Back::No { rule: 8, slot: 37 }))
-    )
+fn have_values() -> bool {
+    let mut number = 0u32;
+    for text in VALUES {
+        number = number.wrapping_add(1);
+        if number_of(text.as_bytes()) != number {
+            return false;
+        }
+    }
+    true
 }
 
 #[test]
 fn values_of_lines(rt: HostRuntime) {
-    assert!(rt;
-        is_node(
-            b"slot 23 node 2 tentative peer 3 msg - mem 80001b acc 1 rej 2 ack doubt:3 clock -7"
-        ) && is_header(b"ttpbench trace 2 nodes 24 rounds 64 slots 20000 schedule 00a0f1")
-            && is_write(b"slot 17 host 2 write 1")
-            && is_read(b"slot 17 host 0 read 2 19 0102ff")
-            && is_keep(b"keeps no H6 41")
-            && is_back(b"returns no Q8 37")
-    );
+    assert!(rt; have_values());
 }
 
 // The longest message has 240 bytes.

@@ -1,4 +1,9 @@
+use Rattle.std.proofs.Common.{◌≡◌, subst, arith}
+use Rattle.hypothesis.specs.FaultyRuns.{KnowsBack}
 use Rattle.text_tests.proofs.tests.faulty.back_after.Goals as goal
 
-pub step-requires-clause-at : goal.step-requires-clause-at
-step-requires-clause-at c = c.forgetting-again.ensures c.args.list.now c.args.script.now c.args.last c.back_walk-walk.ensures.known
+pub step-requires-2-clause-at : goal.step-requires-2-clause-at
+step-requires-2-clause-at c =
+    let all : c.loop-slot.slot ≡ c.args.last = omega (arith, c.loop-slot.auto.slot-end, c.loop-slot-test.false) in
+    c.forgetting-again.ensures c.args.list.now c.args.script.now c.args.last
+    (subst (λ s. KnowsBack c.args.list.now c.args.script.now s c.loop-slot.walk) all c.loop-slot.invariant.known)
