@@ -66,7 +66,7 @@ fn put_band<K: Sink>(frame: Frame, band: u32, sheet: &mut Sheet, out: &mut K)
 }
 
 /// Writes the names of the rows of all bands.
-#[tactic(auto, using(crate::proofs::Puts::puts))]
+#[tactic(auto, using(crate::proofs::Puts::puts_none, crate::proofs::Puts::puts_below))]
 pub(crate) fn put_bands<K: Sink>(frame: Frame, sheet: &mut Sheet, out: &mut K)
     ensures { Puts sheet.old.failed (K.output out.old) sheet.new.failed (K.output out.new)
         (lines_below (band_lines frame.head.nodes frame.span) (bands frame.head.nodes frame.span)) }

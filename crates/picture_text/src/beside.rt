@@ -94,7 +94,7 @@ fn put_why<K: Sink>(
 }
 
 // Writes why nodes left.
-#[tactic(auto, using(crate::proofs::Puts::puts))]
+#[tactic(auto, using(crate::proofs::Puts::puts_none, crate::proofs::Puts::puts_below))]
 fn put_whys<K: Sink>(frame: Frame, slot: u32, shown: &SlotShown<'_>, sheet: &mut Sheet, out: &mut K)
     ensures { Puts sheet.old.failed (K.output out.old) sheet.new.failed (K.output out.new)
         (lines_below (why_lines frame.head.nodes frame.span slot shown.now) frame.head.nodes) }
@@ -189,7 +189,7 @@ fn put_marks<K: Sink>(
 }
 
 /// Writes what stands beside the cells of a slot.
-#[tactic(auto, using(crate::proofs::Puts::puts))]
+#[tactic(auto, using(crate::proofs::Puts::puts_then))]
 pub(crate) fn put_beside<K: Sink>(
     frame: Frame,
     slot: u32,

@@ -229,7 +229,7 @@ fn put_number<K: Sink>(frame: Frame, slot: u32, sheet: &mut Sheet, out: &mut K)
 }
 
 // Writes the cell of the members.
-#[tactic(auto, using(crate::proofs::Puts::puts))]
+#[tactic(auto, using(crate::proofs::Puts::puts_then))]
 fn put_members<K: Sink>(
     frame: Frame,
     slot: u32,

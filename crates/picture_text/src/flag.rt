@@ -159,7 +159,7 @@ fn put_flag_of<K: Sink>(frame: Frame, back: Back, sheet: &mut Sheet, out: &mut K
 }
 
 /// Writes it where the trace has such an answer.
-#[tactic(auto, using(crate::proofs::Puts::puts))]
+#[tactic(auto, using(crate::proofs::Puts::puts_then, crate::proofs::Puts::puts_none))]
 pub(crate) fn put_back_flag<K: Sink>(
     frame: Frame,
     back: Option<Back>,

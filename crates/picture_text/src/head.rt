@@ -72,7 +72,7 @@ fn make_word_style(line: &mut Line, word: Word)
 }
 
 // Writes the styles of the words.
-#[tactic(auto, using(crate::proofs::Puts::puts))]
+#[tactic(auto, using(crate::proofs::Puts::puts_none, crate::proofs::Puts::puts_next))]
 fn put_word_styles<K: Sink>(sheet: &mut Sheet, out: &mut K)
     ensures { Puts sheet.old.failed (K.output out.old) sheet.new.failed (K.output out.new) (map word_style words) }
 {
@@ -91,7 +91,7 @@ fn make_style(line: &mut Line, number: u8)
 }
 
 // Writes the styles behind those of the words.
-#[tactic(auto, using(crate::proofs::Puts::puts))]
+#[tactic(auto, using(crate::proofs::Puts::puts_none, crate::proofs::Puts::puts_next))]
 fn put_plain_styles<K: Sink>(sheet: &mut Sheet, out: &mut K)
     ensures { Puts sheet.old.failed (K.output out.old) sheet.new.failed (K.output out.new) (map ended styles) }
 {

@@ -169,7 +169,7 @@ fn make_none(line: &mut Line, slot: u32, at: Corner)
 }
 
 /// Writes the cell of the members that the nodes of a slot hold, where `found` are its memberships.
-#[tactic(auto, using(crate::proofs::Puts::puts))]
+#[tactic(auto, using(crate::proofs::Puts::puts_then, crate::proofs::Puts::puts_none))]
 pub(crate) fn put_members_cell<K: Sink>(
     head: &Head,
     slot: u32,

@@ -33,100 +33,72 @@ pub(crate) fn word_number(number: u8) -> Word
     }
 }
 
+// In the order of `Word`.
+const LETTERS: [&str; 15] = [
+    "o", "w", "r", "g", "S", "J", "s", "c", "t", "i", "v", "n", "D", "U", "Q",
+];
+
 /// The letter of a word.
 pub(crate) fn letter(word: Word) -> &'static str
     ensures text { result.now ≡ letter word }
     ensures short { length result.now ≤ 1 }
 {
-    match word {
-        Word::Off => "o",
-        Word::Wait => "w",
-        Word::Retry => "r",
-        Word::Gone => "g",
-        Word::Start => "S",
-        Word::Join => "J",
-        Word::Send => "s",
-        Word::Correct => "c",
-        Word::Tentative => "t",
-        Word::Incorrect => "i",
-        Word::Invalid => "v",
-        Word::Null => "n",
-        Word::Denied => "D",
-        Word::Unacknowledged => "U",
-        Word::Clique => "Q",
-    }
+    LETTERS[word as usize]
 }
+
+// In the order of `Word`.
+const CELL_COLOURS: [&str; 15] = [
+    "#ffffff", "#f0f0f0", "#cfcfcf", "#d9d9d9", "#004b7c", "#56b4e9", "#0072b2", "#e3f2fb",
+    "#f0e442", "#e69f00", "#cc79a7", "#ffffff", "#b03a00", "#b03a00", "#b03a00",
+];
 
 /// The colour of its cells.
 pub(crate) fn cell_colour(word: Word) -> &'static str
     ensures text { result.now ≡ cell_colour word }
     ensures short { length result.now ≤ 7 }
 {
-    match word {
-        Word::Off => "#ffffff",
-        Word::Wait => "#f0f0f0",
-        Word::Retry => "#cfcfcf",
-        Word::Gone => "#d9d9d9",
-        Word::Start => "#004b7c",
-        Word::Join => "#56b4e9",
-        Word::Send => "#0072b2",
-        Word::Correct => "#e3f2fb",
-        Word::Tentative => "#f0e442",
-        Word::Incorrect => "#e69f00",
-        Word::Invalid => "#cc79a7",
-        Word::Null => "#ffffff",
-        Word::Denied => "#b03a00",
-        Word::Unacknowledged => "#b03a00",
-        Word::Clique => "#b03a00",
-    }
+    CELL_COLOURS[word as usize]
 }
+
+// In the order of `Word`.
+const LETTER_COLOURS: [&str; 15] = [
+    "#9a9a9a", "#8a8a8a", "#000000", "#a6a6a6", "#ffffff", "#000000", "#ffffff", "#6c8798",
+    "#000000", "#000000", "#000000", "#000000", "#ffffff", "#ffffff", "#ffffff",
+];
 
 /// The colour of its letter.
 pub(crate) fn letter_colour(word: Word) -> &'static str
     ensures text { result.now ≡ letter_colour word }
     ensures short { length result.now ≤ 7 }
 {
-    match word {
-        Word::Off => "#9a9a9a",
-        Word::Wait => "#8a8a8a",
-        Word::Retry => "#000000",
-        Word::Gone => "#a6a6a6",
-        Word::Start => "#ffffff",
-        Word::Join => "#000000",
-        Word::Send => "#ffffff",
-        Word::Correct => "#6c8798",
-        Word::Tentative => "#000000",
-        Word::Incorrect => "#000000",
-        Word::Invalid => "#000000",
-        Word::Null => "#000000",
-        Word::Denied => "#ffffff",
-        Word::Unacknowledged => "#ffffff",
-        Word::Clique => "#ffffff",
-    }
+    LETTER_COLOURS[word as usize]
 }
+
+// In the order of `Word`.
+const WORD_MEANINGS: [&str; 15] = [
+    "is off",
+    "listens",
+    "withdraws its cold start",
+    "left earlier",
+    "sent its cold-start frame",
+    "joined on a frame",
+    "sent its frame",
+    "accepted the frame",
+    "its own frame may be lost",
+    "a frame that does not fit",
+    "a spoilt frame",
+    "heard nothing",
+    "left: its frame was lost",
+    "left: no answer",
+    "left: it was outvoted",
+];
 
 /// What it means.
 pub(crate) fn word_meaning(word: Word) -> &'static str
     ensures text { result.now ≡ word_meaning word }
     ensures short { length result.now ≤ 25 }
 {
-    match word {
-        Word::Off => "is off",
-        Word::Wait => "listens",
-        Word::Retry => "withdraws its cold start",
-        Word::Gone => "left earlier",
-        Word::Start => "sent its cold-start frame",
-        Word::Join => "joined on a frame",
-        Word::Send => "sent its frame",
-        Word::Correct => "accepted the frame",
-        Word::Tentative => "its own frame may be lost",
-        Word::Incorrect => "a frame that does not fit",
-        Word::Invalid => "a spoilt frame",
-        Word::Null => "heard nothing",
-        Word::Denied => "left: its frame was lost",
-        Word::Unacknowledged => "left: no answer",
-        Word::Clique => "left: it was outvoted",
-    }
+    WORD_MEANINGS[word as usize]
 }
 
 /// How many styles there are behind those of the words.
