@@ -1,7 +1,7 @@
 #!/usr/bin/env python3
 """Times `Check` over buffers of 16, 64 and 256 bytes and of 1 MiB, beside a byte-table loop in C.
 
-It builds a program over ttp_check in a temporary repository, which proves what `rt` has not proved
+It builds a program over ttp_frame in a temporary repository, which proves what `rt` has not proved
 before, and, where there is a C compiler, the same loop in C at -O2. Each takes the word of a buffer
 many times, each from the word before; both must get the same words. For each size it prints the
 bytes a second of both, by the least time of some runs, and the ratio. It prints figures alone;
@@ -21,7 +21,7 @@ RATTLE = """//! Prints for each size and run: size, times, nanoseconds, word.
 
 use std::io;
 use std::time::{Clock, Instant};
-use ttp_check::Check;
+use ttp_frame::check_word::Check;
 
 #[inline(never)]
 fn word_of(bytes: &[u8], times: u32) -> u32 {
@@ -123,7 +123,7 @@ def figures_of(program):
 def main():
     with tempfile.TemporaryDirectory() as folder:
         loop = c_program(folder, filled(C, "{", "}"))
-        ours, words = figures_of(rattle_program(folder, "check_speed", "ttp_check", filled(RATTLE, "(", ")")))
+        ours, words = figures_of(rattle_program(folder, "check_speed", "ttp_frame", filled(RATTLE, "(", ")")))
         theirs, their_words = figures_of(loop) if loop else ({}, words)
         if words != their_words:
             sys.exit(f"the words differ: {words} {their_words}")

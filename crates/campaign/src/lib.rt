@@ -15,7 +15,7 @@
 //! those of the tests, and go on past a slot that breaks the rule on losses.
 //!
 //! The whole text is `campaign_lines`, which `put_campaign` of fault_runs writes. `a_quiet_run` of
-//! campaign_rows has one of its lines:
+//! lab_rows has one of its lines:
 //!
 //! ```text
 //! ensures own { own_line five (summary five quiet)

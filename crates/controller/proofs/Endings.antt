@@ -16,7 +16,7 @@ use Rattle.controller.proofs.Words.{near_of_test, is_corrected, join_deviation, 
 use Rattle.ttp_world.specs.Reception.{Expected, Hearing, entry_deviation, expected_of, heard_deviation, is_taken_from_a}
 use Rattle.ttp_world.specs.Reception.{verdict_of, view_of, better_view, is_expected_form, is_within_window}
 use Rattle.ttp_world.specs.Reception.{verdict_of_view, view_of_frame}
-use Rattle.ack_check.specs.Moves.{taken_verdict}
+use Rattle.node_parts.specs.Moves.{taken_verdict}
 use Rattle.controller.specs.ControllerWithin.{IsPossible, IsPlannedWithin, IsControllerWithin, IsTurnWithin}
 use Rattle.controller.proofs.Heard.{signal_from, clock_from, shows_a, shows_b}
 use Rattle.controller.proofs.Sets.{joinable-within}

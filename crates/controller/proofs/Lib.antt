@@ -3,10 +3,13 @@ pub mod Flags
 pub mod Heard
 pub mod InSlot
 pub mod KnownFrames
+pub mod LaterEvents
 pub mod Near
 pub mod Parts
 pub mod Payloads
 pub mod Plants
+pub mod SameSlots
+pub mod SameWorlds
 pub mod Sets
 pub mod Standing
 pub mod Stints

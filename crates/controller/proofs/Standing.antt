@@ -16,7 +16,7 @@ use Rattle.controller.specs.StandsFor.{message_planned, payload_planned, Begins,
 use Rattle.controller.specs.StandsFor.{Ends}
 use Rattle.ttp_world.proofs.Entries.{new_entry-follows}
 use Rattle.ttp_world.proofs.Pasts.{past_of-cons}
-use Rattle.cold_start.specs.Listening.{most_silent}
+use Rattle.node_parts.specs.Listening.{most_silent}
 use Rattle.controller.proofs.Heard.{silence-shown}
 use Rattle.controller.proofs.Stints.{limit_of-within, correction_after-take}
 use Rattle.ttp_world.specs.declared.node.Entry.TheVariants as entry

@@ -8,9 +8,9 @@ use Rattle.controller.proofs.Words.{IsPastWithin, IsEntryWithin, option_to_list,
 use Rattle.controller.proofs.Words.{ack_answered, members_after, next_place, limit_of, IsPlaceOf, IsPlaceOf-next}
 use Rattle.controller.proofs.Words.{members_after-Judged, slots_to_own, IsJudgedWithin, IfSome-cond, fta-take, AreNodes}
 use Rattle.controller.proofs.Words.{is_corrected, AreNodes-filter, AreNodes-nil}
-use Rattle.ack_check.specs.Moves.{IsMoveOf, moved_members, IsDoubtElsewhere}
+use Rattle.node_parts.specs.Moves.{IsMoveOf, moved_members, IsDoubtElsewhere}
 use Rattle.ttp_world.specs.Counts.{is_rejection}
-use Rattle.ack_check.specs.declared.moves.AckMove.{AckMove}
+use Rattle.node_parts.specs.declared.acknowledgement.moves.AckMove.{AckMove}
 use Rattle.ttp_world.specs.declared.node.Ack.TheVariants as ack
 use Rattle.ttp_world.specs.declared.node.Entry.TheVariants as entry
 use Rattle.ttp_world.specs.declared.node.Verdict.TheVariants as verdict

@@ -19,7 +19,7 @@ pub use Rattle.controller.specs.Within.{IsNearEnough, IsPastWithin, slots_to_own
 pub use Rattle.controller.specs.declared.controller.Intent.{Intent}
 pub use Rattle.controller.specs.declared.controller.Outcome.{Outcome}
 pub use Rattle.controller.specs.declared.seat.Seat.{Seat}
-pub use Rattle.fta_sync.specs.StandsFor.{IsDeviation, kept_notes}
+pub use Rattle.node_parts.specs.Notes.{IsDeviation, kept_notes}
 pub use Rattle.medium.specs.Carried.{Carried}
 pub use Rattle.medium.specs.Shows.{IsPartOf, Shows}
 pub use Rattle.medium.specs.declared.arrival.Arrival.{Arrival}

@@ -17,7 +17,7 @@ use Rattle.ttp_world.specs.Reception.{Expected as Awaited}
 use Rattle.medium.specs.declared.arrival.Arrival.{Arrival}
 use Rattle.medium.specs.declared.arrival.Arrival.TheVariants as arrival
 use Rattle.medium.specs.Shows.{Shows}
-use Rattle.slot_clock.specs.StandsFor.{ClockStandsFor}
+use Rattle.node_parts.specs.ClockStandsFor.{ClockStandsFor}
 use Rattle.controller.specs.declared.hearing.Expected.{Expected}
 use Rattle.controller.specs.declared.hearing.Judgement.{Judgement}
 use Rattle.controller.specs.declared.hearing.Receiver.{Receiver}

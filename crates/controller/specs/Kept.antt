@@ -1,8 +1,8 @@
 -- What a node keeps of its past.
 use Rattle.std.specs.Prelude.{min, take}
 use Rattle.ttp_world.specs.Past.{NodePast}
-use Rattle.cold_start.specs.Listening.{most_silent}
-use Rattle.fta_sync.specs.StandsFor.{kept_notes}
+use Rattle.node_parts.specs.Listening.{most_silent}
+use Rattle.node_parts.specs.Notes.{kept_notes}
 
 -- all that the rules ask of it, but of the silent slots no more than the largest limit there is, and of the notes the
 -- last four

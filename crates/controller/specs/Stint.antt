@@ -5,7 +5,7 @@ use Rattle.ttp_world.specs.declared.node.Entry.{Entry}
 use Rattle.ttp_world.specs.After.{place_after, members_after, accepted_after, rejected_after, ack_after}
 use Rattle.ttp_world.specs.After.{cold_start_after, notes_after}
 use Rattle.ttp_world.specs.Past.{NodePast}
-use Rattle.fta_sync.specs.StandsFor.{kept_notes}
+use Rattle.node_parts.specs.Notes.{kept_notes}
 
 -- what one more entry makes of node k's stint, where the last four notes are kept
 abbrev pub stint_after : Medl → ℕ → NodePast → Entry → NodePast

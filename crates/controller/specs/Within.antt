@@ -14,8 +14,8 @@ use Rattle.ttp_world.specs.Act.{coming_place}
 use Rattle.ttp_world.specs.Diary.{phase_after, SlotSurroundings}
 use Rattle.ttp_world.specs.Membership.{AreNodes}
 use Rattle.ttp_world.specs.Past.{NodePast}
-use Rattle.ack_check.specs.Moves.{taken_verdict}
-use Rattle.fta_sync.specs.StandsFor.{kept_notes, IsDeviation}
+use Rattle.node_parts.specs.Moves.{taken_verdict}
+use Rattle.node_parts.specs.Notes.{kept_notes, IsDeviation}
 
 -- how many slots node k's own slot comes after a slot of the list: a whole round after its own
 abbrev pub slots_to_own : Medl → ℕ → ℕ → ℕ

@@ -1,9 +1,9 @@
 //! The form of the frame that the list gives for a slot.
-ghost use Rattle.slot_clock.specs.StandsFor.{ClockStandsFor};
+ghost use Rattle.node_parts.specs.ClockStandsFor.{ClockStandsFor};
 ghost use Rattle.ttp_world.specs.Medl.{IsValid};
 ghost use Rattle.controller.specs.Hearing.{IsFormOf};
 
-use slot_clock::SlotClock;
+use node_parts::slot_clock::SlotClock;
 use ttp_frame::Expect;
 use ttp_world::Medl;
 

@@ -6,13 +6,13 @@ ghost use Rattle.std.specs.Prelude.{◌≡◌, true};
 ghost use Rattle.ttp_frame.specs.Shape.{HaveRoom};
 ghost use Rattle.ttp_world.specs.Diary.{cstate_at, joined_place};
 ghost use Rattle.ttp_world.specs.Medl.{IsValid, is_wide};
-ghost use Rattle.slot_clock.specs.StandsFor.{ClockStandsFor};
+ghost use Rattle.node_parts.specs.ClockStandsFor.{ClockStandsFor};
 ghost use Rattle.controller.specs.KnownFrame.{BytesAre, IsKnownOf, IsSameState, found_by};
 ghost use Rattle.controller.specs.KnownFrames.{AreKnownOf};
 
 use crate::form::form_of;
 use medium::Arrival;
-use slot_clock::SlotClock;
+use node_parts::slot_clock::SlotClock;
 use std::marker::Model;
 use std::snapshot::Snapshot;
 use ttp_base::NodeSet;

@@ -1,7 +1,7 @@
 //! A law of plants. The function does nothing; its contract is the law.
 ghost use Rattle.ttp_world.specs.declared.script.Script.{Script};
 ghost use Rattle.ttp_world.specs.Diary.{History};
-ghost use Rattle.earlier_slots.specs.Agreement.{AgreeBelow};
+ghost use Rattle.controller.specs.Agreement.{AgreeBelow};
 ghost use Rattle.controller.specs.PlantStands.{PlantStandsFor};
 ghost use Rattle.controller.specs.PlantView.{PlantView};
 

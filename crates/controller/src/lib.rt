@@ -34,6 +34,7 @@
 #![tactic(auto)]
 
 mod controller;
+pub mod earlier_slots;
 mod ending;
 mod form;
 mod hearing;

@@ -7,20 +7,20 @@ ghost use Rattle.ttp_world.specs.Diary.{phase_after, cstate_at};
 ghost use Rattle.ttp_world.specs.Medl.{IsValid};
 ghost use Rattle.ttp_world.specs.Messages.{has_averaged};
 ghost use Rattle.ttp_world.specs.Past.{state_of, no_past};
-ghost use Rattle.cold_start.specs.Listening.{most_silent, is_silent};
-ghost use Rattle.fta_sync.specs.StandsFor.{IsDeviation};
-ghost use Rattle.slot_clock.specs.StandsFor.{ClockStandsFor};
+ghost use Rattle.node_parts.specs.Listening.{most_silent, is_silent};
+ghost use Rattle.node_parts.specs.Notes.{IsDeviation};
+ghost use Rattle.node_parts.specs.ClockStandsFor.{ClockStandsFor};
 ghost use Rattle.controller.specs.Kept.{kept};
 ghost use Rattle.controller.specs.Within.{IsPastWithin, IsEntryWithin, AreChangesWithin, IsChange};
 
 mod acting;
 mod stint;
 
-use ack_check::AckState;
-use cold_start::{Heard, Listener};
-use fta_sync::Measures;
-use member_clique::Clique;
-use slot_clock::SlotClock;
+use node_parts::acknowledgement::AckState;
+use node_parts::cold_start::{Heard, Listener};
+use node_parts::fta_sync::Measures;
+use node_parts::members::Clique;
+use node_parts::slot_clock::SlotClock;
 use std::marker::Model;
 use stint::next_clock;
 use ttp_base::NodeSet;

@@ -18,8 +18,8 @@ use Rattle.ttp_world.specs.Diary.{entry_of}
 use Rattle.ttp_world.specs.Medium.{is_sending}
 use Rattle.campaign.specs.Tried.{losses_from, losses_of, jump_sizes, jumps_of, faults_of}
 use Rattle.campaign.specs.Tried.{is_hearing, is_timed, faults_from}
-use Rattle.seen_costs.specs.States.{off_state, AreShown}
-use Rattle.seen_costs.proofs.Rows.{length-zeros, next_row, zeros-next}
+use Rattle.run_costs.specs.States.{off_state, AreShown}
+use Rattle.run_costs.proofs.Rows.{length-zeros, next_row, zeros-next}
 
 -- of those that pass a test, or nothing of the others
 flat_map-filter-if : {X : Type 0} (p : ℕ → Bool) (f : ℕ → List X) (k : ℕ) (ks : List ℕ) (b : Bool)

@@ -4,7 +4,7 @@ ghost use Rattle.ttp_world.specs.declared.script.Script.{Script};
 ghost use Rattle.ttp_world.specs.Medl.{IsValid};
 ghost use Rattle.ttp_world.specs.Script.{IsValidScript};
 ghost use Rattle.campaign.specs.ZerosWorld.{zeros_world};
-ghost use Rattle.seen_costs.specs.States.{AreShown};
+ghost use Rattle.run_costs.specs.States.{AreShown};
 ghost use Rattle.fault_runs.specs.Tries.{IsOwnAfter};
 
 use run_costs::SeenRun;

@@ -17,7 +17,7 @@ use Rattle.ttp_frame.specs.declared.judging.FrameMatch.TheVariants.{Match, Diffe
 use Rattle.ttp_frame.proofs.Flips.{length-xor_bytes}
 use Rattle.ttp_frame.proofs.FlippedFrames.{AreAlike, AreAlike-flipped, match_of-alike, is_formed-alike, joinable-alike}
 use Rattle.ttp_frame.proofs.Frames.{length-frame}
-use Rattle.ttp_check.specs.Bytes.{xor_bytes}
+use Rattle.ttp_frame.specs.Bytes.{xor_bytes}
 use Rattle.frame_fates.proofs.FlipMasks.{mask_of, flip_bits-mask, length-mask_of, mask_of-AreBytes}
 
 -- bytes that each receiver of a list sees alike, and on which a listening node joins alike

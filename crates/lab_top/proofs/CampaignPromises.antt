@@ -23,7 +23,7 @@ use Rattle.commands.proofs.Fronts.{list_from-front, script_from-front}
 use Rattle.commands.proofs.Plans.{AllAsk, all_asked, all_come, both_every, end_comes, told_comes}
 use Rattle.commands.proofs.Promises.{wrote_nothing}
 use Rattle.commands.proofs.Told.{Quiet, told_shows, told_cut, told_leaves}
-use Rattle.campaign_laws.proofs.SafeLines.{campaign_lines-safe}
+use Rattle.lab_laws.proofs.SafeLines.{campaign_lines-safe}
 use Rattle.lab_top.specs.CampaignPromise.{MayBeBoth, WroteCampaign, WroteSafe, BeganCampaign, ToldList, ToldScript}
 use Rattle.lab_top.specs.CampaignPromise.{CampaignPromise}
 use Rattle.lab_top.specs.Forms.{campaign_ending, campaign_plan}

@@ -9,8 +9,8 @@ use Rattle.ttp_world.specs.declared.medl.Medl.{Medl}
 use Rattle.ttp_world.specs.declared.script.Script.{Script}
 use Rattle.campaign.specs.Lines.{campaign_lines}
 use Rattle.wave_text.proofs.DeclaredLines.{wave_lines-each}
-use Rattle.picture_laws.proofs.LinesAndTitles.{picture_lines-each}
-use Rattle.chart_laws.proofs.CampaignsRead.{campaign-draws}
+use Rattle.lab_laws.proofs.LinesAndTitles.{picture_lines-each}
+use Rattle.lab_laws.proofs.CampaignsRead.{campaign-draws}
 use Rattle.commands.specs.declared.read.FileFault.{FileFault}
 use Rattle.commands.specs.Files.{refused_list, refused_script}
 use Rattle.commands.specs.Lines.{AreLines}

@@ -7,7 +7,7 @@ use Rattle.ttp_world.specs.Medl.{IsValid}
 use Rattle.ttp_world.specs.Script.{IsValidScript}
 use Rattle.ttp_base.specs.Text.{Lines}
 use Rattle.campaign.specs.Lines.{campaign_lines}
-use Rattle.campaign_laws.specs.SafeLines.{IsSafeLine}
+use Rattle.lab_laws.specs.SafeLines.{IsSafeLine}
 use Rattle.fault_runs.specs.Ends.{WroteFewer}
 use Rattle.commands.specs.declared.read.FileFault.{FileFault}
 use Rattle.commands.specs.Faults.{file_fault_line}

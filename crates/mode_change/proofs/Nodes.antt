@@ -15,7 +15,7 @@ use Rattle.ttp_world.specs.After.{place_after}
 use Rattle.ttp_world.specs.Diary.{History, entry_of, diary_of, Place, no_place, place_of}
 use Rattle.ttp_world.specs.Outgoing.{nothing_chosen}
 use Rattle.ttp_world.specs.World.{chosen_of}
-use Rattle.slot_clock.specs.StandsFor.{ClockStandsFor}
+use Rattle.node_parts.specs.ClockStandsFor.{ClockStandsFor}
 use Rattle.controller.specs.PlantStands.{outcome_at, ShowsNode}
 use Rattle.controller.specs.PlantView.{PlantView}
 use Rattle.mode_change.specs.declared.node.NodeModes.{NodeModes}

@@ -13,7 +13,7 @@ use Rattle.ttp_world.specs.Legal.{IsLegalRun}
 use Rattle.ttp_world.specs.Messages.{delivered_of}
 use Rattle.ttp_world.specs.Trace.{trace_head, history_lines, trace_lines}
 use Rattle.ttp_world.specs.World.{Numbers, chosen_of, world}
-use Rattle.slot_clock.specs.StandsFor.{ClockStandsFor}
+use Rattle.node_parts.specs.ClockStandsFor.{ClockStandsFor}
 use Rattle.controller.specs.PlantStands.{PlantStandsFor, outcome_at}
 use Rattle.controller.specs.PlantView.{PlantView}
 use Rattle.trace_check.specs.Outgoing.{HoldsNewest}

@@ -4,12 +4,12 @@ ghost use Rattle.std.specs.Option.{option_copied};
 ghost use Rattle.ttp_world.specs.After.{place_after};
 ghost use Rattle.ttp_world.specs.Diary.{Place, no_place, start_place};
 ghost use Rattle.ttp_world.specs.Medl.{IsValid};
-ghost use Rattle.slot_clock.specs.StandsFor.{ClockStandsFor, StandsAtNext};
+ghost use Rattle.node_parts.specs.ClockStandsFor.{ClockStandsFor, StandsAtNext};
 ghost use Rattle.mode_change.specs.Knowing.{IsJoinOfList, IsFromList, AreSmall, mode_by};
 ghost use Rattle.mode_change.specs.Modes.{mode_asked, mode_delivered, no_modes, modes_with, with_request, ends_cycle};
 ghost use Rattle.mode_change.specs.Modes.{switched_at, is_live, is_delivery_live};
 
-use slot_clock::SlotClock;
+use node_parts::slot_clock::SlotClock;
 use ttp_base::NodeSet;
 use ttp_world::{CState, Chosen, Delivered, Entry, Medl};
 

@@ -11,7 +11,7 @@ use Rattle.ttp_world.specs.Medl.{IsValid}
 use Rattle.ttp_world.specs.Past.{state_of}
 use Rattle.ttp_world.specs.World.{slot_after, step, node_past}
 use Rattle.campaign.specs.ZerosWorld.{all_zeros, zeros_world}
-use Rattle.seen_costs.specs.States.{off_state, AreShown}
+use Rattle.run_costs.specs.States.{off_state, AreShown}
 use Rattle.controller.specs.Passes.{AreChosen}
 use Rattle.controller.specs.PlantStands.{PlantStandsFor, MayStep, Steps}
 use Rattle.controller.specs.PlantView.{PlantView}

@@ -1,1 +1,5 @@
+pub mod FaultyAt
+pub mod Later
 pub mod Standing
+pub mod States
+pub mod Told

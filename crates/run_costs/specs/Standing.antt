@@ -5,10 +5,10 @@ use Rattle.ttp_world.specs.declared.medl.Medl.{Medl}
 use Rattle.ttp_world.specs.declared.node.NodeState.{NodeState}
 use Rattle.ttp_world.specs.declared.script.Script.{Script}
 use Rattle.campaign.specs.ZerosWorld.{all_zeros, zeros_world}
-use Rattle.seen_costs.specs.States.{state_at, AreShown}
+use Rattle.run_costs.specs.States.{state_at, AreShown}
 use Rattle.controller.specs.PlantStands.{PlantStandsFor, ShowsNode}
 use Rattle.controller.specs.PlantView.{PlantView}
-use Rattle.seen_costs.specs.Told.{IsSeenOf}
+use Rattle.run_costs.specs.Told.{IsSeenOf}
 use Rattle.run_costs.specs.declared.run.Run.{Run}
 use Rattle.run_costs.specs.declared.seen_run.SeenRun.{SeenRun}
 

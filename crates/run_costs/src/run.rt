@@ -5,7 +5,7 @@ ghost use Rattle.ttp_world.specs.declared.script.Script.{Script};
 ghost use Rattle.ttp_world.specs.Medl.{IsValid};
 ghost use Rattle.ttp_world.specs.Script.{IsValidScript};
 ghost use Rattle.campaign.specs.ZerosWorld.{zeros_world};
-ghost use Rattle.seen_costs.specs.States.{AreShown};
+ghost use Rattle.run_costs.specs.States.{AreShown};
 ghost use Rattle.run_costs.specs.Standing.{AreOfPlant, IsRunAfter};
 
 use crate::zeros::all_zeros;

@@ -6,14 +6,14 @@ ghost use Rattle.ttp_world.specs.Script.{IsValidScript};
 ghost use Rattle.campaign.specs.Cost.{cost_of};
 ghost use Rattle.campaign.specs.Tried.{with_fault};
 ghost use Rattle.campaign.specs.ZerosWorld.{zeros_world};
-ghost use Rattle.seen_costs.specs.Later.{comes_later};
-ghost use Rattle.seen_costs.specs.States.{AreShown};
+ghost use Rattle.run_costs.specs.Later.{comes_later};
+ghost use Rattle.run_costs.specs.States.{AreShown};
 ghost use Rattle.run_costs.specs.Standing.{IsRunOfList, IsSeenAfter};
 
 use crate::run::Run;
+use crate::seen_costs::SeenCost;
 use campaign::Cost;
 use controller::laws::plants_of_scripts_that_agree;
-use seen_costs::SeenCost;
 use std::alloc::Global;
 use ttp_base::Memory;
 use ttp_world::{Event, Medl, NodeState, Script};

@@ -16,7 +16,7 @@ use Rattle.fault_plan.proofs.Returns.{enters-late}
 use Rattle.safety_laws.proofs.Company.{sound-calm, ran-company, company-in}
 use Rattle.safety_laws.proofs.RoundNotes.{tight-stays, place-slot}
 use Rattle.safety_laws.proofs.BeganTogether.{number-of, counted-run}
-use Rattle.fta_sync.proofs.Sorted.{le_trans as no-more}
+use Rattle.node_parts.proofs.Sorted.{le_trans as no-more}
 
 -- a node that is sound before the coming slot and after it
 abbrev stays_sound : FaultPlan → ℕ → ℕ → Bool

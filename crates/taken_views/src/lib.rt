@@ -1,7 +1,7 @@
 //! That `ttplab` shows every trace of a run.
 //!
 //! [`laws::runs_can_be_shown`] says that no view refuses the text of a run, of a valid list and script whose hosts
-//! write bytes and of legal message numbers: it is a trace, as the crate taken_traces says, and not too large, as
+//! write bytes and of legal message numbers: it is a trace, as the crate taken_texts says, and not too large, as
 //! trace_size says. So it gives its view, where it has the slots that are asked for, or none are (`CanBeShown` of
 //! lab_top).
 //!

@@ -15,9 +15,9 @@ use Rattle.ttp_world.specs.Fitting.{header_in, carried_length, number_in, carrie
 use Rattle.ttp_world.specs.Fitting.{is_cold_start, is_listed_explicit, joinable_cstate, joinable}
 use Rattle.ttp_world.specs.Frame.{is_explicit, cold_start_header, header_of, word_bytes, frame}
 use Rattle.ttp_world.specs.Medl.{is_wide, member_bytes, member_width, kind_at, payload_length, may_start}
-use Rattle.ttp_check.specs.Bytes.{xor_bytes}
-use Rattle.ttp_check.proofs.WordLaws.{own_word_gives_zero}
-use Rattle.ttp_check.proofs.Words.{All-big_endian}
+use Rattle.ttp_frame.specs.Bytes.{xor_bytes}
+use Rattle.ttp_frame.proofs.WordLaws.{own_word_gives_zero}
+use Rattle.ttp_frame.proofs.Words.{All-big_endian}
 use Rattle.ttp_frame.specs.declared.judging.FrameMatch.TheVariants.{Match, Differs, Invalid}
 use Rattle.ttp_frame.specs.Match.{match_of}
 use Rattle.ttp_frame.specs.Shape.{sent, unsent, has_shape, has_word, carries}

@@ -12,9 +12,9 @@ use Rattle.std.proofs.lemmas.Nat.{xor_of_8}
 use Rattle.std.proofs.lemmas.Slice.Eq.{bytes_eq-Decides}
 use Rattle.ttp_world.specs.CheckWord.{check_word}
 use Rattle.ttp_world.specs.Frame.{word_bytes}
-use Rattle.ttp_check.specs.Bytes.{xor_bytes}
-use Rattle.ttp_check.proofs.WordLaws.{own_word_gives_zero, own_word_by_zero}
-use Rattle.ttp_check.proofs.Words.{check_word-xor}
+use Rattle.ttp_frame.specs.Bytes.{xor_bytes}
+use Rattle.ttp_frame.proofs.WordLaws.{own_word_gives_zero, own_word_by_zero}
+use Rattle.ttp_frame.proofs.Words.{check_word-xor}
 use Rattle.ttp_frame.specs.Shape.{has_word}
 
 -- Bytes combined by exclusive or.

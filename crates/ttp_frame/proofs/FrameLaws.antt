@@ -13,9 +13,9 @@ use Rattle.ttp_world.specs.Diary.{Place, joined_place}
 use Rattle.ttp_world.specs.Fitting.{number_in, payload_in, fits, is_formed}
 use Rattle.ttp_world.specs.Frame.{big_endian, is_explicit, word_bytes, frame}
 use Rattle.ttp_world.specs.Medl.{member_bytes}
-use Rattle.ttp_check.specs.Bytes.{DifferWithin}
-use Rattle.ttp_check.proofs.Bursts.{numbers_change_the_word, own_words_are_apart}
-use Rattle.ttp_check.proofs.Words.{check_word-lt, length-big_endian}
+use Rattle.ttp_frame.specs.Bytes.{DifferWithin}
+use Rattle.ttp_frame.proofs.Bursts.{numbers_change_the_word, own_words_are_apart}
+use Rattle.ttp_frame.proofs.Words.{check_word-lt, length-big_endian}
 use Rattle.ttp_frame.specs.declared.judging.FrameMatch.{FrameMatch}
 use Rattle.ttp_frame.specs.declared.judging.FrameMatch.TheVariants.{Match, Differs, Invalid}
 use Rattle.ttp_frame.specs.Match.{match_of}

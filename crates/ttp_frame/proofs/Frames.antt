@@ -12,7 +12,7 @@ use Rattle.ttp_world.specs.Fitting.{header_in, carried_length, payload_in, fits,
 use Rattle.ttp_world.specs.Frame.{big_endian, is_explicit, cstate_bytes, body, checked, word_bytes, frame}
 use Rattle.ttp_world.specs.CheckWord.{check_word}
 use Rattle.ttp_world.specs.Medl.{member_bytes}
-use Rattle.ttp_check.proofs.Words.{length-big_endian}
+use Rattle.ttp_frame.proofs.Words.{length-big_endian}
 use Rattle.ttp_frame.specs.declared.judging.FrameMatch.TheVariants.{Match, Differs, Invalid}
 use Rattle.ttp_frame.specs.Match.{match_of}
 use Rattle.ttp_frame.specs.Shape.{sent, unsent, has_shape, carries, has_word}

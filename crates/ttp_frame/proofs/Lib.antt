@@ -1,6 +1,13 @@
+pub mod Bits
+pub mod Bursts
 pub mod FlippedFrames
 pub mod Flips
 pub mod FrameLaws
 pub mod Frames
+pub mod Numbers
+pub mod Registers
 pub mod StateBytes
 pub mod Undisturbed
+pub mod WordLaws
+pub mod Words
+pub mod WordsOfBytes

@@ -2,7 +2,7 @@
 use Rattle.std.specs.Prelude.{ℕ, List}
 use Rattle.ttp_world.specs.Frame.{frame}
 use Rattle.ttp_world.specs.Medl.{member_bytes}
-use Rattle.ttp_check.specs.Bytes.{xor_bytes}
+use Rattle.ttp_frame.specs.Bytes.{xor_bytes}
 use Rattle.ttp_frame.specs.declared.frame.FrameIn.{FrameIn}
 
 -- the bytes of a frame, where check words go from this start

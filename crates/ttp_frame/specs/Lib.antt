@@ -1,3 +1,5 @@
-pub mod Shape
-pub mod Match
+pub mod Bytes
 pub mod FrameBytes
+pub mod Match
+pub mod Shape
+pub mod StandsFor

@@ -3,7 +3,7 @@ ghost use Rattle.std.specs.Prelude.{◌≡◌, ◌≢◌, ◌↔◌, ℕ, ◌+�
 ghost use Rattle.ttp_base.specs.NodeSet.{set_bits};
 ghost use Rattle.ttp_world.specs.Fitting.{fits, is_formed};
 ghost use Rattle.ttp_world.specs.Medl.{member_bytes, schedule_limit};
-ghost use Rattle.ttp_check.specs.Bytes.{DifferWithin};
+ghost use Rattle.ttp_frame.specs.Bytes.{DifferWithin};
 ghost use Rattle.ttp_frame.specs.Match.{match_of};
 ghost use Rattle.ttp_frame.specs.Shape.{IsFrameShape, HaveRoom, has_shape, carries};
 

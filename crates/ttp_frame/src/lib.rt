@@ -33,12 +33,15 @@
 //! since the word goes over it; by [`laws::flipped`] flipped bits are judged alike whatever the
 //! payload is.
 //!
+//! The word itself is [`check_word`]'s, which knows nothing of frames.
+//!
 //! A call costs one check word over the bytes and the C-state, [`read_explicit`] two at most. The
 //! crate keeps no state, shares nothing between threads, takes no memory and copies no payload but
 //! into a sender's buffer, and none of its calls can fail. It knows no slots, channels or windows:
 //! when a frame is looked at is for the layers above.
 #![tactic(auto)]
 
+pub mod check_word;
 mod frame;
 mod joining;
 mod judging;

@@ -4,7 +4,7 @@ ghost use Rattle.ttp_world.specs.Frame.{big_endian, cstate_bytes, cstate_length,
 ghost use Rattle.ttp_world.specs.Medl.{member_bytes, schedule_limit};
 ghost use Rattle.ttp_frame.specs.Shape.{has_word};
 
-use ttp_check::Check;
+use crate::check_word::Check;
 use ttp_world::CState;
 
 /// The header of a frame that carries a payload and not its C-state.

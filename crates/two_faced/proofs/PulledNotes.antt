@@ -4,8 +4,8 @@ use Rattle.two_faced.proofs.Words.{[], ◌∷◌, ◌++◌, length, inl, inr, re
 use Rattle.two_faced.proofs.Words.{is_within_bound, IsUpTo, AreWithin}
 use Rattle.std.proofs.lemmas.Bool.{and_from}
 use Rattle.ttp_world.specs.Clock.{middle_half}
-use Rattle.fta_sync.specs.Pull.{without, are_near, are_within, pulled}
-use Rattle.fta_sync.proofs.Pull.{pull}
+use Rattle.node_parts.specs.Pull.{without, are_near, are_within, pulled}
+use Rattle.node_parts.proofs.Pull.{pull}
 use Rattle.precision.proofs.ClockBounds.{within_bound}
 
 -- each note but of z's frames tells where its sender's clock was when the round began, within w

@@ -27,7 +27,7 @@
 //! it, that of the two-faced node too, and every frame of the next slot comes inside each receiver's
 //! window, however wrongly that of the two-faced node is read. Of the plan a caller shows that it is good,
 //! followed, and without incidents. Each round pulls the clocks together, since three of the four notes
-//! that a node takes its average of are of other frames (`laws::pull` of `fta_sync`;
+//! that a node takes its average of are of other frames (`fta_sync::laws::pull` of node_parts;
 //! `proofs/PulledNotes.antt`). After a correction any two are within 6 D n + 6 E + 2 microticks, and until
 //! the next one they drift apart by 2 D n more, where n is the number of slots, D the largest drift of a
 //! clock in one slot and E the largest reading error. That leaves 4 D n of the bound to spare. The

@@ -6,16 +6,16 @@ ghost use Rattle.ttp_world.specs.declared.node.Ack.TheVariants as ack;
 ghost use Rattle.ttp_world.specs.Acknowledgement.{is_correct};
 ghost use Rattle.ttp_world.specs.Diary.{no_place, joined_place, next_place};
 ghost use Rattle.ttp_world.specs.Medl.{IsValid, plan_at};
-ghost use Rattle.slot_clock.specs.StandsFor.{ClockStandsFor};
-ghost use Rattle.fta_sync.specs.StandsFor.{kept_notes, IsDeviation};
+ghost use Rattle.node_parts.specs.ClockStandsFor.{ClockStandsFor};
+ghost use Rattle.node_parts.specs.Notes.{kept_notes, IsDeviation};
 ghost use Rattle.controller.specs.Within.{IsPastWithin, IsCStateWithin, IsJudgedWithin, IsEntryWithin};
 ghost use Rattle.controller.specs.Stint.{stint_after};
 
 use crate::node::Node;
-use ack_check::AckState;
-use fta_sync::Measures;
-use member_clique::{Clique, Membership};
-use slot_clock::SlotClock;
+use node_parts::acknowledgement::AckState;
+use node_parts::fta_sync::Measures;
+use node_parts::members::{Clique, Membership};
+use node_parts::slot_clock::SlotClock;
 use ttp_base::NodeSet;
 use ttp_world::{CState, Entry, Medl, Verdict};
 

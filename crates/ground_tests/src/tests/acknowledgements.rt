@@ -1,5 +1,5 @@
 //! The table of moves at single states, and the candidates beside them, worked out by hand.
-use ack_check::{AckMove, AckState};
+use node_parts::acknowledgement::{AckMove, AckState};
 use ttp_base::NodeSet;
 use ttp_world::{Ack, Verdict};
 

@@ -1,8 +1,8 @@
 //! Averages of single rounds, worked out by hand.
 ghost use Rattle.std.specs.Prelude.{All};
-ghost use Rattle.fta_sync.specs.StandsFor.{IsDeviation};
+ghost use Rattle.node_parts.specs.Notes.{IsDeviation};
 
-use fta_sync::{Measures, laws};
+use node_parts::fta_sync::{Measures, laws};
 
 // Measures that noted these.
 fn noted(deviations: &[i64]) -> Measures

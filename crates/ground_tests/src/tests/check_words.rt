@@ -1,7 +1,7 @@
 //! Published check words, and words of pieces beside those of a loop over bits.
 ghost use Rattle.std.specs.Prelude.{◌^◌, ◌<◌};
 
-use ttp_check::Check;
+use ttp_frame::check_word::Check;
 
 // The check word of some bytes in one piece.
 fn word_of(start: u32, bytes: &[u8]) -> u32

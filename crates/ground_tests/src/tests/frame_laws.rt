@@ -5,9 +5,9 @@ use ttp_world::CState;
 
 #[test]
 fn laws_of_check_words() {
-    ttp_check::laws::words_combine();
-    ttp_check::laws::own_word_gives_zero();
-    ttp_check::laws::bursts_change_the_word();
+    ttp_frame::check_word::laws::words_combine();
+    ttp_frame::check_word::laws::own_word_gives_zero();
+    ttp_frame::check_word::laws::bursts_change_the_word();
 }
 
 #[test]

@@ -1,5 +1,5 @@
 //! When a listener is due, and on what it joins, worked out by hand.
-use cold_start::{Heard, ListenMove, Listener};
+use node_parts::cold_start::{Heard, ListenMove, Listener};
 use ttp_base::NodeSet;
 use ttp_world::CState;
 

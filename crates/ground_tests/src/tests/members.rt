@@ -1,8 +1,8 @@
 //! Members and counts after each move, worked out by hand.
-ghost use Rattle.ack_check.specs.Moves.{IsNodeMove};
+ghost use Rattle.node_parts.specs.Moves.{IsNodeMove};
 
-use ack_check::AckMove;
-use member_clique::{Clique, Membership};
+use node_parts::acknowledgement::AckMove;
+use node_parts::members::{Clique, Membership};
 use ttp_base::NodeSet;
 
 // Whether these are the members after a move in the slot of sender 5, where nodes 1 and 4 are members before it.

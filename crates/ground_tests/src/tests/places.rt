@@ -3,7 +3,7 @@ ghost use Rattle.std.specs.Prelude.{◌≡◌, length, IfOk};
 ghost use Rattle.ttp_world.specs.Medl.{IsValid};
 
 use super::lists::add_slot;
-use slot_clock::SlotClock;
+use node_parts::slot_clock::SlotClock;
 use std::alloc::Global;
 use ttp_base::{List, Memory, NodeSet};
 use ttp_world::{CState, Kind, Medl};

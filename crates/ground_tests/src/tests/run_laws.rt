@@ -2,8 +2,8 @@
 
 #[test]
 fn laws_of_two_scripts_that_say_the_same() {
-    earlier_slots::laws::histories_are_the_same();
-    earlier_slots::laws::a_later_event_changes_nothing();
+    controller::earlier_slots::laws::histories_are_the_same();
+    controller::earlier_slots::laws::a_later_event_changes_nothing();
 }
 
 #[test]

@@ -1,6 +1,6 @@
 //! Verdicts on pairs of views, worked out by hand.
-use reception::ChannelView::{self, Bad, First, Other, Second, Silent};
-use reception::slot_verdict;
+use node_parts::reception::ChannelView::{self, Bad, First, Other, Second, Silent};
+use node_parts::reception::slot_verdict;
 use ttp_world::{Ack, Verdict};
 
 const ROWS: &[(ChannelView, ChannelView, Ack, Verdict)] = &[

@@ -1,5 +1,5 @@
 use Rattle.controller.proofs.Words.{◌+◌, arith}
-use Rattle.earlier_slots.proofs.SameWorlds.{surroundings_of-same}
+use Rattle.controller.proofs.SameWorlds.{surroundings_of-same}
 use Rattle.controller.proofs.laws.plants_of_scripts_that_agree.Goals as goal
 
 pub returns : goal.returns

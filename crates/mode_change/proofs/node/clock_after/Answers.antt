@@ -1,7 +1,7 @@
 use Rattle.std.proofs.Common.{sym, subst}
 use Rattle.ttp_world.specs.declared.node.Entry.{Entry}
 use Rattle.ttp_world.specs.After.{place_after}
-use Rattle.slot_clock.specs.StandsFor.{ClockStandsFor}
+use Rattle.node_parts.specs.ClockStandsFor.{ClockStandsFor}
 use Rattle.mode_change.proofs.node.clock_after.Goals as goal
 
 pub returns-in-Sent : goal.returns-in-Sent

@@ -4,7 +4,7 @@ use Rattle.std.proofs.Math.ListN.{length-set}
 use Rattle.std.specs.Prelude.{slice_set}
 use Rattle.std.proofs.lemmas.List.{get_or-set_same}
 use Rattle.controller.specs.PlantStands.{ShowsNode}
-use Rattle.seen_costs.specs.States.{off_state, state_at}
+use Rattle.run_costs.specs.States.{off_state, state_at}
 use Rattle.run_costs.proofs.run.note_states.Goals as goal
 
 pub loop-node-preserved : goal.loop-node-preserved

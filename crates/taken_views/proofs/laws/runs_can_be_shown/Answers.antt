@@ -1,4 +1,4 @@
-use Rattle.taken_traces.proofs.WholeTaken.{whole-taken}
+use Rattle.taken_texts.proofs.WholeTaken.{whole-taken}
 use Rattle.trace_size.proofs.TraceLength.{trace-short}
 use Rattle.taken_views.proofs.laws.runs_can_be_shown.Goals as goal
 

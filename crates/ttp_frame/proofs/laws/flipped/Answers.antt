@@ -2,7 +2,7 @@ use Rattle.std.proofs.Common.{◌≡◌, ℕ, ◌≤◌, Bool, List, length, ap,
 use Rattle.ttp_world.specs.Frame.{frame}
 use Rattle.ttp_world.specs.Fitting.{joinable}
 use Rattle.ttp_world.specs.Medl.{member_bytes}
-use Rattle.ttp_check.specs.Bytes.{xor_bytes}
+use Rattle.ttp_frame.specs.Bytes.{xor_bytes}
 use Rattle.ttp_frame.specs.Match.{match_of}
 use Rattle.ttp_frame.proofs.Flips.{length-xor_bytes}
 use Rattle.ttp_frame.proofs.Frames.{length-frame}

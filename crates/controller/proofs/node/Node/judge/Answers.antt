@@ -1,5 +1,5 @@
 use Rattle.controller.proofs.Words.{ap, rules, or-false}
-use Rattle.ack_check.specs.Moves.{IsMoveOf}
+use Rattle.node_parts.specs.Moves.{IsMoveOf}
 use Rattle.controller.proofs.Stints.{moved_members-after}
 use Rattle.controller.proofs.node.Node.judge.Goals as goal
 

@@ -1,6 +1,6 @@
 use Rattle.std.proofs.Common.{ℕ, take, sym, subst, ◌∙◌}
 use Rattle.campaign.specs.ZerosWorld.{zeros_world}
-use Rattle.seen_costs.specs.States.{AreShown}
+use Rattle.run_costs.specs.States.{AreShown}
 use Rattle.run_costs.proofs.run.Run.states.Goals as goal
 
 pub returns : goal.returns

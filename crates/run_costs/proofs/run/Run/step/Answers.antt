@@ -3,7 +3,7 @@ use Rattle.std.proofs.lemmas.List.FromFn.{length-map-range_with_len}
 use Rattle.ttp_world.specs.declared.medl.Medl.{Medl}
 use Rattle.ttp_world.proofs.Lists.{nodes-most}
 use Rattle.campaign.specs.ZerosWorld.{zeros_chosen, zeros_world}
-use Rattle.seen_costs.proofs.Rows.{length-zeros}
+use Rattle.run_costs.proofs.Rows.{length-zeros}
 use Rattle.run_costs.proofs.Plants.{plant-may_step, plant-steps, plant-shown}
 use Rattle.run_costs.proofs.run.Run.step.Goals as goal
 

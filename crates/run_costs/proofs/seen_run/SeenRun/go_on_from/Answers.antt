@@ -1,13 +1,13 @@
 use Rattle.std.proofs.Common.{◌≤◌, sym, subst, arith}
 use Rattle.ttp_world.specs.declared.script.Script.{Script}
-use Rattle.earlier_slots.specs.Agreement.{begins_at}
-use Rattle.earlier_slots.proofs.LaterEvents.{agree-more}
+use Rattle.controller.specs.Agreement.{begins_at}
+use Rattle.controller.proofs.LaterEvents.{agree-more}
 use Rattle.campaign.specs.Tried.{with_fault}
 use Rattle.campaign.specs.ZerosWorld.{zeros_world}
 use Rattle.run_costs.specs.Standing.{IsRunAfter}
 use Rattle.run_costs.specs.declared.run.Run.{Run}
-use Rattle.seen_costs.proofs.Later.{later-begins}
-use Rattle.seen_costs.proofs.Rows.{length-zeros}
+use Rattle.run_costs.proofs.Later.{later-begins}
+use Rattle.run_costs.proofs.Rows.{length-zeros}
 use Rattle.run_costs.proofs.LaterEvents.{run-longer}
 use Rattle.run_costs.proofs.seen_run.SeenRun.go_on_from.Goals as goal
 

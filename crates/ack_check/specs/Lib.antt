@@ -1,2 +1,0 @@
-pub mod AboutNode
-pub mod Moves

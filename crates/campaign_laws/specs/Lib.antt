@@ -1,2 +1,0 @@
-pub mod SafeLines
-pub mod Ends

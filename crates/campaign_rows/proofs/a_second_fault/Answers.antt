@@ -1,7 +1,0 @@
-use Rattle.std.proofs.Common.{refl}
-use Rattle.campaign_rows.proofs.OnLiterals.{lines_on_literals}
-use Rattle.campaign_rows.proofs.a_second_fault.Goals as goal
-
-pub returns : goal.returns
-unfolding lines_on_literals
-returns c = record { own = refl; second = refl }

@@ -1,7 +1,0 @@
-use Rattle.std.proofs.Common.{refl}
-use Rattle.campaign_rows.proofs.OnLiterals.{lines_on_literals}
-use Rattle.campaign_rows.proofs.while_a_node_returns.Goals as goal
-
-pub returns : goal.returns
-unfolding lines_on_literals
-returns c = record { missed = refl }

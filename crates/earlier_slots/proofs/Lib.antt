@@ -1,3 +1,0 @@
-pub mod SameSlots
-pub mod SameWorlds
-pub mod LaterEvents

@@ -1,5 +1,0 @@
-use Rattle.earlier_slots.proofs.LaterEvents.{agree-more}
-use Rattle.earlier_slots.proofs.laws.a_later_event_changes_nothing.Goals as goal
-
-pub returns : goal.returns
-returns c script more slot later = agree-more script more slot later

@@ -1,8 +1,0 @@
-use Rattle.std.proofs.Common.{rules}
-use Rattle.fta_sync.proofs.Pull.{pull}
-use Rattle.fta_sync.proofs.laws.pull.Goals as goal
-
-pub returns : goal.returns
-returns c =
-    pull c.args.odd c.args.shift c.args.near c.args.wide c.args.a c.args.b c.requires.place (search rules)
-    (search rules) c.requires.alike c.requires.narrow

@@ -1,0 +1,15 @@
+use Rattle.ttp_world.specs.World.{world}
+use Rattle.campaign.specs.Cost.{says_yes}
+use Rattle.campaign.specs.CostText.{test_words}
+use Rattle.campaign.specs.ZerosWorld.{zeros_world}
+use Rattle.lab_laws.proofs.Alike.{cost-alike, zeros-legal}
+use Rattle.lab_laws.proofs.campaigns.laws.same_cost.Goals as goal
+
+pub returns : goal.returns
+returns c = λ numbers legal.
+    let list = c.args.list.now in
+    let script = c.args.script.now in
+    let same =
+    cost-alike list script (world list script numbers) (zeros_world list script script.slots)
+    (zeros-legal list script numbers script.slots c.requires.script legal.legal legal.count) in
+    λ i. record { yes = says_yes list script; test = test_words list script; cost = same i }

@@ -1,0 +1,9 @@
+pub mod Bare
+pub mod Cases
+pub mod Small
+pub mod SmallCampaign
+pub mod SmallPicture
+pub mod SmallTitles
+pub mod SmallWave
+pub mod TwoRanges
+pub mod Whole

@@ -1,0 +1,8 @@
+pub mod AboutNode
+pub mod ClockStandsFor
+pub mod FrameCounts
+pub mod Listening
+pub mod Moves
+pub mod Notes
+pub mod PlaceInCycle
+pub mod Pull

@@ -1,5 +1,0 @@
-use Rattle.picture_laws.proofs.TextLines.{text-lines}
-use Rattle.picture_laws.proofs.laws.lines_of_texts.Goals as goal
-
-pub returns : goal.returns
-returns c = λ text trace is. (text-lines text trace is).are

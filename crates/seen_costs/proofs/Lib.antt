@@ -1,5 +1,0 @@
-pub mod Distinct
-pub mod Nodes
-pub mod Rows
-pub mod LaterFaults
-pub mod Later

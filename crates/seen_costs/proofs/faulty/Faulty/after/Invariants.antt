@@ -1,6 +1,0 @@
-use Rattle.seen_costs.specs.FaultyAt.{IsFaultyAt}
-use Rattle.seen_costs.proofs.faulty.Faulty.after.Given as goal
-
--- the slots so far
-abbrev pub invariant-loop-slot : goal.invariant-loop-slot
-invariant-loop-slot l = IsFaultyAt l.list l.script l.slot l.faulty

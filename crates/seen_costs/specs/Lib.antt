@@ -1,4 +1,0 @@
-pub mod States
-pub mod FaultyAt
-pub mod Told
-pub mod Later

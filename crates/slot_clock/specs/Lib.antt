@@ -1,2 +1,0 @@
-pub mod PlaceInCycle
-pub mod StandsFor

@@ -1,0 +1,4 @@
+pub mod Ranges
+pub mod TakenCampaign
+pub mod TakenTrace
+pub mod TwoSlots

@@ -1,5 +1,0 @@
-use Rattle.ttp_check.proofs.WordsOfBytes.{get_or-WORDS}
-use Rattle.ttp_check.proofs.table.word_of.Goals as goal
-
-pub returns : goal.returns
-returns c = get_or-WORDS c.args.byte c.ranges.byte.fits

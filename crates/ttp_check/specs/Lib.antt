@@ -1,2 +1,0 @@
-pub mod StandsFor
-pub mod Bytes

@@ -1,0 +1,52 @@
+use Rattle.std.proofs.Common.{◌<◌, ◌∙◌, length, ap, sym, codes, Some, inl, inr, arith}
+use Rattle.std.specs.List.{concat}
+use Rattle.ttp_world.specs.TraceNumbers.{numbers_in}
+use Rattle.commands.specs.Words.{texts_of}
+use Rattle.commands.proofs.Sure.{surely_in_memory, right_held, all_written}
+use Rattle.ttp_top.specs.Calls.Words.{form_of}
+use Rattle.ttp_top.proofs.Callers.{ran, trace_within}
+use Rattle.uses.proofs.bench.headline.safe_trace.Goals as goal
+
+pub returns-clause-trace : goal.returns-clause-trace
+returns-clause-trace g c =
+    let asked = ap form_of (ap texts_of c.deref.ensures.value ∙ c.in_ok-words.ensures) in
+    let w = (c.ask-status.ensures.of_run (codes "list") (codes "script") asked).trace c.if-status-ne0.false in
+    let held = c.in_ok-library.ensures in
+    record {
+      list = w.medl;
+      script = w.right;
+      are = right_held held.list held.script w.list_file w.script_file w.are;
+      valid = w.text.valid;
+      valid_script = w.text.valid_script;
+      numbers = numbers_in w.medl w.right w.text.lines;
+      legal = w.text.legal;
+      whole =
+          all_written c.in_ok-out.ensures.empty (ap Some (sym (c.in_ok-from_slice.ensures.items ∙ c.bytes.ensures)))
+          w.text.wrote
+          ∙ ap concat w.text.text;
+      safe = λ start kept. (w.text.keeping start kept).safe;
+    }
+
+pub returns-then-status-ne0-clause-missing : goal.returns-then-status-ne0-clause-missing
+returns-then-status-ne0-clause-missing g c =
+    let asked = ap form_of (ap texts_of c.deref.ensures.value ∙ c.in_ok-words.ensures) in
+    let held = c.in_ok-library.ensures in
+    λ medl right are.
+    elim (ran c.ask-status.ensures.promise.call
+    (surely_in_memory c.in_ok-library.library (codes "list") c.args.list.now held.never held.list)
+    (surely_in_memory c.in_ok-library.library (codes "script") c.args.script.now held.never held.script) are
+    (omega (arith, c.in_ok-out.ensures.quiet)) (c.ask-status.ensures.of_run (codes "list") (codes "script") asked)) [
+      | inl whole ↦ absurd (c.if-status-ne0.true whole.0)
+      | inr (inl seven) ↦ inl seven
+      | inr (inr six) ↦
+          let longer : c.args.room < length (concat six.1.lines) = omega (arith, c.in_ok-out.ensures.takes, six.1.cut.short) in
+          inr (
+            six.0,
+            record {
+              lines = six.1.lines;
+              trace = six.1.among;
+              longer = longer;
+              limit = omega (arith, longer, trace_within medl right six.1.lines six.1.among);
+            },
+          )
+    ]

@@ -1,0 +1,4 @@
+pub mod Asked
+pub mod LastLines
+pub mod Measured
+pub mod SafeTrace

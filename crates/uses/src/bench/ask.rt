@@ -1,0 +1,28 @@
+//! A question to `bench` over files and output in memory.
+ghost use Rattle.ttp_base.specs.MemoryLibrary.{library_files};
+ghost use Rattle.ttp_base.specs.MemorySink.{sink_output};
+ghost use Rattle.commands.specs.Plan.{outside};
+ghost use Rattle.commands.specs.Words.{texts_of};
+ghost use Rattle.uses.specs.Asked.{IsAnswered};
+
+use std::alloc::Global;
+use std::sync::Wait;
+use std::thread::Threads;
+use ttp_base::{MemoryLibrary, MemorySink, OpenGate};
+use ttp_top::bench;
+
+/// The status of `bench`, behind an open gate and with no cluster kept. A function of its own, since a cluster is
+/// let go part by part.
+pub(crate) fn ask<R: Threads + Wait + Sync>(
+    rt: &R,
+    alloc: Global,
+    words: &[String],
+    library: &mut MemoryLibrary,
+    out: &mut MemorySink,
+) -> u8
+    ensures { IsAnswered (texts_of words.now) (outside (library_files library.old) (sink_output out.old))
+        (outside (library_files library.new) (sink_output out.new)) result }
+{
+    let gate = OpenGate::new();
+    bench(rt, alloc, words, library, out, &gate, &mut None)
+}

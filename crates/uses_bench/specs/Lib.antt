@@ -1,3 +1,0 @@
-pub mod SafeTrace
-pub mod LastLines
-pub mod Asked

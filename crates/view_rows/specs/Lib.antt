@@ -1,4 +1,0 @@
-pub mod Small
-pub mod SmallWave
-pub mod SmallPicture
-pub mod SmallTitles

@@ -1,9 +1,0 @@
-//! Worked cases of the two views of a trace.
-//!
-//! Each function does nothing. Its contract is a case: a definition at a literal trace, or at a value, equals
-//! what was worked out from the rules of docs/VIEWS.md, and the check computes it.
-#![tactic(auto, unfolding(ttp_base::specs::NodeSet::with_node, ttp_base::specs::NodeSet::members_in, ttp_world::specs::Trace::digits, wave_text::specs::Values::binary, wave_text::specs::Values::binary_number))]
-
-pub mod picture;
-pub mod titles;
-pub mod wave;
