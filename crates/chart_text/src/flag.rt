@@ -86,7 +86,7 @@ fn put_flag_in<K: Sink>(nodes: u8, column: u32, test: &Test, sheet: &mut Sheet, 
 }
 
 /// Writes the flag, where its slot has a column.
-#[tactic(auto, using(picture_text::proofs::Puts::puts))]
+#[tactic(auto, using(picture_text::proofs::Puts::puts_then, picture_text::proofs::Puts::puts_none))]
 pub(crate) fn put_flag<K: Sink>(
     nodes: u8,
     column: Option<u32>,

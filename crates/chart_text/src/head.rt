@@ -69,7 +69,7 @@ fn make_look_style(line: &mut Line, look: Look)
 }
 
 // Writes the styles of the looks.
-#[tactic(auto, using(picture_text::proofs::Puts::puts))]
+#[tactic(auto, using(picture_text::proofs::Puts::puts_none, picture_text::proofs::Puts::puts_next))]
 fn put_look_styles<K: Sink>(sheet: &mut Sheet, out: &mut K)
     ensures { Puts sheet.old.failed (K.output out.old) sheet.new.failed (K.output out.new) (map look_style looks) }
 {
@@ -108,7 +108,7 @@ fn make_other_style(line: &mut Line, number: u8)
 }
 
 // Writes these styles.
-#[tactic(auto, using(picture_text::proofs::Puts::puts))]
+#[tactic(auto, using(picture_text::proofs::Puts::puts_none, picture_text::proofs::Puts::puts_next))]
 fn put_other_styles<K: Sink>(sheet: &mut Sheet, out: &mut K)
     ensures { Puts sheet.old.failed (K.output out.old) sheet.new.failed (K.output out.new) (map ended other_styles) }
 {

@@ -140,7 +140,7 @@ fn put_look_entry<K: Sink>(top: u64, number: u8, sheet: &mut Sheet, out: &mut K)
 }
 
 // Writes the entries of all looks.
-#[tactic(auto, using(picture_text::proofs::Puts::puts))]
+#[tactic(auto, using(picture_text::proofs::Puts::puts_none, picture_text::proofs::Puts::puts_below))]
 fn put_look_entries<K: Sink>(top: u64, sheet: &mut Sheet, out: &mut K)
     requires { top ≤ 2 ^ 31 }
     ensures { Puts sheet.old.failed (K.output out.old) sheet.new.failed (K.output out.new)

@@ -139,113 +139,91 @@ pub(crate) fn look_number(look: Look) -> u8
     ensures value { result ≡ look_number look }
     ensures few { result < 9 }
 {
-    match look {
-        Look::Same => 0,
-        Look::SameOut => 1,
-        Look::Cost => 2,
-        Look::CostOut => 3,
-        Look::Late => 4,
-        Look::Hurt => 5,
-        Look::Split => 6,
-        Look::Torn => 7,
-        Look::Dead => 8,
-    }
+    look as u8
 }
+
+// In the order of `Look`.
+const LOOK_TEXTS: [&str; 9] = [
+    "same", "same out", "cost", "cost out", "late", "hurt", "split", "torn", "dead",
+];
 
 /// The name of a look, which is its class too.
 pub(crate) fn look_text(look: Look) -> &'static str
     ensures text { result.now ≡ look_text look }
     ensures short { length result.now ≤ 8 }
 {
-    match look {
-        Look::Same => "same",
-        Look::SameOut => "same out",
-        Look::Cost => "cost",
-        Look::CostOut => "cost out",
-        Look::Late => "late",
-        Look::Hurt => "hurt",
-        Look::Split => "split",
-        Look::Torn => "torn",
-        Look::Dead => "dead",
-    }
+    LOOK_TEXTS[look as usize]
 }
+
+// In the order of `Look`.
+const LOOK_SELECTORS: [&str; 9] = [
+    "same", "same.out", "cost", "cost.out", "late", "hurt", "split", "torn", "dead",
+];
 
 /// What a style names it by.
 pub(crate) fn look_selector(look: Look) -> &'static str
     ensures text { result.now ≡ look_selector look }
     ensures short { length result.now ≤ 8 }
 {
-    match look {
-        Look::SameOut => "same.out",
-        Look::CostOut => "cost.out",
-        Look::Same | Look::Cost | Look::Late | Look::Hurt | Look::Split | Look::Torn | Look::Dead =>
-            look_text(look),
-    }
+    LOOK_SELECTORS[look as usize]
 }
+
+// In the order of `Look`.
+const LOOK_LETTERS: [&str; 9] = [".", "o", "c", "p", "e", "H", "S", "T", "X"];
 
 /// The letter that is shown for it.
 pub(crate) fn look_letter(look: Look) -> &'static str
     ensures text { result.now ≡ look_letter look }
     ensures short { length result.now ≤ 1 }
 {
-    match look {
-        Look::Same => ".",
-        Look::SameOut => "o",
-        Look::Cost => "c",
-        Look::CostOut => "p",
-        Look::Late => "e",
-        Look::Hurt => "H",
-        Look::Split => "S",
-        Look::Torn => "T",
-        Look::Dead => "X",
-    }
+    LOOK_LETTERS[look as usize]
 }
+
+// In the order of `Look`.
+const LOOK_COLOURS: [&str; 9] = [
+    "#e4edf3", "#d6d6d6", "#92cbef", "#ababab", "#e8e0a8", "#f0a800", "#d04a00", "#8a2fa0",
+    "#000000",
+];
 
 /// Its colour.
 pub(crate) fn look_colour(look: Look) -> &'static str
     ensures text { result.now ≡ look_colour look }
     ensures short { length result.now ≤ 7 }
 {
-    match look {
-        Look::Same => "#e4edf3",
-        Look::SameOut => "#d6d6d6",
-        Look::Cost => "#92cbef",
-        Look::CostOut => "#ababab",
-        Look::Late => "#e8e0a8",
-        Look::Hurt => "#f0a800",
-        Look::Split => "#d04a00",
-        Look::Torn => "#8a2fa0",
-        Look::Dead => "#000000",
-    }
+    LOOK_COLOURS[look as usize]
 }
+
+// In the order of `Look`.
+const LOOK_LETTER_COLOURS: [&str; 9] = [
+    "#5c7482", "#505050", "#000000", "#000000", "#000000", "#000000", "#ffffff", "#ffffff",
+    "#ffffff",
+];
 
 /// The colour of its letter.
 pub(crate) fn look_letter_colour(look: Look) -> &'static str
     ensures text { result.now ≡ look_letter_colour look }
     ensures short { length result.now ≤ 7 }
 {
-    match look {
-        Look::Same => "#5c7482",
-        Look::SameOut => "#505050",
-        Look::Cost | Look::CostOut | Look::Late | Look::Hurt => "#000000",
-        Look::Split | Look::Torn | Look::Dead => "#ffffff",
-    }
+    LOOK_LETTER_COLOURS[look as usize]
 }
+
+// In the order of `Look`.
+const LOOK_MEANINGS: [&str; 9] = [
+    "nothing changed",
+    "nothing changed, but outside the hypothesis",
+    "it cost faulty nodes and nobody else",
+    "the same, but outside the hypothesis",
+    "too near the end of the run to tell",
+    "a node left that was not faulty",
+    "such nodes held two memberships meanwhile",
+    "at the end nodes hold two memberships",
+    "at the end no two nodes are together",
+];
 
 /// What it means.
 pub(crate) fn look_meaning(look: Look) -> &'static str
     ensures text { result.now ≡ look_meaning look }
     ensures short { length result.now ≤ 50 }
 {
-    match look {
-        Look::Same => "nothing changed",
-        Look::SameOut => "nothing changed, but outside the hypothesis",
-        Look::Cost => "it cost faulty nodes and nobody else",
-        Look::CostOut => "the same, but outside the hypothesis",
-        Look::Late => "too near the end of the run to tell",
-        Look::Hurt => "a node left that was not faulty",
-        Look::Split => "such nodes held two memberships meanwhile",
-        Look::Torn => "at the end nodes hold two memberships",
-        Look::Dead => "at the end no two nodes are together",
-    }
+    LOOK_MEANINGS[look as usize]
 }

@@ -126,7 +126,7 @@ fn is_plain(look: Look) -> bool
 }
 
 // Writes the square of a fault, where it has one.
-#[tactic(auto, using(picture_text::proofs::Puts::puts))]
+#[tactic(auto, using(picture_text::proofs::Puts::puts_then, picture_text::proofs::Puts::puts_none))]
 fn put_square<K: Sink>(
     nodes: u8,
     column: u32,

@@ -66,18 +66,15 @@ pub(crate) fn put_change<K: Sink>(
     out.write(value.bytes())
 }
 
+// In the order of `ClusterVariable`.
+const CLUSTER_LETTERS: [&str; 5] = ["a", "b", "c", "d", "e"];
+
 /// The letter of a variable of the cluster, which is its code.
 pub(crate) fn cluster_letter(variable: ClusterVariable) -> &'static str
     ensures text { result.now ≡ cluster_letter variable }
     ensures short { length result.now ≡ 1 }
 {
-    match variable {
-        ClusterVariable::Agree => "a",
-        ClusterVariable::Sender => "b",
-        ClusterVariable::Active => "c",
-        ClusterVariable::Leaving => "d",
-        ClusterVariable::Spread => "e",
-    }
+    CLUSTER_LETTERS[variable as usize]
 }
 
 // Whether a variable of the cluster has the same value for sure, since what it is read from is the same. Only of sets of
@@ -176,22 +173,14 @@ pub(crate) fn put_cluster_changes<K: Sink>(
     Ok(())
 }
 
+// In the order of `NodeVariable`.
+const NODE_LETTERS: [u8; 10] = [b'a', b'b', b'c', b'd', b'e', b'f', b'g', b'h', b'i', b'j'];
+
 /// The letter with which the code of a variable of a node begins.
 pub(crate) fn node_letter(variable: NodeVariable) -> u8
     ensures { result ∷ [] ≡ node_letter variable }
 {
-    match variable {
-        NodeVariable::Sends => b'a',
-        NodeVariable::Phase => b'b',
-        NodeVariable::Word => b'c',
-        NodeVariable::Peer => b'd',
-        NodeVariable::Message => b'e',
-        NodeVariable::Members => b'f',
-        NodeVariable::Accepted => b'g',
-        NodeVariable::Rejected => b'h',
-        NodeVariable::Ack => b'i',
-        NodeVariable::Clock => b'j',
-    }
+    NODE_LETTERS[variable as usize]
 }
 
 /// The code of a variable of a node.

@@ -33,35 +33,26 @@ fn put_range(line: &mut Draft, size: u32)
     line.put_text(":0]");
 }
 
+// In the order of `ClusterVariable`.
+const CLUSTER_NAMES: [&str; 5] = ["agree", "sender", "active", "leaving", "spread"];
+
 fn cluster_name(variable: ClusterVariable) -> &'static str
     ensures text { result.now ≡ cluster_name variable }
     ensures short { length result.now ≤ 7 }
 {
-    match variable {
-        ClusterVariable::Agree => "agree",
-        ClusterVariable::Sender => "sender",
-        ClusterVariable::Active => "active",
-        ClusterVariable::Leaving => "leaving",
-        ClusterVariable::Spread => "spread",
-    }
+    CLUSTER_NAMES[variable as usize]
 }
+
+// In the order of `NodeVariable`.
+const NODE_NAMES: [&str; 10] = [
+    "sends", "phase", "word", "peer", "msg", "mem", "acc", "rej", "ack", "clock",
+];
 
 fn node_name(variable: NodeVariable) -> &'static str
     ensures text { result.now ≡ node_name variable }
     ensures short { length result.now ≤ 5 }
 {
-    match variable {
-        NodeVariable::Sends => "sends",
-        NodeVariable::Phase => "phase",
-        NodeVariable::Word => "word",
-        NodeVariable::Peer => "peer",
-        NodeVariable::Message => "msg",
-        NodeVariable::Members => "mem",
-        NodeVariable::Accepted => "acc",
-        NodeVariable::Rejected => "rej",
-        NodeVariable::Ack => "ack",
-        NodeVariable::Clock => "clock",
-    }
+    NODE_NAMES[variable as usize]
 }
 
 fn put_cluster_type(line: &mut Draft, width: u8, variable: ClusterVariable)

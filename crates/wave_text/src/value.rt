@@ -94,23 +94,30 @@ pub(crate) fn put_cluster_value(
     }
 }
 
+// In the order of `Word`.
+const PHASES: [&str; 15] = [
+    "off",
+    "listening",
+    "listening",
+    "left",
+    "active",
+    "active",
+    "active",
+    "active",
+    "active",
+    "active",
+    "active",
+    "active",
+    "left",
+    "left",
+    "left",
+];
+
 fn phase_text(word: Word) -> &'static str
     ensures text { result.now ≡ phase_text word }
     ensures short { length result.now ≤ 9 }
 {
-    match word {
-        Word::Off => "off",
-        Word::Wait | Word::Retry => "listening",
-        Word::Gone | Word::Denied | Word::Unacknowledged | Word::Clique => "left",
-        Word::Start
-        | Word::Join
-        | Word::Send
-        | Word::Correct
-        | Word::Tentative
-        | Word::Incorrect
-        | Word::Invalid
-        | Word::Null => "active",
-    }
+    PHASES[word as usize]
 }
 
 // A value that a node has unless it is off.
