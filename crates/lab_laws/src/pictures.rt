@@ -11,7 +11,6 @@
 //! `<`, and `Adds` of `proofs/TitlesIn.antt` says which titles a part adds. `views::titles` of lab_rows has the titles of
 //! a picture worked out.
 //!
-//! The module has no code that does anything: its functions are laws. It stands apart from picture_text, so that no
-//! program waits for it.
+//! The module has no code that does anything: its functions are laws.
 
 pub mod laws;

@@ -20,7 +20,7 @@
 //! their averages bring their clocks together, whatever each of them notes of the fourth.
 //! `proofs/Sorted.antt` shows that sorting two lists whose items are near keeps them near, and that the
 //! odd note may be put in last; `proofs/Pull.antt` bounds the middle two by the three others, and
-//! `src/worked_pull.rt` is a case that reaches the bound. precision rests on the lemmas on sorting, and
+//! `worked_pull` is a case that reaches the bound. precision rests on the lemmas on sorting, and
 //! two_faced on `proofs/Pull.antt`.
 //!
 //! The module measures nothing and corrects no clock: which slots are noted, and when a round ends, is for

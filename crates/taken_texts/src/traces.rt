@@ -2,7 +2,7 @@
 //!
 //! A view reads a text as a trace by its form alone, and refuses one that isn't any. [`laws::run_is_taken`] says
 //! that the text of a run is none of those: it is read, and as the very trace that the definitions give, whose
-//! values `trace_of_run` of `specs/Taken.antt` lists slot by slot. A caller needs a valid list and script whose
+//! values `trace_of_run` of `specs/TakenTrace.antt` lists slot by slot. A caller needs a valid list and script whose
 //! hosts write bytes, and legal message numbers of the whole run. taken_views cites it as `whole-taken` of
 //! `proofs/WholeTaken.antt`, and `law_of_runs` of view_tests calls it:
 //!
