@@ -6,6 +6,7 @@
 //! and streams behind them are trusted; the rest is `bench`, which is proved.
 #![tactic(auto)]
 
+use bench_call::bench;
 use std::env::Env;
 use std::io::BufWriter;
 use std::process::ExitCode;
@@ -13,7 +14,6 @@ use std::sync::Wait;
 use std::thread::Threads;
 use std::{env, io};
 use ttp_base::{FileLibrary, Library, OpenGate, Sink, StreamSink};
-use ttp_top::bench;
 
 // How many bytes of output are handed to the system at once.
 const BUFFER: usize = 65_536;
