@@ -8,13 +8,11 @@ ghost use Rattle.ttp_top.specs.Calls.Answer.{ttpbench};
 ghost use Rattle.ttp_top.specs.Calls.Forms.{plan_of};
 ghost use Rattle.ttp_top.specs.Calls.Words.{form_of};
 
-use crate::faced::precision;
+use crate::ask::ask;
 use crate::kept::let_go;
-use crate::modes::modes;
-use crate::run::{keeps, run};
+use crate::run::run;
 use crate::sample::sample;
 use crate::schedule::schedule;
-use crate::verify::verify;
 use crate::words::{Command, command_of};
 use cluster_run::Cluster;
 use commands::say;
@@ -47,25 +45,16 @@ pub fn obey<R: Threads + Wait + Sync, L: Library, K: Sink, G: Gate>(
     match command_of(words) {
         Command::Schedule { list } => schedule(alloc, list, library, out),
         Command::Run { list, script } => run(rt, alloc, list, script, library, out, gate, kept),
-        Command::Keeps { list, script } => keeps(alloc, list, script, library, out),
-        Command::Verify {
+        Command::Ask {
             list,
             script,
-            trace,
-        } => verify(alloc, list, script, trace, library, out),
-        Command::Precision { list, script, node } => {
-            precision(alloc, list, script, node, library, out)
-        }
+            question,
+        } => ask(alloc, list, script, question, library, out),
         Command::Sample {
             list,
             slots,
             number,
         } => sample(rt, alloc, list, slots, number, library, out, gate, kept),
-        Command::Modes {
-            list,
-            script,
-            trace,
-        } => modes(alloc, list, script, trace, library, out),
         Command::NoForm => say(out, USAGE.as_bytes(), 2),
     }
 }

@@ -29,6 +29,7 @@
 //! never prints: that is the library's and the sink's part.
 #![tactic(auto)]
 
+mod ask;
 mod call;
 mod faced;
 mod kept;
