@@ -1,19 +1,17 @@
-//! The command `precision MEDL SCRIPT NODE`.
-ghost use Rattle.std.specs.Prelude.{◌≡◌, ◌+◌, ◌≤◌, ◌++◌, Some, length, decimal};
+//! The command `precision MEDL SCRIPT NODE`, once the list and the script are there.
+ghost use Rattle.std.specs.Prelude.{◌≡◌, ◌+◌, ◌≤◌, ◌++◌, length, decimal};
 ghost use Rattle.std.specs.Fmt.{signed_decimal};
 ghost use Rattle.ttp_world.specs.Medl.{IsValid};
 ghost use Rattle.ttp_world.specs.Script.{IsValidScript};
-ghost use Rattle.commands.specs.Outcome.{Follows, ShowsEnding};
-ghost use Rattle.commands.specs.Plan.{outside};
+ghost use Rattle.commands.specs.Outcome.{ShowsEnding};
 ghost use Rattle.commands.specs.Texts.{alone};
 ghost use Rattle.ttp_top.specs.Calls.Answer.{ttpbench};
-ghost use Rattle.ttp_top.specs.Calls.Forms.{precision_ending, plan_of};
+ghost use Rattle.ttp_top.specs.Calls.Forms.{precision_ending};
 ghost use Rattle.ttp_top.specs.Calls.Precision.{faced_line, broken_line};
-ghost use Rattle.ttp_top.specs.Calls.Words.{precision};
 
-use commands::{load_both, say};
+use commands::say;
 use std::alloc::Global;
-use ttp_base::{Library, Line, Sink};
+use ttp_base::{Line, Sink};
 use ttp_world::{Medl, Script};
 use two_faced::{Faced, Seen, bound, find_faced, find_seen};
 
@@ -65,8 +63,15 @@ fn broken_line(rule: u8, slot: u32) -> Line
     line
 }
 
-// The answer of the test for one two-faced sender. Memory is taken before the line is written.
-fn show_precision<K: Sink>(alloc: Global, list: &Medl, script: &Script, node: u8, out: &mut K) -> u8
+/// Whether this node may be two-faced in the script, and how far apart the other clocks came then. Memory is taken
+/// before the line is written.
+pub(crate) fn show_precision<K: Sink>(
+    alloc: Global,
+    list: &Medl,
+    script: &Script,
+    node: u8,
+    out: &mut K,
+) -> u8
     requires valid { IsValid list.now }
     requires script { IsValidScript list.now script.now }
     ensures { ShowsEnding ttpbench (precision_ending node list.now script.now) (K.output out.old) (K.output out.new)
@@ -78,25 +83,5 @@ fn show_precision<K: Sink>(alloc: Global, list: &Medl, script: &Script, node: u8
             Err(_) => 7,
         },
         Faced::No { rule, slot } => say(out, broken_line(rule, slot).bytes(), 0),
-    }
-}
-
-/// Whether this node may be two-faced in the script of this name, for the list of this name, and how far
-/// apart the other clocks came. The script is loaded only for a list that is not refused.
-pub(crate) fn precision<L: Library, K: Sink>(
-    alloc: Global,
-    list: &str,
-    script: &str,
-    node: u8,
-    library: &mut L,
-    out: &mut K,
-) -> u8
-    ensures { Follows ttpbench (plan_of (Some (precision list.now script.now node)))
-        (outside (L.files library.old) (K.output out.old)) (outside (L.files library.new) (K.output out.new))
-        (alone result) }
-{
-    match load_both(alloc, list, script, library, out) {
-        Ok((medl, right)) => show_precision(alloc, &medl, &right, node, out),
-        Err(status) => status,
     }
 }

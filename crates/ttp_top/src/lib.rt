@@ -1,9 +1,12 @@
-//! The one call of the program: words in, bytes and a status out.
+//! The commands of the program: what each form of words asks for, does and writes.
 //!
-//! [`bench`] takes the words of a command, a library that its files come from, and a sink that its
-//! output goes to. Its contract is the product's promise: the status and the bytes are a stated
-//! function of the words and of what the library tells, and the outside is blamed only where it is
-//! at fault.
+//! [`obey`] takes the words of a command, a library that its files come from, and a sink that its
+//! output goes to, and follows the plan of the form that the words have. What follows it keeps the
+//! product's promise, which is the contract of `bench` in bench_call, the crate above:
+//!
+//! ```text
+//! obey(rt, alloc, words, library, out, gate, kept)
+//! ```
 //!
 //! What a form asks for and how it may end stands in its plan (`specs/Calls/Forms.antt`) and
 //! nowhere else; a command that is added gets a plan, and no clause of `bench`.
@@ -12,12 +15,7 @@
 //! `specs/Traces` and `specs/Tests` have the promises of commands in their own words. `verify` and
 //! `modes` speak of the whole text however much of it is loaded, since no trace is longer than a
 //! load may be (trace_size), and `proofs/Traces/Fronts.antt` shows that the bytes that are loaded
-//! decide. `main` of ttpbench calls it, and so does `run_bench` of host_tests, over a library and
-//! a sink in memory:
-//!
-//! ```text
-//! bench(rt, rt.alloc(), words, library, out, gate, kept)
-//! ```
+//! decide.
 //!
 //! `run` goes through a cluster in `src/trace.rt`: it is made before the first line, and between
 //! two slots it stands for legal message numbers whose lines were written (`HasWritten`). Each text
@@ -31,6 +29,7 @@
 //! never prints: that is the library's and the sink's part.
 #![tactic(auto)]
 
+mod ask;
 mod call;
 mod faced;
 mod kept;
@@ -44,4 +43,4 @@ mod trace;
 mod verify;
 mod words;
 
-pub use call::bench;
+pub use call::obey;

@@ -1,4 +1,4 @@
-//! The commands `run MEDL SCRIPT` and `keeps MEDL SCRIPT`.
+//! The command `run MEDL SCRIPT`, and the lines that it shares with `keeps MEDL SCRIPT`.
 ghost use Rattle.std.specs.Prelude.{◌≡◌, [], Some, None};
 ghost use Rattle.ttp_world.specs.Medl.{IsValid};
 ghost use Rattle.ttp_world.specs.Script.{IsValidScript};
@@ -9,7 +9,7 @@ ghost use Rattle.commands.specs.Plan.{outside, whole_ending};
 ghost use Rattle.commands.specs.Texts.{alone, answer, one};
 ghost use Rattle.ttp_top.specs.Calls.Answer.{ttpbench, kept_after};
 ghost use Rattle.ttp_top.specs.Calls.Forms.{trace_ending, keep_ending, plan_of};
-ghost use Rattle.ttp_top.specs.Calls.Words.{run, keeps};
+ghost use Rattle.ttp_top.specs.Calls.Words.{run};
 
 use crate::kept::keep_after;
 use crate::trace::{RunFault, put_run};
@@ -39,8 +39,8 @@ fn show_back<K: Sink>(list: &Medl, script: &Script, out: &mut K) -> u8
     }
 }
 
-// The line of the hypothesis test, and the one on armed nodes behind it.
-fn show_keep<K: Sink>(list: &Medl, script: &Script, out: &mut K) -> u8
+/// The line of the hypothesis test, and the one on armed nodes behind it: the last lines of a trace.
+pub(crate) fn show_keep<K: Sink>(list: &Medl, script: &Script, out: &mut K) -> u8
     requires valid { IsValid list.now }
     requires script { IsValidScript list.now script.now }
     ensures { Says ttpbench (keep_ending list.now script.now) (K.output out.old) (K.output out.new) (alone result) }
@@ -117,23 +117,6 @@ pub(crate) fn run<R: Threads + Wait + Sync, L: Library, K: Sink, G: Gate>(
 {
     match load_both(alloc, list, script, library, out) {
         Ok((medl, right)) => show_trace(rt, alloc, medl, right, out, gate, kept),
-        Err(status) => status,
-    }
-}
-
-/// The last lines of that trace alone: what the tests of the script answer.
-pub(crate) fn keeps<L: Library, K: Sink>(
-    alloc: Global,
-    list: &str,
-    script: &str,
-    library: &mut L,
-    out: &mut K,
-) -> u8
-    ensures { Follows ttpbench (plan_of (Some (keeps list.now script.now))) (outside (L.files library.old) (K.output out.old))
-        (outside (L.files library.new) (K.output out.new)) (alone result) }
-{
-    match load_both(alloc, list, script, library, out) {
-        Ok((medl, right)) => show_keep(&medl, &right, out),
         Err(status) => status,
     }
 }

@@ -19,23 +19,11 @@ pub(crate) enum Command<'a> {
         list: &'a str,
         script: &'a str,
     },
-    /// The line of the hypothesis test for a list and a script, each under its name.
-    Keeps {
+    /// What a question about a script for a list comes to, each under its name.
+    Ask {
         list: &'a str,
         script: &'a str,
-    },
-    /// Whether a text is a trace of a script for a list, each under its name.
-    Verify {
-        list: &'a str,
-        script: &'a str,
-        trace: &'a str,
-    },
-    /// The line of the test for one two-faced sender, this node, for a list and a script, each under its
-    /// name.
-    Precision {
-        list: &'a str,
-        script: &'a str,
-        node: u8,
+        question: Question<'a>,
     },
     /// The summary of a run of the list of this name, of so many slots, by the script that this number
     /// gives.
@@ -44,15 +32,21 @@ pub(crate) enum Command<'a> {
         slots: u32,
         number: u64,
     },
-    /// Which mode each node runs, for a text that is to be a trace of a script for a list, each under its
-    /// name.
-    Modes {
-        list: &'a str,
-        script: &'a str,
-        trace: &'a str,
-    },
     /// Nothing: the words have no form.
     NoForm,
+}
+
+/// What is asked about a script for a list; no cluster runs for it.
+#[derive(Clone, Copy)]
+pub(crate) enum Question<'a> {
+    /// The line of the hypothesis test.
+    Keeps,
+    /// Whether the text of this name is a trace of them.
+    Verify { trace: &'a str },
+    /// The line of the test for one two-faced sender, this node.
+    Precision { node: u8 },
+    /// Which mode each node runs, for the text of this name, which is to be a trace of them.
+    Modes { trace: &'a str },
 }
 
 // The most nodes of a list.
@@ -116,7 +110,11 @@ fn script_command<'a>(verb: &str, list: &'a str, script: &'a str) -> Command<'a>
 {
     match verb {
         "run" => Command::Run { list, script },
-        "keeps" => Command::Keeps { list, script },
+        "keeps" => Command::Ask {
+            list,
+            script,
+            question: Question::Keeps,
+        },
         _ => Command::NoForm,
     }
 }
@@ -142,24 +140,24 @@ fn long_command<'a>(verb: &str, list: &'a str, third: &'a str, fourth: &'a str) 
     ensures slots { HasSlots result }
 {
     match verb {
-        "verify" => Command::Verify {
+        "verify" => Command::Ask {
             list,
             script: third,
-            trace: fourth,
+            question: Question::Verify { trace: fourth },
         },
         "precision" => match node_named(fourth.as_bytes()) {
-            Some(node) => Command::Precision {
+            Some(node) => Command::Ask {
                 list,
                 script: third,
-                node,
+                question: Question::Precision { node },
             },
             None => Command::NoForm,
         },
         "sample" => sample_command(list, third, fourth),
-        "modes" => Command::Modes {
+        "modes" => Command::Ask {
             list,
             script: third,
-            trace: fourth,
+            question: Question::Modes { trace: fourth },
         },
         _ => Command::NoForm,
     }

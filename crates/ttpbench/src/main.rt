@@ -6,51 +6,59 @@
 //! and streams behind them are trusted; the rest is `bench`, which is proved.
 #![tactic(auto)]
 
+use bench_call::bench;
 use std::env::Env;
-use std::io::BufWriter;
+use std::io::{BufWriter, Print};
 use std::process::ExitCode;
+use std::rt::Files;
 use std::sync::Wait;
 use std::thread::Threads;
 use std::{env, io};
-use ttp_base::{FileLibrary, Library, OpenGate, Sink, StreamSink};
-use ttp_top::bench;
+use ttp_base::{FileLibrary, OpenGate, StreamSink};
 
 // How many bytes of output are handed to the system at once.
 const BUFFER: usize = 65_536;
 
 fn main(rt: HostRuntime) -> ExitCode {
-    match words(&rt) {
-        Ok(words) => {
-            let mut library = FileLibrary::new(&rt);
-            // With no memory for a buffer, each line goes to the system by itself.
-            let buffered = BufWriter::with_capacity(rt.alloc(), BUFFER, io::writer(&rt)).or_else(
-                |_| BufWriter::with_capacity(rt.alloc(), 0, io::writer(&rt)),
-            );
-            let Ok(buffered) = buffered else {
-                return ExitCode::from(7);
-            };
-            let mut out = StreamSink::new(buffered);
-            let status = status_of(&rt, &words, &mut library, &mut out);
-            ExitCode::from(if out.end().is_ok() { status } else { 6 })
-        }
-        Err(error) if error.kind() == io::ErrorKind::OutOfMemory => ExitCode::from(7),
-        Err(_) => ExitCode::from(8),
-    }
+    ExitCode::from(match env::args(&rt) {
+        Ok(words) => match words.collect::<Vec<String>>(rt.alloc()) {
+            Ok(words) => status_of(&rt, &words),
+            Err(_) => 7,
+        },
+        Err(error) if error.kind() == io::ErrorKind::OutOfMemory => 7,
+        Err(_) => 8,
+    })
 }
 
-// The status of the command that the words spell; the cluster that it keeps is let go.
-fn status_of<R: Threads + Wait + Sync + AllocGlobal, L: Library, K: Sink>(
+// The status of the command that the words behind the first one spell, which is the program's name; the cluster
+// that it keeps is let go.
+fn status_of<R: Files + Print + Threads + Wait + Sync + AllocGlobal>(
     rt: &R,
     words: &[String],
-    library: &mut L,
-    out: &mut K,
 ) -> u8 {
+    // With no memory for a buffer, each line goes to the system by itself.
+    let buffered = match BufWriter::with_capacity(rt.alloc(), BUFFER, io::writer(rt)) {
+        Ok(buffered) => Ok(buffered),
+        Err(_) => BufWriter::with_capacity(rt.alloc(), 0, io::writer(rt)),
+    };
+    let Ok(buffered) = buffered else {
+        return 7;
+    };
+    let words = match words {
+        [_, words @ ..] => words,
+        [] => words,
+    };
+    let mut library = FileLibrary::new(rt);
+    let mut out = StreamSink::new(buffered);
     let gate = OpenGate::new();
-    bench(rt, rt.alloc(), words, library, out, &gate, &mut None)
-}
-
-// The words after the program's name.
-fn words<R: Env + AllocGlobal>(rt: &R) -> io::Result<Vec<String>> {
-    let words = env::args(rt)?.skip(1).collect(rt.alloc())?;
-    Ok(words)
+    let status = bench(
+        rt,
+        rt.alloc(),
+        words,
+        &mut library,
+        &mut out,
+        &gate,
+        &mut None,
+    );
+    if out.end().is_ok() { status } else { 6 }
 }

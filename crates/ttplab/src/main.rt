@@ -13,8 +13,11 @@ mod watched;
 use crate::watched::WatchedSink;
 use lab_top::lab;
 use std::env::Env;
-use std::io::BufWriter;
+use std::io::{BufWriter, Eprint, Print};
 use std::process::ExitCode;
+use std::rt::Files;
+use std::thread::Threads;
+use std::time::Clock;
 use std::{env, io};
 use ttp_base::{FileLibrary, StreamSink};
 
@@ -22,31 +25,39 @@ use ttp_base::{FileLibrary, StreamSink};
 const BUFFER: usize = 65_536;
 
 fn main(rt: HostRuntime) -> ExitCode {
-    match words(&rt) {
-        Ok(words) => {
-            let mut library = FileLibrary::new(&rt);
-            // With no memory for a buffer, each line goes to the system by itself.
-            let buffered = BufWriter::with_capacity(rt.alloc(), BUFFER, io::writer(&rt)).or_else(
-                |_| BufWriter::with_capacity(rt.alloc(), 0, io::writer(&rt)),
-            );
-            let Ok(buffered) = buffered else {
-                return ExitCode::from(7);
-            };
-            let mut out = WatchedSink::new(&rt, StreamSink::new(buffered));
-            let status = lab(&rt, rt.alloc(), &words, &mut library, &mut out);
-            ExitCode::from(if out.into_inner().end().is_ok() {
-                status
-            } else {
-                6
-            })
-        }
-        Err(error) if error.kind() == io::ErrorKind::OutOfMemory => ExitCode::from(7),
-        Err(_) => ExitCode::from(8),
-    }
+    ExitCode::from(match env::args(&rt) {
+        Ok(words) => match words.collect::<Vec<String>>(rt.alloc()) {
+            Ok(words) => status_of(&rt, &words),
+            Err(_) => 7,
+        },
+        Err(error) if error.kind() == io::ErrorKind::OutOfMemory => 7,
+        Err(_) => 8,
+    })
 }
 
-// The words after the program's name.
-fn words<R: Env + AllocGlobal>(rt: &R) -> io::Result<Vec<String>> {
-    let words = env::args(rt)?.skip(1).collect(rt.alloc())?;
-    Ok(words)
+// The status of the command that the words behind the first one spell, which is the program's name.
+fn status_of<R: Files + Print + Eprint + Clock + Threads + Sync + AllocGlobal>(
+    rt: &R,
+    words: &[String],
+) -> u8 {
+    // With no memory for a buffer, each line goes to the system by itself.
+    let buffered = match BufWriter::with_capacity(rt.alloc(), BUFFER, io::writer(rt)) {
+        Ok(buffered) => Ok(buffered),
+        Err(_) => BufWriter::with_capacity(rt.alloc(), 0, io::writer(rt)),
+    };
+    let Ok(buffered) = buffered else {
+        return 7;
+    };
+    let words = match words {
+        [_, words @ ..] => words,
+        [] => words,
+    };
+    let mut library = FileLibrary::new(rt);
+    let mut out = WatchedSink::new(rt, StreamSink::new(buffered));
+    let status = lab(rt, rt.alloc(), words, &mut library, &mut out);
+    if out.into_inner().end().is_ok() {
+        status
+    } else {
+        6
+    }
 }

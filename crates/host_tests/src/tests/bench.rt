@@ -6,12 +6,12 @@ mod gate;
 mod kept;
 mod race;
 
+use bench_call::bench;
 use cluster_run::Cluster;
 use std::alloc::Global;
 use std::sync::Wait;
 use std::thread::Threads;
 use ttp_base::{Gate, List, Memory, MemoryLibrary, MemorySink, OpenGate};
-use ttp_top::bench;
 
 const HEAD: &str =
     "version = 1\nrounds = 1\nschedule = 0\nbuffers = 2\ndrift = 0\nerror = 0\nwindow = 2\n";

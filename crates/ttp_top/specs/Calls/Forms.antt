@@ -1,5 +1,5 @@
 -- What each form asks for, and how it ends.
-use Rattle.std.specs.Prelude.{ℕ, List, Option, Some, None, codes, ◌++◌, if◌then◌else◌}
+use Rattle.std.specs.Prelude.{ℕ, Bool, List, Option, Some, None, codes, ◌++◌, if◌then◌else◌}
 use Rattle.ttp_base.specs.Text.{lines_of}
 use Rattle.ttp_world.specs.declared.medl.Medl.{Medl}
 use Rattle.ttp_world.specs.declared.script.Script.{Script}
@@ -15,6 +15,8 @@ use Rattle.ttp_top.specs.Calls.Answer.{BenchEnding, BenchPlan}
 use Rattle.ttp_top.specs.Calls.Differences.{same_line}
 use Rattle.ttp_top.specs.Calls.Texts.{traces, fronts, differences, precisions, samples}
 use Rattle.ttp_top.specs.Calls.Words.{Form, schedule, run, keeps, verify, precision, sample, modes}
+use Rattle.ttp_top.specs.declared.words.Question.{Question}
+use Rattle.ttp_top.specs.declared.words.Question.TheVariants as question
 
 -- the line on words of no form
 abbrev pub usage_line : List ℕ
@@ -72,3 +74,18 @@ plan_of (Some (precision list script node)) =
 plan_of (Some (sample list slots number)) = list_plan list (λ medl. ends (sample_ending slots number medl))
 plan_of (Some (modes list script trace)) =
     both_plan list script (λ medl right. trace_plan trace (λ text. ends (modes_ending medl right text)))
+
+-- what is due of a text, by whether the modes of a trace are wanted: the ending of `modes`, or that of `verify`
+abbrev pub judged_ending : (wants_modes : Bool) → Medl → Script → List ℕ → BenchEnding
+judged_ending wants_modes list script text =
+    if is_trace list script text
+    then (if wants_modes then whole_ending 0 (one (mode_lines list script (numbers_in list script (lines_of text))))
+    else line_ending 0 same_line)
+    else whole_ending 1 (those (differences list script text))
+
+-- what is left of a question's plan, once its list and its script are there
+abbrev pub plan_told : Question → Medl → Script → BenchPlan
+plan_told question.Keeps list script = ends (keep_ending list script)
+plan_told (question.Verify trace) list script = trace_plan trace.now (λ text. ends (verify_ending list script text))
+plan_told (question.Precision node) list script = ends (precision_ending node list script)
+plan_told (question.Modes trace) list script = trace_plan trace.now (λ text. ends (modes_ending list script text))

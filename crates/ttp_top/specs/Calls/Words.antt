@@ -8,6 +8,8 @@ use Rattle.ttp_world.specs.declared.script.TheConstants.{SLOT_LIMIT}
 use Rattle.commands.specs.Words.{number_below, numeral_named}
 use Rattle.ttp_top.specs.declared.words.Command.{Command}
 use Rattle.ttp_top.specs.declared.words.Command.TheVariants as command
+use Rattle.ttp_top.specs.declared.words.Question.{Question}
+use Rattle.ttp_top.specs.declared.words.Question.TheVariants as question
 
 -- what a call is asked for
 pub data Form : Type 0 where
@@ -82,15 +84,19 @@ form_of (verb ∷ list ∷ third ∷ fourth ∷ []) =
     else (if bytes_eq verb (codes "modes") then Some (modes list third fourth) else None)))
 form_of _ = None
 
+-- the form that a question of the code stands for, about the list and the script of these names
+abbrev pub form_told : (list script : List ℕ) → Question → Form
+form_told list script question.Keeps = keeps list script
+form_told list script (question.Verify trace) = verify list script trace.now
+form_told list script (question.Precision node) = precision list script node
+form_told list script (question.Modes trace) = modes list script trace.now
+
 -- the form that a command of the code stands for
 abbrev pub form_asked : Command → Option Form
 form_asked (command.Schedule list) = Some (schedule list.now)
 form_asked (command.Run list script) = Some (run list.now script.now)
-form_asked (command.Keeps list script) = Some (keeps list.now script.now)
-form_asked (command.Verify list script trace) = Some (verify list.now script.now trace.now)
-form_asked (command.Precision list script node) = Some (precision list.now script.now node)
+form_asked (command.Ask list script question) = Some (form_told list.now script.now question)
 form_asked (command.Sample list slots number) = Some (sample list.now slots number)
-form_asked (command.Modes list script trace) = Some (modes list.now script.now trace.now)
 form_asked command.NoForm = None
 
 -- a summary is asked of a run with slots, not more than a script may have

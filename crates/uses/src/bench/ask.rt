@@ -5,11 +5,11 @@ ghost use Rattle.commands.specs.Plan.{outside};
 ghost use Rattle.commands.specs.Words.{texts_of};
 ghost use Rattle.uses.specs.Asked.{IsAnswered};
 
+use bench_call::bench;
 use std::alloc::Global;
 use std::sync::Wait;
 use std::thread::Threads;
 use ttp_base::{MemoryLibrary, MemorySink, OpenGate};
-use ttp_top::bench;
 
 /// The status of `bench`, behind an open gate and with no cluster kept. A function of its own, since a cluster is
 /// let go part by part.
