@@ -60,6 +60,7 @@ fn put_time<K: Sink>(slot: u32, page: &mut Page, out: &mut K)
 }
 
 // A slot with its messages, in a table whose entries are written over.
+#[tactic(auto)]
 fn moment<'a>(slot: SlotShown<'a>, ports: &[Port], table: Vec<Option<Message>>) -> Moment<'a>
     requires size { length table.items ≡ 624 }
     requires ports { All HasLetters ports.now }
@@ -217,6 +218,7 @@ fn put_all<K: Sink>(
 ///
 /// `Failed` is the sink's: some first lines were written, or none, and perhaps some first bytes of the next.
 /// Where memory is refused nothing is written.
+#[tactic(auto)]
 pub fn put_wave<K: Sink>(alloc: Global, trace: &Whole, out: &mut K) -> Result<(), WaveFault>
     ensures ok { OnOk result (WroteLines (K.output out.old) (K.output out.new) (wave_lines trace.now)) }
     ensures failed { result ≡ Err WaveFault.Failed
