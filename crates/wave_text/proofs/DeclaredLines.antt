@@ -1,5 +1,5 @@
 -- Each line before the slots of a waveform is one line, and so is each line of the whole.
-use Rattle.wave_text.proofs.Words.{ℕ, ◌+◌, ◌-◌, ◌*◌, List, [], ◌∷◌, ◌++◌, map, refl, Option, Some, None, arith, codes}
+use Rattle.wave_text.proofs.Words.{ℕ, ◌-◌, ◌*◌, List, [], ◌∷◌, ◌++◌, map, refl, Option, Some, None, arith, codes}
 use Rattle.wave_text.proofs.Words.{decimal, flat_map, below, newline, hex, lines_below, is_line-append, source_word}
 use Rattle.wave_text.proofs.Words.{each-append, IsLine, Head, WholeTrace, Port, What, trace_ports, header_text}
 use Rattle.wave_text.proofs.Words.{first_text, keeps_text, returns_text, member_room, ClusterVariable, NodeVariable}
@@ -13,7 +13,6 @@ use Rattle.ttp_world.specs.declared.keep.Back.{Back}
 use Rattle.ttp_world.specs.declared.keep.Back.TheVariants as back
 use Rattle.ttp_world.specs.declared.keep.Keep.{Keep}
 use Rattle.ttp_world.specs.declared.keep.Keep.TheVariants as keep
-use Rattle.ttp_world.specs.declared.script.Source.TheVariants as source
 use Rattle.line_reader.specs.TraceLines.{keep_text, back_text}
 use Rattle.shown_slot.specs.declared.host.What.TheVariants as what
 use Rattle.wave_text.specs.declared.variable.ClusterVariable.TheVariants as of_cluster

@@ -1,5 +1,5 @@
 -- No value, code, name or type of a variable has a line feed.
-use Rattle.wave_text.proofs.Words.{◌≡◌, ℕ, zero, suc, ◌+◌, ◌-◌, ◌/◌, ◌%◌, ◌<◌, Bool, true, false, List, [], ◌∷◌, ◌++◌}
+use Rattle.wave_text.proofs.Words.{◌≡◌, ℕ, zero, suc, ◌+◌, ◌/◌, ◌%◌, ◌<◌, Bool, true, false, List, [], ◌∷◌, ◌++◌}
 use Rattle.wave_text.proofs.Words.{refl, Option, Some, None, arith, codes, decimal, nat_lt, ◌==◌, if◌then◌else◌}
 use Rattle.wave_text.proofs.Words.{signed_decimal, flat_map, Source, ack_word, source_word, Word, word_text, NodeShown}
 use Rattle.wave_text.proofs.Words.{Message, is_active_word, sends, set_bits, ClusterVariable, NodeVariable}
@@ -10,7 +10,6 @@ use Rattle.ttp_base.proofs.Numerals.{has, has-append, has-decimal, has-signed}
 use Rattle.ttp_world.specs.declared.script.Source.TheVariants as source
 use Rattle.ttp_world.proofs.TraceWords.{has-ack_word}
 use Rattle.line_reader.specs.declared.trace_line.Word.TheVariants as word
-use Rattle.shown_slot.specs.declared.host.What.TheVariants as what
 use Rattle.shown_slot.specs.declared.node.ClockRange.{ClockRange}
 use Rattle.shown_slot.specs.declared.node.Sender.{Sender}
 use Rattle.shown_slot.specs.declared.node.Sender.TheVariants as sent_by

@@ -1,5 +1,5 @@
 -- Lines of hosts, and what one line more adds to what they say of a port.
-use Rattle.wave_text.proofs.Words.{◌≡◌, ℕ, ◌+◌, Bool, true, cond, List, [], ◌∷◌, ◌++◌, Option, Some, None, refl, sym}
+use Rattle.wave_text.proofs.Words.{◌≡◌, ℕ, Bool, true, cond, List, [], ◌∷◌, ◌++◌, Option, Some, None, refl, sym}
 use Rattle.wave_text.proofs.Words.{ap, ◌∙◌, arith, ◌==◌, Source, HostLine, Message, What, larger, later}
 use Rattle.wave_text.proofs.Words.{message_in_line, most_bytes, newest_host_message, size_of, host_in, message_said}
 use Rattle.wave_text.proofs.Words.{what_in}

@@ -10,8 +10,6 @@ pub mod HostLines
 pub mod Tables
 pub mod Noting
 pub mod PortLists
-pub mod Going
-pub mod LaterSlots
-pub mod WaveParts
 pub mod Counts
 pub mod Words
+pub mod Numbers

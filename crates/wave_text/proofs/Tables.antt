@@ -1,5 +1,5 @@
 -- Tables of what hosts do, with one line more.
-use Rattle.wave_text.proofs.Words.{◌≡◌, ℕ, ◌+◌, ◌<◌, List, [], ◌∷◌, ◌++◌, Option, Some, None, length, set, refl, sym}
+use Rattle.wave_text.proofs.Words.{◌≡◌, ℕ, ◌<◌, List, [], ◌∷◌, ◌++◌, Option, Some, None, length, set, refl, sym}
 use Rattle.wave_text.proofs.Words.{ap, subst, ◌∙◌, arith, inl, inr, length-set, slice_get, slice_get-get_or}
 use Rattle.wave_text.proofs.Words.{get_or_from_slice_get, eqb_tells, HostLine, Message, What, larger, later}
 use Rattle.wave_text.proofs.Words.{message_in_line, most_bytes, newest_host_message, size_of, HasMost, HasNewest}

@@ -1,5 +1,5 @@
 -- Each line of a waveform is one line: its one line feed is its last byte.
-use Rattle.wave_text.proofs.Words.{ℕ, ◌+◌, ◌-◌, Bool, true, false, List, [], ◌∷◌, ◌++◌, length, refl, Option, Some}
+use Rattle.wave_text.proofs.Words.{ℕ, ◌+◌, Bool, true, false, List, [], ◌∷◌, ◌++◌, length, refl, Option, Some}
 use Rattle.wave_text.proofs.Words.{None, arith, codes, decimal, nat_lt, option_map, if◌then◌else◌, AllByRecursion}
 use Rattle.wave_text.proofs.Words.{flat_map, below, Lines, newline, lines_below, is_line-append, each-append, IsLine}
 use Rattle.wave_text.proofs.Words.{NodeShown, SlotLines, Message, Port, What, node_at, ClusterVariable, NodeVariable}
@@ -9,7 +9,6 @@ use Rattle.wave_text.proofs.Words.{change_line, change_lines, changes_by, cluste
 use Rattle.wave_text.proofs.Words.{port_message, scope_changes, slot_changes, time_line, first_slot_lines}
 use Rattle.wave_text.proofs.Words.{slot_change_lines, later_lines, all_slots_lines}
 use Rattle.std.specs.Str.{bytes_eq}
-use Rattle.ttp_base.specs.Text.{is_line}
 use Rattle.ttp_world.specs.declared.script.Source.TheVariants as source
 use Rattle.shown_slot.specs.declared.host.What.TheVariants as what
 use Rattle.wave_text.specs.declared.variable.ClusterVariable.TheVariants as of_cluster

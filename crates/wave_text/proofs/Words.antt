@@ -1,6 +1,9 @@
 -- The words of this crate's proofs, from one place.
 pub use Rattle.line_reader.specs.TraceLines.{word_text}
 pub use Rattle.line_reader.specs.declared.trace_line.Word.{Word}
+pub use Rattle.picture_text.proofs.Pairs.{puts_both, puts_one}
+pub use Rattle.picture_text.proofs.Puts.{puts_below, puts_none, puts_then}
+pub use Rattle.picture_text.specs.Sheet.{Puts}
 pub use Rattle.shown_slot.specs.Nodes.{is_active_word, sends}
 pub use Rattle.shown_slot.specs.Ports.{all_whats, larger, later, message_in_line, most_bytes, newest_host_message}
 pub use Rattle.shown_slot.specs.Ports.{port_if, ports_of, size_of}
@@ -15,22 +18,19 @@ pub use Rattle.std.proofs.Common.{suc, sym, take, true, zero, ℕ, ◌%◌, ◌*
 pub use Rattle.std.proofs.lemmas.Bool.Decides.{eqb_tells}
 pub use Rattle.std.proofs.lemmas.List.{append-nil, length-replicate, take_all}
 pub use Rattle.std.proofs.lemmas.Option.{get_or_from_slice_get, slice_get-get_or}
-pub use Rattle.std.proofs.lemmas.Result.{err_from_is_err_and, on_err_weaker, on_ok_weaker}
 pub use Rattle.std.specs.Fmt.{signed_decimal}
 pub use Rattle.std.specs.List.{AllByRecursion, flat_map, list_any}
-pub use Rattle.std.specs.Prelude.{All, OnErr, OnOk, filter, if◌then◌else◌, option_map, slice_get, ◌==◌}
+pub use Rattle.std.specs.Prelude.{All, filter, if◌then◌else◌, option_map, slice_get, ◌==◌}
 pub use Rattle.ttp_base.proofs.Below.{flat_map-next}
 pub use Rattle.ttp_base.proofs.Lines.{is_line-append}
-pub use Rattle.ttp_base.proofs.Outputs.{CutShort-after, CutShort-below, CutShort-more, Wrote-join, Wrote-none}
-pub use Rattle.ttp_base.proofs.Outputs.{WroteLines-below}
 pub use Rattle.ttp_base.specs.NodeSet.{below, set_bits}
-pub use Rattle.ttp_base.specs.Outside.{CutShort, Output, WroteLines}
+pub use Rattle.ttp_base.specs.Outside.{Output}
 pub use Rattle.ttp_base.specs.Text.{Lines, hex, lines_below, newline}
 pub use Rattle.ttp_world.proofs.LineLists.{each-append}
 pub use Rattle.ttp_world.proofs.TraceLines.{IsLine}
 pub use Rattle.ttp_world.specs.Trace.{ack_word, source_word}
 pub use Rattle.ttp_world.specs.declared.script.Source.{Source}
-pub use Rattle.wave_text.specs.Moment.{slot_before}
+pub use Rattle.wave_text.specs.Moment.{unless_first}
 pub use Rattle.wave_text.specs.Places.{HasMost, HasNewest, HasPlace, host_in, message_said, ports_in, size_at}
 pub use Rattle.wave_text.specs.Places.{table_place, what_in}
 pub use Rattle.wave_text.specs.Values.{bit_text, cluster_value, held_text, most_binary_digits}
@@ -45,7 +45,6 @@ pub use Rattle.wave_text.specs.Wave.{all_slots_lines, change_line, change_lines,
 pub use Rattle.wave_text.specs.Wave.{comment_line, comment_lines, first_slot_lines, wave_head_lines, later_lines}
 pub use Rattle.wave_text.specs.Wave.{port_message, node_changes, port_changes, scope_changes, slot_changes}
 pub use Rattle.wave_text.specs.Wave.{slot_change_lines, time_line, wave_lines}
-pub use Rattle.wave_text.specs.declared.slot.Moment.{Moment}
 pub use Rattle.wave_text.specs.declared.variable.ClusterVariable.{ClusterVariable}
 pub use Rattle.wave_text.specs.declared.variable.NodeVariable.{NodeVariable}
 pub use Rattle.wave_text.specs.declared.variable.PortVariable.{PortVariable}

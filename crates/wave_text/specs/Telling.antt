@@ -1,5 +1,5 @@
 -- What the values of a node's variables tell of its line.
-use Rattle.std.specs.Prelude.{◌≡◌, ℕ, ◌+◌, ◌-◌, ◌*◌, ◌^◌, ◌<◌, nat_lt, Bool, false, List, [], ◌++◌, drop, fold}
+use Rattle.std.specs.Prelude.{◌≡◌, ℕ, ◌+◌, ◌-◌, ◌*◌, ◌^◌, ◌<◌, nat_lt, Bool, false, List, ◌++◌, drop, fold}
 use Rattle.std.specs.Prelude.{Option, Some, None, IfSome, unwrap_or, codes, decimal, if◌then◌else◌}
 use Rattle.std.specs.List.{list_any}
 use Rattle.ttp_base.specs.NodeSet.{set_bits}

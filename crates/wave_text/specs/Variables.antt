@@ -1,7 +1,7 @@
 -- The variables of a waveform: their codes, names and types, and the lines that declare them.
 use Rattle.std.specs.Prelude.{ℕ, ◌+◌, ◌-◌, ◌*◌, ◌==◌, ◌<◌, List, [], ◌∷◌, ◌++◌}
 use Rattle.std.specs.Prelude.{codes, decimal, filter, flat_map, map}
-use Rattle.ttp_base.specs.NodeSet.{below, most_nodes}
+use Rattle.ttp_base.specs.NodeSet.{most_nodes}
 use Rattle.ttp_base.specs.Text.{Lines, newline, lines_below}
 use Rattle.ttp_world.specs.declared.script.Source.TheVariants as source
 use Rattle.ttp_world.specs.Trace.{source_word}

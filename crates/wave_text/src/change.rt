@@ -1,34 +1,19 @@
 //! The changes of the variables of a cluster and of its nodes, written.
-ghost use Rattle.std.specs.Prelude.{◌≡◌, ◌<◌, ◌≤◌, ℕ, [], ◌∷◌, length, Some, option_map, IfSome, IsTrue, OnOk, OnErr};
-ghost use Rattle.ttp_base.specs.Outside.{WroteLines, CutShort};
+ghost use Rattle.std.specs.Prelude.{◌≡◌, ◌<◌, ◌≤◌, ℕ, [], ◌∷◌, length, Some, IsTrue};
+ghost use Rattle.picture_text.specs.Sheet.{Puts};
 ghost use Rattle.wave_text.specs.declared.variable.NodeVariable.TheVariants as of_node;
-ghost use Rattle.wave_text.specs.Moment.{DiffersInCounts};
+ghost use Rattle.wave_text.specs.Moment.{DiffersInCounts, unless_first};
 ghost use Rattle.wave_text.specs.Values.{cluster_value, node_value};
 ghost use Rattle.wave_text.specs.Variables.{cluster_letter, node_letter, node_code};
 ghost use Rattle.wave_text.specs.Wave.{change_line, change_lines, changes_by, cluster_changes, node_changes};
 
 use crate::draft::Draft;
+use crate::page::Page;
 use crate::value::{put_cluster_value, put_node_value};
 use crate::variable::{CLUSTER_VARIABLES, ClusterVariable, NODE_VARIABLES, NodeVariable};
 use shown_slot::{active_bits, is_active_word, left_bits};
-use ttp_base::{Failed, Sink};
+use ttp_base::Sink;
 use whole_trace::NodeShown;
-
-/// Where the values of a variable are formed, that of the slot before and that of this one.
-#[derive(Drop)]
-pub(crate) struct Drafts {
-    pub(crate) before: Draft,
-    pub(crate) now: Draft,
-}
-
-impl Drafts {
-    pub(crate) fn new() -> Drafts {
-        Drafts {
-            before: Draft::new(),
-            now: Draft::new(),
-        }
-    }
-}
 
 // Makes the line of a change of its value.
 fn make_change(value: &mut Draft, code: &[u8])
@@ -43,27 +28,18 @@ fn make_change(value: &mut Draft, code: &[u8])
     value.put_text("\n");
 }
 
-/// Writes the change to a value, unless it was the same before.
-pub(crate) fn put_change<K: Sink>(
-    value: &mut Draft,
-    before: Option<&[u8]>,
-    code: &[u8],
-    out: &mut K,
-) -> Result<(), Failed>
-    requires value { length value.old ≤ 2000 }
+/// Writes the change to the value now, unless there was a slot before and its value is the same.
+pub(crate) fn put_change<K: Sink>(is_first: bool, code: &[u8], page: &mut Page, out: &mut K)
+    requires value { length page.old.now ≤ 2000 }
     requires code { length code.now ≤ 8 }
-    ensures ok { OnOk result (WroteLines (K.output out.old) (K.output out.new)
-        (change_lines code.now (option_map (λ text. text.now) before.entry) value.old)) }
-    ensures failed { OnErr result (CutShort (K.output out.old) (K.output out.new)
-        (change_lines code.now (option_map (λ text. text.now) before.entry) value.old)) }
+    ensures { Puts page.old.sheet.failed (K.output out.old) page.new.sheet.failed (K.output out.new)
+        (change_lines code.now (unless_first is_first page.old.before) page.old.now) }
 {
-    if let Some(before) = before {
-        if before == value.bytes() {
-            return Ok(());
-        }
+    if !is_first && page.before.bytes() == page.now.bytes() {
+        return;
     }
-    make_change(value, code);
-    out.write(value.bytes())
+    make_change(&mut page.now, code);
+    page.write(out);
 }
 
 // In the order of `ClusterVariable`.
@@ -92,85 +68,50 @@ fn is_kept_by_all(variable: ClusterVariable, before: &[NodeShown], now: &[NodeSh
     }
 }
 
-// Writes the change of a variable of the cluster, by the texts of its values.
-fn put_cluster_texts<K: Sink>(
-    width: u8,
-    variable: ClusterVariable,
-    before: Option<&[NodeShown]>,
-    now: &[NodeShown],
-    drafts: &mut Drafts,
-    out: &mut K,
-) -> Result<(), Failed>
-    requires width { width ≤ 24 }
-    requires now { length now.now ≤ 24 }
-    requires before { IfSome before (λ nodes. length nodes.now ≤ 24) }
-    ensures ok { OnOk result (WroteLines (K.output out.old) (K.output out.new)
-        (changes_by (cluster_value width variable) (cluster_letter variable) (option_map (λ nodes. nodes.now) before.entry)
-        now.now)) }
-    ensures failed { OnErr result (CutShort (K.output out.old) (K.output out.new)
-        (changes_by (cluster_value width variable) (cluster_letter variable) (option_map (λ nodes. nodes.now) before.entry)
-        now.now)) }
-{
-    let code = cluster_letter(variable).as_bytes();
-    drafts.now.clear();
-    put_cluster_value(&mut drafts.now, width, variable, now);
-    match before {
-        None => put_change(&mut drafts.now, None, code, out),
-        Some(before) => {
-            drafts.before.clear();
-            put_cluster_value(&mut drafts.before, width, variable, before);
-            put_change(&mut drafts.now, Some(drafts.before.bytes()), code, out)
-        }
-    }
-}
-
 // Writes the change of a variable of the cluster.
 fn put_cluster_change<K: Sink>(
     width: u8,
     variable: ClusterVariable,
-    before: Option<&[NodeShown]>,
+    is_first: bool,
+    before: &[NodeShown],
     now: &[NodeShown],
-    drafts: &mut Drafts,
+    page: &mut Page,
     out: &mut K,
-) -> Result<(), Failed>
+)
     requires width { width ≤ 24 }
     requires now { length now.now ≤ 24 }
-    requires before { IfSome before (λ nodes. length nodes.now ≤ 24) }
-    ensures ok { OnOk result (WroteLines (K.output out.old) (K.output out.new)
-        (changes_by (cluster_value width variable) (cluster_letter variable) (option_map (λ nodes. nodes.now) before.entry)
-        now.now)) }
-    ensures failed { OnErr result (CutShort (K.output out.old) (K.output out.new)
-        (changes_by (cluster_value width variable) (cluster_letter variable) (option_map (λ nodes. nodes.now) before.entry)
-        now.now)) }
+    requires before { length before.now ≤ 24 }
+    ensures { Puts page.old.sheet.failed (K.output out.old) page.new.sheet.failed (K.output out.new)
+        (changes_by (cluster_value width variable) (cluster_letter variable) (unless_first is_first before.now) now.now) }
 {
-    if let Some(before) = before {
-        if is_kept_by_all(variable, before, now) {
-            return Ok(());
-        }
+    if !is_first && is_kept_by_all(variable, before, now) {
+        return;
     }
-    put_cluster_texts(width, variable, before, now, drafts, out)
+    page.before.clear();
+    page.now.clear();
+    put_cluster_value(&mut page.before, width, variable, before);
+    put_cluster_value(&mut page.now, width, variable, now);
+    put_change(is_first, cluster_letter(variable).as_bytes(), page, out);
 }
 
-/// Writes the changes of the cluster's variables.
+/// Writes the changes of the cluster's variables since the slot before, or all in the first one.
 pub(crate) fn put_cluster_changes<K: Sink>(
     width: u8,
-    before: Option<&[NodeShown]>,
+    is_first: bool,
+    before: &[NodeShown],
     now: &[NodeShown],
-    drafts: &mut Drafts,
+    page: &mut Page,
     out: &mut K,
-) -> Result<(), Failed>
+)
     requires width { width ≤ 24 }
     requires now { length now.now ≤ 24 }
-    requires before { IfSome before (λ nodes. length nodes.now ≤ 24) }
-    ensures ok { OnOk result (WroteLines (K.output out.old) (K.output out.new)
-        (cluster_changes width (option_map (λ nodes. nodes.now) before.entry) now.now)) }
-    ensures failed { OnErr result (CutShort (K.output out.old) (K.output out.new)
-        (cluster_changes width (option_map (λ nodes. nodes.now) before.entry) now.now)) }
+    requires before { length before.now ≤ 24 }
+    ensures { Puts page.old.sheet.failed (K.output out.old) page.new.sheet.failed (K.output out.new)
+        (cluster_changes width (unless_first is_first before.now) now.now) }
 {
     for variable in &CLUSTER_VARIABLES {
-        put_cluster_change(width, *variable, before, now, drafts, out)?;
+        put_cluster_change(width, *variable, is_first, before, now, page, out);
     }
-    Ok(())
 }
 
 // In the order of `NodeVariable`.
@@ -228,85 +169,30 @@ fn is_kept(variable: NodeVariable, before: &NodeShown, now: &NodeShown) -> bool
     }
 }
 
-// Writes the change of a variable of a node, by the texts of its values.
-fn put_node_texts<K: Sink>(
-    width: u8,
-    variable: NodeVariable,
-    node: u8,
-    before: Option<&NodeShown>,
-    now: &NodeShown,
-    drafts: &mut Drafts,
-    out: &mut K,
-) -> Result<(), Failed>
-    requires width { width ≤ 24 }
-    requires node { node < 24 }
-    ensures ok { OnOk result (WroteLines (K.output out.old) (K.output out.new)
-        (changes_by (node_value width variable) (node_code variable node) (option_map (λ shown. shown.now) before.entry)
-        now.now)) }
-    ensures failed { OnErr result (CutShort (K.output out.old) (K.output out.new)
-        (changes_by (node_value width variable) (node_code variable node) (option_map (λ shown. shown.now) before.entry)
-        now.now)) }
-{
-    let code = node_code(variable, node);
-    drafts.now.clear();
-    put_node_value(&mut drafts.now, width, variable, now);
-    match before {
-        None => put_change(&mut drafts.now, None, &code, out),
-        Some(before) => {
-            drafts.before.clear();
-            put_node_value(&mut drafts.before, width, variable, before);
-            put_change(&mut drafts.now, Some(drafts.before.bytes()), &code, out)
-        }
-    }
-}
-
 // Writes the change of a variable of a node.
 fn put_node_change<K: Sink>(
     width: u8,
     variable: NodeVariable,
     node: u8,
-    before: Option<&NodeShown>,
+    is_first: bool,
+    before: &NodeShown,
     now: &NodeShown,
-    drafts: &mut Drafts,
+    page: &mut Page,
     out: &mut K,
-) -> Result<(), Failed>
+)
     requires width { width ≤ 24 }
     requires node { node < 24 }
-    ensures ok { OnOk result (WroteLines (K.output out.old) (K.output out.new)
-        (changes_by (node_value width variable) (node_code variable node) (option_map (λ shown. shown.now) before.entry)
-        now.now)) }
-    ensures failed { OnErr result (CutShort (K.output out.old) (K.output out.new)
-        (changes_by (node_value width variable) (node_code variable node) (option_map (λ shown. shown.now) before.entry)
-        now.now)) }
+    ensures { Puts page.old.sheet.failed (K.output out.old) page.new.sheet.failed (K.output out.new)
+        (changes_by (node_value width variable) (node_code variable node) (unless_first is_first before.now) now.now) }
 {
-    if let Some(before) = before {
-        if is_kept(variable, before, now) {
-            return Ok(());
-        }
+    if !is_first && is_kept(variable, before, now) {
+        return;
     }
-    put_node_texts(width, variable, node, before, now, drafts, out)
-}
-
-// Writes the changes of a node's variables, one after another.
-fn put_each_change<K: Sink>(
-    width: u8,
-    node: u8,
-    before: Option<&NodeShown>,
-    now: &NodeShown,
-    drafts: &mut Drafts,
-    out: &mut K,
-) -> Result<(), Failed>
-    requires width { width ≤ 24 }
-    requires node { node < 24 }
-    ensures ok { OnOk result (WroteLines (K.output out.old) (K.output out.new)
-        (node_changes width node (option_map (λ shown. shown.now) before.entry) now.now)) }
-    ensures failed { OnErr result (CutShort (K.output out.old) (K.output out.new)
-        (node_changes width node (option_map (λ shown. shown.now) before.entry) now.now)) }
-{
-    for variable in &NODE_VARIABLES {
-        put_node_change(width, *variable, node, before, now, drafts, out)?;
-    }
-    Ok(())
+    page.before.clear();
+    page.now.clear();
+    put_node_value(&mut page.before, width, variable, before);
+    put_node_value(&mut page.now, width, variable, now);
+    put_change(is_first, &node_code(variable, node), page, out);
 }
 
 // Whether lines show the same of a node but for its peer and the frames that it accepted.
@@ -327,57 +213,75 @@ fn put_counts<K: Sink>(
     node: u8,
     before: &NodeShown,
     now: &NodeShown,
-    drafts: &mut Drafts,
+    page: &mut Page,
     out: &mut K,
-) -> Result<(), Failed>
+)
     requires width { width ≤ 24 }
     requires node { node < 24 }
     requires counts { DiffersInCounts before.now now.now }
-    ensures ok { OnOk result (WroteLines (K.output out.old) (K.output out.new)
-        (node_changes width node (Some before.now) now.now)) }
-    ensures failed { OnErr result (CutShort (K.output out.old) (K.output out.new)
-        (node_changes width node (Some before.now) now.now)) }
+    ensures { Puts page.old.sheet.failed (K.output out.old) page.new.sheet.failed (K.output out.new)
+        (node_changes width node (Some before.now) now.now) }
 {
     put_node_change(
         width,
         NodeVariable::Peer,
         node,
-        Some(before),
+        false,
+        before,
         now,
-        drafts,
+        page,
         out,
-    )?;
+    );
     put_node_change(
         width,
         NodeVariable::Accepted,
         node,
-        Some(before),
+        false,
+        before,
         now,
-        drafts,
+        page,
         out,
-    )
+    );
 }
 
-/// Writes the changes of a node's variables.
+// Writes the changes of a node's variables, one after another.
+fn put_each_change<K: Sink>(
+    width: u8,
+    node: u8,
+    is_first: bool,
+    before: &NodeShown,
+    now: &NodeShown,
+    page: &mut Page,
+    out: &mut K,
+)
+    requires width { width ≤ 24 }
+    requires node { node < 24 }
+    ensures { Puts page.old.sheet.failed (K.output out.old) page.new.sheet.failed (K.output out.new)
+        (node_changes width node (unless_first is_first before.now) now.now) }
+{
+    for variable in &NODE_VARIABLES {
+        put_node_change(width, *variable, node, is_first, before, now, page, out);
+    }
+}
+
+/// Writes the changes of a node's variables since the slot before, or all in the first one.
 pub(crate) fn put_node_changes<K: Sink>(
     width: u8,
     node: u8,
-    before: Option<&NodeShown>,
+    is_first: bool,
+    before: &NodeShown,
     now: &NodeShown,
-    drafts: &mut Drafts,
+    page: &mut Page,
     out: &mut K,
-) -> Result<(), Failed>
+)
     requires width { width ≤ 24 }
     requires node { node < 24 }
-    ensures ok { OnOk result (WroteLines (K.output out.old) (K.output out.new)
-        (node_changes width node (option_map (λ shown. shown.now) before.entry) now.now)) }
-    ensures failed { OnErr result (CutShort (K.output out.old) (K.output out.new)
-        (node_changes width node (option_map (λ shown. shown.now) before.entry) now.now)) }
+    ensures { Puts page.old.sheet.failed (K.output out.old) page.new.sheet.failed (K.output out.new)
+        (node_changes width node (unless_first is_first before.now) now.now) }
 {
-    if let Some(before) = before {
-        if differ_in_counts(before, now) {
-            return put_counts(width, node, before, now, drafts, out);
-        }
+    if !is_first && differ_in_counts(before, now) {
+        put_counts(width, node, before, now, page, out);
+    } else {
+        put_each_change(width, node, is_first, before, now, page, out);
     }
-    put_each_change(width, node, before, now, drafts, out)
 }

@@ -1,5 +1,5 @@
 //! A line of a waveform while it is formed.
-ghost use Rattle.std.specs.Prelude.{◌≡◌, ◌+◌, ◌≤◌, [], ◌++◌, length, take, drop, IfSome};
+ghost use Rattle.std.specs.Prelude.{◌≡◌, ◌+◌, ◌≤◌, ◌<◌, [], ◌++◌, length, take, drop};
 ghost use Rattle.std.specs.Fmt.{decimal, signed_decimal};
 ghost use Rattle.wave_text.specs.Values.{binary, binary_number, number_text, wires_text};
 
@@ -134,90 +134,20 @@ pub(crate) fn put_digits(line: &mut Draft, more: u8, v: u64)
     }
 }
 
-// The value of a number from 0 to 7.
-fn number_text_from_0(v: u64) -> Option<&'static str>
-    ensures text { IfSome result (λ t. t.now ≡ number_text v) }
-    ensures short { IfSome result (λ t. length t.now ≤ 6) }
-{
-    match v {
-        0 => Some("b0"),
-        1 => Some("b1"),
-        2 => Some("b10"),
-        3 => Some("b11"),
-        4 => Some("b100"),
-        5 => Some("b101"),
-        6 => Some("b110"),
-        7 => Some("b111"),
-        _ => None,
-    }
-}
+// The values of small numbers, as those of nodes and of frames that they accepted are.
+const SMALL_NUMBERS: [&str; 32] = [
+    "b0", "b1", "b10", "b11", "b100", "b101", "b110", "b111", "b1000", "b1001", "b1010", "b1011",
+    "b1100", "b1101", "b1110", "b1111", "b10000", "b10001", "b10010", "b10011", "b10100", "b10101",
+    "b10110", "b10111", "b11000", "b11001", "b11010", "b11011", "b11100", "b11101", "b11110",
+    "b11111",
+];
 
-// The value of a number from 8 to 15.
-fn number_text_from_8(v: u64) -> Option<&'static str>
-    ensures text { IfSome result (λ t. t.now ≡ number_text v) }
-    ensures short { IfSome result (λ t. length t.now ≤ 6) }
+fn small_number_text(v: u64) -> &'static str
+    requires { v < 32 }
+    ensures text { result.now ≡ number_text v }
+    ensures short { length result.now ≤ 6 }
 {
-    match v {
-        8 => Some("b1000"),
-        9 => Some("b1001"),
-        10 => Some("b1010"),
-        11 => Some("b1011"),
-        12 => Some("b1100"),
-        13 => Some("b1101"),
-        14 => Some("b1110"),
-        15 => Some("b1111"),
-        _ => None,
-    }
-}
-
-// The value of a number from 16 to 23.
-fn number_text_from_16(v: u64) -> Option<&'static str>
-    ensures text { IfSome result (λ t. t.now ≡ number_text v) }
-    ensures short { IfSome result (λ t. length t.now ≤ 6) }
-{
-    match v {
-        16 => Some("b10000"),
-        17 => Some("b10001"),
-        18 => Some("b10010"),
-        19 => Some("b10011"),
-        20 => Some("b10100"),
-        21 => Some("b10101"),
-        22 => Some("b10110"),
-        23 => Some("b10111"),
-        _ => None,
-    }
-}
-
-// The value of a number from 24 to 31.
-fn number_text_from_24(v: u64) -> Option<&'static str>
-    ensures text { IfSome result (λ t. t.now ≡ number_text v) }
-    ensures short { IfSome result (λ t. length t.now ≤ 6) }
-{
-    match v {
-        24 => Some("b11000"),
-        25 => Some("b11001"),
-        26 => Some("b11010"),
-        27 => Some("b11011"),
-        28 => Some("b11100"),
-        29 => Some("b11101"),
-        30 => Some("b11110"),
-        31 => Some("b11111"),
-        _ => None,
-    }
-}
-
-// The value of a small number, as those of nodes and of frames that they accepted are.
-fn small_number_text(v: u64) -> Option<&'static str>
-    ensures text { IfSome result (λ t. t.now ≡ number_text v) }
-    ensures short { IfSome result (λ t. length t.now ≤ 6) }
-{
-    match v / 8 {
-        0 => number_text_from_0(v),
-        1 => number_text_from_8(v),
-        2 => number_text_from_16(v),
-        3 => number_text_from_24(v),
-        _ => None,
-    }
+    SMALL_NUMBERS[v as usize]
 }
 
 /// Adds a number as the value of a variable.
@@ -226,12 +156,11 @@ pub(crate) fn put_number(line: &mut Draft, v: u64)
     ensures text { line.new ≡ line.old ++ number_text v }
     ensures short { length line.new ≤ length line.old + 65 }
 {
-    match small_number_text(v) {
-        Some(text) => line.put_text(text),
-        None => {
-            line.put_text("b");
-            put_digits(line, 64, v);
-        }
+    if v < 32 {
+        line.put_text(small_number_text(v));
+    } else {
+        line.put_text("b");
+        put_digits(line, 64, v);
     }
 }
 

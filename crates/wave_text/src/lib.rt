@@ -30,6 +30,7 @@ mod draft;
 mod head;
 pub mod laws;
 mod newest;
+mod page;
 mod place;
 mod port;
 mod ports;

@@ -1,16 +1,18 @@
 //! The changes of a host's variables, written.
-ghost use Rattle.std.specs.Prelude.{◌≡◌, ◌≤◌, ◌++◌, length, option_map, OnOk, OnErr};
-ghost use Rattle.ttp_base.specs.Outside.{WroteLines, CutShort};
+ghost use Rattle.std.specs.Prelude.{◌≡◌, ◌≤◌, ◌++◌, length};
+ghost use Rattle.picture_text.specs.Sheet.{Puts};
+ghost use Rattle.wave_text.specs.Moment.{unless_first};
 ghost use Rattle.wave_text.specs.Values.{port_value};
 ghost use Rattle.wave_text.specs.Variables.{port_letter, source_letter, port_code, HasLetters, HasSourceLetter};
-ghost use Rattle.wave_text.specs.Wave.{changes_by, data_changes, port_changes};
+ghost use Rattle.wave_text.specs.Wave.{changes_by, port_changes};
 
-use crate::change::{Drafts, put_change};
+use crate::change::put_change;
 use crate::draft::Draft;
+use crate::page::Page;
 use crate::value::put_port_value;
 use crate::variable::PortVariable;
 use shown_slot::{Message, Port, What};
-use ttp_base::{Failed, Sink};
+use ttp_base::Sink;
 use ttp_world::Source;
 
 fn port_letter(what: What, variable: PortVariable) -> &'static str
@@ -59,71 +61,38 @@ pub(crate) fn port_code(port: &Port, variable: PortVariable) -> Draft
 fn put_port_change<K: Sink>(
     port: &Port,
     variable: PortVariable,
-    before: Option<&Option<Message>>,
+    is_first: bool,
+    before: &Option<Message>,
     now: &Option<Message>,
-    drafts: &mut Drafts,
+    page: &mut Page,
     out: &mut K,
-) -> Result<(), Failed>
+)
     requires { HasLetters port.now }
-    ensures ok { OnOk result (WroteLines (K.output out.old) (K.output out.new)
-        (changes_by (port_value variable) (port_code port.now variable) (option_map (λ message. message.now) before.entry)
-        now.now)) }
-    ensures failed { OnErr result (CutShort (K.output out.old) (K.output out.new)
-        (changes_by (port_value variable) (port_code port.now variable) (option_map (λ message. message.now) before.entry)
-        now.now)) }
+    ensures { Puts page.old.sheet.failed (K.output out.old) page.new.sheet.failed (K.output out.new)
+        (changes_by (port_value variable) (port_code port.now variable) (unless_first is_first before.now) now.now) }
 {
-    let code = port_code(port, variable);
-    drafts.now.clear();
-    put_port_value(&mut drafts.now, variable, now);
-    match before {
-        None => put_change(&mut drafts.now, None, code.bytes(), out),
-        Some(before) => {
-            drafts.before.clear();
-            put_port_value(&mut drafts.before, variable, before);
-            put_change(
-                &mut drafts.now,
-                Some(drafts.before.bytes()),
-                code.bytes(),
-                out,
-            )
-        }
-    }
+    page.before.clear();
+    page.now.clear();
+    put_port_value(&mut page.before, variable, before);
+    put_port_value(&mut page.now, variable, now);
+    put_change(is_first, port_code(port, variable).bytes(), page, out);
 }
 
-// Writes the change of the bytes that a host reads.
-fn put_data_change<K: Sink>(
-    port: &Port,
-    before: Option<&Option<Message>>,
-    now: &Option<Message>,
-    drafts: &mut Drafts,
-    out: &mut K,
-) -> Result<(), Failed>
-    requires { HasLetters port.now }
-    ensures ok { OnOk result (WroteLines (K.output out.old) (K.output out.new)
-        (data_changes port.now (option_map (λ message. message.now) before.entry) now.now)) }
-    ensures failed { OnErr result (CutShort (K.output out.old) (K.output out.new)
-        (data_changes port.now (option_map (λ message. message.now) before.entry) now.now)) }
-{
-    match port.what {
-        What::Write => Ok(()),
-        What::Read(_) => put_port_change(port, PortVariable::Data, before, now, drafts, out),
-    }
-}
-
-/// Writes the changes of a port's variables.
+/// Writes the changes of a port's variables since the slot before, or all in the first one.
 pub(crate) fn put_port_changes<K: Sink>(
     port: &Port,
-    before: Option<&Option<Message>>,
+    is_first: bool,
+    before: &Option<Message>,
     now: &Option<Message>,
-    drafts: &mut Drafts,
+    page: &mut Page,
     out: &mut K,
-) -> Result<(), Failed>
+)
     requires { HasLetters port.now }
-    ensures ok { OnOk result (WroteLines (K.output out.old) (K.output out.new)
-        (port_changes port.now (option_map (λ message. message.now) before.entry) now.now)) }
-    ensures failed { OnErr result (CutShort (K.output out.old) (K.output out.new)
-        (port_changes port.now (option_map (λ message. message.now) before.entry) now.now)) }
+    ensures { Puts page.old.sheet.failed (K.output out.old) page.new.sheet.failed (K.output out.new)
+        (port_changes port.now (unless_first is_first before.now) now.now) }
 {
-    put_port_change(port, PortVariable::Number, before, now, drafts, out)?;
-    put_data_change(port, before, now, drafts, out)
+    put_port_change(port, PortVariable::Number, is_first, before, now, page, out);
+    if let What::Read(_) = port.what {
+        put_port_change(port, PortVariable::Data, is_first, before, now, page, out);
+    }
 }

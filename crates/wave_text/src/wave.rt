@@ -1,22 +1,25 @@
 //! The waveform of a trace, written.
-ghost use Rattle.std.specs.Prelude.{◌≡◌, ◌<◌, ◌≤◌, [], ◌∷◌, length, All, Err, OnOk, OnErr};
+#![tactic(auto, using(picture_text::proofs::Puts::puts))]
+
+ghost use Rattle.std.specs.Prelude.{◌≡◌, ◌<◌, ◌≤◌, [], ◌∷◌, length, All, Err, OnOk};
 ghost use Rattle.ttp_base.specs.Outside.{WroteLines, CutShort};
+ghost use Rattle.picture_text.specs.Sheet.{Puts};
 ghost use Rattle.shown_slot.specs.Trace.{member_room, trace_ports};
 ghost use Rattle.wave_text.specs.Moment.{ShowsMessages};
-ghost use Rattle.wave_text.specs.Variables.{declarations, HasLetters};
+ghost use Rattle.wave_text.specs.Variables.{HasLetters};
 ghost use Rattle.wave_text.specs.Wave.{all_slots_lines, first_slot_lines, later_lines, slot_change_lines, time_line};
 ghost use Rattle.wave_text.specs.Wave.{wave_lines};
 
-use crate::change::Drafts;
 use crate::declare::put_declarations;
 use crate::draft::Draft;
 use crate::head::put_head;
 use crate::newest::{no_messages, note_slot};
+use crate::page::Page;
 use crate::ports::find_ports;
 use crate::slot::{Moment, put_slot_changes};
 use shown_slot::{Message, Port};
 use std::alloc::Global;
-use ttp_base::{Failed, Line, Sink};
+use ttp_base::Sink;
 use whole_trace::{SlotShown, Slots, Whole};
 
 /// Why a waveform was not written whole.
@@ -36,20 +39,28 @@ fn member_room(trace: &Whole) -> u8
     if trace.head().version == 2 { 24 } else { 16 }
 }
 
-// Writes the time of a slot.
+// Makes the line of the time of a slot.
 #[tactic(auto, using(ttp_base::proofs::Room::room))]
-fn put_time<K: Sink>(slot: u32, out: &mut K) -> Result<(), Failed>
-    ensures ok { OnOk result (WroteLines (K.output out.old) (K.output out.new) (time_line slot ∷ [])) }
-    ensures failed { OnErr result (CutShort (K.output out.old) (K.output out.new) (time_line slot ∷ [])) }
+fn make_time(line: &mut Draft, slot: u32)
+    ensures { line.new ≡ time_line slot }
 {
-    let mut line = Line::new();
+    line.clear();
     line.put_text("#");
-    line.put_number(u64::from(slot));
+    line.put_decimal(u64::from(slot));
     line.put_text("\n");
-    out.write(line.bytes())
+}
+
+// Writes the time of a slot.
+fn put_time<K: Sink>(slot: u32, page: &mut Page, out: &mut K)
+    ensures { Puts page.old.sheet.failed (K.output out.old) page.new.sheet.failed (K.output out.new)
+        (time_line slot ∷ []) }
+{
+    make_time(&mut page.now, slot);
+    page.write(out);
 }
 
 // A slot with its messages, in a table whose entries are written over.
+#[tactic(auto)]
 fn moment<'a>(slot: SlotShown<'a>, ports: &[Port], table: Vec<Option<Message>>) -> Moment<'a>
     requires size { length table.items ≡ 624 }
     requires ports { All HasLetters ports.now }
@@ -68,47 +79,43 @@ fn put_first_slot<K: Sink>(
     nodes: u8,
     ports: &[Port],
     now: &Moment,
-    drafts: &mut Drafts,
+    page: &mut Page,
     out: &mut K,
-) -> Result<(), Failed>
+)
     requires width { width ≤ 24 }
     requires nodes { nodes ≤ 24 }
     requires ports { All HasLetters ports.now }
     requires now { ShowsMessages ports.now now.now }
-    ensures ok { OnOk result (WroteLines (K.output out.old) (K.output out.new)
-        (first_slot_lines width nodes ports.now now.now.slot)) }
-    ensures failed { OnErr result (CutShort (K.output out.old) (K.output out.new)
-        (first_slot_lines width nodes ports.now now.now.slot)) }
+    ensures { Puts page.old.sheet.failed (K.output out.old) page.new.sheet.failed (K.output out.new)
+        (first_slot_lines width nodes ports.now now.now.slot) }
 {
-    put_time(0, out)?;
-    out.write(b"$dumpvars\n")?;
-    put_slot_changes(width, nodes, ports, None, now, drafts, out)?;
-    out.write(b"$end\n")
+    put_time(0, page, out);
+    page.sheet.put(b"$dumpvars\n", out);
+    put_slot_changes(width, nodes, ports, true, now, now, page, out);
+    page.sheet.put(b"$end\n", out);
 }
 
 // Writes a later slot.
-fn put_slot<K: Sink>(
+fn put_slot<'t, K: Sink>(
     width: u8,
     nodes: u8,
     ports: &[Port],
     time: u32,
-    before: &Moment,
-    now: &Moment,
-    drafts: &mut Drafts,
+    before: &Moment<'t>,
+    now: &Moment<'t>,
+    page: &mut Page,
     out: &mut K,
-) -> Result<(), Failed>
+)
     requires width { width ≤ 24 }
     requires nodes { nodes ≤ 24 }
     requires ports { All HasLetters ports.now }
     requires before { ShowsMessages ports.now before.now }
     requires now { ShowsMessages ports.now now.now }
-    ensures ok { OnOk result (WroteLines (K.output out.old) (K.output out.new)
-        (slot_change_lines width nodes ports.now time before.now.slot now.now.slot)) }
-    ensures failed { OnErr result (CutShort (K.output out.old) (K.output out.new)
-        (slot_change_lines width nodes ports.now time before.now.slot now.now.slot)) }
+    ensures { Puts page.old.sheet.failed (K.output out.old) page.new.sheet.failed (K.output out.new)
+        (slot_change_lines width nodes ports.now time before.now.slot now.now.slot) }
 {
-    put_time(time, out)?;
-    put_slot_changes(width, nodes, ports, Some(before), now, drafts, out)
+    put_time(time, page, out);
+    put_slot_changes(width, nodes, ports, false, before, now, page, out);
 }
 
 // Writes the slots behind the first one, and the end of the last.
@@ -119,9 +126,9 @@ fn put_later_slots<K: Sink>(
     slots: Slots,
     first: Moment,
     table: Vec<Option<Message>>,
-    drafts: &mut Drafts,
+    page: &mut Page,
     out: &mut K,
-) -> Result<(), Failed>
+)
     requires width { width ≤ 24 }
     requires nodes { nodes ≤ 24 }
     requires ports { All HasLetters ports.now }
@@ -129,10 +136,8 @@ fn put_later_slots<K: Sink>(
     requires first { ShowsMessages ports.now first }
     requires messages { length first.messages.items ≡ 624 }
     requires table { length table.items ≡ 624 }
-    ensures ok { OnOk result (WroteLines (K.output out.old) (K.output out.new)
-        (later_lines width nodes ports.now 1 first.entry.slot slots.entry)) }
-    ensures failed { OnErr result (CutShort (K.output out.old) (K.output out.new)
-        (later_lines width nodes ports.now 1 first.entry.slot slots.entry)) }
+    ensures { Puts page.old.sheet.failed (K.output out.old) page.new.sheet.failed (K.output out.new)
+        (later_lines width nodes ports.now 1 first.entry.slot slots.entry) }
 {
     let mut slots = slots;
     let mut before = first;
@@ -140,13 +145,13 @@ fn put_later_slots<K: Sink>(
     let mut time: u32 = 1;
     while let Some(slot) = slots.next_slot() {
         let now = moment(slot, ports, spare);
-        put_slot(width, nodes, ports, time, &before, &now, drafts, out)?;
+        put_slot(width, nodes, ports, time, &before, &now, page, out);
         // What was kept of the slot before is written over with the next.
         spare = before.messages;
         before = now;
         time += 1;
     }
-    put_time(time, out)
+    put_time(time, page, out);
 }
 
 // Writes slots, with room for the messages of two of them.
@@ -157,67 +162,27 @@ fn put_slots<K: Sink>(
     slots: Slots,
     one: Vec<Option<Message>>,
     other: Vec<Option<Message>>,
+    page: &mut Page,
     out: &mut K,
-) -> Result<(), Failed>
+)
     requires width { width ≤ 24 }
     requires nodes { nodes ≤ 24 }
     requires ports { All HasLetters ports.now }
     requires few { length slots ≤ 20000 }
     requires one { length one.items ≡ 624 }
     requires other { length other.items ≡ 624 }
-    ensures ok { OnOk result (WroteLines (K.output out.old) (K.output out.new)
-        (all_slots_lines width nodes ports.now slots.entry)) }
-    ensures failed { OnErr result (CutShort (K.output out.old) (K.output out.new)
-        (all_slots_lines width nodes ports.now slots.entry)) }
+    ensures { Puts page.old.sheet.failed (K.output out.old) page.new.sheet.failed (K.output out.new)
+        (all_slots_lines width nodes ports.now slots.entry) }
 {
-    let mut drafts = Drafts::new();
     let mut slots = slots;
-    let Some(slot) = slots.next_slot() else {
-        return put_time(0, out);
-    };
-    let first = moment(slot, ports, one);
-    put_first_slot(width, nodes, ports, &first, &mut drafts, out)?;
-    put_later_slots(width, nodes, ports, slots, first, other, &mut drafts, out)
-}
-
-// Writes the slots of the trace.
-fn put_all_slots<K: Sink>(
-    trace: &Whole,
-    ports: &[Port],
-    one: Vec<Option<Message>>,
-    other: Vec<Option<Message>>,
-    out: &mut K,
-) -> Result<(), Failed>
-    requires ports { All HasLetters ports.now }
-    requires one { length one.items ≡ 624 }
-    requires other { length other.items ≡ 624 }
-    ensures ok { OnOk result (WroteLines (K.output out.old) (K.output out.new)
-        (all_slots_lines (member_room trace.now) trace.now.head.nodes ports.now trace.now.slots)) }
-    ensures failed { OnErr result (CutShort (K.output out.old) (K.output out.new)
-        (all_slots_lines (member_room trace.now) trace.now.head.nodes ports.now trace.now.slots)) }
-{
-    let width = member_room(trace);
-    let head = trace.head();
-    let slots = trace.slots();
-    put_slots(width, head.nodes, ports, slots, one, other, out)
-}
-
-// Writes the declarations.
-fn put_variables<K: Sink>(
-    trace: &Whole,
-    ports: &[Port],
-    line: &mut Draft,
-    out: &mut K,
-) -> Result<(), Failed>
-    requires ports { All HasLetters ports.now }
-    ensures ok { OnOk result (WroteLines (K.output out.old) (K.output out.new)
-        (declarations (member_room trace.now) trace.now.head.nodes ports.now)) }
-    ensures failed { OnErr result (CutShort (K.output out.old) (K.output out.new)
-        (declarations (member_room trace.now) trace.now.head.nodes ports.now)) }
-{
-    let width = member_room(trace);
-    let head = trace.head();
-    put_declarations(width, head.nodes, ports, line, out)
+    match slots.next_slot() {
+        None => put_time(0, page, out),
+        Some(slot) => {
+            let first = moment(slot, ports, one);
+            put_first_slot(width, nodes, ports, &first, page, out);
+            put_later_slots(width, nodes, ports, slots, first, other, page, out);
+        }
+    }
 }
 
 // Writes the waveform, with what hosts do in the trace and room for the messages of two slots.
@@ -226,20 +191,22 @@ fn put_all<K: Sink>(
     ports: &[Port],
     one: Vec<Option<Message>>,
     other: Vec<Option<Message>>,
+    page: &mut Page,
     out: &mut K,
-) -> Result<(), Failed>
+)
     requires ports { All HasLetters ports.now }
     requires found { ports.now ≡ trace_ports trace.now }
     requires one { length one.items ≡ 624 }
     requires other { length other.items ≡ 624 }
-    ensures ok { OnOk result (WroteLines (K.output out.old) (K.output out.new) (wave_lines trace.now)) }
-    ensures failed { OnErr result (CutShort (K.output out.old) (K.output out.new) (wave_lines trace.now)) }
+    ensures { Puts page.old.sheet.failed (K.output out.old) page.new.sheet.failed (K.output out.new)
+        (wave_lines trace.now) }
 {
-    let mut line = Draft::new();
-    put_head(trace, &mut line, out)?;
-    put_variables(trace, ports, &mut line, out)?;
-    out.write(b"$enddefinitions $end\n")?;
-    put_all_slots(trace, ports, one, other, out)
+    let width = member_room(trace);
+    let nodes = trace.head().nodes;
+    put_head(trace, page, out);
+    put_declarations(width, nodes, ports, page, out);
+    page.sheet.put(b"$enddefinitions $end\n", out);
+    put_slots(width, nodes, ports, trace.slots(), one, other, page, out);
 }
 
 /// Writes the waveform of a trace, each of its lines as one piece.
@@ -251,6 +218,7 @@ fn put_all<K: Sink>(
 ///
 /// `Failed` is the sink's: some first lines were written, or none, and perhaps some first bytes of the next.
 /// Where memory is refused nothing is written.
+#[tactic(auto)]
 pub fn put_wave<K: Sink>(alloc: Global, trace: &Whole, out: &mut K) -> Result<(), WaveFault>
     ensures ok { OnOk result (WroteLines (K.output out.old) (K.output out.new) (wave_lines trace.now)) }
     ensures failed { result ≡ Err WaveFault.Failed
@@ -266,8 +234,11 @@ pub fn put_wave<K: Sink>(alloc: Global, trace: &Whole, out: &mut K) -> Result<()
     let Ok(other) = no_messages(alloc) else {
         return Err(WaveFault::Memory);
     };
-    match put_all(trace, ports.as_slice(), one, other, out) {
-        Ok(()) => Ok(()),
-        Err(Failed) => Err(WaveFault::Failed),
+    let mut page = Page::new();
+    put_all(trace, ports.as_slice(), one, other, &mut page, out);
+    if page.sheet.failed {
+        Err(WaveFault::Failed)
+    } else {
+        Ok(())
     }
 }

@@ -1,4 +1,4 @@
-use Rattle.wave_text.proofs.Words.{[], subst, arith}
+use Rattle.wave_text.proofs.Words.{subst, arith}
 use Rattle.wave_text.proofs.Noting.{AreNoted, noted-more}
 use Rattle.wave_text.proofs.newest.note_slot.Goals as goal
 

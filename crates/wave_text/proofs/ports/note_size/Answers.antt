@@ -1,5 +1,5 @@
 use Rattle.wave_text.proofs.Words.{◌≡◌, ◌<◌, ℕ, [], ◌∷◌, ◌++◌, Option, Some, None, length, get_or, ap, sym, subst, refl}
-use Rattle.wave_text.proofs.Words.{set, ◌∙◌, arith, slice_get, slice_get-get_or, What, larger, HasMost, HasPlace}
+use Rattle.wave_text.proofs.Words.{set, ◌∙◌, arith, slice_get-get_or, What, larger, HasMost, HasPlace}
 use Rattle.wave_text.proofs.Words.{host_in, message_said, table_place, what_in}
 use Rattle.wave_text.proofs.Tables.{most-placed, most-unplaced, place-lt}
 use Rattle.wave_text.proofs.ports.note_size.Goals as goal

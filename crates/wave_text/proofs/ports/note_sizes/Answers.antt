@@ -1,4 +1,4 @@
-use Rattle.wave_text.proofs.Words.{[], subst, arith}
+use Rattle.wave_text.proofs.Words.{subst, arith}
 use Rattle.wave_text.proofs.Noting.{AreTaken, taken-more}
 use Rattle.wave_text.proofs.ports.note_sizes.Goals as goal
 

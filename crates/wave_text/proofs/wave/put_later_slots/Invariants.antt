@@ -1,12 +1,19 @@
-use Rattle.wave_text.proofs.Words.{length}
-use Rattle.wave_text.proofs.LaterSlots.{IsBefore}
+use Rattle.wave_text.proofs.Words.{◌≡◌, ◌+◌, ◌≤◌, length, Bool, Output, Puts, later_lines}
+use Rattle.wave_text.specs.Moment.{ShowsMessages}
 use Rattle.wave_text.proofs.wave.put_later_slots.Given as goal
 
--- the slots so far were written
+-- with the lines from this slot on all are put
 abbrev pub invariant-loop-slot : goal.invariant-loop-slot
-invariant-loop-slot g l =
-    IsBefore (g.K.Sink.output l.fn.out) (g.K.Sink.output l.out) l.width l.nodes l.ports l.fn.first.slot l.fn.slots l.time
-    l.before l.spare.items l.slots
+invariant-loop-slot g l = record {
+  goes_on : (fails : Bool) (end : Output)
+      → Puts l.page.sheet.failed (g.K.Sink.output l.out) fails end (later_lines l.width l.nodes l.ports l.time l.before.slot l.slots)
+      → Puts l.fn.page.sheet.failed (g.K.Sink.output l.fn.out) fails end
+      (later_lines l.width l.nodes l.ports 1 l.fn.first.slot l.fn.slots);
+  few : l.time + length l.slots ≤ 20000;
+  shows : ShowsMessages l.ports l.before;
+  size : length l.before.messages.items ≡ 624;
+  free : length l.spare.items ≡ 624;
+}
 
 abbrev pub decreases-loop-slot : goal.decreases-loop-slot
 decreases-loop-slot g l = length l.slots
