@@ -16,6 +16,22 @@ pub element_parts : (a s b d quote g n : List ℕ)
     → a ++ s ++ b ++ d ++ (quote ++ g ++ n) ≡ a ++ s ++ (b ++ d ++ quote) ++ g ++ n
 element_parts a s b d quote g n = simp append_assoc refl
 
+-- one with a number in two of its attributes
+pub twice_parts : (a w d q v g n : List ℕ)
+    → (a ++ w ++ d) ++ (q ++ v ++ d) ++ (q ++ g ++ n) ≡ a ++ (w ++ d ++ q) ++ (v ++ d ++ q) ++ g ++ n
+twice_parts a w d q v g n = simp append_assoc refl
+
+-- a text with numbers in it
+pub text_parts : (front head a b c d more end feed : List ℕ)
+    → front ++ head ++ (a ++ b) ++ (c ++ d) ++ more ++ (end ++ feed)
+    ≡ front ++ (head ++ a ++ b ++ c ++ d ++ more) ++ end ++ feed
+text_parts front head a b c d more end feed = simp append_assoc refl
+
+-- one whose last attribute is a number behind its label
+pub box_parts : (a s b d quote g n : List ℕ)
+    → a ++ s ++ (b ++ d) ++ (quote ++ g ++ n) ≡ a ++ s ++ (b ++ d ++ quote) ++ g ++ n
+box_parts a s b d quote g n = simp append_assoc refl
+
 -- a cell whose places are p and q
 pub cell_in_parts : (a b class quote g t title u r p m n q k shown e end : List ℕ)
     → (a ++ b) ++ class ++ (quote ++ g ++ t) ++ title ++ (u ++ r ++ p ++ m ++ n ++ q ++ k) ++ shown ++ (e ++ end)
@@ -69,11 +85,6 @@ mark_parts class x y shape title =
 
 -- an upright line
 pub pole_parts : (a d m x space y v height quote g n : List ℕ)
-    → (a ++ d ++ m) ++ x ++ space ++ y ++ v ++ height ++ (quote ++ g ++ n)
+    → ((a ++ d ++ m) ++ x) ++ (space ++ y) ++ (v ++ height) ++ (quote ++ g ++ n)
     ≡ (a ++ (d ++ (m ++ x ++ space ++ y ++ v ++ height) ++ quote) ++ g) ++ n
 pole_parts a d m x space y v height quote g n = simp append_assoc refl
-
--- the counts of a node, and what stands behind them
-pub counts_parts : (o a b c d e f g h : List ℕ)
-    → o ++ a ++ b ++ c ++ d ++ e ++ f ++ g ++ h ≡ o ++ (a ++ b ++ c ++ d ++ e ++ f ++ g ++ h)
-counts_parts o a b c d e f g h = simp append_assoc refl

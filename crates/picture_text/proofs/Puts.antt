@@ -1,8 +1,9 @@
 -- Lines that are put one after another.
-use Rattle.picture_text.proofs.Words.{◌≡◌, refl, ap, ◌∙◌, ℕ, ◌+◌, map, List, [], ◌∷◌, ◌++◌, subst, sym, Bool, true}
+use Rattle.picture_text.proofs.Words.{◌≡◌, refl, ap, ◌∙◌, ℕ, ◌+◌, ◌<◌, map, List, [], ◌∷◌, ◌++◌, subst, sym, Bool, true}
+use Rattle.picture_text.proofs.Words.{length, take, get_or}
 use Rattle.picture_text.proofs.Words.{false, append_assoc, append-nil, flat_map-append, flat_map, range_with_len, below}
 use Rattle.picture_text.proofs.Words.{Output, WroteLines, CutShort, Lines, lines_below, Puts}
-use Rattle.std.proofs.lemmas.List.{map-id}
+use Rattle.std.proofs.lemmas.List.{map-append, map-id, take_more}
 use Rattle.std.proofs.lemmas.List.FromFn.{map-range_with_len_more}
 use Rattle.ttp_base.proofs.Below.{flat_map-next, map-next}
 use Rattle.ttp_base.proofs.Outputs.{Wrote-join, Wrote-none, CutShort-after, CutShort-more}
@@ -53,6 +54,17 @@ pub puts_range : (f g h : Bool) (a b c : Output) (lines : ℕ → Lines) (first 
 puts_range f g h a b c lines first k p q =
     rw (range-next lines first k)
     (puts_then f g h a b c (flat_map lines (range_with_len first k)) (lines (first + k)) p q)
+
+-- one item more
+pub puts_item : {X : Type 0} (line : X → List ℕ) (xs : List X) (k : ℕ) (d : X) (f g h : Bool) (a b c : Output)
+    (one : List ℕ)
+    → Puts f a g b (map line (take k xs)) → k < length xs → Puts g b h c (one ∷ []) → one ≡ line (get_or xs k d)
+    → Puts f a h c (map line (take (k + 1) xs))
+puts_item {X} line xs k d f g h a b c one p within q e =
+    subst (Puts f a h c)
+    (sym (ap (map line) (take_more xs k d within) ∙ map-append line (take k xs) (get_or xs k d ∷ [])))
+    (puts_then f g h a b c (map line (take k xs)) (line (get_or xs k d) ∷ []) p
+    (subst (λ (l : List ℕ). Puts g b h c (l ∷ [])) e q))
 
 -- all of them
 pub all_wrote : (a b : Output) (x : Lines) → Puts false a false b x → WroteLines a b x

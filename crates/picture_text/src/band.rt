@@ -8,27 +8,18 @@ ghost use Rattle.picture_text.specs.Picture.{row_line, band_lines};
 ghost use Rattle.picture_text.specs.Sheet.{Puts};
 ghost use Rattle.picture_text.specs.Window.{columns, bands, row_y};
 
-use crate::element::{close_text, open_text_of};
+use crate::element::{close_text, make_text_of, open_text_of, put_field};
 use crate::frame::Frame;
 use crate::grid::{bands, columns, row_y};
 use crate::sheet::Sheet;
 use ttp_base::{Line, Sink};
 
-fn make_row(line: &mut Line, y: u64, name: &str)
-    requires { length name.now ≤ 10 }
-    ensures { line.new ≡ row_line y name.now }
-{
-    open_text_of(line, "row", 64, y);
-    line.put_text(name);
-    close_text(line);
-}
-
-fn make_node_row(line: &mut Line, y: u64, number: u8)
+/// Makes the name of the row of a node.
+pub fn make_node_row(line: &mut Line, y: u64, number: u8)
     ensures { line.new ≡ row_line y (codes "node " ++ decimal number) }
 {
     open_text_of(line, "row", 64, y);
-    line.put_text("node ");
-    line.put_number(u64::from(number));
+    put_field(line, "node ", u64::from(number));
     close_text(line);
 }
 
@@ -55,10 +46,18 @@ fn put_band<K: Sink>(frame: Frame, band: u32, sheet: &mut Sheet, out: &mut K)
     let nodes = frame.head.nodes;
     let slot = frame.span.first + columns(nodes) * band;
     put_node_rows(frame, slot, sheet, out);
-    make_row(&mut sheet.line, row_y(frame, slot, nodes) + 17, "members");
-    sheet.write(out);
-    make_row(
+    make_text_of(
         &mut sheet.line,
+        "row",
+        64,
+        row_y(frame, slot, nodes) + 17,
+        "members",
+    );
+    sheet.write(out);
+    make_text_of(
+        &mut sheet.line,
+        "row",
+        64,
         row_y(frame, slot, nodes + 1) + 17,
         "clocks",
     );

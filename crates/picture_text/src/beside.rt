@@ -1,17 +1,16 @@
 //! What stands beside the cells of a slot: why nodes left, and what hosts did.
 #![tactic(auto, using(ttp_base::proofs::Room::room))]
 
-ghost use Rattle.std.specs.Prelude.{◌≡◌, ◌+◌, ◌*◌, ◌^◌, ◌<◌, ◌≤◌, [], ◌∷◌, length, map};
+ghost use Rattle.std.specs.Prelude.{◌≡◌, ◌≤◌, length, map};
 ghost use Rattle.ttp_base.specs.Text.{lines_below};
-ghost use Rattle.line_reader.specs.TraceLines.{word_text};
 ghost use Rattle.picture_text.specs.Cells.{host_of, mark, host_mark};
 ghost use Rattle.shown_slot.specs.Trace.{host_text};
-ghost use Rattle.picture_text.specs.Picture.{why_box, why_word, why_lines, beside_lines};
+ghost use Rattle.picture_text.specs.Picture.{why_box, why_lines, beside_lines};
 ghost use Rattle.picture_text.specs.Sheet.{Puts};
 ghost use Rattle.picture_text.specs.Window.{row_y, column_x};
 
 use crate::cells::node_at;
-use crate::element::{close_mark, close_text, open_mark, open_text_of, put_place};
+use crate::element::{close_mark, make_text_of, open_mark, put_field, put_place};
 use crate::frame::{Corner, Frame};
 use crate::grid::{beside, corner};
 use crate::sheet::Sheet;
@@ -22,60 +21,19 @@ use ttp_base::{Line, Sink};
 use ttp_world::Source;
 use whole_trace::{HostLine, SlotShown};
 
-// How wide the box behind a word is.
-fn why_width(word: Word) -> u64
-    ensures value { result ≡ 7 * length (word_text word) + 6 }
-    ensures short { result ≤ 104 }
-{
-    7 * word_text(word).len() as u64 + 6
-}
-
 // Makes the box behind the word of a node that left.
 fn make_why_box(line: &mut Line, word: Word, x: u64, y: u64)
     ensures { line.new ≡ why_box word x y }
 {
-    let width = why_width(word);
+    let letters = word_text(word).len() as u64;
     line.clear();
     line.put_text("<rect class=\"why\"");
     put_place(line, x, y);
-    line.put_text(" width=\"");
-    line.put_number(width);
+    put_field(line, " width=\"", 7 * letters + 6);
     line.put_text("\" height=\"17\"/>\n");
 }
 
-// Makes that word.
-fn make_why_word(line: &mut Line, word: Word, x: u64, y: u64)
-    ensures { line.new ≡ why_word word x y }
-{
-    open_text_of(line, "why", x, y);
-    line.put_text(word_text(word));
-    close_text(line);
-}
-
-// Writes why a node left, in its row.
-#[tactic(auto, using(crate::proofs::Puts::puts))]
-fn put_why_parts<K: Sink>(
-    frame: Frame,
-    slot: u32,
-    number: u8,
-    word: Word,
-    sheet: &mut Sheet,
-    out: &mut K,
-)
-    ensures { Puts sheet.old.failed (K.output out.old) sheet.new.failed (K.output out.new)
-        (why_box word (column_x frame.head.nodes frame.span slot + 18) (row_y frame.head.nodes frame.span slot number)
-        ∷ why_word word (column_x frame.head.nodes frame.span slot + 21)
-        (row_y frame.head.nodes frame.span slot number + 13) ∷ []) }
-{
-    let at = corner(frame, slot, number);
-    make_why_box(&mut sheet.line, word, at.x + 18, at.y);
-    sheet.write(out);
-    make_why_word(&mut sheet.line, word, at.x + 21, at.y + 13);
-    sheet.write(out);
-}
-
 // Writes why a node left, if it did.
-#[tactic(auto, using(crate::proofs::Puts::puts))]
 fn put_why<K: Sink>(
     frame: Frame,
     slot: u32,
@@ -89,7 +47,17 @@ fn put_why<K: Sink>(
 {
     let word = node_at(shown, number).word;
     if is_leaving_word(word) {
-        put_why_parts(frame, slot, number, word, sheet, out);
+        let at = corner(frame, slot, number);
+        make_why_box(&mut sheet.line, word, at.x + 18, at.y);
+        sheet.write(out);
+        make_text_of(
+            &mut sheet.line,
+            "why",
+            at.x + 21,
+            at.y + 13,
+            word_text(word),
+        );
+        sheet.write(out);
     }
 }
 
@@ -131,11 +99,12 @@ fn make_mark_of(
     close_mark(line);
 }
 
-// Makes the mark of a host's line, beside the cell at this place.
-fn make_host_mark(line: &mut Line, slot: u32, host_line: &HostLine, cell: Corner)
-    requires { (cell.x ≤ 2 ^ 44) × (cell.y ≤ 2 ^ 44) }
-    ensures { line.new ≡ host_mark slot host_line.now cell.x cell.y }
+// Makes the mark of a host's line, beside the cell of its node.
+fn make_host_mark(line: &mut Line, frame: Frame, slot: u32, host_line: &HostLine)
+    ensures { line.new ≡ host_mark slot host_line.now (column_x frame.head.nodes frame.span slot)
+        (row_y frame.head.nodes frame.span slot (host_of host_line.now)) }
 {
+    let cell = corner(frame, slot, host_of(host_line));
     match host_line {
         HostLine::Write { .. } => {
             let at = beside(cell, 0, 17);
@@ -154,19 +123,6 @@ fn make_host_mark(line: &mut Line, slot: u32, host_line: &HostLine, cell: Corner
     }
 }
 
-// Makes it where it stands.
-fn make_placed_mark(line: &mut Line, frame: Frame, slot: u32, host_line: &HostLine)
-    ensures { line.new ≡ host_mark slot host_line.now (column_x frame.head.nodes frame.span slot)
-        (row_y frame.head.nodes frame.span slot (host_of host_line.now)) }
-{
-    make_host_mark(
-        line,
-        slot,
-        host_line,
-        corner(frame, slot, host_of(host_line)),
-    );
-}
-
 // Writes the marks of the lines of hosts.
 #[tactic(auto, using(crate::proofs::Puts::puts))]
 fn put_marks<K: Sink>(
@@ -183,7 +139,7 @@ fn put_marks<K: Sink>(
 {
     let mut hosts = shown.hosts();
     while let Some(host_line) = hosts.next_line() {
-        make_placed_mark(&mut sheet.line, frame, slot, &host_line);
+        make_host_mark(&mut sheet.line, frame, slot, &host_line);
         sheet.write(out);
     }
 }

@@ -6,15 +6,15 @@ ghost use Rattle.ttp_base.specs.NodeSet.{below};
 ghost use Rattle.shown_slot.specs.Nodes.{clock_range};
 ghost use Rattle.shown_slot.specs.Trace.{no_shown_node, node_at};
 ghost use Rattle.picture_text.specs.Cells.{doubt_class, other_class, data_class, node_class, node_cell};
-ghost use Rattle.picture_text.specs.Cells.{shown_memberships, members_cell, apart_text, apart_shown, clocks_cell};
-ghost use Rattle.picture_text.specs.Picture.{class_of, text_line, number_lines, cell_lines};
+ghost use Rattle.picture_text.specs.Cells.{apart_text, apart_shown, clocks_cell};
+ghost use Rattle.picture_text.specs.Picture.{number_lines, cell_lines};
 ghost use Rattle.picture_text.specs.Sheet.{Puts};
 ghost use Rattle.picture_text.specs.Window.{row_y, column_x};
 
-use crate::element::{close_cell, close_text, close_title, open_cell, open_text_of, open_title};
+use crate::element::{close_cell, close_title, make_number_of, open_cell, open_title, put_field};
 use crate::frame::{Corner, Frame};
-use crate::grid::{beside, column_x, corner, row_y};
-use crate::members::{Memberships, held_by_most, memberships_of};
+use crate::grid::{column_x, corner, row_y};
+use crate::members::{held_by_most, memberships_of};
 use crate::members_cell::put_members_cell;
 use crate::sheet::Sheet;
 use crate::tables::letter;
@@ -23,7 +23,7 @@ use line_reader::Word;
 use shown_slot::{ClockRange, clock_range, is_holder, word_text};
 use ttp_base::{Line, NodeSet, Sink};
 use ttp_world::Ack;
-use whole_trace::{Head, NodeShown, SlotShown};
+use whole_trace::{NodeShown, SlotShown};
 
 // What stands for a node that a slot does not have.
 fn no_shown_node() -> NodeShown
@@ -51,39 +51,40 @@ pub(crate) fn node_at(slot: &SlotShown<'_>, number: u8) -> NodeShown
     }
 }
 
-// Adds to the class of a node's cell that it is in doubt.
-fn put_doubt(line: &mut Line, node: &NodeShown)
-    requires { length line.old ≤ 600 }
-    ensures text { line.new ≡ line.old ++ doubt_class node.now }
-    ensures short { length line.new ≤ length line.old + 6 }
+// What the class of a node's cell says of doubt about its own frame.
+fn doubt_class(node: &NodeShown) -> &'static str
+    ensures text { result.now ≡ doubt_class node.now }
+    ensures short { length result.now ≤ 6 }
 {
-    if let Ack::Doubt(_) = node.ack {
-        line.put_text(" doubt");
+    match node.ack {
+        Ack::Doubt(_) => " doubt",
+        _ => "",
     }
 }
 
-// Adds that it holds other members than most.
-fn put_other(line: &mut Line, node: &NodeShown, most: Option<u32>)
-    requires { length line.old ≤ 600 }
-    ensures text { line.new ≡ line.old ++ other_class node.now most }
-    ensures short { length line.new ≤ length line.old + 6 }
+// That it holds other members than most.
+fn other_class(node: &NodeShown, most: Option<u32>) -> &'static str
+    ensures text { result.now ≡ other_class node.now most }
+    ensures short { length result.now ≤ 6 }
 {
-    if let Some(members) = most {
-        if is_holder(node) && node.members.bits() != members {
-            line.put_text(" other");
+    match most {
+        Some(members) => {
+            if is_holder(node) && node.members.bits() != members {
+                " other"
+            } else {
+                ""
+            }
         }
+        None => "",
     }
 }
 
-// Adds that it has a message.
-fn put_data(line: &mut Line, node: &NodeShown)
-    requires { length line.old ≤ 600 }
-    ensures text { line.new ≡ line.old ++ data_class node.now }
-    ensures short { length line.new ≤ length line.old + 5 }
+// That it has a message.
+fn data_class(node: &NodeShown) -> &'static str
+    ensures text { result.now ≡ data_class node.now }
+    ensures short { length result.now ≤ 5 }
 {
-    if node.message.is_some() {
-        line.put_text(" data");
-    }
+    if node.message.is_some() { " data" } else { "" }
 }
 
 // Adds the class of a node's cell.
@@ -93,34 +94,13 @@ fn put_class(line: &mut Line, node: &NodeShown, most: Option<u32>)
     ensures short { length line.new ≤ length line.old + 31 }
 {
     line.put_text(word_text(node.word));
-    put_doubt(line, node);
-    put_other(line, node, most);
-    put_data(line, node);
+    line.put_text(doubt_class(node));
+    line.put_text(other_class(node, most));
+    line.put_text(data_class(node));
 }
 
 // Makes the cell of a node.
 fn make_node_cell(
-    line: &mut Line,
-    head: &Head,
-    slot: u32,
-    number: u8,
-    node: &NodeShown,
-    most: Option<u32>,
-    at: Corner,
-)
-    ensures { line.new ≡ node_cell head.now slot number node.now most at.x at.y }
-{
-    open_cell(line);
-    put_class(line, node, most);
-    open_title(line);
-    put_node_text(line, head, slot, number, node);
-    close_title(line, at);
-    line.put_text(letter(node.word));
-    close_cell(line);
-}
-
-// Makes the cell of a node where it stands.
-fn make_placed_cell(
     line: &mut Line,
     frame: Frame,
     slot: u32,
@@ -132,8 +112,13 @@ fn make_placed_cell(
         (column_x frame.head.nodes frame.span slot) (row_y frame.head.nodes frame.span slot number) }
 {
     let node = node_at(shown, number);
-    let at = corner(frame, slot, number);
-    make_node_cell(line, &frame.head, slot, number, &node, most, at);
+    open_cell(line);
+    put_class(line, &node, most);
+    open_title(line);
+    put_node_text(line, &frame.head, slot, number, &node);
+    close_title(line, corner(frame, slot, number));
+    line.put_text(letter(node.word));
+    close_cell(line);
 }
 
 // Writes the cells of the nodes.
@@ -151,7 +136,7 @@ fn put_node_cells<K: Sink>(
         (row_y frame.head.nodes frame.span slot k)) (below frame.head.nodes)) }
 {
     for number in 0..frame.head.nodes {
-        make_placed_cell(&mut sheet.line, frame, slot, number, shown, most);
+        make_node_cell(&mut sheet.line, frame, slot, number, shown, most);
         sheet.write(out);
     }
 }
@@ -188,15 +173,18 @@ fn put_apart_shown(line: &mut Line, range: Option<ClockRange>)
 }
 
 // Makes the cell of the clocks.
-fn make_clocks_cell(line: &mut Line, slot: u32, shown: &SlotShown<'_>, at: Corner)
-    ensures { line.new ≡ clocks_cell slot shown.now at.x at.y }
+fn make_clocks_cell(line: &mut Line, frame: Frame, slot: u32, shown: &SlotShown<'_>)
+    ensures { line.new ≡ clocks_cell slot shown.now (column_x frame.head.nodes frame.span slot)
+        (row_y frame.head.nodes frame.span slot (frame.head.nodes + 1) + 4) }
 {
     let range = clock_range(shown.nodes());
+    let at = Corner {
+        x: column_x(frame, slot),
+        y: row_y(frame, slot, frame.head.nodes + 1) + 4,
+    };
     open_cell(line);
-    line.put_text("none");
-    open_title(line);
-    line.put_text("slot ");
-    line.put_number(u64::from(slot));
+    line.put_text("none\"><title>");
+    put_field(line, "slot ", u64::from(slot));
     line.put_text(" clocks apart ");
     put_apart(line, range);
     close_title(line, at);
@@ -204,56 +192,17 @@ fn make_clocks_cell(line: &mut Line, slot: u32, shown: &SlotShown<'_>, at: Corne
     close_cell(line);
 }
 
-// Makes the number of a slot.
-fn make_number(line: &mut Line, frame: Frame, slot: u32)
-    ensures { line.new ≡ text_line (class_of (codes "slot")) (column_x frame.head.nodes frame.span slot + 8)
-        (row_y frame.head.nodes frame.span slot 0 - 5) (decimal slot) }
-{
-    let x = column_x(frame, slot) + 8;
-    let y = row_y(frame, slot, 0) - 5;
-    open_text_of(line, "slot", x, y);
-    line.put_number(u64::from(slot));
-    close_text(line);
-}
-
-// Writes it where it is due.
-#[tactic(auto, using(crate::proofs::Puts::puts))]
+// Writes the number of a slot, where it is due.
 fn put_number<K: Sink>(frame: Frame, slot: u32, sheet: &mut Sheet, out: &mut K)
     ensures { Puts sheet.old.failed (K.output out.old) sheet.new.failed (K.output out.new)
         (number_lines frame.head.nodes frame.span slot) }
 {
     if slot % 5 == 0 {
-        make_number(&mut sheet.line, frame, slot);
+        let x = column_x(frame, slot) + 8;
+        let y = row_y(frame, slot, 0) - 5;
+        make_number_of(&mut sheet.line, "slot", x, y, u64::from(slot));
         sheet.write(out);
     }
-}
-
-// Writes the cell of the members.
-#[tactic(auto, using(crate::proofs::Puts::puts_then))]
-fn put_members<K: Sink>(
-    frame: Frame,
-    slot: u32,
-    shown: &SlotShown<'_>,
-    found: &Memberships,
-    sheet: &mut Sheet,
-    out: &mut K,
-)
-    requires { found.now ≡ shown_memberships shown.now.nodes }
-    ensures { Puts sheet.old.failed (K.output out.old) sheet.new.failed (K.output out.new)
-        (members_cell frame.head slot shown.now (column_x frame.head.nodes frame.span slot)
-        (row_y frame.head.nodes frame.span slot frame.head.nodes + 4) ∷ []) }
-{
-    let at = beside(corner(frame, slot, frame.head.nodes), 0, 4);
-    put_members_cell(&frame.head, slot, shown, found, at, sheet, out);
-}
-
-// Makes the cell of the clocks where it stands.
-fn make_placed_clocks(line: &mut Line, frame: Frame, slot: u32, shown: &SlotShown<'_>)
-    ensures { line.new ≡ clocks_cell slot shown.now (column_x frame.head.nodes frame.span slot)
-        (row_y frame.head.nodes frame.span slot (frame.head.nodes + 1) + 4) }
-{
-    let at = beside(corner(frame, slot, frame.head.nodes + 1), 0, 4);
-    make_clocks_cell(line, slot, shown, at);
 }
 
 /// Writes the cells of a slot.
@@ -272,7 +221,7 @@ pub(crate) fn put_cells<K: Sink>(
     let most = held_by_most(shown, &found);
     put_number(frame, slot, sheet, out);
     put_node_cells(frame, slot, shown, most, sheet, out);
-    put_members(frame, slot, shown, &found, sheet, out);
-    make_placed_clocks(&mut sheet.line, frame, slot, shown);
+    put_members_cell(frame, slot, shown, &found, sheet, out);
+    make_clocks_cell(&mut sheet.line, frame, slot, shown);
     sheet.write(out);
 }

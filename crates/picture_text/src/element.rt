@@ -3,11 +3,21 @@
 
 ghost use Rattle.std.specs.Prelude.{◌≡◌, ◌+◌, ◌≤◌, [], ◌++◌, length, codes, decimal};
 ghost use Rattle.ttp_base.specs.Text.{newline};
-ghost use Rattle.picture_text.specs.Cells.{place_attributes, cell};
-ghost use Rattle.picture_text.specs.Picture.{class_of};
+ghost use Rattle.picture_text.specs.Cells.{place_attributes, cell, mark};
+ghost use Rattle.picture_text.specs.Picture.{class_of, text_line};
 
 use crate::frame::Corner;
 use ttp_base::Line;
+
+/// Adds a number behind a label.
+pub fn put_field(line: &mut Line, label: &str, number: u64)
+    requires { length line.old + length label.now ≤ 620 }
+    ensures text { line.new ≡ line.old ++ (label.now ++ decimal number) }
+    ensures short { length line.new ≤ length line.old + length label.now + 20 }
+{
+    line.put_text(label);
+    line.put_number(number);
+}
 
 /// Adds a place.
 pub fn put_place(line: &mut Line, x: u64, y: u64)
@@ -15,10 +25,8 @@ pub fn put_place(line: &mut Line, x: u64, y: u64)
     ensures text { line.new ≡ line.old ++ place_attributes x y }
     ensures short { length line.new ≤ length line.old + 50 }
 {
-    line.put_text(" x=\"");
-    line.put_number(x);
-    line.put_text("\" y=\"");
-    line.put_number(y);
+    put_field(line, " x=\"", x);
+    put_field(line, "\" y=\"", y);
     line.put_text("\"");
 }
 
@@ -76,17 +84,6 @@ pub(crate) fn make_cell(line: &mut Line, class: &str, at: Corner, title: &str, s
     close_cell(line);
 }
 
-// Adds the point at which a mark begins.
-fn put_point(line: &mut Line, at: Corner)
-    requires { length line.old ≤ 500 }
-    ensures text { line.new ≡ line.old ++ (decimal at.x ++ codes " " ++ decimal at.y) }
-    ensures short { length line.new ≤ length line.old + 41 }
-{
-    line.put_number(at.x);
-    line.put_text(" ");
-    line.put_number(at.y);
-}
-
 /// Begins a mark, up to its title.
 pub fn open_mark(line: &mut Line, class: &str, shape: &str, at: Corner)
     requires { (length class.now ≤ 8) × (length shape.now ≤ 11) }
@@ -97,8 +94,8 @@ pub fn open_mark(line: &mut Line, class: &str, shape: &str, at: Corner)
     line.clear();
     line.put_text("<path class=\"");
     line.put_text(class);
-    line.put_text("\" d=\"M");
-    put_point(line, at);
+    put_field(line, "\" d=\"M", at.x);
+    put_field(line, " ", at.y);
     line.put_text(shape);
     line.put_text("\"><title>");
 }
@@ -109,6 +106,16 @@ pub fn close_mark(line: &mut Line)
     ensures { line.new ≡ line.old ++ (codes "</title></path>" ++ newline) }
 {
     line.put_text("</title></path>\n");
+}
+
+/// Makes a mark with a short title.
+pub fn make_mark(line: &mut Line, class: &str, shape: &str, at: Corner, title: &str)
+    requires { (length class.now ≤ 8) × (length shape.now ≤ 11) × (length title.now ≤ 100) }
+    ensures { line.new ≡ mark class.now shape.now at.x at.y title.now }
+{
+    open_mark(line, class, shape, at);
+    line.put_text(title);
+    close_mark(line);
 }
 
 /// Begins a text without a class, before what it shows.
@@ -142,4 +149,34 @@ pub fn close_text(line: &mut Line)
     ensures { line.new ≡ line.old ++ (codes "</text>" ++ newline) }
 {
     line.put_text("</text>\n");
+}
+
+/// Makes a text without a class.
+pub fn make_text(line: &mut Line, x: u64, y: u64, shown: &str)
+    requires { length shown.now ≤ 100 }
+    ensures { line.new ≡ text_line [] x y shown.now }
+{
+    open_text(line, x, y);
+    line.put_text(shown);
+    close_text(line);
+}
+
+/// Makes a text of a class.
+pub fn make_text_of(line: &mut Line, class: &str, x: u64, y: u64, shown: &str)
+    requires { (length class.now ≤ 10) × (length shown.now ≤ 100) }
+    ensures { line.new ≡ text_line (class_of class.now) x y shown.now }
+{
+    open_text_of(line, class, x, y);
+    line.put_text(shown);
+    close_text(line);
+}
+
+/// Makes a number as a text of a class.
+pub fn make_number_of(line: &mut Line, class: &str, x: u64, y: u64, number: u64)
+    requires { length class.now ≤ 10 }
+    ensures { line.new ≡ text_line (class_of class.now) x y (decimal number) }
+{
+    open_text_of(line, class, x, y);
+    line.put_number(number);
+    close_text(line);
 }

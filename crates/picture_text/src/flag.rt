@@ -7,7 +7,7 @@ ghost use Rattle.picture_text.specs.Sheet.{Puts};
 ghost use Rattle.picture_text.specs.Tables.{keep_name, keep_slot, back_name, back_slot};
 ghost use Rattle.picture_text.specs.Window.{column_x, row_y};
 
-use crate::element::{close_text, open_text_of};
+use crate::element::{close_text, open_text_of, put_field};
 use crate::frame::Frame;
 use crate::grid::{column_x, row_y};
 use crate::sheet::Sheet;
@@ -25,12 +25,13 @@ fn make_pole(line: &mut Line, frame: Frame, slot: u32)
     ensures { line.new ≡ flag_pole frame.head.nodes frame.span slot }
 {
     line.clear();
-    line.put_text("<path class=\"flag\" d=\"M");
-    line.put_number(column_x(frame, slot) - 1);
-    line.put_text(" ");
-    line.put_number(row_y(frame, slot, 0) - 26);
-    line.put_text("v");
-    line.put_number(18 * u64::from(frame.head.nodes) + 26);
+    put_field(
+        line,
+        "<path class=\"flag\" d=\"M",
+        column_x(frame, slot) - 1,
+    );
+    put_field(line, " ", row_y(frame, slot, 0) - 26);
+    put_field(line, "v", 18 * u64::from(frame.head.nodes) + 26);
     line.put_text("\"/>\n");
 }
 
@@ -38,26 +39,12 @@ fn make_pole(line: &mut Line, frame: Frame, slot: u32)
 fn put_keep_name(line: &mut Line, keep: &Keep)
     requires { length line.old ≤ 600 }
     ensures text { line.new ≡ line.old ++ keep_name keep.now }
-    ensures short { length line.new ≤ length line.old + 5 }
+    ensures short { length line.new ≤ length line.old + 21 }
 {
     match keep {
         Keep::Yes { .. } => line.put_text("start"),
-        Keep::No { rule, .. } => {
-            line.put_text("H");
-            line.put_number(u64::from(*rule));
-        }
+        Keep::No { rule, .. } => put_field(line, "H", u64::from(*rule)),
     }
-}
-
-fn make_keep_flag(line: &mut Line, frame: Frame, slot: u32, keep: &Keep)
-    ensures { line.new ≡ text_line (class_of (codes "keep")) (column_x frame.head.nodes frame.span slot - 4)
-        (row_y frame.head.nodes frame.span slot 0 - 17) (keep_name keep.now) }
-{
-    let x = column_x(frame, slot) - 4;
-    let y = row_y(frame, slot, 0) - 17;
-    open_text_of(line, "keep", x, y);
-    put_keep_name(line, keep);
-    close_text(line);
 }
 
 // The slot that the hypothesis test names.
@@ -70,29 +57,29 @@ fn keep_slot(keep: &Keep) -> u32
     }
 }
 
-// Writes the pole of the flag of the hypothesis test and what it shows.
-#[tactic(auto, using(crate::proofs::Puts::puts))]
-fn put_keep_parts<K: Sink>(frame: Frame, slot: u32, keep: &Keep, sheet: &mut Sheet, out: &mut K)
-    ensures { Puts sheet.old.failed (K.output out.old) sheet.new.failed (K.output out.new)
-        (flag_pole frame.head.nodes frame.span slot ∷ text_line (class_of (codes "keep"))
-        (column_x frame.head.nodes frame.span slot - 4) (row_y frame.head.nodes frame.span slot 0 - 17)
-        (keep_name keep.now) ∷ []) }
+// Makes what the flag shows.
+fn make_keep_flag(line: &mut Line, frame: Frame, slot: u32, keep: &Keep)
+    ensures { line.new ≡ text_line (class_of (codes "keep")) (column_x frame.head.nodes frame.span slot - 4)
+        (row_y frame.head.nodes frame.span slot 0 - 17) (keep_name keep.now) }
 {
-    make_pole(&mut sheet.line, frame, slot);
-    sheet.write(out);
-    make_keep_flag(&mut sheet.line, frame, slot, keep);
-    sheet.write(out);
+    let x = column_x(frame, slot) - 4;
+    let y = row_y(frame, slot, 0) - 17;
+    open_text_of(line, "keep", x, y);
+    put_keep_name(line, keep);
+    close_text(line);
 }
 
 /// Writes the flag of the hypothesis test, where its slot is shown.
-#[tactic(auto, using(crate::proofs::Puts::puts))]
 pub(crate) fn put_keep_flag<K: Sink>(frame: Frame, keep: Keep, sheet: &mut Sheet, out: &mut K)
     ensures { Puts sheet.old.failed (K.output out.old) sheet.new.failed (K.output out.new)
         (keep_flag frame.head.nodes frame.span keep) }
 {
     let slot = keep_slot(&keep);
     if is_shown(frame, slot) {
-        put_keep_parts(frame, slot, &keep, sheet, out);
+        make_pole(&mut sheet.line, frame, slot);
+        sheet.write(out);
+        make_keep_flag(&mut sheet.line, frame, slot, &keep);
+        sheet.write(out);
     }
 }
 
@@ -100,26 +87,12 @@ pub(crate) fn put_keep_flag<K: Sink>(frame: Frame, keep: Keep, sheet: &mut Sheet
 fn put_back_name(line: &mut Line, back: &Back)
     requires { length line.old ≤ 600 }
     ensures text { line.new ≡ line.old ++ back_name back.now }
-    ensures short { length line.new ≤ length line.old + 5 }
+    ensures short { length line.new ≤ length line.old + 21 }
 {
     match back {
         Back::Yes { .. } => line.put_text("start"),
-        Back::No { rule, .. } => {
-            line.put_text("Q");
-            line.put_number(u64::from(*rule));
-        }
+        Back::No { rule, .. } => put_field(line, "Q", u64::from(*rule)),
     }
-}
-
-fn make_back_flag(line: &mut Line, frame: Frame, slot: u32, back: &Back)
-    ensures { line.new ≡ text_line (class_of (codes "back")) (column_x frame.head.nodes frame.span slot + 3)
-        (row_y frame.head.nodes frame.span slot 0 - 17) (back_name back.now) }
-{
-    let x = column_x(frame, slot) + 3;
-    let y = row_y(frame, slot, 0) - 17;
-    open_text_of(line, "back", x, y);
-    put_back_name(line, back);
-    close_text(line);
 }
 
 // The slot that the answer on armed nodes names.
@@ -132,29 +105,29 @@ fn back_slot(back: &Back) -> u32
     }
 }
 
-// Writes the pole of the flag of the answer on armed nodes and what it shows.
-#[tactic(auto, using(crate::proofs::Puts::puts))]
-fn put_back_parts<K: Sink>(frame: Frame, slot: u32, back: &Back, sheet: &mut Sheet, out: &mut K)
-    ensures { Puts sheet.old.failed (K.output out.old) sheet.new.failed (K.output out.new)
-        (flag_pole frame.head.nodes frame.span slot ∷ text_line (class_of (codes "back"))
-        (column_x frame.head.nodes frame.span slot + 3) (row_y frame.head.nodes frame.span slot 0 - 17)
-        (back_name back.now) ∷ []) }
+// Makes what the flag shows.
+fn make_back_flag(line: &mut Line, frame: Frame, slot: u32, back: &Back)
+    ensures { line.new ≡ text_line (class_of (codes "back")) (column_x frame.head.nodes frame.span slot + 3)
+        (row_y frame.head.nodes frame.span slot 0 - 17) (back_name back.now) }
 {
-    make_pole(&mut sheet.line, frame, slot);
-    sheet.write(out);
-    make_back_flag(&mut sheet.line, frame, slot, back);
-    sheet.write(out);
+    let x = column_x(frame, slot) + 3;
+    let y = row_y(frame, slot, 0) - 17;
+    open_text_of(line, "back", x, y);
+    put_back_name(line, back);
+    close_text(line);
 }
 
 // Writes the flag of the answer on armed nodes, where its slot is shown.
-#[tactic(auto, using(crate::proofs::Puts::puts))]
 fn put_flag_of<K: Sink>(frame: Frame, back: Back, sheet: &mut Sheet, out: &mut K)
     ensures { Puts sheet.old.failed (K.output out.old) sheet.new.failed (K.output out.new)
         (back_flag frame.head.nodes frame.span (Some back)) }
 {
     let slot = back_slot(&back);
     if is_shown(frame, slot) {
-        put_back_parts(frame, slot, &back, sheet, out);
+        make_pole(&mut sheet.line, frame, slot);
+        sheet.write(out);
+        make_back_flag(&mut sheet.line, frame, slot, &back);
+        sheet.write(out);
     }
 }
 

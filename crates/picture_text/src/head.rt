@@ -1,48 +1,36 @@
 //! The head of a picture: its size, its styles and what the tests say.
 #![tactic(auto, using(ttp_base::proofs::Room::room))]
 
-ghost use Rattle.std.specs.Prelude.{◌≡◌, ◌+◌, ◌<◌, ◌≤◌, [], ◌∷◌, ◌++◌, length, get_or, map, codes, decimal};
+ghost use Rattle.std.specs.Prelude.{◌≡◌, ◌+◌, ◌≤◌, [], ◌∷◌, ◌++◌, length, codes, decimal};
 ghost use Rattle.line_reader.specs.TraceLines.{keep_text, back_text};
 ghost use Rattle.shown_slot.specs.Trace.{header_text};
 ghost use Rattle.picture_text.specs.Cells.{title_element};
-ghost use Rattle.picture_text.specs.Picture.{ended, size, svg_line, word_style, style_lines, more_text, said_line};
+ghost use Rattle.picture_text.specs.Picture.{ended, size, svg_line, style_lines, more_text, said_line};
 ghost use Rattle.picture_text.specs.Picture.{back_said, text_line};
 ghost use Rattle.picture_text.specs.Sheet.{Puts};
-ghost use Rattle.picture_text.specs.Tables.{words, styles, keep_meaning, back_meaning};
+ghost use Rattle.picture_text.specs.Tables.{keep_meaning, back_meaning};
 ghost use Rattle.picture_text.specs.Window.{height};
 
-use crate::element::{close_text, open_text, open_text_of};
+use crate::element::{close_text, open_text, open_text_of, put_field};
 use crate::frame::Frame;
 use crate::grid::height;
 use crate::sheet::Sheet;
-use crate::tables::{
-    STYLES, WORDS, cell_colour, letter_colour, returning_meaning, rule_meaning, style, word_number,
-};
-use line_reader::Word;
-use shown_slot::{back_text, header_text, keep_text, word_text};
+use crate::tables::{STYLE_LINES, returning_meaning, rule_meaning};
+use shown_slot::{back_text, header_text, keep_text};
 use ttp_base::{Line, Sink};
 use ttp_world::{Back, Keep};
 use whole_trace::Head;
-
-// Adds the size of the picture.
-fn put_size(line: &mut Line, height: u64)
-    requires { length line.old ≤ 500 }
-    ensures text { line.new ≡ line.old ++ size height }
-    ensures short { length line.new ≤ length line.old + 50 }
-{
-    line.put_text(" width=\"1036\" height=\"");
-    line.put_number(height);
-    line.put_text("\"");
-}
 
 fn make_svg(line: &mut Line, height: u64)
     ensures { line.new ≡ svg_line height }
 {
     line.clear();
-    line.put_text("<svg xmlns=\"http://www.w3.org/2000/svg\"");
-    put_size(line, height);
-    line.put_text(" viewBox=\"0 0 1036 ");
-    line.put_number(height);
+    put_field(
+        line,
+        "<svg xmlns=\"http://www.w3.org/2000/svg\" width=\"1036\" height=\"",
+        height,
+    );
+    put_field(line, "\" viewBox=\"0 0 1036 ", height);
     line.put_text("\">\n");
 }
 
@@ -56,73 +44,19 @@ fn make_title(line: &mut Line, head: &Head)
     line.put_text("</title>\n");
 }
 
-fn make_word_style(line: &mut Line, word: Word)
-    ensures { line.new ≡ word_style word }
-{
-    line.clear();
-    line.put_text(".");
-    line.put_text(word_text(word));
-    line.put_text(" rect{fill:");
-    line.put_text(cell_colour(word));
-    line.put_text("}.");
-    line.put_text(word_text(word));
-    line.put_text(" text{fill:");
-    line.put_text(letter_colour(word));
-    line.put_text("}\n");
-}
-
-// Writes the styles of the words.
-#[tactic(auto, using(crate::proofs::Puts::puts_none, crate::proofs::Puts::puts_next))]
-fn put_word_styles<K: Sink>(sheet: &mut Sheet, out: &mut K)
-    ensures { Puts sheet.old.failed (K.output out.old) sheet.new.failed (K.output out.new) (map word_style words) }
-{
-    for number in 0..WORDS {
-        make_word_style(&mut sheet.line, word_number(number));
-        sheet.write(out);
-    }
-}
-
-fn make_style(line: &mut Line, number: u8)
-    ensures { line.new ≡ ended (get_or styles number []) }
-{
-    line.clear();
-    line.put_text(style(number));
-    line.put_text("\n");
-}
-
-// Writes the styles behind those of the words.
-#[tactic(auto, using(crate::proofs::Puts::puts_none, crate::proofs::Puts::puts_next))]
-fn put_plain_styles<K: Sink>(sheet: &mut Sheet, out: &mut K)
-    ensures { Puts sheet.old.failed (K.output out.old) sheet.new.failed (K.output out.new) (map ended styles) }
-{
-    for number in 0..STYLES {
-        make_style(&mut sheet.line, number);
-        sheet.write(out);
-    }
-}
-
 // Writes all styles.
-#[tactic(auto, using(crate::proofs::Puts::puts))]
 fn put_styles<K: Sink>(sheet: &mut Sheet, out: &mut K)
     ensures { Puts sheet.old.failed (K.output out.old) sheet.new.failed (K.output out.new) style_lines }
 {
-    sheet.put(b"<style>\n", out);
-    sheet.put(
-        b"text{font:12px DejaVu Sans Mono,Consolas,monospace}g text{text-anchor:middle;font-size:11px}\n",
-        out,
-    );
-    put_word_styles(sheet, out);
-    put_plain_styles(sheet, out);
-    sheet.put(b"</style>\n", out);
+    sheet.put_lines(&STYLE_LINES, out);
 }
 
 fn make_ground(line: &mut Line, height: u64)
     ensures { line.new ≡ ended (codes "<rect" ++ size height ++ codes " fill=\"#ffffff\"/>") }
 {
     line.clear();
-    line.put_text("<rect");
-    put_size(line, height);
-    line.put_text(" fill=\"#ffffff\"/>\n");
+    put_field(line, "<rect width=\"1036\" height=\"", height);
+    line.put_text("\" fill=\"#ffffff\"/>\n");
 }
 
 // Adds that more happens past the slots shown.
@@ -132,8 +66,7 @@ fn put_more(line: &mut Line, strange: Option<u32>)
     ensures short { length line.new ≤ length line.old + 50 }
 {
     if let Some(slot) = strange {
-        line.put_text("; more happens in slot ");
-        line.put_number(u64::from(slot));
+        put_field(line, "; more happens in slot ", u64::from(slot));
     }
 }
 
@@ -146,10 +79,8 @@ fn make_shown(line: &mut Line, frame: Frame, strange: Option<u32>)
     open_text(line, 12, 20);
     let text = header_text(&frame.head);
     line.put_bytes(text.bytes());
-    line.put_text(", shown: slots ");
-    line.put_number(u64::from(frame.span.first));
-    line.put_text(" to ");
-    line.put_number(u64::from(frame.span.last));
+    put_field(line, ", shown: slots ", u64::from(frame.span.first));
+    put_field(line, " to ", u64::from(frame.span.last));
     put_more(line, strange);
     close_text(line);
 }
@@ -162,8 +93,7 @@ pub fn put_keep_meaning(line: &mut Line, keep: &Keep)
 {
     match keep {
         Keep::Yes { start } => {
-            line.put_text("from slot ");
-            line.put_number(u64::from(*start));
+            put_field(line, "from slot ", u64::from(*start));
             line.put_text(
                 " on the correct nodes agree and stay; a faulty one may differ until it leaves",
             );
@@ -216,45 +146,7 @@ fn put_back_said<K: Sink>(back: Option<Back>, sheet: &mut Sheet, out: &mut K)
     }
 }
 
-// Writes what the tests say.
-#[tactic(auto, using(crate::proofs::Puts::puts))]
-fn put_said<K: Sink>(keep: Keep, back: Option<Back>, sheet: &mut Sheet, out: &mut K)
-    ensures { Puts sheet.old.failed (K.output out.old) sheet.new.failed (K.output out.new)
-        (said_line 40 (keep_text keep) (keep_meaning keep) ∷ back_said back) }
-{
-    make_keep_said(&mut sheet.line, &keep);
-    sheet.write(out);
-    put_back_said(back, sheet, out);
-}
-
-// Writes what stands before the styles.
-#[tactic(auto, using(crate::proofs::Puts::puts))]
-fn put_front<K: Sink>(frame: Frame, sheet: &mut Sheet, out: &mut K)
-    ensures { Puts sheet.old.failed (K.output out.old) sheet.new.failed (K.output out.new)
-        (svg_line (height frame.head.nodes frame.span) ∷ ended (title_element (header_text frame.head)) ∷ []) }
-{
-    make_svg(&mut sheet.line, height(frame));
-    sheet.write(out);
-    make_title(&mut sheet.line, &frame.head);
-    sheet.write(out);
-}
-
-// Writes the ground of the picture and what it shows.
-#[tactic(auto, using(crate::proofs::Puts::puts))]
-fn put_shown<K: Sink>(frame: Frame, strange: Option<u32>, sheet: &mut Sheet, out: &mut K)
-    ensures { Puts sheet.old.failed (K.output out.old) sheet.new.failed (K.output out.new)
-        (ended (codes "<rect" ++ size (height frame.head.nodes frame.span) ++ codes " fill=\"#ffffff\"/>")
-        ∷ text_line [] 12 20 (header_text frame.head ++ codes ", shown: slots " ++ decimal frame.span.first
-        ++ codes " to " ++ decimal frame.span.last ++ more_text strange) ∷ []) }
-{
-    make_ground(&mut sheet.line, height(frame));
-    sheet.write(out);
-    make_shown(&mut sheet.line, frame, strange);
-    sheet.write(out);
-}
-
 /// Writes the head, where `strange` is the first strange slot past those shown.
-#[tactic(auto, using(crate::proofs::Puts::puts))]
 pub(crate) fn put_head<K: Sink>(
     frame: Frame,
     strange: Option<u32>,
@@ -270,8 +162,17 @@ pub(crate) fn put_head<K: Sink>(
         ++ codes " to " ++ decimal frame.span.last ++ more_text strange)
         ∷ said_line 40 (keep_text keep) (keep_meaning keep) ∷ back_said back) }
 {
-    put_front(frame, sheet, out);
+    let high = height(frame);
+    make_svg(&mut sheet.line, high);
+    sheet.write(out);
+    make_title(&mut sheet.line, &frame.head);
+    sheet.write(out);
     put_styles(sheet, out);
-    put_shown(frame, strange, sheet, out);
-    put_said(keep, back, sheet, out);
+    make_ground(&mut sheet.line, high);
+    sheet.write(out);
+    make_shown(&mut sheet.line, frame, strange);
+    sheet.write(out);
+    make_keep_said(&mut sheet.line, &keep);
+    sheet.write(out);
+    put_back_said(back, sheet, out);
 }

@@ -39,9 +39,10 @@ mod titles;
 mod walk;
 mod window;
 
+pub use band::make_node_row;
 pub use element::{
-    close_cell, close_mark, close_text, open_cell, open_mark, open_text, open_text_of, open_title,
-    put_place,
+    close_cell, close_mark, close_text, make_mark, make_number_of, make_text, make_text_of,
+    open_cell, open_mark, open_text, open_text_of, open_title, put_field, put_place,
 };
 pub use frame::Corner;
 pub use grid::{beside as place_beside, columns};

@@ -5,9 +5,11 @@ ghost use Rattle.std.specs.Prelude.{◌≡◌, ◌+◌, ◌*◌, ◌<◌, ◌≤
 ghost use Rattle.picture_text.specs.Cells.{shown_memberships, holders_of, each_node, membership_text, count_of, cell};
 ghost use Rattle.picture_text.specs.Cells.{members_title, members_cell};
 ghost use Rattle.picture_text.specs.Sheet.{Puts};
+ghost use Rattle.picture_text.specs.Window.{column_x, row_y};
 
-use crate::element::{close_cell, close_title, open_cell, open_title};
-use crate::frame::Corner;
+use crate::element::{close_cell, close_title, open_cell, open_title, put_field};
+use crate::frame::{Corner, Frame};
+use crate::grid::{column_x, row_y};
 use crate::long_line::LongLine;
 use crate::members::{Memberships, holds};
 use crate::sheet::Sheet;
@@ -100,8 +102,7 @@ fn open_members(
     open_cell(line);
     line.put_text(class);
     open_title(line);
-    line.put_text("slot ");
-    line.put_number(u64::from(slot));
+    put_field(line, "slot ", u64::from(slot));
     line.put_text(" members");
     sheet.long.clear();
     sheet.long.put_bytes(sheet.line.bytes());
@@ -158,10 +159,7 @@ fn make_none(line: &mut Line, slot: u32, at: Corner)
         (codes "-") }
 {
     open_cell(line);
-    line.put_text("none");
-    open_title(line);
-    line.put_text("slot ");
-    line.put_number(u64::from(slot));
+    put_field(line, "none\"><title>slot ", u64::from(slot));
     line.put_text(" members -");
     close_title(line, at);
     line.put_text("-");
@@ -171,29 +169,33 @@ fn make_none(line: &mut Line, slot: u32, at: Corner)
 /// Writes the cell of the members that the nodes of a slot hold, where `found` are its memberships.
 #[tactic(auto, using(crate::proofs::Puts::puts_then, crate::proofs::Puts::puts_none))]
 pub(crate) fn put_members_cell<K: Sink>(
-    head: &Head,
+    frame: Frame,
     slot: u32,
     shown: &SlotShown<'_>,
     found: &Memberships,
-    at: Corner,
     sheet: &mut Sheet,
     out: &mut K,
 )
     requires { found.now ≡ shown_memberships shown.now.nodes }
     ensures { Puts sheet.old.failed (K.output out.old) sheet.new.failed (K.output out.new)
-        (members_cell head.now slot shown.now at.x at.y ∷ []) }
+        (members_cell frame.head slot shown.now (column_x frame.head.nodes frame.span slot)
+        (row_y frame.head.nodes frame.span slot frame.head.nodes + 4) ∷ []) }
 {
+    let at = Corner {
+        x: column_x(frame, slot),
+        y: row_y(frame, slot, frame.head.nodes) + 4,
+    };
     match found.words() {
         [] => {
             make_none(&mut sheet.line, slot, at);
             sheet.write(out);
         }
         [_] => {
-            make_agreed(sheet, head, slot, shown, found, at);
+            make_agreed(sheet, &frame.head, slot, shown, found, at);
             sheet.write_long(out);
         }
         _ => {
-            make_different(sheet, head, slot, shown, found, at);
+            make_different(sheet, &frame.head, slot, shown, found, at);
             sheet.write_long(out);
         }
     }

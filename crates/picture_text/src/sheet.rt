@@ -1,5 +1,5 @@
 //! Where the lines of a picture are formed and written.
-ghost use Rattle.std.specs.Prelude.{◌≡◌, ◌↔◌, IsOk, [], ◌∷◌, false};
+ghost use Rattle.std.specs.Prelude.{◌≡◌, ◌↔◌, IsOk, [], ◌∷◌, map, false};
 ghost use Rattle.picture_text.specs.Sheet.{Puts};
 
 use crate::long_line::LongLine;
@@ -60,6 +60,15 @@ impl Sheet {
         ensures { Puts self.old.failed (K.output out.old) self.new.failed (K.output out.new) (line.now ∷ []) }
     {
         self.failed = put_line(self.failed, line, out);
+    }
+
+    /// Writes lines that never change.
+    pub fn put_lines<K: Sink>(&mut self, lines: &[&str], out: &mut K)
+        ensures { Puts self.old.failed (K.output out.old) self.new.failed (K.output out.new) (map (λ line. line.now) lines.now) }
+    {
+        for line in lines {
+            self.put(line.as_bytes(), out);
+        }
     }
 
     /// Whether all was written.

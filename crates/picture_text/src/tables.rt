@@ -1,8 +1,8 @@
-//! The tables of a picture: the letter, the colours and the meaning of each word, its styles, and what the answers
-//! of the tests mean.
-ghost use Rattle.std.specs.Prelude.{◌≡◌, ◌-◌, ◌≤◌, [], get_or, length};
+//! The tables of a picture: the letter and the meaning of each word, the styles, and what the answers of the tests mean.
+ghost use Rattle.std.specs.Prelude.{◌≡◌, ◌-◌, ◌≤◌, [], ◌++◌, codes, get_or, length};
 ghost use Rattle.line_reader.specs.declared.trace_line.Word.TheVariants as word;
-ghost use Rattle.picture_text.specs.Tables.{words, letter, cell_colour, letter_colour, word_meaning, styles};
+ghost use Rattle.line_reader.specs.TraceLines.{word_text};
+ghost use Rattle.picture_text.specs.Tables.{words, letter, word_meaning};
 ghost use Rattle.picture_text.specs.Tables.{rule_meanings, returning_meanings};
 
 use line_reader::Word;
@@ -47,84 +47,63 @@ pub(crate) fn letter(word: Word) -> &'static str
 }
 
 // In the order of `Word`.
-const CELL_COLOURS: [&str; 15] = [
-    "#ffffff", "#f0f0f0", "#cfcfcf", "#d9d9d9", "#004b7c", "#56b4e9", "#0072b2", "#e3f2fb",
-    "#f0e442", "#e69f00", "#cc79a7", "#ffffff", "#b03a00", "#b03a00", "#b03a00",
-];
-
-/// The colour of its cells.
-pub(crate) fn cell_colour(word: Word) -> &'static str
-    ensures text { result.now ≡ cell_colour word }
-    ensures short { length result.now ≤ 7 }
-{
-    CELL_COLOURS[word as usize]
-}
-
-// In the order of `Word`.
-const LETTER_COLOURS: [&str; 15] = [
-    "#9a9a9a", "#8a8a8a", "#000000", "#a6a6a6", "#ffffff", "#000000", "#ffffff", "#6c8798",
-    "#000000", "#000000", "#000000", "#000000", "#ffffff", "#ffffff", "#ffffff",
-];
-
-/// The colour of its letter.
-pub(crate) fn letter_colour(word: Word) -> &'static str
-    ensures text { result.now ≡ letter_colour word }
-    ensures short { length result.now ≤ 7 }
-{
-    LETTER_COLOURS[word as usize]
-}
-
-// In the order of `Word`.
 const WORD_MEANINGS: [&str; 15] = [
-    "is off",
-    "listens",
-    "withdraws its cold start",
-    "left earlier",
-    "sent its cold-start frame",
-    "joined on a frame",
-    "sent its frame",
-    "accepted the frame",
-    "its own frame may be lost",
-    "a frame that does not fit",
-    "a spoilt frame",
-    "heard nothing",
-    "left: its frame was lost",
-    "left: no answer",
-    "left: it was outvoted",
+    "off: is off",
+    "wait: listens",
+    "retry: withdraws its cold start",
+    "gone: left earlier",
+    "start: sent its cold-start frame",
+    "join: joined on a frame",
+    "send: sent its frame",
+    "correct: accepted the frame",
+    "tentative: its own frame may be lost",
+    "incorrect: a frame that does not fit",
+    "invalid: a spoilt frame",
+    "null: heard nothing",
+    "denied: left: its frame was lost",
+    "unacknowledged: left: no answer",
+    "clique: left: it was outvoted",
 ];
 
-/// What it means.
+/// A word, and what it means.
 pub(crate) fn word_meaning(word: Word) -> &'static str
-    ensures text { result.now ≡ word_meaning word }
-    ensures short { length result.now ≤ 25 }
+    ensures text { result.now ≡ word_text word ++ codes ": " ++ word_meaning word }
+    ensures short { length result.now ≤ 41 }
 {
     WORD_MEANINGS[word as usize]
 }
 
-/// How many styles there are behind those of the words.
-pub(crate) const STYLES: u8 = 10;
-
-/// One of the styles behind those of the words.
-pub(crate) fn style(number: u8) -> &'static str
-    ensures text { result.now ≡ get_or styles number [] }
-    ensures short { length result.now ≤ 120 }
-{
-    match number {
-        0 => ".null rect{stroke:#a0a0a0}.off rect{stroke:#c0c0c0;stroke-dasharray:2}",
-        1 =>
-            ".other rect{stroke:#d00000;stroke-width:2}.doubt rect{stroke:#000000;stroke-width:2;stroke-dasharray:3 2}",
-        2 => ".data text{text-decoration:underline}",
-        3 => ".agree rect,.none rect{fill:#ffffff}.none text{fill:#666666;font-size:9px}",
-        4 => ".differ rect{fill:#000000}.differ text{fill:#ffffff;font-weight:bold}",
-        5 =>
-            ".row{text-anchor:end}.slot{text-anchor:middle;font-size:10px;fill:#444444}.said{font-weight:bold}",
-        6 => "rect.why{fill:#ffffff}text.why{fill:#b03a00;font-weight:bold;font-size:11px}",
-        7 => ".write{fill:#007a5a}.read{fill:#000000}.status{fill:#8b3a8b}",
-        8 => ".flag{stroke:#000000}.keep{text-anchor:end;font-size:10px}.back{font-size:10px}",
-        9 => ".why,.flag{pointer-events:none}",
-        _ => "",
-    }
-}
+/// The lines of the styles, those of the words in the order of the legend.
+pub(crate) const STYLE_LINES: [&str; 28] = [
+    "<style>\n",
+    "text{font:12px DejaVu Sans Mono,Consolas,monospace}g text{text-anchor:middle;font-size:11px}\n",
+    ".off rect{fill:#ffffff}.off text{fill:#9a9a9a}\n",
+    ".wait rect{fill:#f0f0f0}.wait text{fill:#8a8a8a}\n",
+    ".retry rect{fill:#cfcfcf}.retry text{fill:#000000}\n",
+    ".gone rect{fill:#d9d9d9}.gone text{fill:#a6a6a6}\n",
+    ".start rect{fill:#004b7c}.start text{fill:#ffffff}\n",
+    ".join rect{fill:#56b4e9}.join text{fill:#000000}\n",
+    ".send rect{fill:#0072b2}.send text{fill:#ffffff}\n",
+    ".correct rect{fill:#e3f2fb}.correct text{fill:#6c8798}\n",
+    ".tentative rect{fill:#f0e442}.tentative text{fill:#000000}\n",
+    ".incorrect rect{fill:#e69f00}.incorrect text{fill:#000000}\n",
+    ".invalid rect{fill:#cc79a7}.invalid text{fill:#000000}\n",
+    ".null rect{fill:#ffffff}.null text{fill:#000000}\n",
+    ".denied rect{fill:#b03a00}.denied text{fill:#ffffff}\n",
+    ".unacknowledged rect{fill:#b03a00}.unacknowledged text{fill:#ffffff}\n",
+    ".clique rect{fill:#b03a00}.clique text{fill:#ffffff}\n",
+    ".null rect{stroke:#a0a0a0}.off rect{stroke:#c0c0c0;stroke-dasharray:2}\n",
+    ".other rect{stroke:#d00000;stroke-width:2}.doubt rect{stroke:#000000;stroke-width:2;stroke-dasharray:3 2}\n",
+    ".data text{text-decoration:underline}\n",
+    ".agree rect,.none rect{fill:#ffffff}.none text{fill:#666666;font-size:9px}\n",
+    ".differ rect{fill:#000000}.differ text{fill:#ffffff;font-weight:bold}\n",
+    ".row{text-anchor:end}.slot{text-anchor:middle;font-size:10px;fill:#444444}.said{font-weight:bold}\n",
+    "rect.why{fill:#ffffff}text.why{fill:#b03a00;font-weight:bold;font-size:11px}\n",
+    ".write{fill:#007a5a}.read{fill:#000000}.status{fill:#8b3a8b}\n",
+    ".flag{stroke:#000000}.keep{text-anchor:end;font-size:10px}.back{font-size:10px}\n",
+    ".why,.flag{pointer-events:none}\n",
+    "</style>\n",
+];
 
 /// What it means that a rule of the hypothesis is broken.
 pub(crate) fn rule_meaning(number: u8) -> &'static str

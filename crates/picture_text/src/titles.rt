@@ -1,7 +1,6 @@
 //! The lines of a trace, formed as titles.
 #![tactic(auto, using(ttp_base::proofs::Room::room, crate::proofs::Places::decimal_of_slot))]
 
-ghost use Rattle.std.specs.Fmt.{signed_decimal};
 ghost use Rattle.std.specs.Prelude.{◌≡◌, ◌+◌, ◌≤◌, ◌++◌, length, codes, decimal};
 ghost use Rattle.ttp_base.specs.Text.{hex};
 ghost use Rattle.ttp_world.specs.Trace.{number_or_dash, ack_word, host_head, source_word};
@@ -9,16 +8,19 @@ ghost use Rattle.line_reader.specs.TraceLines.{word_text};
 ghost use Rattle.shown_slot.specs.Trace.{node_text, host_text};
 ghost use Rattle.picture_text.specs.Cells.{head_member_digits};
 
+use crate::element::put_field;
 use shown_slot::word_text;
 use ttp_base::Line;
 use ttp_world::{Ack, Source};
 use whole_trace::{Head, HostLine, NodeShown};
 
-fn put_number_or_dash(line: &mut Line, number: Option<u64>)
-    requires { length line.old ≤ 600 }
-    ensures text { line.new ≡ line.old ++ number_or_dash number }
-    ensures short { length line.new ≤ length line.old + 20 }
+// Adds a number or a dash behind a label.
+fn put_number_or_dash(line: &mut Line, label: &str, number: Option<u64>)
+    requires { (length line.old ≤ 600) × (length label.now ≤ 6) }
+    ensures text { line.new ≡ line.old ++ label.now ++ number_or_dash number }
+    ensures short { length line.new ≤ length line.old + 26 }
 {
+    line.put_text(label);
     match number {
         Some(number) => line.put_number(number),
         None => line.put_text("-"),
@@ -27,16 +29,13 @@ fn put_number_or_dash(line: &mut Line, number: Option<u64>)
 
 fn put_ack(line: &mut Line, ack: Ack)
     requires { length line.old ≤ 600 }
-    ensures text { line.new ≡ line.old ++ ack_word ack }
-    ensures short { length line.new ≤ length line.old + 9 }
+    ensures text { line.new ≡ line.old ++ codes " ack " ++ ack_word ack }
+    ensures short { length line.new ≤ length line.old + 31 }
 {
     match ack {
-        Ack::Closed => line.put_text("none"),
-        Ack::First => line.put_text("first"),
-        Ack::Doubt(successor) => {
-            line.put_text("doubt:");
-            line.put_number(u64::from(successor));
-        }
+        Ack::Closed => line.put_text(" ack none"),
+        Ack::First => line.put_text(" ack first"),
+        Ack::Doubt(successor) => put_field(line, " ack doubt:", u64::from(successor)),
     }
 }
 
@@ -54,63 +53,36 @@ pub(crate) fn put_members(line: &mut Line, head: &Head, members: u32)
     }
 }
 
-// Adds the slot and the node with which the line of a node begins.
-fn put_node(line: &mut Line, slot: u32, number: u8)
+// Adds what the line of a node shows before its members.
+fn put_heard(line: &mut Line, slot: u32, number: u8, node: &NodeShown)
     requires { length line.old ≤ 400 }
     ensures text { line.new ≡ line.old ++ (codes "slot " ++ decimal slot ++ codes " node " ++ decimal number
-        ++ codes " ") }
-    ensures short { length line.new ≤ length line.old + 30 }
+        ++ codes " " ++ word_text node.now.word ++ codes " peer " ++ number_or_dash node.now.peer ++ codes " msg "
+        ++ number_or_dash node.now.message) }
+    ensures short { length line.new ≤ length line.old + 120 }
 {
-    line.put_text("slot ");
-    line.put_number(u64::from(slot));
-    line.put_text(" node ");
-    line.put_number(u64::from(number));
+    put_field(line, "slot ", u64::from(slot));
+    put_field(line, " node ", u64::from(number));
     line.put_text(" ");
-}
-
-// Adds what the node did.
-fn put_word(line: &mut Line, node: &NodeShown)
-    requires { length line.old ≤ 450 }
-    ensures text { line.new ≡ line.old ++ (word_text node.now.word ++ codes " peer " ++ number_or_dash node.now.peer
-        ++ codes " msg " ++ number_or_dash node.now.message ++ codes " mem ") }
-    ensures short { length line.new ≤ length line.old + 75 }
-{
     line.put_text(word_text(node.word));
-    line.put_text(" peer ");
-    put_number_or_dash(line, node.peer.map(u64::from));
-    line.put_text(" msg ");
-    put_number_or_dash(line, node.message);
-    line.put_text(" mem ");
-}
-
-// Adds the counts and what stands behind them.
-fn put_counts(line: &mut Line, node: &NodeShown)
-    requires { length line.old ≤ 550 }
-    ensures text { line.new ≡ line.old ++ (codes " acc " ++ decimal node.now.accepted ++ codes " rej "
-        ++ decimal node.now.rejected ++ codes " ack " ++ ack_word node.now.ack ++ codes " clock "
-        ++ signed_decimal node.now.offset) }
-    ensures short { length line.new ≤ length line.old + 60 }
-{
-    line.put_text(" acc ");
-    line.put_number(u64::from(node.accepted));
-    line.put_text(" rej ");
-    line.put_number(u64::from(node.rejected));
-    line.put_text(" ack ");
-    put_ack(line, node.ack);
-    line.put_text(" clock ");
-    line.put_signed(node.offset);
+    put_number_or_dash(line, " peer ", node.peer.map(u64::from));
+    put_number_or_dash(line, " msg ", node.message);
 }
 
 /// Adds the line of a node.
 pub(crate) fn put_node_text(line: &mut Line, head: &Head, slot: u32, number: u8, node: &NodeShown)
     requires { length line.old ≤ 400 }
     ensures text { line.new ≡ line.old ++ node_text head.now slot number node.now }
-    ensures short { length line.new ≤ length line.old + 175 }
+    ensures short { length line.new ≤ length line.old + 240 }
 {
-    put_node(line, slot, number);
-    put_word(line, node);
+    put_heard(line, slot, number, node);
+    line.put_text(" mem ");
     put_members(line, head, node.members.bits());
-    put_counts(line, node);
+    put_field(line, " acc ", u64::from(node.accepted));
+    put_field(line, " rej ", u64::from(node.rejected));
+    put_ack(line, node.ack);
+    line.put_text(" clock ");
+    line.put_signed(node.offset);
 }
 
 // Adds the slot and the host with which the line of a host begins.
@@ -145,8 +117,7 @@ pub(crate) fn put_host_text(line: &mut Line, slot: u32, host_line: &HostLine)
     match host_line {
         HostLine::Write { host, number } => {
             put_host(line, slot, *host);
-            line.put_text(" write ");
-            line.put_number(*number);
+            put_field(line, " write ", *number);
         }
         HostLine::Read {
             host,
@@ -157,8 +128,7 @@ pub(crate) fn put_host_text(line: &mut Line, slot: u32, host_line: &HostLine)
             put_host(line, slot, *host);
             line.put_text(" read ");
             put_source(line, *source);
-            line.put_text(" ");
-            line.put_number(*number);
+            put_field(line, " ", *number);
             line.put_text(" ");
             line.put_hex_bytes(payload.bytes());
         }

@@ -20,12 +20,12 @@ pub returns : goal.returns
 returns g c =
     let n = c.args.frame.head.nodes in
     let t = c.args.frame.span.first + c.columns.result * c.args.band in
-    let puts = two_more _ _ _ _ _ _ _ _ _ c.make_row.new.line c.make_row-2.new.line
+    let puts = two_more _ _ _ _ _ _ _ _ _ c.make_text_of.new.line c.make_text_of-2.new.line
     (row_line (row_y n c.args.frame.span t n + 17) (codes "members"))
     (row_line (row_y n c.args.frame.span t (n + 1) + 17) (codes "clocks"))
     c.put_node_rows.ensures c.write.ensures c.write-2.ensures
-    (c.make_row.ensures ∙ ap (λ (y : ℕ). row_line (y + 17) (codes "members")) c.row_y.ensures.value)
-    (c.make_row-2.ensures ∙ ap (λ (y : ℕ). row_line (y + 17) (codes "clocks")) c.row_y-2.ensures.value) in
+    (c.make_text_of.ensures ∙ ap (λ (y : ℕ). row_line (y + 17) (codes "members")) c.row_y.ensures.value)
+    (c.make_text_of-2.ensures ∙ ap (λ (y : ℕ). row_line (y + 17) (codes "clocks")) c.row_y-2.ensures.value) in
     subst (λ (m : ℕ). Puts c.args.sheet.now.failed (g.K.Sink.output c.args.out.now) c.write-2.new.self.failed
     (g.K.Sink.output c.write-2.new.out)
     (map (λ k. row_line (row_y n c.args.frame.span (c.args.frame.span.first + m * c.args.band) k + 13)

@@ -13,8 +13,8 @@ loop-host_line-preserved g c fails now puts =
     c.loop-host_line.invariant fails now
     (rest_first (λ line. host_mark c.args.slot line (column_x c.args.frame.head.nodes c.args.frame.span c.args.slot)
     (row_y c.args.frame.head.nodes c.args.frame.span c.args.slot (host_of line)))
-    c.loop-host_line.hosts c.next_line.new.self c.in-Some.host_line c.make_placed_mark.new.line _ _ _ _ _ _
-    c.in-Some.ensures.some c.write.ensures c.make_placed_mark.ensures puts)
+    c.loop-host_line.hosts c.next_line.new.self c.in-Some.host_line c.make_host_mark.new.line _ _ _ _ _ _
+    c.in-Some.ensures.some c.write.ensures c.make_host_mark.ensures puts)
 
 pub returns : goal.returns
 returns g c =

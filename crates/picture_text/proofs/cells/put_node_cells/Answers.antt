@@ -8,4 +8,4 @@ loop-number-preserved g c =
     (λ k. node_cell c.args.frame.head c.args.slot k (node_at c.args.shown.now k) c.args.most
     (column_x c.args.frame.head.nodes c.args.frame.span c.args.slot)
     (row_y c.args.frame.head.nodes c.args.frame.span c.args.slot k))
-    c.loop-number.number c.make_placed_cell.new.line c.loop-number.invariant c.write.ensures c.make_placed_cell.ensures
+    c.loop-number.number c.make_node_cell.new.line c.loop-number.invariant c.write.ensures c.make_node_cell.ensures

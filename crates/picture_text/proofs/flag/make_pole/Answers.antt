@@ -8,16 +8,13 @@ returns c =
     let n = c.args.frame.head.nodes in
     let span = c.args.frame.span in
     rw (
-      c.put_text-4.ensures,
-      c.put_number-3.ensures,
-      c.from.ensures,
-      c.put_text-3.ensures,
-      c.put_number-2.ensures,
-      c.row_y.ensures.value,
-      c.put_text-2.ensures,
-      c.put_number.ensures,
-      c.column_x.ensures.value,
       c.put_text.ensures,
+      c.put_field-3.ensures.text,
+      c.from.ensures,
+      c.put_field-2.ensures.text,
+      c.row_y.ensures.value,
+      c.put_field.ensures.text,
+      c.column_x.ensures.value,
       c.clear.ensures,
     )
     (pole_parts (codes "<path class=\"flag\"") (codes " d=\"") (codes "M") (decimal (column_x n span c.args.slot - 1))

@@ -1,17 +1,17 @@
 use Rattle.picture_text.proofs.Words.{ap, sym, ◌∙◌}
 use Rattle.picture_text.specs.Picture.{is_shown}
 use Rattle.picture_text.specs.Tables.{back_slot}
-use Rattle.picture_text.proofs.Pairs.{puts_where, puts_unless}
+use Rattle.picture_text.proofs.Pairs.{puts_two, puts_where, puts_unless}
 use Rattle.picture_text.proofs.flag.put_flag_of.Goals as goal
 
 pub returns-then-is_shown : goal.returns-then-is_shown
 returns-then-is_shown g c =
-    let slot = ap (is_shown c.args.frame.span) (sym c.back_slot-slot.ensures) in
-    puts_where (is_shown c.args.frame.span (back_slot c.args.back)) _ (slot ∙ sym c.is_shown.ensures ∙ c.if-is_shown.true)
-    (rw c.back_slot-slot.ensures at c.put_back_parts.ensures)
+    let same = c.back_slot-slot.ensures in
+    puts_where (is_shown c.args.frame.span (back_slot c.args.back)) _
+    (ap (is_shown c.args.frame.span) (sym same) ∙ sym c.is_shown.ensures ∙ c.if-is_shown.true)
+    (puts_two (rw same at c.make_pole.ensures) (rw same at c.make_back_flag.ensures) c.write.ensures c.write-then-is_shown.ensures)
 
 pub returns-else-is_shown : goal.returns-else-is_shown
 returns-else-is_shown g c =
-    let slot = ap (is_shown c.args.frame.span) (sym c.back_slot-slot.ensures) in
     puts_unless (is_shown c.args.frame.span (back_slot c.args.back)) _
-    (slot ∙ sym c.is_shown.ensures ∙ c.if-is_shown.false)
+    (ap (is_shown c.args.frame.span) (sym c.back_slot-slot.ensures) ∙ sym c.is_shown.ensures ∙ c.if-is_shown.false)

@@ -1,6 +1,15 @@
-use Rattle.picture_text.proofs.Pairs.{puts_both}
+use Rattle.picture_text.proofs.Words.{ℕ, ◌++◌, codes, ap, ◌∙◌, ended, size, svg_line}
+use Rattle.picture_text.proofs.Pairs.{puts_both, puts_first}
 use Rattle.picture_text.proofs.head.put_head.Goals as goal
 
 pub returns : goal.returns
 returns g c =
-    puts_both (puts_both c.put_front.ensures c.put_styles.ensures) (puts_both c.put_shown.ensures c.put_said.ensures)
+    let high = c.height-high.ensures in
+    puts_both
+    (puts_first (c.make_svg.ensures ∙ ap svg_line high) c.write.ensures
+    (puts_first c.make_title.ensures c.write-2.ensures c.put_styles.ensures))
+    (puts_first
+    (c.make_ground.ensures ∙ ap (λ (h : ℕ). ended (codes "<rect" ++ size h ++ codes " fill=\"#ffffff\"/>")) high)
+    c.write-3.ensures
+    (puts_first c.make_shown.ensures c.write-4.ensures
+    (puts_first c.make_keep_said.ensures c.write-5.ensures c.put_back_said.ensures)))

@@ -2,4 +2,8 @@ use Rattle.picture_text.proofs.Pairs.{puts_both}
 use Rattle.picture_text.proofs.legend.put_classes.Goals as goal
 
 pub returns : goal.returns
-returns g c = puts_both (puts_both c.put_row_entries.ensures c.put_node_entries.ensures) c.put_mark_entries.ensures
+returns g c =
+    puts_both (puts_both (puts_both (puts_both (puts_both (puts_both (puts_both (puts_both
+    c.put_entry.ensures c.put_entry-2.ensures) c.put_entry-3.ensures) c.put_entry-4.ensures)
+    c.put_entry-5.ensures) c.put_entry-6.ensures) c.put_mark_entry.ensures) c.put_mark_entry-2.ensures)
+    c.put_mark_entry-3.ensures

@@ -3,5 +3,8 @@ use Rattle.picture_text.proofs.legend.put_mark_entry.Goals as goal
 
 pub returns : goal.returns
 returns g c =
-    puts_two (rw (c.beside.ensures.x, c.beside.ensures.y) at c.make_mark.ensures)
-    c.make_entry_text.ensures c.write.ensures c.write-2.ensures
+    puts_two
+    (rw (c.beside.ensures.x, c.beside.ensures.y, c.entry_corner-at.ensures.x, c.entry_corner-at.ensures.y)
+    at c.make_mark.ensures)
+    (rw (c.entry_corner-at.ensures.x, c.entry_corner-at.ensures.y) at c.make_text.ensures) c.write.ensures
+    c.write-2.ensures

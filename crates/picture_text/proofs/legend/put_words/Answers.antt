@@ -1,4 +1,4 @@
-use Rattle.picture_text.proofs.Words.{ℕ, get_or, word_entry, words}
+use Rattle.picture_text.proofs.Words.{get_or, ℕ, word_entry, words}
 use Rattle.line_reader.specs.declared.trace_line.Word.TheVariants as word
 use Rattle.picture_text.proofs.Puts.{puts_below}
 use Rattle.picture_text.proofs.legend.put_words.Goals as goal
@@ -6,4 +6,10 @@ use Rattle.picture_text.proofs.legend.put_words.Goals as goal
 pub loop-number-preserved : goal.loop-number-preserved
 loop-number-preserved g c =
     puts_below _ _ _ _ _ _ (λ (k : ℕ). word_entry c.args.top k (get_or words k word.Off)) c.loop-number.number
-    c.loop-number.invariant c.put_word_entry.ensures
+    c.loop-number.invariant
+    (rw (
+      c.word_text-name.ensures.text,
+      c.letter.ensures.text,
+      c.word_meaning.ensures.text,
+      c.word_number-word.ensures,
+    ) at c.put_entry.ensures)

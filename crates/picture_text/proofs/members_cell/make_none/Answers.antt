@@ -7,14 +7,11 @@ pub returns : goal.returns
 returns c =
     rw (
       c.close_cell.ensures,
-      c.put_text-4.ensures,
-      c.close_title.ensures.text,
-      c.put_text-3.ensures,
-      c.put_number.ensures,
-      c.from.ensures,
       c.put_text-2.ensures,
-      c.open_title.ensures.text,
+      c.close_title.ensures.text,
       c.put_text.ensures,
+      c.put_field.ensures.text,
+      c.from.ensures,
       c.open_cell.ensures,
     )
     (cell_parts (codes "none") (codes "slot " ++ decimal c.args.slot ++ codes " members -")

@@ -1,4 +1,4 @@
-use Rattle.picture_text.proofs.Words.{ℕ, List, ◌++◌, Bool, cond, ap, sym, ◌∙◌, ◌==◌, hex}
+use Rattle.picture_text.proofs.Words.{ℕ, List, ◌++◌, Bool, cond, ap, sym, ◌∙◌, hex}
 use Rattle.std.proofs.lemmas.Bool.{eq-eqb, ne_eqb}
 use Rattle.shown_slot.proofs.Texts.{six_digits}
 use Rattle.picture_text.proofs.Digits.{hex_four}

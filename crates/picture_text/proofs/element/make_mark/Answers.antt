@@ -1,6 +1,6 @@
 use Rattle.std.proofs.Common.{decimal}
 use Rattle.picture_text.proofs.Joined.{mark_parts}
-use Rattle.picture_text.proofs.legend.make_mark.Goals as goal
+use Rattle.picture_text.proofs.element.make_mark.Goals as goal
 
 pub returns : goal.returns
 returns c =

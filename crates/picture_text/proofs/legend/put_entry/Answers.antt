@@ -1,8 +1,8 @@
 use Rattle.picture_text.proofs.Pairs.{puts_two}
-use Rattle.picture_text.proofs.legend.put_cell_entry.Goals as goal
+use Rattle.picture_text.proofs.legend.put_entry.Goals as goal
 
 pub returns : goal.returns
 returns g c =
     puts_two (rw (c.entry_corner-at.ensures.x, c.entry_corner-at.ensures.y) at c.make_cell.ensures)
-    (rw (c.entry_corner-at.ensures.x, c.entry_corner-at.ensures.y) at c.make_entry_text.ensures) c.write.ensures
+    (rw (c.entry_corner-at.ensures.x, c.entry_corner-at.ensures.y) at c.make_text.ensures) c.write.ensures
     c.write-2.ensures

@@ -1,8 +1,0 @@
-use Rattle.picture_text.proofs.Pairs.{puts_both}
-use Rattle.picture_text.proofs.head.put_styles.Goals as goal
-
-pub returns : goal.returns
-returns g c =
-    puts_both c.put.ensures
-    (puts_both c.put-2.ensures
-    (puts_both (puts_both c.put_word_styles.ensures c.put_plain_styles.ensures) c.put-3.ensures))
