@@ -1,5 +1,5 @@
 //! Published frames, and frames beside those of an encoder that goes bit by bit.
-ghost use Rattle.std.specs.Prelude.{◌≡◌, ◌*◌, ◌^◌, ◌<◌, ◌≤◌, length, IfSome};
+ghost use Rattle.std.specs.Prelude.{◌≡◌, ◌*◌, ◌^◌, ◌<◌, ◌≤◌, length};
 ghost use Rattle.ttp_world.specs.Medl.{member_bytes, IsValid};
 
 use super::check_words::register_after;
@@ -16,21 +16,21 @@ fn room(wide: bool) -> u32
     if wide { 0x100_0000 } else { 0x1_0000 }
 }
 
-// The length of the frame in the buffer's front, of which the rest is kept; none where it is no frame.
-fn encoded(frame: &FrameIn, start: u32, out: &mut [u8; 256]) -> Option<usize>
-    ensures { IfSome result (λ len. len ≤ 256) }
+/// The length of the frame in the buffer's front, of which the rest is kept; 0 where it is no frame.
+pub(super) fn encoded(frame: &FrameIn, start: u32, out: &mut [u8; 256]) -> usize
+    ensures { result ≤ 256 }
 {
     let size = frame.payload.len();
     if frame.header > 3 || size > 240 || start >= 0x100_0000 {
-        return None;
+        return 0;
     }
     if (frame.header == 1 || frame.header == 3) && size != 0 {
-        return None;
+        return 0;
     }
     if frame.cstate.members.bits() >= room(frame.wide) {
-        return None;
+        return 0;
     }
-    Some(encode(frame, start, out))
+    encode(frame, start, out)
 }
 
 // Whether a frame is judged so, where one may be expected.
@@ -57,7 +57,8 @@ fn members_of(bits: u32) -> NodeSet {
     members
 }
 
-fn state(time: u16, round: u8, slot: u8, members: u32) -> CState {
+/// A C-state, by the word of its members.
+pub(super) fn state(time: u16, round: u8, slot: u8, members: u32) -> CState {
     CState {
         time,
         round,
@@ -104,9 +105,7 @@ fn are_encoded() -> bool {
             cstate: state(0, 0, 0, 1),
             payload: &[],
         };
-        let Some(len) = encoded(&frame, 0, &mut out) else {
-            return false;
-        };
+        let len = encoded(&frame, 0, &mut out);
         if &out[..len] != *bytes {
             return false;
         }
@@ -161,42 +160,30 @@ fn put_bytes(slow: &Slow) -> &[u8] {
     }
 }
 
-fn slow_state(cstate: &CState, wide: bool) -> Slow {
-    let mut state = NO_BYTES;
-    push_number(&mut state, u32::from(cstate.time), 2);
-    push(&mut state, cstate.round);
-    push(&mut state, cstate.slot);
-    push_number(&mut state, cstate.members.bits(), if wide { 3 } else { 2 });
-    state
+fn push_state(slow: &mut Slow, frame: &FrameIn) {
+    push_number(slow, u32::from(frame.cstate.time), 2);
+    push(slow, frame.cstate.round);
+    push(slow, frame.cstate.slot);
+    let count = if frame.wide { 3 } else { 2 };
+    push_number(slow, frame.cstate.members.bits(), count);
 }
 
-// What is sent of a frame before its check word.
-fn slow_front(frame: &FrameIn, state: &[u8]) -> Slow {
-    let mut front = NO_BYTES;
-    push(&mut front, frame.header);
-    if frame.header != 0 {
-        push_all(&mut front, state);
-    }
-    push_all(&mut front, frame.payload);
-    front
-}
-
-// The check word of a frame whose front this is. Where the C-state is not sent, the word goes over it all the same.
-fn slow_word(header: u8, start: u32, state: &[u8], front: &[u8]) -> u32 {
-    let unsent = if header == 0 {
-        register_after(start, state)
-    } else {
-        start
-    };
-    register_after(unsent, front)
-}
-
+// Whether these are the bytes of a frame. Its check word goes over all before it, and where the C-state is not sent,
+// over the C-state first.
 fn is_slow_frame(frame: &FrameIn, start: u32, bytes: &[u8]) -> bool {
-    let state = slow_state(&frame.cstate, frame.wide);
-    let mut slow = slow_front(frame, put_bytes(&state));
-    let word = slow_word(frame.header, start, put_bytes(&state), put_bytes(&slow));
+    let mut slow = NO_BYTES;
+    if frame.header == 0 {
+        push_state(&mut slow, frame);
+    }
+    let unsent = slow.len;
+    push(&mut slow, frame.header);
+    if frame.header != 0 {
+        push_state(&mut slow, frame);
+    }
+    push_all(&mut slow, frame.payload);
+    let word = register_after(start, put_bytes(&slow));
     push_number(&mut slow, word, 3);
-    put_bytes(&slow) == bytes
+    put_bytes(&slow).get(unsent..) == Some(bytes)
 }
 
 // The next of a sequence of numbers that looks like chance.
@@ -299,9 +286,7 @@ fn flips_are_seen(bytes: &mut [u8], start: u32, expect: &Expect, cstate: &CState
 // A frame beside the slow one, and with flips.
 fn is_right(frame: &FrameIn, size: u8, start: u32) -> bool {
     let mut out = [0xffu8; 256];
-    let Some(len) = encoded(frame, start, &mut out) else {
-        return false;
-    };
+    let len = encoded(frame, start, &mut out);
     let expect = Expect {
         wide: frame.wide,
         header: frame.header,
@@ -406,9 +391,7 @@ fn joins_as_due(list: &Medl, case: &JoinCase) -> bool
         payload: payload.as_bytes(),
     };
     let mut out = [0u8; 256];
-    let Some(len) = encoded(&frame, 7, &mut out) else {
-        return false;
-    };
+    let len = encoded(&frame, 7, &mut out);
     is_read(list, &mut out, len, if joins { Some(cstate) } else { None })
 }
 

@@ -19,12 +19,12 @@ const N: &[Kind] = &[Kind::N];
 /// Adds the slot of one more node, whose frames have these kinds.
 pub(super) fn add_slot(
     alloc: Global,
-    slots: &mut List<SlotPlan>,
+    slots: List<SlotPlan>,
     kinds: &[Kind],
     payload: u8,
     start: bool,
-) -> Result<(), Memory>
-    ensures { IfOk result (λ _. slots.new ≡ slots.old ++ record {
+) -> Result<List<SlotPlan>, Memory>
+    ensures { IfOk result (λ more. more ≡ slots ++ record {
       kinds = kinds.now;
       payload = payload;
       sync = true;
@@ -36,14 +36,19 @@ pub(super) fn add_slot(
     let Ok(kinds) = Vec::from_slice(alloc, kinds) else {
         return Err(Memory);
     };
-    slots.push(SlotPlan {
+    let plan = SlotPlan {
         kinds: List::from_vec(kinds),
         payload,
         sync: true,
         start,
         requests: false,
         live: 1,
-    })
+    };
+    let mut slots = slots;
+    match slots.push(plan) {
+        Ok(()) => Ok(slots),
+        Err(_) => Err(Memory),
+    }
 }
 
 /// Four nodes whose frames are all bare, each of which may start.
@@ -53,17 +58,16 @@ pub(super) fn bare_nodes(alloc: Global) -> Result<Medl, Memory>
     ensures buffers { IfOk result (λ list. list.buffers ≡ 2) }
     ensures bare { (k : ℕ) → IfOk result (λ list. (plan_at list k).payload ≡ 0) }
 {
-    let mut slots = List::new(alloc);
-    let Ok(()) = add_slot(alloc, &mut slots, I, 0, true) else {
+    let Ok(slots) = add_slot(alloc, List::new(alloc), I, 0, true) else {
         return Err(Memory);
     };
-    let Ok(()) = add_slot(alloc, &mut slots, I, 0, true) else {
+    let Ok(slots) = add_slot(alloc, slots, I, 0, true) else {
         return Err(Memory);
     };
-    let Ok(()) = add_slot(alloc, &mut slots, I, 0, true) else {
+    let Ok(slots) = add_slot(alloc, slots, I, 0, true) else {
         return Err(Memory);
     };
-    let Ok(()) = add_slot(alloc, &mut slots, I, 0, true) else {
+    let Ok(slots) = add_slot(alloc, slots, I, 0, true) else {
         return Err(Memory);
     };
     Ok(Medl {
@@ -84,17 +88,16 @@ pub(super) fn bare_nodes(alloc: Global) -> Result<Medl, Memory>
 pub(super) fn mixed_nodes(alloc: Global) -> Result<Medl, Memory>
     ensures { IfOk result IsValid }
 {
-    let mut slots = List::new(alloc);
-    let Ok(()) = add_slot(alloc, &mut slots, I, 0, true) else {
+    let Ok(slots) = add_slot(alloc, List::new(alloc), I, 0, true) else {
         return Err(Memory);
     };
-    let Ok(()) = add_slot(alloc, &mut slots, X, 2, false) else {
+    let Ok(slots) = add_slot(alloc, slots, X, 2, false) else {
         return Err(Memory);
     };
-    let Ok(()) = add_slot(alloc, &mut slots, N, 2, false) else {
+    let Ok(slots) = add_slot(alloc, slots, N, 2, false) else {
         return Err(Memory);
     };
-    let Ok(()) = add_slot(alloc, &mut slots, I, 0, false) else {
+    let Ok(slots) = add_slot(alloc, slots, I, 0, false) else {
         return Err(Memory);
     };
     Ok(Medl {

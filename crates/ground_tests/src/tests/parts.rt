@@ -14,7 +14,7 @@ ghost use Rattle.controller.specs.PlantWithin.{most_ahead, most_ahead_in, IsEnde
 ghost use Rattle.controller.specs.PlantWithin.{IsFromWithin};
 
 use super::lists::{bare_nodes, let_go};
-use super::plants::{after, nothing_for_all, quiet_script};
+use super::plants::{after_of, nothing_for_all, quiet_script};
 use controller::{Plant, Seat, begin_all, plan_all, seats_of, take_all};
 use medium::Medium;
 use std::alloc::Global;
@@ -118,22 +118,6 @@ fn parts_of(alloc: Global, list: &Medl, script: &Script, slots: u32) -> Result<V
     Ok(seats)
 }
 
-// The seats of the cluster after so many slots.
-fn after_in_parts(alloc: Global, slots: u32) -> Result<Vec<Seat>, Memory>
-    requires { slots ≤ 12 }
-    ensures { IfOk result (λ seats. length seats.items ≡ 4) }
-{
-    let Ok(list) = bare_nodes(alloc) else {
-        return Err(Memory);
-    };
-    let Ok(script) = quiet_script(alloc) else {
-        return Err(Memory);
-    };
-    let seats = parts_of(alloc, &list, &script, slots);
-    let_go(script);
-    seats
-}
-
 // Whether a plant shows of a node what its seat shows.
 fn shows(whole: &Plant, seat: &Seat, k: u8) -> bool
     requires { k < length whole.now.list.slots }
@@ -146,13 +130,19 @@ fn is_same(alloc: Global, slots: u32, k: u8) -> bool
     requires slots { slots ≤ 12 }
     requires k { k < 4 }
 {
-    let Ok(whole) = after(alloc, slots) else {
+    let Ok(list) = bare_nodes(alloc) else {
         return false;
     };
-    let Ok(parts) = after_in_parts(alloc, slots) else {
+    let Ok(script) = quiet_script(alloc) else {
         return false;
     };
-    shows(&whole, &parts[k as usize], k)
+    let whole = after_of(alloc, &list, &script, slots);
+    let parts = parts_of(alloc, &list, &script, slots);
+    let_go(script);
+    match (&whole, &parts) {
+        (Ok(whole), Ok(parts)) => shows(whole, &parts[k as usize], k),
+        _ => false,
+    }
 }
 
 #[test]

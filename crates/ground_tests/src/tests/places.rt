@@ -17,17 +17,16 @@ fn four_nodes(alloc: Global) -> Result<Medl, Memory>
     ensures rounds { IfOk result (λ list. list.rounds ≡ 2) }
     ensures slots { IfOk result (λ list. length list.slots ≡ 4) }
 {
-    let mut slots = List::new(alloc);
-    let Ok(()) = add_slot(alloc, &mut slots, KINDS, 0, true) else {
+    let Ok(slots) = add_slot(alloc, List::new(alloc), KINDS, 0, true) else {
         return Err(Memory);
     };
-    let Ok(()) = add_slot(alloc, &mut slots, KINDS, 0, true) else {
+    let Ok(slots) = add_slot(alloc, slots, KINDS, 0, true) else {
         return Err(Memory);
     };
-    let Ok(()) = add_slot(alloc, &mut slots, KINDS, 0, true) else {
+    let Ok(slots) = add_slot(alloc, slots, KINDS, 0, true) else {
         return Err(Memory);
     };
-    let Ok(()) = add_slot(alloc, &mut slots, KINDS, 0, true) else {
+    let Ok(slots) = add_slot(alloc, slots, KINDS, 0, true) else {
         return Err(Memory);
     };
     Ok(Medl {

@@ -50,8 +50,13 @@ pub(super) fn nothing_for_all() -> [Chosen; 4]
     [nothing(), nothing(), nothing(), nothing()]
 }
 
-// The plant of this list after so many slots in which no node has anything to send.
-fn after_of(alloc: Global, list: &Medl, script: &Script, slots: u32) -> Result<Plant, Memory>
+/// The plant of this list after so many slots in which no node has anything to send.
+pub(super) fn after_of(
+    alloc: Global,
+    list: &Medl,
+    script: &Script,
+    slots: u32,
+) -> Result<Plant, Memory>
     requires valid { IsValid list.now }
     requires nodes { length list.now.slots ≡ 4 }
     requires bare { (k : ℕ) → (plan_at list.now k).payload ≡ 0 }
@@ -67,8 +72,8 @@ fn after_of(alloc: Global, list: &Medl, script: &Script, slots: u32) -> Result<P
     Ok(plant)
 }
 
-/// The cluster after so many slots.
-pub(super) fn after(alloc: Global, slots: u32) -> Result<Plant, Memory>
+// The cluster after so many slots.
+fn after(alloc: Global, slots: u32) -> Result<Plant, Memory>
     requires { slots ≤ 12 }
     ensures { IfOk result (λ plant. length plant.list.slots ≡ 4) }
 {
