@@ -9,6 +9,7 @@ pub mod Choices
 pub mod SlotSteps
 pub mod Lines
 pub mod SlotParts
+pub mod TwoHalves
 pub mod ReportTexts
 pub mod Sends
 pub mod LentReaders

@@ -1,5 +1,5 @@
--- Work of a slot that is given to a worker, and what the worker makes of it.
-use Rattle.std.specs.Prelude.{◌≡◌, ℕ, ◌≤◌, List, [], length, vec_capacity, All}
+-- Work of a slot that may be given away, and what is made of it.
+use Rattle.std.specs.Prelude.{◌≡◌, ℕ, ◌≤◌, List, [], length, vec_capacity, All, Option, Some, None}
 use Rattle.std.specs.Arc.{arc_value}
 use Rattle.std.specs.List.{filter_map}
 use Rattle.ttp_world.specs.declared.script.Script.{Script}
@@ -7,12 +7,12 @@ use Rattle.ttp_world.specs.Script.{write_at}
 use Rattle.host_port.specs.Rings.{HostState}
 use Rattle.host_port.specs.declared.report.WriteLine.{WriteLine}
 use Rattle.cluster_run.specs.declared.jobs.EndJob.{EndJob}
-use Rattle.cluster_run.specs.declared.jobs.HostJob.{HostJob}
-use Rattle.cluster_run.specs.declared.jobs.HostJob.TheVariants as job
+use Rattle.cluster_run.specs.declared.jobs.Job.{Job}
+use Rattle.cluster_run.specs.declared.jobs.Job.TheVariants as job
 use Rattle.cluster_run.specs.Ending.{IsPartReady, HasPartEnded}
 use Rattle.cluster_run.specs.Ends.{host_at}
 use Rattle.cluster_run.specs.Reading.{HaveRead, HaveRoomForReads}
-use Rattle.cluster_run.specs.Sending.{MayWriteAll, WritesBytes, after_writes, host_write_lines}
+use Rattle.cluster_run.specs.Sending.{MayWriteAll, MayFetchAll, FetchAll, WritesBytes, after_writes, host_write_lines}
 
 -- the part of a job may end the slot
 abbrev pub IsJobReady : EndJob → Type 0
@@ -40,16 +40,35 @@ pub record HaveWrittenAt (script : Script) (places : List ℕ) (old new : List H
   pub lines_are : lines ≡ host_write_lines old [] (filter_map (write_at script) places)
   pub bytes : All WritesBytes (filter_map (write_at script) places)
 
--- hosts may do what a job says
-abbrev pub MayHostsDo : HostJob → Type 0
-MayHostsDo (job.Write script places ends lines) =
+-- a job may be done
+abbrev pub MayDo : Job → Type 0
+MayDo (job.End part) = IsJobReady part
+MayDo (job.Fetch fetchers) = MayFetchAll fetchers.items
+MayDo (job.Write script places ends lines) =
     MayWriteAt script.now places.now ends.items lines.items (vec_capacity lines)
-MayHostsDo (job.Read reads readers) = HaveRoomForReads reads.now readers.items
+MayDo (job.Read reads readers) = HaveRoomForReads reads.now readers.items
 
--- they have done it
-abbrev pub HaveHostsDone : HostJob → HostJob → Type 0
-HaveHostsDone (job.Write script places ends lines) (job.Write script' places' ends' lines') =
+-- it was done, and is this one then
+abbrev pub HasDone : Job → Job → Type 0
+HasDone (job.End part) (job.End part') = HasJobEnded part part'
+HasDone (job.Fetch fetchers) (job.Fetch fetchers') = FetchAll fetchers.items fetchers'.items
+HasDone (job.Write script places ends lines) (job.Write script' places' ends' lines') =
     HaveWrittenAt script.now places.now ends.items ends'.items lines'.items
-HaveHostsDone (job.Write script places ends lines) (job.Read reads' readers') = ⊥
-HaveHostsDone (job.Read reads readers) (job.Write script' places' ends' lines') = ⊥
-HaveHostsDone (job.Read reads readers) (job.Read reads' readers') = HaveRead reads.now readers.items readers'.items
+HasDone (job.Read reads readers) (job.Read reads' readers') = HaveRead reads.now readers.items readers'.items
+HasDone _ _ = ⊥
+
+-- it is the end of the slot for a part of the nodes
+abbrev pub IsPart : Job → Type 0
+IsPart (job.End part) = Unit {0}
+IsPart _ = ⊥
+
+-- one that is held, if any is, may be done
+abbrev pub MayDoHeld : Option Job → Type 0
+MayDoHeld (Some j) = MayDo j
+MayDoHeld None = Unit {0}
+
+-- and it was done, and is held then
+abbrev pub HasDoneHeld : Option Job → Option Job → Type 0
+HasDoneHeld (Some j) (Some k) = HasDone j k
+HasDoneHeld None None = Unit {0}
+HasDoneHeld _ _ = ⊥

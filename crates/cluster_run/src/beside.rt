@@ -1,172 +1,140 @@
-//! A slot with workers that stay.
-ghost use Rattle.std.specs.Prelude.{◌≡◌, ◌≤◌, length, vec_capacity, IsSome, IfOk, OnOk};
+//! Both sides of a slot at work, one beside the other.
+ghost use Rattle.std.specs.Prelude.{◌≡◌, ◌≤◌, length, IfOk, OnOk};
 ghost use Rattle.std.specs.Arc.{arc_value};
-ghost use Rattle.cluster_run.specs.Ending.{IsPartReady, HasPartEnded};
-ghost use Rattle.cluster_run.specs.Halves.{IsBackHalf, IsBackAgain};
-ghost use Rattle.cluster_run.specs.Jobs.{IsJobReady, HasJobEnded, MayHostsDo, HaveHostsDone};
-ghost use Rattle.cluster_run.specs.Jobs.{MayWriteAt, HaveWrittenAt};
+ghost use Rattle.cluster_run.specs.Halves.{AreHalves, ArePutBack};
+ghost use Rattle.cluster_run.specs.Jobs.{MayDo, HasDone, MayDoHeld, HasDoneHeld};
 ghost use Rattle.cluster_run.specs.Reading.{HaveRoomForReads, HaveRead};
-ghost use Rattle.cluster_run.specs.Sending.{MayFetchAll, FetchAll};
 ghost use Rattle.cluster_run.specs.Slots.{AreReady, AllHaveEnded};
 
 use crate::current::CurrentSlot;
-use crate::ending::{Common, end_from};
-use crate::jobs::{EndJob, HostJob};
-use crate::nodes::{Desk, Nodes};
-use crate::sending::fetch_all;
-use crate::staff::{Hired, Hosts, finish_ends, finish_hosts};
-use controller::Seat;
-use errand::ends::Giver;
-use host_port::{Fetcher, HostEnd, HostReaders, WriteLine};
+use crate::jobs::{EndJob, Job, do_held, do_job, part_of};
+use crate::nodes::Nodes;
+use crate::staff::{Hired, finish};
+use host_port::HostReaders;
 use medium::Medium;
 use std::mem;
 use std::sync::{Arc, Wait};
+use std::thread::{Threads, join_mut};
 use ttp_base::{Gate, Memory};
-use ttp_world::{HostRead, Script};
+use ttp_world::HostRead;
 
-// Fetches here, beside what hosts do.
-fn fetch_beside<'b, 'a, R: Wait, G: Gate>(
+// Does two jobs, each in a thread.
+fn start_both<'a, R: Threads + Wait + Sync, G: Gate>(
     rt: &R,
-    hosts: Giver<'b, HostJob<'a>, Hosts>,
-    job: HostJob<'a>,
-    fetchers: Vec<Option<Fetcher>>,
+    given: &mut Option<Job<'a>>,
+    own: &mut Option<Job<'a>>,
     gate: &G,
-) -> (
-    Giver<'b, HostJob<'a>, Hosts>,
-    HostJob<'a>,
-    Vec<Option<Fetcher>>,
 )
-    requires job { MayHostsDo job }
-    requires fetchers { MayFetchAll fetchers.items }
-    ensures job { HaveHostsDone job.entry result.1 }
-    ensures fetches { FetchAll fetchers.items result.2.items }
+    requires given { MayDoHeld given.old }
+    requires own { MayDoHeld own.old }
+    ensures given { HasDoneHeld given.old given.new }
+    ensures own { HasDoneHeld own.old own.new }
 {
-    let waiting = hosts.ask(job);
-    if waiting.goes_first() {
-        let (hosts, job) = finish_hosts(rt, waiting, gate);
-        return (hosts, job, fetch_all(fetchers, gate));
-    }
-    let fetchers = fetch_all(fetchers, gate);
-    let (hosts, job) = finish_hosts(rt, waiting, gate);
-    (hosts, job, fetchers)
+    let mut first = ||
+        requires { MayDoHeld given.now }
+        ensures { HasDoneHeld given.entry.now given.exit.now }
+    { do_held(rt, given, gate) };
+    let mut second = ||
+        requires { MayDoHeld own.now }
+        ensures { HasDoneHeld own.entry.now own.exit.now }
+    { do_held(rt, own, gate) };
+    join_mut(rt, &mut first, &mut second);
 }
 
-/// The worker makes the writes of hosts beside the fetches. It is hired.
-pub(crate) fn write_beside<'b, 'a, R: Wait, G: Gate>(
+// Does three jobs, each in a thread.
+fn start_all<'a, R: Threads + Wait + Sync, G: Gate>(
+    rt: &R,
+    read: &mut Option<Job<'a>>,
+    back: &mut Option<Job<'a>>,
+    front: &mut Option<Job<'a>>,
+    gate: &G,
+)
+    requires read { MayDoHeld read.old }
+    requires back { MayDoHeld back.old }
+    requires front { MayDoHeld front.old }
+    ensures read { HasDoneHeld read.old read.new }
+    ensures back { HasDoneHeld back.old back.new }
+    ensures front { HasDoneHeld front.old front.new }
+{
+    let mut reads = ||
+        requires { MayDoHeld read.now }
+        ensures { HasDoneHeld read.entry.now read.exit.now }
+    { do_held(rt, read, gate) };
+    let mut ends = ||
+        requires back { MayDoHeld back.now }
+        requires front { MayDoHeld front.now }
+        ensures back { HasDoneHeld back.entry.now back.exit.now }
+        ensures front { HasDoneHeld front.entry.now front.exit.now }
+    { start_both(rt, back, front, gate) };
+    join_mut(rt, &mut reads, &mut ends);
+}
+
+/// Does two jobs: the first one is for the hosts' worker where there is one, and else for a thread that is started.
+pub(crate) fn do_both<'b, 'a, R: Threads + Wait + Sync, G: Gate>(
     rt: &R,
     staff: &mut Option<Hired<'b, 'a>>,
-    ends: Vec<HostEnd>,
-    fetchers: Vec<Option<Fetcher>>,
-    script: &'a Script,
-    places: &'a [usize],
-    lines: Vec<WriteLine>,
+    given: Job<'a>,
+    own: Job<'a>,
     gate: &G,
-) -> (Vec<HostEnd>, Vec<WriteLine>, Vec<Option<Fetcher>>)
-    requires staff { IsSome staff.old }
-    requires writes { MayWriteAt script.now places.now ends.items lines.items (vec_capacity lines) }
-    requires fetchers { MayFetchAll fetchers.items }
-    ensures written { HaveWrittenAt script.now places.now ends.items result.0.items result.1.items }
-    ensures fetches { FetchAll fetchers.items result.2.items }
+) -> (Job<'a>, Job<'a>)
+    requires given { MayDo given }
+    requires own { MayDo own }
+    ensures given { HasDone given.entry result.0 }
+    ensures own { HasDone own.entry result.1 }
 {
-    let Hired {
-        ends: ending,
-        hosts,
-    } = staff.take().unwrap();
-    let job = HostJob::Write {
-        script,
-        places,
-        ends,
-        lines,
+    let Some(Hired { ends, hosts }) = staff.take() else {
+        let (mut given, mut own) = (Some(given), Some(own));
+        start_both(rt, &mut given, &mut own, gate);
+        return (given.unwrap(), own.unwrap());
     };
-    let (hosts, job, fetchers) = fetch_beside(rt, hosts, job, fetchers, gate);
-    *staff = Some(Hired {
-        ends: ending,
-        hosts,
-    });
-    match job {
-        HostJob::Write { ends, lines, .. } => (ends, lines, fetchers),
-        HostJob::Read { .. } => unreachable!(),
+    let waiting = hosts.ask(given);
+    if waiting.goes_first() {
+        let (hosts, given) = finish(rt, waiting, gate);
+        *staff = Some(Hired { ends, hosts });
+        return (given, do_job(rt, own, gate));
     }
+    let own = do_job(rt, own, gate);
+    let (hosts, given) = finish(rt, waiting, gate);
+    *staff = Some(Hired { ends, hosts });
+    (given, own)
 }
 
-// The first part ends the slot here, beside the other one and the reads, which the workers do.
-fn end_beside<'b, 'a, R: Wait, G: Gate>(
+// Does the jobs of a slot's end: the first one is for the hosts' worker, and the second one for the other, where they
+// are hired, and else for threads that are started.
+fn do_all<'b, 'a, R: Threads + Wait + Sync, G: Gate>(
     rt: &R,
-    hired: Hired<'b, 'a>,
-    seats: &mut [Seat],
-    desks: &mut [Desk],
-    back: EndJob<'a>,
-    read: HostJob<'a>,
-    common: &Common,
+    staff: &mut Option<Hired<'b, 'a>>,
+    read: Job<'a>,
+    back: Job<'a>,
+    front: Job<'a>,
     gate: &G,
-) -> (Hired<'b, 'a>, EndJob<'a>, HostJob<'a>)
-    requires front { IsPartReady common.now.list.now common.now.script.now common.now.medium.now 0 seats.old desks.old }
-    requires back { IsJobReady back }
-    requires read { MayHostsDo read }
-    ensures front { HasPartEnded common.now.list.now common.now.script.now common.now.medium.now 0 seats.old seats.new
-        desks.old desks.new }
-    ensures back { HasJobEnded back.entry result.1 }
-    ensures read { HaveHostsDone read.entry result.2 }
+) -> (Job<'a>, (Job<'a>, Job<'a>))
+    requires read { MayDo read }
+    requires back { MayDo back }
+    requires front { MayDo front }
+    ensures read { HasDone read.entry result.0 }
+    ensures back { HasDone back.entry result.1.0 }
+    ensures front { HasDone front.entry result.1.1 }
 {
-    let Hired { ends, hosts } = hired;
+    let Some(Hired { ends, hosts }) = staff.take() else {
+        let (mut read, mut back, mut front) = (Some(read), Some(back), Some(front));
+        start_all(rt, &mut read, &mut back, &mut front, gate);
+        return (read.unwrap(), (back.unwrap(), front.unwrap()));
+    };
     let reading = hosts.ask(read);
     let ending = ends.ask(back);
     if reading.goes_first() {
-        let (hosts, read) = finish_hosts(rt, reading, gate);
-        end_from(0, seats, desks, common, gate);
-        let (ends, back) = finish_ends(rt, ending, gate);
-        return (Hired { ends, hosts }, back, read);
+        let (hosts, read) = finish(rt, reading, gate);
+        let front = do_job(rt, front, gate);
+        let (ends, back) = finish(rt, ending, gate);
+        *staff = Some(Hired { ends, hosts });
+        return (read, (back, front));
     }
-    end_from(0, seats, desks, common, gate);
-    let (ends, back) = finish_ends(rt, ending, gate);
-    let (hosts, read) = finish_hosts(rt, reading, gate);
-    (Hired { ends, hosts }, back, read)
-}
-
-// Both halves end the slot beside these reads, with the workers, which are hired. The readers are handed out again.
-fn end_halves_beside<'b, 'a, R: Wait, G: Gate>(
-    rt: &R,
-    staff: &mut Option<Hired<'b, 'a>>,
-    nodes: &mut Nodes,
-    medium: Arc<Medium>,
-    back: EndJob<'a>,
-    readers: Vec<Option<HostReaders>>,
-    reads: &'a [HostRead],
-    gate: &G,
-) -> (EndJob<'a>, Vec<Option<HostReaders>>)
-    requires staff { IsSome staff.old }
-    requires front { IsPartReady back.list.now back.script.now (arc_value medium) 0 nodes.old.seats.items
-        nodes.old.desks.items }
-    requires back { IsJobReady back }
-    requires left { HaveRoomForReads reads.now readers.items }
-    ensures front { HasPartEnded back.entry.list.now back.entry.script.now (arc_value medium) 0 nodes.old.seats.items
-        nodes.new.seats.items nodes.old.desks.items nodes.new.desks.items }
-    ensures back { HasJobEnded back.entry result.0 }
-    ensures read { HaveRead reads.now readers.items result.1.items }
-    ensures host_ends { nodes.new.host_ends ≡ nodes.old.host_ends }
-    ensures chosen { nodes.new.chosen ≡ nodes.old.chosen }
-{
-    let hired = staff.take().unwrap();
-    let common = Common {
-        list: back.list,
-        script: back.script,
-        medium: &medium,
-    };
-    let (hired, back, read) = end_beside(
-        rt,
-        hired,
-        &mut nodes.seats,
-        &mut nodes.desks,
-        back,
-        HostJob::Read { reads, readers },
-        &common,
-        gate,
-    );
-    *staff = Some(hired);
-    match read {
-        HostJob::Read { readers, .. } => (back, readers),
-        HostJob::Write { .. } => unreachable!(),
-    }
+    let front = do_job(rt, front, gate);
+    let (ends, back) = finish(rt, ending, gate);
+    let (hosts, read) = finish(rt, reading, gate);
+    *staff = Some(Hired { ends, hosts });
+    (read, (back, front))
 }
 
 // Takes the medium out, to be read by two. Another one lies there then, which nobody reads before it carries the frames
@@ -185,41 +153,47 @@ fn share_medium(
     Ok((medium, shared))
 }
 
-// Takes the back half out of the nodes, with the medium, which is handed out for the front half too.
-fn back_half<'a>(
-    at: &CurrentSlot<'a>,
-    nodes: &mut Nodes,
-) -> Result<(EndJob<'a>, Arc<Medium>), Memory>
+// Takes the nodes out in two halves, each with the medium.
+fn halves<'a>(at: &CurrentSlot<'a>, nodes: &mut Nodes) -> Result<(EndJob<'a>, EndJob<'a>), Memory>
     requires nodes { length nodes.old.seats.items ≤ 256 }
     requires desks { length nodes.old.desks.items ≡ length nodes.old.seats.items }
-    ensures { IfOk result (λ r. IsBackHalf at.now nodes.old nodes.new r.0 (arc_value r.1)) }
+    ensures { IfOk result (λ r. AreHalves at.now nodes.old nodes.new r.0 r.1) }
 {
     let half = nodes.seats.len() / 2;
     let (medium, shared) = share_medium(at, &mut nodes.medium)?;
-    let seats = nodes.seats.split_off(half)?;
-    let desks = nodes.desks.split_off(half)?;
     let back = EndJob {
         list: at.list,
         script: at.script,
         medium,
         first: half as u8,
-        seats,
-        desks,
+        seats: nodes.seats.split_off(half)?,
+        desks: nodes.desks.split_off(half)?,
     };
-    Ok((back, shared))
+    let front = EndJob {
+        list: at.list,
+        script: at.script,
+        medium: shared,
+        first: 0,
+        seats: mem::replace(&mut nodes.seats, Vec::new(at.alloc)),
+        desks: mem::replace(&mut nodes.desks, Vec::new(at.alloc)),
+    };
+    Ok((front, back))
 }
 
-// Puts the back half behind the front half again.
-fn join_back(nodes: &mut Nodes, mut back: EndJob<'_>) -> Result<(), Memory>
-    ensures { OnOk result (IsBackAgain nodes.old back.entry nodes.new) }
+// Puts both halves back, one behind the other.
+fn join_halves(nodes: &mut Nodes, front: EndJob<'_>, mut back: EndJob<'_>) -> Result<(), Memory>
+    ensures { OnOk result (ArePutBack nodes.old front.entry back.entry nodes.new) }
 {
+    let EndJob { seats, desks, .. } = front;
+    nodes.seats = seats;
+    nodes.desks = desks;
     nodes.seats.append(&mut back.seats)?;
     nodes.desks.append(&mut back.desks)?;
     Ok(())
 }
 
-/// The two halves of the nodes end the slot beside the reads of hosts, with the workers, which are hired.
-pub(crate) fn end_staying<'b, 'a, R: Wait, G: Gate>(
+/// The two halves of the nodes end the slot beside the reads of hosts. The readers are handed out again.
+pub(crate) fn end_and_read<'b, 'a, R: Threads + Wait + Sync, G: Gate>(
     rt: &R,
     staff: &mut Option<Hired<'b, 'a>>,
     at: &CurrentSlot<'a>,
@@ -228,14 +202,17 @@ pub(crate) fn end_staying<'b, 'a, R: Wait, G: Gate>(
     reads: &'a [HostRead],
     gate: &G,
 ) -> Result<Vec<Option<HostReaders>>, Memory>
-    requires staff { IsSome staff.old }
     requires ready { AreReady at.now nodes.old }
     requires left { HaveRoomForReads reads.now readers.items }
     ensures ended { OnOk result (AllHaveEnded at.now nodes.old nodes.new) }
     ensures read { IfOk result (λ left. HaveRead reads.now readers.items left.items) }
 {
-    let (back, medium) = back_half(at, nodes)?;
-    let (back, readers) = end_halves_beside(rt, staff, nodes, medium, back, readers, reads, gate);
-    join_back(nodes, back)?;
+    let (front, back) = halves(at, nodes)?;
+    let read = Job::Read { reads, readers };
+    let (read, (back, front)) = do_all(rt, staff, read, Job::End(back), Job::End(front), gate);
+    let Job::Read { readers, .. } = read else {
+        unreachable!();
+    };
+    join_halves(nodes, part_of(front), part_of(back))?;
     Ok(readers)
 }

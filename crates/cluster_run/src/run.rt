@@ -2,10 +2,9 @@
 ghost use Rattle.std.specs.Prelude.{◌≡◌, ◌+◌, ◌<◌, ◌≤◌, IfErr, OnOk};
 ghost use Rattle.cluster_run.specs.Progress.{MayRun, HasRunOn};
 
-use crate::jobs::{EndJob, HostJob};
 use crate::progress::{Course, Progress};
-use crate::staff::{Ends, Hired, Hosts, await_service, serve_ends, serve_hosts, tables_of};
-use errand::ends::{Worker, hire};
+use crate::staff::{Hired, Workers, await_service, serve_both, tables_of};
+use errand::ends::hire;
 use host_port::SlotReport;
 use std::sync::Wait;
 use std::thread::{Threads, join_mut};
@@ -137,36 +136,10 @@ fn run_staffed<'b, 'a, R: Threads + Wait + Sync, G: Gate, W: Watch>(
     left
 }
 
-// The slots that are left, beside the worker for hosts.
-fn run_beside_hosts<'b, 'a, R: Threads + Wait + Sync, G: Gate, W: Watch>(
-    rt: &R,
-    worker: &mut Option<Worker<'b, HostJob<'a>, Hosts>>,
-    staff: &mut Option<Hired<'b, 'a>>,
-    course: &Course<'a>,
-    at: &mut Progress,
-    watch: &mut W,
-    out: &mut W::Out,
-    gate: &G,
-) -> Result<(), W::Fault>
-    requires may { MayRun W.follows course.now at.old out.old }
-    ensures runs { HasRunOn W.follows W.leaves course.now at.old at.new out.old out.new result }
-    ensures done { OnOk result (at.new.done ≡ course.now.script.now.slots) }
-{
-    let mut serves = || serve_hosts(rt, worker, gate);
-    let mut runs = || -> Result<(), W::Fault>
-        requires { MayRun W.follows course.now at.now out.now }
-        ensures runs { HasRunOn W.follows W.leaves course.entry.now at.entry.now at.exit.now out.entry.now out.exit.now
-            result }
-        ensures done { OnOk result (at.exit.now.done ≡ course.entry.now.script.now.slots) }
-    { run_staffed(rt, staff, course, at, watch, out, gate) };
-    let (_, left) = join_mut(rt, &mut serves, &mut runs);
-    left
-}
-
 // The slots that are left, beside both workers.
-fn run_beside_both<'b, 'a, R: Threads + Wait + Sync, G: Gate, W: Watch>(
+fn run_beside<'b, 'a, R: Threads + Wait + Sync, G: Gate, W: Watch>(
     rt: &R,
-    workers: (Worker<'b, EndJob<'a>, Ends>, Worker<'b, HostJob<'a>, Hosts>),
+    mut workers: Workers<'b, 'a>,
     hired: Hired<'b, 'a>,
     course: &Course<'a>,
     at: &mut Progress,
@@ -178,15 +151,14 @@ fn run_beside_both<'b, 'a, R: Threads + Wait + Sync, G: Gate, W: Watch>(
     ensures runs { HasRunOn W.follows W.leaves course.now at.old at.new out.old out.new result }
     ensures done { OnOk result (at.new.done ≡ course.now.script.now.slots) }
 {
-    let (ends, hosts) = workers;
-    let (mut ends, mut hosts, mut staff) = (Some(ends), Some(hosts), Some(hired));
-    let mut serves = || serve_ends(rt, &mut ends, gate);
+    let mut staff = Some(hired);
+    let mut serves = || serve_both(rt, &mut workers, gate);
     let mut runs = || -> Result<(), W::Fault>
         requires { MayRun W.follows course.now at.now out.now }
         ensures runs { HasRunOn W.follows W.leaves course.entry.now at.entry.now at.exit.now out.entry.now out.exit.now
             result }
         ensures done { OnOk result (at.exit.now.done ≡ course.entry.now.script.now.slots) }
-    { run_beside_hosts(rt, &mut hosts, &mut staff, course, at, watch, out, gate) };
+    { run_staffed(rt, &mut staff, course, at, watch, out, gate) };
     let (_, left) = join_mut(rt, &mut serves, &mut runs);
     left
 }
@@ -210,9 +182,13 @@ fn run_hired<'a, R: Threads + Wait + Sync, G: Gate, W: Watch>(
     };
     let (ends, ends_worker) = hire(&ends_table.shared, ends_seat);
     let (hosts, hosts_worker) = hire(&hosts_table.shared, hosts_seat);
-    run_beside_both(
+    let workers = Workers {
+        ends: Some(ends_worker),
+        hosts: Some(hosts_worker),
+    };
+    run_beside(
         rt,
-        (ends_worker, hosts_worker),
+        workers,
         Hired { ends, hosts },
         course,
         at,

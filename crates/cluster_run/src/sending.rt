@@ -16,13 +16,14 @@ ghost use Rattle.cluster_run.specs.Sending.{fetcher_lent, AreLent, MayLend, host
 ghost use Rattle.cluster_run.specs.Sending.{Fetches, MayFetch, MayFetchAll, FetchAll, MaySettle};
 ghost use Rattle.cluster_run.specs.Sending.{SettlesFetch};
 
-use crate::beside::write_beside;
+use crate::beside::do_both;
+use crate::jobs::Job;
 use crate::staff::Hired;
 use controller::{Seat, is_loaded};
 use host_port::{Fetcher, HostEnd, WriteLine};
 use std::alloc::Global;
 use std::sync::Wait;
-use std::thread::{Threads, join};
+use std::thread::Threads;
 use ttp_base::{Gate, Memory};
 use ttp_world::{Chosen, Medl, PAYLOAD_LIMIT, Payload, Script, Written};
 
@@ -130,35 +131,7 @@ fn has_any(fetchers: &[Option<Fetcher>]) -> bool {
     fetchers.iter().any(|fetcher| fetcher.is_some())
 }
 
-// Hosts write beside the fetches, in a thread that is started.
-fn write_started<R: Threads + Sync, G: Gate>(
-    rt: &R,
-    ends: Vec<HostEnd>,
-    fetchers: Vec<Option<Fetcher>>,
-    script: &Script,
-    places: &[usize],
-    lines: Vec<WriteLine>,
-    gate: &G,
-) -> (Vec<HostEnd>, Vec<WriteLine>, Vec<Option<Fetcher>>)
-    requires writes { MayWriteAt script.now places.now ends.items lines.items (vec_capacity lines) }
-    requires fetchers { MayFetchAll fetchers.items }
-    ensures written { HaveWrittenAt script.now places.now ends.items result.0.items result.1.items }
-    ensures fetches { FetchAll fetchers.items result.2.items }
-{
-    let ((ends, lines), fetchers) = join(
-        rt,
-        || -> (Vec<HostEnd>, Vec<WriteLine>)
-            requires { MayWriteAt script.now places.now ends.items lines.items (vec_capacity lines) }
-        { write_all(ends, script, places, lines, gate) },
-        || -> Vec<Option<Fetcher>>
-            requires { MayFetchAll fetchers.items }
-        { fetch_all(fetchers, gate) },
-    );
-    (ends, lines, fetchers)
-}
-
-/// Hosts write beside the fetches: by their worker where one is hired, and else in a thread that is started. Neither is
-/// asked where there are not both.
+/// Hosts write beside the fetches, where there are any.
 pub(crate) fn write_and_fetch<'b, 'a, R: Threads + Wait + Sync, G: Gate>(
     rt: &R,
     staff: &mut Option<Hired<'b, 'a>>,
@@ -174,14 +147,24 @@ pub(crate) fn write_and_fetch<'b, 'a, R: Threads + Wait + Sync, G: Gate>(
     ensures written { HaveWrittenAt script.now places.now ends.items result.0.items result.1.items }
     ensures fetches { FetchAll fetchers.items result.2.items }
 {
-    if places.is_empty() || !has_any(fetchers.as_slice()) {
+    if !has_any(fetchers.as_slice()) {
         let (ends, lines) = write_all(ends, script, places, lines, gate);
         return (ends, lines, fetch_all(fetchers, gate));
     }
-    if staff.is_none() {
-        return write_started(rt, ends, fetchers, script, places, lines, gate);
+    let write = Job::Write {
+        script,
+        places,
+        ends,
+        lines,
+    };
+    let (write, fetch) = do_both(rt, staff, write, Job::Fetch(fetchers), gate);
+    match fetch {
+        Job::Fetch(fetchers) => match write {
+            Job::Write { ends, lines, .. } => (ends, lines, fetchers),
+            _ => unreachable!(),
+        },
+        _ => unreachable!(),
     }
-    write_beside(rt, staff, ends, fetchers, script, places, lines, gate)
 }
 
 // The payload of so many bytes that has these words.

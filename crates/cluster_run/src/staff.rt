@@ -3,52 +3,51 @@ ghost use Rattle.std.specs.Prelude.{◌≡◌, None, Some, IfOk};
 ghost use Rattle.errand.specs.declared.note.Role.TheVariants.{Alone};
 ghost use Rattle.errand.specs.Ends.{IsSeated};
 ghost use Rattle.errand.specs.Turns.{bare};
-ghost use Rattle.cluster_run.specs.declared.jobs.EndJob.{EndJob};
-ghost use Rattle.cluster_run.specs.declared.jobs.HostJob.{HostJob};
-ghost use Rattle.cluster_run.specs.Jobs.{IsJobReady, HasJobEnded, MayHostsDo, HaveHostsDone};
+ghost use Rattle.cluster_run.specs.declared.jobs.Job.{Job};
+ghost use Rattle.cluster_run.specs.Jobs.{MayDo, HasDone};
 
-use crate::ending::{Common, end_from};
-use crate::jobs::{EndJob, HostJob};
-use crate::reading::read_all;
-use crate::sending::write_all;
+use crate::jobs::{Job, do_job};
 use errand::ends::{End, Giver, Waiting, Whole, Worker, open};
 use errand::rule::Errand;
 use std::alloc::{AllocError, Global};
 use std::sync::Wait;
+use std::thread::{Threads, join_mut};
 use ttp_base::Gate;
 
-/// The work of ending a slot.
-pub(crate) struct Ends;
+/// The work of a slot.
+pub(crate) struct Work;
 
-impl<'a> Errand<EndJob<'a>> for Ends {
-    ghost needs = { λ j. IsJobReady j };
+impl<'a> Errand<Job<'a>> for Work {
+    ghost needs = { λ j. MayDo j };
 
-    ghost does = { λ j k. HasJobEnded j k };
+    ghost does = { λ j k. HasDone j k };
 }
 
-/// The work of hosts.
-pub(crate) struct Hosts;
+/// Whoever gives jobs to a worker.
+pub(crate) type Gives<'b, 'a> = Giver<'b, Job<'a>, Work>;
 
-impl<'a> Errand<HostJob<'a>> for Hosts {
-    ghost needs = { λ j. MayHostsDo j };
+/// A worker, until it serves.
+pub(crate) type Serves<'b, 'a> = Option<Worker<'b, Job<'a>, Work>>;
 
-    ghost does = { λ j k. HaveHostsDone j k };
+/// Both workers, until they serve.
+#[derive(Drop)]
+pub(crate) struct Workers<'b, 'a> {
+    pub(crate) ends: Serves<'b, 'a>,
+    pub(crate) hosts: Serves<'b, 'a>,
 }
 
 /// The ends by which both workers are given work.
 #[derive(Drop)]
 pub(crate) struct Hired<'b, 'a> {
-    pub(crate) ends: Giver<'b, EndJob<'a>, Ends>,
-    pub(crate) hosts: Giver<'b, HostJob<'a>, Hosts>,
+    pub(crate) ends: Gives<'b, 'a>,
+    pub(crate) hosts: Gives<'b, 'a>,
 }
 
 /// A table for the jobs of one worker, with its end.
-type Table<J, D> = (Whole<J, D>, End<J>);
+type Table<'a> = (Whole<Job<'a>, Work>, End<Job<'a>>);
 
 /// A table for each worker, before it is hired.
-pub(crate) fn tables_of<'a>(
-    alloc: Global,
-) -> Result<(Table<EndJob<'a>, Ends>, Table<HostJob<'a>, Hosts>), AllocError>
+pub(crate) fn tables_of<'a>(alloc: Global) -> Result<(Table<'a>, Table<'a>), AllocError>
     ensures ends { IfOk result (λ r. IsSeated r.0.0.shared.table_id r.0.1.table_id × (r.0.1.me ≡ bare Alone None)) }
     ensures hosts { IfOk result (λ r. IsSeated r.1.0.shared.table_id r.1.1.table_id × (r.1.1.me ≡ bare Alone None)) }
 {
@@ -65,132 +64,42 @@ pub(crate) fn await_service<'b, 'a>(staff: &Option<Hired<'b, 'a>>) {
     }
 }
 
-// A part ends the slot.
-fn end_job<'a, G: Gate>(job: EndJob<'a>, gate: &G) -> EndJob<'a>
-    requires { IsJobReady job }
-    ensures { HasJobEnded job.entry result }
+/// A job is done: by the worker, or here.
+pub(crate) fn finish<'b, 'a, R: Wait, G: Gate>(
+    rt: &R,
+    waiting: Waiting<'b, Job<'a>, Work>,
+    gate: &G,
+) -> (Gives<'b, 'a>, Job<'a>)
+    ensures { (job : Job) → waiting.entry.seat.me.0.job ≡ Some job → HasDone job result.1 }
 {
-    let EndJob {
-        list,
-        script,
-        medium,
-        first,
-        mut seats,
-        mut desks,
-    } = job;
-    let common = Common {
-        list,
-        script,
-        medium: &medium,
-    };
-    end_from(
-        first,
-        seats.as_mut_slice(),
-        desks.as_mut_slice(),
-        &common,
-        gate,
-    );
-    EndJob {
-        list,
-        script,
-        medium,
-        first,
-        seats,
-        desks,
+    match waiting.take_back() {
+        Ok((giver, job)) => (giver, do_job(rt, job, gate)),
+        Err(waiting) => waiting.take(rt),
     }
 }
 
-// Hosts do what they do in a slot.
-fn do_host_job<'a, R: Wait, G: Gate>(rt: &R, job: HostJob<'a>, gate: &G) -> HostJob<'a>
-    requires { MayHostsDo job }
-    ensures { HaveHostsDone job.entry result }
-{
-    match job {
-        HostJob::Write {
-            script,
-            places,
-            ends,
-            lines,
-        } => {
-            let (ends, lines) = write_all(ends, script, places, lines, gate);
-            HostJob::Write {
-                script,
-                places,
-                ends,
-                lines,
-            }
-        }
-        HostJob::Read { reads, mut readers } => {
-            read_all(rt, readers.as_mut_slice(), reads, gate);
-            HostJob::Read { reads, readers }
-        }
-    }
-}
-
-/// A part has ended the slot: by the worker, or here.
-pub(crate) fn finish_ends<'b, 'a, R: Wait, G: Gate>(
-    rt: &R,
-    waiting: Waiting<'b, EndJob<'a>, Ends>,
-    gate: &G,
-) -> (Giver<'b, EndJob<'a>, Ends>, EndJob<'a>)
-    ensures { (job : EndJob) → waiting.entry.seat.me.0.job ≡ Some job → HasJobEnded job result.1 }
-{
-    waiting.finish(
-        rt,
-        &|job|
-            requires { IsJobReady job }
-            ensures { HasJobEnded job.entry result }
-        { end_job(job, gate) },
-    )
-}
-
-/// Hosts have done what a job says: by their worker, or here.
-pub(crate) fn finish_hosts<'b, 'a, R: Wait, G: Gate>(
-    rt: &R,
-    waiting: Waiting<'b, HostJob<'a>, Hosts>,
-    gate: &G,
-) -> (Giver<'b, HostJob<'a>, Hosts>, HostJob<'a>)
-    ensures { (job : HostJob) → waiting.entry.seat.me.0.job ≡ Some job → HaveHostsDone job result.1 }
-{
-    waiting.finish(
-        rt,
-        &|job|
-            requires { MayHostsDo job }
-            ensures { HaveHostsDone job.entry result }
-        { do_host_job(rt, job, gate) },
-    )
-}
-
-/// Ends slots for a part of the nodes, until nobody gives work any more.
-pub(crate) fn serve_ends<'b, 'a, R: Wait, G: Gate>(
-    rt: &R,
-    worker: &mut Option<Worker<'b, EndJob<'a>, Ends>>,
-    gate: &G,
-) {
+// Does the jobs that are given to a worker, until nobody gives one any more.
+fn serve<'b, 'a, R: Wait, G: Gate>(rt: &R, worker: &mut Serves<'b, 'a>, gate: &G) {
     if let Some(worker) = worker.take() {
         worker.serve(
             rt,
             &|job|
-                requires { IsJobReady job }
-                ensures { HasJobEnded job.entry result }
-            { end_job(job, gate) },
+                requires { MayDo job }
+                ensures { HasDone job.entry result }
+            { do_job(rt, job, gate) },
         );
     }
 }
 
-/// Does what hosts do, until nobody gives work any more.
-pub(crate) fn serve_hosts<'b, 'a, R: Wait, G: Gate>(
+/// Both workers serve, each in a thread.
+pub(crate) fn serve_both<'b, 'a, R: Threads + Wait + Sync, G: Gate>(
     rt: &R,
-    worker: &mut Option<Worker<'b, HostJob<'a>, Hosts>>,
+    workers: &mut Workers<'b, 'a>,
     gate: &G,
 ) {
-    if let Some(worker) = worker.take() {
-        worker.serve(
-            rt,
-            &|job|
-                requires { MayHostsDo job }
-                ensures { HaveHostsDone job.entry result }
-            { do_host_job(rt, job, gate) },
-        );
-    }
+    let ends = &mut workers.ends;
+    let hosts = &mut workers.hosts;
+    let mut serves_ends = || serve(rt, ends, gate);
+    let mut serves_hosts = || serve(rt, hosts, gate);
+    join_mut(rt, &mut serves_ends, &mut serves_hosts);
 }

@@ -240,11 +240,13 @@ impl<'a, J, D: Errand<J>> Waiting<'a, J, D> {
         !self.is_begun() && self.late.wrapping_mul(SPREAD) >= HALF
     }
 
-    // The job as it was given, unless the worker has begun it.
-    fn take_back(self) -> Result<(Giver<'a, J, D>, J), Waiting<'a, J, D>>
+    /// The job as it was given. `Err` where the worker has begun it or begins it soon: then the worker does it, and
+    /// [`take`](Waiting::take) has it. Costs a few looks at a word and an atomic step, and takes no memory.
+    pub fn take_back(self) -> Result<(Giver<'a, J, D>, J), Waiting<'a, J, D>>
         ensures back { IfOk result (λ r. (self.entry.seat.me.0.job ≡ Some r.1) × D.needs r.1) }
         ensures begun { IfErr result (λ w. w.seat.me.0.job ≡ self.entry.seat.me.0.job) }
     {
+        self.is_begun();
         let Waiting {
             board,
             mut seat,
@@ -262,8 +264,9 @@ impl<'a, J, D: Errand<J>> Waiting<'a, J, D> {
         Ok((giver, job))
     }
 
-    // Waits for the worker to do the job, which it has begun.
-    fn take<R: Wait>(self, rt: &R) -> (Giver<'a, J, D>, J)
+    /// Waits for the worker to do the job, which it has begun. One that has not begun it is waited for too, and for ever
+    /// where it never does. Costs as many looks as the work takes, and then a sleep; takes no memory.
+    pub fn take<R: Wait>(self, rt: &R) -> (Giver<'a, J, D>, J)
         ensures { (j : J) → self.entry.seat.me.0.job ≡ Some j → D.does j result.1 }
     {
         let Waiting {
@@ -287,7 +290,6 @@ impl<'a, J, D: Errand<J>> Waiting<'a, J, D> {
         requires does { (j k : J) → D.needs j → F.post work.now j k → D.does j k }
         ensures { (j : J) → self.entry.seat.me.0.job ≡ Some j → D.does j result.1 }
     {
-        self.is_begun();
         match self.take_back() {
             Ok((giver, job)) => (giver, work(job)),
             Err(waiting) => waiting.take(rt),

@@ -140,3 +140,23 @@ fn is_counted_alone<R: Wait>(rt: &R, alloc: Global) -> bool {
 fn a_job_that_nobody_begins_is_done_all_the_same(rt: HostRuntime) {
     assert!(rt; is_counted_alone(&rt, rt.alloc()));
 }
+
+// Whether a job that nobody begins is taken back as it was given.
+fn is_taken_back<R: Wait>(rt: &R, alloc: Global) -> bool {
+    let Ok((table, seat)) = open::<Tally, CountUp>(alloc) else {
+        return false;
+    };
+    let (giver, _worker) = hire(&table.shared, seat);
+    match giver.ask(Tally { count: 7 }).take_back() {
+        Ok((_, job)) => job.count == 7,
+        Err(waiting) => {
+            waiting.take(rt);
+            false
+        }
+    }
+}
+
+#[test]
+fn a_job_is_taken_back(rt: HostRuntime) {
+    assert!(rt; is_taken_back(&rt, rt.alloc()));
+}

@@ -1,5 +1,5 @@
 use Rattle.cluster_run.proofs.Words.{◌∙◌, with_items_is}
-use Rattle.cluster_run.proofs.staff.do_host_job.Goals as goal
+use Rattle.cluster_run.proofs.jobs.do_job.Goals as goal
 
 pub returns-in-Read : goal.returns-in-Read
 returns-in-Read g c =

@@ -3,8 +3,8 @@ use denote.Param.Send.{sendable}
 use Rattle.cluster_run.proofs.Sent.{job_send}
 use Rattle.std.proofs.option.Option.TheSendSync as option
 use Rattle.errand.proofs.ends.Worker.TheSendSync as worker
-use Rattle.cluster_run.proofs.run.run_beside_both.Goals as goal
+use Rattle.cluster_run.proofs.staff.serve_both.Goals as goal
 
-pub join_mut-left-requires-send-F : goal.join_mut-left-requires-send-F
-join_mut-left-requires-send-F g c κs within =
+pub join_mut-requires-send-F : goal.join_mut-requires-send-F
+join_mut-requires-send-F g c κs within =
     search (sendable, crosses, option.the_send, worker.the_send, job_send) depth 20
