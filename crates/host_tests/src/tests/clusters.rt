@@ -2,6 +2,8 @@
 ghost use Rattle.std.specs.Prelude.{◌≡◌};
 ghost use Rattle.ttp_world.specs.Medl.{IsValid};
 
+use super::bench::gate::{Beside, OPEN};
+use super::bench::let_go;
 use cluster_run::{Cluster, Watch};
 use host_port::SlotReport;
 use medl_text::read_medl;
@@ -9,7 +11,7 @@ use script_text::read_script;
 use std::alloc::Global;
 use std::sync::Wait;
 use std::thread::Threads;
-use ttp_base::{Memory, OpenGate};
+use ttp_base::Memory;
 use ttp_world::{Medl, Script};
 
 // Five nodes, of which node 0 may start, and node 2 sends 8 bytes.
@@ -35,13 +37,9 @@ fn poll_cluster(alloc: Global) -> Result<Cluster, Memory> {
     Cluster::make(alloc, list, script)
 }
 
-// Lets a cluster go. A function of its own, since what a cluster holds is let go part by part in each
-// function that may do so.
-fn let_go(_cluster: Cluster) {}
-
 // Whether the next slot is the first one, in which nobody reads or writes.
 fn has_first_slot<R: Threads + Wait + Sync>(rt: &R, cluster: &mut Cluster) -> bool {
-    if cluster.done() >= cluster.slots() || cluster.slot(rt, &OpenGate::new()).is_err() {
+    if cluster.done() >= cluster.slots() || cluster.slot(rt, &Beside::new(OPEN)).is_err() {
         return false;
     }
     let report = cluster.report();
@@ -53,7 +51,7 @@ fn begins<R: Threads + Wait + Sync>(rt: &R, alloc: Global) -> bool {
         return false;
     };
     let is_right = has_first_slot(rt, &mut cluster);
-    let_go(cluster);
+    let_go(Some(cluster));
     is_right
 }
 
@@ -111,13 +109,13 @@ fn is_ended<R: Threads + Wait + Sync>(
     told: &mut Told,
     most: u32,
 ) -> bool {
-    let ended = cluster.run(rt, &mut Counter { most }, told, &OpenGate::new());
+    let ended = cluster.run(rt, &mut Counter { most }, told, &Beside::new(OPEN));
     ended.is_err() && told.slots == most && cluster.done() == most
 }
 
 // Whether a run goes on to the end.
 fn is_whole<R: Threads + Wait + Sync>(rt: &R, cluster: &mut Cluster, told: &mut Told) -> bool {
-    let ended = cluster.run(rt, &mut Counter { most: 0 }, told, &OpenGate::new());
+    let ended = cluster.run(rt, &mut Counter { most: 0 }, told, &Beside::new(OPEN));
     ended.is_ok() && told.slots == 20 && told.reads == 1 && cluster.done() == 20
 }
 
@@ -129,7 +127,7 @@ fn goes_on<R: Threads + Wait + Sync>(rt: &R, alloc: Global, most: u32) -> bool {
     let mut told = Told { slots: 0, reads: 0 };
     let is_right = is_ended(rt, &mut cluster, &mut told, most)
         && is_whole(rt, &mut cluster, &mut told);
-    let_go(cluster);
+    let_go(Some(cluster));
     is_right
 }
 

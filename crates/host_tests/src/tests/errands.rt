@@ -1,9 +1,9 @@
 //! Two numbers counted up in rounds, one of them by a worker that stays.
-ghost use Rattle.std.specs.Prelude.{◌≡◌, ◌+◌, ◌<◌, ◌≤◌, IfOk};
+ghost use Rattle.std.specs.Prelude.{◌≡◌, ◌+◌, ◌<◌, ◌≤◌};
 
 use errand::ends::{Giver, Worker, hire, open};
 use errand::rule::Errand;
-use std::alloc::{AllocError, Global};
+use std::alloc::Global;
 use std::sync::Wait;
 use std::thread::{Threads, join_mut};
 
@@ -86,16 +86,13 @@ fn serve<'a, R: Wait>(rt: &R, worker: &mut Option<Worker<'a, Tally, CountUp>>) {
     }
 }
 
-// Counts in two threads, where a second one is to be had.
-fn count_in_threads<R: Threads + Wait + Sync>(
-    rt: &R,
-    alloc: Global,
-    rounds: u64,
-) -> Result<(u64, u64), AllocError>
+// Counts in two threads, where a second one is to be had, and says whether both numbers have come so far.
+fn count_in_threads<R: Threads + Wait + Sync>(rt: &R, alloc: Global, rounds: u64) -> bool
     requires { rounds ≤ 1000 }
-    ensures { IfOk result (λ r. (r.0 ≡ rounds) × (r.1 ≡ rounds)) }
 {
-    let (table, seat) = open::<Tally, CountUp>(alloc)?;
+    let Ok((table, seat)) = open::<Tally, CountUp>(alloc) else {
+        return false;
+    };
     let (giver, worker) = hire(&table.shared, seat);
     let (mut giver, mut worker) = (Some(giver), Some(worker));
     let mut serves = || serve(rt, &mut worker);
@@ -103,24 +100,14 @@ fn count_in_threads<R: Threads + Wait + Sync>(
         requires { rounds ≤ 1000 }
         ensures { (result.0 ≡ rounds) × (result.1 ≡ rounds) }
     { count_up(rt, &mut giver, rounds) };
-    let (_, counted) = join_mut(rt, &mut serves, &mut counts);
-    Ok(counted)
-}
-
-// Whether both numbers are counted up in so many rounds.
-fn is_counted<R: Threads + Wait + Sync>(rt: &R, alloc: Global, rounds: u64) -> bool
-    requires { rounds ≤ 1000 }
-{
-    match count_in_threads(rt, alloc, rounds) {
-        Ok((front, back)) => front == rounds && back == rounds,
-        Err(_) => false,
-    }
+    let (_, (front, back)) = join_mut(rt, &mut serves, &mut counts);
+    front == rounds && back == rounds
 }
 
 #[test]
 fn all_rounds_are_counted(rt: HostRuntime) {
     for rounds in [0u64, 1, 2, 1000] {
-        assert!(rt; is_counted(&rt, rt.alloc(), rounds));
+        assert!(rt; count_in_threads(&rt, rt.alloc(), rounds));
     }
 }
 

@@ -1,71 +1,74 @@
 //! A port of four nodes, used from one thread and from two.
 
-ghost use Rattle.std.specs.Prelude.{◌≡◌, ◌≤◌, [], ◌∷◌, ◌++◌, length, true, false, IfOk, OnOk};
-ghost use Rattle.ttp_world.specs.declared.medl.Kind.TheVariants as kind;
+ghost use Rattle.std.specs.Prelude.{◌≡◌, ◌≤◌, [], ◌∷◌, ◌++◌, length, IsTrue, IsSome, IfOk, IfSome, OnOk};
 ghost use Rattle.ttp_world.specs.declared.script.Event.TheVariants as event;
 ghost use Rattle.ttp_world.specs.declared.script.Source.TheVariants as source;
-ghost use Rattle.ttp_world.specs.Medl.{IsValid, plan_at};
+ghost use Rattle.ttp_world.specs.Medl.{plan_at};
 ghost use Rattle.host_port.specs.Rings.{at_source, IsControllerEndOf, IsHostEndOf};
 ghost use Rattle.host_port.specs.Writing.{HasRoom, Takes};
 ghost use Rattle.host_port.specs.Fetching.{IsFetcherOf};
 ghost use Rattle.host_port.specs.Reading.{AreReadersOf, IsLeft};
 
 use host_port::{ControllerEnd, Fetcher, HostEnd, HostReaders, Pair, Port, ReadLine, Try};
+use medl_text::read_medl;
 use std::alloc::Global;
 use std::sync::Wait;
 use std::thread::{Threads, join};
 use ttp_base::{List, Memory, OpenGate};
-use ttp_world::{
-    Delivered, Event, Events, Kind, Medl, Payload, Script, SlotPlan, Source, StatusWords,
-};
+use ttp_world::{Delivered, Event, Events, Medl, Payload, Script, Source, StatusWords};
 
-// A slot of implicit frames with nine bytes.
-fn slot_plan(alloc: Global) -> Result<SlotPlan, Memory>
-    ensures { IfOk result (λ plan. plan ≡ record {
-      kinds = kind.N ∷ [];
-      payload = 9;
-      sync = true;
-      start = true;
-      requests = false;
-      live = 1;
-    }) }
+// Four nodes that send nine bytes each, with one buffer to four.
+const LISTS: &[&[u8]] = &[
+    b"version = 1\nrounds = 1\nschedule = 0\nbuffers = 1\ndrift = 0\nerror = 0\nwindow = 1\n
+[[slot]]\nkinds = \"N\"\ndata = 9\nsync = true\nstart = true\n
+[[slot]]\nkinds = \"N\"\ndata = 9\nsync = true\nstart = true\n
+[[slot]]\nkinds = \"N\"\ndata = 9\nsync = true\nstart = true\n
+[[slot]]\nkinds = \"N\"\ndata = 9\nsync = true\nstart = true\n",
+    b"version = 1\nrounds = 1\nschedule = 0\nbuffers = 2\ndrift = 0\nerror = 0\nwindow = 1\n
+[[slot]]\nkinds = \"N\"\ndata = 9\nsync = true\nstart = true\n
+[[slot]]\nkinds = \"N\"\ndata = 9\nsync = true\nstart = true\n
+[[slot]]\nkinds = \"N\"\ndata = 9\nsync = true\nstart = true\n
+[[slot]]\nkinds = \"N\"\ndata = 9\nsync = true\nstart = true\n",
+    b"version = 1\nrounds = 1\nschedule = 0\nbuffers = 3\ndrift = 0\nerror = 0\nwindow = 1\n
+[[slot]]\nkinds = \"N\"\ndata = 9\nsync = true\nstart = true\n
+[[slot]]\nkinds = \"N\"\ndata = 9\nsync = true\nstart = true\n
+[[slot]]\nkinds = \"N\"\ndata = 9\nsync = true\nstart = true\n
+[[slot]]\nkinds = \"N\"\ndata = 9\nsync = true\nstart = true\n",
+    b"version = 1\nrounds = 1\nschedule = 0\nbuffers = 4\ndrift = 0\nerror = 0\nwindow = 1\n
+[[slot]]\nkinds = \"N\"\ndata = 9\nsync = true\nstart = true\n
+[[slot]]\nkinds = \"N\"\ndata = 9\nsync = true\nstart = true\n
+[[slot]]\nkinds = \"N\"\ndata = 9\nsync = true\nstart = true\n
+[[slot]]\nkinds = \"N\"\ndata = 9\nsync = true\nstart = true\n",
+];
+
+// Whether four nodes or more have slots, and the first two send nine bytes.
+fn sends_nine(list: &Medl) -> bool
+    ensures slots { IsTrue result → 4 ≤ length list.now.slots }
+    ensures first { IsTrue result → (plan_at list.now 0).payload ≡ 9 }
+    ensures second { IsTrue result → (plan_at list.now 1).payload ≡ 9 }
 {
-    let mut kinds = List::new(alloc);
-    kinds.push(Kind::N)?;
-    Ok(SlotPlan {
-        kinds,
-        payload: 9,
-        sync: true,
-        start: true,
-        requests: false,
-        live: 1,
-    })
+    let slots = &list.slots;
+    slots.len() >= 4 && slots.get(0).payload == 9 && slots.get(1).payload == 9
 }
 
-// Four nodes that send payload.
-fn four_nodes(alloc: Global, buffers: u8) -> Result<Medl, Memory>
-    requires { (1 ≤ buffers) × (buffers ≤ 16) }
-    ensures valid { IfOk result IsValid }
-    ensures slots { IfOk result (λ list. length list.slots ≡ 4) }
-    ensures first { IfOk result (λ list. (plan_at list 0).payload ≡ 9) }
-    ensures second { IfOk result (λ list. (plan_at list 1).payload ≡ 9) }
+// The port of node 0 of such a list, with both its ends.
+fn new_port(alloc: Global, text: &[u8]) -> Option<(Port, ControllerEnd, HostEnd)>
+    ensures node { IfSome result (λ r. r.0.node ≡ 0) }
+    ensures ends { IfSome result (λ r. IsControllerEndOf r.0 r.1 × IsHostEndOf r.0 r.2) }
+    ensures status { IfSome result (λ r. HasRoom (at_source r.1 source.Status)) }
+    ensures sender { IfSome result (λ r. let writer = at_source r.1 (source.Node 1) in Takes writer 9 × HasRoom writer) }
+    ensures own { IfSome result (λ r. Takes r.2 9 × HasRoom r.2) }
 {
-    let mut slots = List::new(alloc);
-    slots.push(slot_plan(alloc)?)?;
-    slots.push(slot_plan(alloc)?)?;
-    slots.push(slot_plan(alloc)?)?;
-    slots.push(slot_plan(alloc)?)?;
-    Ok(Medl {
-        version: 1,
-        rounds: 1,
-        schedule: 0,
-        buffers,
-        drift: 0,
-        error: 0,
-        window: 1,
-        modes: 1,
-        slots,
-    })
+    let Ok(list) = read_medl(alloc, text) else {
+        return None;
+    };
+    if !sends_nine(&list) {
+        return None;
+    }
+    match Port::new(alloc, &list, 0) {
+        Ok(port) => Some(port),
+        Err(_) => None,
+    }
 }
 
 // A read of a node's host in the first slot.
@@ -81,8 +84,7 @@ fn add_read(events: &mut List<Event>, node: u8, source: Source) -> Result<(), Me
 
 // A script of one slot, in which the host of node 0 reads node 1 and its status.
 fn script_of(alloc: Global) -> Result<Script, Memory>
-    ensures slots { IfOk result (λ script. script.slots ≡ 1) }
-    ensures events { IfOk result (λ script. script.events ≡ event.Read 0 0 (source.Node 1)
+    ensures { IfOk result (λ script. script.events ≡ event.Read 0 0 (source.Node 1)
         ∷ event.Read 2 0 source.Status ∷ event.Read 0 0 source.Status ∷ []) }
 {
     let mut events = List::new(alloc);
@@ -97,21 +99,25 @@ fn script_of(alloc: Global) -> Result<Script, Memory>
     })
 }
 
-// The port of node 0 with its controller's end, and the readers of the slot.
-fn read_port(alloc: Global, buffers: u8) -> Result<(Port, ControllerEnd, HostReaders), Memory>
-    requires { (1 ≤ buffers) × (buffers ≤ 16) }
-    ensures end { IfOk result (λ r. IsControllerEndOf r.0 r.1) }
-    ensures readers { IfOk result (λ r. AreReadersOf r.0 r.2) }
-    ensures status { IfOk result (λ r. HasRoom (at_source r.1 source.Status)) }
-    ensures sender { IfOk result (λ r. let writer = at_source r.1 (source.Node 1) in Takes writer 9 × HasRoom writer) }
-    ensures read_status { IfOk result (λ r. IsLeft (at_source r.2.readers source.Status)) }
-    ensures read_sender { IfOk result (λ r. IsLeft (at_source r.2.readers (source.Node 1))) }
+// The port with its controller's end, and the readers of the slot.
+fn read_port(alloc: Global, list: &[u8]) -> Option<(Port, ControllerEnd, HostReaders)>
+    ensures end { IfSome result (λ r. IsControllerEndOf r.0 r.1) }
+    ensures readers { IfSome result (λ r. AreReadersOf r.0 r.2) }
+    ensures status { IfSome result (λ r. HasRoom (at_source r.1 source.Status)) }
+    ensures sender { IfSome result (λ r. let writer = at_source r.1 (source.Node 1) in Takes writer 9 × HasRoom writer) }
+    ensures read_status { IfSome result (λ r. IsLeft (at_source r.2.readers source.Status)) }
+    ensures read_sender { IfSome result (λ r. IsLeft (at_source r.2.readers (source.Node 1))) }
 {
-    let list = four_nodes(alloc, buffers)?;
-    let (port, mut end, _) = Port::new(alloc, &list, 0)?;
-    let script = script_of(alloc)?;
-    let readers = port.lend_reads(&mut end, &script, 0)?;
-    Ok((port, end, readers))
+    let Ok(script) = script_of(alloc) else {
+        return None;
+    };
+    let Some((port, mut end, _)) = new_port(alloc, list) else {
+        return None;
+    };
+    match port.lend_reads(&mut end, &script, 0) {
+        Ok(readers) => Some((port, end, readers)),
+        Err(_) => None,
+    }
 }
 
 // A message of node 1.
@@ -152,14 +158,6 @@ fn read_both<R: Wait>(rt: &R, port: &Port, mut readers: HostReaders) -> HostRead
     readers
 }
 
-// The lines of a slot in which the host reads once the controller took its turn.
-fn lines_after<R: Wait>(rt: &R, alloc: Global) -> Result<List<ReadLine>, Memory> {
-    let (port, end, readers) = read_port(alloc, 2)?;
-    let mut end = take(&port, end);
-    let readers = read_both(rt, &port, readers);
-    port.settle_reads(&mut end, readers)
-}
-
 // Whether host 0 read message 1 of a source, with these words.
 fn is_first(line: &ReadLine, source: Source, words: &[u64]) -> bool {
     line.host == 0 && line.source == source && line.pair.number() == 1 && line.pair.words() == words
@@ -174,31 +172,6 @@ fn are_firsts(lines: &List<ReadLine>) -> bool {
         && is_first(lines.get(1), Source::Status, &[10, 20, 30, 40])
 }
 
-fn reads_after<R: Wait>(rt: &R, alloc: Global) -> bool {
-    match lines_after(rt, alloc) {
-        Ok(lines) => are_firsts(&lines),
-        Err(_) => false,
-    }
-}
-
-#[test]
-fn a_host_reads_what_its_controller_wrote(rt: HostRuntime) {
-    assert!(rt; reads_after(&rt, rt.alloc()));
-}
-
-// The same where the host reads beside the controller's turn.
-fn lines_beside<R: Threads + Wait + Sync>(
-    rt: &R,
-    alloc: Global,
-    buffers: u8,
-) -> Result<List<ReadLine>, Memory>
-    requires { (1 ≤ buffers) × (buffers ≤ 16) }
-{
-    let (port, end, readers) = read_port(alloc, buffers)?;
-    let (mut end, readers) = join(rt, || take(&port, end), || read_both(rt, &port, readers));
-    port.settle_reads(&mut end, readers)
-}
-
 // Whether message 0 or 1 of a source was read.
 fn is_early(line: &ReadLine, source: Source) -> bool {
     line.source == source && line.pair.number() <= 1
@@ -211,10 +184,31 @@ fn are_early(lines: &List<ReadLine>) -> bool {
         && is_early(lines.get(1), Source::Status)
 }
 
-fn reads_beside<R: Threads + Wait + Sync>(rt: &R, alloc: Global, buffers: u8) -> bool
-    requires { (1 ≤ buffers) × (buffers ≤ 16) }
-{
-    match lines_beside(rt, alloc, buffers) {
+// Whether the host reads what its controller wrote before.
+fn reads_after<R: Wait>(rt: &R, alloc: Global) -> bool {
+    let Some((port, end, readers)) = read_port(alloc, LISTS[1]) else {
+        return false;
+    };
+    let mut end = take(&port, end);
+    let readers = read_both(rt, &port, readers);
+    match port.settle_reads(&mut end, readers) {
+        Ok(lines) => are_firsts(&lines),
+        Err(_) => false,
+    }
+}
+
+#[test]
+fn a_host_reads_what_its_controller_wrote(rt: HostRuntime) {
+    assert!(rt; reads_after(&rt, rt.alloc()));
+}
+
+// The same where the host reads beside the controller's turn.
+fn reads_beside<R: Threads + Wait + Sync>(rt: &R, alloc: Global, list: &[u8]) -> bool {
+    let Some((port, end, readers)) = read_port(alloc, list) else {
+        return false;
+    };
+    let (mut end, readers) = join(rt, || take(&port, end), || read_both(rt, &port, readers));
+    match port.settle_reads(&mut end, readers) {
         Ok(lines) => are_early(&lines),
         Err(_) => false,
     }
@@ -222,19 +216,9 @@ fn reads_beside<R: Threads + Wait + Sync>(rt: &R, alloc: Global, buffers: u8) ->
 
 #[test]
 fn a_host_reads_beside_its_controller(rt: HostRuntime) {
-    for buffers in 1..5u8 {
-        assert!(rt; reads_beside(&rt, rt.alloc(), buffers));
+    for list in LISTS {
+        assert!(rt; reads_beside(&rt, rt.alloc(), list));
     }
-}
-
-// The port of node 0 with its host's end.
-fn written_port(alloc: Global) -> Result<(Port, HostEnd), Memory>
-    ensures end { IfOk result (λ r. IsHostEndOf r.0 r.1) }
-    ensures room { IfOk result (λ r. Takes r.1 9 × HasRoom r.1) }
-{
-    let list = four_nodes(alloc, 2)?;
-    let (port, _, end) = Port::new(alloc, &list, 0)?;
-    Ok((port, end))
 }
 
 // A host writes.
@@ -258,15 +242,6 @@ fn fetch_one(port: &Port, mut fetcher: Fetcher) -> (Try, Fetcher)
     (answer, fetcher)
 }
 
-// Whether a fetcher that is not used gets nothing.
-fn is_nothing_fetched(port: &Port, end: &mut HostEnd, unused: Fetcher) -> bool
-    requires end { IsHostEndOf port.now end.old }
-    requires fetcher { IsFetcherOf port.now unused }
-    ensures { IsHostEndOf port.now end.new }
-{
-    matches!(port.settle_fetch(end, unused), Ok(None))
-}
-
 // Whether a pair is the message before the host's, or that, and an attempt was answered so.
 fn is_message(pair: &Pair, answer: Try) -> bool {
     let number = pair.number();
@@ -284,35 +259,55 @@ fn is_message(pair: &Pair, answer: Try) -> bool {
     }
 }
 
-// Whether a fetcher gets one of these.
-fn is_fetched(port: &Port, end: &mut HostEnd, fetcher: Fetcher, answer: Try) -> bool
-    requires end { IsHostEndOf port.now end.old }
-    requires fetcher { IsFetcherOf port.now fetcher }
+// Two fetchers of a port, of which the second one has room.
+fn lend_both(port: &Port, end: &mut HostEnd) -> Option<(Fetcher, Fetcher)>
+    requires own { IsHostEndOf port.now end.old }
+    requires ring { IsSome end.old }
+    ensures end { end.new ≡ end.old }
+    ensures fetchers { IfSome result (λ r. IsFetcherOf port.now r.0 × IsFetcherOf port.now r.1) }
+    ensures room { IfSome result (λ r. 1 ≤ r.1.spare) }
 {
-    match port.settle_fetch(end, fetcher) {
-        Ok(Some(pair)) => is_message(&pair, answer),
+    let Ok(unused) = port.lend_fetch(end) else {
+        return None;
+    };
+    match port.lend_fetch(end) {
+        Ok(fetcher) => Some((unused, fetcher)),
+        Err(_) => None,
+    }
+}
+
+// Whether a fetcher that is not used gets nothing, and another one a message.
+fn are_settled(
+    port: &Port,
+    mut end: HostEnd,
+    unused: Fetcher,
+    fetcher: Fetcher,
+    answer: Try,
+) -> bool
+    requires end { IsHostEndOf port.now end }
+    requires fetchers { IsFetcherOf port.now unused × IsFetcherOf port.now fetcher }
+{
+    let is_nothing = matches!(port.settle_fetch(&mut end, unused), Ok(None));
+    match port.settle_fetch(&mut end, fetcher) {
+        Ok(Some(pair)) => is_message(&pair, answer) && is_nothing,
         _ => false,
     }
 }
 
 // Whether a controller that fetches beside its host's write gets a message, and a fetcher that is not used nothing.
 fn fetches_beside<R: Threads + Sync>(rt: &R, alloc: Global) -> bool {
-    let Ok((port, mut end)) = written_port(alloc) else {
+    let Some((port, _controller, mut end)) = new_port(alloc, LISTS[1]) else {
         return false;
     };
-    let Ok(unused) = port.lend_fetch(&mut end) else {
+    let Some((unused, fetcher)) = lend_both(&port, &mut end) else {
         return false;
     };
-    let Ok(fetcher) = port.lend_fetch(&mut end) else {
-        return false;
-    };
-    let ((written, mut end), (answer, fetcher)) = join(
+    let ((written, end), (answer, fetcher)) = join(
         rt,
         || write_one(&port, end),
         || fetch_one(&port, fetcher),
     );
-    let is_nothing = is_nothing_fetched(&port, &mut end, unused);
-    is_fetched(&port, &mut end, fetcher, answer) && is_nothing && written == 1
+    are_settled(&port, end, unused, fetcher, answer) && written == 1
 }
 
 #[test]

@@ -3,63 +3,21 @@
 
 mod scenes;
 
-ghost use Rattle.std.specs.Prelude.{◌≡◌, ◌<◌, ◌≤◌, IfOk, OnOk};
+ghost use Rattle.std.specs.Prelude.{◌≡◌, ◌<◌, ◌≤◌, IfSome};
 
 use nbw_ring::{Pair, Reader, Ring, Try, Writer};
 use std::alloc::Global;
-use std::hint::spin_loop;
 use std::sync::Wait;
+use std::sync::atomic::AtomicU64;
 use std::sync::atomic::Ordering::SeqCst;
-use std::sync::atomic::{AtomicBool, AtomicU64};
 use std::thread::{Threads, join};
-use ttp_base::{Gate, List, Memory, OpenGate};
-
-// A hold lasts no longer.
-const TURNS: u32 = 10_000_000;
+use ttp_base::{Gate, OpenGate};
 
 // No message of a test has a greater number.
 const MOST: u64 = 1 << 40;
 
 // The steps of each thread of a stress test.
 const STEPS: usize = 100_000;
-
-// Waits until the flag is up, for a while.
-fn hold(flag: &AtomicBool) {
-    for _ in 0..TURNS {
-        if flag.load(SeqCst) {
-            return;
-        }
-        spin_loop();
-    }
-}
-
-// Holds the reader at a place until the writer is where it is to be, and the writer at a place until
-// the reader is done. Place 0 is none.
-#[derive(Drop)]
-struct Scene {
-    reader_place: u32,
-    writer_place: u32,
-    reader_there: AtomicBool,
-    writer_there: AtomicBool,
-    reader_done: AtomicBool,
-    word_loads: AtomicU64,
-}
-
-impl Gate for Scene {
-    fn pass(&self, place: u32) {
-        if place == 5 {
-            self.word_loads.fetch_add(1, SeqCst);
-        }
-        if place == self.reader_place {
-            self.reader_there.store(true, SeqCst);
-            hold(&self.writer_there);
-        }
-        if place == self.writer_place {
-            self.writer_there.store(true, SeqCst);
-            hold(&self.reader_done);
-        }
-    }
-}
 
 // Word k of a message.
 fn word_of(number: u64, k: usize) -> u64 {
@@ -135,88 +93,40 @@ fn is_right(ring: &Ring, writer: &mut Writer, reader: Reader, width: usize) -> b
     }
 }
 
-// Whether a last reader gets the newest message.
-fn is_newest_read(ring: &Ring, writer: &mut Writer, width: usize) -> Result<bool, Memory>
-    requires { writer.old.ring ≡ ring.now }
-    ensures { OnOk result (writer.new.ring ≡ ring.now) }
-{
-    let mut last = ring.lend(writer, 1)?;
-    let newest = Try::Got {
-        number: writer.number(),
-    };
-    let got = ring.try_read(&mut last, &OpenGate::new()) == newest;
-    Ok(is_right(ring, writer, last, width) && got)
-}
-
-// A ring whose writer wrote so many messages.
-fn written(
+// A ring whose writer wrote so many messages, and a reader with room for so many.
+fn lent(
     alloc: Global,
     width: usize,
     buffers: usize,
     count: usize,
-) -> Result<(Ring, Writer), Memory>
+    reads: usize,
+) -> Option<(Ring, Writer, Reader)>
     requires width { (0 < width) × (width ≤ 32) }
     requires buffers { (0 < buffers) × (buffers ≤ 16) }
-    ensures own { IfOk result (λ r. r.1.ring ≡ r.0) }
-    ensures width { IfOk result (λ r. r.0.shape.width ≡ width) }
+    ensures own { IfSome result (λ r. (r.1.ring ≡ r.0) × (r.2.ring ≡ r.0)) }
+    ensures width { IfSome result (λ r. r.0.shape.width ≡ width) }
+    ensures room { IfSome result (λ r. r.2.spare ≡ reads) }
 {
-    let (ring, writer) = Ring::new(alloc, width, buffers)?;
-    let writer = write_many(&ring, writer, width, count);
-    Ok((ring, writer))
-}
-
-fn is_pair(pair: &Pair, number: u64, words: &[u64]) -> bool {
-    pair.number() == number && pair.words() == words
-}
-
-// Whether these are the pairs of messages 2 and 3.
-fn are_pairs(pairs: &List<Pair>) -> bool {
-    pairs.len() == 2
-        && is_pair(pairs.get(0), 2, &[128, 129])
-        && is_pair(pairs.get(1), 3, &[192, 193])
-}
-
-// Whether a reader with room for three gets the newest of two messages.
-fn reads_newest<R: Wait>(rt: &R, ring: &Ring, writer: &Writer, reader: &mut Reader) -> bool
-    requires { (reader.old.ring ≡ ring.now) × (1 ≤ reader.old.spare) }
-    ensures { reader.new.ring ≡ ring.now }
-{
-    let has_room = writer.number() == 2 && reader.spare() == 3;
-    ring.read(rt, reader, &OpenGate::new()) == 2 && has_room
-}
-
-// Whether it then gets the one that is written next.
-fn tries_next(ring: &Ring, reader: &mut Reader) -> bool
-    requires { reader.old.ring ≡ ring.now }
-    ensures { reader.new.ring ≡ ring.now }
-{
-    if reader.spare() == 0 {
-        return false;
-    }
-    let is_got = ring.try_read(reader, &OpenGate::new()) == (Try::Got { number: 3 });
-    is_got && reader.spare() == 1 && reader.words() == [192, 193].as_slice()
-}
-
-// Whether a reader gets the newest message, and then the one that is written next.
-fn is_read<R: Wait>(rt: &R, alloc: Global) -> bool {
-    let Ok((ring, mut writer)) = written(alloc, 2, 2, 2) else {
-        return false;
+    let Ok((ring, writer)) = Ring::new(alloc, width, buffers) else {
+        return None;
     };
-    let Ok(mut reader) = ring.lend(&mut writer, 3) else {
-        return false;
-    };
-    let is_newest = reads_newest(rt, &ring, &writer, &mut reader);
-    write_next(&ring, &mut writer, 2, &OpenGate::new());
-    let is_next = tries_next(&ring, &mut reader);
-    match ring.settle(&mut writer, reader) {
-        Ok(receipts) => is_newest && is_next && are_pairs(&receipts.into_pairs()),
-        Err(_) => false,
+    let mut writer = write_many(&ring, writer, width, count);
+    match ring.lend(&mut writer, reads) {
+        Ok(reader) => Some((ring, writer, reader)),
+        Err(_) => None,
     }
 }
 
-#[test]
-fn a_message_is_written_and_read(rt: HostRuntime) {
-    assert!(rt; is_read(&rt, rt.alloc()));
+// Whether a last reader gets the newest message.
+fn is_newest_read(ring: &Ring, writer: &mut Writer, width: usize) -> bool
+    requires { writer.old.ring ≡ ring.now }
+{
+    let Ok(mut last) = ring.lend(writer, 1) else {
+        return false;
+    };
+    let number = writer.number();
+    let answer = ring.try_read(&mut last, &OpenGate::new());
+    is_right(ring, writer, last, width) && answer == (Try::Got { number })
 }
 
 // Keeps the places that were passed, as decimal digits, the first one first.
@@ -233,148 +143,83 @@ impl Gate for Places {
     }
 }
 
-impl Places {
-    // Those since the last call.
-    fn told(&self) -> u64 {
-        self.digits.swap(0, SeqCst)
-    }
-}
-
-// The places that are passed by a write, by an attempt to read and by a read, where both get message 5.
-fn passed<R: Wait>(rt: &R, alloc: Global) -> Result<[u64; 3], Memory> {
+// Whether a reader with room for four gets the newest of four messages, and then the one that is written next, twice;
+// and whether each call passes its places.
+fn reads_each<R: Wait>(rt: &R, ring: &Ring, writer: &mut Writer, reader: &mut Reader) -> bool
+    requires writer { (writer.old.ring ≡ ring.now) × (3 ≡ ring.now.shape.width) }
+    requires reader { (reader.old.ring ≡ ring.now) × (1 ≤ reader.old.spare) }
+    ensures { (writer.new.ring ≡ ring.now) × (reader.new.ring ≡ ring.now) }
+{
     let places = Places {
         digits: AtomicU64::new(0),
     };
-    let (ring, mut writer) = written(alloc, 3, 2, 4)?;
-    let mut reader = ring.lend(&mut writer, 2)?;
-    write_next(&ring, &mut writer, 3, &places);
-    let by_write = places.told();
-    if ring.try_read(&mut reader, &places) != (Try::Got { number: 5 }) {
-        return Ok([0; 3]);
+    let before = (writer.number(), reader.spare());
+    let newest = ring.read(rt, reader, &places);
+    let by_read = places.digits.swap(0, SeqCst);
+    write_next(ring, writer, 3, &places);
+    let by_write = places.digits.swap(0, SeqCst);
+    if reader.spare() != 3 {
+        return false;
     }
-    let by_attempt = places.told();
-    if ring.read(rt, &mut reader, &places) != 5 {
-        return Ok([0; 3]);
+    let answer = ring.try_read(reader, &places);
+    let by_attempt = places.digits.swap(0, SeqCst);
+    if reader.spare() != 2 {
+        return false;
     }
-    Ok([by_write, by_attempt, places.told()])
+    let is_next = answer == (Try::Got { number: 5 })
+        && reader.words() == [320, 321, 322].as_slice();
+    let again = ring.read(rt, reader, &places);
+    let by_last = places.digits.swap(0, SeqCst);
+    is_next
+        && before == (4, 4)
+        && [newest, again] == [4, 5]
+        && [by_read, by_write, by_attempt, by_last] == [45556, 12223, 45556, 45556]
 }
 
-fn passes_each<R: Wait>(rt: &R, alloc: Global) -> bool {
-    match passed(rt, alloc) {
-        Ok(places) => places == [12223, 45556, 45556],
-        Err(_) => false,
-    }
+fn is_pair(pair: &Pair, number: u64, words: &[u64]) -> bool {
+    pair.number() == number && pair.words() == words
+}
+
+// Whether it then has these messages.
+fn has_each(ring: &Ring, writer: &mut Writer, reader: Reader) -> bool
+    requires { (writer.old.ring ≡ ring.now) × (reader.ring ≡ ring.now) }
+{
+    let Ok(receipts) = ring.settle(writer, reader) else {
+        return false;
+    };
+    let pairs = receipts.into_pairs();
+    pairs.len() == 3
+        && is_pair(pairs.get(0), 4, &[256, 257, 258])
+        && is_pair(pairs.get(1), 5, &[320, 321, 322])
+        && is_pair(pairs.get(2), 5, &[320, 321, 322])
+}
+
+fn is_read<R: Wait>(rt: &R, alloc: Global) -> bool {
+    let Some((ring, mut writer, mut reader)) = lent(alloc, 3, 2, 4, 4) else {
+        return false;
+    };
+    let is_each_read = reads_each(rt, &ring, &mut writer, &mut reader);
+    has_each(&ring, &mut writer, reader) && is_each_read
 }
 
 #[test]
-fn each_step_on_a_word_passes_the_gate(rt: HostRuntime) {
-    assert!(rt; passes_each(&rt, rt.alloc()));
+fn messages_are_written_and_read_past_a_gate(rt: HostRuntime) {
+    assert!(rt; is_read(&rt, rt.alloc()));
 }
 
-// The reader's part of a scene.
-fn attempt(ring: &Ring, mut reader: Reader, scene: &Scene) -> (Try, Reader)
-    requires { (reader.ring ≡ ring.now) × (1 ≤ reader.spare) }
-    ensures { result.1.ring ≡ ring.now }
+// Two readers more, with room for so many messages.
+fn lend_two(ring: &Ring, writer: &mut Writer, reads: usize) -> Option<(Reader, Reader)>
+    requires { writer.old.ring ≡ ring.now }
+    ensures writer { writer.new.ring ≡ ring.now }
+    ensures readers { IfSome result (λ r. (r.0.ring ≡ ring.now) × (r.1.ring ≡ ring.now)) }
 {
-    if scene.reader_place == 0 {
-        hold(&scene.writer_there);
+    let Ok(one) = ring.lend(writer, reads) else {
+        return None;
+    };
+    match ring.lend(writer, reads) {
+        Ok(two) => Some((one, two)),
+        Err(_) => None,
     }
-    let answer = ring.try_read(&mut reader, scene);
-    scene.reader_done.store(true, SeqCst);
-    (answer, reader)
-}
-
-// The writer's part: once the reader is held, a message, and then one in which the writer is held.
-fn write_beside(ring: &Ring, mut writer: Writer, scene: &Scene) -> Writer
-    requires { (writer.ring ≡ ring.now) × (4 ≡ ring.now.shape.width) }
-    ensures { result.ring ≡ ring.now }
-{
-    if scene.reader_place != 0 {
-        hold(&scene.reader_there);
-        write_next(ring, &mut writer, 4, &OpenGate::new());
-    }
-    if scene.writer_place != 0 {
-        write_next(ring, &mut writer, 4, scene);
-    }
-    scene.writer_there.store(true, SeqCst);
-    writer
-}
-
-// What an attempt answers in a scene of a ring with number 3, how many words it loads, and whether
-// the pairs that were got are right.
-fn played<R: Threads + Sync>(
-    rt: &R,
-    alloc: Global,
-    buffers: usize,
-    reader_place: u32,
-    writer_place: u32,
-) -> Result<(Try, u64, bool), Memory>
-    requires { (0 < buffers) × (buffers ≤ 16) }
-{
-    let (ring, mut writer) = written(alloc, 4, buffers, 3)?;
-    let reader = ring.lend(&mut writer, 1)?;
-    let scene = Scene {
-        reader_place,
-        writer_place,
-        reader_there: AtomicBool::new(false),
-        writer_there: AtomicBool::new(false),
-        reader_done: AtomicBool::new(false),
-        word_loads: AtomicU64::new(0),
-    };
-    let ((answer, reader), mut writer) = join(
-        rt,
-        || attempt(&ring, reader, &scene),
-        || write_beside(&ring, writer, &scene),
-    );
-    let right = is_right(&ring, &mut writer, reader, 4);
-    Ok((answer, scene.word_loads.load(SeqCst), right))
-}
-
-// Whether an attempt answers this in a scene, and the pairs that were got are right.
-fn is_answer<R: Threads + Sync>(
-    rt: &R,
-    alloc: Global,
-    buffers: usize,
-    places: (u32, u32),
-    wanted: Try,
-) -> bool
-    requires { (0 < buffers) × (buffers ≤ 16) }
-{
-    let Ok((answer, _, right)) = played(rt, alloc, buffers, places.0, places.1) else {
-        return false;
-    };
-    answer == wanted && right
-}
-
-// Whether a ring of one buffer is not read while it is written.
-fn is_not_read<R: Threads + Sync>(rt: &R, alloc: Global) -> bool {
-    let open = Try::Overrun {
-        number: 3,
-        begin: 7,
-        end: 7,
-    };
-    let Ok((answer, loads, right)) = played(rt, alloc, 1, 0, 2) else {
-        return false;
-    };
-    answer == open && right && loads == 0
-}
-
-// Whether one message more leaves the buffer of message 3 as it is, and the next one begins to take it.
-fn decides<R: Threads + Sync>(rt: &R, alloc: Global) -> bool {
-    let got = Try::Got { number: 3 };
-    let overrun = Try::Overrun {
-        number: 3,
-        begin: 6,
-        end: 9,
-    };
-    is_answer(rt, alloc, 2, (6, 0), got)
-        && is_answer(rt, alloc, 2, (6, 2), overrun)
-        && is_not_read(rt, alloc)
-}
-
-#[test]
-fn the_last_load_decides(rt: HostRuntime) {
-    assert!(rt; decides(&rt, rt.alloc()));
 }
 
 // Two readers at once.
@@ -420,16 +265,10 @@ fn is_stable<R: Threads + Sync>(rt: &R, alloc: Global, width: usize, buffers: us
     requires buffers { (0 < buffers) × (buffers ≤ 16) }
 {
     let count = STEPS / (width + 2);
-    let Ok((ring, mut writer)) = written(alloc, width, buffers, 0) else {
+    let Some((ring, mut writer, three)) = lent(alloc, width, buffers, 0, count) else {
         return false;
     };
-    let Ok(one) = ring.lend(&mut writer, count) else {
-        return false;
-    };
-    let Ok(two) = ring.lend(&mut writer, count) else {
-        return false;
-    };
-    let Ok(three) = ring.lend(&mut writer, count) else {
+    let Some((one, two)) = lend_two(&ring, &mut writer, count) else {
         return false;
     };
     let ((one, two), (mut writer, three)) = join(
@@ -443,12 +282,10 @@ fn is_stable<R: Threads + Sync>(rt: &R, alloc: Global, width: usize, buffers: us
             ensures { (result.0.ring ≡ ring) × (result.1.ring ≡ ring) }
         { write_and_read(rt, &ring, writer, three, width, count) },
     );
-    let are_right = [
-        is_right(&ring, &mut writer, one, width),
-        is_right(&ring, &mut writer, two, width),
-        is_right(&ring, &mut writer, three, width),
-    ];
-    matches!(is_newest_read(&ring, &mut writer, width), Ok(true)) && are_right == [true; 3]
+    let are_right = is_right(&ring, &mut writer, one, width)
+        & is_right(&ring, &mut writer, two, width)
+        & is_right(&ring, &mut writer, three, width);
+    is_newest_read(&ring, &mut writer, width) && are_right
 }
 
 #[test]

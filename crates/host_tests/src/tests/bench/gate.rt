@@ -1,171 +1,105 @@
-//! Threads that are held until others have come: the halves of the controllers run at once, and so do the
-//! controllers and the hosts' reads.
+//! A gate that counts, and holds threads until others have come so far.
+ghost use Rattle.std.specs.Prelude.{◌<◌};
 
-use super::{FIVE_NODES, START, answer_at, call_of, joined, let_go, text_of};
-use cluster_run::Cluster;
 use std::hint::spin_loop;
-use std::sync::Wait;
 use std::sync::atomic::AtomicU64;
 use std::sync::atomic::Ordering::SeqCst;
-use std::thread::Threads;
 use ttp_base::Gate;
 
 // A hold lasts no longer.
 const TURNS: u64 = 10_000_000;
 
-// How many statuses five nodes publish before slot 11, and how many words these have.
-const STATUSES: u64 = 55;
+/// A thread that passes a place that was passed so often before is held, until another place was passed so often.
+#[derive(Clone, Copy)]
+pub(crate) struct Hold {
+    pub(crate) place: u32,
+    pub(crate) before: u64,
+    pub(crate) other: u32,
+    pub(crate) until: u64,
+}
 
-const WORDS: u64 = 220;
+/// Holds nobody: there is no place 0.
+pub(crate) const NOBODY: Hold = Hold {
+    place: 0,
+    before: 0,
+    other: 0,
+    until: 0,
+};
 
-// Counts the passes of each place. In slot 11 it holds the first status to be written until a second one
-// is, the first word of it until a read has begun, and the first word that is read until a word of a status
-// is written.
+/// No holds.
+pub(crate) const OPEN: [Hold; 3] = [NOBODY, NOBODY, NOBODY];
+
+/// Counts the passes of places 1 to 6, and holds threads at some of them.
 #[derive(Drop)]
-struct Holds {
-    begins: AtomicU64,
-    words: AtomicU64,
-    ends: AtomicU64,
-    reads: AtomicU64,
-    words_read: AtomicU64,
-    reads_ended: AtomicU64,
-    // The longest that a thread was held, in turns.
-    longest: AtomicU64,
+pub(crate) struct Beside {
+    // Those of each place stand at its number.
+    passes: [AtomicU64; 7],
+    holds: [Hold; 3],
+    // How many were held, and how many of these to the end.
+    held: AtomicU64,
+    in_vain: AtomicU64,
 }
 
-// Waits until so many have come, and keeps how many turns that took.
-fn hold(count: &AtomicU64, wanted: u64, longest: &AtomicU64) {
-    let mut turns = TURNS;
-    for turn in 0..TURNS {
-        if count.load(SeqCst) >= wanted {
-            turns = turn;
-            break;
+// Where the passes of a place stand; those of what is none stand at 0.
+fn index_of(place: u32) -> usize
+    ensures { result < 7 }
+{
+    if place < 7 { place as usize } else { 0 }
+}
+
+impl Beside {
+    /// The gate with these holds.
+    pub(crate) fn new(holds: [Hold; 3]) -> Beside {
+        Beside {
+            passes: [
+                AtomicU64::new(0),
+                AtomicU64::new(0),
+                AtomicU64::new(0),
+                AtomicU64::new(0),
+                AtomicU64::new(0),
+                AtomicU64::new(0),
+                AtomicU64::new(0),
+            ],
+            holds,
+            held: AtomicU64::new(0),
+            in_vain: AtomicU64::new(0),
         }
-        spin_loop();
     }
-    longest.fetch_max(turns, SeqCst);
+
+    /// Whether each place was passed so often.
+    pub(crate) fn has_passed(&self, due: &[u64; 7]) -> bool {
+        for k in 0..7 {
+            if self.passes[k].load(SeqCst) != due[k] {
+                return false;
+            }
+        }
+        true
+    }
+
+    /// Whether so many threads were held, none of them to the end.
+    pub(crate) fn has_held(&self, due: u64) -> bool {
+        self.held.load(SeqCst) == due && self.in_vain.load(SeqCst) == 0
+    }
+
+    fn hold(&self, hold: &Hold) {
+        self.held.fetch_add(1, SeqCst);
+        for _ in 0..TURNS {
+            if self.passes[index_of(hold.other)].load(SeqCst) >= hold.until {
+                return;
+            }
+            spin_loop();
+        }
+        self.in_vain.fetch_add(1, SeqCst);
+    }
 }
 
-impl Gate for Holds {
+impl Gate for Beside {
     fn pass(&self, place: u32) {
-        match place {
-            1 => {
-                if self.begins.fetch_add(1, SeqCst) == STATUSES {
-                    hold(&self.begins, STATUSES + 2, &self.longest);
-                }
-            }
-            2 => {
-                if self.words.fetch_add(1, SeqCst) == WORDS {
-                    hold(&self.reads, 1, &self.longest);
-                }
-            }
-            3 => {
-                self.ends.fetch_add(1, SeqCst);
-            }
-            4 => {
-                self.reads.fetch_add(1, SeqCst);
-            }
-            5 => {
-                if self.words_read.fetch_add(1, SeqCst) == 0 {
-                    hold(&self.words, WORDS + 1, &self.longest);
-                }
-            }
-            _ => {
-                self.reads_ended.fetch_add(1, SeqCst);
+        let before = self.passes[index_of(place)].fetch_add(1, SeqCst);
+        for hold in &self.holds {
+            if hold.place == place && hold.before == before {
+                self.hold(hold);
             }
         }
     }
-}
-
-impl Holds {
-    fn new() -> Holds {
-        Holds {
-            begins: AtomicU64::new(0),
-            words: AtomicU64::new(0),
-            ends: AtomicU64::new(0),
-            reads: AtomicU64::new(0),
-            words_read: AtomicU64::new(0),
-            reads_ended: AtomicU64::new(0),
-            longest: AtomicU64::new(0),
-        }
-    }
-
-    // Whether each place was passed in slot 11, and no thread was held to the end.
-    fn passed(&self) -> bool {
-        self.begins.load(SeqCst) > STATUSES
-            && self.words.load(SeqCst) > WORDS
-            && self.ends.load(SeqCst) > STATUSES
-            && self.reads.load(SeqCst) > 0
-            && self.words_read.load(SeqCst) > 0
-            && self.reads_ended.load(SeqCst) > 0
-            && self.longest.load(SeqCst) < TURNS
-    }
-}
-
-// Whether this is the cluster of five nodes after 15 slots.
-fn is_done(cluster: &Cluster) -> bool {
-    let report = cluster.report();
-    cluster.done() == 15
-        && cluster.slots() == 15
-        && cluster.list().slots.len() == 5
-        && cluster.script().on.len() == 5
-        && report.slot == 14
-        && report.nodes.len() == 5
-}
-
-fn is_kept(kept: &Option<Cluster>) -> bool {
-    match kept {
-        Some(cluster) => is_done(cluster),
-        None => false,
-    }
-}
-
-// Whether the run of a polled status answers 0. Its trace is compared where the real program runs.
-fn is_run<R: Threads + Wait + Sync + AllocGlobal>(
-    rt: &R,
-    gate: &Holds,
-    kept: &mut Option<Cluster>,
-) -> bool {
-    let Ok(list) = joined(rt, FIVE_NODES) else {
-        return false;
-    };
-    let Ok(script) = joined(rt, &[START, "read 1 11 status\n"]) else {
-        return false;
-    };
-    let call = call_of(&["run", "list", "script"], &list, &script);
-    let Ok((status, text)) = answer_at(rt, &call, gate, kept) else {
-        return false;
-    };
-    status == 0 && text_of(&text).ends_with("keeps yes start 10\n")
-}
-
-// Whether a call without words answers 2, and keeps no cluster.
-fn is_no_form<R: Threads + Wait + Sync + AllocGlobal>(
-    rt: &R,
-    gate: &Holds,
-    kept: &mut Option<Cluster>,
-) -> bool {
-    let Ok((status, _usage)) = answer_at(rt, &call_of(&[], "", ""), gate, kept) else {
-        return false;
-    };
-    status == 2 && kept.is_none()
-}
-
-// The cluster that ran is kept, until the next call.
-fn runs_and_keeps<R: Threads + Wait + Sync + AllocGlobal>(
-    rt: &R,
-    kept: &mut Option<Cluster>,
-) -> bool {
-    let gate = Holds::new();
-    let is_run = is_run(rt, &gate, kept);
-    let is_right = is_run && gate.passed() && is_kept(kept);
-    is_no_form(rt, &gate, kept) && is_right
-}
-
-#[test]
-fn controllers_and_hosts_run_at_once(rt: HostRuntime) {
-    let mut kept = None;
-    let runs = runs_and_keeps(&rt, &mut kept);
-    let_go(kept);
-    assert!(rt; runs);
 }

@@ -1,39 +1,39 @@
 //! The cluster that ran is kept, until the next call.
 
-use super::{FIVE_NODES, START, answer_at, call_of, joined, let_go};
+use super::gate::{Beside, OPEN};
+use super::{Call, RUN, let_go, run_bench, sink_of};
 use cluster_run::Cluster;
 use std::sync::Wait;
 use std::thread::Threads;
-use ttp_base::{Memory, OpenGate};
 
-// Answers `sample` with this number of slots, and tells how many slots the cluster has done that is kept then.
-fn done_after<R: Threads + Wait + Sync + AllocGlobal>(
+// Whether the cluster that is kept after these words has done so many slots, if one is kept.
+fn is_done<R: Threads + Wait + Sync + AllocGlobal>(
     rt: &R,
-    slots: &str,
+    words: &[&str],
     kept: &mut Option<Cluster>,
-) -> Result<Option<u32>, Memory> {
-    let list = joined(rt, FIVE_NODES)?;
-    let words = ["sample", "list", slots, "7"];
-    let call = call_of(&words, &list, START);
-    let _answer = answer_at(rt, &call, &OpenGate::new(), kept)?;
+    due: Option<u32>,
+) -> bool {
+    let call = Call { words, ..RUN };
+    let Ok(mut out) = sink_of(rt.alloc(), &call) else {
+        return false;
+    };
+    if run_bench(rt, &call, &mut out, &Beside::new(OPEN), kept).is_none() {
+        return false;
+    }
     match kept {
-        Some(cluster) => Ok(Some(cluster.done())),
-        None => Ok(None),
+        Some(cluster) => due == Some(cluster.done()),
+        None => due.is_none(),
     }
 }
 
-fn keeps_until_the_next<R: Threads + Wait + Sync + AllocGlobal>(
-    rt: &R,
-    kept: &mut Option<Cluster>,
-) -> bool {
-    matches!(done_after(rt, "12", kept), Ok(Some(12)))
-        && matches!(done_after(rt, "0", kept), Ok(None))
-}
+const TWELVE: &[&str] = &["sample", "list", "12", "7"];
+
+const NONE: &[&str] = &["sample", "list", "0", "7"];
 
 #[test]
 fn the_cluster_is_kept(rt: HostRuntime) {
     let mut kept = None;
-    let keeps = keeps_until_the_next(&rt, &mut kept);
+    let keeps = is_done(&rt, TWELVE, &mut kept, Some(12)) && is_done(&rt, NONE, &mut kept, None);
     let_go(kept);
     assert!(rt; keeps);
 }
