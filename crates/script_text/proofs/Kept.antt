@@ -18,6 +18,7 @@ use Rattle.script_text.specs.Statement.{form_word_count}
 use Rattle.script_text.specs.Faults.{further_faults}
 use Rattle.script_text.specs.SoFar.{writes_at, CountsMore}
 use Rattle.script_text.specs.SoFar.{ReadsEvent, TakesStated, RefusesStated}
+use Rattle.std.specs.Prelude.{replicate}
 
 -- The faults of a line in turn: its spelling, its place after `slots`, and what it states.
 
@@ -76,6 +77,22 @@ not_write keyword.Read words k t of_event = refl
 
 pub event_form : (form : Keyword) → is_uncounted form ≡ true → is_event_form form ≡ true
 event_form form of_event = grind (arith, common_steps)
+
+-- Nothing was read.
+
+get_or-nothing : {X : Type 0} (n k : ℕ) → get_or {A = Option X} (replicate n None) k None ≡ None
+get_or-nothing n k = grind (arith, common_steps)
+
+pub StandsFor-nothing : (so_far : SoFar) (n : ℕ) → so_far.slots ≡ None → so_far.on.items ≡ replicate n None
+    → so_far.drift.items ≡ replicate n None → so_far.events ≡ [] → ((k t : ℕ) → writes_at so_far.writes k t ≡ 0)
+    → LinesStandFor so_far []
+StandsFor-nothing so_far n slots on drift events none = record {
+  slots = slots;
+  on = λ k. rw on (get_or-nothing n k);
+  drift = λ k. rw drift (get_or-nothing n k);
+  events = events;
+  writes = λ k t within. none k t;
+}
 
 -- One line more is kept.
 
