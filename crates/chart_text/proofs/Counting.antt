@@ -1,6 +1,6 @@
 -- Counting one item more.
-use Rattle.chart_text.proofs.Words.{◌≡◌, ℕ, ◌+◌, ◌<◌, ◌≤◌, ◌^◌, Bool, true, false, cond, List, [], ◌∷◌, length, get_or}
-use Rattle.chart_text.proofs.Words.{map, replicate, refl, sym, ap, ◌∙◌, arith, ◌==◌, get_or-replicate, length-replicate}
+use Rattle.chart_text.proofs.Words.{◌≡◌, ℕ, ◌+◌, ◌<◌, Bool, true, false, cond, List, [], ◌∷◌, length, get_or}
+use Rattle.chart_text.proofs.Words.{map, replicate, sym, ap, ◌∙◌, arith, ◌==◌, get_or-replicate, length-replicate}
 use Rattle.chart_text.proofs.Words.{as_count, count_by-le-length, below}
 use Rattle.std.specs.Prelude.{count_by}
 use Rattle.std.proofs.lemmas.List.{ext_get_or}

@@ -19,12 +19,12 @@ wide_cell_parts class title p q shown =
 
 -- an upright line
 pole_in_parts : (a b class quote d m x space y v height g n : List ℕ)
-    → (a ++ b) ++ class ++ (quote ++ d ++ m) ++ x ++ space ++ y ++ v ++ height ++ (quote ++ g ++ n)
+    → (a ++ b) ++ class ++ ((quote ++ d ++ m) ++ x) ++ (space ++ y) ++ (v ++ height) ++ (quote ++ g ++ n)
     ≡ (a ++ (b ++ class ++ quote) ++ (d ++ (m ++ x ++ space ++ y ++ v ++ height) ++ quote) ++ g) ++ n
 pole_in_parts a b class quote d m x space y v height g n = simp append_assoc refl
 
 pub pole_parts : (class x y height : List ℕ)
-    → codes "<path class=\"" ++ class ++ codes "\" d=\"M" ++ x ++ codes " " ++ y ++ codes "v" ++ height
+    → codes "<path class=\"" ++ class ++ (codes "\" d=\"M" ++ x) ++ (codes " " ++ y) ++ (codes "v" ++ height)
     ++ codes "\"/>\n"
     ≡ ended (codes "<path" ++ class_of class ++ attribute (codes "d") (codes "M" ++ x ++ codes " " ++ y
     ++ codes "v" ++ height) ++ codes "/>")
@@ -39,7 +39,7 @@ pub shown_parts : (front a b c d e f g h i j k m end feed : List ℕ)
 shown_parts front a b c d e f g h i j k m end feed = simp append_assoc refl
 
 -- what is told of a slot
-pub told_parts : (o a b c d e : List ℕ) → o ++ a ++ b ++ c ++ d ++ e ≡ o ++ (a ++ b ++ c ++ d ++ e)
+pub told_parts : (o a b c d e : List ℕ) → o ++ (a ++ b) ++ (c ++ d) ++ e ≡ o ++ (a ++ b ++ c ++ d ++ e)
 told_parts o a b c d e = simp append_assoc refl
 
 -- the title of a ground

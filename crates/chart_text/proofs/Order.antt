@@ -1,7 +1,7 @@
 -- Faults in their order, passed one after another.
-use Rattle.chart_text.proofs.Words.{◌≡◌, ◌≢◌, ℕ, ◌+◌, ◌<◌, ◌≤◌, Bool, true, false, ◌&&◌, cond, List, [], ◌∷◌, length}
-use Rattle.chart_text.proofs.Words.{refl, sym, ap, ◌∙◌, arith, subst, ◌==◌, nat_le, filter, and_parts, eq-eqb, ne_eqb}
-use Rattle.chart_text.proofs.Words.{nat_tests, length-filter, count_by-le-length, FaultTold, in_order_from, Size}
+use Rattle.chart_text.proofs.Words.{◌≡◌, ◌≢◌, ℕ, ◌+◌, ◌<◌, ◌≤◌, Bool, true, ◌&&◌, cond, List, [], ◌∷◌, length}
+use Rattle.chart_text.proofs.Words.{refl, sym, ap, ◌∙◌, arith, subst, ◌==◌, nat_le, and_parts, eq-eqb, ne_eqb}
+use Rattle.chart_text.proofs.Words.{length-filter, count_by-le-length, FaultTold, in_order_from, Size}
 use Rattle.chart_text.proofs.Words.{look_number, fault_look, IsSlotTally, faults_told_in, SameFrom, longest_text}
 use Rattle.std.proofs.lemmas.Bool.{le-leb, leb-true}
 use Rattle.std.proofs.Common.{max}

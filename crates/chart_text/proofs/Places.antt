@@ -1,5 +1,5 @@
 -- How far down the elements of a chart stand.
-use Rattle.chart_text.proofs.Words.{ℕ, ◌*◌, ◌<◌, ◌≤◌, ◌^◌, arith}
+use Rattle.chart_text.proofs.Words.{ℕ, ◌*◌, ◌≤◌}
 use Rattle.std.proofs.lemmas.Nat.{mul-le}
 
 pub bands_are_low : (high band most : ℕ) → high ≤ 708 → band ≤ most → high * band ≤ 708 * most

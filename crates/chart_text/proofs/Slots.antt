@@ -1,13 +1,13 @@
 -- Marked slots, one after another.
-use Rattle.chart_text.proofs.Words.{◌≡◌, ◌≢◌, ℕ, ◌+◌, ◌-◌, ◌<◌, ◌≤◌, Bool, true, false, cond, ◌&&◌, ◌||◌, List, [], ◌∷◌}
+use Rattle.chart_text.proofs.Words.{◌≡◌, ◌≢◌, ℕ, ◌+◌, ◌-◌, ◌<◌, ◌≤◌, Bool, true, false, cond, ◌&&◌, List, [], ◌∷◌}
 use Rattle.chart_text.proofs.Words.{◌++◌, length, get_or, take, drop, refl, sym, ap, ◌∙◌, arith, subst, replicate, ◌==◌}
-use Rattle.chart_text.proofs.Words.{nat_le, nat_lt, filter, Some, None, Option, list_any, eq-eqb, ne_eqb}
+use Rattle.chart_text.proofs.Words.{nat_le, nat_lt, filter, Some, None, list_any, eq-eqb, ne_eqb}
 use Rattle.chart_text.proofs.Words.{get_or-replicate, length-replicate, get_or-set_other, nat_tests, length-filter}
 use Rattle.chart_text.proofs.Words.{count_by-le-length, below, Piece, as_count, Span, is_tried, is_asked, shown_before}
 use Rattle.chart_text.proofs.Words.{has_mark, marked_slots}
 use Rattle.std.proofs.Common.{zero, suc}
 use Rattle.std.proofs.Common.{set, length-append, length-drop, inl, inr}
-use Rattle.std.specs.Prelude.{min, position}
+use Rattle.std.specs.Prelude.{position}
 use Rattle.std.specs.List.{position_or_len}
 use Rattle.std.proofs.Math.ListN.{get_or-eq_default, get_or-append}
 use Rattle.std.proofs.Math.Seq.{get_or-append_seam, take-append_seam}

@@ -1,5 +1,5 @@
 -- The first of some faults, and those behind it.
-use Rattle.chart_text.proofs.Words.{◌≡◌, Bool, true, false, List, [], ◌∷◌, drop, refl, sym, Option, Some, None, told_of}
+use Rattle.chart_text.proofs.Words.{◌≡◌, true, false, List, [], ◌∷◌, drop, refl, sym, Option, Some, None, told_of}
 use Rattle.chart_text.proofs.Words.{FaultTold}
 use Rattle.std.proofs.Common.{is_some}
 use Rattle.std.specs.Prelude.{IfSome, IsNone}

@@ -9,7 +9,7 @@ pub use Rattle.chart_text.specs.Looks.{does_harm, doing_word, fault_look, look_n
 pub use Rattle.chart_text.specs.Steps.{SameFrom, has_mark, longest_text, marked_slots}
 pub use Rattle.chart_text.specs.Walks.{IsSlotTally, IsSurvey}
 pub use Rattle.chart_text.specs.declared.size.Size.{Size}
-pub use Rattle.picture_text.proofs.Joined.{mark_parts, three_parts}
+pub use Rattle.picture_text.proofs.Joined.{mark_parts}
 pub use Rattle.picture_text.proofs.Pairs.{puts_both, puts_first, puts_one, puts_two}
 pub use Rattle.picture_text.proofs.Puts.{puts_below}
 pub use Rattle.picture_text.proofs.Rows.{one_more}

@@ -1,5 +1,5 @@
 -- The worst of one look more.
-use Rattle.chart_text.proofs.Words.{◌≡◌, ◌∙◌, ℕ, ◌+◌, Bool, Option, Some, cond, List, get_or, sym, ap, refl, ◌==◌}
+use Rattle.chart_text.proofs.Words.{◌≡◌, ◌∙◌, ℕ, ◌+◌, Option, Some, cond, List, get_or, ap, refl, ◌==◌}
 use Rattle.chart_text.proofs.Words.{worst_below, looks}
 use Rattle.std.proofs.Common.{add-one}
 use Rattle.chart_text.specs.declared.look.Look.{Look}

@@ -1,5 +1,5 @@
 -- Lines that were put, in the order of a chart.
-use Rattle.chart_text.proofs.Words.{◌≡◌, ℕ, ◌+◌, Bool, true, false, List, [], ◌∷◌, subst, sym, Result, OnOk}
+use Rattle.chart_text.proofs.Words.{◌≡◌, ℕ, ◌+◌, Bool, false, List, [], ◌∷◌, subst, sym, Result, OnOk}
 use Rattle.chart_text.proofs.Words.{flat_map, Output, WroteLines, Lines, lines_below, Puts, puts_below}
 use Rattle.std.proofs.Common.{Ok, Err, ◌↔◌}
 use Rattle.std.specs.Result.{IsOk, OnErr}

@@ -1,29 +1,17 @@
 //! The names of the rows of each band.
 #![tactic(auto, using(ttp_base::proofs::Room::room))]
 
-ghost use Rattle.std.specs.Prelude.{◌≡◌, ◌+◌, ◌*◌, ◌<◌, ◌≤◌, [], ◌++◌, length, map, codes, decimal};
+ghost use Rattle.std.specs.Prelude.{◌+◌, ◌≤◌, ◌++◌, map, codes, decimal};
 ghost use Rattle.ttp_base.specs.NodeSet.{below};
 ghost use Rattle.ttp_base.specs.Text.{lines_below};
 ghost use Rattle.picture_text.specs.Picture.{row_line};
 ghost use Rattle.picture_text.specs.Sheet.{Puts};
-ghost use Rattle.picture_text.specs.Window.{columns};
-ghost use Rattle.chart_text.specs.Chart.{row_names, row_names_at};
+ghost use Rattle.chart_text.specs.Chart.{row_names};
 ghost use Rattle.chart_text.specs.Columns.{chart_bands, chart_y};
 
-use crate::element::make_text_of;
 use crate::frame::{Frame, chart_bands, chart_y};
-use picture_text::{Sheet, close_text, columns, open_text_of};
-use ttp_base::{Line, Sink};
-
-fn make_node_name(line: &mut Line, nodes: u8, column: u32, node: u8)
-    requires { (4 ≤ nodes) × (nodes ≤ 24) }
-    ensures { line.new ≡ row_line (chart_y nodes column node + 15) (codes "node " ++ decimal node) }
-{
-    open_text_of(line, "row", 64, chart_y(nodes, column, node) + 15);
-    line.put_text("node ");
-    line.put_number(u64::from(node));
-    close_text(line);
-}
+use picture_text::{Sheet, columns, make_node_row, make_text_of};
+use ttp_base::Sink;
 
 // Writes the names of the nodes beside the band that begins with this column.
 #[tactic(auto, using(picture_text::proofs::Puts::puts))]
@@ -33,34 +21,24 @@ fn put_node_names<K: Sink>(nodes: u8, column: u32, sheet: &mut Sheet, out: &mut 
         (map (λ k. row_line (chart_y nodes column k + 15) (codes "node " ++ decimal k)) (below nodes)) }
 {
     for node in 0..nodes {
-        make_node_name(&mut sheet.line, nodes, column, node);
+        make_node_row(&mut sheet.line, chart_y(nodes, column, node) + 15, node);
         sheet.write(out);
     }
 }
 
-// Writes the names of all rows beside it.
-#[tactic(auto, using(picture_text::proofs::Puts::puts))]
-fn put_names_at<K: Sink>(nodes: u8, column: u32, sheet: &mut Sheet, out: &mut K)
-    requires { (4 ≤ nodes) × (nodes ≤ 24) }
-    ensures { Puts sheet.old.failed (K.output out.old) sheet.new.failed (K.output out.new)
-        (row_names_at nodes column) }
+// Writes the names of the rows of a band.
+fn put_names<K: Sink>(nodes: u8, band: u32, sheet: &mut Sheet, out: &mut K)
+    requires nodes { (4 ≤ nodes) × (nodes ≤ 24) }
+    requires band { band ≤ 20000 }
+    ensures { Puts sheet.old.failed (K.output out.old) sheet.new.failed (K.output out.new) (row_names nodes band) }
 {
+    let column = columns(nodes) * band;
     put_node_names(nodes, column, sheet, out);
     let y = chart_y(nodes, column, nodes);
     make_text_of(&mut sheet.line, "row", 64, y + 15, "worst");
     sheet.write(out);
     make_text_of(&mut sheet.line, "row", 64, y + 34, "hurt");
     sheet.write(out);
-}
-
-// Writes the names of the rows of a band.
-#[tactic(auto, using(picture_text::proofs::Puts::puts))]
-fn put_names<K: Sink>(nodes: u8, band: u32, sheet: &mut Sheet, out: &mut K)
-    requires nodes { (4 ≤ nodes) × (nodes ≤ 24) }
-    requires band { band ≤ 20000 }
-    ensures { Puts sheet.old.failed (K.output out.old) sheet.new.failed (K.output out.new) (row_names nodes band) }
-{
-    put_names_at(nodes, columns(nodes) * band, sheet, out);
 }
 
 /// Writes the names of the rows of all bands.

@@ -197,44 +197,6 @@ fn put_end<K: Sink>(frame: Frame, counts: &[u64; 252], sheet: &mut Sheet, out: &
     sheet.put(b"</svg>\n", out);
 }
 
-// Writes the chart of the marked slots.
-fn put_marked<K: Sink>(
-    campaign: &Campaign<'_>,
-    frame: Frame,
-    marks: &[bool],
-    survey: &Survey,
-    buffer: &mut Buffer,
-    out: &mut K,
-) -> Result<(), ChartFault>
-    requires readable { IsReadable campaign.now }
-    requires size { frame.size ≡ size_of_campaign campaign.now }
-    requires marks { length marks.now ≡ frame.size.slots }
-    requires shown { frame.many ≡ length (marked_slots marks.now) }
-    requires some { 1 ≤ frame.many }
-    requires many { survey.now.many ≡ length campaign.now.faults }
-    requires counts { survey.now.counts ≡ all_counts frame.size campaign.now.faults }
-    requires own { length campaign.now.own.text + length campaign.now.own.cost + 200 ≤ buffer.old.room }
-    requires test { length campaign.now.own.test_text + 300 ≤ buffer.old.room }
-    requires room { longest_text campaign.now.faults + 200 ≤ buffer.old.room }
-    ensures ok { OnOk result (WroteLines (K.output out.old) (K.output out.new)
-        (chart_of frame.size campaign.now.own (marked_slots marks.now) campaign.now.faults
-        (counts_sum (map (λ piece. piece.kept) campaign.now.pieces))
-        (counts_sum (map (λ piece. piece.broken) campaign.now.pieces)))) }
-    ensures failed { IfErr result (λ why. LeftOfChart why (marked_slots marks.now) (K.output out.old) (K.output out.new)
-        (chart_of frame.size campaign.now.own (marked_slots marks.now) campaign.now.faults
-        (counts_sum (map (λ piece. piece.kept) campaign.now.pieces))
-        (counts_sum (map (λ piece. piece.broken) campaign.now.pieces)))) }
-{
-    let mut sheet = Sheet::new();
-    put_head(campaign, frame, marks, survey.many, buffer, &mut sheet, out);
-    put_body(campaign, frame, marks, buffer, &mut sheet, out);
-    put_end(frame, &survey.counts, &mut sheet, out);
-    match sheet.end() {
-        Ok(()) => Ok(()),
-        Err(_) => Err(ChartFault::Failed),
-    }
-}
-
 // How much room the longest line with a text of the campaign takes.
 fn room_for(campaign: &Campaign<'_>, longest: usize) -> Option<usize>
     ensures own { IfSome result (λ room. length campaign.now.own.text + length campaign.now.own.cost + 200 ≤ room) }
@@ -279,7 +241,22 @@ fn put_with_room<K: Sink>(
     let Ok(mut buffer) = Buffer::with_room(alloc, room) else {
         return Err(ChartFault::Memory);
     };
-    put_marked(campaign, frame, marks, survey, &mut buffer, out)
+    let mut sheet = Sheet::new();
+    put_head(
+        campaign,
+        frame,
+        marks,
+        survey.many,
+        &mut buffer,
+        &mut sheet,
+        out,
+    );
+    put_body(campaign, frame, marks, &mut buffer, &mut sheet, out);
+    put_end(frame, &survey.counts, &mut sheet, out);
+    match sheet.end() {
+        Ok(()) => Ok(()),
+        Err(_) => Err(ChartFault::Failed),
+    }
 }
 
 // The nodes and slots of a campaign's runs.

@@ -16,13 +16,15 @@ ghost use Rattle.chart_text.specs.Steps.{SameFrom, longest_text, marked_slots};
 
 use crate::ahead::Ahead;
 use crate::buffer::Buffer;
-use crate::element::{close_wide_title, make_number_of, make_pole};
+use crate::element::{close_wide_title, make_pole};
 use crate::frame::{Frame, chart_corner, chart_x, chart_y};
 use crate::look::{LOOKS, Look, look_at, look_letter, look_text};
 use crate::marks::has_mark;
 use crate::square::put_fault;
 use crate::tally::{SlotTally, worst_look};
-use picture_text::{Corner, Sheet, close_cell, open_cell, open_title, place_beside};
+use picture_text::{
+    Corner, Sheet, close_cell, make_number_of, open_cell, open_title, place_beside, put_field,
+};
 use ttp_base::{Line, Sink};
 
 /// Where a column stands: its number, its slot, and the slot of the column before it, if there is one.
@@ -53,52 +55,32 @@ fn has_number(column: Column) -> bool
     }
 }
 
-// Makes the number of a slot.
-fn make_slot_number(line: &mut Line, nodes: u8, column: Column)
-    requires { (4 ≤ nodes) × (nodes ≤ 24) }
-    ensures { line.new ≡ text_line (class_of (codes "slot")) (chart_x nodes column.number + 10)
-        (chart_y nodes column.number 0 - 5) (decimal column.slot) }
-{
-    let x = chart_x(nodes, column.number) + 10;
-    let y = chart_y(nodes, column.number, 0) - 5;
-    make_number_of(line, "slot", x, y, u64::from(column.slot));
-}
-
-// Writes it, where the slot has one.
-#[tactic(auto, using(picture_text::proofs::Puts::puts))]
+// Writes the number of a slot, where it has one.
 fn put_number<K: Sink>(nodes: u8, column: Column, sheet: &mut Sheet, out: &mut K)
     requires { (4 ≤ nodes) × (nodes ≤ 24) }
     ensures { Puts sheet.old.failed (K.output out.old) sheet.new.failed (K.output out.new)
         (number_line nodes column.number column.before column.slot) }
 {
     if has_number(column) {
-        make_slot_number(&mut sheet.line, nodes, column);
+        let x = chart_x(nodes, column.number) + 10;
+        let y = chart_y(nodes, column.number, 0) - 5;
+        make_number_of(&mut sheet.line, "slot", x, y, u64::from(column.slot));
         sheet.write(out);
     }
 }
 
-// Makes the line before a column.
-fn make_gap(line: &mut Line, nodes: u8, column: Column)
-    requires { (4 ≤ nodes) × (nodes ≤ 24) }
-    ensures { line.new ≡ pole (codes "gap") (chart_x nodes column.number - 2) (chart_y nodes column.number 0)
-        (26 * nodes - 5) }
-{
-    let at = Corner {
-        x: chart_x(nodes, column.number) - 2,
-        y: chart_y(nodes, column.number, 0),
-    };
-    make_pole(line, "gap", at, 26 * u64::from(nodes) - 5);
-}
-
-// Writes it, where slots are left out.
-#[tactic(auto, using(picture_text::proofs::Puts::puts))]
+// Writes the line before a column, where slots are left out.
 fn put_gap<K: Sink>(nodes: u8, column: Column, sheet: &mut Sheet, out: &mut K)
     requires { (4 ≤ nodes) × (nodes ≤ 24) }
     ensures { Puts sheet.old.failed (K.output out.old) sheet.new.failed (K.output out.new)
         (gap_line nodes column.number column.before column.slot) }
 {
     if is_gap(column) {
-        make_gap(&mut sheet.line, nodes, column);
+        let at = Corner {
+            x: chart_x(nodes, column.number) - 2,
+            y: chart_y(nodes, column.number, 0),
+        };
+        make_pole(&mut sheet.line, "gap", at, 26 * u64::from(nodes) - 5);
         sheet.write(out);
     }
 }
@@ -114,8 +96,7 @@ fn put_look_told(line: &mut Line, counts: &[u64; 9], number: u8)
     if many != 0 {
         line.put_text(", ");
         line.put_text(look_text(look_at(number)));
-        line.put_text(" ");
-        line.put_number(many);
+        put_field(line, " ", many);
     }
 }
 
@@ -136,10 +117,8 @@ fn put_told(line: &mut Line, slot: u32, tally: &SlotTally)
     ensures text { line.new ≡ line.old ++ slot_told slot tally.now.many tally.now.counts }
     ensures short { length line.new ≤ length line.old + 332 }
 {
-    line.put_text("slot ");
-    line.put_number(u64::from(slot));
-    line.put_text(" faults ");
-    line.put_number(tally.many);
+    put_field(line, "slot ", u64::from(slot));
+    put_field(line, " faults ", tally.many);
     put_looks_told(line, &tally.counts);
 }
 
@@ -196,10 +175,7 @@ fn make_hurt(line: &mut Line, at: Corner, slot: u32, most: u8)
     ensures { line.new ≡ hurt_cell slot most at.x at.y }
 {
     open_cell(line);
-    line.put_text("none");
-    open_title(line);
-    line.put_text("slot ");
-    line.put_number(u64::from(slot));
+    put_field(line, "none\"><title>slot ", u64::from(slot));
     line.put_text(" most hurt by one fault: ");
     line.put_number(u64::from(most));
     close_wide_title(line, at);

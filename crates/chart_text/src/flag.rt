@@ -10,7 +10,7 @@ ghost use Rattle.chart_text.specs.Columns.{chart_x, chart_y};
 
 use crate::element::make_pole;
 use crate::frame::{chart_x, chart_y};
-use picture_text::{Corner, Sheet, close_text, open_text_of};
+use picture_text::{Corner, Sheet, close_text, open_text_of, put_field};
 use ttp_base::{Line, Sink};
 use ttp_world::{Back, Keep};
 use whole_campaign::Test;
@@ -31,29 +31,20 @@ pub(crate) fn test_slot(test: &Test) -> u32
     }
 }
 
-fn put_rule(line: &mut Line, letter: &str, rule: u8)
-    requires { (length line.old ≤ 600) × (length letter.now ≤ 1) }
-    ensures text { line.new ≡ line.old ++ letter.now ++ decimal rule }
-    ensures short { length line.new ≤ length line.old + 4 }
-{
-    line.put_text(letter);
-    line.put_number(u64::from(rule));
-}
-
 // Adds what the flag shows.
 fn put_name(line: &mut Line, test: &Test)
     requires { length line.old ≤ 600 }
     ensures text { line.new ≡ line.old ++ test_name test.now }
-    ensures short { length line.new ≤ length line.old + 5 }
+    ensures short { length line.new ≤ length line.old + 21 }
 {
     match test {
         Test::Keep(keep) => match keep {
             Keep::Yes { .. } => line.put_text("start"),
-            Keep::No { rule, .. } => put_rule(line, "H", *rule),
+            Keep::No { rule, .. } => put_field(line, "H", u64::from(*rule)),
         },
         Test::Back(back) => match back {
             Back::Yes { .. } => line.put_text("start"),
-            Back::No { rule, .. } => put_rule(line, "Q", *rule),
+            Back::No { rule, .. } => put_field(line, "Q", u64::from(*rule)),
         },
     }
 }
@@ -66,27 +57,8 @@ fn make_name(line: &mut Line, x: u64, y: u64, test: &Test)
     close_text(line);
 }
 
-// Writes the flag in this column.
-#[tactic(auto, using(picture_text::proofs::Puts::puts))]
-fn put_flag_in<K: Sink>(nodes: u8, column: u32, test: &Test, sheet: &mut Sheet, out: &mut K)
-    requires { (4 ≤ nodes) × (nodes ≤ 24) }
-    ensures { Puts sheet.old.failed (K.output out.old) sheet.new.failed (K.output out.new)
-        (test_flag nodes (Some column) test.now) }
-{
-    let x = chart_x(nodes, column);
-    let y = chart_y(nodes, column, 0);
-    let at = Corner {
-        x: x - 2,
-        y: y - 26,
-    };
-    make_pole(&mut sheet.line, "flag", at, 26 * u64::from(nodes) + 21);
-    sheet.write(out);
-    make_name(&mut sheet.line, x + 1, y - 17, test);
-    sheet.write(out);
-}
-
 /// Writes the flag, where its slot has a column.
-#[tactic(auto, using(picture_text::proofs::Puts::puts_then, picture_text::proofs::Puts::puts_none))]
+#[tactic(auto, using(picture_text::proofs::Puts::puts_none))]
 pub(crate) fn put_flag<K: Sink>(
     nodes: u8,
     column: Option<u32>,
@@ -99,6 +71,15 @@ pub(crate) fn put_flag<K: Sink>(
         (test_flag nodes column test.now) }
 {
     if let Some(column) = column {
-        put_flag_in(nodes, column, test, sheet, out);
+        let x = chart_x(nodes, column);
+        let y = chart_y(nodes, column, 0);
+        let at = Corner {
+            x: x - 2,
+            y: y - 26,
+        };
+        make_pole(&mut sheet.line, "flag", at, 26 * u64::from(nodes) + 21);
+        sheet.write(out);
+        make_name(&mut sheet.line, x + 1, y - 17, test);
+        sheet.write(out);
     }
 }

@@ -1,44 +1,57 @@
 //! The head of a chart: its size, its styles, and what the campaign comes to.
 #![tactic(auto, using(ttp_base::proofs::Room::room))]
 
-ghost use Rattle.std.specs.Prelude.{◌≡◌, ◌+◌, ◌^◌, ◌<◌, ◌≤◌, [], ◌∷◌, ◌++◌, length, get_or, map, codes, decimal};
+ghost use Rattle.std.specs.Prelude.{◌≡◌, ◌+◌, ◌≤◌, [], ◌++◌, length, codes};
 ghost use Rattle.whole_campaign.specs.Own.{own_of};
 ghost use Rattle.picture_text.specs.Cells.{title_element};
 ghost use Rattle.picture_text.specs.Picture.{ended, text_line, said_line};
 ghost use Rattle.picture_text.specs.Sheet.{Puts};
-ghost use Rattle.chart_text.specs.Chart.{chart_size, chart_svg, chart_title, look_style, other_styles, chart_styles};
+ghost use Rattle.chart_text.specs.Chart.{chart_size, chart_svg, chart_title, chart_styles};
 ghost use Rattle.chart_text.specs.Chart.{hidden_text, test_meaning, counts_told, counted_lines, own_lines, chart_front};
-ghost use Rattle.chart_text.specs.Looks.{looks};
 
 use crate::buffer::Buffer;
 use crate::element::put_many;
-use crate::look::{LOOKS, Look, look_at, look_colour, look_letter_colour, look_selector};
 use crate::size::Size;
 use crate::sums::Sums;
 use campaign::Counts;
-use picture_text::{Sheet, back_meaning, close_text, open_text, open_text_of, put_keep_meaning};
+use picture_text::{
+    Sheet, back_meaning, close_text, open_text, open_text_of, put_field, put_keep_meaning,
+};
 use ttp_base::{Line, Sink};
 use whole_campaign::{OwnLine, Test};
 
-// Adds the size of the chart.
-fn put_size(line: &mut Line, height: u64)
-    requires { length line.old ≤ 500 }
-    ensures text { line.new ≡ line.old ++ chart_size height }
-    ensures short { length line.new ≤ length line.old + 50 }
-{
-    line.put_text(" width=\"1236\" height=\"");
-    line.put_number(height);
-    line.put_text("\"");
-}
+// The lines of the styles, those of the looks in the order of the table.
+const STYLE_LINES: [&str; 18] = [
+    "<style>\n",
+    "text{font:12px DejaVu Sans Mono,Consolas,monospace}g text{text-anchor:middle;font-size:11px}\n",
+    ".same{fill:#e4edf3}.same text{fill:#5c7482}\n",
+    ".same.out{fill:#d6d6d6}.same.out text{fill:#505050}\n",
+    ".cost{fill:#92cbef}.cost text{fill:#000000}\n",
+    ".cost.out{fill:#ababab}.cost.out text{fill:#000000}\n",
+    ".late{fill:#e8e0a8}.late text{fill:#000000}\n",
+    ".hurt{fill:#f0a800}.hurt text{fill:#000000}\n",
+    ".split{fill:#d04a00}.split text{fill:#ffffff}\n",
+    ".torn{fill:#8a2fa0}.torn text{fill:#ffffff}\n",
+    ".dead{fill:#000000}.dead text{fill:#ffffff}\n",
+    ".send{fill:#b9ccd9}.receive,.jump{fill:#e4edf3}\n",
+    ".none rect{fill:#ffffff}.none text{fill:#666666;font-size:9px}\n",
+    ".row{text-anchor:end}.slot{text-anchor:middle;font-size:10px;fill:#444444}.said{font-weight:bold}\n",
+    ".many,.zero{text-anchor:end;font-size:10px}.zero{fill:#b0b0b0}.flag{stroke:#000000;pointer-events:none}.keep{font-size:10px}\n",
+    ".hurt{stroke:#f0a800}.split{stroke:#d04a00}.torn{stroke:#8a2fa0}.dead{stroke:#000000}g text{stroke:none}\n",
+    ".gap{stroke:#000000;stroke-dasharray:2;pointer-events:none}.key rect{fill:#ffffff;stroke:#808080}\n",
+    "</style>\n",
+];
 
 fn make_svg(line: &mut Line, height: u64)
     ensures { line.new ≡ chart_svg height }
 {
     line.clear();
-    line.put_text("<svg xmlns=\"http://www.w3.org/2000/svg\"");
-    put_size(line, height);
-    line.put_text(" viewBox=\"0 0 1236 ");
-    line.put_number(height);
+    put_field(
+        line,
+        "<svg xmlns=\"http://www.w3.org/2000/svg\" width=\"1236\" height=\"",
+        height,
+    );
+    put_field(line, "\" viewBox=\"0 0 1236 ", height);
     line.put_text("\">\n");
 }
 
@@ -46,120 +59,38 @@ fn make_title(line: &mut Line, size: Size)
     ensures { line.new ≡ chart_title size }
 {
     line.clear();
-    line.put_text("<title>ttplab campaign 1 nodes ");
-    line.put_number(u64::from(size.nodes));
-    line.put_text(" slots ");
-    line.put_number(u64::from(size.slots));
+    put_field(
+        line,
+        "<title>ttplab campaign 1 nodes ",
+        u64::from(size.nodes),
+    );
+    put_field(line, " slots ", u64::from(size.slots));
     line.put_text("</title>\n");
 }
 
-fn make_look_style(line: &mut Line, look: Look)
-    ensures { line.new ≡ look_style look }
-{
-    line.clear();
-    line.put_text(".");
-    line.put_text(look_selector(look));
-    line.put_text("{fill:");
-    line.put_text(look_colour(look));
-    line.put_text("}.");
-    line.put_text(look_selector(look));
-    line.put_text(" text{fill:");
-    line.put_text(look_letter_colour(look));
-    line.put_text("}\n");
-}
-
-// Writes the styles of the looks.
-#[tactic(auto, using(picture_text::proofs::Puts::puts_none, picture_text::proofs::Puts::puts_next))]
-fn put_look_styles<K: Sink>(sheet: &mut Sheet, out: &mut K)
-    ensures { Puts sheet.old.failed (K.output out.old) sheet.new.failed (K.output out.new) (map look_style looks) }
-{
-    for number in 0..LOOKS {
-        make_look_style(&mut sheet.line, look_at(number));
-        sheet.write(out);
-    }
-}
-
-// One of the styles behind those of the looks.
-fn other_style(number: u8) -> &'static str
-    ensures text { result.now ≡ get_or other_styles number [] }
-    ensures short { length result.now ≤ 140 }
-{
-    match number {
-        0 => ".send{fill:#b9ccd9}.receive,.jump{fill:#e4edf3}",
-        1 => ".none rect{fill:#ffffff}.none text{fill:#666666;font-size:9px}",
-        2 =>
-            ".row{text-anchor:end}.slot{text-anchor:middle;font-size:10px;fill:#444444}.said{font-weight:bold}",
-        3 =>
-            ".many,.zero{text-anchor:end;font-size:10px}.zero{fill:#b0b0b0}.flag{stroke:#000000;pointer-events:none}.keep{font-size:10px}",
-        4 =>
-            ".hurt{stroke:#f0a800}.split{stroke:#d04a00}.torn{stroke:#8a2fa0}.dead{stroke:#000000}g text{stroke:none}",
-        5 =>
-            ".gap{stroke:#000000;stroke-dasharray:2;pointer-events:none}.key rect{fill:#ffffff;stroke:#808080}",
-        _ => "",
-    }
-}
-
-fn make_other_style(line: &mut Line, number: u8)
-    ensures { line.new ≡ ended (get_or other_styles number []) }
-{
-    line.clear();
-    line.put_text(other_style(number));
-    line.put_text("\n");
-}
-
-// Writes these styles.
-#[tactic(auto, using(picture_text::proofs::Puts::puts_none, picture_text::proofs::Puts::puts_next))]
-fn put_other_styles<K: Sink>(sheet: &mut Sheet, out: &mut K)
-    ensures { Puts sheet.old.failed (K.output out.old) sheet.new.failed (K.output out.new) (map ended other_styles) }
-{
-    for number in 0..6 {
-        make_other_style(&mut sheet.line, number);
-        sheet.write(out);
-    }
-}
-
 // Writes all styles.
-#[tactic(auto, using(picture_text::proofs::Puts::puts))]
 fn put_styles<K: Sink>(sheet: &mut Sheet, out: &mut K)
     ensures { Puts sheet.old.failed (K.output out.old) sheet.new.failed (K.output out.new) chart_styles }
 {
-    sheet.put(b"<style>\n", out);
-    sheet.put(
-        b"text{font:12px DejaVu Sans Mono,Consolas,monospace}g text{text-anchor:middle;font-size:11px}\n",
-        out,
-    );
-    put_look_styles(sheet, out);
-    put_other_styles(sheet, out);
-    sheet.put(b"</style>\n", out);
+    sheet.put_lines(&STYLE_LINES, out);
 }
 
 fn make_ground(line: &mut Line, height: u64)
     ensures { line.new ≡ ended (codes "<rect" ++ chart_size height ++ codes " fill=\"#ffffff\"/>") }
 {
     line.clear();
-    line.put_text("<rect");
-    put_size(line, height);
-    line.put_text(" fill=\"#ffffff\"/>\n");
+    put_field(line, "<rect width=\"1236\" height=\"", height);
+    line.put_text("\" fill=\"#ffffff\"/>\n");
 }
 
-// Writes what stands before the styles.
-#[tactic(auto, using(picture_text::proofs::Puts::puts))]
-fn put_title<K: Sink>(size: Size, height: u64, sheet: &mut Sheet, out: &mut K)
-    ensures { Puts sheet.old.failed (K.output out.old) sheet.new.failed (K.output out.new)
-        (chart_svg height ∷ chart_title size ∷ []) }
+/// Writes the front of a chart of this height.
+pub(crate) fn put_front<K: Sink>(size: Size, height: u64, sheet: &mut Sheet, out: &mut K)
+    ensures { Puts sheet.old.failed (K.output out.old) sheet.new.failed (K.output out.new) (chart_front size height) }
 {
     make_svg(&mut sheet.line, height);
     sheet.write(out);
     make_title(&mut sheet.line, size);
     sheet.write(out);
-}
-
-/// Writes the front of a chart of this height.
-#[tactic(auto, using(picture_text::proofs::Puts::puts))]
-pub(crate) fn put_front<K: Sink>(size: Size, height: u64, sheet: &mut Sheet, out: &mut K)
-    ensures { Puts sheet.old.failed (K.output out.old) sheet.new.failed (K.output out.new) (chart_front size height) }
-{
-    put_title(size, height, sheet, out);
     put_styles(sheet, out);
     make_ground(&mut sheet.line, height);
     sheet.write(out);
@@ -172,8 +103,7 @@ pub(crate) fn put_hidden(line: &mut Line, hidden: Option<u32>)
     ensures short { length line.new ≤ length line.old + 60 }
 {
     if let Some(slot) = hidden {
-        line.put_text("; faults of slot ");
-        line.put_number(u64::from(slot));
+        put_field(line, "; faults of slot ", u64::from(slot));
         line.put_text(" hurt too");
     }
 }

@@ -1,19 +1,17 @@
 //! The key and the legend of a chart.
 #![tactic(auto, using(ttp_base::proofs::Room::room))]
 
-ghost use Rattle.std.specs.Prelude.{◌≡◌, ◌+◌, ◌*◌, ◌^◌, ◌<◌, ◌≤◌, [], ◌∷◌, ◌++◌, length, get_or, map, codes};
+ghost use Rattle.std.specs.Prelude.{◌≡◌, ◌^◌, ◌<◌, ◌≤◌, map};
 ghost use Rattle.ttp_base.specs.NodeSet.{below};
 ghost use Rattle.ttp_base.specs.Text.{lines_below};
-ghost use Rattle.picture_text.specs.Picture.{text_line};
 ghost use Rattle.picture_text.specs.Sheet.{Puts};
-ghost use Rattle.chart_text.specs.Key.{key_x, key_y, key_square, key_row, key_lines, look_x, look_y, look_entry, sender_entry};
+ghost use Rattle.chart_text.specs.Key.{key_x, key_y, key_square, key_lines, look_x, look_y, look_entry};
 ghost use Rattle.chart_text.specs.Key.{look_legend};
-ghost use Rattle.chart_text.specs.Looks.{look_meaning};
 
-use crate::element::{make_look_cell, make_mark, make_text, make_text_of};
+use crate::element::make_look_cell;
 use crate::kind::{key_said, squares_above, squares_left};
 use crate::look::{LOOKS, look_at, look_meaning};
-use picture_text::{Corner, Sheet, close_cell, put_place};
+use picture_text::{Corner, Sheet, close_cell, make_mark, make_text, make_text_of, put_place};
 use ttp_base::{Line, Sink};
 
 // The places of faults.
@@ -67,14 +65,14 @@ fn put_key_squares<K: Sink>(top: u64, sheet: &mut Sheet, out: &mut K)
     }
 }
 
-// Writes the names of its rows.
-#[tactic(auto, using(picture_text::proofs::Puts::puts))]
-fn put_key_rows<K: Sink>(top: u64, sheet: &mut Sheet, out: &mut K)
+/// Writes the key.
+pub(crate) fn put_key<K: Sink>(top: u64, sheet: &mut Sheet, out: &mut K)
     requires { top ≤ 2 ^ 31 }
-    ensures { Puts sheet.old.failed (K.output out.old) sheet.new.failed (K.output out.new)
-        (key_row top 48 (codes "AB") ∷ key_row top 68 (codes "A") ∷ key_row top 88 (codes "B")
-        ∷ key_row top 112 (codes "jump") ∷ []) }
+    ensures { Puts sheet.old.failed (K.output out.old) sheet.new.failed (K.output out.new) (key_lines top) }
 {
+    make_text(&mut sheet.line, 72, top + 8, "a node in a slot:");
+    sheet.write(out);
+    put_key_squares(top, sheet, out);
     make_text_of(&mut sheet.line, "row", 116, top + 48, "AB");
     sheet.write(out);
     make_text_of(&mut sheet.line, "row", 116, top + 68, "A");
@@ -83,33 +81,10 @@ fn put_key_rows<K: Sink>(top: u64, sheet: &mut Sheet, out: &mut K)
     sheet.write(out);
     make_text_of(&mut sheet.line, "row", 116, top + 112, "jump");
     sheet.write(out);
-}
-
-// Writes the names of its halves.
-#[tactic(auto, using(picture_text::proofs::Puts::puts))]
-fn put_key_halves<K: Sink>(top: u64, sheet: &mut Sheet, out: &mut K)
-    requires { top ≤ 2 ^ 31 }
-    ensures { Puts sheet.old.failed (K.output out.old) sheet.new.failed (K.output out.new)
-        (text_line [] 122 (top + 28) (codes "this slot alone")
-        ∷ text_line [] 248 (top + 28) (codes "to the end") ∷ []) }
-{
     make_text(&mut sheet.line, 122, top + 28, "this slot alone");
     sheet.write(out);
     make_text(&mut sheet.line, 248, top + 28, "to the end");
     sheet.write(out);
-}
-
-/// Writes the key.
-#[tactic(auto, using(picture_text::proofs::Puts::puts))]
-pub(crate) fn put_key<K: Sink>(top: u64, sheet: &mut Sheet, out: &mut K)
-    requires { top ≤ 2 ^ 31 }
-    ensures { Puts sheet.old.failed (K.output out.old) sheet.new.failed (K.output out.new) (key_lines top) }
-{
-    make_text(&mut sheet.line, 72, top + 8, "a node in a slot:");
-    sheet.write(out);
-    put_key_squares(top, sheet, out);
-    put_key_rows(top, sheet, out);
-    put_key_halves(top, sheet, out);
 }
 
 // Where the entry of a look stands.
@@ -125,20 +100,6 @@ fn look_corner(top: u64, number: u8) -> Corner
     }
 }
 
-// Writes the entry of a look.
-#[tactic(auto, using(picture_text::proofs::Puts::puts))]
-fn put_look_entry<K: Sink>(top: u64, number: u8, sheet: &mut Sheet, out: &mut K)
-    requires { top ≤ 2 ^ 31 }
-    ensures { Puts sheet.old.failed (K.output out.old) sheet.new.failed (K.output out.new) (look_entry top number) }
-{
-    let look = look_at(number);
-    let at = look_corner(top, number);
-    make_look_cell(&mut sheet.line, look, at);
-    sheet.write(out);
-    make_text(&mut sheet.line, at.x + 25, at.y + 13, look_meaning(look));
-    sheet.write(out);
-}
-
 // Writes the entries of all looks.
 #[tactic(auto, using(picture_text::proofs::Puts::puts_none, picture_text::proofs::Puts::puts_below))]
 fn put_look_entries<K: Sink>(top: u64, sheet: &mut Sheet, out: &mut K)
@@ -147,16 +108,22 @@ fn put_look_entries<K: Sink>(top: u64, sheet: &mut Sheet, out: &mut K)
         (lines_below (look_entry top) 9) }
 {
     for number in 0..LOOKS {
-        put_look_entry(top, number, sheet, out);
+        let look = look_at(number);
+        let at = look_corner(top, number);
+        make_look_cell(&mut sheet.line, look, at);
+        sheet.write(out);
+        make_text(&mut sheet.line, at.x + 25, at.y + 13, look_meaning(look));
+        sheet.write(out);
     }
 }
 
-// Writes the entry of the ground of a sender.
-#[tactic(auto, using(picture_text::proofs::Puts::puts))]
-fn put_sender_entry<K: Sink>(top: u64, sheet: &mut Sheet, out: &mut K)
+/// Writes the legend.
+pub(crate) fn put_legend<K: Sink>(top: u64, sheet: &mut Sheet, out: &mut K)
     requires { top ≤ 2 ^ 31 }
-    ensures { Puts sheet.old.failed (K.output out.old) sheet.new.failed (K.output out.new) (sender_entry top) }
+    ensures { Puts sheet.old.failed (K.output out.old) sheet.new.failed (K.output out.new)
+        (look_legend top) }
 {
+    put_look_entries(top, sheet, out);
     let at = Corner {
         x: 822,
         y: top + 103,
@@ -170,15 +137,4 @@ fn put_sender_entry<K: Sink>(top: u64, sheet: &mut Sheet, out: &mut K)
         "the node sends in this slot",
     );
     sheet.write(out);
-}
-
-/// Writes the legend.
-#[tactic(auto, using(picture_text::proofs::Puts::puts))]
-pub(crate) fn put_legend<K: Sink>(top: u64, sheet: &mut Sheet, out: &mut K)
-    requires { top ≤ 2 ^ 31 }
-    ensures { Puts sheet.old.failed (K.output out.old) sheet.new.failed (K.output out.new)
-        (look_legend top) }
-{
-    put_look_entries(top, sheet, out);
-    put_sender_entry(top, sheet, out);
 }

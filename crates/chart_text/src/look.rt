@@ -4,8 +4,7 @@
 ghost use Rattle.std.specs.Prelude.{◌≡◌, ◌≤◌, ◌<◌, get_or, length};
 ghost use Rattle.chart_text.specs.declared.look.Look.TheVariants as look;
 ghost use Rattle.chart_text.specs.Looks.{leaves_two, leaves_two_for_good, came_of, look_of, fault_look, is_harm, does_harm};
-ghost use Rattle.chart_text.specs.Looks.{looks, look_number, look_text, look_selector, look_letter, look_colour};
-ghost use Rattle.chart_text.specs.Looks.{look_letter_colour, look_meaning};
+ghost use Rattle.chart_text.specs.Looks.{looks, look_number, look_text, look_letter, look_meaning};
 
 use crate::size::Size;
 use whole_campaign::FaultShown;
@@ -156,19 +155,6 @@ pub(crate) fn look_text(look: Look) -> &'static str
 }
 
 // In the order of `Look`.
-const LOOK_SELECTORS: [&str; 9] = [
-    "same", "same.out", "cost", "cost.out", "late", "hurt", "split", "torn", "dead",
-];
-
-/// What a style names it by.
-pub(crate) fn look_selector(look: Look) -> &'static str
-    ensures text { result.now ≡ look_selector look }
-    ensures short { length result.now ≤ 8 }
-{
-    LOOK_SELECTORS[look as usize]
-}
-
-// In the order of `Look`.
 const LOOK_LETTERS: [&str; 9] = [".", "o", "c", "p", "e", "H", "S", "T", "X"];
 
 /// The letter that is shown for it.
@@ -177,34 +163,6 @@ pub(crate) fn look_letter(look: Look) -> &'static str
     ensures short { length result.now ≤ 1 }
 {
     LOOK_LETTERS[look as usize]
-}
-
-// In the order of `Look`.
-const LOOK_COLOURS: [&str; 9] = [
-    "#e4edf3", "#d6d6d6", "#92cbef", "#ababab", "#e8e0a8", "#f0a800", "#d04a00", "#8a2fa0",
-    "#000000",
-];
-
-/// Its colour.
-pub(crate) fn look_colour(look: Look) -> &'static str
-    ensures text { result.now ≡ look_colour look }
-    ensures short { length result.now ≤ 7 }
-{
-    LOOK_COLOURS[look as usize]
-}
-
-// In the order of `Look`.
-const LOOK_LETTER_COLOURS: [&str; 9] = [
-    "#5c7482", "#505050", "#000000", "#000000", "#000000", "#000000", "#ffffff", "#ffffff",
-    "#ffffff",
-];
-
-/// The colour of its letter.
-pub(crate) fn look_letter_colour(look: Look) -> &'static str
-    ensures text { result.now ≡ look_letter_colour look }
-    ensures short { length result.now ≤ 7 }
-{
-    LOOK_LETTER_COLOURS[look as usize]
 }
 
 // In the order of `Look`.

@@ -14,10 +14,10 @@ ghost use Rattle.chart_text.specs.Key.{many_class, count_line, kind_lines, many_
 ghost use Rattle.chart_text.specs.Key.{kind_number};
 ghost use Rattle.chart_text.specs.Looks.{looks, kind_said, doing_word};
 
-use crate::element::{make_look_cell, make_number_of, make_text_of};
+use crate::element::make_look_cell;
 use crate::kind::{doing_word, first_place, kind_number, many_places, put_kind};
 use crate::look::{LOOKS, look_at};
-use picture_text::{Corner, Sheet, close_text, open_text};
+use picture_text::{Corner, Sheet, close_text, make_number_of, make_text_of, open_text};
 use ttp_base::{Line, Sink};
 use whole_campaign::Doing;
 
@@ -38,26 +38,14 @@ fn count_of(counts: &[u64; 252], kind: u16, number: u8) -> u64
     }
 }
 
-// Makes the number of faults of a kind that have a look.
-fn make_count(line: &mut Line, many: u64, at: Corner, number: u8)
-    requires { at.x ≤ 2 ^ 31 }
-    ensures { line.new ≡ text_line (class_of (many_class many)) (at.x + 152 + 30 * number) at.y (decimal many) }
-{
-    make_number_of(
-        line,
-        many_class(many),
-        at.x + 152 + 30 * u64::from(number),
-        at.y,
-        many,
-    );
-}
-
-// Makes it of these counts.
-fn make_count_of(line: &mut Line, counts: &[u64; 252], at: Corner, kind: u16, number: u8)
+// Makes it.
+fn make_count(line: &mut Line, counts: &[u64; 252], at: Corner, kind: u16, number: u8)
     requires { at.x ≤ 2 ^ 31 }
     ensures { line.new ≡ count_line counts.now at.x at.y kind number }
 {
-    make_count(line, count_of(counts, kind, number), at, number);
+    let many = count_of(counts, kind, number);
+    let x = at.x + 152 + 30 * u64::from(number);
+    make_number_of(line, many_class(many), x, at.y, many);
 }
 
 // Writes these numbers for each look.
@@ -68,7 +56,7 @@ fn put_counts<K: Sink>(counts: &[u64; 252], at: Corner, kind: u16, sheet: &mut S
         (map (count_line counts.now at.x at.y kind) (below 9)) }
 {
     for number in 0..LOOKS {
-        make_count_of(&mut sheet.line, counts, at, kind, number);
+        make_count(&mut sheet.line, counts, at, kind, number);
         sheet.write(out);
     }
 }
@@ -101,18 +89,6 @@ fn put_kind_row<K: Sink>(
     put_counts(counts, at, kind_number(doing, place), sheet, out);
 }
 
-// Where the row of a place stands.
-fn row_corner(top: u64, x: u64, number: u8) -> Corner
-    requires { (top ≤ 2 ^ 31) × (x ≤ 2 ^ 31) }
-    ensures x { result.x ≡ x }
-    ensures y { result.y ≡ top + 165 + 14 * number }
-{
-    Corner {
-        x,
-        y: top + 165 + 14 * u64::from(number),
-    }
-}
-
 // Writes the rows of a word.
 #[tactic(auto, using(picture_text::proofs::Puts::puts))]
 fn put_kind_rows<K: Sink>(
@@ -128,21 +104,12 @@ fn put_kind_rows<K: Sink>(
         (lines_below (λ j. kind_lines counts.now doing x (top + 165 + 14 * j) (first_place doing + j)) (many_places doing)) }
 {
     for number in 0..many_places(doing) {
-        let at = row_corner(top, x, number);
+        let at = Corner {
+            x,
+            y: top + 165 + 14 * u64::from(number),
+        };
         put_kind_row(counts, doing, at, first_place(doing) + number, sheet, out);
     }
-}
-
-// Makes the cell of a look in the head of a part.
-fn make_head_cell(line: &mut Line, top: u64, x: u64, number: u8)
-    requires { (top ≤ 2 ^ 31) × (x ≤ 2 ^ 31) }
-    ensures { line.new ≡ look_cell (get_or looks number look.Same) (x + 133 + 30 * number) (top + 136) }
-{
-    let at = Corner {
-        x: x + 133 + 30 * u64::from(number),
-        y: top + 136,
-    };
-    make_look_cell(line, look_at(number), at);
 }
 
 // Writes the head of the part of a word.
@@ -153,7 +120,11 @@ fn put_part_head<K: Sink>(top: u64, x: u64, sheet: &mut Sheet, out: &mut K)
         (map (λ i. look_cell (get_or looks i look.Same) (x + 133 + 30 * i) (top + 136)) (below 9)) }
 {
     for number in 0..LOOKS {
-        make_head_cell(&mut sheet.line, top, x, number);
+        let at = Corner {
+            x: x + 133 + 30 * u64::from(number),
+            y: top + 136,
+        };
+        make_look_cell(&mut sheet.line, look_at(number), at);
         sheet.write(out);
     }
 }

@@ -11,12 +11,7 @@ pub between_parts : (o a p m n q k : List ℕ)
     → o ++ a ++ p ++ (m ++ n) ++ q ++ k ≡ o ++ (a ++ p ++ m ++ n ++ q ++ k)
 between_parts o a p m n q k = simp append_assoc refl
 
--- an element that ends with an attribute
-pub element_parts : (a s b d quote g n : List ℕ)
-    → a ++ s ++ b ++ d ++ (quote ++ g ++ n) ≡ a ++ s ++ (b ++ d ++ quote) ++ g ++ n
-element_parts a s b d quote g n = simp append_assoc refl
-
--- one with a number in two of its attributes
+-- an element with a number in two of its attributes
 pub twice_parts : (a w d q v g n : List ℕ)
     → (a ++ w ++ d) ++ (q ++ v ++ d) ++ (q ++ g ++ n) ≡ a ++ (w ++ d ++ q) ++ (v ++ d ++ q) ++ g ++ n
 twice_parts a w d q v g n = simp append_assoc refl
@@ -27,7 +22,7 @@ pub text_parts : (front head a b c d more end feed : List ℕ)
     ≡ front ++ (head ++ a ++ b ++ c ++ d ++ more) ++ end ++ feed
 text_parts front head a b c d more end feed = simp append_assoc refl
 
--- one whose last attribute is a number behind its label
+-- an element whose last attribute is a number behind its label
 pub box_parts : (a s b d quote g n : List ℕ)
     → a ++ s ++ (b ++ d) ++ (quote ++ g ++ n) ≡ a ++ s ++ (b ++ d ++ quote) ++ g ++ n
 box_parts a s b d quote g n = simp append_assoc refl

@@ -1,4 +1,4 @@
-use Rattle.chart_text.proofs.Words.{◌+◌, ◌-◌, ◌++◌, codes, decimal, get_or, length, place_attributes, newline}
+use Rattle.chart_text.proofs.Words.{◌-◌, ◌++◌, codes, decimal, get_or, length, place_attributes, newline}
 use Rattle.chart_text.proofs.Words.{marked_slots}
 use Rattle.chart_text.specs.Chart.{hidden_text}
 use Rattle.chart_text.proofs.Joined.{shown_parts}

@@ -1,6 +1,5 @@
-use Rattle.chart_text.proofs.Words.{◌∙◌, ◌&&◌, [], ap, ℕ, List, length, map, Piece, counts_sum, puts_both, puts_first}
+use Rattle.chart_text.proofs.Words.{◌∙◌, ◌&&◌, [], ap, List, map, Piece, counts_sum, puts_both, puts_first}
 use Rattle.chart_text.proofs.Words.{first_told_slot, is_hidden, does_harm, marked_slots}
-use Rattle.campaign.specs.declared.cost.Counts.{Counts}
 use Rattle.picture_text.specs.Picture.{text_line}
 use Rattle.chart_text.specs.Chart.{chart_front, slots_shown_text, own_lines, counted_lines}
 use Rattle.chart_text.specs.Columns.{chart_height}

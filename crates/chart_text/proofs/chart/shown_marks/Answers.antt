@@ -1,4 +1,4 @@
-use Rattle.chart_text.proofs.Words.{◌≡◌, ◌∙◌, ℕ, length, ap, arith, first_told_slot, does_harm, marked_slots, Size}
+use Rattle.chart_text.proofs.Words.{◌≡◌, ◌∙◌, length, ap, arith, first_told_slot, does_harm, marked_slots, Size}
 use Rattle.chart_text.specs.Columns.{tried_slots, shown_among}
 use Rattle.chart_text.proofs.Slots.{written-over}
 use Rattle.chart_text.proofs.chart.shown_marks.Goals as goal

@@ -9,14 +9,11 @@ returns c =
       c.close_cell.ensures,
       c.put_hurt_shown.ensures.text,
       c.close_wide_title.ensures.text,
-      c.put_number-2.ensures,
-      c.from-2.ensures,
-      c.put_text-3.ensures,
       c.put_number.ensures,
-      c.from.ensures,
-      c.put_text-2.ensures,
-      c.open_title.ensures.text,
+      c.from-2.ensures,
       c.put_text.ensures,
+      c.put_field.ensures.text,
+      c.from.ensures,
       c.open_cell.ensures,
     )
     (wide_cell_parts (codes "none")

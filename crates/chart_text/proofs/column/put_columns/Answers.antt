@@ -1,4 +1,4 @@
-use Rattle.chart_text.proofs.Words.{◌≡◌, ◌<◌, ◌+◌, ◌∙◌, ap, sym, refl, subst, ℕ, List, length, get_or, arith, FaultTold}
+use Rattle.chart_text.proofs.Words.{◌≡◌, ◌<◌, ◌+◌, ◌∙◌, ap, sym, subst, ℕ, length, get_or, arith}
 use Rattle.chart_text.proofs.Words.{in_order_from, column_lines, column_of, shown_before, faults_told_in, SameFrom}
 use Rattle.chart_text.proofs.Words.{longest_text, marked_slots}
 use Rattle.picture_text.specs.declared.sheet.Sheet.{Sheet}

@@ -1,4 +1,4 @@
-use Rattle.chart_text.proofs.Words.{◌∙◌, ◌+◌, ap, sym, refl, subst, drop, List, length, arith, told_of, FaultTold}
+use Rattle.chart_text.proofs.Words.{◌∙◌, ◌+◌, ap, refl, subst, drop, List, arith, told_of, FaultTold}
 use Rattle.chart_text.proofs.Words.{faults_told_in, shown_fault, look_number, fault_look, IsSlotTally}
 use Rattle.chart_text.proofs.Counting.{counted-few}
 use Rattle.chart_text.proofs.Order.{passed-few, passed-same, passed-order_from, passed-here, none-left, few-of-slot, tally-whole}

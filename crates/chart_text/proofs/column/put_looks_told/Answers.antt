@@ -1,4 +1,4 @@
-use Rattle.chart_text.proofs.Words.{◌≤◌, ◌+◌, ◌++◌, ◌∙◌, ap, sym, List, ℕ, length, arith, append_assoc, flat_map, below}
+use Rattle.chart_text.proofs.Words.{◌++◌, ◌∙◌, ap, sym, List, ℕ, arith, append_assoc, flat_map, below}
 use Rattle.chart_text.proofs.Words.{look_told}
 use Rattle.ttp_base.proofs.Below.{flat_map-next}
 use Rattle.chart_text.proofs.column.put_looks_told.Goals as goal

@@ -1,4 +1,4 @@
-use Rattle.chart_text.proofs.Words.{◌++◌, codes, decimal, flat_map, below, look_told}
+use Rattle.chart_text.proofs.Words.{codes, decimal, flat_map, below, look_told}
 use Rattle.chart_text.proofs.Joined.{told_parts}
 use Rattle.chart_text.proofs.column.put_told.Goals as goal
 
@@ -6,11 +6,9 @@ pub returns-clause-text : goal.returns-clause-text
 returns-clause-text c =
     rw (
       c.put_looks_told.ensures.text,
-      c.put_number-2.ensures,
-      c.put_text-2.ensures,
-      c.put_number.ensures,
+      c.put_field-2.ensures.text,
+      c.put_field.ensures.text,
       c.from.ensures,
-      c.put_text.ensures,
     )
     (told_parts c.args.line.now (codes "slot ") (decimal c.args.slot) (codes " faults ")
     (decimal c.args.tally.now.many) (flat_map (look_told c.args.tally.now.counts) (below 9)))

@@ -11,11 +11,10 @@ returns c =
       c.look_letter.ensures.text,
       c.close_wide_title.ensures.text,
       c.put_text-2.ensures,
-      c.look_text-2.ensures.text,
       c.open_title.ensures.text,
       c.put_text.ensures,
-      c.look_text.ensures.text,
       c.open_cell.ensures,
+      c.look_text-name.ensures.text,
     )
     (wide_cell_parts (look_text c.args.look) (look_text c.args.look) (place_attributes c.args.at.x c.args.at.y)
     (place_attributes (c.args.at.x + 9) (c.args.at.y + 13)) (look_letter c.args.look))

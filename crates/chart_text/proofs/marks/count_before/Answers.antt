@@ -1,4 +1,4 @@
-use Rattle.chart_text.proofs.Words.{◌+◌, ◌∙◌, ap, sym, ℕ, Bool, arith, as_count, has_mark, one-small}
+use Rattle.chart_text.proofs.Words.{◌+◌, ◌∙◌, ap, sym, arith, as_count, has_mark, one-small}
 use Rattle.chart_text.proofs.Slots.{count-next}
 use Rattle.chart_text.proofs.marks.count_before.Goals as goal
 

@@ -1,4 +1,4 @@
-use Rattle.chart_text.proofs.Words.{◌≡◌, ◌≢◌, ◌+◌, ◌<◌, ◌∙◌, ap, sym, ℕ, Bool, false, get_or, length, arith}
+use Rattle.chart_text.proofs.Words.{◌≢◌, ◌+◌, ◌<◌, ◌∙◌, sym, false, get_or, length, arith}
 use Rattle.chart_text.proofs.Words.{get_or-set_other, as_count, has_mark, one-small}
 use Rattle.chart_text.proofs.Slots.{count-next, kept-next}
 use Rattle.chart_text.proofs.marks.keep_from.Goals as goal

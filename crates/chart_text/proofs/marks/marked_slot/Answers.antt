@@ -1,4 +1,4 @@
-use Rattle.chart_text.proofs.Words.{◌≡◌, ◌<◌, ◌+◌, ◌&&◌, ◌∙◌, ap, sym, ℕ, Bool, get_or, length, arith, and_parts, ◌==◌}
+use Rattle.chart_text.proofs.Words.{◌+◌, ◌∙◌, ap, sym, ℕ, get_or, arith, and_parts, ◌==◌}
 use Rattle.chart_text.proofs.Words.{as_count, has_mark, marked_slots, one-small}
 use Rattle.std.proofs.lemmas.Bool.{eqb-true}
 use Rattle.chart_text.proofs.Slots.{count-next, marked-at, low-next}

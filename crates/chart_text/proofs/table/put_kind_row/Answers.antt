@@ -1,4 +1,4 @@
-use Rattle.chart_text.proofs.Words.{ℕ, map, below, puts_first}
+use Rattle.chart_text.proofs.Words.{puts_first}
 use Rattle.chart_text.proofs.table.put_kind_row.Goals as goal
 
 pub returns : goal.returns

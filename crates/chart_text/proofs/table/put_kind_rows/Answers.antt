@@ -9,7 +9,7 @@ loop-number-preserved g c =
     (λ (j : ℕ). kind_lines c.args.counts.now c.args.doing c.args.x (c.args.top + 165 + 14 * j)
     (first_place c.args.doing + j))
     c.loop-number.number c.loop-number.invariant
-    (rw (c.row_corner-at.ensures.x, c.row_corner-at.ensures.y, c.first_place.ensures.value) at c.put_kind_row.ensures)
+    (rw (c.first_place.ensures.value, c.from.ensures) at c.put_kind_row.ensures)
 
 pub returns : goal.returns
 returns g c =

@@ -1,7 +1,0 @@
-use Rattle.chart_text.proofs.Words.{puts_two}
-use Rattle.chart_text.proofs.flag.put_flag_in.Goals as goal
-
-pub returns : goal.returns
-returns g c =
-    puts_two (rw (c.from.ensures, c.chart_x-x.ensures.value, c.chart_y-y.ensures.value) at c.make_pole.ensures)
-    (rw (c.chart_x-x.ensures.value, c.chart_y-y.ensures.value) at c.make_name.ensures) c.write.ensures c.write-2.ensures

@@ -1,5 +1,0 @@
-use Rattle.chart_text.proofs.Words.{puts_two}
-use Rattle.chart_text.proofs.key.put_sender_entry.Goals as goal
-
-pub returns : goal.returns
-returns g c = puts_two c.make_mark.ensures c.make_text.ensures c.write.ensures c.write-2.ensures
