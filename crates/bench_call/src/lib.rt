@@ -11,7 +11,8 @@
 //! bench(rt, rt.alloc(), words, library, out, gate, kept)
 //! ```
 //!
-//! The crate has this one call, and says nothing of a form but in its contract.
+//! The crate has this one call, and says nothing of a form but in its contract. [`let_go`] of ttp_top lets go
+//! a cluster that it kept.
 #![tactic(auto)]
 
 ghost use Rattle.std.specs.Prelude.{◌≡◌, ◌==◌, ◌&&◌, ℕ, List, Some, is_some};
@@ -31,6 +32,7 @@ use std::alloc::Global;
 use std::sync::Wait;
 use std::thread::Threads;
 use ttp_base::{Gate, Library, Sink};
+pub use ttp_top::let_go;
 use ttp_top::obey;
 
 /// Runs the command that the words spell, and answers its status. The words are those after the

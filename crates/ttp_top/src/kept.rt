@@ -4,9 +4,9 @@ ghost use Rattle.ttp_top.specs.Calls.Answer.{kept_after};
 
 use cluster_run::Cluster;
 
-/// Lets go what is kept. A function of its own, since what a cluster holds is let go part by part in each function
+/// Lets go what a call kept. A function of its own, since what a cluster holds is let go part by part in each function
 /// that may do so.
-pub(crate) fn let_go(_kept: Option<Cluster>) {}
+pub fn let_go(_kept: Option<Cluster>) {}
 
 /// Keeps a cluster after status 0, and lets it go after any other.
 pub(crate) fn keep_after(status: u8, cluster: Cluster, kept: &mut Option<Cluster>)

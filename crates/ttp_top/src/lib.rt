@@ -44,3 +44,4 @@ mod verify;
 mod words;
 
 pub use call::obey;
+pub use kept::let_go;

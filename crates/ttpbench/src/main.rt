@@ -6,7 +6,7 @@
 //! and streams behind them are trusted; the rest is `bench`, which is proved.
 #![tactic(auto)]
 
-use bench_call::bench;
+use bench_call::{bench, let_go};
 use std::env::Env;
 use std::io::{BufWriter, Print};
 use std::process::ExitCode;
@@ -51,6 +51,7 @@ fn status_of<R: Files + Print + Threads + Wait + Sync + AllocGlobal>(
     let mut library = FileLibrary::new(rt);
     let mut out = StreamSink::new(buffered);
     let gate = OpenGate::new();
+    let mut kept = None;
     let status = bench(
         rt,
         rt.alloc(),
@@ -58,7 +59,8 @@ fn status_of<R: Files + Print + Threads + Wait + Sync + AllocGlobal>(
         &mut library,
         &mut out,
         &gate,
-        &mut None,
+        &mut kept,
     );
+    let_go(kept);
     if out.end().is_ok() { status } else { 6 }
 }

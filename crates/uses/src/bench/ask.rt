@@ -5,14 +5,13 @@ ghost use Rattle.commands.specs.Plan.{outside};
 ghost use Rattle.commands.specs.Words.{texts_of};
 ghost use Rattle.uses.specs.Asked.{IsAnswered};
 
-use bench_call::bench;
+use bench_call::{bench, let_go};
 use std::alloc::Global;
 use std::sync::Wait;
 use std::thread::Threads;
 use ttp_base::{MemoryLibrary, MemorySink, OpenGate};
 
-/// The status of `bench`, behind an open gate and with no cluster kept. A function of its own, since a cluster is
-/// let go part by part.
+/// The status of `bench`, behind an open gate. The cluster that it keeps is let go.
 pub(crate) fn ask<R: Threads + Wait + Sync>(
     rt: &R,
     alloc: Global,
@@ -24,5 +23,8 @@ pub(crate) fn ask<R: Threads + Wait + Sync>(
         (outside (library_files library.new) (sink_output out.new)) result }
 {
     let gate = OpenGate::new();
-    bench(rt, alloc, words, library, out, &gate, &mut None)
+    let mut kept = None;
+    let status = bench(rt, alloc, words, library, out, &gate, &mut kept);
+    let_go(kept);
+    status
 }

@@ -5,6 +5,16 @@ use Rattle.commands.proofs.Loads.{said}
 use Rattle.ttp_top.proofs.Calls.Asked.{plan_of-told}
 use Rattle.ttp_top.proofs.call.obey.Goals as goal
 
+pub returns-in-Schedule-clause-follows : goal.returns-in-Schedule-clause-follows
+returns-in-Schedule-clause-follows g c =
+    rw (sym c.in-Schedule.ensures.form, c.take.ensures.after) c.schedule.ensures
+
+pub returns-in-Run-clause-follows : goal.returns-in-Run-clause-follows
+returns-in-Run-clause-follows g c = rw (sym c.in-Run.ensures.form) c.run.ensures
+
+pub returns-in-Sample-clause-follows : goal.returns-in-Sample-clause-follows
+returns-in-Sample-clause-follows g c = rw (sym c.in-Sample.ensures.form) c.sample.ensures
+
 pub returns-in-Ask-clause-follows : goal.returns-in-Ask-clause-follows
 returns-in-Ask-clause-follows g c =
     let is = sym (plan_of-told c.in-Ask.list.now c.in-Ask.script.now c.in-Ask.question) ∙ ap plan_of c.in-Ask.ensures.form in
