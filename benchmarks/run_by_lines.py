@@ -2,7 +2,7 @@
 """Times runs whose scripts have 50,000 `error` lines, beside the same runs without them.
 
 In one kind of script each line covers all 20,000 slots, in the other one slot. Two lines each add up to 0, so that the
-trace is that of the run without them, for 4 and for 24 nodes without payload. It builds a program over ttp_top, whose
+trace is that of the run without them, for 4 and for 24 nodes without payload. It builds a program over bench_call, whose
 sink takes the bytes away with no call of the system, and prints the milliseconds to read the script and the nanoseconds
 of a slot: by how long a processor was at work, the least of some runs. It prints figures alone; nothing passes or fails
 here. A path given to it is that of the program that it would build.

@@ -16,6 +16,7 @@ TIMED = """//! Reads, tests and runs a script without the writing: the words are
 ghost use Rattle.std.specs.Prelude.{◌≤◌, length};
 ghost use Rattle.ttp_world.specs.Medl.{IsValid};
 
+use bench_call::bench;
 use hypothesis::keeps;
 use medl_text::read_medl;
 use script_text::read_script;
@@ -28,7 +29,6 @@ use std::sync::Wait;
 use std::thread::Threads;
 use std::{env, fs, io};
 use ttp_base::{List, MemoryLibrary, OpenGate, StreamSink};
-use ttp_top::bench;
 use ttp_world::{Keep, Medl};
 
 // How many times the script is read, and tested.
@@ -121,7 +121,7 @@ fn is_run<R: Threads + Wait + Sync + AllocGlobal>(rt: &R, list: &[u8], text: &[u
 
 def timing_program(folder):
     """The program above, built over a copy of the crates below it."""
-    return rattle_program(folder, "run_speed", "ttp_base ttp_world medl_text script_text hypothesis ttp_top", TIMED)
+    return rattle_program(folder, "run_speed", "ttp_base ttp_world medl_text script_text hypothesis bench_call", TIMED)
 
 
 def list_text(kinds, data, *, drift=0, error=0, window=1, schedule=0, starters=(0,)):
