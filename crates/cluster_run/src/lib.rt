@@ -22,8 +22,9 @@
 //! cluster.run(rt, &mut writer, out, gate)
 //! ```
 //!
-//! A slot costs its nodes and its hosts' lines, and one with reads takes memory for what they get. A cluster is a
-//! plain value that may go to another thread; while a slot is under way its threads share the rings alone.
+//! A slot costs its nodes and its hosts' lines, and one with reads takes memory for what they get, and to cut the
+//! nodes in halves. A cluster is a plain value that may go to another thread; while a slot is under way its threads
+//! share the rings alone.
 #![tactic(auto)]
 
 mod beside;
