@@ -8,5 +8,6 @@ mod laws;
 mod lines;
 mod pictures;
 mod small;
+mod texts;
 mod traces;
 mod waves;

@@ -48,3 +48,8 @@ pub(crate) fn answer<R: AllocGlobal + Threads + Sync>(
     };
     Some(lab(rt, alloc, &words, &mut library, out))
 }
+
+/// A text of bytes, which is empty where they are none.
+pub(crate) fn text_of(bytes: &[u8]) -> &str {
+    str::from_utf8(bytes).unwrap_or("")
+}

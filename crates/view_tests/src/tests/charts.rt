@@ -1,8 +1,8 @@
 //! A campaign over one node in one slot, and its chart. The lines come from the description of the format.
+use super::calls::text_of;
 use super::pictures::has_lines;
 use chart_text::put_chart;
 use std::alloc::Global;
-use std::str;
 use ttp_base::{List, MemorySink};
 use whole_campaign::{Campaign, FaultLine, Faults, Piece, Pieces, read_campaign};
 
@@ -42,10 +42,8 @@ const LINES: &[&str] = &[
 ];
 
 fn is_chart(bytes: &[u8]) -> bool {
-    match str::from_utf8(bytes) {
-        Ok(text) => text.starts_with(HEAD) && has_lines(text, LINES) && text.ends_with("</svg>\n"),
-        Err(_) => false,
-    }
+    let text = text_of(bytes);
+    text.starts_with(HEAD) && has_lines(text, LINES) && text.ends_with("</svg>\n")
 }
 
 fn has_chart(alloc: Global) -> bool {

@@ -1,6 +1,6 @@
 //! Each command once, and sinks that fail at the first lines. What refuses a call is compared where the real
 //! program runs.
-use super::calls::{Call, answer, sink_of};
+use super::calls::{Call, answer, sink_of, text_of};
 use std::thread::Threads;
 
 // Five nodes, of which node 0 starts in slot 10.
@@ -62,25 +62,19 @@ fn has_front<R: AllocGlobal + Threads + Sync>(
 }
 
 // Whether a sink that fails at one of the first lines of a text has those before it.
-fn has_fronts<R: AllocGlobal + Threads + Sync>(rt: &R, call: &Call<'_>, text: &str) -> bool {
+fn has_fronts<R: AllocGlobal + Threads + Sync>(rt: &R, call: &Call<'_>, text: &[u8]) -> bool {
     let mut bad_write = 0u32;
     let mut before = 0usize;
-    for line in text.split('\n') {
-        bad_write = bad_write.saturating_add(1);
-        if line.is_empty() || bad_write > LINES {
-            return true;
+    for k in 0..text.len() {
+        if text[k] == b'\n' && bad_write < LINES {
+            bad_write = bad_write.wrapping_add(1);
+            if !has_front(rt, call, bad_write, text.get(..before)) {
+                return false;
+            }
+            before = k + 1;
         }
-        if !has_front(rt, call, bad_write, text.as_bytes().get(..before)) {
-            return false;
-        }
-        before = before.saturating_add(line.len()).saturating_add(1);
     }
-    false
-}
-
-// A text of bytes, which is empty where they are none.
-fn text_of(bytes: &[u8]) -> &str {
-    str::from_utf8(bytes).unwrap_or("")
+    bad_write == LINES || before == text.len()
 }
 
 // Whether a call answers as its row says, also where a line can't be written.
@@ -97,8 +91,8 @@ fn is_answered<R: AllocGlobal + Threads + Sync>(rt: &R, row: &Row, files: &[(&st
     if answer(rt, &call, &mut out) != Some(0) {
         return false;
     }
-    let text = text_of(out.bytes());
-    text.starts_with(line) && has_fronts(rt, &call, text)
+    let text = out.bytes();
+    text.starts_with(line.as_bytes()) && has_fronts(rt, &call, text)
 }
 
 // The call that writes the campaign.

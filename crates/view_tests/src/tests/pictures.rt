@@ -1,7 +1,7 @@
 //! A small trace, whose picture has each kind of element.
+use super::calls::text_of;
 use picture_text::put_picture;
 use std::alloc::Global;
-use std::str;
 use ttp_base::{List, MemorySink};
 use whole_trace::read_whole;
 
@@ -49,10 +49,8 @@ pub(crate) fn has_lines(text: &str, lines: &[&str]) -> bool {
 }
 
 fn is_picture(bytes: &[u8]) -> bool {
-    match str::from_utf8(bytes) {
-        Ok(text) => text.len() == 9176 && has_lines(text, LINES),
-        Err(_) => false,
-    }
+    let text = text_of(bytes);
+    text.len() == 9176 && has_lines(text, LINES)
 }
 
 fn has_picture(alloc: Global) -> bool {

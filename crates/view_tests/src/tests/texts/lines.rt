@@ -257,14 +257,14 @@ fn is_longest_line(alloc: Global, room: usize, written: usize) -> bool {
 }
 
 // A payload of 240 bytes makes the longest line there is.
-fn is_longest_one_piece(alloc: Global) -> bool {
-    is_longest_line(alloc, 600, 33 + 480 + 1 + 22) && is_longest_line(alloc, 513, 22)
-}
-
 #[test]
 fn lines_of_hosts(rt: HostRuntime) {
     let alloc = rt.alloc();
-    assert!(rt; are_host_lines(alloc) && is_longest_one_piece(alloc));
+    assert!(rt;
+        are_host_lines(alloc)
+            && is_longest_line(alloc, 600, 33 + 480 + 1 + 22)
+            && is_longest_line(alloc, 513, 22)
+    );
 }
 
 #[derive(Clone, Copy)]

@@ -1,6 +1,6 @@
 use Rattle.std.proofs.Common.{◌≡◌, subst, arith}
 use Rattle.hypothesis.specs.FaultyRuns.{KnowsKept}
-use Rattle.text_tests.proofs.tests.faulty.kept_after.Goals as goal
+use Rattle.view_tests.proofs.tests.texts.faulty.kept_after.Goals as goal
 
 pub step-requires-2-clause-at : goal.step-requires-2-clause-at
 step-requires-2-clause-at c =

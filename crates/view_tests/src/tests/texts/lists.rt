@@ -31,7 +31,9 @@ round 0 slot 1 kind N data 240 sync yes start no
 round 0 slot 2 kind I data 0 sync yes start no
 round 0 slot 3 kind I data 0 sync yes start no\n";
 
-fn has_numbers(list: &Medl) -> bool {
+fn has_numbers(list: &Medl) -> bool
+    requires { IsValid list.now }
+{
     list.rounds == 1
         && list.schedule == 4660
         && list.buffers == 4
@@ -40,12 +42,8 @@ fn has_numbers(list: &Medl) -> bool {
         && list.window == 64
         && list.modes == 3
         && list.version == 1
-}
-
-fn ends_with_kind(list: &Medl, kind: Kind) -> bool
-    requires { IsValid list.now }
-{
-    list.rounds == 1 && list.nodes() == 4 && list.kind_at(0, 3) == kind
+        && list.nodes() == 4
+        && list.kind_at(0, 3) == Kind::I
 }
 
 // Whether slot 1 has what is due: its payload, whether it has requests, and the modes in which it is live.
@@ -62,10 +60,7 @@ fn is_read(alloc: Global) -> bool {
     let Some(list) = list_of(alloc, LIST) else {
         return false;
     };
-    has_numbers(&list)
-        && ends_with_kind(&list, Kind::I)
-        && has_slot_1(&list, 240, true, 5)
-        && is_shown(alloc, &list, TABLE)
+    has_numbers(&list) && has_slot_1(&list, 240, true, 5) && is_shown(alloc, &list, TABLE)
 }
 
 #[test]

@@ -16,17 +16,14 @@ const SIX_NODES: &str =
 [[slot]]\nkinds = \"N\"\ndata = 3\nsync = true\nstart = false\n
 [[slot]]\nkinds = \"I\"\ndata = 0\nsync = true\nstart = false\n";
 
-fn has_clocks(script: &Script) -> bool {
+// Node 1's frame is struck in slot 25, node 4 hears none in slot 39, and host 4 writes in its slot.
+fn is_due(script: &Script) -> bool {
+    let sends = script.incidents(1, 25);
+    let hears = script.incidents(4, 39);
     script.slots == 60
         && script.on.as_slice() == [Some(0); 6].as_slice()
         && script.drift.as_slice() == [-3, 1, 2, 0, 2, -2].as_slice()
-}
-
-// Node 1's frame is struck in slot 25, node 4 hears none in slot 39, and host 4 writes in its slot.
-fn has_events(script: &Script) -> bool {
-    let sends = script.incidents(1, 25);
-    let hears = script.incidents(4, 39);
-    sends.error == 4
+        && sends.error == 4
         && sends.send_noise == BOTH
         && hears.error == -5
         && hears.receive_noise == BOTH
@@ -40,7 +37,7 @@ fn is_generated(alloc: Global) -> bool {
     let Ok(script) = generate(alloc, &list, 60, 5) else {
         return false;
     };
-    let is_right = has_clocks(&script) && has_events(&script);
+    let is_right = is_due(&script);
     let_go(script);
     is_right
 }

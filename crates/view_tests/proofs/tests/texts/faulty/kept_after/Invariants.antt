@@ -1,5 +1,5 @@
 use Rattle.hypothesis.specs.FaultyRuns.{IsKeptAt}
-use Rattle.text_tests.proofs.tests.faulty.kept_after.Given as goal
+use Rattle.view_tests.proofs.tests.texts.faulty.kept_after.Given as goal
 
 -- the slots so far
 abbrev pub invariant-loop-slot : goal.invariant-loop-slot
