@@ -1,7 +1,7 @@
 -- The nodes at the end of a slot, in two parts, one after the other, and whole: they are ready for it once it is
 -- planned.
-use Rattle.cluster_run.proofs.Words.{◌≡◌, ℕ, ◌+◌, ◌-◌, ◌<◌, List, [], ◌++◌, length, map, get_or, take, drop, None, sym}
-use Rattle.cluster_run.proofs.Words.{ap, ◌∙◌, arith, cases_lt, map-append, length-map, take-append-drop, Medl, Script}
+use Rattle.cluster_run.proofs.Words.{◌≡◌, ℕ, ◌+◌, ◌-◌, ◌<◌, List, [], ◌++◌, length, map, get_or, None, sym}
+use Rattle.cluster_run.proofs.Words.{ap, ◌∙◌, arith, cases_lt, map-append, length-map, Medl, Script}
 use Rattle.cluster_run.proofs.Words.{slot_after, no_outcome, Seat, ControllerState, Desk, HasPartEnded, handed_on}
 use Rattle.cluster_run.proofs.Words.{number_handed, outcome_of, rings_of, end_at, desk_ends, steps, ⊎_elim}
 use Rattle.cluster_run.proofs.Words.{get_or-append-add, each-front, each-back, each-joined, IsPartReady, Outcome}
@@ -17,11 +17,6 @@ use Rattle.cluster_run.proofs.HandingOn.{delivered-deliverable, HoldsCame, may_h
 pub record AreParts {X : Type 0} (half : ℕ) (whole front back : List X) : Type 0 where
   pub is : whole ≡ front ++ back
   pub count : length front ≡ half
-
-pub parts_of : {X : Type 0} (half : ℕ) (whole front back : List X) → front ≡ take half whole → back ≡ drop half whole
-    → length front ≡ half → AreParts half whole front back
-parts_of half whole front back first rest count =
-    record { is = sym (take-append-drop half whole) ∙ (λ i. sym first i ++ sym rest i); count = count }
 
 parts_length : {X : Type 0} {half : ℕ} {whole front back : List X} → AreParts half whole front back
     → length whole ≡ half + length back

@@ -1,8 +1,10 @@
 pub mod Counts
-pub mod Ranges
-pub mod Orders
 pub mod Endings
+pub mod LineWords
+pub mod Listing
+pub mod Orders
+pub mod Ranges
 pub mod Results
-pub mod Wholes
 pub mod Tries
+pub mod Wholes
 pub mod Words

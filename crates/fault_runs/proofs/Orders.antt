@@ -11,7 +11,7 @@ use Rattle.ttp_base.proofs.Below.{below-lt}
 use Rattle.ttp_base.proofs.NodeLists.{filter-below}
 use Rattle.ttp_base.proofs.NodeSets.{has_node-filter, has_node-sieve, same_sieve}
 use Rattle.campaign.specs.Cost.{is_hurt, hurt_nodes}
-use Rattle.campaign_text.specs.Listing.{in_order}
+use Rattle.fault_runs.specs.Listing.{in_order}
 
 none-past : (n j : ℕ) (ks : List ℕ) → AllByRecursion (λ k. k < n) ks → n ≤ j → has_node ks j ≡ false
 none-past n j [] small past = refl

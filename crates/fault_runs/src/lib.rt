@@ -16,10 +16,11 @@
 //! run, and each run goes on from there to the script's last slot, so a fault costs the slots behind it. The list, the script and
 //! the own run are lent to the threads, and nothing that one of them changes is seen by another.
 //!
-//! The crate keeps no run but the script's own, as it is and as it was before the newest slot, and one for each thread; it forgets
+//! The lines are [`campaign_text`]'s, which knows no cluster. The crate keeps no run but the script's own, as it is and as it was before the newest slot, and one for each thread; it forgets
 //! the lines of a slot once they are written. So memory grows with threads and nodes, and not with slots.
 #![tactic(auto, using(ttp_world::proofs::Lists::nodes))]
 
+pub mod campaign_text;
 mod own;
 mod put;
 mod tally;

@@ -19,10 +19,10 @@ ghost use Rattle.fault_runs.specs.Runs.{tried_in, tried_before, entries_of, faul
 ghost use Rattle.fault_runs.specs.Runs.{most_tried, HasAtMost, AreCountsOf, IsTallyOf};
 ghost use Rattle.fault_runs.specs.Tries.{MayTry, IsOwnAfter, tried_of, tried_lines};
 
+use crate::campaign_text::Text;
 use crate::own::OwnRun;
 use crate::tally::Tally;
 use crate::tried::{Common, Tried, form_words, try_beside};
-use campaign_text::Text;
 use run_costs::cost_of;
 use single_faults::faults_in;
 use std::alloc::Global;

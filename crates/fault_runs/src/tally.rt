@@ -13,9 +13,9 @@ ghost use Rattle.campaign.specs.Lines.{counts_of, is_same_cost, has_hurt, is_tor
 ghost use Rattle.fault_runs.specs.Runs.{AreAtMost, HasAtMost, AreCountsOf, IsTallyOf};
 ghost use Rattle.fault_runs.specs.Tries.{MayTry, tried_of};
 
+use crate::campaign_text::{Text, put_counts, put_head, put_own};
 use crate::tried::{Common, Tried};
 use campaign::{Cost, Counts};
-use campaign_text::{Text, put_counts, put_head, put_own};
 use std::alloc::Global;
 use ttp_base::{Memory, NodeSet};
 use ttp_world::{EVENT_LIMIT, Script};

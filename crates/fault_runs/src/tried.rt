@@ -8,14 +8,14 @@ ghost use Rattle.campaign.specs.Cost.{says_yes};
 ghost use Rattle.campaign.specs.CostText.{cost_words};
 ghost use Rattle.campaign.specs.Lines.{fault_line};
 ghost use Rattle.campaign.specs.Tried.{with_fault};
-ghost use Rattle.campaign_text.specs.Listing.{in_order};
-ghost use Rattle.campaign_text.specs.Told.{told_summary};
+ghost use Rattle.fault_runs.specs.Listing.{in_order};
+ghost use Rattle.fault_runs.specs.Told.{told_summary};
 ghost use Rattle.single_faults.specs.Tried.{MayStand};
 ghost use Rattle.run_costs.specs.Standing.{IsRunOfList};
 ghost use Rattle.fault_runs.specs.Tries.{MayTry, IsPastOf, tried_of};
 
+use crate::campaign_text::{Text, put_cost, put_run};
 use campaign::Cost;
-use campaign_text::{Text, put_cost, put_run};
 use run_costs::{SeenRun, cost_from};
 use single_faults::laws::more_is_valid;
 use single_faults::with_fault;

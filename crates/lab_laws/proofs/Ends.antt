@@ -31,14 +31,14 @@ use Rattle.ttp_world.specs.Starts.{StartsAlone}
 use Rattle.ttp_world.specs.World.{Numbers, node_past, world, messages_chosen}
 use Rattle.ttp_world.proofs.LegalRuns.{legal-whole, legal-none}
 use Rattle.ttp_world.proofs.Worlds.{length-world}
-use Rattle.fault_plan.proofs.KeptPlan.{kept-plan}
+use Rattle.safety_laws.proofs.KeptPlan.{kept-plan}
 use Rattle.safety_laws.specs.NodeSlot.{NodeSlot, node_slot, next_past}
 use Rattle.safety_laws.proofs.NodeSlots.{node_past-step}
 use Rattle.safety_laws.proofs.StartSlot.{first_due}
 use Rattle.safety_laws.proofs.Waiting.{WaitAll-world}
 use Rattle.safety_laws.proofs.Kept.{kept-safe}
-use Rattle.rejoin.proofs.Returned.{returned-safe}
-use Rattle.rejoin.proofs.ReturnsByPlan.{returned-by_plan}
+use Rattle.safety_laws.proofs.Returned.{returned-safe}
+use Rattle.safety_laws.proofs.ReturnsByPlan.{returned-by_plan}
 use Rattle.campaign.specs.Cost.{is_kept, is_owed, says_yes, says_yes_if, faulty_by_test, faulty_if, is_firm, firm_members}
 use Rattle.campaign.specs.Cost.{each_once, memberships, has_two, is_split, split_span, span_after, span_with, cost_of}
 use Rattle.campaign.specs.declared.cost.Cost.{Cost}

@@ -28,9 +28,9 @@ use Rattle.whole_campaign.specs.declared.shown.Piece.{Piece}
 use Rattle.whole_campaign.specs.Due.{no_runs}
 use Rattle.whole_campaign.specs.Whole.{FaultTold, WholeCampaign, campaign_in}
 use Rattle.whole_campaign.specs.Readable.{counts_together, counts_sum}
-use Rattle.taken_texts.specs.Ranges.{IsRange, AreRanges, lines_over}
-use Rattle.taken_texts.specs.TakenCampaign.{told_in_slot, piece_over, faults_over, campaign_over}
-use Rattle.taken_texts.proofs.Pieces.{ranges-taken}
+use Rattle.lab_laws.specs.Ranges.{IsRange, AreRanges, lines_over}
+use Rattle.lab_laws.specs.TakenCampaign.{told_in_slot, piece_over, faults_over, campaign_over}
+use Rattle.lab_laws.proofs.Pieces.{ranges-taken}
 use Rattle.chart_text.specs.Columns.{is_of_piece, is_tried}
 use Rattle.lab_laws.specs.Alike.{AreAlike}
 use Rattle.lab_laws.specs.Joined.{AreJoined, whole_range}

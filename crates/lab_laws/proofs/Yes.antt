@@ -27,12 +27,12 @@ use Rattle.ttp_world.specs.Starts.{StartsAlone}
 use Rattle.ttp_world.specs.World.{SlotNumbers, Numbers, world}
 use Rattle.ttp_world.proofs.LegalRuns.{legal-whole, legal-none}
 use Rattle.ttp_world.proofs.LegalShapes.{legal-older}
-use Rattle.fault_plan.proofs.KeptPlan.{kept-plan}
+use Rattle.safety_laws.proofs.KeptPlan.{kept-plan}
 use Rattle.safety_laws.proofs.StartSlot.{first_due}
 use Rattle.safety_laws.proofs.Waiting.{WaitAll, WaitAll-world}
 use Rattle.safety_laws.proofs.Kept.{kept-safe}
-use Rattle.rejoin.proofs.Returned.{returned-safe}
-use Rattle.rejoin.proofs.ReturnsByPlan.{returned-by_plan}
+use Rattle.safety_laws.proofs.Returned.{returned-safe}
+use Rattle.safety_laws.proofs.ReturnsByPlan.{returned-by_plan}
 use Rattle.campaign.specs.Cost.{is_kept, is_owed, says_yes, says_yes_if, faulty_by_test, faulty_if, is_hurt_in, is_hurt}
 use Rattle.campaign.specs.Cost.{is_firm, firm_members, each_once, memberships, has_two, is_split, split_span}
 use Rattle.campaign.specs.Cost.{span_after, cost_of}

@@ -1,6 +1,10 @@
 pub mod Alike
 pub mod Ends
 pub mod Joined
+pub mod Ranges
 pub mod SafeLines
 pub mod Squares
+pub mod TakenCampaign
+pub mod TakenTrace
 pub mod Titles
+pub mod TwoSlots

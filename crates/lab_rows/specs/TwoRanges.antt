@@ -7,7 +7,7 @@ use Rattle.ttp_world.specs.declared.medl.SlotPlan.{SlotPlan}
 use Rattle.ttp_world.specs.declared.script.Script.{Script}
 use Rattle.campaign.specs.declared.cost.Span.{Span}
 use Rattle.whole_campaign.specs.Whole.{WholeCampaign}
-use Rattle.taken_texts.specs.TakenCampaign.{campaign_over}
+use Rattle.lab_laws.specs.TakenCampaign.{campaign_over}
 
 -- node 0 may start the cluster
 abbrev bare_plan : ℕ → SlotPlan

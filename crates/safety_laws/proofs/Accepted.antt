@@ -10,7 +10,7 @@ use Rattle.safety_laws.proofs.Words.{message_given, AcceptsAlikeSince, StandsAli
 use Rattle.safety_laws.proofs.Words.{IsSoundAt, IsByFate, IsByPlan, sound-fate}
 use Rattle.std.proofs.Math.Bool.{and-false, and-true}
 use Rattle.ttp_world.specs.declared.node.Entry.TheVariants as entry
-use Rattle.fault_plan.proofs.Persists.{sound-earlier}
+use Rattle.safety_laws.proofs.Persists.{sound-earlier}
 use Rattle.safety_laws.specs.SameFrames.{accepts, sends_frame, AcceptsAlike}
 use Rattle.safety_laws.specs.SameFrames.{begins_at_zero}
 use Rattle.safety_laws.proofs.Receivers.{sound-judge, judges-good}

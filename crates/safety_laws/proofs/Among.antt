@@ -11,8 +11,8 @@ use Rattle.safety_laws.proofs.Words.{IsFallenAt, IsByFate, sound-fate}
 use Rattle.ttp_world.specs.declared.node.Ack.TheVariants as ack
 use Rattle.ttp_world.specs.declared.node.Phase.TheVariants as phase
 use Rattle.ttp_world.specs.Safety.{members_of_node, agree_among}
-use Rattle.fault_plan.proofs.FateTells.{loss-node}
-use Rattle.fault_plan.proofs.Members.{sound-member}
+use Rattle.safety_laws.proofs.FateTells.{loss-node}
+use Rattle.safety_laws.proofs.Members.{sound-member}
 use Rattle.safety_laws.specs.PlannedRun.{StandsAtTurn}
 use Rattle.safety_laws.proofs.GroupSets.{has_node-with_member, has_node-with_other}
 use Rattle.safety_laws.proofs.PlanSteps.{told-falling, told-fallen}

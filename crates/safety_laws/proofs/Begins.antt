@@ -19,8 +19,8 @@ use Rattle.ttp_world.specs.declared.node.Entry.TheVariants as entry
 use Rattle.ttp_world.specs.declared.node.Phase.TheVariants as phase
 use Rattle.ttp_world.specs.BackSafety.{newest_arm}
 use Rattle.ttp_world.specs.BackSafety.{since_slot}
-use Rattle.fault_plan.proofs.Members.{first-sender}
-use Rattle.fault_plan.proofs.Persists.{sound-first}
+use Rattle.safety_laws.proofs.Members.{first-sender}
+use Rattle.safety_laws.proofs.Persists.{sound-first}
 use Rattle.safety_laws.proofs.StartSlot.{first_due, starter-stands, joiner-stands, off-stays, has-begun}
 use Rattle.safety_laws.proofs.Waiting.{WaitAll, WaitAll-world}
 use Rattle.std.proofs.lemmas.List.{length-map, reverse-append}

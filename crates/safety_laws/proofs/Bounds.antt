@@ -12,7 +12,7 @@ use Rattle.precision.specs.Company.{HoldsSettledClocksWithin, HoldsCompanyDeviat
 use Rattle.precision.specs.Company.{HoldsSettledDeviationsWithin}
 use Rattle.precision.proofs.Limits.{needed_window}
 use Rattle.precision.proofs.Runs.{company_clocks, settled_clocks, company_deviations, settled_deviations}
-use Rattle.fault_plan.proofs.Returns.{enters-late}
+use Rattle.safety_laws.proofs.Returns.{enters-late}
 use Rattle.safety_laws.proofs.Company.{sound-calm, ran-company, company-in}
 use Rattle.safety_laws.proofs.RoundNotes.{tight-stays, place-slot}
 use Rattle.safety_laws.proofs.BeganTogether.{number-of, counted-run}

@@ -14,10 +14,10 @@ use Rattle.ttp_world.specs.Diary.{ends_round}
 use Rattle.precision.specs.Together.{NotedAlike, Nothing, OneFrame, EndsLaterRound}
 use Rattle.precision.specs.Company.{AreCalm, IsCalmIn, IsNotedOf, StayedInCompany, GrewTogether, RanAsCompany}
 use Rattle.precision.proofs.Entries.{place_of-active, notes_of-active}
-use Rattle.fault_plan.proofs.FateTells.{armed-fallen}
-use Rattle.fault_plan.proofs.Persists.{lost-unsound}
-use Rattle.fault_plan.proofs.Returns.{any-of, of-any, armed-by}
-use Rattle.fault_plan.proofs.Returns.{Itself, Before, After, entry-beside}
+use Rattle.safety_laws.proofs.FateTells.{armed-fallen}
+use Rattle.safety_laws.proofs.Persists.{lost-unsound}
+use Rattle.safety_laws.proofs.Returns.{any-of, of-any, armed-by}
+use Rattle.safety_laws.proofs.Returns.{Itself, Before, After, entry-beside}
 use Rattle.safety_laws.proofs.RoundNotes.{none-silent, place-slot, sender-in, sound-goes, Counted}
 use Rattle.safety_laws.proofs.BeganTogether.{began, number-of, counted-run}
 

@@ -10,8 +10,8 @@ use Rattle.safety_laws.proofs.Words.{Change, Incident, incident_at, is_armed_by,
 use Rattle.safety_laws.proofs.Words.{is_sound_after, Fate, Sound, Fallen, Listening, struck, turned, FollowsWithin}
 use Rattle.safety_laws.proofs.Words.{planned_place, IsSoundIn, NotesNothing, GoesOnByPlan, IsTight, IsGoodPlan}
 use Rattle.safety_laws.proofs.Words.{IsLossOf, IsTold, fate-told, entry-is, HasJumped}
-use Rattle.fault_plan.specs.Fates.{armed_in}
-use Rattle.fault_plan.specs.Fates.{entered_in, changed}
+use Rattle.safety_laws.specs.Fates.{armed_in}
+use Rattle.safety_laws.specs.Fates.{entered_in, changed}
 use Rattle.safety_laws.proofs.Apart.{noted_width, Apart, Fresh, Before, apart-next, same-near}
 use Rattle.safety_laws.proofs.Bounds.{tight-clocks}
 use Rattle.safety_laws.proofs.NearNotes.{clock_moved, clock-next, notes-next, NextSlot, index-of, near-new, sound-moved}

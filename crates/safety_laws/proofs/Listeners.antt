@@ -9,9 +9,9 @@ use Rattle.safety_laws.proofs.Words.{next-entered, fate-told, enters-by}
 use Rattle.ttp_world.specs.declared.node.Phase.TheVariants as phase
 use Rattle.safety_laws.proofs.Listening.{listens-armed, listens-early}
 use Rattle.std.specs.List.{Contains}
-use Rattle.fault_plan.specs.Told.{IsListening}
-use Rattle.fault_plan.proofs.FateTells.{over}
-use Rattle.fault_plan.proofs.Returns.{armed-is, quiet-within, listens-until}
+use Rattle.safety_laws.specs.Told.{IsListening}
+use Rattle.safety_laws.proofs.FateTells.{over}
+use Rattle.safety_laws.proofs.Returns.{armed-is, quiet-within, listens-until}
 
 -- it listens in the turn after some, and was armed in it or before: how many silent slots it counted by then
 pub record ListensSince (plan : FaultPlan) (turn since : ℕ) (x : NodeSlot) : Type 0 where

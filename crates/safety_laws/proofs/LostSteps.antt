@@ -24,7 +24,7 @@ use Rattle.safety_laws.proofs.Receivers.{sound-judge}
 use Rattle.safety_laws.proofs.PlanTurns.{SendsNone, slot_of, slot_number, owner-is, judges, armed-planned}
 use Rattle.safety_laws.proofs.PlanTurns.{unarmed-falling, less-planned, within-plan, e-node, good_plan}
 use Rattle.safety_laws.proofs.Listeners.{IsAwaited, awaited-armed, awaited-listening, fate-awaited}
-use Rattle.fault_plan.proofs.SlotKinds.{sender-stays as sender-unentered}
+use Rattle.safety_laws.proofs.SlotKinds.{sender-stays as sender-unentered}
 
 module _ {list : Medl} {script : Script} {start : ClusterStart} {plan : FaultPlan} {turn : ℕ} {new : SlotNumbers}
     {numbers : Numbers} (t : IsTurn list script start plan turn new numbers) (k : ℕ) (node : k < length list.slots)

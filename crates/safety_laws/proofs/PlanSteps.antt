@@ -7,14 +7,14 @@ use Rattle.safety_laws.proofs.Words.{Fallen, Listening, struck, turned, fate_of,
 use Rattle.safety_laws.proofs.Words.{is_good_slot, is_first_slot, may_stay, IsGoodPlan, opened, with_slot}
 use Rattle.safety_laws.proofs.Words.{planned_members, ledger_of, IsFalling, IsTold, strikes, sound-from, fate-told}
 use Rattle.safety_laws.proofs.Words.{ledger-told, armed-lost, entry-from, turns_apart}
-use Rattle.fault_plan.specs.Fates.{shown_in}
-use Rattle.fault_plan.specs.Fates.{is_shown_in}
-use Rattle.fault_plan.specs.Told.{IsFallen}
-use Rattle.fault_plan.proofs.FateSteps.{next-same, struck-missed as missed-same}
-use Rattle.fault_plan.proofs.Returns.{armed-quiet, entry-quiet}
-use Rattle.fault_plan.proofs.Turns.{next_turn}
+use Rattle.safety_laws.specs.Fates.{shown_in}
+use Rattle.safety_laws.specs.Fates.{is_shown_in}
+use Rattle.safety_laws.specs.Told.{IsFallen}
+use Rattle.safety_laws.proofs.FateSteps.{next-same, struck-missed as missed-same}
+use Rattle.safety_laws.proofs.Returns.{armed-quiet, entry-quiet}
+use Rattle.safety_laws.proofs.Turns.{next_turn}
 use Rattle.safety_laws.proofs.Listeners.{awaited-armed, gone-awaited}
-use Rattle.fault_plan.proofs.SlotKinds.{sender-stays as sender-unentered}
+use Rattle.safety_laws.proofs.SlotKinds.{sender-stays as sender-unentered}
 
 -- Members.
 

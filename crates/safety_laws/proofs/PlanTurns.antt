@@ -22,7 +22,7 @@ use Rattle.safety_laws.proofs.Listeners.{awaited-listening, good-lately, Listens
 use Rattle.safety_laws.proofs.PlanSteps.{staying-unarmed, members-good, ledger-own, round-turn}
 use Rattle.ttp_world.specs.declared.node.Ack.TheVariants as ack
 use Rattle.ttp_world.specs.declared.node.Entry.TheVariants as entry
-use Rattle.fault_plan.proofs.Counts.{bad-own, bad-first, seen-round, four-lasting}
+use Rattle.safety_laws.proofs.Counts.{bad-own, bad-first, seen-round, four-lasting}
 use Rattle.safety_laws.proofs.Groups.{holds-sent}
 
 -- its own frame is acknowledged, and it accepted more frames than it rejected

@@ -9,7 +9,7 @@ use Rattle.safety_laws.proofs.Words.{HearsNoFrame, HearsSilence, NodeSlot, next_
 use Rattle.safety_laws.proofs.Words.{HearsOutside, IsSoundAt, IsFallingAt, IsTurn}
 use Rattle.ttp_world.specs.declared.node.Ack.TheVariants as ack
 use Rattle.ttp_world.specs.declared.node.Verdict.TheVariants as verdict
-use Rattle.fault_plan.specs.Kept.{IsHeardByPlan}
+use Rattle.safety_laws.specs.Kept.{IsHeardByPlan}
 use Rattle.safety_laws.proofs.Groups.{correct-group, incorrect-group, lacked-group}
 use Rattle.safety_laws.proofs.GroupSets.{has_node-with_other}
 use Rattle.safety_laws.proofs.OneSender.{members-alone, outside-alone, none-alone, silent-none_sends}
@@ -19,7 +19,7 @@ use Rattle.safety_laws.proofs.PlanSteps.{doubted-stays, sound-unentered}
 use Rattle.safety_laws.proofs.LostNodes.{IsSoundJudge, not_about, sound-correct, sound-wrong, sound-tentative}
 use Rattle.safety_laws.proofs.PlanTurns.{NextSound, SendsNone, SendsOne, slot_of, slot_number, owner-is, judges, e-node}
 use Rattle.safety_laws.proofs.PlanTurns.{less-planned, good_plan}
-use Rattle.fault_plan.proofs.SlotKinds.{sender-stays as sender-unentered}
+use Rattle.safety_laws.proofs.SlotKinds.{sender-stays as sender-unentered}
 
 -- A sound node that judges, where the slot is not good: what leaves it sound.
 

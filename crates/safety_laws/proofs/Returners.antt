@@ -11,7 +11,7 @@ use Rattle.safety_laws.proofs.Words.{joined_standing, doubts, IsCounted, IsListe
 use Rattle.ttp_world.specs.declared.medl.Kind.TheVariants as kind
 use Rattle.ttp_world.specs.declared.node.Ack.TheVariants as ack
 use Rattle.ttp_world.specs.Returning.{carries_place}
-use Rattle.fault_plan.specs.Kept.{kind_in}
+use Rattle.safety_laws.specs.Kept.{kind_in}
 use Rattle.safety_laws.specs.NodeSlot.{slot_place}
 use Rattle.safety_laws.proofs.Listening.{around-silent, frame-silent, waited-none, waited-passing, joined-place}
 use Rattle.safety_laws.proofs.OneSender.{silent-none_sends, place-alone, no_place-alone}

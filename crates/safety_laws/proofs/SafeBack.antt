@@ -14,7 +14,7 @@ use Rattle.ttp_world.specs.BackSafety.{is_armed_among, back_members_agree, back_
 use Rattle.ttp_world.specs.BackSafety.{none_has_left_since_arm, is_back_gone, back_faulty_are_gone, has_returned}
 use Rattle.ttp_world.specs.BackSafety.{is_due, armed_have_returned, IsBackSafe}
 use Rattle.ttp_world.specs.Returning.{two_rounds, four_rounds, back_faulty_after, is_back_correct_after}
-use Rattle.fault_plan.specs.Returned.{IsSoundAgain}
+use Rattle.safety_laws.specs.Returned.{IsSoundAgain}
 use Rattle.safety_laws.specs.PlannedRun.{StandsBack}
 use Rattle.safety_laws.proofs.Among.{all-by, each-of, newest, IsSoundNode, at-sound, same-settled, agree-settled}
 use Rattle.safety_laws.proofs.Among.{in-sound, gone-lost}

@@ -1,25 +1,25 @@
 -- The words of this crate's proofs, from one place.
-pub use Rattle.fault_plan.proofs.Counts.{four-measured}
-pub use Rattle.fault_plan.proofs.FateSteps.{next-entered, sound-fate, sound-from, strikes}
-pub use Rattle.fault_plan.proofs.FateTells.{fate-told, loss-sending, one-stays}
-pub use Rattle.fault_plan.proofs.KeptPlan.{kept-plan}
-pub use Rattle.fault_plan.proofs.Ledgers.{ledger-told}
-pub use Rattle.fault_plan.proofs.Members.{fallen-member, sender-lost}
-pub use Rattle.fault_plan.proofs.Persists.{absent-always}
-pub use Rattle.fault_plan.proofs.Places.{place-sender}
-pub use Rattle.fault_plan.proofs.Returns.{armed-lost, enters-by, entry-from, entry-good, entry-is, none-enters}
-pub use Rattle.fault_plan.proofs.SlotKinds.{sender-stays}
-pub use Rattle.fault_plan.proofs.Turns.{turns_apart}
-pub use Rattle.fault_plan.specs.Fates.{Absent, Fallen, Falling, Fate, Listening, Sound, fate_of, is_absent}
-pub use Rattle.fault_plan.specs.Fates.{is_first_slot, is_good_slot, is_lost, is_measured, is_sound_fate, is_sound_after}
-pub use Rattle.fault_plan.specs.Fates.{lost_since, may_stay, struck, tally, turned}
-pub use Rattle.fault_plan.specs.GoodPlan.{IsGoodPlan}
-pub use Rattle.fault_plan.specs.Kept.{FollowsPlan, FollowsWithin, KeepsByPlan}
-pub use Rattle.fault_plan.specs.Ledger.{Ledger, ledger_of, opened, planned_members, with_slot}
-pub use Rattle.fault_plan.specs.Places.{planned_place}
-pub use Rattle.fault_plan.specs.Plan.{Change, Incident, Jumping, FaultPlan, Receiving, Return, Sending, enters}
-pub use Rattle.fault_plan.specs.Plan.{incident_at, is_armed_by, fault_plan_of, sender}
-pub use Rattle.fault_plan.specs.Told.{IsFalling, IsLossOf, IsTold}
+pub use Rattle.safety_laws.proofs.Counts.{four-measured}
+pub use Rattle.safety_laws.proofs.FateSteps.{next-entered, sound-fate, sound-from, strikes}
+pub use Rattle.safety_laws.proofs.FateTells.{fate-told, loss-sending, one-stays}
+pub use Rattle.safety_laws.proofs.KeptPlan.{kept-plan}
+pub use Rattle.safety_laws.proofs.Ledgers.{ledger-told}
+pub use Rattle.safety_laws.proofs.Members.{fallen-member, sender-lost}
+pub use Rattle.safety_laws.proofs.Persists.{absent-always}
+pub use Rattle.safety_laws.proofs.Places.{place-sender}
+pub use Rattle.safety_laws.proofs.Returns.{armed-lost, enters-by, entry-from, entry-good, entry-is, none-enters}
+pub use Rattle.safety_laws.proofs.SlotKinds.{sender-stays}
+pub use Rattle.safety_laws.proofs.Turns.{turns_apart}
+pub use Rattle.safety_laws.specs.Fates.{Absent, Fallen, Falling, Fate, Listening, Sound, fate_of, is_absent}
+pub use Rattle.safety_laws.specs.Fates.{is_first_slot, is_good_slot, is_lost, is_measured, is_sound_fate, is_sound_after}
+pub use Rattle.safety_laws.specs.Fates.{lost_since, may_stay, struck, tally, turned}
+pub use Rattle.safety_laws.specs.GoodPlan.{IsGoodPlan}
+pub use Rattle.safety_laws.specs.Kept.{FollowsPlan, FollowsWithin, KeepsByPlan}
+pub use Rattle.safety_laws.specs.Ledger.{Ledger, ledger_of, opened, planned_members, with_slot}
+pub use Rattle.safety_laws.specs.Places.{planned_place}
+pub use Rattle.safety_laws.specs.Plan.{Change, Incident, Jumping, FaultPlan, Receiving, Return, Sending, enters}
+pub use Rattle.safety_laws.specs.Plan.{incident_at, is_armed_by, fault_plan_of, sender}
+pub use Rattle.safety_laws.specs.Told.{IsFalling, IsLossOf, IsTold}
 pub use Rattle.precision.proofs.Averages.{AreNear, IsUpTo}
 pub use Rattle.precision.proofs.ClockBounds.{drift_within, error_within}
 pub use Rattle.precision.proofs.Entries.{clock_at-still, continued_active, first_slot_first, later_slot_later}

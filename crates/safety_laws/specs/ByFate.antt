@@ -9,10 +9,10 @@ use Rattle.ttp_world.specs.declared.node.Ack.TheVariants as ack
 use Rattle.ttp_world.specs.declared.node.Phase.TheVariants as phase
 use Rattle.ttp_world.specs.Acknowledgement.{is_open, is_doubt}
 use Rattle.ttp_world.specs.Past.{NodePast}
-use Rattle.fault_plan.specs.Plan.{Change, Receiving, FaultPlan, sender}
-use Rattle.fault_plan.specs.Fates.{Fate, Absent, Sound, Falling, Fallen, Listening, fate_of, is_good_slot}
-use Rattle.fault_plan.specs.Ledger.{Ledger, planned_members, ledger_of}
-use Rattle.fault_plan.specs.Places.{planned_place}
+use Rattle.safety_laws.specs.Plan.{Change, Receiving, FaultPlan, sender}
+use Rattle.safety_laws.specs.Fates.{Fate, Absent, Sound, Falling, Fallen, Listening, fate_of, is_good_slot}
+use Rattle.safety_laws.specs.Ledger.{Ledger, planned_members, ledger_of}
+use Rattle.safety_laws.specs.Places.{planned_place}
 use Rattle.safety_laws.specs.Groups.{IsUnanswered, HoldsGroup}
 
 -- Sound nodes.

@@ -4,7 +4,7 @@ use Rattle.ttp_world.specs.declared.medl.Medl.{Medl}
 use Rattle.ttp_world.specs.declared.script.Script.{Script}
 use Rattle.ttp_world.specs.Diary.{History}
 use Rattle.ttp_world.specs.Hypothesis.{ClusterStart}
-use Rattle.fault_plan.specs.Plan.{FaultPlan}
+use Rattle.safety_laws.specs.Plan.{FaultPlan}
 use Rattle.safety_laws.specs.NotedByPlan.{NotedByPlan}
 use Rattle.safety_laws.specs.PlanTurn.{HoldsAfter}
 

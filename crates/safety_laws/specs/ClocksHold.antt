@@ -3,8 +3,8 @@ use Rattle.std.specs.Prelude.{◌≡◌, ℕ, ◌<◌, true, false, length, IsTr
 use Rattle.ttp_world.specs.declared.medl.Medl.{Medl}
 use Rattle.ttp_world.specs.Reception.{is_within_window}
 use Rattle.ttp_world.specs.World.{BegunSlot, deviation_in}
-use Rattle.fault_plan.specs.Plan.{Jumping, FaultPlan, enters}
-use Rattle.fault_plan.specs.Fates.{Falling, Fallen, fate_of, is_sound_after}
+use Rattle.safety_laws.specs.Plan.{Jumping, FaultPlan, enters}
+use Rattle.safety_laws.specs.Fates.{Falling, Fallen, fate_of, is_sound_after}
 
 -- in the slot of a turn that has begun, but for nodes that enter in it
 pub record ClocksHold (list : Medl) (plan : FaultPlan) (turn : ℕ) (s : BegunSlot) : Type 0 where

@@ -1,6 +1,6 @@
 -- The slots of a plan in which nodes enter.
 use Rattle.std.specs.Prelude.{◌≡◌, ℕ, ◌<◌, ◌≤◌, true, false, ◌⊎◌}
-use Rattle.fault_plan.specs.Plan.{FaultPlan, enters}
+use Rattle.safety_laws.specs.Plan.{FaultPlan, enters}
 
 -- none enters up to a slot
 abbrev pub NoneEnters : FaultPlan → ℕ → Type 0

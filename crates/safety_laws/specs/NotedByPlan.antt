@@ -13,10 +13,10 @@ use Rattle.ttp_world.specs.Diary.{History, entry_of}
 use Rattle.ttp_world.specs.Hypothesis.{ClusterStart}
 use Rattle.ttp_world.specs.Medl.{IsValid}
 use Rattle.precision.specs.Together.{IsIn, BeginsOn, TellsOf, measured}
-use Rattle.fault_plan.specs.Plan.{Jumping, FaultPlan, sender, enters}
-use Rattle.fault_plan.specs.Fates.{Falling, fate_of, is_sound_after, is_good_slot}
-use Rattle.fault_plan.specs.Kept.{FollowsWithin}
-use Rattle.fault_plan.specs.Places.{planned_place}
+use Rattle.safety_laws.specs.Plan.{Jumping, FaultPlan, sender, enters}
+use Rattle.safety_laws.specs.Fates.{Falling, fate_of, is_sound_after, is_good_slot}
+use Rattle.safety_laws.specs.Kept.{FollowsWithin}
+use Rattle.safety_laws.specs.Places.{planned_place}
 
 -- a node of the list that is sound after a slot
 abbrev pub IsSoundIn : Medl → FaultPlan → ℕ → ℕ → Type 0

@@ -10,10 +10,10 @@ use Rattle.ttp_world.specs.Medl.{IsValid}
 use Rattle.ttp_world.specs.Safety.{has_ever_sent}
 use Rattle.ttp_world.specs.Script.{is_armed, IsValidScript}
 use Rattle.ttp_world.specs.World.{SlotNumbers, Numbers, node_past, slot_after, world}
-use Rattle.fault_plan.specs.Plan.{FaultPlan, is_armed_by, enters}
-use Rattle.fault_plan.specs.Fates.{fate_of, is_sound_after, is_lost}
-use Rattle.fault_plan.specs.Kept.{FollowsPlan}
-use Rattle.fault_plan.specs.Ledger.{ledger_of}
+use Rattle.safety_laws.specs.Plan.{FaultPlan, is_armed_by, enters}
+use Rattle.safety_laws.specs.Fates.{fate_of, is_sound_after, is_lost}
+use Rattle.safety_laws.specs.Kept.{FollowsPlan}
+use Rattle.safety_laws.specs.Ledger.{ledger_of}
 use Rattle.safety_laws.specs.ByFate.{is_there, IsByFate}
 use Rattle.safety_laws.specs.ClocksHold.{ClocksHold}
 

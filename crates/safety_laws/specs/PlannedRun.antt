@@ -6,9 +6,9 @@ use Rattle.ttp_world.specs.Diary.{History}
 use Rattle.ttp_world.specs.Hypothesis.{ClusterStart, loses}
 use Rattle.ttp_world.specs.Script.{is_on}
 use Rattle.ttp_world.specs.Starts.{StartsAlone}
-use Rattle.fault_plan.specs.Plan.{FaultPlan}
-use Rattle.fault_plan.specs.Kept.{IsPlanOfFaults}
-use Rattle.fault_plan.specs.Returned.{IsPlanOfReturns}
+use Rattle.safety_laws.specs.Plan.{FaultPlan}
+use Rattle.safety_laws.specs.Kept.{IsPlanOfFaults}
+use Rattle.safety_laws.specs.Returned.{IsPlanOfReturns}
 use Rattle.safety_laws.specs.PlanTurn.{HoldsAfter, IsPlannedRun}
 
 -- a script follows a plan from the start of one node alone, whose frame comes to all that are on

@@ -11,7 +11,7 @@ use Rattle.ttp_world.specs.Diary.{History}
 use Rattle.ttp_world.specs.Hypothesis.{ClusterStart}
 use Rattle.ttp_world.specs.World.{Numbers}
 use Rattle.precision.specs.WorkedRun.{bare_slot}
-use Rattle.fault_plan.specs.Plan.{Jumping, FaultPlan}
+use Rattle.safety_laws.specs.Plan.{Jumping, FaultPlan}
 
 -- five bare slots with sync, for drifts of one microtick and no reading error
 abbrev pub five_clocks : Medl

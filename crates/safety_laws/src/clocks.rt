@@ -3,7 +3,7 @@
 //! They take what each node noted as a premise (`NotedByPlan` of `specs/NotedByPlan.antt`), slot by slot,
 //! and give what an induction over the slots asks of clocks at the beginning of the next slot. Beside that
 //! premise a caller needs a script that follows a good plan, and the list's bounds on clocks
-//! (`FollowsWithin` of fault_plan).
+//! (`FollowsWithin` of `fault_plan`).
 //!
 //! `proofs/RoundNotes.antt` counts the notes of a round by the plan, `BeganTogether.antt` begins with the
 //! start, and `Company.antt` is the induction for sound nodes. For a jumped clock `Apart.antt` says
@@ -24,9 +24,9 @@ ghost use Rattle.ttp_world.specs.Reception.{is_within_window};
 ghost use Rattle.precision.specs.Spread.{spread, spread_rejoining, needed_rejoining};
 ghost use Rattle.precision.specs.Together.{BeganTogether, clock_at, measured};
 ghost use Rattle.precision.specs.Company.{RanAsCompany};
-ghost use Rattle.fault_plan.specs.Plan.{FaultPlan, enters};
-ghost use Rattle.fault_plan.specs.Fates.{is_sound_after};
-ghost use Rattle.fault_plan.specs.Kept.{FollowsPlan};
+ghost use Rattle.safety_laws.specs.Plan.{FaultPlan, enters};
+ghost use Rattle.safety_laws.specs.Fates.{is_sound_after};
+ghost use Rattle.safety_laws.specs.Kept.{FollowsPlan};
 ghost use Rattle.safety_laws.specs.Jumps.{HasJumped};
 ghost use Rattle.safety_laws.specs.Entries.{NoneEnters, IsNewestEntry};
 ghost use Rattle.safety_laws.specs.NotedByPlan.{IsSoundIn, StartedByPlan, NotedByPlan, GoesOnByPlan};

@@ -1,10 +1,12 @@
 //! Safety under the single-fault hypothesis, from what one slot makes of one node to whole runs.
 //!
 //! The crate has no code that does anything: its functions are laws over the definitions of `ttp_world`,
-//! `precision` and `fault_plan`, and worked cases that the check computes. Members decide whose frames a
+//! `precision`, and worked cases that the check computes. Members decide whose frames a
 //! node notes, what it notes moves its clock, and clocks decide whose frames come in time. So there are
-//! four rooms, each a module whose head says more:
+//! six rooms, each a module whose head says more:
 //!
+//! - [`fault_plan`]: what a plan of faults is, and that a script which keeps the hypothesis follows a good
+//!   one. It knows no frames, members and clocks;
 //! - [`slots`]: what one slot of the world does to one node, and how a cluster starts. It knows no plan
 //!   of faults, and of clocks no more than whether a deviation lies within the window, and what a node
 //!   notes;
@@ -12,13 +14,14 @@
 //!   premise, and proves nothing of them;
 //! - [`clocks`]: that on clocks, beside `steps`. It takes what the nodes noted as a premise, and says
 //!   nothing of members and verdicts;
-//! - [`runs`], over both: the two as one induction, for every run that follows a good plan of faults.
+//! - [`runs`], over both: the two as one induction, for every run that follows a good plan of faults;
+//! - [`rejoin`]: by another plan, that nodes which are armed again get their places.
 //!
 //! [`safe`] and [`same_frames`] say it of a script that keeps the single-fault hypothesis, with no premise
 //! left. A caller of both has a valid list and script and the answer `yes` of the test, with the slot of
 //! the start; what they say is of all legal message numbers. theorems cites both as `kept-safe`,
 //! `kept-clocks` and `kept-alike` of `proofs/Kept.antt`, the one file here that knows the hypothesis, but
-//! for the start that `slots` takes from it; two_faced and rejoin have a plan of their own, and cite
+//! for the start that `slots` takes from it; two_faced and `rejoin` have a plan of their own, and cite
 //! `run-by_plan` of `proofs/Together.antt`. `one_mode` of mode_change calls the law on frames, and the
 //! tests of ground_tests the laws of the rooms:
 //!
@@ -44,6 +47,8 @@ ghost use Rattle.safety_laws.specs.Gone.{FaultyLeave};
 ghost use Rattle.safety_laws.specs.SameFrames.{AcceptsAlikeSince, StandsAlikeSince};
 
 pub mod clocks;
+pub mod fault_plan;
+pub mod rejoin;
 pub mod runs;
 pub mod slots;
 pub mod steps;

@@ -8,8 +8,8 @@ ghost use Rattle.ttp_world.specs.Legal.{IsLegal};
 ghost use Rattle.ttp_world.specs.Medl.{IsValid};
 ghost use Rattle.ttp_world.specs.Script.{IsValidScript};
 ghost use Rattle.ttp_world.specs.World.{Numbers, world};
-ghost use Rattle.fault_plan.specs.Kept.{FollowsWithin};
-ghost use Rattle.fault_plan.specs.Plan.{FaultPlan, fault_plan_of};
+ghost use Rattle.safety_laws.specs.Kept.{FollowsWithin};
+ghost use Rattle.safety_laws.specs.Plan.{FaultPlan, fault_plan_of};
 ghost use Rattle.safety_laws.specs.PlannedRun.{IsBegunAlone, StandsWithFaults};
 ghost use Rattle.safety_laws.specs.ByPlan.{IsByPlan};
 

@@ -10,12 +10,12 @@
 //! Of clocks a slot takes as a premise what it needs (`ClocksHold` of `specs/ClocksHold.antt`): between
 //! sound nodes a deviation lies inside the window, and a node whose clock jumped is outside it, and they
 //! outside its own, up to its first own slot. Of the plan a caller shows that it is good, and that the
-//! script follows it (`IsBegunAlone` of `specs/PlannedRun.antt`, `FollowsPlan` of fault_plan).
+//! script follows it (`IsBegunAlone` of `specs/PlannedRun.antt`, `FollowsPlan` of `fault_plan`).
 //!
 //! The proof of a step goes by the fate of the slot's sender: `proofs/Arrivals.antt` says what comes,
 //! `proofs/Receivers.antt` and `SoundSteps.antt` what a sound receiver makes of it, `LostSteps.antt` what
 //! a lost node does, `Returners.antt` what an armed one does, and `WorldSteps.antt` joins them. Others cite
-//! `WorldSteps.antt`, `SafeByFate.antt` and `PlanTurns.antt`, and rejoin `SafeBack.antt`.
+//! `WorldSteps.antt`, `SafeByFate.antt` and `PlanTurns.antt`, and `rejoin` `SafeBack.antt`.
 ghost use Rattle.std.specs.Prelude.{◌≡◌, ℕ, suc, ◌+◌, ◌*◌, ◌<◌, ◌≤◌, true, ◌∷◌, length, Some};
 ghost use Rattle.ttp_world.specs.declared.medl.Medl.{Medl};
 ghost use Rattle.ttp_world.specs.declared.node.Phase.TheVariants as phase;
@@ -26,8 +26,8 @@ ghost use Rattle.ttp_world.specs.Hypothesis.{ClusterStart, is_correct_after};
 ghost use Rattle.ttp_world.specs.Returning.{is_back_correct_after};
 ghost use Rattle.ttp_world.specs.Safety.{newest_slot, IsSafe};
 ghost use Rattle.ttp_world.specs.World.{SlotNumbers, Numbers, node_past, world};
-ghost use Rattle.fault_plan.specs.Plan.{Change, Sending, FaultPlan};
-ghost use Rattle.fault_plan.specs.Fates.{Fallen, fate_of, lost_since};
+ghost use Rattle.safety_laws.specs.Plan.{Change, Sending, FaultPlan};
+ghost use Rattle.safety_laws.specs.Fates.{Fallen, fate_of, lost_since};
 ghost use Rattle.safety_laws.specs.ByFate.{IsSoundAt};
 ghost use Rattle.safety_laws.specs.Gone.{FaultyLeave};
 ghost use Rattle.safety_laws.specs.PlanTurn.{HoldsAfter, IsTurn};

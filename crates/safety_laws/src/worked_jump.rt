@@ -6,7 +6,7 @@ ghost use Rattle.ttp_world.specs.Hypothesis.{keeps, needed};
 ghost use Rattle.ttp_world.specs.Medl.{IsValid};
 ghost use Rattle.ttp_world.specs.World.{world};
 ghost use Rattle.precision.specs.Together.{measured};
-ghost use Rattle.fault_plan.specs.Kept.{FollowsWithin};
+ghost use Rattle.safety_laws.specs.Kept.{FollowsWithin};
 ghost use Rattle.safety_laws.specs.Jumps.{HasJumped};
 ghost use Rattle.safety_laws.specs.NotedByPlan.{NotedByPlan};
 ghost use Rattle.safety_laws.specs.WorkedJump.{five_clocks, late_jump, five_clocks_start, one_jump, no_numbers_in_jump};

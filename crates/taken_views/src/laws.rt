@@ -9,7 +9,7 @@ ghost use Rattle.ttp_world.specs.Script.{IsValidScript};
 ghost use Rattle.ttp_world.specs.Trace.{trace_lines};
 ghost use Rattle.ttp_world.specs.World.{Numbers};
 ghost use Rattle.picture_text.specs.declared.window.Span.{Span as Slots};
-ghost use Rattle.taken_texts.specs.TakenTrace.{IsOfBytes, trace_of_run};
+ghost use Rattle.lab_laws.specs.TakenTrace.{IsOfBytes, trace_of_run};
 ghost use Rattle.lab_top.specs.Views.{picture_view, has_slots, CanBeShown};
 
 /// The text of a run can be shown, as the trace of the run, where it has the slots that are asked for. Where none

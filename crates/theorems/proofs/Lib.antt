@@ -1,3 +1,14 @@
-pub mod Since
-pub mod Runs
+pub mod HostEvents
+pub mod HostLineLength
+pub mod MessageSizes
 pub mod ModeTexts
+pub mod NodeLineLength
+pub mod Runs
+pub mod Since
+pub mod Small
+pub mod SmallEntries
+pub mod SmallPasts
+pub mod SmallStates
+pub mod TestLineLength
+pub mod TraceLength
+pub mod WordLengths

@@ -15,7 +15,7 @@ use Rattle.ttp_world.specs.World.{Numbers, world}
 use Rattle.ttp_world.proofs.LegalRuns.{legal-whole, legal-none}
 use Rattle.ttp_world.proofs.Worlds.{length-world}
 use Rattle.safety_laws.proofs.Kept.{kept-safe, kept-clocks, kept-deviations, kept-alike, kept-stands_alike}
-use Rattle.rejoin.proofs.Returned.{returned-safe}
+use Rattle.safety_laws.proofs.Returned.{returned-safe}
 use Rattle.mode_change.proofs.Alike.{one-mode}
 use Rattle.two_faced.specs.declared.faced.Faced.TheVariants as faced
 use Rattle.two_faced.specs.Faced.{faced_of}

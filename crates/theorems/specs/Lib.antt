@@ -1,5 +1,5 @@
-pub mod Since
-pub mod KeptRun
 pub mod FacedRun
-pub mod SomeRun
+pub mod KeptRun
 pub mod ModeText
+pub mod Since
+pub mod SomeRun

@@ -34,7 +34,7 @@ pub use Rattle.std.specs.List.{AllByRecursion, concat}
 pub use Rattle.std.specs.Prelude.{codes, count_by, decimal, is_some, map, ◌==◌}
 pub use Rattle.trace_check.proofs.OwnNumbers.{is_trace-numbers}
 pub use Rattle.trace_check.specs.Answer.{IsFirstWrong, is_trace}
-pub use Rattle.trace_size.proofs.TraceLength.{trace-short}
+pub use Rattle.theorems.proofs.TraceLength.{trace-short}
 pub use Rattle.ttp_base.proofs.Lines.{is_line-append}
 pub use Rattle.ttp_base.proofs.Numerals.{has, has-decimal}
 pub use Rattle.ttp_base.proofs.Outputs.{CutShort-after, CutShort-more, Wrote-join, Wrote-none}

@@ -19,9 +19,9 @@ use Rattle.precision.proofs.Entries.{begun_active, offset_corrected, notes_anew,
 use Rattle.precision.proofs.Rounds.{correction, corrected_last, corrected_inside}
 use Rattle.precision.proofs.Rounds.{product_once as one_drift}
 use Rattle.precision.proofs.Runs.{round_notes}
-use Rattle.fault_plan.specs.Fates.{is_measured, tally}
-use Rattle.fault_plan.proofs.Counts.{four-measured}
-use Rattle.fault_plan.proofs.Members.{first-sender}
+use Rattle.safety_laws.specs.Fates.{is_measured, tally}
+use Rattle.safety_laws.proofs.Counts.{four-measured}
+use Rattle.safety_laws.proofs.Members.{first-sender}
 use Rattle.safety_laws.specs.NotedByPlan.{StartedByPlan, NotedByPlan}
 use Rattle.safety_laws.proofs.NearNotes.{clock-next, notes-next, index-of}
 use Rattle.safety_laws.proofs.RoundNotes.{Counted, sound-goes, place-slot}

@@ -12,8 +12,8 @@ use Rattle.ttp_world.specs.declared.node.Phase.TheVariants as phase
 use Rattle.ttp_world.specs.Diary.{phase_after}
 use Rattle.ttp_world.specs.Medium.{is_sending}
 use Rattle.ttp_world.specs.Safety.{members_of_node}
-use Rattle.fault_plan.specs.Fates.{Listening}
-use Rattle.fault_plan.specs.Ledger.{planned_members}
+use Rattle.safety_laws.specs.Fates.{Listening}
+use Rattle.safety_laws.specs.Ledger.{planned_members}
 use Rattle.safety_laws.specs.Groups.{held_with}
 use Rattle.safety_laws.specs.NotedByPlan.{NotesNothing}
 use Rattle.safety_laws.specs.ByFate.{IsSoundAt, IsByFate}
@@ -24,8 +24,8 @@ use Rattle.two_faced.proofs.QuietPlan.{fate-always, quiet_plan, follows, on-soun
 use Rattle.two_faced.proofs.FacedSlots.{IsFacing}
 use Rattle.two_faced.specs.Halved.{AreJudgedCorrect, JudgedCorrectSince}
 use Rattle.two_faced.proofs.Rules.{RulesHold}
-use Rattle.fault_plan.proofs.FateSteps.{sound-fate as sound-only}
-use Rattle.fault_plan.proofs.FaultySets.{lost-begin}
+use Rattle.safety_laws.proofs.FateSteps.{sound-fate as sound-only}
+use Rattle.safety_laws.proofs.FaultySets.{lost-begin}
 
 -- a node that doubts none holds the group
 undoubted : (group : List ℕ) (a : Ack) → ((y : ℕ) → a ≡ ack.Doubt y → ⊥) → held_with group a ≡ group

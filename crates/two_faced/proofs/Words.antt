@@ -1,10 +1,10 @@
 -- The words of this crate's proofs, from one place.
-pub use Rattle.fault_plan.proofs.Returns.{never-listens, none-enters}
-pub use Rattle.fault_plan.specs.Fates.{Absent, Fallen, Falling, Fate, Sound, fate_of, is_good_slot, is_lost}
-pub use Rattle.fault_plan.specs.Fates.{is_sound_fate, is_sound_after}
-pub use Rattle.fault_plan.specs.Kept.{FollowsPlan}
-pub use Rattle.fault_plan.specs.Places.{planned_place}
-pub use Rattle.fault_plan.specs.Plan.{FaultPlan, sender}
+pub use Rattle.safety_laws.proofs.Returns.{never-listens, none-enters}
+pub use Rattle.safety_laws.specs.Fates.{Absent, Fallen, Falling, Fate, Sound, fate_of, is_good_slot, is_lost}
+pub use Rattle.safety_laws.specs.Fates.{is_sound_fate, is_sound_after}
+pub use Rattle.safety_laws.specs.Kept.{FollowsPlan}
+pub use Rattle.safety_laws.specs.Places.{planned_place}
+pub use Rattle.safety_laws.specs.Plan.{FaultPlan, sender}
 pub use Rattle.hypothesis.specs.SoleStart.{sole_start}
 pub use Rattle.hypothesis.specs.Standing.{told_start_if}
 pub use Rattle.precision.proofs.Averages.{IsUpTo}

@@ -54,7 +54,7 @@ fn laws_of_safety() {
 
 #[test]
 fn law_of_nodes_that_are_armed_again() {
-    rejoin::laws::stands();
+    safety_laws::rejoin::laws::stands();
 }
 
 #[test]

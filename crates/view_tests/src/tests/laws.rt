@@ -2,5 +2,5 @@
 
 #[test]
 fn law_of_runs() {
-    taken_texts::traces::laws::run_is_taken();
+    lab_laws::taken::traces::laws::run_is_taken();
 }

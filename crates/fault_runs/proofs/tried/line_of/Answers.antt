@@ -1,6 +1,6 @@
 use Rattle.fault_runs.proofs.Words.{◌++◌, List, ℕ, ap, ◌∙◌}
 use Rattle.campaign.specs.Lines.{fault_line}
-use Rattle.campaign_text.specs.Told.{told_summary}
+use Rattle.fault_runs.specs.Told.{told_summary}
 use Rattle.fault_runs.proofs.tried.line_of.Goals as goal
 
 pub returns-clause-line : goal.returns-clause-line

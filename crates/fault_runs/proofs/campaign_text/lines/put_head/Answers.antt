@@ -1,0 +1,11 @@
+use Rattle.std.proofs.Common.{List, ℕ, ◌≡◌, ◌++◌, ap, subst}
+use Rattle.std.specs.Prelude.{codes, OnOk}
+use Rattle.fault_runs.specs.Told.{head_words}
+use Rattle.fault_runs.proofs.campaign_text.lines.put_head.Goals as goal
+
+pub returns : goal.returns
+returns c =
+    subst (λ (w : List ℕ). OnOk c.put_head_words.result (c.put_head_words.new.text ≡ c.args.text.now ++ w))
+    (ap (λ (n : ℕ). head_words (codes "ttplab campaign 1 nodes ") n c.args.script.now.slots c.args.first c.args.last)
+    c.nodes.ensures)
+    c.put_head_words.ensures

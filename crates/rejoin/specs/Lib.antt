@@ -1,2 +1,0 @@
-pub mod BackPlan
-pub mod WorkedCase

@@ -1,4 +1,0 @@
-pub mod Ranges
-pub mod TakenCampaign
-pub mod TakenTrace
-pub mod TwoSlots

@@ -1,6 +1,0 @@
-use Rattle.trace_size.proofs.TraceLength.{trace-short}
-use Rattle.trace_size.proofs.laws.within_limit.Goals as goal
-
-pub returns : goal.returns
-returns c = λ list script numbers valid script_valid legal.
-    trace-short list script numbers valid script_valid legal.count legal.legal
