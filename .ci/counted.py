@@ -6,12 +6,15 @@ many times slower and do their own bookkeeping of memory, so some checks are lef
 
 import concurrent.futures
 import os
+import re
 import subprocess
 import sys
 import threading
 
 TOP = os.path.dirname(os.path.dirname(os.path.realpath(__file__)))
 UNPROVED = os.environ.get("TTPBENCH_UNPROVED")
+# What may be said of a campaign while it is written.
+PROGRESS = r"^ttplab: \d+ of \d+ slots, about \d+ (seconds|minutes|hours) left\n"
 
 
 def program(name="ttpbench"):
@@ -22,15 +25,24 @@ def program(name="ttpbench"):
     return built
 
 
+def untold(name, status, said):
+    """What is wrong with what a program said on standard error: a command that was not done, so that the status is 2 to 8, has
+    one line that begins with the program's name, and any other has none. How far a campaign has come may always be said."""
+    said = re.sub(PROGRESS, "", said, flags=re.M)
+    if status in range(2, 9):
+        return "" if re.fullmatch(rf"{name}: [^\n]+\n", said) else f"not one line: {said!r}"
+    return said
+
+
 def answer(words, *, name="ttpbench", out=subprocess.PIPE, seconds=120, **how):
-    """The status, the output as text, and what was said on standard error, of the program with these words."""
+    """The status, the output as text, and what is wrong with what was said on standard error, of the program with these words."""
     try:
         ran = subprocess.run(
             [program(name), *words], stdout=out, stderr=subprocess.PIPE, stdin=subprocess.DEVNULL, timeout=seconds, check=False, **how
         )
     except subprocess.TimeoutExpired:
         return "no end", "", ""
-    return ran.returncode, (ran.stdout or b"").decode("latin-1"), ran.stderr.decode("latin-1")
+    return ran.returncode, (ran.stdout or b"").decode("latin-1"), untold(name, ran.returncode, ran.stderr.decode("latin-1"))
 
 
 class Counted:
