@@ -1,9 +1,9 @@
 -- Each line of a campaign is one line: its one line feed is its last byte.
-use Rattle.std.proofs.Common.{◌≡◌, ◌<◌, ℕ, zero, suc, ◌+◌, ◌-◌, Bool, true, false, cond, List, [], ◌∷◌, ◌++◌, map, length, take}
+use Rattle.std.proofs.Common.{◌≡◌, ℕ, zero, suc, ◌+◌, ◌-◌, Bool, true, false, cond, List, [], ◌∷◌, ◌++◌, map, length, take}
 use Rattle.std.proofs.Common.{Option, Some, None, refl, arith, codes, decimal}
 use Rattle.std.specs.Prelude.{◌==◌}
 use Rattle.std.specs.Fmt.{signed_decimal}
-use Rattle.std.specs.List.{AllByRecursion, join_with_byte}
+use Rattle.std.specs.List.{join_with_byte}
 use Rattle.std.proofs.lemmas.List.Folds.{list_any-append}
 use Rattle.ttp_base.specs.NodeSet.{set_bits}
 use Rattle.ttp_base.specs.Text.{newline, is_line}
@@ -36,7 +36,7 @@ use Rattle.campaign.specs.ZerosWorld.{zeros_world}
 use Rattle.wave_text.proofs.Feeds.{HasNone, none-append, none-decimal}
 use Rattle.commands.specs.Lines.{AreLines}
 
-ended : (text : List ℕ) → HasNone text → is_line (text ++ newline) ≡ true
+pub ended : (text : List ℕ) → HasNone text → is_line (text ++ newline) ≡ true
 ended text none = is_line-append text newline none refl
 
 -- The test: a line without its line feed.
@@ -110,7 +110,7 @@ cost-none list cost =
 
 -- The fault.
 
-channels-none : (a b : Bool) → HasNone (on_channels a b)
+pub channels-none : (a b : Bool) → HasNone (on_channels a b)
 channels-none true true = refl
 channels-none true false = refl
 channels-none false b = refl
@@ -124,13 +124,13 @@ loss-none : (word node channels kind from to : List ℕ) → HasNone word → Ha
     → HasNone (word ++ node ++ codes " " ++ channels ++ codes " " ++ kind ++ codes " " ++ from ++ codes " " ++ to)
 loss-none word node channels kind from to p q r s t u = simp (list_any-append (λ c. c == 10), p, q, r, s, t, u)
 
-loss_words-none : (word : List ℕ) (node : ℕ) (channels : Channels) (kind : Fault) (from to : ℕ) → HasNone word
+pub loss_words-none : (word : List ℕ) (node : ℕ) (channels : Channels) (kind : Fault) (from to : ℕ) → HasNone word
     → HasNone (loss_words word node channels kind from to)
 loss_words-none word node channels kind from to none =
     loss-none word (decimal node) (channels_word channels) (kind_word kind) (decimal from) (decimal to) none (none-decimal node)
     (channels-none channels.a channels.b) (kind-none kind) (none-decimal from) (none-decimal to)
 
-jump-none : (node value slot : List ℕ) → HasNone node → HasNone value → HasNone slot
+pub jump-none : (node value slot : List ℕ) → HasNone node → HasNone value → HasNone slot
     → HasNone (codes "jump " ++ node ++ codes " " ++ value ++ codes " " ++ slot)
 jump-none node value slot p q r = simp (list_any-append (λ c. c == 10), p, q, r)
 

@@ -12,7 +12,7 @@ use Rattle.chart_text.specs.Columns.{slots_shown}
 use Rattle.chart_text.specs.Walks.{LeftOfChart}
 use Rattle.commands.specs.Lines.{HasSaid}
 use Rattle.commands.specs.Outcome.{Refused, ShowsEnding}
-use Rattle.commands.specs.Texts.{Texts, no_texts, alone}
+use Rattle.commands.specs.Texts.{no_texts, alone}
 use Rattle.commands.proofs.Loads.{said}
 use Rattle.lab_top.specs.declared.refusal.TextFault.{TextFault}
 use Rattle.lab_top.specs.declared.refusal.TextFault.TheVariants as fault

@@ -1,5 +1,5 @@
 -- What holds of each ending of a form: what its texts are made of, and what its status and the form tell of each other.
-use Rattle.std.proofs.Common.{◌≡◌, ◌≢◌, ℕ, Bool, true, false, ◌++◌, ◌∷◌, Option, Some, None, Result, Ok, Err, refl, subst, arith}
+use Rattle.std.proofs.Common.{◌≡◌, ◌≢◌, ℕ, true, false, ◌++◌, [], ◌∷◌, Option, Some, None, Result, Ok, Err, refl, subst, arith}
 use Rattle.std.proofs.Common.{List}
 use Rattle.std.specs.Prelude.{codes}
 use Rattle.ttp_base.specs.Text.{Lines, newline, is_line}
@@ -11,21 +11,26 @@ use Rattle.campaign.specs.Lines.{campaign_lines}
 use Rattle.wave_text.proofs.DeclaredLines.{wave_lines-each}
 use Rattle.lab_laws.proofs.LinesAndTitles.{picture_lines-each}
 use Rattle.lab_laws.proofs.CampaignsRead.{campaign-draws}
+use Rattle.script_gen.specs.Generator.{generated}
+use Rattle.script_lines.specs.ScriptLines.{script_lines}
 use Rattle.commands.specs.declared.read.FileFault.{FileFault}
 use Rattle.commands.specs.Files.{refused_list, refused_script}
 use Rattle.commands.specs.Lines.{AreLines}
-use Rattle.commands.specs.Plan.{ends, said_ending}
-use Rattle.commands.specs.Texts.{those, no_texts}
+use Rattle.commands.specs.Plan.{ends, said_ending, whole_ending}
+use Rattle.commands.specs.Texts.{one, those, no_texts}
 use Rattle.commands.proofs.Lines.{AreOfLines, IsFinal, SaysLine, one_text, lines_front, text_final, line_final}
 use Rattle.commands.proofs.Lines.{refused_list-final, refused_script-final}
-use Rattle.commands.proofs.Plans.{Every, both_every}
+use Rattle.commands.proofs.Plans.{Every, list_every, both_every}
 use Rattle.lab_top.specs.declared.refusal.TextFault.{TextFault}
-use Rattle.lab_top.specs.Forms.{lab_usage_line, viewed_ending, view_plan, campaign_ending, campaign_plan, lab_plan_of}
+use Rattle.lab_top.specs.Forms.{lab_usage_line, viewed_ending, view_plan, campaign_ending, campaign_plan, script_ending}
+use Rattle.lab_top.specs.Forms.{script_form_plan, lab_plan_of}
+use Rattle.lab_top.specs.Help.{help_lines, version_line}
 use Rattle.lab_top.specs.Refusals.{text_fault_line}
 use Rattle.lab_top.specs.Texts.{begun, LabEnding, ttplab}
 use Rattle.lab_top.specs.Views.{View, viewed, wave_view, picture_view, chart_view}
-use Rattle.lab_top.specs.Words.{LabForm, wave, picture, campaign, chart, is_campaign}
+use Rattle.lab_top.specs.Words.{LabForm, wave, picture, campaign, chart, script_by, help, version, is_campaign, reads_list}
 use Rattle.lab_top.proofs.CampaignLines.{campaign_lines-each}
+use Rattle.lab_top.proofs.GeneratedLines.{script_lines-each}
 use Rattle.lab_top.proofs.Refusals.{text_fault_line-is_line, viewed-taken}
 
 -- an ending that a form may come to
@@ -34,8 +39,8 @@ pub record IsOfForm (form : Option LabForm) (ending : LabEnding) : Type 0 where
   -- the usage line answers words of no form alone
   pub usage : ending.status ≡ 2 → form ≡ None
   pub not_1 : ending.status ≢ 1
-  -- only a campaign reads a list
-  pub lists : ending.status ≡ 3 → is_campaign form ≡ true
+  -- only forms that read a list refuse one
+  pub lists : ending.status ≡ 3 → reads_list form ≡ true
   -- but for a campaign, nothing stands where memory is refused
   pub lets : is_campaign form ≡ false → ending.unfinished ≡ no_texts
 
@@ -70,9 +75,9 @@ of_view : {Value : Type 0} (form : Option LabForm) (view : View Value) (name : L
     → Every (IsOfForm form) SaysLine (view_plan view name)
 of_view form view name lines = (missing-line view.kind lines.plain, λ text. view_ends form view text (viewed view text) refl lines)
 
--- the endings of a list or a script that is refused are those of a campaign
+-- the endings of a list or a script that is refused are those of the forms that read them
 
-no_list : (form : Option LabForm) → is_campaign form ≡ true → (fault : FileFault)
+no_list : (form : Option LabForm) → reads_list form ≡ true → (fault : FileFault)
     → IsOfForm form (said_ending (refused_list fault))
 no_list form is fault = record {
   final = refused_list-final ttplab fault;
@@ -119,6 +124,40 @@ of_campaign list script first last =
     both_every (IsOfForm form) SaysLine list script (λ medl right. ends (campaign_ending medl right first last)) refl refl
     (no_list form refl) (no_script form) (campaign_ends list script first last)
 
+-- a generated script is made of lines
+
+script_ends : (list : List ℕ) (slots number : ℕ) (medl : Medl)
+    → IsOfForm (Some (script_by list slots number)) (script_ending slots number medl)
+script_ends list slots number medl =
+    let text = script_lines (generated medl slots number) in
+    record {
+      final = text_final ttplab 0 text (omega arith) (script_lines-each (generated medl slots number));
+      usage = λ two. absurd (omega (arith, two));
+      not_1 = λ one. omega (arith, one);
+      lists = λ three. refl;
+      lets = λ other. refl;
+    }
+
+of_script : (list : List ℕ) (slots number : ℕ)
+    → Every (IsOfForm (Some (script_by list slots number))) SaysLine (script_form_plan list slots number)
+of_script list slots number =
+    let form = Some (script_by list slots number) in
+    list_every (IsOfForm form) SaysLine list (λ medl. ends (script_ending slots number medl)) refl (no_list form refl)
+    (script_ends list slots number)
+
+-- and so are lines that never change
+of_lines : (form : Option LabForm) (text : Lines) → AreLines text → IsOfForm form (whole_ending 0 (one text))
+of_lines form text each = record {
+  final = text_final ttplab 0 text (omega arith) each;
+  usage = λ two. absurd (omega (arith, two));
+  not_1 = λ one. omega (arith, one);
+  lists = λ three. absurd (omega (arith, three));
+  lets = λ other. refl;
+}
+
+help-each : AreLines help_lines
+help-each = (refl, (refl, (refl, (refl, (refl, (refl, (refl, (refl, (refl, tt)))))))))
+
 pub lab_forms : (form : Option LabForm) → Every (IsOfForm form) SaysLine (lab_plan_of form)
 lab_forms None = record {
   final = line_final ttplab 2 lab_usage_line (omega arith) refl;
@@ -136,3 +175,6 @@ lab_forms (Some (campaign list script first last)) = of_campaign list script fir
 lab_forms (Some (chart name asked)) =
     of_view (Some (chart name asked)) (chart_view asked) name
     (record { plain = refl; each = λ text whole is. (campaign-draws text whole asked is).each })
+lab_forms (Some (script_by list slots number)) = of_script list slots number
+lab_forms (Some help) = of_lines (Some help) help_lines help-each
+lab_forms (Some version) = of_lines (Some version) (version_line ∷ []) (refl, tt)

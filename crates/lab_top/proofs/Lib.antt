@@ -1,8 +1,11 @@
 pub mod Room
 pub mod CampaignLines
+pub mod GeneratedLines
 pub mod Refusals
 pub mod Charts
 pub mod Forms
 pub mod Promises
 pub mod Views
 pub mod CampaignPromises
+pub mod ScriptPromises
+pub mod ThreeWords

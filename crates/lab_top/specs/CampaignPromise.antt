@@ -1,6 +1,6 @@
 -- The promise of `campaign LIST SCRIPT FIRST LAST` in its own words.
 use Rattle.std.specs.Prelude.{◌≡◌, ◌⊎◌, ℕ, List, [], ◌∷◌, All, codes, Ok, Err}
-use Rattle.ttp_base.specs.Outside.{holds, Gives, HasRisen, Wrote, WroteLines, CutShort}
+use Rattle.ttp_base.specs.Outside.{Gives, HasRisen, Wrote, WroteLines, CutShort}
 use Rattle.ttp_world.specs.declared.medl.Medl.{Medl}
 use Rattle.ttp_world.specs.declared.script.Script.{Script}
 use Rattle.ttp_world.specs.Medl.{IsValid}

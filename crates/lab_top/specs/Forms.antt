@@ -1,21 +1,25 @@
 -- What each form of `ttplab` asks for, and how it ends.
-use Rattle.std.specs.Prelude.{ℕ, List, Option, Some, None, Result, Ok, Err, codes}
+use Rattle.std.specs.Prelude.{ℕ, List, ◌++◌, Option, Some, None, Result, Ok, Err, codes}
 use Rattle.ttp_world.specs.declared.medl.Medl.{Medl}
 use Rattle.ttp_world.specs.declared.script.Script.{Script}
 use Rattle.campaign.specs.Lines.{campaign_lines}
-use Rattle.commands.specs.Files.{both_plan}
+use Rattle.commands.specs.Files.{list_plan, both_plan}
 use Rattle.commands.specs.Plan.{whole_ending, line_ending, said_ending, ends, asks}
 use Rattle.commands.specs.Texts.{one, those}
+use Rattle.script_gen.specs.Generator.{generated}
+use Rattle.script_lines.specs.ScriptLines.{script_lines}
 use Rattle.lab_top.specs.declared.refusal.TextFault.{TextFault}
+use Rattle.lab_top.specs.Help.{help_lines, version_line}
 use Rattle.lab_top.specs.Refusals.{refused_text}
 use Rattle.lab_top.specs.Texts.{begun, LabEnding, LabPlan}
 use Rattle.lab_top.specs.Views.{View, text_file, viewed, wave_view, picture_view, chart_view}
-use Rattle.lab_top.specs.Words.{LabForm, wave, picture, campaign, chart}
+use Rattle.lab_top.specs.Words.{LabForm, wave, picture, campaign, chart, script_by, help, version}
 
 -- the line that answers words of no form
 abbrev pub lab_usage_line : List ℕ
 lab_usage_line =
-    codes "usage: wave TRACE | picture TRACE [FIRST LAST] | campaign LIST SCRIPT FIRST LAST | chart CAMPAIGN [FIRST LAST]\n"
+    codes "usage: wave TRACE | picture TRACE [FIRST LAST] | campaign LIST SCRIPT FIRST LAST"
+    ++ codes " | chart CAMPAIGN [FIRST LAST] | script LIST SLOTS NUMBER\n"
 
 -- a view ends with its lines, or with the line that says why a text is not shown
 abbrev pub viewed_ending : {Value : Type 0} → View Value → Result Value TextFault → LabEnding
@@ -37,6 +41,18 @@ abbrev pub campaign_plan : List ℕ → List ℕ → ℕ → ℕ → LabPlan
 campaign_plan list script first last =
     both_plan list script (λ medl right. ends (campaign_ending medl right first last))
 
+-- a generated script ends with its text
+abbrev pub script_ending : ℕ → ℕ → Medl → LabEnding
+script_ending slots number list = whole_ending 0 (one (script_lines (generated list slots number)))
+
+-- it asks for the list
+abbrev pub script_form_plan : List ℕ → ℕ → ℕ → LabPlan
+script_form_plan list slots number = list_plan list (λ medl. ends (script_ending slots number medl))
+
+-- what each form writes is written whole
+abbrev pub help_ending : LabEnding
+help_ending = whole_ending 0 (one help_lines)
+
 -- the plan of a form, and of words that have none
 abbrev pub lab_plan_of : Option LabForm → LabPlan
 lab_plan_of None = ends (line_ending 2 lab_usage_line)
@@ -44,3 +60,6 @@ lab_plan_of (Some (wave trace)) = view_plan wave_view trace
 lab_plan_of (Some (picture trace asked)) = view_plan (picture_view asked) trace
 lab_plan_of (Some (campaign list script first last)) = campaign_plan list script first last
 lab_plan_of (Some (chart name asked)) = view_plan (chart_view asked) name
+lab_plan_of (Some (script_by list slots number)) = script_form_plan list slots number
+lab_plan_of (Some help) = ends help_ending
+lab_plan_of (Some version) = ends (line_ending 0 version_line)

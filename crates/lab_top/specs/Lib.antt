@@ -1,4 +1,5 @@
 pub mod Words
+pub mod Help
 pub mod Refusals
 pub mod Views
 pub mod Texts
@@ -6,3 +7,4 @@ pub mod Forms
 pub mod Promise
 pub mod ViewPromise
 pub mod CampaignPromise
+pub mod ScriptPromise

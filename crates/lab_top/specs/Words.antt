@@ -1,7 +1,9 @@
 -- The forms of the words of `ttplab`.
-use Rattle.std.specs.Prelude.{List, [], ◌∷◌, ℕ, nat_le, codes, Bool, true, false, Option, Some, None, if◌then◌else◌}
+use Rattle.std.specs.Prelude.{List, [], ◌∷◌, ℕ, ◌^◌, ◌≤◌, nat_le, codes, Bool, true, false, ◌&&◌, Option, Some, None}
+use Rattle.std.specs.Prelude.{option_and_then, if◌then◌else◌}
 use Rattle.std.specs.Str.{bytes_eq}
-use Rattle.commands.specs.Words.{numeral_named}
+use Rattle.ttp_world.specs.declared.script.TheConstants.{SLOT_LIMIT}
+use Rattle.commands.specs.Words.{number_below, numeral_named}
 use Rattle.picture_text.specs.declared.window.Span.{Span}
 use Rattle.lab_top.specs.declared.words.Command.{Command}
 use Rattle.lab_top.specs.declared.words.Command.TheVariants as command
@@ -16,10 +18,21 @@ pub data LabForm : Type 0 where
   campaign : (list script : List ℕ) (first last : ℕ) → LabForm
   -- the chart of the campaign of this name, of the slots that are asked for, or else of those that are chosen
   chart : (name : List ℕ) (asked : Option Span) → LabForm
+  -- the script that this number gives for the list of this name, in a run of so many slots
+  script_by : (list : List ℕ) (slots number : ℕ) → LabForm
+  -- what each form writes, and which version this is
+  help : LabForm
+  version : LabForm
 
 abbrev pub is_campaign : Option LabForm → Bool
 is_campaign (Some (campaign list script first last)) = true
 is_campaign _ = false
+
+-- the forms that read a list
+abbrev pub reads_list : Option LabForm → Bool
+reads_list (Some (campaign list script first last)) = true
+reads_list (Some (script_by list slots number)) = true
+reads_list _ = false
 
 -- the most digits of a slot that is shown
 abbrev pub slot_digits : ℕ
@@ -48,15 +61,40 @@ campaign_of_range list script (Some first) (Some last) =
     if nat_le first last then Some (campaign list script first last) else None
 campaign_of_range list script _ _ = None
 
+-- the most digits of a number of slots, and of a number to draw by
+abbrev pub number_digits : ℕ
+number_digits = 20
+
+-- the number of slots that a word names, of those that a script may have
+abbrev pub slots_within : ℕ → Option ℕ
+slots_within slots = if nat_le 1 slots && nat_le slots SLOT_LIMIT then Some slots else None
+
+-- the number that a word names, if it is one of those
+abbrev pub slots_named : List ℕ → Option ℕ
+slots_named word = option_and_then slots_within (numeral_named number_digits word)
+
+-- the number to draw by that a word names, of 64 bits
+abbrev pub draw_named : List ℕ → Option ℕ
+draw_named word = option_and_then (number_below (2 ^ 64)) (numeral_named number_digits word)
+
+-- the form of `script`, where both words are right
+abbrev pub script_of_words : List ℕ → Option ℕ → Option ℕ → Option LabForm
+script_of_words list (Some slots) (Some number) = Some (script_by list slots number)
+script_of_words list _ _ = None
+
 -- the form that words have, if they have one
 abbrev pub lab_form_of : List (List ℕ) → Option LabForm
+lab_form_of (verb ∷ []) =
+    if bytes_eq verb (codes "--help") then Some help
+    else (if bytes_eq verb (codes "--version") then Some version else None)
 lab_form_of (verb ∷ text ∷ []) =
     if bytes_eq verb (codes "wave") then Some (wave text)
     else (if bytes_eq verb (codes "picture") then Some (picture text None)
     else (if bytes_eq verb (codes "chart") then Some (chart text None) else None))
 lab_form_of (verb ∷ text ∷ first ∷ last ∷ []) =
     if bytes_eq verb (codes "picture") then form_of_slots (picture text) (slot_named first) (slot_named last)
-    else (if bytes_eq verb (codes "chart") then form_of_slots (chart text) (slot_named first) (slot_named last) else None)
+    else (if bytes_eq verb (codes "chart") then form_of_slots (chart text) (slot_named first) (slot_named last)
+    else (if bytes_eq verb (codes "script") then script_of_words text (slots_named first) (draw_named last) else None))
 lab_form_of (verb ∷ list ∷ script ∷ first ∷ last ∷ []) =
     if bytes_eq verb (codes "campaign") then campaign_of_range list script (bound_named first) (bound_named last) else None
 lab_form_of _ = None
@@ -67,4 +105,12 @@ lab_form_asked (command.Wave trace) = Some (wave trace.now)
 lab_form_asked (command.Picture trace asked) = Some (picture trace.now asked)
 lab_form_asked (command.Campaign list script first last) = Some (campaign list.now script.now first last)
 lab_form_asked (command.Chart name asked) = Some (chart name.now asked)
+lab_form_asked (command.Script list slots number) = Some (script_by list.now slots number)
+lab_form_asked command.Help = Some help
+lab_form_asked command.Version = Some version
 lab_form_asked command.NoForm = None
+
+-- a script is asked for of a run with slots, not more than a script may have
+abbrev pub HasScriptSlots : Command → Type 0
+HasScriptSlots (command.Script list slots number) = (1 ≤ slots) × (slots ≤ SLOT_LIMIT)
+HasScriptSlots _ = Unit {0}

@@ -8,12 +8,15 @@ ghost use Rattle.commands.specs.Words.{texts_of};
 ghost use Rattle.lab_top.specs.CampaignPromise.{CampaignPromise};
 ghost use Rattle.lab_top.specs.Forms.{lab_plan_of};
 ghost use Rattle.lab_top.specs.Promise.{LabPromise};
+ghost use Rattle.lab_top.specs.ScriptPromise.{ScriptPromise};
 ghost use Rattle.lab_top.specs.Texts.{ttplab};
 ghost use Rattle.lab_top.specs.ViewPromise.{WavePromise, PicturePromise, ChartPromise};
-ghost use Rattle.lab_top.specs.Words.{wave, picture, campaign, chart, lab_form_of, lab_form_asked};
+ghost use Rattle.lab_top.specs.Words.{wave, picture, campaign, chart, script_by, lab_form_of, lab_form_asked, HasScriptSlots};
 
 use crate::chart::chart;
 use crate::faults::campaign;
+use crate::generated::script;
+use crate::help::help;
 use crate::picture::picture;
 use crate::wave::wave;
 use crate::words::{Command, command_of};
@@ -23,7 +26,10 @@ use std::thread::Threads;
 use ttp_base::{Library, Sink};
 
 const USAGE: &str =
-    "usage: wave TRACE | picture TRACE [FIRST LAST] | campaign LIST SCRIPT FIRST LAST | chart CAMPAIGN [FIRST LAST]\n";
+    "usage: wave TRACE | picture TRACE [FIRST LAST] | campaign LIST SCRIPT FIRST LAST \
+    | chart CAMPAIGN [FIRST LAST] | script LIST SLOTS NUMBER\n";
+
+const VERSION: &str = "ttplab 1.0.0 (rattle-kit-13f logic dac8208d650f15bf)\n";
 
 // What the words ask for.
 fn obey<R: Threads + Sync, L: Library, K: Sink>(
@@ -33,6 +39,7 @@ fn obey<R: Threads + Sync, L: Library, K: Sink>(
     library: &mut L,
     out: &mut K,
 ) -> u8
+    requires slots { HasScriptSlots command }
     ensures follows { Follows ttplab (lab_plan_of (lab_form_asked command.entry))
         (outside (L.files library.old) (K.output out.old)) (outside (L.files library.new) (K.output out.new))
         (alone result) }
@@ -48,13 +55,20 @@ fn obey<R: Threads + Sync, L: Library, K: Sink>(
             last,
         } => campaign(rt, alloc, list, script, first, last, library, out),
         Command::Chart { campaign, asked } => chart(alloc, campaign, asked, library, out),
+        Command::Script {
+            list,
+            slots,
+            number,
+        } => script(alloc, list, slots, number, library, out),
+        Command::Help => help(out),
+        Command::Version => say(out, VERSION.as_bytes(), 0),
         Command::NoForm => say(out, USAGE.as_bytes(), 2),
     }
 }
 
 /// Does what the words spell, and answers its status. The words are those after the program's name.
 ///
-/// There are four forms. `wave TRACE` writes a waveform, a text in the format VCD that wave viewers read, and
+/// There are five forms. `wave TRACE` writes a waveform, a text in the format VCD that wave viewers read, and
 /// `picture TRACE [FIRST LAST]` a picture, a text in the format SVG that browsers show, of the slots from FIRST
 /// to LAST, or else of those that are chosen. These FIRST and LAST are 1 to 5 decimal digits. What is taken for
 /// a trace says `whole_in` of whole_trace: its form is asked for, and not whether it is right.
@@ -63,12 +77,16 @@ fn obey<R: Threads + Sync, L: Library, K: Sink>(
 /// digits, and FIRST is not past LAST. `chart CAMPAIGN [FIRST LAST]` writes a picture of what each fault of a
 /// campaign cost, or of several that follow each other, of the slots from FIRST to LAST, or else of those that are
 /// chosen, as for `picture`. What is taken for a campaign says `campaign_in` of whole_campaign.
+/// `script LIST SLOTS NUMBER` writes the script that the number gives for the list, in a run of so many slots, as a text
+/// that is read as this script; it is the one that `sample` of the bench runs. SLOTS is 1 to 20 decimal digits of a number
+/// from 1 to 20,000, and NUMBER of one of 64 bits. `--help` and `--version`, each alone, say what each form writes and which
+/// version this is.
 ///
 /// | status | comes | what is written |
 /// |---|---|---|
-/// | 0 | the file is a trace, or for `chart` a campaign, that has the slots; the files are a list and a script for it | the view; the campaign |
+/// | 0 | the file is a trace, or for `chart` a campaign, that has the slots; the files are a list and a script for it; the file is a list | the view; the campaign; the script |
 /// | 2 | exactly where the words have no form | the usage line |
-/// | 3 | for `campaign`, exactly where the list is longer than 1,048,576 bytes or refused | a line that begins `list: ` |
+/// | 3 | for `campaign` and `script`, exactly where the list is longer than 1,048,576 bytes or refused | a line that begins `list: ` |
 /// | 4 | for a view, exactly where the text is longer than 134,217,728 bytes, is no trace, or lacks the slots | `trace: too large`, `trace: line N` with its first line that is not due or is missing, or `trace: slots 0 to L` with its last slot |
 /// | 4 | for `chart`, exactly where the text is longer than that, is no campaign, or no slot is to be shown | `campaign: too large`, `campaign: line N`, or `campaign: no slot to show` |
 /// | 4 | for `campaign`, exactly where the script is longer than 1,048,576 bytes or refused | a line that begins `script: ` |
@@ -111,6 +129,12 @@ pub fn lab<R: Threads + Sync, L: Library, K: Sink>(
     ensures campaign { (list script : List ℕ) (first last : ℕ)
         → lab_form_of (texts_of words.now) ≡ Some (campaign list script first last)
         → CampaignPromise list script first last (outside (L.files library.old) (K.output out.old))
+        (outside (L.files library.new) (K.output out.new)) result }
+    // For `script`, in its own words: status 0 is exactly the text of the script that the number gives for the list that the
+    // file holds, and status 3 the line on a file that is none. A right list gives the text, any other its line; with status 6
+    // it was cut short, and with status 7 nothing is written.
+    ensures script { (list : List ℕ) (slots number : ℕ) → lab_form_of (texts_of words.now) ≡ Some (script_by list slots number)
+        → ScriptPromise list slots number (outside (L.files library.old) (K.output out.old))
         (outside (L.files library.new) (K.output out.new)) result }
     // For `chart`, in its own words, as for `picture`, of a campaign: status 0 is exactly the chart of the campaign that the
     // file holds, of the slots that are asked for, or else of those that are chosen.

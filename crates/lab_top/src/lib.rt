@@ -21,6 +21,8 @@
 mod call;
 mod chart;
 mod faults;
+mod generated;
+mod help;
 mod picture;
 mod refusal;
 mod wave;

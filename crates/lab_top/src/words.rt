@@ -1,11 +1,14 @@
 //! The forms of a call's words.
-ghost use Rattle.std.specs.Prelude.{◌≡◌, [], ◌∷◌};
+ghost use Rattle.std.specs.Prelude.{◌≡◌, ◌≤◌, [], ◌∷◌, IfSome};
 ghost use Rattle.commands.specs.Words.{texts_of};
+ghost use Rattle.ttp_world.specs.declared.script.TheConstants.{SLOT_LIMIT};
 ghost use Rattle.lab_top.specs.Words.{slot_named, form_of_slots, bound_named, campaign_of_range};
+ghost use Rattle.lab_top.specs.Words.{slots_named, draw_named, script_of_words, HasScriptSlots};
 ghost use Rattle.lab_top.specs.Words.{lab_form_of, lab_form_asked, picture, chart};
 
 use commands::numeral_named;
 use picture_text::Span;
+use ttp_world::SLOT_LIMIT;
 
 /// What a call is asked for.
 #[derive(Clone, Copy)]
@@ -31,6 +34,16 @@ pub(crate) enum Command<'a> {
         campaign: &'a str,
         asked: Option<Span>,
     },
+    /// The script that this number gives for the list of this name, in a run of so many slots.
+    Script {
+        list: &'a str,
+        slots: u32,
+        number: u64,
+    },
+    /// What each form writes.
+    Help,
+    /// Which version this is.
+    Version,
     /// Nothing: the words have no form.
     NoForm,
 }
@@ -59,8 +72,9 @@ fn bound_named(word: &[u8]) -> Option<u32>
 
 // The campaign that is asked for by words for its first and its last slot.
 fn campaign_of_range<'a>(list: &'a str, script: &'a str, first: &str, last: &str) -> Command<'a>
-    ensures { lab_form_asked result
+    ensures form { lab_form_asked result
         ≡ campaign_of_range list.now script.now (bound_named first.now) (bound_named last.now) }
+    ensures slots { HasScriptSlots result }
 {
     match (bound_named(first.as_bytes()), bound_named(last.as_bytes())) {
         (Some(first), Some(last)) if first <= last => Command::Campaign {
@@ -73,9 +87,65 @@ fn campaign_of_range<'a>(list: &'a str, script: &'a str, first: &str, last: &str
     }
 }
 
+// The most digits of a number of slots, and of a number to draw by.
+const NUMBER_DIGITS: usize = 20;
+
+// The number of slots that a word names.
+fn slots_named(word: &[u8]) -> Option<u32>
+    ensures value { result ≡ slots_named word.now }
+    ensures within { IfSome result (λ slots. (1 ≤ slots) × (slots ≤ SLOT_LIMIT)) }
+{
+    let slots = numeral_named(word, NUMBER_DIGITS)?;
+    if 1 <= slots && slots <= u128::from(SLOT_LIMIT) {
+        Some(slots as u32)
+    } else {
+        None
+    }
+}
+
+// The number to draw by that a word names.
+fn draw_named(word: &[u8]) -> Option<u64>
+    ensures { result ≡ draw_named word.now }
+{
+    let number = numeral_named(word, NUMBER_DIGITS)?;
+    if number <= u128::from(u64::MAX) {
+        Some(number as u64)
+    } else {
+        None
+    }
+}
+
+// The script that is asked for by words for the slots and for the number to draw by.
+fn script_of_words<'a>(list: &'a str, slots: &str, number: &str) -> Command<'a>
+    ensures form { lab_form_asked result ≡ script_of_words list.now (slots_named slots.now) (draw_named number.now) }
+    ensures slots { HasScriptSlots result }
+{
+    match (slots_named(slots.as_bytes()), draw_named(number.as_bytes())) {
+        (Some(slots), Some(number)) => Command::Script {
+            list,
+            slots,
+            number,
+        },
+        _ => Command::NoForm,
+    }
+}
+
+// The command of one word.
+fn word_command<'a>(verb: &'a str) -> Command<'a>
+    ensures form { lab_form_asked result ≡ lab_form_of (verb.now ∷ []) }
+    ensures slots { HasScriptSlots result }
+{
+    match verb {
+        "--help" => Command::Help,
+        "--version" => Command::Version,
+        _ => Command::NoForm,
+    }
+}
+
 // The command of two words.
 fn text_command<'a>(verb: &str, text: &'a str) -> Command<'a>
-    ensures { lab_form_asked result ≡ lab_form_of (verb.now ∷ text.now ∷ []) }
+    ensures form { lab_form_asked result ≡ lab_form_of (verb.now ∷ text.now ∷ []) }
+    ensures slots { HasScriptSlots result }
 {
     match verb {
         "wave" => Command::Wave { trace: text },
@@ -93,7 +163,8 @@ fn text_command<'a>(verb: &str, text: &'a str) -> Command<'a>
 
 // The picture that is asked for by words for its first and its last slot.
 fn picture_of_slots<'a>(trace: &'a str, first: &str, last: &str) -> Command<'a>
-    ensures { lab_form_asked result ≡ form_of_slots (picture trace.now) (slot_named first.now) (slot_named last.now) }
+    ensures form { lab_form_asked result ≡ form_of_slots (picture trace.now) (slot_named first.now) (slot_named last.now) }
+    ensures slots { HasScriptSlots result }
 {
     match (slot_named(first.as_bytes()), slot_named(last.as_bytes())) {
         (Some(first), Some(last)) => Command::Picture {
@@ -106,7 +177,8 @@ fn picture_of_slots<'a>(trace: &'a str, first: &str, last: &str) -> Command<'a>
 
 // The chart that is asked for by words for its first and its last slot.
 fn chart_of_slots<'a>(campaign: &'a str, first: &str, last: &str) -> Command<'a>
-    ensures { lab_form_asked result ≡ form_of_slots (chart campaign.now) (slot_named first.now) (slot_named last.now) }
+    ensures form { lab_form_asked result ≡ form_of_slots (chart campaign.now) (slot_named first.now) (slot_named last.now) }
+    ensures slots { HasScriptSlots result }
 {
     match (slot_named(first.as_bytes()), slot_named(last.as_bytes())) {
         (Some(first), Some(last)) => Command::Chart {
@@ -119,11 +191,13 @@ fn chart_of_slots<'a>(campaign: &'a str, first: &str, last: &str) -> Command<'a>
 
 // The command of four words.
 fn slots_command<'a>(verb: &str, text: &'a str, first: &str, last: &str) -> Command<'a>
-    ensures { lab_form_asked result ≡ lab_form_of (verb.now ∷ text.now ∷ first.now ∷ last.now ∷ []) }
+    ensures form { lab_form_asked result ≡ lab_form_of (verb.now ∷ text.now ∷ first.now ∷ last.now ∷ []) }
+    ensures slots { HasScriptSlots result }
 {
     match verb {
         "picture" => picture_of_slots(text, first, last),
         "chart" => chart_of_slots(text, first, last),
+        "script" => script_of_words(text, first, last),
         _ => Command::NoForm,
     }
 }
@@ -136,7 +210,8 @@ fn range_command<'a>(
     first: &str,
     last: &str,
 ) -> Command<'a>
-    ensures { lab_form_asked result ≡ lab_form_of (verb.now ∷ list.now ∷ script.now ∷ first.now ∷ last.now ∷ []) }
+    ensures form { lab_form_asked result ≡ lab_form_of (verb.now ∷ list.now ∷ script.now ∷ first.now ∷ last.now ∷ []) }
+    ensures slots { HasScriptSlots result }
 {
     match verb {
         "campaign" => campaign_of_range(list, script, first, last),
@@ -146,9 +221,11 @@ fn range_command<'a>(
 
 /// The command that words spell.
 pub(crate) fn command_of(words: &[String]) -> Command<'_>
-    ensures { lab_form_asked result ≡ lab_form_of (texts_of words.now) }
+    ensures form { lab_form_asked result ≡ lab_form_of (texts_of words.now) }
+    ensures slots { HasScriptSlots result }
 {
     match words {
+        [verb] => word_command(verb.as_str()),
         [verb, text] => text_command(verb.as_str(), text.as_str()),
         [_, _, _] => Command::NoForm,
         [verb, text, first, last] => {

@@ -2,37 +2,41 @@
 //!
 //! Standard output is buffered, and what the buffer holds in the end is handed on before the program
 //! ends; where that fails, the status is 6. Where the system gives no words, it ends with status 8 and
-//! writes nothing; where that is for want of memory, with status 7. The few lines here and the real files
-//! and streams behind them are trusted; the rest is `bench`, which is proved.
+//! writes nothing; where that is for want of memory, with status 7. Where the status is 2 to 8, a line on
+//! standard error says why. The few lines here, the real files and streams behind them and what is told of
+//! them are trusted; the rest is `bench`, which is proved.
 #![tactic(auto)]
 
 use bench_call::{bench, let_go};
 use std::env::Env;
-use std::io::{BufWriter, Print};
+use std::io::{BufWriter, Eprint, Print, Write};
 use std::process::ExitCode;
 use std::rt::Files;
 use std::sync::Wait;
 use std::thread::Threads;
 use std::{env, io};
+use told::{NotedFiles, NotedOutput, tell, tell_no_words};
 use ttp_base::{FileLibrary, OpenGate, StreamSink};
 
 // How many bytes of output are handed to the system at once.
 const BUFFER: usize = 65_536;
 
+// Where the forms of words stand.
+const FORMS: &str = "docs/FORMATS.md has the forms";
+
 fn main(rt: HostRuntime) -> ExitCode {
     ExitCode::from(match env::args(&rt) {
         Ok(words) => match words.collect::<Vec<String>>(rt.alloc()) {
             Ok(words) => status_of(&rt, &words),
-            Err(_) => 7,
+            Err(_) => tell_no_words(&rt, "ttpbench", io::ErrorKind::OutOfMemory),
         },
-        Err(error) if error.kind() == io::ErrorKind::OutOfMemory => 7,
-        Err(_) => 8,
+        Err(error) => tell_no_words(&rt, "ttpbench", error.kind()),
     })
 }
 
 // The status of the command that the words behind the first one spell, which is the program's name; the cluster
 // that it keeps is let go.
-fn status_of<R: Files + Print + Threads + Wait + Sync + AllocGlobal>(
+fn status_of<R: Files + Print + Eprint + Threads + Wait + Sync + AllocGlobal>(
     rt: &R,
     words: &[String],
 ) -> u8 {
@@ -42,25 +46,27 @@ fn status_of<R: Files + Print + Threads + Wait + Sync + AllocGlobal>(
         Err(_) => BufWriter::with_capacity(rt.alloc(), 0, io::writer(rt)),
     };
     let Ok(buffered) = buffered else {
-        return 7;
+        return tell_no_words(rt, "ttpbench", io::ErrorKind::OutOfMemory);
     };
-    let words = match words {
-        [_, words @ ..] => words,
+    let asked = match words {
+        [_, asked @ ..] => asked,
         [] => words,
     };
-    let mut library = FileLibrary::new(rt);
-    let mut out = StreamSink::new(buffered);
+    let mut library = NotedFiles::new(rt, FileLibrary::new(rt));
+    let mut out = NotedOutput::new(buffered);
     let gate = OpenGate::new();
     let mut kept = None;
     let status = bench(
         rt,
         rt.alloc(),
-        words,
+        asked,
         &mut library,
-        &mut out,
+        &mut StreamSink::new(&mut out),
         &gate,
         &mut kept,
     );
     let_go(kept);
-    if out.end().is_ok() { status } else { 6 }
+    let status = if out.flush().is_ok() { status } else { 6 };
+    tell(rt, "ttpbench", FORMS, words, status, &library, &out);
+    status
 }

@@ -1,18 +1,17 @@
-//! How far a campaign has come, told on standard error while it is written.
-use std::io::Eprint;
+//! Output of a campaign: whole slots are handed on, and how far it has come is told on standard error.
+use std::io::{self, Eprint, Write};
 use std::time::{Clock, Instant};
-use ttp_base::{Failed, Sink};
 
 // For so many seconds nothing is told.
 const QUIET_SECONDS: u64 = 5;
 
-/// A sink that hands each piece on to another. Beside it, it reads off the lines of a campaign how far that has
-/// come, and says so on standard error, each time that another hundredth of the slots is done. Nothing of what
-/// is written depends on it.
+/// A writer that hands each write on to another. It reads off the lines of a campaign how far that has come. Once the lines
+/// of a slot are written, it has the other writer hand on what it holds, and then says on standard error how many slots are
+/// done, each time that another hundredth of them is. Nothing of what is written depends on it.
 #[derive(Drop)]
-pub(crate) struct WatchedSink<'a, R, K> {
+pub(crate) struct WatchedOutput<'a, R, W> {
     rt: &'a R,
-    out: K,
+    pub(crate) out: W,
     progress: Progress,
 }
 
@@ -21,39 +20,58 @@ pub(crate) struct WatchedSink<'a, R, K> {
 struct Progress {
     // When the program began, if the system has a clock.
     began: Option<Instant>,
+    // How many slots the script has, once a campaign has begun.
+    slots: Option<u32>,
     // The first slot of which faults are tried, and how many slots these are.
     first: u32,
     count: u32,
+    // The slot whose lines are being written.
+    slot: Option<u32>,
     // The hundredth that was reached last.
     reached: u64,
 }
 
-impl<'a, R: Clock, K> WatchedSink<'a, R, K> {
-    pub(crate) fn new(rt: &'a R, out: K) -> WatchedSink<'a, R, K> {
-        WatchedSink {
+impl<'a, R: Clock, W> WatchedOutput<'a, R, W> {
+    pub(crate) fn new(rt: &'a R, out: W) -> WatchedOutput<'a, R, W> {
+        WatchedOutput {
             rt,
             out,
             progress: Progress {
                 began: Instant::now(rt).ok(),
+                slots: None,
                 first: 0,
                 count: 0,
+                slot: None,
                 reached: 0,
             },
         }
     }
+}
 
-    /// The sink behind it.
-    pub(crate) fn into_inner(self) -> K {
-        self.out
+impl<R: Eprint, W> WatchedOutput<'_, R, W> {
+    /// Says of a campaign that was written whether it tried no fault.
+    pub(crate) fn tell_nothing_tried(&self) {
+        if let (Some(slots), None) = (self.progress.slots, self.progress.slot) {
+            let last = slots.saturating_sub(1);
+            let _ = eprintln!(self.rt;
+                "ttplab: no fault was tried: the script has slots 0 to {last}"
+            );
+        }
     }
 }
 
-impl<R: Eprint + Clock, K: Sink> Sink for WatchedSink<'_, R, K> {
-    ghost output = { λ s. K.output s.out };
-
-    fn write(&mut self, piece: &[u8]) -> Result<(), Failed> {
-        self.progress.watch(self.rt, piece);
+impl<R: Eprint + Clock, W: Write> Write for WatchedOutput<'_, R, W> {
+    fn write(&mut self, piece: &[u8]) -> io::Result<usize> {
+        if self.progress.ends_slot(piece) {
+            self.out.flush()?;
+            self.progress.tell(self.rt);
+        }
+        self.progress.take(piece);
         self.out.write(piece)
+    }
+
+    fn flush(&mut self) -> io::Result<()> {
+        self.out.flush()
     }
 }
 
@@ -62,14 +80,45 @@ fn number_in(word: Option<&str>) -> Option<u32> {
     word?.trim_end().parse::<u32>().ok()
 }
 
+// The slot of which a line tells.
+fn slot_of(piece: &[u8]) -> Option<u32> {
+    if !piece.starts_with(b"slot ") {
+        return None;
+    }
+    match str::from_utf8(piece) {
+        Ok(line) => number_in(line.split(' ').nth(1)),
+        Err(_) => None,
+    }
+}
+
+// So many seconds, roughly.
+fn roughly(seconds: u64) -> (u64, &'static str) {
+    if seconds < 120 {
+        (seconds, "seconds")
+    } else if seconds < 7200 {
+        (seconds / 60, "minutes")
+    } else {
+        (seconds / 3600, "hours")
+    }
+}
+
 impl Progress {
-    // Reads a line. Lines of a slot are written once all of its runs were made.
-    fn watch<R: Eprint + Clock>(&mut self, rt: &R, piece: &[u8]) {
-        if piece.starts_with(b"slot ") {
-            if let Ok(line) = str::from_utf8(piece) {
-                if let Some(slot) = number_in(line.split(' ').nth(1)) {
-                    self.reach(rt, slot);
-                }
+    // Whether the lines of a slot are written when this line comes.
+    fn ends_slot(&self, piece: &[u8]) -> bool {
+        match (self.slots, self.slot) {
+            (Some(_), Some(slot)) => match slot_of(piece) {
+                Some(next) => next != slot,
+                None => piece.starts_with(b"kept "),
+            },
+            _ => false,
+        }
+    }
+
+    // Reads a line.
+    fn take(&mut self, piece: &[u8]) {
+        if self.slots.is_some() {
+            if let Some(slot) = slot_of(piece) {
+                self.slot = Some(slot);
             }
         } else if piece.starts_with(b"ttplab campaign ") {
             if let Ok(line) = str::from_utf8(piece) {
@@ -84,32 +133,41 @@ impl Progress {
         let first = number_in(line.split(' ').nth(8));
         let last = number_in(line.split(' ').nth(10));
         if let (Some(slots), Some(first), Some(last)) = (slots, first, last) {
+            self.slots = Some(slots);
             self.first = first;
             self.count = slots.min(last.saturating_add(1)).saturating_sub(first);
         }
     }
 
-    // The slots up to this one are done.
-    fn reach<R: Eprint + Clock>(&mut self, rt: &R, slot: u32) {
-        let done = u64::from(slot.saturating_sub(self.first)) + 1;
-        let reached = (100 * done).checked_div(u64::from(self.count)).unwrap_or(0);
-        if reached > self.reached {
-            self.reached = reached;
-            if self.is_long(rt) {
-                // What can't be told is left out.
-                let _ = eprintln!(rt; "ttplab: slot {slot} is done, {reached} of 100");
-            }
+    // Says how many slots are done, where that is another hundredth of them and the campaign takes longer than a few seconds.
+    fn tell<R: Eprint + Clock>(&mut self, rt: &R) {
+        let count = u64::from(self.count);
+        let done = u64::from(self.slot.unwrap_or(0).saturating_sub(self.first)) + 1;
+        let reached = (100 * done).checked_div(count).unwrap_or(0);
+        if reached <= self.reached {
+            return;
         }
+        self.reached = reached;
+        let spent = self.seconds(rt);
+        if spent < QUIET_SECONDS {
+            return;
+        }
+        let left = spent
+            .saturating_mul(count.saturating_sub(done))
+            .checked_div(done);
+        let (time, unit) = roughly(left.unwrap_or(0));
+        // What can't be told is left out.
+        let _ = eprintln!(rt; "ttplab: {done} of {count} slots, about {time} {unit} left");
     }
 
-    // Whether the campaign takes longer than a few seconds.
-    fn is_long<R: Clock>(&self, rt: &R) -> bool {
+    // How many seconds the program has run.
+    fn seconds<R: Clock>(&self, rt: &R) -> u64 {
         match self.began {
             Some(began) => match began.elapsed(rt) {
-                Ok(time) => time.as_secs() >= QUIET_SECONDS,
-                Err(_) => false,
+                Ok(time) => time.as_secs(),
+                Err(_) => 0,
             },
-            None => false,
+            None => 0,
         }
     }
 }

@@ -2,10 +2,16 @@ use Rattle.std.proofs.Common.{inl, refl}
 use Rattle.commands.specs.Lines.{notice}
 use Rattle.commands.proofs.Loads.{said}
 use Rattle.lab_top.specs.Forms.{lab_usage_line}
+use Rattle.lab_top.specs.Help.{version_line}
 use Rattle.lab_top.specs.Texts.{ttplab}
 use Rattle.lab_top.proofs.call.obey.Goals as goal
 
 pub returns-in-NoForm-clause-follows : goal.returns-in-NoForm-clause-follows
 returns-in-NoForm-clause-follows g c =
+    let told = rw c.as_bytes-in-NoForm.ensures.value at c.say-in-NoForm.ensures in
+    rw c.in-NoForm.is (refl, inl (said ttplab (notice 2 lab_usage_line) _ _ c.say-in-NoForm.result told))
+
+pub returns-in-Version-clause-follows : goal.returns-in-Version-clause-follows
+returns-in-Version-clause-follows g c =
     let told = rw c.as_bytes.ensures.value at c.say.ensures in
-    rw c.in-NoForm.is (refl, inl (said ttplab (notice 2 lab_usage_line) _ _ c.say.result told))
+    rw c.in-Version.is (refl, inl (said ttplab (notice 0 version_line) _ _ c.say.result told))

@@ -1,0 +1,20 @@
+-- What `ttplab --help` and `ttplab --version` write.
+use Rattle.std.specs.Prelude.{ℕ, List, [], ◌∷◌, codes}
+use Rattle.ttp_base.specs.Text.{Lines}
+
+-- what the program is for, a line for each form with what it writes, and where the pages are
+abbrev pub help_lines : Lines
+help_lines =
+    codes "ttplab 1.0.0: pictures of traces, and campaigns of single faults, of clusters of TTP/C controllers\n"
+    ∷ codes "\n"
+    ∷ codes "wave TRACE                       a waveform of the trace, for a viewer of VCD files\n"
+    ∷ codes "picture TRACE [FIRST LAST]       a picture of the trace, or of these slots of it, as SVG\n"
+    ∷ codes "campaign LIST SCRIPT FIRST LAST  what each single fault in these slots costs, a line for each\n"
+    ∷ codes "chart CAMPAIGN [FIRST LAST]      a picture of a campaign, or of these slots of it, as SVG\n"
+    ∷ codes "script LIST SLOTS NUMBER         the script that ttpbench sample runs, as a text\n"
+    ∷ codes "\n"
+    ∷ codes "docs/FIRST.md is the page to begin with; docs/VIEWS.md, docs/CAMPAIGNS.md and docs/CHARTS.md have the forms.\n" ∷ []
+
+-- the program's version, and that of the kit by which it was proved
+abbrev pub version_line : List ℕ
+version_line = codes "ttplab 1.0.0 (rattle-kit-13f logic dac8208d650f15bf)\n"
