@@ -13,8 +13,8 @@ import threading
 
 TOP = os.path.dirname(os.path.dirname(os.path.realpath(__file__)))
 UNPROVED = os.environ.get("TTPBENCH_UNPROVED")
-# What may be said of a campaign while it is written.
-PROGRESS = r"^ttplab: \d+ of \d+ slots, about \d+ (seconds|minutes|hours) left\n"
+# What may be said of a campaign that is written.
+OF_CAMPAIGNS = r"^ttplab: (\d+ of \d+ slots, about \d+ (seconds|minutes|hours) left|no fault was tried: the script has slots 0 to \d+)\n"
 
 
 def program(name="ttpbench"):
@@ -27,8 +27,9 @@ def program(name="ttpbench"):
 
 def untold(name, status, said):
     """What is wrong with what a program said on standard error: a command that was not done, so that the status is 2 to 8, has
-    one line that begins with the program's name, and any other has none. How far a campaign has come may always be said."""
-    said = re.sub(PROGRESS, "", said, flags=re.M)
+    one line that begins with the program's name, and any other has none. How far a campaign has come may always be said, and
+    that it tried nothing."""
+    said = re.sub(OF_CAMPAIGNS, "", said, flags=re.M)
     if status in range(2, 9):
         return "" if re.fullmatch(rf"{name}: [^\n]+\n", said) else f"not one line: {said!r}"
     return said
