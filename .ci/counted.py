@@ -6,6 +6,7 @@ many times slower and do their own bookkeeping of memory, so some checks are lef
 
 import concurrent.futures
 import os
+import re
 import subprocess
 import sys
 import threading
@@ -31,6 +32,19 @@ def answer(words, *, name="ttpbench", out=subprocess.PIPE, seconds=120, **how):
     except subprocess.TimeoutExpired:
         return "no end", "", ""
     return ran.returncode, (ran.stdout or b"").decode("latin-1"), ran.stderr.decode("latin-1")
+
+
+# What ttplab tells of a campaign: how far it has come, and that it tried nothing.
+TOLD = re.compile(r"^ttplab: (?:\d+ of \d+ slots, about \d+ \w+ left|no fault was tried: the script has slots 0 to \d+)\n", re.M)
+
+
+def unasked(said, status, name):
+    """What was said on standard error but for what is due there: of a campaign, and with status 2 to 8 one line that says why."""
+    if name == "ttplab":
+        said = TOLD.sub("", said)
+    if status not in range(2, 9):
+        return said
+    return "" if re.fullmatch(rf"{name}: .+\n", said, re.S) else said or "nothing was said"
 
 
 class Counted:
