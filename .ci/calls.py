@@ -20,7 +20,7 @@ import tempfile
 import rules
 import samples
 import traces
-from counted import TOP, UNPROVED, Counted, answer
+from counted import TOP, UNPROVED, Counted, answer, unasked
 
 FOLDER = os.path.join(TOP, ".ci", "calls")
 # The texts that all tables use come first.
@@ -96,7 +96,7 @@ class Case:
 
     def asked(self, place, words=None):
         status, text, said = answer(self.words if words is None else words, name=self.program, cwd=place, seconds=SECONDS)
-        return (status, text, *filter(None, [said]))
+        return (status, text, *filter(None, [unasked(said, status, self.program)]))
 
     def check(self, counted):
         with tempfile.TemporaryDirectory() as place:

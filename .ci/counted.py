@@ -13,8 +13,6 @@ import threading
 
 TOP = os.path.dirname(os.path.dirname(os.path.realpath(__file__)))
 UNPROVED = os.environ.get("TTPBENCH_UNPROVED")
-# What may be said of a campaign that is written.
-OF_CAMPAIGNS = r"^ttplab: (\d+ of \d+ slots, about \d+ (seconds|minutes|hours) left|no fault was tried: the script has slots 0 to \d+)\n"
 
 
 def program(name="ttpbench"):
@@ -25,25 +23,28 @@ def program(name="ttpbench"):
     return built
 
 
-def untold(name, status, said):
-    """What is wrong with what a program said on standard error: a command that was not done, so that the status is 2 to 8, has
-    one line that begins with the program's name, and any other has none. How far a campaign has come may always be said, and
-    that it tried nothing."""
-    said = re.sub(OF_CAMPAIGNS, "", said, flags=re.M)
-    if status in range(2, 9):
-        return "" if re.fullmatch(rf"{name}: [^\n]+\n", said) else f"not one line: {said!r}"
-    return said
-
-
 def answer(words, *, name="ttpbench", out=subprocess.PIPE, seconds=120, **how):
-    """The status, the output as text, and what is wrong with what was said on standard error, of the program with these words."""
+    """The status, the output as text, and what was said on standard error, of the program with these words."""
     try:
         ran = subprocess.run(
             [program(name), *words], stdout=out, stderr=subprocess.PIPE, stdin=subprocess.DEVNULL, timeout=seconds, check=False, **how
         )
     except subprocess.TimeoutExpired:
         return "no end", "", ""
-    return ran.returncode, (ran.stdout or b"").decode("latin-1"), untold(name, ran.returncode, ran.stderr.decode("latin-1"))
+    return ran.returncode, (ran.stdout or b"").decode("latin-1"), ran.stderr.decode("latin-1")
+
+
+# What ttplab tells of a campaign: how far it has come, and that it tried nothing.
+TOLD = re.compile(r"^ttplab: (?:\d+ of \d+ slots, about \d+ \w+ left|no fault was tried: the script has slots 0 to \d+)\n", re.M)
+
+
+def unasked(said, status, name):
+    """What was said on standard error but for what is due there: of a campaign, and with status 2 to 8 one line that says why."""
+    if name == "ttplab":
+        said = TOLD.sub("", said)
+    if status not in range(2, 9):
+        return said
+    return "" if re.fullmatch(rf"{name}: .+\n", said, re.S) else said or "nothing was said"
 
 
 class Counted:
