@@ -1,5 +1,5 @@
 -- The laws of words, over all kinds: what is spelled is read as its value, and what is read is spelled so.
-use Rattle.std.proofs.Common.{◌≡◌, ℕ, ◌^◌, Bool, true, false, ◌&&◌, not}
+use Rattle.std.proofs.Common.{◌≡◌, ℕ, ◌^◌, true, false, ◌&&◌, not}
 use Rattle.std.proofs.Common.{List, [], ◌∷◌, ◌++◌, length, map, get_or, Option, Some, None, refl, sym, ap, ◌∙◌}
 use Rattle.std.proofs.Common.{codes, bytes_eq, unsigned_abs}
 use Rattle.std.specs.Prelude.{◌==◌, nat_le, is_none}
