@@ -1,6 +1,6 @@
 -- What is read of a line, as a value of a type of the code.
 use Rattle.std.proofs.Common.{◌≡◌, ℕ, Bool, true, false, cond, List, [], ◌∷◌, Option, Some, None, option_map, refl, ap, ◌∙◌}
-use Rattle.line_form.specs.Kinds.{Kind, Value}
+use Rattle.line_form.specs.Kinds.{Kind, Value, ◌>>=◌}
 use Rattle.line_form.specs.Forms.{LineForm, Values, past, field_value, is_end, closed_line, left_of, values_in, line_values, ◌▸◌}
 
 go : {A B : Type 0} (f : A → B) (b : Bool) (v : A) → option_map f (cond b (Some v) None) ≡ cond b (Some (f v)) None
@@ -36,5 +36,13 @@ pub closes : {T : Type 0} (form : LineForm) (f : T → Values form) (bytes : Lis
 closes form f bytes left v result is read =
     ap (option_map f) is ∙ map_closed f left v ∙ ap (λ l. closed_line l (f v)) read.left_is
     ∙ ap (closed_line (left_of form (Some bytes))) read.values_are
+
+-- .. that is read on
+pub closes_on : {B : Type 0} (form : LineForm) (f : Values form → Option B) (bytes : List ℕ) (left : Option (List ℕ))
+    → (vs : Values form) → ReadAs form (Some bytes) left vs
+    → (closed_line left vs >>= f) ≡ (line_values form bytes >>= f)
+closes_on form f bytes left vs read =
+    ap (λ (l : Option (List ℕ)). closed_line l vs >>= f) read.left_is
+    ∙ ap (λ (v : Values form). closed_line (left_of form (Some bytes)) v >>= f) read.values_are
 
 pub ruleset closing = (read_word, read_none)

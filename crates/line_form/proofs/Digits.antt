@@ -37,6 +37,11 @@ within_most i most number small few =
 pub below_power_16 : (i number digit : ℕ) → number < 16 ^ i → digit < 16 → number * 16 + digit < 16 ^ (i + 1)
 below_power_16 i number digit small one = omega (arith, pow_more 16 i)
 
+pub within_more : (few many number : ℕ) → number < 16 ^ few → few ≤ many → number < 16 ^ many
+within_more few many number small less =
+    let more : 16 ^ few ≤ 16 ^ many = pow-le-pow_right {n = 16} (lit< tt) {i = few} {j = many} less in
+    omega (arith, more, small)
+
 pub within_word_16 : (i number : ℕ) → number < 16 ^ i → i < 15 → number * 16 + 15 < 2 ^ 64
 within_word_16 i number small few =
     let most : 16 ^ (i + 1) ≤ 16 ^ 15 = pow-le-pow_right {n = 16} (lit< tt) {i = i + 1} {j = 15} (omega arith) in

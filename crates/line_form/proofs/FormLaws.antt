@@ -81,7 +81,7 @@ pub record Taken (label : List ℕ) (k : Kind) (bytes rest : List ℕ) (v : Valu
   pub value : field_value label k (Some bytes) ≡ v
   pub left : past label k (Some bytes) ≡ Some rest
 
-taken : (label : List ℕ) (k : Kind) (form : LineForm) (v : Value k) (vs : Values form) → sound k ≡ true
+pub taken : (label : List ℕ) (k : Kind) (form : LineForm) (v : Value k) (vs : Values form) → sound k ≡ true
     → goes_on k form ≡ true → fits_kind k v ≡ true
     → Taken label k (label ++ (spell k v ++ spelled form vs)) (spelled form vs) v
 unfolding field_value past labelled next_word left_behind

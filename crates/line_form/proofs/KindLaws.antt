@@ -1,5 +1,5 @@
 -- The laws of words, over all kinds: what is spelled is read as its value, and what is read is spelled so.
-use Rattle.std.proofs.Common.{◌≡◌, ℕ, ◌^◌, true, false, ◌&&◌, not}
+use Rattle.std.proofs.Common.{◌≡◌, ℕ, ◌^◌, ◌<◌, Bool, true, false, ◌&&◌, not}
 use Rattle.std.proofs.Common.{List, [], ◌∷◌, ◌++◌, length, map, get_or, Option, Some, None, refl, sym, ap, ◌∙◌}
 use Rattle.std.proofs.Common.{codes, bytes_eq, unsigned_abs}
 use Rattle.std.specs.Prelude.{◌==◌, nat_le, is_none}
@@ -7,13 +7,15 @@ use Rattle.std.specs.List.{list_all}
 use Rattle.std.proofs.lemmas.Bool.{and_parts, leb-true, ltb-true, eqb-true, false_from_ne_true}
 use Rattle.line_form.proofs.NumberWords.{same_text}
 use Rattle.line_form.specs.declared.named.Named.TheVariants as choice
-use Rattle.line_form.specs.Kinds.{Kind, number, signed, hexed, one_of, payload, or_dash, commas, named, joined, free}
-use Rattle.line_form.specs.Kinds.{Value, spell, read, fits_kind, sound, avoids, has_byte, behind_prefix, parted, joined_by}
+use Rattle.line_form.specs.Kinds.{Kind, number, signed, hexed, hexed_or, one_of, payload, or_dash, commas, named, joined, free}
+use Rattle.line_form.specs.Kinds.{Value, count_of_digits, wide_number, spell, read, fits_kind, sound, avoids, has_byte, behind_prefix, parted, joined_by}
 use Rattle.line_form.specs.Kinds.{each_behind, listed_words, each, place_among, or_other, distinct_texts, is_byte, ◌>>=◌}
 use Rattle.line_form.proofs.Tests.{both_true, gives, not_some, is_not}
 use Rattle.line_form.proofs.Tests.{behind_prefix-again}
 use Rattle.line_form.proofs.Numbers.{numeral-again, signed-again}
-use Rattle.line_form.proofs.Hexes.{hex-again, payload-again}
+use Rattle.line_form.proofs.Hexes.{as_long, hex-again, payload-again}
+use Rattle.ttp_base.specs.Text.{hex}
+use Rattle.ttp_base.proofs.Room.{length-hex}
 use Rattle.line_form.proofs.PlaceLaws.{place-again, place-takes, at-place, place-has}
 use Rattle.line_form.proofs.Bytes.{has-append, has-cons, has-decimal, has-signed, has-hex, has-hex_bytes, front-again}
 use Rattle.line_form.proofs.Bytes.{back-again, parted-again}
@@ -49,6 +51,7 @@ lacks b (number limit) n avoid fit = has-decimal b n avoid
 lacks b (signed limit) z avoid fit =
     let t = and_parts (_) (not (45 == b)) avoid in has-signed b z t.0 (is_not (45 == b) t.1)
 lacks b (hexed digits) n avoid fit = has-hex b digits n avoid
+lacks b (hexed_or few many) (wide, n) avoid fit = has-hex b (count_of_digits few many wide) n avoid
 lacks b (one_of texts) i avoid fit = place-has b texts i avoid (ltb-true i (length texts) fit)
 lacks b (payload most) bytes avoid fit =
     has-hex_bytes b bytes avoid (and_parts (nat_le (length bytes) most) (list_all is_byte bytes) fit).1
@@ -120,10 +123,21 @@ unread texts prefix k v (Some i) apart e is =
     (at-place (λ text. is_none (behind_prefix prefix text >>= λ rest. read k rest)) texts i apart at.1)
     (ap (λ (w : List ℕ). behind_prefix prefix w >>= λ rest. read k rest) (sym at.0) ∙ e))
 
+wide-again : (few many : ℕ) (wide : Bool) (n : ℕ) → not (few == many) ≡ true → n < 16 ^ count_of_digits few many wide
+    → (length (hex (count_of_digits few many wide) n) == many) ≡ wide
+wide-again few many true n other small = as_long many n
+wide-again few many false n other small = ap (λ (m : ℕ). m == many) (length-hex few n) ∙ is_not (few == many) other
+
 pub again : (k : Kind) (v : Value k) → sound k ≡ true → fits_kind k v ≡ true → read k (spell k v) ≡ Some v
 again (number limit) n so fit = numeral-again limit n (leb-true limit (10 ^ 18) so) (ltb-true n limit fit)
 again (signed limit) z so fit = signed-again limit z (leb-true limit (10 ^ 18) so) (ltb-true (unsigned_abs z) limit fit)
 again (hexed digits) n so fit = hex-again digits n (ltb-true n (16 ^ digits) fit)
+again (hexed_or few many) (wide, n) so fit =
+    let small = ltb-true n (16 ^ count_of_digits few many wide) fit in
+    let word = hex (count_of_digits few many wide) n in
+    ap (λ (b : Bool). wide_number few many b word)
+    (wide-again few many wide n (and_parts (not (few == many)) (nat_le few 16 && nat_le many 16) so).0 small)
+    ∙ ap (λ (r : Option ℕ). r >>= λ v. Some (wide, v)) (hex-again (count_of_digits few many wide) n small)
 again (one_of texts) i so fit = place-again texts i so (ltb-true i (length texts) fit)
 again (payload most) bytes so fit =
     let f = and_parts (nat_le (length bytes) most) (list_all is_byte bytes) fit in

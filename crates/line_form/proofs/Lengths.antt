@@ -11,7 +11,7 @@ use Rattle.std.proofs.lemmas.Fmt.{length-decimal-le}
 use Rattle.ttp_base.proofs.Hex.{length-hex_bytes}
 use Rattle.ttp_base.proofs.Room.{length-hex}
 use Rattle.line_form.specs.declared.named.Named.TheVariants as choice
-use Rattle.line_form.specs.Kinds.{Kind, number, signed, hexed, one_of, payload, or_dash, commas, named, joined, free, Value}
+use Rattle.line_form.specs.Kinds.{Kind, number, signed, hexed, hexed_or, one_of, payload, or_dash, commas, named, joined, free, Value}
 use Rattle.line_form.specs.Kinds.{spell, fits_kind, sound, avoids, has_byte, each_behind, listed_words, longest, longest_number}
 use Rattle.line_form.specs.Kinds.{digits_below, is_byte}
 use Rattle.line_form.specs.Forms.{LineForm, Values, spelled, fit, well, goes_on, longest_line}
@@ -69,6 +69,8 @@ word-length (number limit) n so fit_v =
 word-length (signed limit) z so fit_v =
     signed-length limit z (ltb-true (unsigned_abs z) limit fit_v) (leb-true limit (10 ^ 18) so)
 word-length (hexed digits) n so fit_v = omega (arith, length-hex digits n)
+word-length (hexed_or few many) (true, n) so fit_v = omega (arith, length-hex many n)
+word-length (hexed_or few many) (false, n) so fit_v = omega (arith, length-hex few n)
 word-length (one_of texts) i so fit_v = place-length texts i
 word-length (payload most) bytes so fit_v =
     omega (

@@ -16,3 +16,4 @@ pub mod ReadLaws
 pub mod FormLaws
 pub mod Lengths
 pub mod Lists
+pub mod Parts

@@ -2,13 +2,13 @@
 use Rattle.std.proofs.Common.{◌≡◌, ℕ, ◌^◌, Bool, true, false, cond, ◌&&◌, not}
 use Rattle.std.proofs.Common.{List, [], ◌∷◌, ◌++◌, length, map, Option, Some, None, refl, sym, ap, subst, ◌∙◌, arith}
 use Rattle.std.proofs.Common.{codes, bytes_eq, unsigned_abs}
-use Rattle.std.specs.Prelude.{nat_le, IfSome}
+use Rattle.std.specs.Prelude.{nat_le, ◌==◌, IfSome}
 use Rattle.std.specs.List.{list_all}
 use Rattle.line_form.proofs.NumberWords.{same_text}
 use Rattle.line_form.specs.declared.named.Named.{Named}
 use Rattle.line_form.specs.declared.named.Named.TheVariants as choice
-use Rattle.line_form.specs.Kinds.{Kind, number, signed, hexed, one_of, payload, or_dash, commas, named, joined, free}
-use Rattle.line_form.specs.Kinds.{Value, spell, read, fits_kind, has_byte, behind_prefix, front, back, parted, joined_by}
+use Rattle.line_form.specs.Kinds.{Kind, number, signed, hexed, hexed_or, one_of, payload, or_dash, commas, named, joined, free}
+use Rattle.line_form.specs.Kinds.{Value, count_of_digits, hex_number, spell, read, fits_kind, has_byte, behind_prefix, front, back, parted, joined_by}
 use Rattle.line_form.specs.Kinds.{listed_words, each, at_most, place_among, or_other, is_byte, ◌>>=◌}
 use Rattle.line_form.proofs.Tests.{both_true, some_same, was_given, bound, is_le, is_lt, behind_prefix-takes}
 use Rattle.line_form.proofs.Numbers.{numeral-takes, signed-takes}
@@ -103,6 +103,12 @@ takes (signed limit) word z e =
     let t = signed-takes limit word z e in record { text = t.0; fit = is_lt (unsigned_abs z) limit t.1 }
 takes (hexed digits) word n e =
     let t = hex-takes digits word n e in record { text = t.0; fit = is_lt n (16 ^ digits) t.1 }
+takes (hexed_or few many) word value e =
+    let wide = length word == many in
+    let b = bound (hex_number (count_of_digits few many wide) word) (λ v. Some (wide, v)) value e in
+    let t = hex-takes (count_of_digits few many wide) word b.value b.read in
+    subst (λ x. Spells (hexed_or few many) word x) (some_same (wide, b.value) value b.gives)
+    (record { text = t.0; fit = is_lt b.value (16 ^ count_of_digits few many wide) t.1 })
 takes (one_of texts) word i e =
     let t = place-takes texts word i e in record { text = t.0; fit = is_lt i (length texts) t.1 }
 takes (payload most) word bytes e =

@@ -1,8 +1,9 @@
 -- A line as data: labels, and a word of a kind behind each. How it is spelled and read.
 use Rattle.std.specs.Prelude.{◌≡◌, ℕ, ◌+◌, ◌==◌, ◌<◌, pos, Bool, true, false, ◌&&◌, ◌||◌, not, IfSome}
 use Rattle.std.specs.Prelude.{List, [], ◌∷◌, ◌++◌, length, Option, Some, None, unwrap_or, is_some, if◌then◌else◌}
+use Rattle.std.specs.Str.{bytes_eq}
 use Rattle.ttp_base.specs.Text.{newline}
-use Rattle.line_form.specs.Kinds.{Kind, number, signed, hexed, one_of, payload, or_dash, commas, named, joined, free}
+use Rattle.line_form.specs.Kinds.{Kind, number, signed, hexed, hexed_or, one_of, payload, or_dash, commas, named, joined, free}
 use Rattle.line_form.specs.declared.named.Named.{Named}
 use Rattle.line_form.specs.declared.named.Named.TheVariants as choice
 use Rattle.line_form.specs.Kinds.{Value, spell, read, fits_kind, sound, avoids, has_byte, longest, behind_prefix, front, back, ◌>>=◌}
@@ -99,6 +100,7 @@ abbrev pub no_value : (k : Kind) → Value k
 no_value (number limit) = 0
 no_value (signed limit) = pos 0
 no_value (hexed digits) = 0
+no_value (hexed_or few many) = (false, 0)
 no_value (one_of texts) = 0
 no_value (payload most) = []
 no_value (or_dash k) = None
@@ -143,6 +145,29 @@ line_values form bytes = closed_line (left_of form (Some bytes)) (values_in form
 pub record ReadsLine (form : LineForm) (bytes : List ℕ) (values : Option (Values form)) : Type 0 where
   pub found : IfSome values (λ v. (fit form v ≡ true) × (bytes ≡ spelled form v))
   pub only : (v : Values form) → fit form v ≡ true → bytes ≡ spelled form v → values ≡ Some v
+
+-- Two lines begin alike, as far as their labels and numbers go, and then have labels of which none begins as the other.
+
+abbrev pub same_number : Kind → Kind → Bool
+same_number (number limit) (number other) = limit == other
+same_number _ _ = false
+
+abbrev pub labels_part : List ℕ → List ℕ → Bool
+labels_part [] label = false
+labels_part (b ∷ label) [] = false
+labels_part (b ∷ label) (c ∷ other) = if b == c then labels_part label other else true
+
+abbrev pub lines_part : LineForm → LineForm → Bool
+lines_part [] form = false
+lines_part (f ∷ form) [] = false
+lines_part (f ∷ form) (g ∷ other) =
+    labels_part f.label g.label
+    || (bytes_eq f.label g.label && (same_number f.kind g.kind && lines_part form other))
+
+-- each value fits
+abbrev pub EachFits : (form : LineForm) → Values form → Type 0
+EachFits [] v = Unit {0}
+EachFits (f ∷ form) (v, vs) = (fits_kind f.kind v ≡ true) × EachFits form vs
 
 -- one of so many texts, or a number below a limit
 abbrev pub FitsNamed : ℕ → ℕ → Named ℕ → Type 0

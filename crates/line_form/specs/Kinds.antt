@@ -14,6 +14,7 @@ pub data Kind : Type 0 where
   number : ℕ → Kind
   signed : ℕ → Kind
   hexed : ℕ → Kind
+  hexed_or : ℕ → ℕ → Kind
   one_of : List (List ℕ) → Kind
   payload : ℕ → Kind
   or_dash : Kind → Kind
@@ -27,6 +28,7 @@ abbrev pub Value : Kind → Type 0
 Value (number limit) = ℕ
 Value (signed limit) = ℤ
 Value (hexed digits) = ℕ
+Value (hexed_or few many) = Bool × ℕ
 Value (one_of texts) = ℕ
 Value (payload most) = List ℕ
 Value (or_dash k) = Option (Value k)
@@ -57,11 +59,16 @@ abbrev pub listed_words : List (List ℕ) → List ℕ
 listed_words [] = codes "-"
 listed_words (word ∷ words) = joined_by 44 (word ∷ words)
 
+-- how many hexadecimal digits: one count or another
+abbrev pub count_of_digits : ℕ → ℕ → Bool → ℕ
+count_of_digits few many wide = if wide then many else few
+
 -- the text of a value
 abbrev pub spell : (k : Kind) → Value k → List ℕ
 spell (number limit) n = decimal n
 spell (signed limit) z = signed_decimal z
 spell (hexed digits) v = hex digits v
+spell (hexed_or few many) (wide, v) = hex (count_of_digits few many wide) v
 spell (one_of texts) i = get_or texts i []
 spell (payload most) bytes = hex_bytes bytes
 spell (or_dash k) None = codes "-"
@@ -153,6 +160,10 @@ unfoldable pub hex_number : ℕ → List ℕ → Option ℕ
 hex_number digits word =
     if (length word == digits) && list_all is_hex word then Some (fold append_hex 0 word) else None
 
+-- the number of as many digits as one count or another, and which of them
+abbrev pub wide_number : ℕ → ℕ → Bool → List ℕ → Option (Bool × ℕ)
+wide_number few many wide word = hex_number (count_of_digits few many wide) word >>= λ v. Some (wide, v)
+
 -- the bytes of two digits each
 abbrev pub byte_pairs : List ℕ → List ℕ
 byte_pairs [] = []
@@ -198,6 +209,7 @@ abbrev pub read : (k : Kind) → List ℕ → Option (Value k)
 read (number limit) word = numeral limit word
 read (signed limit) word = signed_numeral limit word
 read (hexed digits) word = hex_number digits word
+read (hexed_or few many) word = wide_number few many (length word == many) word
 read (one_of texts) word = place_among texts word
 read (payload most) word = hex_payload most word
 read (or_dash k) word = if bytes_eq (codes "-") word then Some None else (read k word >>= λ v. Some (Some v))
@@ -214,6 +226,7 @@ abbrev pub fits_kind : (k : Kind) → Value k → Bool
 fits_kind (number limit) n = nat_lt n limit
 fits_kind (signed limit) z = nat_lt (unsigned_abs z) limit
 fits_kind (hexed digits) v = nat_lt v (16 ^ digits)
+fits_kind (hexed_or few many) (wide, v) = nat_lt v (16 ^ count_of_digits few many wide)
 fits_kind (one_of texts) i = nat_lt i (length texts)
 fits_kind (payload most) bytes = nat_le (length bytes) most && list_all is_byte bytes
 fits_kind (or_dash k) None = true
@@ -235,6 +248,7 @@ abbrev pub avoids : ℕ → Kind → Bool
 avoids b (number limit) = is_no_digit b
 avoids b (signed limit) = is_no_digit b && not (45 == b)
 avoids b (hexed digits) = is_no_hex b
+avoids b (hexed_or few many) = is_no_hex b
 avoids b (one_of texts) = list_all (λ text. not (has_byte b text)) texts
 avoids b (payload most) = is_no_hex b
 avoids b (or_dash k) = not (45 == b) && avoids b k
@@ -254,6 +268,7 @@ abbrev pub sound : Kind → Bool
 sound (number limit) = nat_le limit (10 ^ 18)
 sound (signed limit) = nat_le limit (10 ^ 18)
 sound (hexed digits) = nat_le digits 16
+sound (hexed_or few many) = not (few == many) && (nat_le few 16 && nat_le many 16)
 sound (one_of texts) = distinct_texts texts
 sound (payload most) = true
 sound (or_dash k) = sound k && is_none (read k (codes "-"))
@@ -281,6 +296,7 @@ abbrev pub longest : Kind → ℕ
 longest (number limit) = longest_number limit
 longest (signed limit) = suc (longest_number limit)
 longest (hexed digits) = digits
+longest (hexed_or few many) = max few many
 longest (one_of texts) = longest_of texts
 longest (payload most) = 2 * most
 longest (or_dash k) = max 1 (longest k)

@@ -1,13 +1,13 @@
 //! A line, read a word after another.
 ghost use Rattle.std.specs.Prelude.{◌≡◌, ◌≤◌, ◌<◌, ◌^◌, ◌∷◌, [], ℕ, map, Option, Some, None, is_some, false, length, take, drop, cond, unwrap_or};
-ghost use Rattle.line_form.specs.Kinds.{number, signed, hexed, one_of, or_dash, named, payload, front, back};
+ghost use Rattle.line_form.specs.Kinds.{number, signed, hexed, hexed_or, one_of, or_dash, named, payload, front, back};
 ghost use Rattle.line_form.specs.Forms.{field_value, past, is_end, closed_line, labelled, next_word, left_behind, FitsNamed};
 
 use crate::named::Named;
 use crate::text::Text;
 use crate::words::{
-    behind_prefix, byte_or_dash_in, hex_in, named_in, number_in, number_or_dash_in, payload_in,
-    place_among, signed_in, word_end,
+    behind_prefix, byte_or_dash_in, hex_in, hex_or_in, named_in, number_in, number_or_dash_in,
+    payload_in, place_among, signed_in, word_end,
 };
 use std::marker::Model;
 
@@ -154,6 +154,20 @@ impl<'a> Reader<'a> {
         let read = hex_in(word, digits);
         self.behind(word, read.is_some());
         read.unwrap_or(0)
+    }
+
+    /// A number in as many hexadecimal digits as one count or another, and whether it is the other.
+    #[tactic(auto, unfolding(crate::specs::Forms::past, crate::specs::Forms::field_value))]
+    pub fn hexed_or(&mut self, label: &str, few: u8, many: u8) -> (bool, u64)
+        requires { (few ≤ many) × (many ≤ 15) }
+        ensures small { result.1 < 16 ^ many }
+        ensures value { result ≡ field_value label.now (hexed_or few many) self.old }
+        ensures left { self.new ≡ past label.now (hexed_or few many) self.old }
+    {
+        let word = self.word(label);
+        let read = hex_or_in(word, few, many);
+        self.behind(word, read.is_some());
+        read.unwrap_or((false, 0))
     }
 
     #[tactic(auto, unfolding(crate::specs::Forms::past, crate::specs::Forms::field_value))]

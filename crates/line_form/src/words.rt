@@ -2,7 +2,7 @@
 ghost use Rattle.std.specs.Prelude.{◌≡◌, ◌≤◌, ◌<◌, ◌==◌, ◌^◌, ◌∷◌, ℕ, [], map, IsTrue, IfSome, option_map, length, take, drop, position};
 ghost use Rattle.std.specs.Str.{bytes_eq};
 ghost use Rattle.line_form.specs.Kinds.{behind_prefix, front, back, has_leading_zero, numeral_in, numeral, signed_numeral};
-ghost use Rattle.line_form.specs.Kinds.{is_hex, hex_value, hex_number, hex_payload, is_even, place_among, read, or_dash, number, named};
+ghost use Rattle.line_form.specs.Kinds.{is_hex, hex_value, hex_number, hex_payload, is_even, place_among, read, or_dash, number, named, hexed_or};
 ghost use Rattle.line_form.specs.Forms.{FitsNamed};
 
 use crate::named::Named;
@@ -133,6 +133,18 @@ pub(crate) fn hex_in(word: &[u8], digits: u8) -> Option<u64>
         number = number * 16 + u64::from(hex_value(*digit));
     }
     Some(number)
+}
+
+/// The number of as many hexadecimal digits as one count or another, and whether it is the other.
+pub(crate) fn hex_or_in(word: &[u8], few: u8, many: u8) -> Option<(bool, u64)>
+    requires { (few ≤ many) × (many ≤ 15) }
+    ensures value { result ≡ read (hexed_or few many) word.now }
+    ensures small { IfSome result (λ v. v.1 < 16 ^ many) }
+{
+    let wide = word.len() == many as usize;
+    let digits = if wide { many } else { few };
+    let number = hex_in(word, digits)?;
+    Some((wide, number))
 }
 
 /// A number below a limit, or none where a dash stands.
