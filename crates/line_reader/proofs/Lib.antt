@@ -1,4 +1,4 @@
-pub mod FieldLists
+pub mod ValueLaws
 pub mod HexDigits
 pub mod LineValues
 pub mod Options

@@ -1,73 +1,28 @@
 -- What is read of a line is what the line says, and it fits.
-use Rattle.std.proofs.Common.{◌≡◌, ℕ, ◌≤◌, List, [], ◌∷◌, ◌++◌}
-use Rattle.std.proofs.Common.{length}
-use Rattle.std.proofs.Common.{take, drop, map, Option, Some, None, IfSome, refl, sym, ap, subst, ◌∙◌, arith}
-use Rattle.std.proofs.Common.{codes}
-use Rattle.std.specs.Prelude.{◌==◌, unwrap_or}
-use Rattle.std.proofs.lemmas.List.{append_assoc, append-nil, nil_from_length, take-append-drop}
-use Rattle.std.proofs.lemmas.List.FromFn.{fill_by_all}
-use Rattle.std.proofs.lemmas.Option.{slice_get-get_or}
-use Rattle.ttp_base.specs.NodeSet.{below}
-use Rattle.line_reader.specs.declared.trace_line.TraceLine.{TraceLine}
-use Rattle.line_reader.specs.Reading.{word_end, fields_in, word_at}
-use Rattle.line_text.specs.Labels.{after_label}
-use Rattle.line_reader.specs.Reading.{byte_in, offset_in, byte_or_dash_in, message_or_dash_in, node_word_in}
-use Rattle.line_text.specs.Numerals.{numeral_in}
-use Rattle.line_reader.specs.Reading.{ack_in, source_in, schedule_in, members_word_in, hex_payload_in, has_size}
-use Rattle.line_reader.specs.Reading.{head_labels, node_labels, write_labels, read_labels, kept_labels, broken_labels}
-use Rattle.line_reader.specs.Reading.{owed_labels, refused_labels, head_in, node_in, write_line_in, read_line_in}
-use Rattle.line_reader.specs.Reading.{kept_in, broken_in, owed_in, refused_in, or_else, line_in}
-use Rattle.line_reader.specs.TraceLines.{slot_digits, fits_word, text_of, Fits}
-use Rattle.line_text.specs.Numerals.{message_digits}
-use Rattle.line_reader.proofs.FieldLists.{fields_in-cons, fields_in-nil}
-use Rattle.line_reader.proofs.Options.{bound}
+use Rattle.std.proofs.Common.{◌≡◌, ℕ, ◌^◌, true, List, [], ◌++◌, length, get_or, Option, Some, None}
+use Rattle.std.proofs.Common.{IfSome, sym, ap, subst, ◌∙◌, arith, codes, decimal}
+use Rattle.std.specs.Prelude.{nat_le}
+use Rattle.std.specs.Fmt.{signed_decimal}
+use Rattle.std.specs.List.{list_all}
+use Rattle.std.proofs.lemmas.Bool.{and_parts, ltb-true, leb-true}
+use Rattle.std.proofs.lemmas.List.{append_assoc, append-nil}
+use Rattle.ttp_base.specs.Text.{hex, hex_bytes}
 use Rattle.line_text.proofs.Options.{guarded, some_same}
-use Rattle.line_reader.proofs.ReadWords.{equal, numeral-takes, byte-takes, offset-takes}
-use Rattle.line_text.proofs.LabelTexts.{label-takes}
-use Rattle.line_reader.proofs.ReadWords.{byte_or_dash-takes}
-use Rattle.line_reader.proofs.ReadWords.{message_or_dash-takes, word-takes, ack-takes, source-takes, schedule-takes}
-use Rattle.line_reader.proofs.ReadWords.{members-takes, payload-takes}
-
--- Words after labels.
-
--- each label with its word
-abbrev pub labelled : List (List ℕ) → List (List ℕ) → List ℕ
-labelled [] words = []
-labelled (label ∷ labels) [] = []
-labelled (label ∷ labels) (word ∷ words) = label ++ (word ++ labelled labels words)
-
-pub fields-take : (labels : List (List ℕ)) (bytes : List ℕ) (words : List (List ℕ))
-    → fields_in labels bytes ≡ Some words
-    → (bytes ≡ labelled labels words) × (length words ≡ length labels)
-fields-take [] bytes words e =
-    let g = guarded (length bytes == 0) (Some []) words (sym (fields_in-nil bytes) ∙ e) in
-    subst (λ (ws : List (List ℕ)). (bytes ≡ []) × (length ws ≡ 0)) (some_same [] words g.1)
-    (nil_from_length bytes (equal (length bytes) 0 g.0), refl)
-fields-take (label ∷ labels) bytes words e =
-    let a = bound (after_label label bytes) _ words (sym (fields_in-cons label labels bytes) ∙ e) in
-    let rest = a.value in
-    let b = bound (fields_in labels (drop (word_end rest) rest)) _ words a.gives in
-    let next = fields-take labels (drop (word_end rest) rest) b.value b.read in
-    subst (λ (ws : List (List ℕ)). (bytes ≡ labelled (label ∷ labels) ws) × (length ws ≡ length (label ∷ labels)))
-    (some_same (take (word_end rest) rest ∷ b.value) words b.gives) (
-      label-takes label bytes rest a.read
-          ∙ ap (λ (t : List ℕ). label ++ t) (sym (take-append-drop (word_end rest) rest)
-          ∙ ap (λ (t : List ℕ). take (word_end rest) rest ++ t) next.0),
-      omega (arith, next.1),
-    )
-
--- words are the one at each place
-all_words : (words : List (List ℕ)) (n : ℕ) → length words ≡ n → words ≡ map (λ i. word_at words i) (below n)
-all_words words n count =
-    fill_by_all (λ i. word_at words i) words n [] count (λ k less.
-    sym (ap (λ (o : Option (List ℕ)). unwrap_or o []) (slice_get-get_or words k [] (omega (arith, less, count)))))
-
--- the words of a line of a form
-words_take : (labels : List (List ℕ)) (bytes : List ℕ) (words : List (List ℕ)) → fields_in labels bytes ≡ Some words
-    → bytes ≡ labelled labels (map (λ i. word_at words i) (below (length labels)))
-words_take labels bytes words e =
-    let f = fields-take labels bytes words e in
-    f.0 ∙ ap (labelled labels) (all_words words (length labels) f.1)
+use Rattle.line_form.specs.Kinds.{spell, is_byte, number, or_dash, hexed_or, ◌>>=◌}
+use Rattle.line_form.specs.Forms.{LineForm, Values, spelled, fit, line_values}
+use Rattle.line_form.proofs.FormLaws.{reads-found}
+use Rattle.line_form.proofs.Parts.{each_fits}
+use Rattle.line_form.proofs.Tests.{bound}
+use Rattle.line_reader.specs.declared.trace_line.TraceLine.{TraceLine}
+use Rattle.line_reader.specs.Reading.{head_in, node_in, write_line_in, read_line_in, kept_in, broken_in, owed_in, refused_in}
+use Rattle.line_reader.specs.Reading.{or_else, line_in}
+use Rattle.line_reader.specs.TraceForms.{head_form, node_form, write_form, read_form, kept_form, broken_form, owed_form}
+use Rattle.line_reader.specs.TraceForms.{refused_form, head_meaning, node_meaning, write_meaning, read_meaning, kept_meaning}
+use Rattle.line_reader.specs.TraceForms.{broken_meaning, owed_meaning, refused_meaning, node_words, word_at_place, ack_kind}
+use Rattle.line_reader.specs.TraceForms.{source_kind, source_of_named}
+use Rattle.line_reader.specs.TraceLines.{fits_word, has_size, text_of, Fits}
+use Rattle.line_reader.proofs.ValueLaws.{place-text, dash-text, dash-small, ack-text, ack-small, source-text, source-small}
+use Rattle.line_reader.proofs.ValueLaws.{bytes-small, offset-small, members-text, members-small}
 
 abbrev pub IsRead : List ℕ → TraceLine → Type 0
 IsRead bytes v = Fits v × (bytes ≡ text_of v)
@@ -77,9 +32,6 @@ one_nested a v = simp append-nil
 
 pub two_nested : (a v b w : List ℕ) → a ++ (v ++ (b ++ (w ++ []))) ≡ a ++ v ++ b ++ w
 two_nested a v b w = simp (append_assoc, append-nil)
-
-three_nested : (a v b w c x : List ℕ) → a ++ (v ++ (b ++ (w ++ (c ++ (x ++ []))))) ≡ a ++ v ++ b ++ w ++ c ++ x
-three_nested a v b w c x = simp (append_assoc, append-nil)
 
 pub host_nested : (a v b w c x : List ℕ) → a ++ (v ++ (b ++ (w ++ (c ++ (x ++ []))))) ≡ (a ++ v ++ b ++ w) ++ c ++ x
 host_nested a v b w c x = simp (append_assoc, append-nil)
@@ -95,195 +47,164 @@ pub ten_nested : (a v b w c x d y e z f p g q h r k s l t : List ℕ)
     ++ k ++ s ++ l ++ t
 ten_nested a v b w c x d y e z f p g q h r k s l t = simp (append_assoc, append-nil)
 
--- The forms.
-
-pub slots_are_few : slot_digits ≤ 18
-slots_are_few = omega arith
-
-pub messages_are_few : message_digits ≤ 18
-messages_are_few = omega arith
-
-pub kept-takes : (bytes : List ℕ) (v : TraceLine) → kept_in bytes ≡ Some v → IsRead bytes v
-unfolding kept_in
-kept-takes bytes v e =
-    let b = bound (fields_in kept_labels bytes) _ v e in
-    let start = bound (numeral_in slot_digits (word_at b.value 0)) _ v b.gives in
-    let t = numeral-takes slot_digits (word_at b.value 0) start.value slots_are_few start.read in
-    subst (IsRead bytes) (some_same _ v start.gives) (
-      t.small,
-      words_take kept_labels bytes b.value b.read ∙ one_nested (codes "keeps yes start ") (word_at b.value 0)
-          ∙ (λ i. codes "keeps yes start " ++ t.text i),
-    )
-
-pub broken-takes : (bytes : List ℕ) (v : TraceLine) → broken_in bytes ≡ Some v → IsRead bytes v
-unfolding broken_in
-broken-takes bytes v e =
-    let b = bound (fields_in broken_labels bytes) _ v e in
-    let rule = bound (byte_in (word_at b.value 0)) _ v b.gives in
-    let slot = bound (numeral_in slot_digits (word_at b.value 1)) _ v rule.gives in
-    let r = byte-takes (word_at b.value 0) rule.value rule.read in
-    let t = numeral-takes slot_digits (word_at b.value 1) slot.value slots_are_few slot.read in
-    subst (IsRead bytes) (some_same _ v slot.gives) (
-      (r.small, t.small),
-      words_take broken_labels bytes b.value b.read
-          ∙ two_nested (codes "keeps no H") (word_at b.value 0) (codes " ") (word_at b.value 1)
-          ∙ (λ i. codes "keeps no H" ++ r.text i ++ codes " " ++ t.text i),
-    )
-
-pub owed-takes : (bytes : List ℕ) (v : TraceLine) → owed_in bytes ≡ Some v → IsRead bytes v
-unfolding owed_in
-owed-takes bytes v e =
-    let b = bound (fields_in owed_labels bytes) _ v e in
-    let start = bound (numeral_in slot_digits (word_at b.value 0)) _ v b.gives in
-    let t = numeral-takes slot_digits (word_at b.value 0) start.value slots_are_few start.read in
-    subst (IsRead bytes) (some_same _ v start.gives) (
-      t.small,
-      words_take owed_labels bytes b.value b.read ∙ one_nested (codes "returns yes start ") (word_at b.value 0)
-          ∙ (λ i. codes "returns yes start " ++ t.text i),
-    )
-
-pub refused-takes : (bytes : List ℕ) (v : TraceLine) → refused_in bytes ≡ Some v → IsRead bytes v
-unfolding refused_in
-refused-takes bytes v e =
-    let b = bound (fields_in refused_labels bytes) _ v e in
-    let rule = bound (byte_in (word_at b.value 0)) _ v b.gives in
-    let slot = bound (numeral_in slot_digits (word_at b.value 1)) _ v rule.gives in
-    let r = byte-takes (word_at b.value 0) rule.value rule.read in
-    let t = numeral-takes slot_digits (word_at b.value 1) slot.value slots_are_few slot.read in
-    subst (IsRead bytes) (some_same _ v slot.gives) (
-      (r.small, t.small),
-      words_take refused_labels bytes b.value b.read
-          ∙ two_nested (codes "returns no Q") (word_at b.value 0) (codes " ") (word_at b.value 1)
-          ∙ (λ i. codes "returns no Q" ++ r.text i ++ codes " " ++ t.text i),
-    )
-
-pub write-takes : (bytes : List ℕ) (v : TraceLine) → write_line_in bytes ≡ Some v → IsRead bytes v
-unfolding write_line_in
-write-takes bytes v e =
-    let b = bound (fields_in write_labels bytes) _ v e in
-    let slot = bound (numeral_in slot_digits (word_at b.value 0)) _ v b.gives in
-    let host = bound (byte_in (word_at b.value 1)) _ v slot.gives in
-    let number = bound (numeral_in message_digits (word_at b.value 2)) _ v host.gives in
-    let t = numeral-takes slot_digits (word_at b.value 0) slot.value slots_are_few slot.read in
-    let k = byte-takes (word_at b.value 1) host.value host.read in
-    let n = numeral-takes message_digits (word_at b.value 2) number.value messages_are_few number.read in
-    subst (IsRead bytes) (some_same _ v number.gives) (
-      record { slot = t.small; host = k.small; number = n.small },
-      words_take write_labels bytes b.value b.read
-          ∙ host_nested (codes "slot ") (word_at b.value 0) (codes " host ") (word_at b.value 1) (codes " write ")
-          (word_at b.value 2)
-          ∙ (λ i. (codes "slot " ++ t.text i ++ codes " host " ++ k.text i) ++ codes " write " ++ n.text i),
-    )
-
-pub head-takes : (bytes : List ℕ) (v : TraceLine) → head_in bytes ≡ Some v → IsRead bytes v
-unfolding head_in
-head-takes bytes v e =
-    let b = bound (fields_in head_labels bytes) _ v e in
-    let version = bound (byte_in (word_at b.value 0)) _ v b.gives in
-    let nodes = bound (byte_in (word_at b.value 1)) _ v version.gives in
-    let rounds = bound (byte_in (word_at b.value 2)) _ v nodes.gives in
-    let slots = bound (numeral_in slot_digits (word_at b.value 3)) _ v rounds.gives in
-    let schedule = bound (schedule_in (word_at b.value 4)) _ v slots.gives in
-    let n = byte-takes (word_at b.value 0) version.value version.read in
-    let k = byte-takes (word_at b.value 1) nodes.value nodes.read in
-    let r = byte-takes (word_at b.value 2) rounds.value rounds.read in
-    let t = numeral-takes slot_digits (word_at b.value 3) slots.value slots_are_few slots.read in
-    let h = schedule-takes (word_at b.value 4) schedule.value schedule.read in
-    subst (IsRead bytes) (some_same _ v schedule.gives) (
-      record { version = n.small; nodes = k.small; rounds = r.small; slots = t.small; schedule = h.1 },
-      words_take head_labels bytes b.value b.read
-          ∙ five_nested (codes "ttpbench trace ") (word_at b.value 0) (codes " nodes ") (word_at b.value 1)
-          (codes " rounds ") (word_at b.value 2) (codes " slots ") (word_at b.value 3) (codes " schedule ")
-          (word_at b.value 4)
-          ∙ (λ i. codes "ttpbench trace " ++ n.text i ++ codes " nodes " ++ k.text i ++ codes " rounds " ++ r.text i
-          ++ codes " slots " ++ t.text i ++ codes " schedule " ++ h.0 i),
-    )
-
 pub read_nested : (a v b w c x d y e z : List ℕ)
     → a ++ (v ++ (b ++ (w ++ (c ++ (x ++ (d ++ (y ++ (e ++ (z ++ [])))))))))
     ≡ (a ++ v ++ b ++ w) ++ c ++ x ++ d ++ y ++ e ++ z
 read_nested a v b w c x d y e z = simp (append_assoc, append-nil)
 
-pub read-takes : (bytes : List ℕ) (v : TraceLine) → read_line_in bytes ≡ Some v → IsRead bytes v
-unfolding read_line_in
-read-takes bytes v e =
-    let b = bound (fields_in read_labels bytes) _ v e in
-    let slot = bound (numeral_in slot_digits (word_at b.value 0)) _ v b.gives in
-    let host = bound (byte_in (word_at b.value 1)) _ v slot.gives in
-    let from = bound (source_in (word_at b.value 2)) _ v host.gives in
-    let number = bound (numeral_in message_digits (word_at b.value 3)) _ v from.gives in
-    let payload = bound (hex_payload_in (word_at b.value 4)) _ v number.gives in
-    let g = guarded (has_size from.value (length payload.value)) _ v payload.gives in
-    let t = numeral-takes slot_digits (word_at b.value 0) slot.value slots_are_few slot.read in
-    let k = byte-takes (word_at b.value 1) host.value host.read in
-    let f = source-takes (word_at b.value 2) from.value from.read in
-    let n = numeral-takes message_digits (word_at b.value 3) number.value messages_are_few number.read in
-    let p = payload-takes (word_at b.value 4) payload.value payload.read in
-    subst (IsRead bytes) (some_same _ v g.1) (
+-- What the values of a form say is read of their text.
+Says : (form : LineForm) → (Values form → Option TraceLine) → Type 0
+Says form f = (vs : Values form) (v : TraceLine) → fit form vs ≡ true → f vs ≡ Some v → IsRead (spelled form vs) v
+
+took : (form : LineForm) (f : Values form → Option TraceLine) (bytes : List ℕ) (v : TraceLine) → Says form f
+    → (line_values form bytes >>= f) ≡ Some v → IsRead bytes v
+unfolding Says
+took form f bytes v says e =
+    let b = bound (line_values form bytes) f v e in
+    let r = subst (λ (o : Option (Values form)). IfSome o (λ vs. (fit form vs ≡ true) × (bytes ≡ spelled form vs))) b.read
+    (reads-found form bytes) in
+    subst (λ (t : List ℕ). IsRead t v) (sym r.1) (says b.value v r.0 b.gives)
+
+head-says : Says head_form head_meaning
+unfolding Says
+head-says (version, (nodes, (rounds, (slots, (schedule, end))))) v fits e =
+    let f = each_fits head_form (version, (nodes, (rounds, (slots, (schedule, end))))) fits in
+    subst (IsRead (spelled head_form (version, (nodes, (rounds, (slots, (schedule, end))))))) (some_same _ v e) (
       record {
-        slot = t.small;
-        host = k.small;
-        number = n.small;
-        source = f.1 (length payload.value) g.0 p.2;
-        payload = p.1;
+        version = ltb-true version 256 f.0;
+        nodes = ltb-true nodes 256 f.1.0;
+        rounds = ltb-true rounds 256 f.1.1.0;
+        slots = ltb-true slots 100000 f.1.1.1.0;
+        schedule = omega (arith, ltb-true schedule (16 ^ 6) f.1.1.1.1.0);
       },
-      words_take read_labels bytes b.value b.read
-          ∙ read_nested (codes "slot ") (word_at b.value 0) (codes " host ") (word_at b.value 1) (codes " read ")
-          (word_at b.value 2) (codes " ") (word_at b.value 3) (codes " ") (word_at b.value 4)
-          ∙ (λ i. (codes "slot " ++ t.text i ++ codes " host " ++ k.text i) ++ codes " read " ++ f.0 i ++ codes " "
-          ++ n.text i ++ codes " " ++ p.0 i),
+      five_nested (codes "ttpbench trace ") (decimal version) (codes " nodes ") (decimal nodes) (codes " rounds ")
+          (decimal rounds) (codes " slots ") (decimal slots) (codes " schedule ") (hex 6 schedule),
     )
 
-pub node-takes : (bytes : List ℕ) (v : TraceLine) → node_in bytes ≡ Some v → IsRead bytes v
-unfolding node_in
-node-takes bytes v e =
-    let b = bound (fields_in node_labels bytes) _ v e in
-    let slot = bound (numeral_in slot_digits (word_at b.value 0)) _ v b.gives in
-    let node = bound (byte_in (word_at b.value 1)) _ v slot.gives in
-    let does = bound (node_word_in (word_at b.value 2)) _ v node.gives in
-    let peer = bound (byte_or_dash_in (word_at b.value 3)) _ v does.gives in
-    let message = bound (message_or_dash_in (word_at b.value 4)) _ v peer.gives in
-    let members = bound (members_word_in (word_at b.value 5)) _ v message.gives in
-    let accepted = bound (byte_in (word_at b.value 6)) _ v members.gives in
-    let rejected = bound (byte_in (word_at b.value 7)) _ v accepted.gives in
-    let answer = bound (ack_in (word_at b.value 8)) _ v rejected.gives in
-    let offset = bound (offset_in (word_at b.value 9)) _ v answer.gives in
-    let g = guarded (fits_word does.value peer.value message.value) _ v offset.gives in
-    let t = numeral-takes slot_digits (word_at b.value 0) slot.value slots_are_few slot.read in
-    let k = byte-takes (word_at b.value 1) node.value node.read in
-    let w = word-takes (word_at b.value 2) does.value does.read in
-    let p = byte_or_dash-takes (word_at b.value 3) peer.value peer.read in
-    let m = message_or_dash-takes (word_at b.value 4) message.value message.read in
-    let s = members-takes (word_at b.value 5) members.value members.read in
-    let good = byte-takes (word_at b.value 6) accepted.value accepted.read in
-    let bad = byte-takes (word_at b.value 7) rejected.value rejected.read in
-    let a = ack-takes (word_at b.value 8) answer.value answer.read in
-    let z = offset-takes (word_at b.value 9) offset.value offset.read in
-    subst (IsRead bytes) (some_same _ v g.1) (
+write-says : Says write_form write_meaning
+unfolding Says
+write-says (slot, (host, (n, end))) v fits e =
+    let f = each_fits write_form (slot, (host, (n, end))) fits in
+    subst (IsRead (spelled write_form (slot, (host, (n, end))))) (some_same _ v e) (
       record {
-        slot = t.small;
-        node = k.small;
+        slot = ltb-true slot 100000 f.0;
+        host = ltb-true host 256 f.1.0;
+        number = ltb-true n 1000000 f.1.1.0;
+      },
+      host_nested (codes "slot ") (decimal slot) (codes " host ") (decimal host) (codes " write ") (decimal n),
+    )
+
+read-says : Says read_form read_meaning
+unfolding Says
+read-says (slot, (host, (from, (n, (bytes, end))))) v fits e =
+    let f = each_fits read_form (slot, (host, (from, (n, (bytes, end))))) fits in
+    let p = and_parts (nat_le (length bytes) 240) (list_all is_byte bytes) f.1.1.1.1.0 in
+    let g = guarded (has_size (source_of_named from) (length bytes)) _ v e in
+    subst (IsRead (spelled read_form (slot, (host, (from, (n, (bytes, end))))))) (some_same _ v g.1) (
+      record {
+        slot = ltb-true slot 100000 f.0;
+        host = ltb-true host 256 f.1.0;
+        number = ltb-true n 1000000 f.1.1.1.0;
+        source = source-small from (length bytes) f.1.1.0 g.0 (leb-true (length bytes) 240 p.0);
+        payload = bytes-small bytes p.1;
+      },
+      read_nested (codes "slot ") (decimal slot) (codes " host ") (decimal host) (codes " read ") (spell source_kind from)
+          (codes " ") (decimal n) (codes " ") (hex_bytes bytes)
+          ∙ ap (λ (s : List ℕ). (codes "slot " ++ decimal slot ++ codes " host " ++ decimal host) ++ codes " read " ++ s
+          ++ codes " " ++ decimal n ++ codes " " ++ hex_bytes bytes) (source-text from f.1.1.0),
+    )
+
+kept-says : Says kept_form kept_meaning
+unfolding Says
+kept-says (start, end) v fits e =
+    let f = each_fits kept_form (start, end) fits in
+    subst (IsRead (spelled kept_form (start, end))) (some_same _ v e)
+    (ltb-true start 100000 f.0, one_nested (codes "keeps yes start ") (decimal start))
+
+broken-says : Says broken_form broken_meaning
+unfolding Says
+broken-says (rule, (slot, end)) v fits e =
+    let f = each_fits broken_form (rule, (slot, end)) fits in
+    subst (IsRead (spelled broken_form (rule, (slot, end)))) (some_same _ v e)
+    ((ltb-true rule 256 f.0, ltb-true slot 100000 f.1.0), two_nested (codes "keeps no H") (decimal rule) (codes " ") (decimal slot))
+
+owed-says : Says owed_form owed_meaning
+unfolding Says
+owed-says (start, end) v fits e =
+    let f = each_fits owed_form (start, end) fits in
+    subst (IsRead (spelled owed_form (start, end))) (some_same _ v e)
+    (ltb-true start 100000 f.0, one_nested (codes "returns yes start ") (decimal start))
+
+refused-says : Says refused_form refused_meaning
+unfolding Says
+refused-says (rule, (slot, end)) v fits e =
+    let f = each_fits refused_form (rule, (slot, end)) fits in
+    subst (IsRead (spelled refused_form (rule, (slot, end)))) (some_same _ v e)
+    ((ltb-true rule 256 f.0, ltb-true slot 100000 f.1.0), two_nested (codes "returns no Q") (decimal rule) (codes " ") (decimal slot))
+
+node-says : Says node_form node_meaning
+unfolding Says
+node-says (slot, (k, (w, (peer, (message, (members, (accepted, (rejected, (a, (offset, end)))))))))) v fits e =
+    let vs : Values node_form = (slot, (k, (w, (peer, (message, (members, (accepted, (rejected, (a, (offset, end)))))))))) in
+    let f = each_fits node_form vs fits in
+    let words = f.1.1 in
+    let rest = words.1.1.1 in
+    let g = guarded (fits_word (word_at_place w) peer message) _ v e in
+    subst (IsRead (spelled node_form vs)) (some_same _ v g.1) (
+      record {
+        slot = ltb-true slot 100000 f.0;
+        node = ltb-true k 256 f.1.0;
         word = g.0;
-        peer = p.1;
-        message = m.1;
-        members = s.1;
-        accepted = good.small;
-        rejected = bad.small;
-        ack = a.1;
-        offset = z.1;
+        peer = dash-small 256 peer words.1.0;
+        message = dash-small 1000000 message words.1.1.0;
+        members = members-small members rest.0;
+        accepted = ltb-true accepted 256 rest.1.0;
+        rejected = ltb-true rejected 256 rest.1.1.0;
+        ack = ack-small a rest.1.1.1.0;
+        offset = offset-small offset rest.1.1.1.1.0;
       },
-      words_take node_labels bytes b.value b.read
-          ∙ ten_nested (codes "slot ") (word_at b.value 0) (codes " node ") (word_at b.value 1) (codes " ")
-          (word_at b.value 2) (codes " peer ") (word_at b.value 3) (codes " msg ") (word_at b.value 4) (codes " mem ")
-          (word_at b.value 5) (codes " acc ") (word_at b.value 6) (codes " rej ") (word_at b.value 7) (codes " ack ")
-          (word_at b.value 8) (codes " clock ") (word_at b.value 9)
-          ∙ (λ i. codes "slot " ++ t.text i ++ codes " node " ++ k.text i ++ codes " " ++ w i ++ codes " peer " ++ p.0 i
-          ++ codes " msg " ++ m.0 i ++ codes " mem " ++ s.0 i ++ codes " acc " ++ good.text i
-          ++ codes " rej " ++ bad.text i
-          ++ codes " ack " ++ a.0 i ++ codes " clock " ++ z.0 i),
+      ten_nested (codes "slot ") (decimal slot) (codes " node ") (decimal k) (codes " ") (get_or node_words w [])
+          (codes " peer ") (spell (or_dash (number 256)) peer) (codes " msg ") (spell (or_dash (number 1000000)) message)
+          (codes " mem ") (spell (hexed_or 4 6) members) (codes " acc ") (decimal accepted) (codes " rej ") (decimal rejected)
+          (codes " ack ") (spell ack_kind a) (codes " clock ") (signed_decimal offset)
+          ∙ (λ i. codes "slot " ++ decimal slot ++ codes " node " ++ decimal k
+          ++ codes " " ++ place-text w (ltb-true w 15 words.0) i ++ codes " peer " ++ dash-text 256 peer i
+          ++ codes " msg " ++ dash-text 1000000 message i ++ codes " mem " ++ members-text members rest.0 i
+          ++ codes " acc " ++ decimal accepted ++ codes " rej " ++ decimal rejected
+          ++ codes " ack " ++ ack-text a rest.1.1.1.0 i ++ codes " clock " ++ signed_decimal offset),
     )
 
--- All forms.
+node-takes : (bytes : List ℕ) (v : TraceLine) → node_in bytes ≡ Some v → IsRead bytes v
+unfolding node_in
+node-takes bytes v e = took node_form node_meaning bytes v node-says e
+
+read-takes : (bytes : List ℕ) (v : TraceLine) → read_line_in bytes ≡ Some v → IsRead bytes v
+unfolding read_line_in
+read-takes bytes v e = took read_form read_meaning bytes v read-says e
+
+write-takes : (bytes : List ℕ) (v : TraceLine) → write_line_in bytes ≡ Some v → IsRead bytes v
+unfolding write_line_in
+write-takes bytes v e = took write_form write_meaning bytes v write-says e
+
+head-takes : (bytes : List ℕ) (v : TraceLine) → head_in bytes ≡ Some v → IsRead bytes v
+unfolding head_in
+head-takes bytes v e = took head_form head_meaning bytes v head-says e
+
+kept-takes : (bytes : List ℕ) (v : TraceLine) → kept_in bytes ≡ Some v → IsRead bytes v
+unfolding kept_in
+kept-takes bytes v e = took kept_form kept_meaning bytes v kept-says e
+
+broken-takes : (bytes : List ℕ) (v : TraceLine) → broken_in bytes ≡ Some v → IsRead bytes v
+unfolding broken_in
+broken-takes bytes v e = took broken_form broken_meaning bytes v broken-says e
+
+owed-takes : (bytes : List ℕ) (v : TraceLine) → owed_in bytes ≡ Some v → IsRead bytes v
+unfolding owed_in
+owed-takes bytes v e = took owed_form owed_meaning bytes v owed-says e
+
+refused-takes : (bytes : List ℕ) (v : TraceLine) → refused_in bytes ≡ Some v → IsRead bytes v
+unfolding refused_in
+refused-takes bytes v e = took refused_form refused_meaning bytes v refused-says e
 
 one_or : (P : Type 0) (a b : Option TraceLine) (v : TraceLine) → (a ≡ Some v → P) → (b ≡ Some v → P)
     → or_else a b ≡ Some v → P

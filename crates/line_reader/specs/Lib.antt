@@ -1,3 +1,4 @@
 pub mod Reading
 pub mod TraceLines
 pub mod WorldLines
+pub mod TraceForms

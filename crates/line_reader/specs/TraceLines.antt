@@ -1,5 +1,5 @@
 -- The lines of a trace as values: the text of each, without its line feed, and what fits into it.
-use Rattle.std.specs.Prelude.{ℕ, ◌≡◌, ◌+◌, ◌*◌, ◌^◌, ◌<◌, ◌≤◌, ◌&&◌, ◌||◌, ℤ, pos, negsuc, Bool, true, false}
+use Rattle.std.specs.Prelude.{ℕ, ◌≡◌, ◌+◌, ◌*◌, ◌^◌, ◌<◌, ◌≤◌, ◌==◌, nat_le, ◌&&◌, ◌||◌, ℤ, pos, negsuc, Bool, true, false}
 use Rattle.std.specs.Prelude.{List, ◌++◌, length, Option, codes, decimal, is_some, is_none, IsTrue, IfSome}
 use Rattle.std.specs.Prelude.{if◌then◌else◌}
 use Rattle.std.specs.Fmt.{signed_decimal}
@@ -97,6 +97,11 @@ may_name_message _ = false
 abbrev pub fits_word : Word → Option ℕ → Option ℕ → Bool
 fits_word w peer message =
     (if names_peer w then is_some peer else is_none peer) && (may_name_message w || is_none message)
+
+-- a status has 32 bytes, and another message at least one
+abbrev pub has_size : Source → ℕ → Bool
+has_size source.Status size = size == 32
+has_size (source.Node p) size = nat_le 1 size
 
 -- an answer of the hypothesis test fits into the digits of its line
 abbrev pub FitsKeep : Keep → Type 0

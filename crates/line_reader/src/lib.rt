@@ -15,10 +15,10 @@
 //! }
 //! ```
 //!
-//! A form is a list of labels; `src/fields.rt` cuts a line into the words that follow them, and each word is read for
-//! itself. `specs/Reading.antt` says the same as functions. `proofs/ReadWords.antt` and `ReadLines.antt` show that
-//! what is read is what the line says, `proofs/WrittenWords.antt` and `WrittenLines.antt` that the line of each value
-//! that fits is read as that value. whole_campaign has the digits of memberships read too, by [`hex_in`].
+//! Each line has a form of line_form (`specs/TraceForms.antt`), by which it is read, label by label; `specs/Reading.antt`
+//! has the value that its words make. `proofs/ReadLines.antt` shows that what is read is what the line says, and
+//! `proofs/WrittenLines.antt` that the line of each value that fits is read as that value, both by the laws of all forms.
+//! whole_campaign has the digits of memberships read too, by [`hex_in`].
 //!
 //! The bytes of a line are gone over once for each form that they begin as. Threads share nothing here. The crate
 //! asks of a line what its form does, and not whether it belongs into a trace. It takes no memory, forms no line, and
@@ -26,10 +26,8 @@
 #![tactic(auto)]
 
 mod digits;
-mod fields;
 pub mod laws;
 mod line_words;
-mod numerals;
 mod read;
 mod trace_line;
 

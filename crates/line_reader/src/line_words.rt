@@ -1,50 +1,63 @@
 //! The words of a line that are no numbers.
-ghost use Rattle.std.specs.Prelude.{◌≡◌};
-ghost use Rattle.line_reader.specs.TraceLines.{names_peer, may_name_message, fits_word};
-ghost use Rattle.line_reader.specs.Reading.{node_word_in, ack_in, source_in, has_size};
+ghost use Rattle.std.specs.Prelude.{◌≡◌, ◌<◌};
+ghost use Rattle.line_form.specs.Kinds.{one_of};
+ghost use Rattle.line_form.specs.Forms.{field_value, past, FitsNamed};
+ghost use Rattle.line_reader.specs.TraceLines.{names_peer, may_name_message, fits_word, has_size};
+ghost use Rattle.line_reader.specs.TraceForms.{node_words, word_place, ack_kind, ack_told, source_kind, source_told};
 
-use crate::numerals::byte_in;
 use crate::trace_line::Word;
+use line_form::{Named, Reader};
 use ttp_world::{Ack, Source};
 
-/// What a node did.
-#[tactic(auto, unfolding(crate::specs::Reading::node_word_in))]
-pub(crate) fn node_word_in(word: &[u8]) -> Option<Word>
-    ensures { result ≡ node_word_in word.now }
+// The word at a place.
+fn word_at(place: usize) -> Word
+    requires { place < 15 }
+    ensures { word_place result ≡ place }
 {
-    if word == b"off".as_slice() {
-        Some(Word::Off)
-    } else if word == b"wait".as_slice() {
-        Some(Word::Wait)
-    } else if word == b"retry".as_slice() {
-        Some(Word::Retry)
-    } else if word == b"gone".as_slice() {
-        Some(Word::Gone)
-    } else if word == b"start".as_slice() {
-        Some(Word::Start)
-    } else if word == b"join".as_slice() {
-        Some(Word::Join)
-    } else if word == b"send".as_slice() {
-        Some(Word::Send)
-    } else if word == b"correct".as_slice() {
-        Some(Word::Correct)
-    } else if word == b"tentative".as_slice() {
-        Some(Word::Tentative)
-    } else if word == b"incorrect".as_slice() {
-        Some(Word::Incorrect)
-    } else if word == b"invalid".as_slice() {
-        Some(Word::Invalid)
-    } else if word == b"null".as_slice() {
-        Some(Word::Null)
-    } else if word == b"denied".as_slice() {
-        Some(Word::Denied)
-    } else if word == b"unacknowledged".as_slice() {
-        Some(Word::Unacknowledged)
-    } else if word == b"clique".as_slice() {
-        Some(Word::Clique)
-    } else {
-        None
+    match place {
+        0 => Word::Off,
+        1 => Word::Wait,
+        2 => Word::Retry,
+        3 => Word::Gone,
+        4 => Word::Start,
+        5 => Word::Join,
+        6 => Word::Send,
+        7 => Word::Correct,
+        8 => Word::Tentative,
+        9 => Word::Incorrect,
+        10 => Word::Invalid,
+        11 => Word::Null,
+        12 => Word::Denied,
+        13 => Word::Unacknowledged,
+        _ => Word::Clique,
     }
+}
+
+/// What a node did, behind a label.
+pub(crate) fn node_word(line: &mut Reader, label: &str) -> Word
+    ensures value { word_place result ≡ field_value label.now (one_of node_words) line.old }
+    ensures left { line.new ≡ past label.now (one_of node_words) line.old }
+{
+    word_at(line.one_of(
+        label,
+        &[
+            "off",
+            "wait",
+            "retry",
+            "gone",
+            "start",
+            "join",
+            "send",
+            "correct",
+            "tentative",
+            "incorrect",
+            "invalid",
+            "null",
+            "denied",
+            "unacknowledged",
+            "clique",
+        ],
+    ))
 }
 
 fn names_peer(word: Word) -> bool
@@ -71,32 +84,43 @@ pub(crate) fn fits_word(word: Word, peer: Option<u8>, message: Option<u64>) -> b
     names && (may_name_message(word) || message.is_none())
 }
 
-/// What a node knows of its newest frame.
-#[tactic(auto, unfolding(crate::specs::Reading::ack_in))]
-pub(crate) fn ack_in(word: &[u8]) -> Option<Ack>
-    ensures { result ≡ ack_in word.now }
+// What is told of an acknowledgement.
+fn ack_of(told: Named<u64>) -> Ack
+    requires { FitsNamed 2 256 told }
+    ensures { ack_told result ≡ told }
 {
-    if word == b"none".as_slice() {
-        return Some(Ack::Closed);
+    match told {
+        Named::Told(0) => Ack::Closed,
+        Named::Told(_) => Ack::First,
+        Named::Other(node) => Ack::Doubt(node as u8),
     }
-    if word == b"first".as_slice() {
-        return Some(Ack::First);
-    }
-    let peer = word.strip_prefix(b"doubt:".as_slice())?;
-    let peer = byte_in(peer)?;
-    Some(Ack::Doubt(peer))
 }
 
-/// Whose message a host read.
-#[tactic(auto, unfolding(crate::specs::Reading::source_in))]
-pub(crate) fn source_in(word: &[u8]) -> Option<Source>
-    ensures { result ≡ source_in word.now }
+/// What a node knows of its newest frame, behind a label.
+pub(crate) fn ack(line: &mut Reader, label: &str) -> Ack
+    ensures value { ack_told result ≡ field_value label.now ack_kind line.old }
+    ensures left { line.new ≡ past label.now ack_kind line.old }
 {
-    if word == b"status".as_slice() {
-        return Some(Source::Status);
+    ack_of(line.named(label, &["none", "first"], "doubt:", 256))
+}
+
+// What is told of a source.
+fn source_of(told: Named<u64>) -> Source
+    requires { FitsNamed 1 256 told }
+    ensures { source_told result ≡ told }
+{
+    match told {
+        Named::Told(_) => Source::Status,
+        Named::Other(node) => Source::Node(node as u8),
     }
-    let node = byte_in(word)?;
-    Some(Source::Node(node))
+}
+
+/// Whose message a host read, behind a label.
+pub(crate) fn source(line: &mut Reader, label: &str) -> Source
+    ensures value { source_told result ≡ field_value label.now source_kind line.old }
+    ensures left { line.new ≡ past label.now source_kind line.old }
+{
+    source_of(line.named(label, &["status"], "", 256))
 }
 
 /// Whether a message of the source may have so many bytes.

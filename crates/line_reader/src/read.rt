@@ -6,35 +6,31 @@ ghost use Rattle.line_reader.specs.declared.trace_line.TraceLine.TheVariants as 
 ghost use Rattle.line_reader.specs.Reading.{head_in, node_in, write_line_in, read_line_in, kept_in, broken_in, owed_in};
 ghost use Rattle.line_reader.specs.Reading.{refused_in, line_in};
 
-use crate::digits::{hex_payload_in, is_wide, members_in, schedule_in};
-use crate::fields::fields_in;
-use crate::line_words::{ack_in, fits_word, has_size, node_word_in, source_in};
-use crate::numerals::{byte_in, byte_or_dash_in, message_or_dash_in, offset_in, slot_in};
+use crate::digits::members_of;
+use crate::line_words::{ack, fits_word, has_size, node_word, source};
 use crate::trace_line::{NodeLine, TraceLine};
-use line_text::message_in;
-use ttp_world::{Back, Keep};
+use line_form::Reader;
+use ttp_world::{Back, Keep, PAYLOAD_LIMIT, Payload};
+
+// Slots have at most 5 digits, message numbers 6, and offsets 18.
+const SLOTS: u64 = 100_000;
+
+const MESSAGES: u64 = 1_000_000;
+
+const OFFSETS: u64 = 1_000_000_000_000_000_000;
 
 // The first line.
 #[tactic(auto, unfolding(crate::specs::Reading::head_in))]
 fn head_in(bytes: &[u8]) -> Option<TraceLine>
     ensures { result ≡ head_in bytes.now }
 {
-    let words = fields_in(
-        &[
-            "ttpbench trace ",
-            " nodes ",
-            " rounds ",
-            " slots ",
-            " schedule ",
-        ],
-        bytes,
-    )?;
-    let version = byte_in(words.at(0))?;
-    let nodes = byte_in(words.at(1))?;
-    let rounds = byte_in(words.at(2))?;
-    let slots = slot_in(words.at(3))?;
-    let schedule = schedule_in(words.at(4))?;
-    Some(TraceLine::Header {
+    let mut line = Reader::of(bytes);
+    let version = line.byte("ttpbench trace ");
+    let nodes = line.byte(" nodes ");
+    let rounds = line.byte(" rounds ");
+    let slots = line.number(" slots ", SLOTS) as u32;
+    let schedule = line.hexed(" schedule ", 6) as u32;
+    line.close(TraceLine::Header {
         version,
         nodes,
         rounds,
@@ -49,35 +45,28 @@ pub fn read_node_line(bytes: &[u8]) -> Option<NodeLine>
     ensures { option_map (λ n. said.Node n.slot n.node n.word n.peer n.message n.wide n.members n.accepted n.rejected n.ack
         n.offset) result ≡ node_in bytes.now }
 {
-    let words = fields_in(
-        &[
-            "slot ", " node ", " ", " peer ", " msg ", " mem ", " acc ", " rej ", " ack ",
-            " clock ",
-        ],
-        bytes,
-    )?;
-    let slot = slot_in(words.at(0))?;
-    let node = byte_in(words.at(1))?;
-    let word = node_word_in(words.at(2))?;
-    let peer = byte_or_dash_in(words.at(3))?;
-    let message = message_or_dash_in(words.at(4))?;
-    let wide = is_wide(words.at(5));
-    let members = members_in(words.at(5))?;
-    let accepted = byte_in(words.at(6))?;
-    let rejected = byte_in(words.at(7))?;
-    let ack = ack_in(words.at(8))?;
-    let offset = offset_in(words.at(9))?;
+    let mut line = Reader::of(bytes);
+    let slot = line.number("slot ", SLOTS) as u32;
+    let node = line.byte(" node ");
+    let word = node_word(&mut line, " ");
+    let peer = line.byte_or_dash(" peer ");
+    let message = line.number_or_dash(" msg ", MESSAGES);
+    let members = line.hexed_or(" mem ", 4, 6);
+    let accepted = line.byte(" acc ");
+    let rejected = line.byte(" rej ");
+    let ack = ack(&mut line, " ack ");
+    let offset = line.signed(" clock ", OFFSETS);
     if !fits_word(word, peer, message) {
         return None;
     }
-    Some(NodeLine {
+    line.close(NodeLine {
         slot,
         node,
         word,
         peer,
         message,
-        wide,
-        members,
+        wide: members.0,
+        members: members_of(members.1 as u32),
         accepted,
         rejected,
         ack,
@@ -110,11 +99,11 @@ fn node_in(bytes: &[u8]) -> Option<TraceLine>
 fn write_line_in(bytes: &[u8]) -> Option<TraceLine>
     ensures { result ≡ write_line_in bytes.now }
 {
-    let words = fields_in(&["slot ", " host ", " write "], bytes)?;
-    let slot = slot_in(words.at(0))?;
-    let host = byte_in(words.at(1))?;
-    let number = message_in(words.at(2))?;
-    Some(TraceLine::Write { slot, host, number })
+    let mut line = Reader::of(bytes);
+    let slot = line.number("slot ", SLOTS) as u32;
+    let host = line.byte(" host ");
+    let number = line.number(" write ", MESSAGES);
+    line.close(TraceLine::Write { slot, host, number })
 }
 
 // The line of a message that a host read.
@@ -122,21 +111,21 @@ fn write_line_in(bytes: &[u8]) -> Option<TraceLine>
 fn read_line_in(bytes: &[u8]) -> Option<TraceLine>
     ensures { result ≡ read_line_in bytes.now }
 {
-    let words = fields_in(&["slot ", " host ", " read ", " ", " "], bytes)?;
-    let slot = slot_in(words.at(0))?;
-    let host = byte_in(words.at(1))?;
-    let source = source_in(words.at(2))?;
-    let number = message_in(words.at(3))?;
-    let payload = hex_payload_in(words.at(4))?;
-    if !has_size(source, payload.bytes().len()) {
+    let mut line = Reader::of(bytes);
+    let slot = line.number("slot ", SLOTS) as u32;
+    let host = line.byte(" host ");
+    let source = source(&mut line, " read ");
+    let number = line.number(" ", MESSAGES);
+    let payload = line.payload::<PAYLOAD_LIMIT>(" ");
+    if !has_size(source, payload.len()) {
         return None;
     }
-    Some(TraceLine::Read {
+    line.close(TraceLine::Read {
         slot,
         host,
         source,
         number,
-        payload,
+        payload: Payload::of(payload.bytes()),
     })
 }
 
@@ -145,9 +134,9 @@ fn read_line_in(bytes: &[u8]) -> Option<TraceLine>
 fn kept_in(bytes: &[u8]) -> Option<TraceLine>
     ensures { result ≡ kept_in bytes.now }
 {
-    let words = fields_in(&["keeps yes start "], bytes)?;
-    let start = slot_in(words.at(0))?;
-    Some(TraceLine::Keep(Keep::Yes { start }))
+    let mut line = Reader::of(bytes);
+    let start = line.number("keeps yes start ", SLOTS) as u32;
+    line.close(TraceLine::Keep(Keep::Yes { start }))
 }
 
 // The line of the hypothesis test where it does not.
@@ -155,10 +144,10 @@ fn kept_in(bytes: &[u8]) -> Option<TraceLine>
 fn broken_in(bytes: &[u8]) -> Option<TraceLine>
     ensures { result ≡ broken_in bytes.now }
 {
-    let words = fields_in(&["keeps no H", " "], bytes)?;
-    let rule = byte_in(words.at(0))?;
-    let slot = slot_in(words.at(1))?;
-    Some(TraceLine::Keep(Keep::No { rule, slot }))
+    let mut line = Reader::of(bytes);
+    let rule = line.byte("keeps no H");
+    let slot = line.number(" ", SLOTS) as u32;
+    line.close(TraceLine::Keep(Keep::No { rule, slot }))
 }
 
 // The line on armed nodes where each is owed its place.
@@ -166,9 +155,9 @@ fn broken_in(bytes: &[u8]) -> Option<TraceLine>
 fn owed_in(bytes: &[u8]) -> Option<TraceLine>
     ensures { result ≡ owed_in bytes.now }
 {
-    let words = fields_in(&["returns yes start "], bytes)?;
-    let start = slot_in(words.at(0))?;
-    Some(TraceLine::Back(Back::Yes { start }))
+    let mut line = Reader::of(bytes);
+    let start = line.number("returns yes start ", SLOTS) as u32;
+    line.close(TraceLine::Back(Back::Yes { start }))
 }
 
 // The line on armed nodes where a rule is broken.
@@ -176,10 +165,10 @@ fn owed_in(bytes: &[u8]) -> Option<TraceLine>
 fn refused_in(bytes: &[u8]) -> Option<TraceLine>
     ensures { result ≡ refused_in bytes.now }
 {
-    let words = fields_in(&["returns no Q", " "], bytes)?;
-    let rule = byte_in(words.at(0))?;
-    let slot = slot_in(words.at(1))?;
-    Some(TraceLine::Back(Back::No { rule, slot }))
+    let mut line = Reader::of(bytes);
+    let rule = line.byte("returns no Q");
+    let slot = line.number(" ", SLOTS) as u32;
+    line.close(TraceLine::Back(Back::No { rule, slot }))
 }
 
 // The value of a line, if it is one.

@@ -2,7 +2,8 @@ use Rattle.std.proofs.Common.{◌≡◌, true, get_or, arith, sym, ◌∙◌}
 use Rattle.std.proofs.lemmas.Grind.{common_steps}
 use Rattle.line_reader.specs.Reading.{is_hex, append_hex}
 use Rattle.line_text.proofs.DecimalDigits.{fold-next}
-use Rattle.line_reader.proofs.HexDigits.{below_power_16, within_word_16}
+use Rattle.line_form.proofs.Digits.{below_power_16}
+use Rattle.line_reader.proofs.HexDigits.{within_word_16}
 use Rattle.line_reader.proofs.digits.hex_in.Goals as goal
 
 pub overflow_mul-number : goal.overflow_mul-number

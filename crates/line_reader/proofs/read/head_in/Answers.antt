@@ -1,54 +1,19 @@
-use Rattle.std.proofs.Common.{refl}
+use Rattle.std.proofs.Common.{refl, subst}
+use Rattle.line_form.proofs.Closing.{ReadAs, closes_with, read_word, read_none}
+use Rattle.line_form.specs.Forms.{Values}
 use Rattle.line_reader.specs.Reading.{head_in}
+use Rattle.line_reader.specs.TraceForms.{head_form, head_meaning}
 use Rattle.line_reader.proofs.read.head_in.Goals as goal
-
-pub returns-in_err-slots : goal.returns-in_err-slots
-unfolding head_in
-returns-in_err-slots c =
-    rw (
-      c.from_residual-in_err-slots.ensures,
-      ← c.in_ok-words.ensures,
-      ← c.at.ensures,
-      ← c.in_ok-version.ensures,
-      ← c.at-2.ensures,
-      ← c.in_ok-nodes.ensures,
-      ← c.at-3.ensures,
-      ← c.in_ok-rounds.ensures,
-      ← c.at-4.ensures,
-      ← c.in_err-slots.ensures,
-    ) refl
-
-pub returns-in_err-schedule : goal.returns-in_err-schedule
-unfolding head_in
-returns-in_err-schedule c =
-    rw (
-      c.from_residual-in_err-schedule.ensures,
-      ← c.in_ok-words.ensures,
-      ← c.at.ensures,
-      ← c.in_ok-version.ensures,
-      ← c.at-2.ensures,
-      ← c.in_ok-nodes.ensures,
-      ← c.at-3.ensures,
-      ← c.in_ok-rounds.ensures,
-      ← c.at-4.ensures,
-      ← c.in_ok-slots.ensures,
-      ← c.at-5.ensures,
-      ← c.in_err-schedule.ensures,
-    ) refl
 
 pub returns : goal.returns
 unfolding head_in
 returns c =
-    rw (
-      ← c.in_ok-words.ensures,
-      ← c.at.ensures,
-      ← c.in_ok-version.ensures,
-      ← c.at-2.ensures,
-      ← c.in_ok-nodes.ensures,
-      ← c.at-3.ensures,
-      ← c.in_ok-rounds.ensures,
-      ← c.at-4.ensures,
-      ← c.in_ok-slots.ensures,
-      ← c.at-5.ensures,
-      ← c.in_ok-schedule.ensures,
-    ) refl
+    let vs : Values head_form =
+    (c.byte-version.result, (c.byte-nodes.result, (c.byte-rounds.result, (c.number-slots.result, (c.hexed-schedule.result, tt))))) in
+    closes_with head_form head_meaning c.args.bytes.now _ vs _ c.close.result c.close.ensures refl
+    (subst (λ before. ReadAs head_form before c.hexed-schedule.new.self vs) c.of-line.ensures
+    (read_word _ _ _ _ _ _ _ _ c.byte-version.ensures.value c.byte-version.ensures.left
+    (read_word _ _ _ _ _ _ _ _ c.byte-nodes.ensures.value c.byte-nodes.ensures.left
+    (read_word _ _ _ _ _ _ _ _ c.byte-rounds.ensures.value c.byte-rounds.ensures.left
+    (read_word _ _ _ _ _ _ _ _ c.number-slots.ensures.value c.number-slots.ensures.left
+    (read_word _ _ _ _ _ _ _ _ c.hexed-schedule.ensures.value c.hexed-schedule.ensures.left (read_none _)))))))

@@ -1,36 +1,12 @@
-use Rattle.std.proofs.Common.{refl}
+use Rattle.std.proofs.Common.{refl, rules}
+use Rattle.line_form.proofs.Closing.{closes_with, closing}
 use Rattle.line_reader.specs.Reading.{refused_in}
+use Rattle.line_reader.specs.TraceForms.{refused_form, refused_meaning}
 use Rattle.line_reader.proofs.read.refused_in.Goals as goal
-
-pub returns-in_err-words : goal.returns-in_err-words
-unfolding refused_in
-returns-in_err-words c =
-    rw (c.from_residual.ensures, ← c.fields_in.ensures, c.in_err-words.was) refl
-
-pub returns-in_err-rule : goal.returns-in_err-rule
-unfolding refused_in
-returns-in_err-rule c =
-    rw (c.from_residual-in_err-rule.ensures, ← c.in_ok-words.ensures, ← c.at.ensures, ← c.in_err-rule.ensures) refl
-
-pub returns-in_err-slot : goal.returns-in_err-slot
-unfolding refused_in
-returns-in_err-slot c =
-    rw (
-      c.from_residual-in_err-slot.ensures,
-      ← c.in_ok-words.ensures,
-      ← c.at.ensures,
-      ← c.in_ok-rule.ensures,
-      ← c.at-2.ensures,
-      ← c.in_err-slot.ensures,
-    ) refl
 
 pub returns : goal.returns
 unfolding refused_in
 returns c =
-    rw (
-      ← c.in_ok-words.ensures,
-      ← c.at.ensures,
-      ← c.in_ok-rule.ensures,
-      ← c.at-2.ensures,
-      ← c.in_ok-slot.ensures,
-    ) refl
+    closes_with refused_form refused_meaning c.args.bytes.now _
+    (c.byte-rule.result, (c.number-slot.result, tt)) _ c.close.result
+    c.close.ensures refl (search (closing, rules) depth 40 fits 100000)
