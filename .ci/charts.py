@@ -1,8 +1,8 @@
 #!/usr/bin/env python3
 """charts.py chart CAMPAIGN [FIRST LAST]: the picture of a campaign, by a second reading of docs/CHARTS.md.
 charts.py line CAMPAIGN: the number of the first line that is not due, or nothing where the text is a campaign.
-charts.py check CAMPAIGN SVG: whether a picture is well-formed XML in which the titles of squares are the lines of the text
-whose slot is shown and that are no plain `same`, in their order.
+charts.py check CAMPAIGN SVG: whether a picture is well-formed XML in which the titles of marks are the lines of the text
+whose slot is shown and that are no plain `same`, in their order, and in which the tallies and the ten worst are those of the lines.
 
 Nothing here is shared with the program: the texts are made straight from the manual page.
 """
@@ -19,27 +19,36 @@ TEST = rf"(keeps|returns) (?:yes start|no ([HQ])([1-8])) ({NUMBER})"
 OWN = re.compile(rf"slot - node - ({TEST}) ({COSTS}) fault -", re.ASCII)
 LINE = re.compile(rf"slot ({NUMBER}) node ({NUMBER}) ({TEST}) ({COSTS}) fault (.*)", re.ASCII)
 LEAVE = re.compile(rf"({NUMBER}):({NUMBER}):(denied|unacknowledged|clique)", re.ASCII)
+SVG = "{http://www.w3.org/2000/svg}"
 COUNTS = "runs same hurt split torn dead".split()
 KINDS = [f"{channels} {what}" for channels in ("AB", "A", "B") for what in ("silence", "noise")]
 JUMPS = ("4 W", "-4 W", "W", "-W")
 LOOKS = {
-    "same": (".", "#e4edf3", "#5c7482", "nothing changed"),
-    "same out": ("o", "#d6d6d6", "#505050", "nothing changed, but outside the hypothesis"),
-    "cost": ("c", "#92cbef", "#000000", "it cost faulty nodes and nobody else"),
-    "cost out": ("p", "#ababab", "#000000", "the same, but outside the hypothesis"),
-    "late": ("e", "#e8e0a8", "#000000", "too near the end of the run to tell"),
-    "hurt": ("H", "#f0a800", "#000000", "a node left that was not faulty"),
-    "split": ("S", "#d04a00", "#ffffff", "such nodes held two memberships meanwhile"),
-    "torn": ("T", "#8a2fa0", "#ffffff", "at the end nodes hold two memberships"),
-    "dead": ("X", "#000000", "#ffffff", "at the end no two nodes are together"),
+    "same": (".", "#f3f6f8", "#5c7482", "nothing changed"),
+    "same out": ("o", "#eeeeee", "#505050", "nothing changed; the fault is outside the hypothesis"),
+    "cost": ("c", "#d6e8f5", "#000000", "faulty nodes left, and nobody else"),
+    "cost out": ("p", "#dddddd", "#000000", "the same; the fault is outside the hypothesis"),
+    "late": ("e", "#e8e0a8", "#000000", "two memberships, but the run ends too soon to tell"),
+    "hurt": ("H", "#f0a800", "#000000", "hurt: a healthy node left"),
+    "split": ("S", "#d04a00", "#ffffff", "split: healthy nodes held two memberships for a while"),
+    "torn": ("T", "#8a2fa0", "#ffffff", "torn: two memberships are left at the end"),
+    "dead": ("X", "#000000", "#ffffff", "dead: at the end no two nodes are together"),
 }
 HARM = ("hurt", "split", "torn", "dead")
-STYLES = """.send{fill:#b9ccd9}.receive,.jump{fill:#e4edf3}
-.none rect{fill:#ffffff}.none text{fill:#666666;font-size:9px}
+STYLES = """.none{fill:#ffffff}.none text{fill:#666666}.sends rect{stroke:#00497a;stroke-width:2}
 .row{text-anchor:end}.slot{text-anchor:middle;font-size:10px;fill:#444444}.said{font-weight:bold}
-.many,.zero{text-anchor:end;font-size:10px}.zero{fill:#b0b0b0}.flag{stroke:#000000;pointer-events:none}.keep{font-size:10px}
-.hurt{stroke:#f0a800}.split{stroke:#d04a00}.torn{stroke:#8a2fa0}.dead{stroke:#000000}g text{stroke:none}
-.gap{stroke:#000000;stroke-dasharray:2;pointer-events:none}.key rect{fill:#ffffff;stroke:#808080}"""
+.many,.zero{text-anchor:end;font-size:10px}.zero{fill:#b0b0b0}.flag{pointer-events:none}.keep{font-size:10px}
+path{stroke:#000000;stroke-opacity:0}path.hurt,path.split,path.torn,path.dead{stroke-width:.5}
+path.hurt,path.split,path.torn,path.dead,.flag,.gap{stroke-opacity:1}
+.gap{stroke-dasharray:2;pointer-events:none}.key{fill:#ffffff;stroke:#808080}.key text{fill:#000000;stroke:none}"""
+HOW_TO_READ = """A cell is a node in a slot: up to sixteen faults that begin there, each tried in a run of its own. Its colour says what the worst of them does, its number how
+many healthy nodes that one costs. A blue frame: the node sends in this slot. Below a cell stands a mark for each fault that changed something; the pointer over
+it shows its line. harmful: hurt, split, torn or dead. healthy: not faulty by the rules of the hypothesis; it may be the fault's own node. worst: dead before
+torn, split and hurt, and then by the number of healthy nodes lost."""
+WORDS = """silence: a frame is lost. noise: it comes spoilt. AB, A, B: on both channels, or on one. If the node sends in the slot, for all; otherwise for this node alone.
+jump: the clock of the node jumps ahead, or back (-). W: the window of the list; a frame that is further from its receiver's clock is not taken.
+without any of them: left: who left, as NODE:SLOT:WHY; hurt: the healthy ones of them; split: first and last slot in which healthy nodes held different members;
+end: the memberships at the end, each as a number in base 16, in which bit k is node k."""
 
 
 class Wrong(Exception):
@@ -75,7 +84,7 @@ class Run:
             due(all(leaves))
             due(all(int(leave[2]) < t for leave in leaves))
             nodes_in(",".join(leave[1] for leave in leaves), n)
-        self.hurt = len(nodes_in(hurt, n))
+        self.hurt, self.hurt_word = len(nodes_in(hurt, n)), hurt
         due((first == "-") == (last == "-"))
         self.split = first != "-"
         due(not self.split or int(first) <= int(last) < t)
@@ -198,19 +207,39 @@ class Campaign:
         return fault.slot, fault.node, int(jumps)
 
 
-def counts_text(name, numbers):
-    return f"{name} {numbers[0]} " + " ".join(f"{word} {number}" for word, number in zip(COUNTS[1:], numbers[1:]))
+def counts_text(numbers, where):
+    runs, same, hurt, split, torn, dead = numbers
+    return (f"{runs} faults {where} the single-fault hypothesis: {same} changed nothing, {hurt} cost healthy nodes, "
+            f"{split} split them, {torn} left several memberships, {dead} left no two nodes together")
 
 
 # The picture.
 
 def cell(style, x, y, title, shown):
-    return (f'<g class="{style}"><title>{title}</title><rect x="{x}" y="{y}" width="19" height="17"/>'
-            f'<text x="{x + 9}" y="{y + 13}">{shown}</text></g>')
+    return (f'<g class="{style}"><title>{title}</title><rect x="{x}" y="{y}" width="22" height="15"/>'
+            f'<text x="{x + 11}" y="{y + 12}">{shown}</text></g>')
 
 
-def block(style, x, y, height, title):
-    return f'<path class="{style}" d="M{x} {y}h21v{height}h-21z"><title>{title}</title></path>'
+def badness(fault, look):
+    return list(LOOKS).index(look), fault.run.hurt
+
+
+def worst_of(those):
+    """The first of the worst of these faults with their looks."""
+    return max(those, key=lambda one: badness(*one))
+
+
+def summed(name, those, x, y, also=""):
+    """The cell that sums up faults with their looks."""
+    if not those:
+        return cell("none", x, y, f"{name} faults 0", "-")
+    told = "".join(f", {look} {many}" for look in LOOKS if (many := sum(other == look for _, other in those)))
+    fault, look = worst_of(those)
+    return cell(look + also, x, y, f"{name} faults {len(those)}{told}", fault.run.hurt if look in HARM else "")
+
+
+def harmful(those, x, y):
+    return f'<text class="slot" x="{x}" y="{y}">{sum(look in HARM for _, look in those) or ""}</text>'
 
 
 def meaning(run):
@@ -221,9 +250,9 @@ def kind_at(place):
     return JUMPS[place - 12] if place > 11 else KINDS[place % 6] + (", stays" if place > 5 else "")
 
 
-def column_of(place):
-    """Which square of the four beside each other, and of the four below each other."""
-    return (place - 12, 3) if place > 11 else (place % 2 + 2 * (place // 6), place % 6 // 2)
+def place_of_mark(place):
+    """Which mark of the eight beside each other, and of the two below each other."""
+    return (6 + place % 2, (place - 12) // 2) if place > 11 else (place % 6, place // 6)
 
 
 def columns_shown(campaign, looks, asked):
@@ -250,17 +279,22 @@ def chart(campaign, asked=None):
 
 def drawn(campaign, n, t, own, looks, shown):
     columns = n * (48 // n)
-    band = 26 * n + 84
-    below = 100 + band * ((len(shown) - 1) // columns + 1)
-    height = below + 340
+    band = 30 * n + 86
+    below = 132 + band * ((len(shown) - 1) // columns + 1)
+    all_of_them = list(zip(campaign.faults, looks))
+    harm = [(fault, look) for fault, look in all_of_them if look in HARM]
+    listed = sorted(harm, key=lambda one: badness(*one), reverse=True)[:10]
+    key = below + 32 + 20 * len(listed)
+    height = key + 530
+    right = 84 + 24 * min(columns, len(shown))
 
     def x_of(c):
         return 72 + 24 * (c % columns)
 
     def y_of(c, r):
-        return 128 + band * (c // columns) + 26 * r
+        return 160 + band * (c // columns) + 30 * r
 
-    yield f'<svg xmlns="http://www.w3.org/2000/svg" width="1236" height="{height}" viewBox="0 0 1236 {height}">'
+    yield f'<svg xmlns="http://www.w3.org/2000/svg" width="1320" height="{height}" viewBox="0 0 1320 {height}">'
     yield f"<title>{campaign.head}</title>"
     yield "<style>"
     yield "text{font:12px DejaVu Sans Mono,Consolas,monospace}g text{text-anchor:middle;font-size:11px}"
@@ -269,90 +303,152 @@ def drawn(campaign, n, t, own, looks, shown):
         yield f"{name}{{fill:{fill}}}{name} text{{fill:{colour}}}"
     yield STYLES
     yield "</style>"
-    yield f'<rect width="1236" height="{height}" fill="#ffffff"/>'
-    hidden = [fault.slot for fault, look in zip(campaign.faults, looks) if look in HARM and fault.slot not in set(shown)]
-    more = f"; faults of slot {hidden[0]} hurt too" if hidden else ""
-    yield (f'<text x="12" y="20">{len(looks)} faults, {n} nodes, {t} slots, shown: {len(shown)} of them, {shown[0]} to {shown[-1]}'
-           f'{more}</text>')
-    yield f'<text x="12" y="38"><title>{campaign.own_line}</title>without any of them: {own.fields}</text>'
-    yield f'<text class="said" x="12" y="56">{own.test}: {meaning(own)}</text>'
-    yield f'<text x="12" y="74">{counts_text("kept", campaign.sums["kept"])}: faults that the hypothesis covers</text>'
-    yield f'<text x="12" y="90">{counts_text("broken", campaign.sums["broken"])}: faults that it does not cover</text>'
+    yield f'<rect width="1320" height="{height}" fill="#ffffff"/>'
+    most = max((fault.run.hurt for fault, _ in harm), default=0)
+    yield (f'<text class="said" x="12" y="20">{len(harm)} of {len(looks)} faults are harmful; the most healthy nodes that one of them '
+           f'costs: {most} of {n}</text>')
+    hidden = [fault.slot for fault, _ in harm if fault.slot not in set(shown)]
+    more = f"; faults of slot {hidden[0]} are harmful too" if hidden else ""
+    yield f'<text x="12" y="40">{n} nodes, {t} slots, shown: {len(shown)} of them, {shown[0]} to {shown[-1]}{more}</text>'
+    yield f'<text x="12" y="60"><title>{campaign.own_line}</title>without any of them: {own.fields}</text>'
+    yield f'<text x="12" y="78">{own.test}: {meaning(own)}</text>'
+    yield f'<text x="12" y="98">{counts_text(campaign.sums["kept"], "within")}</text>'
+    yield f'<text x="12" y="114">{counts_text(campaign.sums["broken"], "outside")}</text>'
     for c in range(0, len(shown), columns):
-        rows = [(f"node {k}", y_of(c, k) + 15) for k in range(n)]
-        for name, y in rows + [("worst", y_of(c, n) + 15), ("hurt", y_of(c, n) + 34)]:
+        rows = [(f"node {k}", y_of(c, k) + 13) for k in range(n)]
+        for name, y in rows + [("worst", y_of(c, n) + 17), ("harmful", y_of(c, n) + 35)]:
             yield f'<text class="row" x="64" y="{y}">{name}</text>'
-    of_slot = {}
-    for fault, look in zip(campaign.faults, looks):
-        of_slot.setdefault(fault.slot, []).append((fault, look))
+    of_slot, of_node = {}, {}
+    for one in all_of_them:
+        of_slot.setdefault(one[0].slot, []).append(one)
+        of_node.setdefault(one[0].node, []).append(one)
     for c, slot in enumerate(shown):
         x = x_of(c)
         is_gap = c > 0 and shown[c - 1] != slot - 1
         if slot % 5 == 0 or c == 0 or is_gap:
-            yield f'<text class="slot" x="{x + 10}" y="{y_of(c, 0) - 5}">{slot}</text>'
+            yield f'<text class="slot" x="{x + 11}" y="{y_of(c, 0) - 5}">{slot}</text>'
         if is_gap:
-            yield f'<path class="gap" d="M{x - 2} {y_of(c, 0)}v{26 * n - 5}"/>'
+            yield f'<path class="gap" d="M{x - 1} {y_of(c, 0)}v{30 * n - 4}"/>'
         those = of_slot.get(slot, [])
+        for k in range(n):
+            here = [one for one in those if one[0].node == k]
+            if here:
+                yield summed(f"slot {slot} node {k}", here, x, y_of(c, k), " sends" if here[0][0].word == "send" else "")
         for fault, look in those:
-            y = y_of(c, fault.node)
-            if fault.place == 0:
-                yield block(fault.word, x, y, 15, f"slot {slot} node {fault.node} {fault.word}")
-            if fault.place == 12:
-                yield block("jump", x, y + 16, 5, f"slot {slot} node {fault.node} jump")
             if look != "same":
-                i, j = column_of(fault.place)
-                yield f'<path class="{look}" d="M{x + (0, 5, 11, 16)[i]} {y + (0, 5, 10, 16)[j]}h5v5h-5z"><title>{fault.line}</title></path>'
-        found = [look for look in LOOKS if any(other == look for _, other in those)]
-        title = f"slot {slot} faults {len(those)}" + "".join(f", {look} {sum(other == look for _, other in those)}" for look in found)
-        worst = (found[-1], LOOKS[found[-1]][0]) if found else ("none", "-")
-        yield cell(worst[0], x + 1, y_of(c, n) + 2, title, worst[1])
-        most = max((fault.run.hurt for fault, _ in those), default=0)
-        yield cell("none", x + 1, y_of(c, n) + 21, f"slot {slot} most hurt by one fault: {most}", most or "")
+                i, j = place_of_mark(fault.place)
+                yield (f'<path class="{look}" d="M{x + 3 * i} {y_of(c, fault.node) + 17 + 5 * j}h2v4h-2z"><title>{fault.line}</title>'
+                       '</path>')
+        yield summed(f"slot {slot}", those, x, y_of(c, n) + 5)
+        yield harmful(those, x + 11, y_of(c, n) + 35)
+    yield f'<text class="keep" x="{right - 4}" y="143">of all slots:</text>'
+    yield f'<text class="slot" x="{right + 11}" y="155">worst</text>'
+    yield f'<text class="slot" x="{right + 53}" y="155">harmful</text>'
+    for k in range(n):
+        yield summed(f"node {k}", of_node.get(k, []), right, y_of(0, k))
+        yield harmful(of_node.get(k, []), right + 53, y_of(0, k) + 12)
     if own.slot in shown:
         c = shown.index(own.slot)
-        yield f'<path class="flag" d="M{x_of(c) - 2} {y_of(c, 0) - 26}v{26 * n + 21}"/>'
-        yield f'<text class="keep" x="{x_of(c) + 1}" y="{y_of(c, 0) - 17}">{"start" if own.yes else own.rule}</text>'
-    yield f'<text x="72" y="{below + 8}">a node in a slot:</text>'
+        yield f'<path class="flag" d="M{x_of(c) - 1} {y_of(c, 0) - 26}v{30 * n + 22}"/>'
+        yield f'<text class="keep" x="{x_of(c) + 2}" y="{y_of(c, 0) - 17}">{"start" if own.yes else own.rule}</text>'
+    said = f"the worst of {len(harm)} harmful faults" if harm else "no fault is harmful"
+    yield f'<text class="said" x="12" y="{below + 8}">{said}</text>'
+    for i, (fault, look) in enumerate(listed):
+        y = below + 20 + 20 * i
+        lost = fault.run.hurt
+        yield cell(look, 12, y, look, lost)
+        yield f'<text x="44" y="{y + 12}">{fault.said}</text>'
+        yield f'<text x="300" y="{y + 12}">{look}, healthy nodes lost: {lost}{f" ({fault.run.hurt_word})" if lost else ""}</text>'
+    yield f'<text class="said" x="12" y="{key + 8}">how to read it</text>'
+    for i, line in enumerate(HOW_TO_READ.split("\n")):
+        yield f'<text x="12" y="{key + 28 + 16 * i}">{line}</text>'
     for place in range(16):
-        i, j = column_of(place)
-        x, y = 122 + 60 * i + (6 if i > 1 else 0), below + 34 + 20 * j + (4 if j == 3 else 0)
-        said = JUMPS[place - 12] if place > 11 else ("silence", "noise")[place % 2]
-        yield f'<g class="key"><rect x="{x}" y="{y}" width="59" height="19"/><text x="{x + 29}" y="{y + 13}">{said}</text></g>'
-    for j, said in enumerate(("AB", "A", "B", "jump")):
-        yield f'<text class="row" x="116" y="{below + 48 + 20 * j + (4 if j == 3 else 0)}">{said}</text>'
-    yield f'<text x="122" y="{below + 28}">this slot alone</text>'
-    yield f'<text x="248" y="{below + 28}">to the end</text>'
+        i, j = place_of_mark(place)
+        x, y = 132 + 82 * i + (8 if i > 5 else 0), key + 90 + 20 * j
+        said = f"jump {JUMPS[place - 12]}" if place > 11 else KINDS[place % 6]
+        yield f'<g class="key"><rect x="{x}" y="{y}" width="82" height="20"/><text x="{x + 41}" y="{y + 14}">{said}</text></g>'
+    yield f'<text class="row" x="124" y="{key + 104}">this slot alone</text>'
+    yield f'<text class="row" x="124" y="{key + 124}">to the end</text>'
+    for i, line in enumerate(WORDS.split("\n")):
+        yield f'<text x="12" y="{key + 152 + 16 * i}">{line}</text>'
     for i, (look, (letter, _, _, what)) in enumerate(LOOKS.items()):
-        x, y = 422 + 400 * (i // 5), below + 14 + 22 * (i % 5)
+        x, y = 12 + 560 * (i // 5), key + 214 + 20 * (i % 5)
         yield cell(look, x, y, look, letter)
-        yield f'<text x="{x + 25}" y="{y + 13}">{what}</text>'
-    yield block("send", 822, below + 103, 15, "send")
-    yield f'<text x="847" y="{below + 115}">the node sends in this slot</text>'
+        yield f'<text x="{x + 32}" y="{y + 12}">{what}</text>'
+    tried = {}
+    for fault, look in all_of_them:
+        tried[fault.word, fault.place, look] = tried.get((fault.word, fault.place, look), 0) + 1
     for w, word in enumerate(("send", "receive", "jump")):
-        x = 12 + 410 * w
-        yield f'<text class="said" x="{x}" y="{below + 147}">{word}</text>'
+        x = 12 + 430 * w
+        yield f'<text class="said" x="{x}" y="{key + 341}">{word}</text>'
         for i, (look, row) in enumerate(LOOKS.items()):
-            yield cell(look, x + 133 + 30 * i, below + 136, look, row[0])
+            yield cell(look, x + 133 + 30 * i, key + 330, look, row[0])
         for j, place in enumerate(range(12, 16) if word == "jump" else range(12)):
-            y = below + 165 + 14 * j
+            y = key + 359 + 14 * j
             yield f'<text x="{x}" y="{y}">{kind_at(place)}</text>'
             for i, look in enumerate(LOOKS):
-                many = sum(fault.word == word and fault.place == place and other == look for fault, other in zip(campaign.faults, looks))
+                many = tried.get((word, place, look), 0)
                 yield f'<text class="{"many" if many else "zero"}" x="{x + 152 + 30 * i}" y="{y}">{many}</text>'
     yield "</svg>"
 
 
+# What a picture tells, against tallies that are made from the words of the lines alone.
+
+def told_cells(root):
+    """Each cell with a tally as its title: its name, its counts, its class and what it shows."""
+    for group in root.iter(SVG + "g"):
+        title = group.find(SVG + "title")
+        found = title is not None and re.fullmatch(r"((?:slot \d+ ?)?(?:node \d+)?) faults (\d+)((?:, [a-z ]+ \d+)*)", title.text)
+        if found:
+            looks = {one.rsplit(" ", 1)[0]: int(one.rsplit(" ", 1)[1]) for one in found[3].split(", ")[1:]}
+            yield found[1], int(found[2]), looks, group.get("class"), group.find(SVG + "text").text or ""
+
+
+def lost_in(line):
+    word = line.split(" ")[11]
+    return 0 if word == "-" else word.count(",") + 1
+
+
 def chart_faults(campaign, text):
-    """What is wrong with a picture, by its titles."""
-    titles = [title.text for title in xml.fromstring(text).iter("{http://www.w3.org/2000/svg}title")]
-    squares = [title for title in titles if " fault " in title and not title.endswith(" fault -")]
-    shown = {int(slot) for slot in re.findall(r"<title>slot (\d+) faults ", text)}
-    looks = [(fault, fault.look(campaign)) for fault in campaign.faults]
-    wanted = [fault.line for fault, look in looks if fault.slot in shown and look != "same"]
-    if squares != wanted:
-        yield f"{len(squares)} titles of squares for {len(wanted)} lines"
+    """What is wrong with a picture, by its titles, its tallies and its list of the worst."""
+    root = xml.fromstring(text)
+    titles = [title.text for title in root.iter(SVG + "title")]
+    marks = [title for title in titles if " fault " in title and not title.endswith(" fault -")]
+    cells = list(told_cells(root))
+    shown = {int(name.split(" ")[1]) for name, *_ in cells if re.fullmatch(r"slot \d+", name)}
+    lines = [(fault.line, fault.look(campaign)) for fault in campaign.faults]
+    wanted = [line for line, look in lines if int(line.split(" ")[1]) in shown and look != "same"]
+    if marks != wanted:
+        yield f"{len(marks)} titles of marks for {len(wanted)} lines"
     if titles.count(campaign.own_line) != 1:
         yield "the script's own line is not the title of one element"
+    named = {}
+    for line, look in lines:
+        slot, node = " ".join(line.split(" ")[:2]), " ".join(line.split(" ")[2:4])
+        for name in (slot, node, f"{slot} {node}"):
+            named.setdefault(name, []).append((line, look))
+    for name, many, looks, style, number in cells:
+        those = named.get(name, [])
+        counted = {look: sum(other == look for _, other in those) for look in LOOKS}
+        if many != len(those) or looks != {look: count for look, count in counted.items() if count}:
+            yield f"{name}: {many} faults, {looks}, and not {len(those)}, {counted}"
+        worst = max((list(LOOKS).index(look) for _, look in those), default=None)
+        look = "none" if worst is None else list(LOOKS)[worst]
+        lost = max((lost_in(line) for line, other in those if other == look), default=0)
+        if style.removesuffix(" sends") != look or number != ("-" if worst is None else str(lost) if look in HARM else ""):
+            yield f"{name}: {style}, {number}, and not {look}, {lost}"
+    harm = [(line, look) for line, look in lines if look in HARM]
+    said = [one.text for one in root.iter(SVG + "text") if one.get("class") == "said"]
+    if not said[0].startswith(f"{len(harm)} of {len(lines)} faults are harmful; ") \
+            or not said[0].endswith(f": {max((lost_in(line) for line, _ in harm), default=0)} of {campaign.n}"):
+        yield f"{said[0]}: of {len(harm)} harmful faults"
+    order = [line for look in reversed(HARM) for lost in range(24, -1, -1) for line, other in harm if (other, lost_in(line)) == (look, lost)]
+    listed = [one.text for one in root.iter(SVG + "text") if one.get("x") == "44" and re.match(r"(send|receive|jump) \d", one.text)]
+    if listed != [line.split(" fault ")[1] for line in order[:10]]:
+        yield f"the worst are {listed}"
+    ends = [one.text or "" for one in root.iter(SVG + "text") if one.get("class") == "slot" and not re.search("[a-z]", one.text or "")]
+    if sum(int(number) for number in ends[-campaign.n:] if number) != len(harm):
+        yield f"the harmful faults of nodes are {ends[-campaign.n:]}, of {len(harm)}"
 
 
 def read(path):

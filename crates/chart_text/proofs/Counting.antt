@@ -6,7 +6,7 @@ use Rattle.std.specs.Prelude.{count_by}
 use Rattle.std.proofs.lemmas.List.{ext_get_or}
 use Rattle.std.proofs.lemmas.List.Sums.{sum_by-cons}
 use Rattle.std.proofs.lemmas.List.FromFn.{length-map-range_with_len, get_or-map-range_with_len}
-use Rattle.chart_text.specs.Column.{counts_by}
+use Rattle.chart_text.specs.Sums.{counts_by}
 use Rattle.chart_text.specs.Steps.{AreFaultsCounted}
 
 pub counted-start : {X : Type 0} (number : X → ℕ) (k : ℕ) (all : List X) → AreFaultsCounted number (replicate k 0) all all

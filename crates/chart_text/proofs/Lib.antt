@@ -5,7 +5,9 @@ pub mod Order
 pub mod Written
 pub mod Joined
 pub mod Taken
-pub mod Worst
 pub mod PieceCounts
 pub mod Whole
+pub mod Listing
+pub mod Tallied
+pub mod TenWorst
 pub mod Words

@@ -1,13 +1,10 @@
 -- Faults in their order, passed one after another.
 use Rattle.chart_text.proofs.Words.{◌≡◌, ◌≢◌, ℕ, ◌+◌, ◌<◌, ◌≤◌, Bool, true, ◌&&◌, cond, List, [], ◌∷◌, length}
 use Rattle.chart_text.proofs.Words.{refl, sym, ap, ◌∙◌, arith, subst, ◌==◌, nat_le, and_parts, eq-eqb, ne_eqb}
-use Rattle.chart_text.proofs.Words.{length-filter, count_by-le-length, FaultTold, in_order_from, Size}
-use Rattle.chart_text.proofs.Words.{look_number, fault_look, IsSlotTally, faults_told_in, SameFrom, longest_text}
+use Rattle.chart_text.proofs.Words.{length-filter, count_by-le-length, FaultTold, in_order_from}
+use Rattle.chart_text.proofs.Words.{faults_told_in, SameFrom, longest_text}
 use Rattle.std.proofs.lemmas.Bool.{le-leb, leb-true}
 use Rattle.std.proofs.Common.{max}
-use Rattle.chart_text.specs.declared.tally.SlotTally.{SlotTally}
-use Rattle.chart_text.proofs.Counting.{counted-all}
-use Rattle.chart_text.specs.Column.{look_counts, most_hurt}
 
 -- an order from a slot on is one from an earlier slot on
 pub order-earlier : (s t : ℕ) (xs : List FaultTold) → s ≤ t → in_order_from t xs ≡ true → in_order_from s xs ≡ true
@@ -135,14 +132,3 @@ none-left s old rest x is order other =
 pub few-of-slot : (t : ℕ) (xs : List FaultTold) → length (faults_told_in t xs) ≤ length xs
 few-of-slot t xs =
     omega (arith, length-filter (λ x. x.shown.slot == t) xs, count_by-le-length (λ x. x.shown.slot == t) xs)
-
--- all of them were counted
-pub tally-whole : (size : Size) (tally : SlotTally) (left all : List FaultTold) → left ≡ []
-    → IsSlotTally size tally left all
-    → (tally.counts ≡ look_counts size all) × (tally.many ≡ length all) × (tally.most ≡ most_hurt all)
-tally-whole size tally left all none is =
-    let whole = subst (λ (ys : List FaultTold). IsSlotTally size tally ys all) none is in (
-      counted-all (λ fault. look_number (fault_look size fault.shown)) 9 tally.counts all whole.long whole.counted,
-      omega (arith, whole.many),
-      omega (arith, whole.most),
-    )

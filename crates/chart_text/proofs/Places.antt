@@ -2,5 +2,5 @@
 use Rattle.chart_text.proofs.Words.{ℕ, ◌*◌, ◌≤◌}
 use Rattle.std.proofs.lemmas.Nat.{mul-le}
 
-pub bands_are_low : (high band most : ℕ) → high ≤ 708 → band ≤ most → high * band ≤ 708 * most
-bands_are_low high band most low few = mul-le high band 708 most low few
+pub bands_are_low : (high band most : ℕ) → high ≤ 806 → band ≤ most → high * band ≤ 806 * most
+bands_are_low high band most low few = mul-le high band 806 most low few

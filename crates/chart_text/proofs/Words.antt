@@ -1,14 +1,17 @@
 -- The words of this crate's proofs, from one place.
 pub use Rattle.chart_text.specs.Chart.{chart_end}
-pub use Rattle.chart_text.specs.Column.{column_lines, column_of, faults_told_in, look_told, shown_before, shown_fault}
-pub use Rattle.chart_text.specs.Column.{worst_below}
+pub use Rattle.chart_text.specs.Column.{column_lines, column_of, faults_told_in, mark_lines, shown_before}
 pub use Rattle.chart_text.specs.Columns.{chart_y, first_told_slot, is_asked, is_hidden, is_tried}
 pub use Rattle.chart_text.specs.Elements.{look_cell}
 pub use Rattle.chart_text.specs.Key.{count_line, counter_of, key_square, kind_lines}
 pub use Rattle.chart_text.specs.Looks.{does_harm, doing_word, fault_look, look_number, looks}
 pub use Rattle.chart_text.specs.Steps.{SameFrom, has_mark, longest_text, marked_slots}
-pub use Rattle.chart_text.specs.Walks.{IsSlotTally, IsSurvey}
+pub use Rattle.chart_text.specs.Sums.{faults_told_of, first_doing, harmful_among, look_counts, look_told}
+pub use Rattle.chart_text.specs.Walks.{AreTallies, CanNote, IsSurvey, IsTally, no_tally, tally_of}
+pub use Rattle.chart_text.specs.Worst.{fault_in_line, hurt_word, is_worse, list_lines, most_lost, ten_with, ten_worst, worst_of, worst_with}
 pub use Rattle.chart_text.specs.declared.size.Size.{Size}
+pub use Rattle.chart_text.specs.declared.tally.Tallies.{Tallies}
+pub use Rattle.chart_text.specs.declared.tally.Tally.{Tally}
 pub use Rattle.picture_text.proofs.Joined.{mark_parts}
 pub use Rattle.picture_text.proofs.Pairs.{puts_both, puts_first, puts_one, puts_two}
 pub use Rattle.picture_text.proofs.Puts.{puts_below}

@@ -1,6 +1,7 @@
 -- Lines that were put, in the order of a chart.
 use Rattle.chart_text.proofs.Words.{◌≡◌, ℕ, ◌+◌, Bool, false, List, [], ◌∷◌, subst, sym, Result, OnOk}
-use Rattle.chart_text.proofs.Words.{flat_map, Output, WroteLines, Lines, lines_below, Puts, puts_below}
+use Rattle.chart_text.proofs.Words.{flat_map, Output, WroteLines, Lines, lines_below, Puts, puts_below, FaultTold, Size, list_lines}
+use Rattle.chart_text.specs.Worst.{listed_lines}
 use Rattle.std.proofs.Common.{Ok, Err, ◌↔◌}
 use Rattle.std.specs.Result.{IsOk, OnErr}
 use Rattle.ttp_base.specs.Outside.{CutShort}
@@ -17,6 +18,20 @@ left_first {X} lines old rest x g h i b c d e p q =
 pub left_none : {X : Type 0} (lines : X → Lines) (old : List X) (f : Bool) (b : Output) → old ≡ []
     → Puts f b f b (flat_map lines old)
 left_none {X} lines old f b e = subst (λ (ys : List X). Puts f b f b (flat_map lines ys)) (sym e) (puts_none f b)
+
+-- what is left of the list of the worst
+pub list_first : (size : Size) (y z : ℕ) (old rest : List FaultTold) (x : FaultTold) (g h i : Bool) (b c d : Output)
+    → old ≡ x ∷ rest → z ≡ y + 20 → Puts g b h c (listed_lines size y x) → Puts h c i d (list_lines size z rest)
+    → Puts g b i d (list_lines size y old)
+list_first size y z old rest x g h i b c d e next p q =
+    subst (λ (ys : List FaultTold). Puts g b i d (list_lines size y ys)) (sym e)
+    (puts_then g h i b c d (listed_lines size y x) (list_lines size (y + 20) rest) p
+    (subst (λ (n : ℕ). Puts h c i d (list_lines size n rest)) next q))
+
+pub list_none : (size : Size) (y : ℕ) (old : List FaultTold) (f : Bool) (b : Output) → old ≡ []
+    → Puts f b f b (list_lines size y old)
+list_none size y old f b e =
+    subst (λ (ys : List FaultTold). Puts f b f b (list_lines size y ys)) (sym e) (puts_none f b)
 
 -- along an equation of the lines
 pub along : {f g : Bool} {a b : Output} {x y : Lines} → x ≡ y → Puts f a g b x → Puts f a g b y

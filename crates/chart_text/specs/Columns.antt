@@ -1,6 +1,6 @@
 -- Which slots a chart shows, and where they stand.
 use Rattle.std.specs.Prelude.{ℕ, ◌+◌, ◌-◌, ◌*◌, ◌/◌, ◌%◌, ◌==◌, min, max, nat_le, Bool, ◌&&◌, not, if◌then◌else◌}
-use Rattle.std.specs.Prelude.{List, [], ◌∷◌, length, filter, take, drop, flat_map, position, Option, Some, None}
+use Rattle.std.specs.Prelude.{List, [], ◌∷◌, length, filter, take, drop, position, Option, Some, None}
 use Rattle.std.specs.Prelude.{option_and_then, unwrap_or}
 use Rattle.std.specs.List.{list_any}
 use Rattle.ttp_base.specs.NodeSet.{below}
@@ -77,22 +77,30 @@ is_hidden shown fault = not (list_any (λ s. s == fault.slot) shown)
 -- Places.
 
 abbrev pub chart_band : ℕ → ℕ
-chart_band n = 26 * n + 84
+chart_band n = 30 * n + 86
 
 -- how many bands so many columns take
 abbrev pub chart_bands : ℕ → ℕ → ℕ
 chart_bands n many = (many - 1) / columns n + 1
 
--- where the key begins, and how high the chart is
-abbrev pub key_top : ℕ → ℕ → ℕ
-key_top n many = 100 + chart_band n * chart_bands n many
+-- where the list of the worst faults begins
+abbrev pub list_top : ℕ → ℕ → ℕ
+list_top n many = 132 + chart_band n * chart_bands n many
 
-abbrev pub chart_height : ℕ → ℕ → ℕ
-chart_height n many = key_top n many + 340
+-- where the key begins below so many of them, and how high the chart is
+abbrev pub key_top : ℕ → ℕ → ℕ → ℕ
+key_top n many listed = list_top n many + 32 + 20 * listed
+
+abbrev pub chart_height : ℕ → ℕ → ℕ → ℕ
+chart_height n many listed = key_top n many listed + 530
 
 -- the left edge of a column, and the upper edge of its row r
 abbrev pub chart_x : ℕ → ℕ → ℕ
 chart_x n c = 72 + 24 * (c % columns n)
 
 abbrev pub chart_y : ℕ → ℕ → ℕ → ℕ
-chart_y n c r = 128 + chart_band n * (c / columns n) + 26 * r
+chart_y n c r = 160 + chart_band n * (c / columns n) + 30 * r
+
+-- the left edge of what stands beside so many columns
+abbrev pub beside_x : ℕ → ℕ → ℕ
+beside_x n many = 84 + 24 * min (columns n) many

@@ -1,6 +1,8 @@
 pub mod Looks
 pub mod Columns
 pub mod Elements
+pub mod Worst
+pub mod Sums
 pub mod Column
 pub mod Key
 pub mod Chart

@@ -52,7 +52,7 @@ is_harm look.Torn = true
 is_harm look.Dead = true
 is_harm _ = false
 
--- a fault that did
+-- a fault that is harmful
 abbrev pub does_harm : Size → FaultShown → Bool
 does_harm size fault = is_harm (fault_look size fault)
 
@@ -105,10 +105,10 @@ look_letter look.Dead = codes "X"
 
 -- its colour, and that of its letter
 abbrev pub look_colour : Look → List ℕ
-look_colour look.Same = codes "#e4edf3"
-look_colour look.SameOut = codes "#d6d6d6"
-look_colour look.Cost = codes "#92cbef"
-look_colour look.CostOut = codes "#ababab"
+look_colour look.Same = codes "#f3f6f8"
+look_colour look.SameOut = codes "#eeeeee"
+look_colour look.Cost = codes "#d6e8f5"
+look_colour look.CostOut = codes "#dddddd"
 look_colour look.Late = codes "#e8e0a8"
 look_colour look.Hurt = codes "#f0a800"
 look_colour look.Split = codes "#d04a00"
@@ -129,14 +129,14 @@ look_letter_colour look.Dead = codes "#ffffff"
 -- what it means
 abbrev pub look_meaning : Look → List ℕ
 look_meaning look.Same = codes "nothing changed"
-look_meaning look.SameOut = codes "nothing changed, but outside the hypothesis"
-look_meaning look.Cost = codes "it cost faulty nodes and nobody else"
-look_meaning look.CostOut = codes "the same, but outside the hypothesis"
-look_meaning look.Late = codes "too near the end of the run to tell"
-look_meaning look.Hurt = codes "a node left that was not faulty"
-look_meaning look.Split = codes "such nodes held two memberships meanwhile"
-look_meaning look.Torn = codes "at the end nodes hold two memberships"
-look_meaning look.Dead = codes "at the end no two nodes are together"
+look_meaning look.SameOut = codes "nothing changed; the fault is outside the hypothesis"
+look_meaning look.Cost = codes "faulty nodes left, and nobody else"
+look_meaning look.CostOut = codes "the same; the fault is outside the hypothesis"
+look_meaning look.Late = codes "two memberships, but the run ends too soon to tell"
+look_meaning look.Hurt = codes "hurt: a healthy node left"
+look_meaning look.Split = codes "split: healthy nodes held two memberships for a while"
+look_meaning look.Torn = codes "torn: two memberships are left at the end"
+look_meaning look.Dead = codes "dead: at the end no two nodes are together"
 
 -- The kinds of faults: a word, and a place among the faults of a node.
 
@@ -165,18 +165,11 @@ abbrev pub kind_said : ℕ → List ℕ
 kind_said p =
     if nat_lt p 12 then channels_said p ++ codes " " ++ loss_said p ++ stays_said p else jump_said p
 
--- The squares of a cell, four by four: those of losses in the slot alone stand left of those that stay, and jumps below them.
+-- The marks below a cell: eight beside each other, those in the slot alone above those to the end, jumps behind the losses.
 
--- how many squares are to the left of that of a place, and how many above it
-abbrev pub squares_left : ℕ → ℕ
-squares_left p = if nat_lt p 12 then p % 2 + 2 * (p / 6) else p - 12
+-- how many marks are to the left of that of a place, and how many above it
+abbrev pub marks_left : ℕ → ℕ
+marks_left p = if nat_lt p 12 then p % 6 else 6 + p % 2
 
-abbrev pub squares_above : ℕ → ℕ
-squares_above p = if nat_lt p 12 then p % 6 / 2 else 3
-
--- and how far it is from the left edge of the cell, and from the upper one
-abbrev pub square_right : ℕ → ℕ
-square_right p = get_or (0 ∷ 5 ∷ 11 ∷ 16 ∷ []) (squares_left p) 0
-
-abbrev pub square_down : ℕ → ℕ
-square_down p = get_or (0 ∷ 5 ∷ 10 ∷ 16 ∷ []) (squares_above p) 0
+abbrev pub marks_above : ℕ → ℕ
+marks_above p = if nat_lt p 12 then p / 6 else (p - 12) / 2

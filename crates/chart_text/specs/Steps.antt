@@ -1,10 +1,8 @@
 -- How far the walks over a campaign have come, by what is left of it.
-use Rattle.std.specs.Prelude.{◌≡◌, ℕ, ◌+◌, ◌*◌, ◌^◌, ◌<◌, ◌≤◌, ◌==◌, max, nat_le, nat_lt, Bool, true, false, ◌&&◌}
-use Rattle.std.specs.Prelude.{List, [], ◌∷◌, ◌++◌, length, filter, count_by, get_or, map, Option, Some, None}
+use Rattle.std.specs.Prelude.{◌≡◌, ℕ, ◌+◌, ◌<◌, ◌≤◌, ◌==◌, max, Bool, false}
+use Rattle.std.specs.Prelude.{List, [], ◌∷◌, length, filter, count_by, get_or}
 use Rattle.ttp_base.specs.NodeSet.{below}
-use Rattle.whole_campaign.specs.declared.shown.FaultLine.{FaultLine}
-use Rattle.whole_campaign.specs.Whole.{FaultTold, WholeCampaign}
-use Rattle.chart_text.specs.declared.size.Size.{Size}
+use Rattle.whole_campaign.specs.Whole.{FaultTold}
 use Rattle.chart_text.specs.Column.{faults_told_in}
 
 -- A text in a room of so many bytes.

@@ -34,6 +34,16 @@ impl<'a> Ahead<'a> {
         Ahead { first, rest }
     }
 
+    /// The same faults once more, for a second walk from here on.
+    pub(crate) fn again(&self) -> Ahead<'a>
+        ensures { result ≡ self.now }
+    {
+        Ahead {
+            first: self.first,
+            rest: self.rest.again(),
+        }
+    }
+
     /// The next fault, which stays.
     pub(crate) fn first(&self) -> Option<FaultLine<'a>>
         ensures some { IfSome result (λ line. self.now ≡ told_of line ∷ drop 1 self.now) }

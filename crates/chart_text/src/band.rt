@@ -18,10 +18,10 @@ use ttp_base::Sink;
 fn put_node_names<K: Sink>(nodes: u8, column: u32, sheet: &mut Sheet, out: &mut K)
     requires { (4 ≤ nodes) × (nodes ≤ 24) }
     ensures { Puts sheet.old.failed (K.output out.old) sheet.new.failed (K.output out.new)
-        (map (λ k. row_line (chart_y nodes column k + 15) (codes "node " ++ decimal k)) (below nodes)) }
+        (map (λ k. row_line (chart_y nodes column k + 13) (codes "node " ++ decimal k)) (below nodes)) }
 {
     for node in 0..nodes {
-        make_node_row(&mut sheet.line, chart_y(nodes, column, node) + 15, node);
+        make_node_row(&mut sheet.line, chart_y(nodes, column, node) + 13, node);
         sheet.write(out);
     }
 }
@@ -35,9 +35,9 @@ fn put_names<K: Sink>(nodes: u8, band: u32, sheet: &mut Sheet, out: &mut K)
     let column = columns(nodes) * band;
     put_node_names(nodes, column, sheet, out);
     let y = chart_y(nodes, column, nodes);
-    make_text_of(&mut sheet.line, "row", 64, y + 15, "worst");
+    make_text_of(&mut sheet.line, "row", 64, y + 17, "worst");
     sheet.write(out);
-    make_text_of(&mut sheet.line, "row", 64, y + 34, "hurt");
+    make_text_of(&mut sheet.line, "row", 64, y + 35, "harmful");
     sheet.write(out);
 }
 

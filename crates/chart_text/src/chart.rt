@@ -2,33 +2,39 @@
 #![tactic(auto)]
 
 ghost use Rattle.std.specs.Prelude.{◌≡◌, ◌+◌, ◌-◌, ◌^◌, ◌<◌, ◌≤◌, [], ◌∷◌, ◌++◌, codes, decimal, length, map, IfOk, OnOk};
-ghost use Rattle.std.specs.Prelude.{ℕ, false, Err, IfErr, IfSome};
+ghost use Rattle.std.specs.Prelude.{ℕ, false, Err, IfErr, IfSome, List};
 ghost use Rattle.ttp_base.specs.Outside.{WroteLines, CutShort};
 ghost use Rattle.whole_campaign.specs.Readable.{counts_sum, IsReadable};
 ghost use Rattle.picture_text.specs.Sheet.{Puts};
 ghost use Rattle.picture_text.specs.Picture.{ended, text_line};
-ghost use Rattle.chart_text.specs.Chart.{slots_shown_text, chart_head, chart_body, chart_end, chart_of, chart_lines};
-ghost use Rattle.chart_text.specs.Columns.{size_of_campaign, first_told_slot, slots_shown, chosen_slots, tried_slots, place_of_harm, shown_among, key_top};
-ghost use Rattle.chart_text.specs.Key.{all_counts};
+ghost use Rattle.chart_text.specs.Chart.{slots_shown_text, many_listed, chart_head, chart_body, chart_end, chart_of, chart_lines};
+ghost use Rattle.chart_text.specs.Columns.{size_of_campaign, first_told_slot, slots_shown, chosen_slots, tried_slots, place_of_harm, shown_among};
+ghost use Rattle.chart_text.specs.Key.{all_counts, key_and_table};
 ghost use Rattle.chart_text.specs.Looks.{does_harm};
 ghost use Rattle.chart_text.specs.Steps.{has_mark, marked_slots, longest_text};
-ghost use Rattle.chart_text.specs.Walks.{LeftOfChart};
+ghost use Rattle.chart_text.specs.Walks.{LeftOfChart, AreTallies};
+ghost use Rattle.chart_text.specs.Worst.{most_lost, ten_worst};
+ghost use Rattle.whole_campaign.specs.Whole.{FaultTold};
 ghost use Rattle.chart_text.specs.declared.chart.ChartFault.TheVariants as fault;
 
 use crate::ahead::Ahead;
 use crate::band::put_bands;
+use crate::block::put_beside;
 use crate::buffer::Buffer;
 use crate::column::put_columns;
 use crate::element::put_many;
 use crate::flag::{put_flag, test_slot};
-use crate::frame::{Frame, chart_height, key_top, most_columns};
-use crate::head::{put_front, put_hidden, put_own, put_sums};
-use crate::key::{put_key, put_legend};
+use crate::frame::{Frame, chart_height, key_top, list_top, most_columns};
+use crate::head::{make_harm, put_front, put_hidden, put_own, put_sums};
+use crate::key::{put_how_to_read, put_key, put_legend, put_words_meant};
+use crate::listed::put_worst;
 use crate::marks::{count_marks, keep_asked, keep_from, mark_pieces, marked_slot, place_in};
 use crate::size::Size;
 use crate::sums::sums_of;
-use crate::survey::{Survey, first_hidden, survey_of};
+use crate::survey::{Found, first_hidden, survey_of};
 use crate::table::put_table;
+use crate::tally::Tallies;
+use crate::worst::Worst;
 use picture_text::{Sheet, Span, close_text, open_text};
 use std::alloc::Global;
 use ttp_base::{Line, Memory, Sink};
@@ -110,16 +116,15 @@ fn keep_shown(marks: &mut [bool], nodes: u8, harm: Option<u32>, asked: Option<Sp
 
 // Makes the line of what is shown.
 #[tactic(auto, using(ttp_base::proofs::Room::room))]
-fn make_shown(line: &mut Line, frame: Frame, marks: &[bool], many: u64, hidden: Option<u32>)
+fn make_shown(line: &mut Line, frame: Frame, marks: &[bool], hidden: Option<u32>)
     requires marks { length marks.now ≤ 20000 }
     requires many { frame.many ≡ length (marked_slots marks.now) }
     requires some { 1 ≤ frame.many }
-    ensures { line.new ≡ text_line [] 12 20 (slots_shown_text frame.size (marked_slots marks.now) many hidden) }
+    ensures { line.new ≡ text_line [] 12 40 (slots_shown_text frame.size (marked_slots marks.now) hidden) }
 {
     let first = marked_slot(marks, 0);
     let last = marked_slot(marks, frame.many - 1);
-    open_text(line, 12, 20);
-    put_many(line, many, " faults, ");
+    open_text(line, 12, 40);
     put_many(line, u64::from(frame.size.nodes), " nodes, ");
     put_many(line, u64::from(frame.size.slots), " slots, shown: ");
     put_many(line, u64::from(frame.many), " of them, ");
@@ -134,7 +139,7 @@ fn put_head<K: Sink>(
     campaign: &Campaign<'_>,
     frame: Frame,
     marks: &[bool],
-    many: u64,
+    found: &Found,
     buffer: &mut Buffer,
     sheet: &mut Sheet,
     out: &mut K,
@@ -144,7 +149,9 @@ fn put_head<K: Sink>(
     requires marks { length marks.now ≤ 20000 }
     requires shown { frame.many ≡ length (marked_slots marks.now) }
     requires some { 1 ≤ frame.many }
-    requires many { many ≡ length campaign.now.faults }
+    requires listed { frame.listed ≡ many_listed frame.size campaign.now.faults }
+    requires tallies { AreTallies frame.size found.now.tallies [] campaign.now.faults }
+    requires most { found.now.survey.most ≡ most_lost frame.size campaign.now.faults }
     requires own { length campaign.now.own.text + length campaign.now.own.cost + 200 ≤ buffer.old.room }
     requires test { length campaign.now.own.test_text + 300 ≤ buffer.old.room }
     ensures puts { Puts sheet.old.failed (K.output out.old) sheet.new.failed (K.output out.new)
@@ -154,8 +161,17 @@ fn put_head<K: Sink>(
     ensures room { buffer.new.room ≡ buffer.old.room }
 {
     let hidden = first_hidden(frame.size, marks, campaign.faults());
+    let all = found.tallies.all;
     put_front(frame.size, chart_height(frame), sheet, out);
-    make_shown(&mut sheet.line, frame, marks, many, hidden);
+    make_harm(
+        &mut sheet.line,
+        all.harmful,
+        all.many,
+        found.survey.most,
+        frame.size.nodes,
+    );
+    sheet.write(out);
+    make_shown(&mut sheet.line, frame, marks, hidden);
     sheet.write(out);
     put_own(campaign.own(), buffer, sheet, out);
     put_sums(sums_of(campaign.pieces()), sheet, out);
@@ -166,6 +182,7 @@ fn put_body<K: Sink>(
     campaign: &Campaign<'_>,
     frame: Frame,
     marks: &[bool],
+    tallies: &Tallies,
     buffer: &mut Buffer,
     sheet: &mut Sheet,
     out: &mut K,
@@ -173,27 +190,61 @@ fn put_body<K: Sink>(
     requires readable { IsReadable campaign.now }
     requires marks { length marks.now ≡ frame.size.slots }
     requires shown { frame.many ≡ length (marked_slots marks.now) }
+    requires tallies { AreTallies frame.size tallies.now [] campaign.now.faults }
     requires room { longest_text campaign.now.faults + 200 ≤ buffer.old.room }
-    ensures { Puts sheet.old.failed (K.output out.old) sheet.new.failed (K.output out.new)
+    ensures puts { Puts sheet.old.failed (K.output out.old) sheet.new.failed (K.output out.new)
         (chart_body frame.size campaign.now.own.test (marked_slots marks.now) campaign.now.faults) }
+    ensures room { buffer.new.room ≡ buffer.old.room }
 {
     put_bands(frame, sheet, out);
     let mut ahead = Ahead::new(campaign.faults());
     put_columns(frame, marks, &mut ahead, buffer, sheet, out);
+    put_beside(frame, tallies, sheet, out);
     let own = campaign.own();
     let column = place_in(marks, test_slot(&own.test));
     put_flag(frame.size.nodes, column, &own.test, sheet, out);
 }
 
 // Writes the key and the table.
-fn put_end<K: Sink>(frame: Frame, counts: &[u64; 252], sheet: &mut Sheet, out: &mut K)
+fn put_key_and_table<K: Sink>(top: u64, counts: &[u64; 252], sheet: &mut Sheet, out: &mut K)
+    requires { top ≤ 2 ^ 31 }
     ensures { Puts sheet.old.failed (K.output out.old) sheet.new.failed (K.output out.new)
-        (chart_end (key_top frame.size.nodes frame.many) counts.now) }
+        (key_and_table top counts.now) }
 {
-    let top = key_top(frame);
+    put_how_to_read(top, sheet, out);
     put_key(top, sheet, out);
+    put_words_meant(top, sheet, out);
     put_legend(top, sheet, out);
     put_table(counts, top, sheet, out);
+}
+
+// Writes the list of the worst, the key and the table.
+fn put_end<K: Sink>(
+    frame: Frame,
+    found: &Found,
+    worst: &Worst<'_>,
+    buffer: &mut Buffer,
+    sheet: &mut Sheet,
+    out: &mut K,
+)
+    requires room { longest_text worst.now + 200 ≤ buffer.old.room }
+    ensures { (faults : List FaultTold) → frame.listed ≡ many_listed frame.size faults
+        → AreTallies frame.size found.now.tallies [] faults → found.now.survey.counts ≡ all_counts frame.size faults
+        → worst.now ≡ ten_worst frame.size faults
+        → Puts sheet.old.failed (K.output out.old) sheet.new.failed (K.output out.new)
+        (chart_end frame.size frame.many faults) }
+{
+    let harmful = found.tallies.all.harmful;
+    put_worst(
+        frame.size,
+        list_top(frame),
+        harmful,
+        worst,
+        buffer,
+        sheet,
+        out,
+    );
+    put_key_and_table(key_top(frame), &found.survey.counts, sheet, out);
     sheet.put(b"</svg>\n", out);
 }
 
@@ -215,7 +266,8 @@ fn put_with_room<K: Sink>(
     campaign: &Campaign<'_>,
     frame: Frame,
     marks: &[bool],
-    survey: &Survey,
+    found: &Found,
+    worst: &Worst<'_>,
     out: &mut K,
 ) -> Result<(), ChartFault>
     requires readable { IsReadable campaign.now }
@@ -223,9 +275,12 @@ fn put_with_room<K: Sink>(
     requires marks { length marks.now ≡ frame.size.slots }
     requires shown { frame.many ≡ length (marked_slots marks.now) }
     requires some { 1 ≤ frame.many }
-    requires many { survey.now.many ≡ length campaign.now.faults }
-    requires counts { survey.now.counts ≡ all_counts frame.size campaign.now.faults }
-    requires longest { survey.now.longest ≡ longest_text campaign.now.faults }
+    requires listed { frame.listed ≡ many_listed frame.size campaign.now.faults }
+    requires counts { found.now.survey.counts ≡ all_counts frame.size campaign.now.faults }
+    requires longest { found.now.survey.longest ≡ longest_text campaign.now.faults }
+    requires most { found.now.survey.most ≡ most_lost frame.size campaign.now.faults }
+    requires tallies { AreTallies frame.size found.now.tallies [] campaign.now.faults }
+    requires worst { worst.now ≡ ten_worst frame.size campaign.now.faults }
     ensures ok { OnOk result (WroteLines (K.output out.old) (K.output out.new)
         (chart_of frame.size campaign.now.own (marked_slots marks.now) campaign.now.faults
         (counts_sum (map (λ piece. piece.kept) campaign.now.pieces))
@@ -235,24 +290,24 @@ fn put_with_room<K: Sink>(
         (counts_sum (map (λ piece. piece.kept) campaign.now.pieces))
         (counts_sum (map (λ piece. piece.broken) campaign.now.pieces)))) }
 {
-    let Some(room) = room_for(campaign, survey.longest) else {
+    let Some(room) = room_for(campaign, found.survey.longest) else {
         return Err(ChartFault::Memory);
     };
     let Ok(mut buffer) = Buffer::with_room(alloc, room) else {
         return Err(ChartFault::Memory);
     };
     let mut sheet = Sheet::new();
-    put_head(
+    put_head(campaign, frame, marks, found, &mut buffer, &mut sheet, out);
+    put_body(
         campaign,
         frame,
         marks,
-        survey.many,
+        &found.tallies,
         &mut buffer,
         &mut sheet,
         out,
     );
-    put_body(campaign, frame, marks, &mut buffer, &mut sheet, out);
-    put_end(frame, &survey.counts, &mut sheet, out);
+    put_end(frame, found, worst, &mut buffer, &mut sheet, out);
     match sheet.end() {
         Ok(()) => Ok(()),
         Err(_) => Err(ChartFault::Failed),
@@ -300,7 +355,8 @@ fn shown_marks(
 ///
 /// Each line is one piece. `NoSlot` comes exactly where no slot is to be shown, and `Memory` where memory was refused;
 /// with both nothing was written. `Failed` is the sink's: some first lines were written, or none, and some first bytes of
-/// the next one. The campaign is gone over a few times. Memory is taken for a mark for each slot and the longest line.
+/// the next one. The campaign is gone over a few times, that of a shown slot
+/// twice. Memory is taken for a mark for each slot, the longest line and the ten worst faults.
 ///
 /// Its faults have to stand by their slots, and their number and the counts of its pieces to fit 64 bits, as in each
 /// campaign that `read_campaign` gives (`readable` of it).
@@ -318,14 +374,18 @@ pub fn put_chart<K: Sink>(
         (K.output out.new) (chart_lines campaign.now asked)) }
 {
     let size = size_of_campaign(campaign);
-    let survey = survey_of(size, campaign.faults());
-    let Ok(marks) = shown_marks(alloc, campaign, size, survey.harm, asked) else {
+    let Ok(mut worst) = Worst::new(alloc) else {
+        return Err(ChartFault::Memory);
+    };
+    let found = survey_of(size, campaign.faults(), &mut worst);
+    let Ok(marks) = shown_marks(alloc, campaign, size, found.survey.harm, asked) else {
         return Err(ChartFault::Memory);
     };
     let many = count_marks(&marks);
     if many == 0 {
         return Err(ChartFault::NoSlot);
     }
-    let frame = Frame { size, many };
-    put_with_room(alloc, campaign, frame, &marks, &survey, out)
+    let listed = worst.len() as u8;
+    let frame = Frame { size, many, listed };
+    put_with_room(alloc, campaign, frame, &marks, &found, &worst, out)
 }

@@ -74,12 +74,12 @@ pub(crate) fn put_flag<K: Sink>(
         let x = chart_x(nodes, column);
         let y = chart_y(nodes, column, 0);
         let at = Corner {
-            x: x - 2,
+            x: x - 1,
             y: y - 26,
         };
-        make_pole(&mut sheet.line, "flag", at, 26 * u64::from(nodes) + 21);
+        make_pole(&mut sheet.line, "flag", at, 30 * u64::from(nodes) + 22);
         sheet.write(out);
-        make_name(&mut sheet.line, x + 1, y - 17, test);
+        make_name(&mut sheet.line, x + 2, y - 17, test);
         sheet.write(out);
     }
 }

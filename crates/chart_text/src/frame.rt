@@ -2,19 +2,21 @@
 #![tactic(auto)]
 
 ghost use Rattle.std.specs.Prelude.{◌≡◌, ◌+◌, ◌*◌, ◌^◌, ◌≤◌, length};
-ghost use Rattle.chart_text.specs.Columns.{most_columns, chart_band, chart_bands, key_top, chart_height, chart_x, chart_y};
+ghost use Rattle.chart_text.specs.Columns.{most_columns, chart_band, chart_bands, list_top, key_top, chart_height, chart_x, chart_y, beside_x};
 
 use crate::size::Size;
 use picture_text::{Corner, columns};
 
-/// The size of a campaign's runs, and how many columns are shown.
+/// The size of a campaign's runs, how many columns are shown, and how many of the worst faults are listed.
 #[derive(Clone, Copy)]
 pub(crate) struct Frame {
     pub(crate) size: Size,
     pub(crate) many: u32,
+    pub(crate) listed: u8,
     ghost nodes: { (4 ≤ size.nodes) × (size.nodes ≤ 24) },
     ghost slots: { size.slots ≤ 20000 },
     ghost few: { many ≤ 20000 },
+    ghost ten: { listed ≤ 10 },
 }
 
 /// The most slots that are shown unasked.
@@ -29,9 +31,9 @@ pub(crate) fn most_columns(nodes: u8) -> u32
 fn chart_band(nodes: u8) -> u64
     requires { nodes ≤ 24 }
     ensures value { result ≡ chart_band nodes }
-    ensures low { result ≤ 708 }
+    ensures low { result ≤ 806 }
 {
-    26 * u64::from(nodes) + 84
+    30 * u64::from(nodes) + 86
 }
 
 /// How many bands there are.
@@ -42,20 +44,28 @@ pub(crate) fn chart_bands(frame: Frame) -> u32
     frame.many.saturating_sub(1) / columns(frame.size.nodes) + 1
 }
 
-/// Where the key begins.
+/// Where the list of the worst faults begins.
 #[tactic(auto, using(crate::proofs::Places::bands_are_low))]
+pub(crate) fn list_top(frame: Frame) -> u64
+    ensures value { result ≡ list_top frame.size.nodes frame.many }
+    ensures low { result ≤ 2 ^ 29 }
+{
+    132 + chart_band(frame.size.nodes) * u64::from(chart_bands(frame))
+}
+
+/// Where the key begins.
 pub(crate) fn key_top(frame: Frame) -> u64
-    ensures value { result ≡ key_top frame.size.nodes frame.many }
+    ensures value { result ≡ key_top frame.size.nodes frame.many frame.listed }
     ensures low { result ≤ 2 ^ 30 }
 {
-    100 + chart_band(frame.size.nodes) * u64::from(chart_bands(frame))
+    list_top(frame) + 32 + 20 * u64::from(frame.listed)
 }
 
 /// How high the chart is.
 pub(crate) fn chart_height(frame: Frame) -> u64
-    ensures { result ≡ chart_height frame.size.nodes frame.many }
+    ensures { result ≡ chart_height frame.size.nodes frame.many frame.listed }
 {
-    key_top(frame) + 340
+    key_top(frame) + 530
 }
 
 /// The left edge of a column.
@@ -72,9 +82,9 @@ pub(crate) fn chart_x(nodes: u8, column: u32) -> u64
 pub(crate) fn chart_y(nodes: u8, column: u32, row: u8) -> u64
     requires { (4 ≤ nodes) × (nodes ≤ 24) }
     ensures value { result ≡ chart_y nodes column row }
-    ensures within { (128 ≤ result) × (result ≤ 2 ^ 43) }
+    ensures within { (160 ≤ result) × (result ≤ 2 ^ 43) }
 {
-    128 + chart_band(nodes) * u64::from(column / columns(nodes)) + 26 * u64::from(row)
+    160 + chart_band(nodes) * u64::from(column / columns(nodes)) + 30 * u64::from(row)
 }
 
 /// The corner of a row of a column.
@@ -88,4 +98,12 @@ pub(crate) fn chart_corner(nodes: u8, column: u32, row: u8) -> Corner
         x: chart_x(nodes, column),
         y: chart_y(nodes, column, row),
     }
+}
+
+/// The left edge of what stands beside the columns.
+pub(crate) fn beside_x(frame: Frame) -> u64
+    ensures value { result ≡ beside_x frame.size.nodes frame.many }
+    ensures within { (84 ≤ result) × (result ≤ 1400) }
+{
+    84 + 24 * u64::from(columns(frame.size.nodes).min(frame.many))
 }

@@ -1,11 +1,11 @@
-//! The kinds of faults: their words, and where the squares of their places stand.
+//! The kinds of faults: their words, and where the marks of their places stand.
 #![tactic(auto, using(ttp_base::proofs::Room::room))]
 
 ghost use Rattle.std.specs.Prelude.{◌≡◌, ◌+◌, ◌<◌, ◌≤◌, ◌++◌, length};
 ghost use Rattle.whole_campaign.specs.Faults.{first_place};
 ghost use Rattle.chart_text.specs.Key.{key_said, kind_number, many_places};
 ghost use Rattle.chart_text.specs.Looks.{doing_word, jump_said, loss_said, channels_said, stays_said, kind_said};
-ghost use Rattle.chart_text.specs.Looks.{squares_left, squares_above, square_right, square_down};
+ghost use Rattle.chart_text.specs.Looks.{marks_left, marks_above};
 
 use ttp_base::Line;
 use whole_campaign::Doing;
@@ -59,15 +59,19 @@ fn stays_said(place: u8) -> &'static str
     if place < 6 { "" } else { ", stays" }
 }
 
-/// What the key says of a place.
-pub(crate) fn key_said(place: u8) -> &'static str
-    ensures text { result.now ≡ key_said place }
-    ensures short { length result.now ≤ 7 }
+/// Adds what the key says of a place.
+pub(crate) fn put_key_said(line: &mut Line, place: u8)
+    requires { length line.old ≤ 600 }
+    ensures text { line.new ≡ line.old ++ key_said place }
+    ensures short { length line.new ≤ length line.old + 10 }
 {
     if place < 12 {
-        loss_said(place)
+        line.put_text(channels_said(place));
+        line.put_text(" ");
+        line.put_text(loss_said(place));
     } else {
-        jump_said(place)
+        line.put_text("jump ");
+        line.put_text(jump_said(place));
     }
 }
 
@@ -87,47 +91,23 @@ pub(crate) fn put_kind(line: &mut Line, place: u8)
     }
 }
 
-/// How many squares are to the left of that of a place.
-pub(crate) fn squares_left(place: u8) -> u8
-    ensures value { result ≡ squares_left place }
-    ensures few { result ≤ 255 }
+/// How many marks are to the left of that of a place.
+pub(crate) fn marks_left(place: u8) -> u8
+    ensures value { result ≡ marks_left place }
+    ensures few { result ≤ 7 }
 {
-    if place < 12 {
-        place % 2 + 2 * (place / 6)
-    } else {
-        place - 12
-    }
+    if place < 12 { place % 6 } else { 6 + place % 2 }
 }
 
 /// How many are above it.
-pub(crate) fn squares_above(place: u8) -> u8
-    ensures value { result ≡ squares_above place }
-    ensures few { result ≤ 3 }
+pub(crate) fn marks_above(place: u8) -> u8
+    ensures value { result ≡ marks_above place }
+    ensures few { result ≤ 121 }
 {
-    if place < 12 { place % 6 / 2 } else { 3 }
-}
-
-/// How far the square of a place is from the left edge of the cell.
-pub(crate) fn square_right(place: u8) -> u8
-    ensures { result ≡ square_right place }
-{
-    match squares_left(place) {
-        1 => 5,
-        2 => 11,
-        3 => 16,
-        _ => 0,
-    }
-}
-
-/// And from the upper one.
-pub(crate) fn square_down(place: u8) -> u8
-    ensures { result ≡ square_down place }
-{
-    match squares_above(place) {
-        1 => 5,
-        2 => 10,
-        3 => 16,
-        _ => 0,
+    if place < 12 {
+        place / 6
+    } else {
+        (place - 12) / 2
     }
 }
 

@@ -109,7 +109,7 @@ fn is_harm(look: Look) -> bool
     }
 }
 
-/// Whether a fault hurt somebody who was not faulty.
+/// Whether a fault is harmful.
 pub(crate) fn does_harm(size: Size, fault: FaultShown) -> bool
     ensures { result ≡ does_harm size fault }
 {
@@ -168,20 +168,20 @@ pub(crate) fn look_letter(look: Look) -> &'static str
 // In the order of `Look`.
 const LOOK_MEANINGS: [&str; 9] = [
     "nothing changed",
-    "nothing changed, but outside the hypothesis",
-    "it cost faulty nodes and nobody else",
-    "the same, but outside the hypothesis",
-    "too near the end of the run to tell",
-    "a node left that was not faulty",
-    "such nodes held two memberships meanwhile",
-    "at the end nodes hold two memberships",
-    "at the end no two nodes are together",
+    "nothing changed; the fault is outside the hypothesis",
+    "faulty nodes left, and nobody else",
+    "the same; the fault is outside the hypothesis",
+    "two memberships, but the run ends too soon to tell",
+    "hurt: a healthy node left",
+    "split: healthy nodes held two memberships for a while",
+    "torn: two memberships are left at the end",
+    "dead: at the end no two nodes are together",
 ];
 
 /// What it means.
 pub(crate) fn look_meaning(look: Look) -> &'static str
     ensures text { result.now ≡ look_meaning look }
-    ensures short { length result.now ≤ 50 }
+    ensures short { length result.now ≤ 60 }
 {
     LOOK_MEANINGS[look as usize]
 }

@@ -101,12 +101,12 @@ fn put_kind_rows<K: Sink>(
 )
     requires { (top ≤ 2 ^ 31) × (x ≤ 2 ^ 31) }
     ensures { Puts sheet.old.failed (K.output out.old) sheet.new.failed (K.output out.new)
-        (lines_below (λ j. kind_lines counts.now doing x (top + 165 + 14 * j) (first_place doing + j)) (many_places doing)) }
+        (lines_below (λ j. kind_lines counts.now doing x (top + 359 + 14 * j) (first_place doing + j)) (many_places doing)) }
 {
     for number in 0..many_places(doing) {
         let at = Corner {
             x,
-            y: top + 165 + 14 * u64::from(number),
+            y: top + 359 + 14 * u64::from(number),
         };
         put_kind_row(counts, doing, at, first_place(doing) + number, sheet, out);
     }
@@ -117,12 +117,12 @@ fn put_kind_rows<K: Sink>(
 fn put_part_head<K: Sink>(top: u64, x: u64, sheet: &mut Sheet, out: &mut K)
     requires { (top ≤ 2 ^ 31) × (x ≤ 2 ^ 31) }
     ensures { Puts sheet.old.failed (K.output out.old) sheet.new.failed (K.output out.new)
-        (map (λ i. look_cell (get_or looks i look.Same) (x + 133 + 30 * i) (top + 136)) (below 9)) }
+        (map (λ i. look_cell (get_or looks i look.Same) (x + 133 + 30 * i) (top + 330)) (below 9)) }
 {
     for number in 0..LOOKS {
         let at = Corner {
             x: x + 133 + 30 * u64::from(number),
-            y: top + 136,
+            y: top + 330,
         };
         make_look_cell(&mut sheet.line, look_at(number), at);
         sheet.write(out);
@@ -143,7 +143,7 @@ fn put_part<K: Sink>(
     ensures { Puts sheet.old.failed (K.output out.old) sheet.new.failed (K.output out.new)
         (part_lines counts.now top x doing) }
 {
-    make_text_of(&mut sheet.line, "said", x, top + 147, doing_word(doing));
+    make_text_of(&mut sheet.line, "said", x, top + 341, doing_word(doing));
     sheet.write(out);
     put_part_head(top, x, sheet, out);
     put_kind_rows(counts, top, x, doing, sheet, out);
@@ -157,6 +157,6 @@ pub(crate) fn put_table<K: Sink>(counts: &[u64; 252], top: u64, sheet: &mut Shee
         (table_lines counts.now top) }
 {
     put_part(counts, top, 12, Doing::Send, sheet, out);
-    put_part(counts, top, 422, Doing::Receive, sheet, out);
-    put_part(counts, top, 832, Doing::Jump, sheet, out);
+    put_part(counts, top, 442, Doing::Receive, sheet, out);
+    put_part(counts, top, 872, Doing::Jump, sheet, out);
 }

@@ -1,25 +1,34 @@
-//! What came of the faults of a slot, counted.
+//! What came of some faults, counted: of all of them, and of those of each node.
 #![tactic(auto)]
 
 ghost use Rattle.std.specs.Prelude.{◌≡◌, ℕ, ◌+◌, ◌^◌, ◌<◌, ◌≤◌, ◌∷◌, List, get_or, length, Option, Some, ◌==◌, if◌then◌else◌};
-ghost use Rattle.chart_text.specs.declared.look.Look.TheVariants as look;
-ghost use Rattle.chart_text.specs.Looks.{looks};
+ghost use Rattle.std.specs.Option.{option_or};
 ghost use Rattle.whole_campaign.specs.Due.{as_count};
 ghost use Rattle.whole_campaign.specs.Whole.{FaultTold};
-ghost use Rattle.chart_text.specs.Column.{worst_below, look_counts};
-ghost use Rattle.chart_text.specs.Walks.{IsSlotTally};
+ghost use Rattle.chart_text.specs.Walks.{IsTally, AreTallies, CanNote, tally_of, no_tally};
+ghost use Rattle.chart_text.specs.Worst.{worst_with};
 ghost use Rattle.whole_campaign.specs.Steps.{told_of};
 
-use crate::look::{LOOKS, Look, fault_look, look_at, look_number};
+use crate::look::{does_harm, fault_look, look_number};
 use crate::size::Size;
-use whole_campaign::FaultLine;
+use crate::worst::is_worse;
+use whole_campaign::{Doing, FaultLine, FaultShown};
 
-/// How many faults there were, how many have each look, and the most nodes that one of them hurt.
+/// How many faults there were, how many have each look, how many are harmful, what the first of them does, and the worst.
 #[derive(Clone, Copy)]
-pub(crate) struct SlotTally {
+pub(crate) struct Tally {
     pub(crate) counts: [u64; 9],
     pub(crate) many: u64,
-    pub(crate) most: u8,
+    pub(crate) harmful: u64,
+    pub(crate) first: Option<Doing>,
+    pub(crate) worst: Option<FaultShown>,
+}
+
+/// A tally of all faults, and one of those of each node that there can be.
+#[derive(Clone, Copy)]
+pub(crate) struct Tallies {
+    pub(crate) all: Tally,
+    pub(crate) nodes: [Tally; 24],
 }
 
 /// Counts one more of this number, if there is a count for it.
@@ -33,50 +42,93 @@ pub(crate) fn count_one(counts: &mut [u64], number: usize)
     }
 }
 
-impl SlotTally {
+// One more where this is so.
+fn one_more(count: u64, is: bool) -> u64
+    requires { count < 2 ^ 63 }
+    ensures { result ≡ count + as_count is }
+{
+    if is { count + 1 } else { count }
+}
+
+// The worst so far, where this fault follows.
+fn worst_with(size: Size, worst: Option<FaultShown>, fault: FaultShown) -> Option<FaultShown>
+    ensures { (text : List ℕ) → result ≡ worst_with size worst (record { shown = fault; text = text }) }
+{
+    match worst {
+        None => Some(fault),
+        Some(before) => {
+            if is_worse(size, fault, before) {
+                Some(fault)
+            } else {
+                Some(before)
+            }
+        }
+    }
+}
+
+// What the first fault does, where this one follows.
+fn first_with(first: Option<Doing>, doing: Doing) -> Option<Doing>
+    ensures { result ≡ option_or first (Some doing) }
+{
+    match first {
+        Some(before) => Some(before),
+        None => Some(doing),
+    }
+}
+
+impl Tally {
     /// Of no faults.
-    pub(crate) fn new(size: Size) -> SlotTally
-        ensures { (all : List FaultTold) → IsSlotTally size result all all }
+    pub(crate) fn new() -> Tally
+        ensures { result ≡ no_tally }
     {
-        SlotTally {
+        Tally {
             counts: [0; 9],
             many: 0,
-            most: 0,
+            harmful: 0,
+            first: None,
+            worst: None,
+        }
+    }
+
+    /// Counts one fault more.
+    pub(crate) fn note(&mut self, size: Size, fault: FaultShown)
+        requires { CanNote self.old }
+        ensures { (text : List ℕ) (left all : List FaultTold)
+            → IsTally size self.old (record { shown = fault; text = text } ∷ left) all → IsTally size self.new left all }
+    {
+        let look = fault_look(size, fault);
+        count_one(&mut self.counts, usize::from(look_number(look)));
+        self.many += 1;
+        self.harmful = one_more(self.harmful, does_harm(size, fault));
+        self.first = first_with(self.first, fault.doing);
+        self.worst = worst_with(size, self.worst, fault);
+    }
+}
+
+impl Tallies {
+    /// Of no faults.
+    pub(crate) fn new(size: Size) -> Tallies
+        ensures { (all : List FaultTold) → AreTallies size result all all }
+    {
+        Tallies {
+            all: Tally::new(),
+            nodes: [Tally::new(); 24],
         }
     }
 
     /// Counts one fault more.
     pub(crate) fn note(&mut self, size: Size, fault: &FaultLine<'_>)
-        requires many { self.old.many < 2 ^ 63 }
-        requires few { (i : ℕ) → i < length self.old.counts → get_or self.old.counts i 0 < 2 ^ 63 }
+        requires all { CanNote self.old.all }
+        requires each { (k : ℕ) → k < 24 → CanNote (tally_of self.old.nodes k) }
         ensures { (left all : List FaultTold)
-            → IsSlotTally size self.old (told_of fault.now ∷ left) all → IsSlotTally size self.new left all }
+            → AreTallies size self.old (told_of fault.now ∷ left) all → AreTallies size self.new left all }
     {
-        let look = fault_look(size, fault.shown);
-        count_one(&mut self.counts, usize::from(look_number(look)));
-        self.many += 1;
-        self.most = self.most.max(fault.shown.hurt);
+        let node = usize::from(fault.shown.node);
+        self.all.note(size, fault.shown);
+        if node < self.nodes.len() {
+            let mut tally = self.nodes[node];
+            tally.note(size, fault.shown);
+            self.nodes[node] = tally;
+        }
     }
-}
-
-// The worst of the looks up to this number, behind that of the looks before it.
-fn worst_with(before: Option<Look>, number: u8, many: u64) -> Option<Look>
-    ensures { result ≡ (if many == 0 then before else Some (get_or looks number look.Same)) }
-{
-    if many == 0 {
-        before
-    } else {
-        Some(look_at(number))
-    }
-}
-
-/// The look that stands lowest in the table, of those that are counted.
-pub(crate) fn worst_look(counts: &[u64; 9]) -> Option<Look>
-    ensures { result ≡ worst_below counts.now 9 }
-{
-    let mut worst = None;
-    for number in 0..LOOKS {
-        worst = worst_with(worst, number, counts[usize::from(number)]);
-    }
-    worst
 }

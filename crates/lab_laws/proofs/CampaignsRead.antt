@@ -1,4 +1,4 @@
--- The squares of the chart of a text that is a campaign.
+-- The marks of the chart of a text that is a campaign.
 use Rattle.std.proofs.Common.{◌≡◌, ℕ, ◌≤◌, List, [], ◌∷◌, Option, Some, None, refl}
 use Rattle.std.proofs.Common.{subst, arith, codes, bytes_eq, map}
 use Rattle.std.specs.Prelude.{Ok}
@@ -18,7 +18,7 @@ use Rattle.picture_text.specs.declared.window.Span.{Span}
 use Rattle.chart_text.specs.Chart.{chart_lines}
 use Rattle.chart_text.specs.Columns.{size_of_campaign, is_tried, first_told_slot, slots_shown, tried_slots}
 use Rattle.chart_text.specs.Looks.{does_harm}
-use Rattle.lab_laws.specs.Squares.{lines_drawn}
+use Rattle.lab_laws.specs.Marks.{lines_drawn}
 use Rattle.lab_laws.proofs.Draws.{Draws}
 use Rattle.lab_laws.proofs.ChartDraws.{IsOwnPlain, ArePlain, chart-draws}
 use Rattle.lab_laws.proofs.PlainLines.{plain-behind, plain-is, plain-cost, plain-tested, plain-run}

@@ -1,4 +1,4 @@
--- Lines of a chart with their squares.
+-- Lines of a chart with their marks.
 use Rattle.std.proofs.Common.{◌≡◌, Bool, true, false, cond, ℕ, List, [], ◌∷◌, ◌++◌, map, filter}
 use Rattle.std.proofs.Common.{refl, sym, ap, ◌∙◌, subst}
 use Rattle.std.specs.List.{AllByRecursion, flat_map}
@@ -12,11 +12,11 @@ use Rattle.picture_text.proofs.PlainTexts.{Plain}
 use Rattle.lab_laws.specs.Titles.{titles_in, titles}
 use Rattle.lab_laws.proofs.LinesAndTitles.{Unmarked, unmarked}
 use Rattle.lab_laws.proofs.TitlesIn.{IsLineWith, HasOne, untitled, titled, no-lines}
-use Rattle.lab_laws.specs.Squares.{is_square}
+use Rattle.lab_laws.specs.Marks.{is_mark}
 
--- these are lines that have these squares, by their titles; none has two titles, and no title needs an escape
-pub record Draws (lines squares : Lines) : Type 0 where
-  pub are : titles (filter is_square lines) ≡ squares
+-- these are lines that have these marks, by their titles; none has two titles, and no title needs an escape
+pub record Draws (lines marks : Lines) : Type 0 where
+  pub are : titles (filter is_mark lines) ≡ marks
   pub once : AllByRecursion HasOne lines
   pub plain : AllByRecursion Unmarked (titles lines)
   pub each : AllByRecursion IsLine lines
@@ -27,15 +27,15 @@ nothing = record { are = refl; once = tt; plain = tt; each = tt }
 infixl 20 ◌◃◌
 pub ◌◃◌ : {xs ys : Lines} {a b : Lines} → Draws xs a → Draws ys b → Draws (xs ++ ys) (a ++ b)
 ◌◃◌ {xs} {ys} {a} {b} p q = record {
-  are = ap titles (filter-append is_square xs ys)
-      ∙ flat_map-append titles_in (filter is_square xs) (filter is_square ys) ∙ (λ i. p.are i ++ q.are i);
+  are = ap titles (filter-append is_mark xs ys)
+      ∙ flat_map-append titles_in (filter is_mark xs) (filter is_mark ys) ∙ (λ i. p.are i ++ q.are i);
   once = each-append HasOne xs ys p.once q.once;
   plain = subst (AllByRecursion Unmarked) (sym (flat_map-append titles_in xs ys))
       (each-append Unmarked (titles xs) (titles ys) p.plain q.plain);
   each = each-append IsLine xs ys p.each q.each;
 }
 
--- a line without a title, one with a title that is no square, and a square
+-- a line without a title, one with a title that is no mark, and a mark
 
 kept-none : (b : Bool) (text : List ℕ) → titles_in text ≡ [] → titles (cond b (text ∷ []) []) ≡ []
 kept-none true text is = append-nil (titles_in text) ∙ is
@@ -43,13 +43,13 @@ kept-none false text is = refl
 
 pub untitled-line : (text : List ℕ) → IsLineWith text [] → Draws (text ∷ []) []
 untitled-line text is = record {
-  are = kept-none (is_square text) text is.titled;
+  are = kept-none (is_mark text) text is.titled;
   once = (untitled text [] [] is no-lines).once;
   plain = subst (AllByRecursion Unmarked) (sym (append-nil (titles_in text) ∙ is.titled)) tt;
   each = (is.one, tt);
 }
 
-pub titled-line : (text name : List ℕ) → IsLineWith text (name ∷ []) → is_square text ≡ false → Plain name
+pub titled-line : (text name : List ℕ) → IsLineWith text (name ∷ []) → is_mark text ≡ false → Plain name
     → Draws (text ∷ []) []
 titled-line text name is other plain = record {
   are = ap (λ (b : Bool). titles (cond b (text ∷ []) [])) other;
@@ -58,10 +58,10 @@ titled-line text name is other plain = record {
   each = (is.one, tt);
 }
 
-pub square-line : (text name : List ℕ) → IsLineWith text (name ∷ []) → is_square text ≡ true → Plain name
+pub mark-line : (text name : List ℕ) → IsLineWith text (name ∷ []) → is_mark text ≡ true → Plain name
     → Draws (text ∷ []) (name ∷ [])
-square-line text name is square plain = record {
-  are = ap (λ (b : Bool). titles (cond b (text ∷ []) [])) square ∙ append-nil (titles_in text) ∙ is.titled;
+mark-line text name is mark plain = record {
+  are = ap (λ (b : Bool). titles (cond b (text ∷ []) [])) mark ∙ append-nil (titles_in text) ∙ is.titled;
   once = (titled text [] name [] is no-lines).once;
   plain = subst (AllByRecursion Unmarked) (sym (append-nil (titles_in text) ∙ is.titled)) (unmarked name plain, tt);
   each = (is.one, tt);
@@ -77,12 +77,12 @@ pub flat-nothing : {X : Type 0} (f : X → Lines) (xs : List X) → ((x : X) →
 flat-nothing f [] each = nothing
 flat-nothing f (x ∷ xs) each = each x ◃ flat-nothing f xs each
 
-pub flat-draws : {X : Type 0} (f squares : X → Lines) (xs : List X) → ((x : X) → Draws (f x) (squares x))
-    → Draws (flat_map f xs) (flat_map squares xs)
-flat-draws f squares [] each = nothing
-flat-draws f squares (x ∷ xs) each = each x ◃ flat-draws f squares xs each
+pub flat-draws : {X : Type 0} (f marks : X → Lines) (xs : List X) → ((x : X) → Draws (f x) (marks x))
+    → Draws (flat_map f xs) (flat_map marks xs)
+flat-draws f marks [] each = nothing
+flat-draws f marks (x ∷ xs) each = each x ◃ flat-draws f marks xs each
 
-pub if-draws : (b : Bool) (lines others squares : Lines) → Draws lines squares → Draws others squares
-    → Draws (cond b lines others) squares
-if-draws true lines others squares one other = one
-if-draws false lines others squares one other = other
+pub if-draws : (b : Bool) (lines others marks : Lines) → Draws lines marks → Draws others marks
+    → Draws (cond b lines others) marks
+if-draws true lines others marks one other = one
+if-draws false lines others marks one other = other

@@ -29,7 +29,7 @@ use Rattle.whole_campaign.specs.Own.{OwnShown, own_in, own_of_line, Common}
 use Rattle.whole_campaign.specs.Whole.{FaultTold, WholeCampaign, wrong_behind, wrong_line, told_at, faults_told, onto}
 use Rattle.whole_campaign.specs.Whole.{items_behind, campaign_from, behind_own, behind_first, whole_of, campaign_in}
 use Rattle.lab_laws.specs.Titles.{texts_of_lines}
-use Rattle.lab_laws.specs.Squares.{is_fault_line}
+use Rattle.lab_laws.specs.Marks.{is_fault_line}
 use Rattle.lab_laws.proofs.PlainLines.{word-cut}
 use Rattle.lab_laws.proofs.ReadLines.{fed-is, told_of_line, right-behind}
 use Rattle.lab_laws.proofs.CampaignsRead.{or-drawn}

@@ -16,8 +16,8 @@ use Rattle.chart_text.specs.declared.size.Size.{Size}
 use Rattle.chart_text.specs.Column.{is_plain, faults_told_in}
 use Rattle.chart_text.specs.Columns.{is_hidden, most_columns, place_of_harm, is_asked, shown_among}
 use Rattle.chart_text.specs.Looks.{fault_look}
-use Rattle.lab_laws.specs.Squares.{is_drawn, shown_among_slots}
-use Rattle.lab_laws.proofs.ChartDraws.{squares_of, squares_in}
+use Rattle.lab_laws.specs.Marks.{is_drawn, shown_among_slots}
+use Rattle.lab_laws.proofs.ChartDraws.{marks_of, marks_in}
 
 -- Numbers in ascending order.
 
@@ -157,23 +157,23 @@ first-slot t ts (fault ∷ faults) above order =
           ∙ ap (λ (b : Bool). cond (is_of t fault) (fault ∷ mine) mine ++ cond b (fault ∷ rest) rest) (sym there)
     ]
 
--- The squares of slots, one slot after another, are those of the faults of these slots.
+-- The marks of slots, one slot after another, are those of the faults of these slots.
 
 -- the lines of the faults that are drawn
 abbrev pub texts_drawn : Size → List FaultTold → Lines
 texts_drawn size faults = map (λ (fault : FaultTold). fault.text) (filter (is_drawn size) faults)
 
-squares-if : (b : Bool) (fault : FaultTold) (lines : Lines) (faults : List FaultTold)
+marks-if : (b : Bool) (fault : FaultTold) (lines : Lines) (faults : List FaultTold)
     → lines ≡ map (λ (f : FaultTold). f.text) faults
     → cond b [] (fault.text ∷ []) ++ lines ≡ map (λ (f : FaultTold). f.text) (cond (not b) (fault ∷ faults) faults)
-squares-if true fault lines faults same = same
-squares-if false fault lines faults same = ap (λ (ls : Lines). fault.text ∷ ls) same
+marks-if true fault lines faults same = same
+marks-if false fault lines faults same = ap (λ (ls : Lines). fault.text ∷ ls) same
 
-squares-drawn : (size : Size) (faults : List FaultTold) → flat_map (squares_of size) faults ≡ texts_drawn size faults
-squares-drawn size [] = refl
-squares-drawn size (fault ∷ faults) =
-    squares-if (is_plain (fault_look size fault.shown)) fault (flat_map (squares_of size) faults)
-    (filter (is_drawn size) faults) (squares-drawn size faults)
+marks-drawn : (size : Size) (faults : List FaultTold) → flat_map (marks_of size) faults ≡ texts_drawn size faults
+marks-drawn size [] = refl
+marks-drawn size (fault ∷ faults) =
+    marks-if (is_plain (fault_look size fault.shown)) fault (flat_map (marks_of size) faults)
+    (filter (is_drawn size) faults) (marks-drawn size faults)
 
 drawn-append : (size : Size) (xs ys : List FaultTold)
     → texts_drawn size (xs ++ ys) ≡ texts_drawn size xs ++ texts_drawn size ys
@@ -186,19 +186,19 @@ none-shown [] = refl
 none-shown (fault ∷ faults) = none-shown faults
 
 slots-drawn : (size : Size) (ts : List ℕ) (faults : List FaultTold) → Ascend ts → AreInSlotOrder faults
-    → flat_map (squares_in size faults) ts ≡ texts_drawn size (shown_among_slots ts faults)
+    → flat_map (marks_in size faults) ts ≡ texts_drawn size (shown_among_slots ts faults)
 slots-drawn size [] faults ascend order = sym (ap (texts_drawn size) (none-shown faults))
 slots-drawn size (t ∷ ts) faults ascend order =
-    (λ i. squares-drawn size (faults_told_in t faults) i ++ slots-drawn size ts faults ascend.1 order i)
+    (λ i. marks-drawn size (faults_told_in t faults) i ++ slots-drawn size ts faults ascend.1 order i)
     ∙ sym (drawn-append size (faults_told_in t faults) (shown_among_slots ts faults))
     ∙ sym (ap (texts_drawn size) (first-slot t ts faults ascend.0 order))
 
 -- by the numbers of columns
 pub columns-drawn : (size : Size) (shown : List ℕ) (faults : List FaultTold) → Ascend shown → AreInSlotOrder faults
-    → flat_map (λ c. squares_in size faults (get_or shown c 0)) (below (length shown))
+    → flat_map (λ c. marks_in size faults (get_or shown c 0)) (below (length shown))
     ≡ texts_drawn size (shown_among_slots shown faults)
 columns-drawn size shown faults ascend order =
     let at : ℕ → ℕ = λ c. get_or shown c 0 in
-    sym (flat_map-map (squares_in size faults) at (below (length shown)))
-    ∙ ap (flat_map (squares_in size faults)) (sym (fill_by_all at shown (length shown) 0 refl (λ k less. refl)))
+    sym (flat_map-map (marks_in size faults) at (below (length shown)))
+    ∙ ap (flat_map (marks_in size faults)) (sym (fill_by_all at shown (length shown) 0 refl (λ k less. refl)))
     ∙ slots-drawn size shown faults ascend order

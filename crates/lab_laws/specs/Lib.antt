@@ -3,7 +3,7 @@ pub mod Ends
 pub mod Joined
 pub mod Ranges
 pub mod SafeLines
-pub mod Squares
+pub mod Marks
 pub mod TakenCampaign
 pub mod TakenTrace
 pub mod Titles

@@ -16,7 +16,7 @@ ghost use Rattle.lab_laws.specs.TakenCampaign.{campaign_over};
 ghost use Rattle.chart_text.specs.Chart.{chart_lines};
 ghost use Rattle.lab_laws.specs.Alike.{AreAlike};
 ghost use Rattle.lab_laws.specs.Joined.{AreJoined, whole_range};
-ghost use Rattle.lab_laws.specs.Squares.{is_square, is_fault_line, lines_drawn};
+ghost use Rattle.lab_laws.specs.Marks.{is_mark, is_fault_line, lines_drawn};
 
 /// A chart depends on the pieces of a campaign by nothing but the slots that they have and what their counts add up to.
 pub fn alike_charts()
@@ -46,12 +46,12 @@ pub fn lines_of_charts()
         → AllByRecursion (λ line. is_line line ≡ true) (chart_lines campaign asked) }
 {}
 
-/// The squares of the chart of a text that is a campaign, which are its paths whose class is a look: their titles are the
-/// lines of those faults whose slot is shown and whose look is not `same`, in the order of the text (`squares`). No line of
+/// The marks of the chart of a text that is a campaign, which are its paths whose class is a look: their titles are the
+/// lines of those faults whose slot is shown and whose look is not `same`, in the order of the text (`marks`). No line of
 /// the chart has two titles (`once`), and none has a byte that would need an escape (`plain`).
-pub fn squares_of_charts()
-    ensures squares { (text : List ℕ) (campaign : WholeCampaign) (asked : Option Slots) → campaign_in text ≡ Ok campaign
-        → titles (filter is_square (chart_lines campaign asked)) ≡ lines_drawn campaign asked }
+pub fn marks_of_charts()
+    ensures marks { (text : List ℕ) (campaign : WholeCampaign) (asked : Option Slots) → campaign_in text ≡ Ok campaign
+        → titles (filter is_mark (chart_lines campaign asked)) ≡ lines_drawn campaign asked }
     ensures once { (text : List ℕ) (campaign : WholeCampaign) (asked : Option Slots) → campaign_in text ≡ Ok campaign
         → AllByRecursion (λ line. length (titles_in line) ≤ 1) (chart_lines campaign asked) }
     ensures plain { (text : List ℕ) (campaign : WholeCampaign) (asked : Option Slots) → campaign_in text ≡ Ok campaign

@@ -49,7 +49,7 @@ const COMMANDS: &[Row] = &[
     (&["script", "list", "12", "7"], "slots 12\n"),
     (
         &["chart", "campaign"],
-        "<svg xmlns=\"http://www.w3.org/2000/svg\" width=\"1236\" height=\"654\" viewBox=\"0 0 1236 654\">\n",
+        "<svg xmlns=\"http://www.w3.org/2000/svg\" width=\"1320\" height=\"930\" viewBox=\"0 0 1320 930\">\n",
     ),
 ];
 

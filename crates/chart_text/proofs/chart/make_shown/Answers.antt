@@ -12,21 +12,20 @@ returns c =
       c.put_hidden.ensures.text,
       c.put_number.ensures,
       c.from-5.ensures,
-      c.put_many-5.ensures.text,
-      c.from-4.ensures,
       c.put_many-4.ensures.text,
-      c.from-3.ensures,
+      c.from-4.ensures,
       c.put_many-3.ensures.text,
-      c.from-2.ensures,
+      c.from-3.ensures,
       c.put_many-2.ensures.text,
-      c.from.ensures,
+      c.from-2.ensures,
       c.put_many.ensures.text,
+      c.from.ensures,
       c.open_text.ensures.text,
       c.marked_slot-last.ensures,
       c.marked_slot-first.ensures,
       c.requires.many,
     )
-    (shown_parts (codes "<text" ++ place_attributes 12 20 ++ codes ">") (decimal c.args.many) (codes " faults, ")
-    (decimal c.args.frame.size.nodes) (codes " nodes, ") (decimal c.args.frame.size.slots) (codes " slots, shown: ")
+    (shown_parts (codes "<text" ++ place_attributes 12 40 ++ codes ">") (decimal c.args.frame.size.nodes)
+    (codes " nodes, ") (decimal c.args.frame.size.slots) (codes " slots, shown: ")
     (decimal (length shown)) (codes " of them, ") (decimal (get_or shown 0 0)) (codes " to ")
     (decimal (get_or shown (length shown - 1) 0)) (hidden_text c.args.hidden) (codes "</text>") newline)

@@ -17,4 +17,4 @@ returns c =
       c.look_text-name.ensures.text,
     )
     (wide_cell_parts (look_text c.args.look) (look_text c.args.look) (place_attributes c.args.at.x c.args.at.y)
-    (place_attributes (c.args.at.x + 9) (c.args.at.y + 13)) (look_letter c.args.look))
+    (place_attributes (c.args.at.x + 11) (c.args.at.y + 12)) (look_letter c.args.look))

@@ -15,5 +15,5 @@ returns-clause-text c =
       c.put_text.ensures,
       c.open_text.ensures.text,
     )
-    (own_parts (codes "<text" ++ place_attributes 12 38 ++ codes ">") (codes "<title>") c.args.own.text.now
+    (own_parts (codes "<text" ++ place_attributes 12 60 ++ codes ">") (codes "<title>") c.args.own.text.now
     (codes "</title>") (codes "without any of them: ") c.args.own.cost.now (codes "</text>") newline)

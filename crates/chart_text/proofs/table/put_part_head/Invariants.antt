@@ -6,4 +6,4 @@ use Rattle.chart_text.proofs.table.put_part_head.Given as goal
 abbrev pub invariant-loop-number : goal.invariant-loop-number
 invariant-loop-number g l =
     Puts l.fn.sheet.failed (g.K.Sink.output l.fn.out) l.sheet.failed (g.K.Sink.output l.out)
-    (map (λ i. look_cell (get_or looks i look.Same) (l.x + 133 + 30 * i) (l.top + 136)) (below l.number))
+    (map (λ i. look_cell (get_or looks i look.Same) (l.x + 133 + 30 * i) (l.top + 330)) (below l.number))

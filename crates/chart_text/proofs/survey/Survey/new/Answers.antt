@@ -6,7 +6,7 @@ pub returns : goal.returns
 returns c = λ all. record {
   long = refl;
   counted = counted-start (λ fault. counter_of c.args.size fault.shown) 252 all;
-  many = omega arith;
   longest = omega arith;
   harm = refl;
+  most = omega arith;
 }

@@ -1,0 +1,10 @@
+use Rattle.chart_text.proofs.Words.{[], List, FaultTold, lines_below, Puts, AreTallies}
+use Rattle.chart_text.specs.Column.{block_lines}
+use Rattle.chart_text.proofs.block.put_blocks.Given as goal
+
+-- the nodes so far have their cells
+abbrev pub invariant-loop-node : goal.invariant-loop-node
+invariant-loop-node g l =
+    (faults : List FaultTold) → AreTallies l.frame.size l.tallies [] faults
+    → Puts l.fn.sheet.failed (g.K.Sink.output l.fn.out) l.sheet.failed (g.K.Sink.output l.out)
+    (lines_below (block_lines l.frame.size l.column l.slot faults) l.node)

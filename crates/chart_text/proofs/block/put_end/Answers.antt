@@ -1,0 +1,16 @@
+use Rattle.chart_text.proofs.Words.{◌∙◌, puts_two}
+use Rattle.chart_text.specs.declared.sum.Summed.TheVariants as summed
+use Rattle.chart_text.proofs.Words.{[]}
+use Rattle.chart_text.proofs.Tallied.{tallied, sum-same, harmful-same}
+use Rattle.chart_text.proofs.block.put_end.Goals as goal
+
+pub returns : goal.returns
+returns g c faults is =
+    let size = c.args.frame.size in
+    let t = tallied size c.args.tally.now faults is in
+    puts_two
+    (rw (c.chart_x-x.ensures.value, c.chart_y-y.ensures.value) at c.make_sum.ensures
+    ∙ sum-same size c.args.tally.now faults t (summed.OfSlot c.args.slot) [] _ _)
+    (rw (c.chart_x-x.ensures.value, c.chart_y-y.ensures.value) at c.make_harmful.ensures
+    ∙ harmful-same size c.args.tally.now faults t _ _)
+    c.write.ensures c.write-2.ensures

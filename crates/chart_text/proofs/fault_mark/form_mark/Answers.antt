@@ -1,0 +1,18 @@
+use Rattle.chart_text.proofs.Words.{decimal, mark_parts}
+use Rattle.chart_text.specs.Elements.{fault_shape}
+use Rattle.chart_text.proofs.fault_mark.form_mark.Goals as goal
+
+pub returns-clause-text : goal.returns-clause-text
+returns-clause-text c =
+    rw (
+      c.put_bytes-3.ensures.text,
+      c.bytes-2.ensures,
+      c.close_mark.ensures,
+      c.clear-2.ensures,
+      c.put_bytes-2.ensures.text,
+      c.put_bytes.ensures.text,
+      c.bytes.ensures,
+      c.clear.ensures.text,
+      c.open_mark.ensures.text,
+    )
+    (mark_parts c.args.class.now (decimal c.args.at.x) (decimal c.args.at.y) fault_shape c.args.text.now)
