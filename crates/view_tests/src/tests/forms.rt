@@ -39,6 +39,15 @@ const COMMANDS: &[Row] = &[
         "ttplab campaign 1 nodes 5 slots 12 from 11 to 11\n",
     ),
     (
+        &["--help"],
+        "ttplab 1.0.0: pictures of traces, and campaigns of single faults, of clusters of TTP/C controllers\n",
+    ),
+    (
+        &["--version"],
+        "ttplab 1.0.0 (rattle-kit-13f logic dac8208d650f15bf)\n",
+    ),
+    (&["script", "list", "12", "7"], "slots 12\n"),
+    (
         &["chart", "campaign"],
         "<svg xmlns=\"http://www.w3.org/2000/svg\" width=\"1236\" height=\"654\" viewBox=\"0 0 1236 654\">\n",
     ),

@@ -1,0 +1,11 @@
+pub mod Words
+pub mod Numbers
+pub mod Lines
+pub mod Statements
+pub mod Events
+pub mod Heads
+pub mod Reading
+pub mod Nodes
+pub mod Counts
+pub mod Made
+pub mod Scripts
