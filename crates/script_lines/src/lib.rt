@@ -17,5 +17,6 @@
 
 mod event_line;
 mod put;
+mod worked_cases;
 
 pub use put::put_script;
