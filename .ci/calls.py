@@ -383,7 +383,7 @@ def shown_slots(counted, texts):
         for name, text in files.items():
             traces.written(place, name, text)
         status, text, _ = answer(["picture", "trace", "0", "0"], name="ttplab", cwd=place)
-        found = (status, ", shown: slots 0 to 0; more happens in slot 1</text>" in text, "H6</text>" in text)
+        found = (status, ">shown: slots 0 to 0 of 0 to 1; behind: ttplab picture TRACE 1 1; more happens in slot 1</text>" in text, "H6</text>" in text)
         counted.check("a picture of one slot", found, (0, True, False))
         rows = (
             (["chart", "campaign", "23", "30"], "campaign: no slot to show\n"), (["chart", "counted"], "campaign: line 19\n"),

@@ -23,8 +23,8 @@ WORDS = {
     "send": ("s", "#0072b2", "#ffffff", "sent its frame"),
     "correct": ("c", "#e3f2fb", "#6c8798", "accepted the frame"),
     "tentative": ("t", "#f0e442", "#000000", "its own frame may be lost"),
-    "incorrect": ("i", "#e69f00", "#000000", "a frame that does not fit"),
-    "invalid": ("v", "#cc79a7", "#000000", "a spoilt frame"),
+    "incorrect": ("i", "#e69f00", "#000000", "a frame of another C-state"),
+    "invalid": ("v", "#cc79a7", "#000000", "spoilt, or too early or late"),
     "null": ("n", "#ffffff", "#000000", "heard nothing"),
     "denied": ("D", "#b03a00", "#ffffff", "left: its frame was lost"),
     "unacknowledged": ("U", "#b03a00", "#ffffff", "left: no answer"),
@@ -32,21 +32,25 @@ WORDS = {
 }
 STYLES = """.null rect{stroke:#a0a0a0}.off rect{stroke:#c0c0c0;stroke-dasharray:2}
 .other rect{stroke:#d00000;stroke-width:2}.doubt rect{stroke:#000000;stroke-width:2;stroke-dasharray:3 2}
-.data text{text-decoration:underline}
-.agree rect,.none rect{fill:#ffffff}.none text{fill:#666666;font-size:9px}
+.data text{text-decoration:underline}.refused rect{fill:#d00000}.round{fill:#7a8a94}
+.agree rect,.none rect{fill:#ffffff}.none text{fill:#555555;font-size:7.5px}.apart rect{fill:#ffffff}.apart text{fill:#555555;font-size:10px}
 .differ rect{fill:#000000}.differ text{fill:#ffffff;font-weight:bold}
 .row{text-anchor:end}.slot{text-anchor:middle;font-size:10px;fill:#444444}.said{font-weight:bold}
 rect.why{fill:#ffffff}text.why{fill:#b03a00;font-weight:bold;font-size:11px}
-.write{fill:#007a5a}.read{fill:#000000}.status{fill:#8b3a8b}
+.write,.read,.status{stroke:#000000}.write{fill:#00c853}.read{fill:#ffd000}.status{fill:#e040fb}
 .flag{stroke:#000000}.keep{text-anchor:end;font-size:10px}.back{font-size:10px}
-.why,.flag{pointer-events:none}"""
+.why,.flag,.round{pointer-events:none}"""
 CLASSES = (
-    ("agree", "4", "how many members all nodes hold"),
-    ("differ", "!", "nodes hold different members"),
-    ("none", "7", "microticks between the clocks"),
+    ("agree", "4", "members: how many all nodes hold"),
+    ("differ", "!", "members: nodes hold different ones"),
+    ("round", None, "a round begins: node 0 is due"),
+    ("none", "7", "clocks: microticks between them"),
+    ("none", "12k", "12k: 12000 to 12999, 1M+: 1000000 up"),
+    ("apart", "3", "apart: its clock is far from most"),
     ("correct data", "c", "a message was sent or delivered"),
     ("correct other", "c", "holds other members than most"),
     ("correct doubt", "c", "in doubt about its own frame"),
+    ("send refused", "s", "few took the frame of this sender"),
     ("write", None, "its host writes a message"),
     ("read", None, "its host reads a node's message"),
     ("status", None, "its host reads its status"),
@@ -61,16 +65,17 @@ MEANINGS = {
     "H6": "a fault comes too soon after the start or another fault",
     "H7": "fewer than four correct nodes are left to measure clocks by",
     "returns": "each armed node is owed its place",
-    "Q1": "as H1",
+    "Q1": "a drift or a reading error is past the list's",
     "Q2": "the window is narrower than clocks need of which one came back",
     "Q3": "a bit is flipped, or a clock jumps a second time or by less than four windows",
-    "Q4": "as H4",
-    "Q5": "as H5",
-    "Q6": "as H6",
-    "Q7": "as H7",
+    "Q4": "no node would start, two would in the same slot, or one comes on after the start",
+    "Q5": "two or more nodes lost a frame, but not all",
+    "Q6": "a fault comes too soon after the start or another fault",
+    "Q7": "fewer than four correct nodes are left to measure clocks by",
     "Q8": "the node armed in this slot is not owed its place",
 }
-SHAPES = {"write": "h6l-3-5z", "read": "h6l-3 5z", "status": "h5v5h-5z"}
+# Where a mark begins in its cell, and its shape.
+MARKS = {"write": (0, 19, "v-10l10 10z"), "read": (19, 19, "h-10l10-10z"), "status": (19, 0, "v10l-10-10z")}
 NODE = re.compile(r"slot (\d+) node (\d+) (\w+) peer (\S+) msg (\S+) mem (\w+) acc (\d+) rej (\d+) ack (\S+) clock (\S+)$")
 WRITE = re.compile(r"slot (\d+) host (\d+) write (\d+)$")
 READ = re.compile(r"slot (\d+) host (\d+) read (\w+) (\d+) (\w+)$")
@@ -164,6 +169,22 @@ class Slot:
         self.clocks = [node.clock for node in nodes if node.active]
         self.spread = max(self.clocks) - min(self.clocks) if self.clocks else None
         self.strange = len(self.held) > 1 or any(node.word in STRANGE for node in nodes)
+        self.quiet = all(node.word in ("off", "wait") for node in nodes)
+        self.round = any(node.active and node.peer == "0" for node in nodes)
+        words = [node.word for node in nodes]
+        self.refused = sum(map(words.count, ("incorrect", "invalid", "null"))) > sum(map(words.count, ("join", "correct", "tentative")))
+
+    def apart(self):
+        """The node whose clock is far from most: the other end of the range of clocks is nearer to more of them."""
+        if not self.clocks:
+            return None
+        lowest, highest = min(self.clocks), max(self.clocks)
+        twice = [2 * clock - lowest - highest for clock in self.clocks]
+        lean = sum(x > 0 for x in twice) - sum(x < 0 for x in twice)
+        if lean == 0:
+            return None
+        end = highest if lean < 0 else lowest
+        return next(k for k, node in enumerate(self.nodes) if node.active and node.clock == end)
 
     def most(self):
         """The members that most holders hold."""
@@ -323,12 +344,17 @@ def wave(trace):
 # The picture.
 
 def cell(style, x, y, title, shown):
-    return (f'<g class="{style}"><title>{title}</title><rect x="{x}" y="{y}" width="17" height="17"/>'
-            f'<text x="{x + 8}" y="{y + 13}">{shown}</text></g>')
+    return (f'<g class="{style}"><title>{title}</title><rect x="{x}" y="{y}" width="19" height="19"/>'
+            f'<text x="{x + 9}" y="{y + 14}">{shown}</text></g>')
 
 
 def mark(kind, x, y, title):
-    return f'<path class="{kind}" d="M{x} {y}{SHAPES[kind]}"><title>{title}</title></path>'
+    right, down, shape = MARKS[kind]
+    return f'<path class="{kind}" d="M{x + right} {y + down}{shape}"><title>{title}</title></path>'
+
+
+def round_line(x, y, high):
+    return f'<path class="round" d="M{x} {y}h1v{high}h-1z"/>'
 
 
 def meaning(line):
@@ -353,34 +379,69 @@ def members_cell(t, slot, x, y):
 
 def clocks_cell(t, slot, x, y):
     apart = "-" if slot.spread is None else str(slot.spread)
-    return cell("none", x, y, f"slot {t} clocks apart {apart}", "*" if slot.spread is not None and slot.spread >= 1000 else apart)
+    shown = apart if len(apart) < 5 else f"{apart[:-3]}k" if len(apart) < 7 else "1M+"
+    return cell("none", x, y, f"slot {t} clocks apart {apart}", shown)
+
+
+def apart_cell(t, slot, x, y):
+    k = slot.apart()
+    who, shown = ("-", "-") if k is None else (f"node {k}", k)
+    return cell("apart", x, y, f"slot {t} clock apart from most {who}", shown)
+
+
+def quiet_slots(trace):
+    """How many slots are quiet before the first one that is not, or 0 without one."""
+    return next((t for t, slot in enumerate(trace.slots) if not slot.quiet), 0)
 
 
 def window(trace, columns):
-    if trace.t <= 4 * columns:
-        return 0, trace.t - 1
-    starts = [t for t, slot in enumerate(trace.slots) if any(node.word == "start" for node in slot.nodes)]
-    strange = [t for t, slot in enumerate(trace.slots) if slot.strange] or starts or [0]
-    first = min(max(strange[0] - 2 * trace.n, 0), trace.t - 4 * columns)
-    return first, first + 4 * columns - 1
+    quiet, many = quiet_slots(trace), 4 * columns
+    strange = next((t for t, slot in enumerate(trace.slots) if slot.strange), 0)
+    rounds = 0
+    if trace.t > quiet + many:
+        to_trouble = max(strange - quiet - 2 * trace.n, 0) // trace.n
+        to_end = -(-(trace.t - quiet - many) // trace.n)
+        rounds = min(to_trouble, to_end)
+    first = quiet + rounds * trace.n
+    return first, min(first + many, trace.t) - 1
+
+
+def shown_text(trace, first, last):
+    yield f"shown: slots {first} to {last} of 0 to {trace.t - 1}"
+    if first and first <= quiet_slots(trace):
+        yield "before: all nodes off or listening"
+    elif first:
+        yield f"before: ttplab picture TRACE 0 {first - 1}"
+    if last < trace.t - 1:
+        yield f"behind: ttplab picture TRACE {last + 1} {trace.t - 1}"
+    for t in range(last + 1, trace.t):
+        if trace.slots[t].strange:
+            yield f"more happens in slot {t}"
+            break
+
+
+def entry(style, shown, x, y, what):
+    if style == "round":
+        return round_line(x + 9, y, 19)
+    return mark(style, x, y, what) if shown is None else cell(style, x, y, what, shown)
 
 
 def picture(trace, asked=None):
     n = trace.n
     columns = n * (48 // n)
     first, last = window(trace, columns) if asked is None else (asked[0], min(asked[1], trace.t - 1))
-    band = 18 * n + 80
+    band = 20 * n + 104
     bands = (last - first) // columns + 1
-    below = 74 + band * bands
-    height = below + 196
+    below = 92 + band * bands
+    height = below + 234
 
     def x_of(t):
-        return 72 + 18 * ((t - first) % columns)
+        return 72 + 20 * ((t - first) % columns)
 
     def y_of(t, r):
-        return 102 + band * ((t - first) // columns) + 18 * r
+        return 120 + band * ((t - first) // columns) + 20 * r
 
-    yield f'<svg xmlns="http://www.w3.org/2000/svg" width="1036" height="{height}" viewBox="0 0 1036 {height}">'
+    yield f'<svg xmlns="http://www.w3.org/2000/svg" width="1140" height="{height}" viewBox="0 0 1140 {height}">'
     yield f"<title>{trace.first}</title>"
     yield "<style>"
     yield "text{font:12px DejaVu Sans Mono,Consolas,monospace}g text{text-anchor:middle;font-size:11px}"
@@ -388,53 +449,55 @@ def picture(trace, asked=None):
         yield f".{word} rect{{fill:{fill}}}.{word} text{{fill:{colour}}}"
     yield STYLES
     yield "</style>"
-    yield f'<rect width="1036" height="{height}" fill="#ffffff"/>'
-    later = [t for t in range(last + 1, trace.t) if trace.slots[t].strange][:1]
-    more = "".join(f"; more happens in slot {t}" for t in later)
-    yield f'<text x="12" y="20">{trace.first}, shown: slots {first} to {last}{more}</text>'
+    yield f'<rect width="1140" height="{height}" fill="#ffffff"/>'
+    yield f'<text x="12" y="20">{trace.first}</text>'
+    yield f'<text x="12" y="40">{"; ".join(shown_text(trace, first, last))}</text>'
     tests = [line for line in (trace.keeps, trace.returns) if line]
-    for line, y in zip(tests, (40, 58)):
+    for line, y in zip(tests, (60, 78)):
         yield f'<text class="said" x="12" y="{y}">{line}: {meaning(line)}</text>'
     for t in range(first, last + 1, columns):
-        rows = [(f"node {k}", y_of(t, k) + 13) for k in range(n)]
-        for name, y in rows + [("members", y_of(t, n) + 17), ("clocks", y_of(t, n + 1) + 17)]:
+        rows = [(f"node {k}", y_of(t, k) + 14) for k in range(n)]
+        rows += [(name, y_of(t, n + i) + 18) for i, name in enumerate(("members", "clocks", "apart"))]
+        for name, y in rows:
             yield f'<text class="row" x="64" y="{y}">{name}</text>'
     for t in range(first, last + 1):
         slot, x = trace.slots[t], x_of(t)
         if t % 5 == 0:
-            yield f'<text class="slot" x="{x + 8}" y="{y_of(t, 0) - 5}">{t}</text>'
+            yield f'<text class="slot" x="{x + 9}" y="{y_of(t, 0) - 5}">{t}</text>'
+        if slot.round:
+            yield round_line(x - 1, y_of(t, 0) - 3, 20 * n + 6)
         for k, node in enumerate(slot.nodes):
             style = node.word + (" doubt" if node.ack.startswith("doubt:") else "")
             style += " other" if node.holder and node.mem != slot.most() else ""
             style += " data" if node.msg != "-" else ""
+            style += " refused" if node.sends and slot.refused else ""
             yield cell(style, x, y_of(t, k), node.line, WORDS[node.word][0])
         yield members_cell(t, slot, x, y_of(t, n) + 4)
         yield clocks_cell(t, slot, x, y_of(t, n + 1) + 4)
+        yield apart_cell(t, slot, x, y_of(t, n + 2) + 4)
     for t in range(first, last + 1):
         slot, x = trace.slots[t], x_of(t)
         for k, node in enumerate(slot.nodes):
             if node.left:
-                yield f'<rect class="why" x="{x + 18}" y="{y_of(t, k)}" width="{7 * len(node.word) + 6}" height="17"/>'
-                yield f'<text class="why" x="{x + 21}" y="{y_of(t, k) + 13}">{node.word}</text>'
+                yield f'<rect class="why" x="{x + 20}" y="{y_of(t, k)}" width="{7 * len(node.word) + 6}" height="19"/>'
+                yield f'<text class="why" x="{x + 23}" y="{y_of(t, k) + 14}">{node.word}</text>'
         for host in slot.hosts:
-            y = y_of(t, host.host)
-            place = {"write": (x, y + 17), "read": (x + 11, y + 12), "status": (x + 12, y)}[host.kind]
-            yield mark(host.kind, *place, host.line)
+            yield mark(host.kind, x, y_of(t, host.host), host.line)
     for line, style, aside in zip(tests, ("keep", "back"), (-4, 3)):
         words = line.split()
         t = int(words[3])
         if first <= t <= last:
-            yield f'<path class="flag" d="M{x_of(t) - 1} {y_of(t, 0) - 26}v{18 * n + 26}"/>'
+            yield f'<path class="flag" d="M{x_of(t) - 1} {y_of(t, 0) - 26}v{20 * n + 26}"/>'
             name = "start" if words[1] == "yes" else words[2]
             yield f'<text class="{style}" x="{x_of(t) + aside}" y="{y_of(t, 0) - 17}">{name}</text>'
     for i, (word, (letter, _, _, what)) in enumerate(WORDS.items()):
-        x, y = 72 + 316 * (i % 3), below + 22 * (i // 3)
+        x, y = 72 + 345 * (i % 3), below + 22 * (i // 3)
         yield cell(word, x, y, word, letter)
-        yield f'<text x="{x + 23}" y="{y + 13}">{word}: {what}</text>'
+        yield f'<text x="{x + 25}" y="{y + 14}">{word}: {what}</text>'
     for i, (style, shown, what) in enumerate(CLASSES):
-        x, y = 72 + 316 * (i % 3), below + 118 + 22 * (i // 3)
-        yield cell(style, x, y, what, shown) if shown else mark(style, x + 6, y + (11 if style == "write" else 6), what)
-        yield f'<text x="{x + 23}" y="{y + 13}">{what}</text>'
+        x, y = 72 + 345 * (i % 3), below + 118 + 22 * (i // 3)
+        yield entry(style, shown, x, y, what)
+        yield f'<text x="{x + 25}" y="{y + 14}">{what}</text>'
     yield "</svg>"
 
 
@@ -510,7 +573,7 @@ def wave_faults(trace, text):
 def picture_faults(trace, text):
     root = xml.fromstring(text)
     titles = [title.text for title in root.iter("{http://www.w3.org/2000/svg}title")]
-    shown = re.search(r", shown: slots (\d+) to (\d+)", text)
+    shown = re.search(r">shown: slots (\d+) to (\d+) of ", text)
     first, last = int(shown[1]), int(shown[2])
     for slot in trace.slots[first:last + 1]:
         for line in slot.nodes + slot.hosts:
@@ -518,7 +581,7 @@ def picture_faults(trace, text):
             wanted = sum(other.line == line.line for other in slot.hosts) or 1
             if found != wanted:
                 yield f"{line.line!r} is the title of {found} elements"
-    if sum(title.startswith("slot ") and (" node " in title or " host " in title) for title in titles) \
+    if sum(re.match(r"slot \d+ (?:node|host) ", title) is not None for title in titles) \
             != sum(len(slot.nodes + slot.hosts) for slot in trace.slots[first:last + 1]):
         yield "other lines are titles too"
 

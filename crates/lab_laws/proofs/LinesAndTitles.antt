@@ -10,15 +10,17 @@ use Rattle.ttp_world.proofs.LineLists.{each-append}
 use Rattle.ttp_world.proofs.TraceLines.{IsLine}
 use Rattle.whole_trace.specs.declared.shown.Head.{Head}
 use Rattle.whole_trace.specs.Whole.{SlotLines, WholeTrace, whole_in}
-use Rattle.shown_slot.specs.Nodes.{clock_range}
+use Rattle.shown_slot.specs.Nodes.{clock_range, node_apart}
 use Rattle.shown_slot.specs.Trace.{node_at, first_text, node_text, host_text}
 use Rattle.picture_text.specs.declared.window.Span.{Span}
 use Rattle.picture_text.specs.Cells.{shown_memberships}
 use Rattle.picture_text.specs.Picture.{slot_at, shown_slots, is_shown, picture_lines}
 use Rattle.picture_text.specs.Window.{span_shown}
 use Rattle.lab_laws.specs.Titles.{begins_with, titles, is_of_slot, node_start, texts_of_lines, shown_of, picture_titles}
-use Rattle.lab_laws.specs.Titles.{is_markup, texts_of_nodes, texts_of_hosts, members_said, clocks_said, cell_titles, legend_titles}
+use Rattle.lab_laws.specs.Titles.{is_markup, texts_of_nodes, texts_of_hosts, members_said, clocks_said, far_said, cell_titles}
+use Rattle.lab_laws.specs.Titles.{legend_titles}
 use Rattle.picture_text.proofs.PlainTexts.{is_special, Plain, plain-head, plain-node, plain-host, plain-members, plain-no_members, plain-clocks}
+use Rattle.picture_text.proofs.PlainTexts.{plain-far}
 use Rattle.lab_laws.proofs.TitlesIn.{HasOne}
 use Rattle.lab_laws.proofs.PictureTitles.{picture_of-titles}
 use Rattle.lab_laws.proofs.SlotTitles.{titles-of_slot, title-of_node, no-title-past, last-shown}
@@ -66,10 +68,13 @@ plain-cells trace t =
     let head = trace.head in
     let slot = slot_at trace t in
     let held = shown_memberships slot.nodes in
-    each-append Unmarked (texts_of_nodes trace t) (members_said head t slot held ∷ clocks_said t slot ∷ [])
+    each-append Unmarked (texts_of_nodes trace t) (members_said head t slot held ∷ clocks_said t slot ∷ far_said t slot ∷ [])
     (plain-map (λ k. node_text head t k (node_at slot k)) (below head.nodes) (λ k. plain-node head t k (node_at slot k))) (
       unmarked (members_said head t slot held) (plain-said head t slot held),
-      (unmarked (clocks_said t slot) (plain-clocks t (clock_range slot.nodes)), tt),
+      (
+        unmarked (clocks_said t slot) (plain-clocks t (clock_range slot.nodes)),
+        (unmarked (far_said t slot) (plain-far t (node_apart slot.nodes)), tt),
+      ),
     )
 
 plain-all : (texts : Lines) → list_all (λ text. not (list_any is_markup text)) texts ≡ true → AllByRecursion Unmarked texts

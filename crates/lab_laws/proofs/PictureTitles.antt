@@ -1,9 +1,8 @@
 -- The titles of a picture are the first line of its trace, those of the cells and marks of each slot, and the legend's.
 use Rattle.std.proofs.Common.{◌≡◌, ℕ, ◌+◌, ◌-◌, ◌*◌, List, [], ◌∷◌, ◌++◌, map, length, refl, ◌∙◌, Option, Some, None, codes, decimal}
-use Rattle.std.proofs.Common.{true, arith}
-use Rattle.std.specs.Prelude.{◌==◌, ◌%◌, nat_le}
-use Rattle.std.specs.List.{AllByRecursion, list_all, flat_map}
-use Rattle.std.proofs.lemmas.Bool.{and_parts, leb-true}
+use Rattle.std.proofs.Common.{Bool}
+use Rattle.std.specs.Prelude.{◌==◌, ◌%◌}
+use Rattle.std.specs.List.{flat_map}
 use Rattle.std.proofs.lemmas.List.{append_assoc, append-nil}
 use Rattle.ttp_base.specs.NodeSet.{below}
 use Rattle.ttp_base.specs.Text.{Lines}
@@ -17,27 +16,29 @@ use Rattle.whole_trace.specs.declared.shown.HostLine.TheVariants as by_host
 use Rattle.whole_trace.specs.declared.shown.Head.{Head}
 use Rattle.whole_trace.specs.declared.shown.NodeShown.{NodeShown}
 use Rattle.whole_trace.specs.Whole.{SlotLines, WholeTrace}
-use Rattle.shown_slot.specs.Nodes.{is_leaving_word, clock_range}
+use Rattle.shown_slot.specs.Nodes.{is_leaving_word, is_refused, starts_round, clock_range, node_apart}
 use Rattle.shown_slot.specs.Trace.{node_at, first_text, node_text, host_text}
 use Rattle.picture_text.specs.declared.window.Span.{Span}
 use Rattle.picture_text.specs.Cells.{attribute, title_element, cell, mark, write_shape, read_shape, status_shape}
 use Rattle.picture_text.specs.Cells.{shown_memberships, held_by_most, node_class, node_cell, members_title, count_of}
 use Rattle.picture_text.specs.Cells.{members_cell_of, members_cell, apart_text, apart_shown, clocks_cell, host_of, host_mark}
+use Rattle.picture_text.specs.Cells.{far_text, far_shown, far_cell}
 use Rattle.picture_text.specs.Picture.{ended, class_of, text_line, size, svg_line, style_lines, said_line, back_said}
-use Rattle.picture_text.specs.Picture.{picture_head_lines, row_line, band_lines, number_lines, slot_at, cell_lines}
+use Rattle.picture_text.specs.Picture.{window_text, picture_head_lines, row_line, band_lines, number_lines, slot_at, cell_lines}
+use Rattle.picture_text.specs.Picture.{round_line, round_start_lines, round_entry}
 use Rattle.picture_text.specs.Picture.{why_lines, why_box, why_word, beside_lines, is_shown, flag_pole, flag_lines}
 use Rattle.picture_text.specs.Picture.{keep_flag, back_flag, legend_x, legend_y, legend_text, word_entries, cell_entry}
-use Rattle.picture_text.specs.Picture.{mark_entry, class_entries, shown_slots, picture_of}
+use Rattle.picture_text.specs.Picture.{mark_entry, class_entries, mark_entries, shown_slots, picture_of}
 use Rattle.picture_text.specs.Tables.{words, letter, word_meaning, keep_meaning, back_meaning, keep_slot, keep_name}
 use Rattle.picture_text.specs.Tables.{back_slot, back_name}
-use Rattle.picture_text.specs.Window.{columns, bands, legend_top, height, column_x, row_y}
-use Rattle.lab_laws.specs.Titles.{titles_in, texts_of_hosts, members_said, clocks_said, cell_titles}
-use Rattle.lab_laws.specs.Titles.{class_titles, legend_titles}
-use Rattle.picture_text.proofs.PlainTexts.{Plain, parts, shown_text, plain-shown, plain-decimal, plain-word, plain-letter, plain-meaning}
+use Rattle.picture_text.specs.Window.{columns, bands, legend_top, height, column_x, row_y, is_quiet_before, strange_past}
+use Rattle.lab_laws.specs.Titles.{texts_of_hosts, members_said, clocks_said, far_said, cell_titles}
+use Rattle.lab_laws.specs.Titles.{class_titles, mark_titles, legend_titles}
+use Rattle.picture_text.proofs.PlainTexts.{Plain, parts, plain-shown, plain-decimal, plain-word, plain-letter, plain-meaning}
 use Rattle.picture_text.proofs.PlainTexts.{plain-head, plain-keep, plain-back, plain-node, plain-host}
 use Rattle.picture_text.proofs.PlainTexts.{plain-keep_meaning, plain-back_meaning, plain-class, plain-members}
 use Rattle.picture_text.proofs.PlainTexts.{plain-no_members, plain-count, plain-clocks, plain-apart_shown, plain-keep_name}
-use Rattle.picture_text.proofs.PlainTexts.{plain-back_name}
+use Rattle.picture_text.proofs.PlainTexts.{plain-back_name, plain-far, plain-far_shown}
 use Rattle.lab_laws.proofs.TitlesIn.{◌▸◌, tag, plain, title, IsLineWith, line_of, place-adds, text-titles, classed-titles}
 use Rattle.lab_laws.proofs.TitlesIn.{cell-titles, mark-titles, Have, ◌▹◌, untitled, titled, no-lines, bare-lines, bare, map-none}
 use Rattle.lab_laws.proofs.TitlesIn.{map-each, flat-none, flat-each, if-none}
@@ -52,7 +53,7 @@ svg-titles h =
     let all =
     tag (codes "<svg") (λ rest. refl) refl
     ▸ tag (attribute (codes "xmlns") (codes "http://www.w3.org/2000/svg")) (λ rest. refl) refl ▸ plain (size h) (size-plain h)
-    ▸ plain (attribute (codes "viewBox") (codes "0 0 1036 " ++ decimal h)) (simp parts) ▸ tag (codes ">") (λ rest. refl) refl in
+    ▸ plain (attribute (codes "viewBox") (codes "0 0 1140 " ++ decimal h)) (simp parts) ▸ tag (codes ">") (λ rest. refl) refl in
     line_of all
 
 abbrev ground : ℕ → List ℕ
@@ -72,8 +73,8 @@ said-titles y said meaning s m =
 back_said-titles : (b : Option Back) → Have (back_said b) []
 back_said-titles None = no-lines
 back_said-titles (Some b) =
-    untitled (said_line 58 (back_text b) (back_meaning b)) [] []
-    (said-titles 58 (back_text b) (back_meaning b) (plain-back b) (plain-back_meaning b)) no-lines
+    untitled (said_line 78 (back_text b) (back_meaning b)) [] []
+    (said-titles 78 (back_text b) (back_meaning b) (plain-back b) (plain-back_meaning b)) no-lines
 
 styles-titles : Have style_lines []
 styles-titles = bare style_lines (bare-lines style_lines refl refl)
@@ -82,18 +83,23 @@ head-titles : (trace : WholeTrace) (span : Span) → Have (picture_head_lines tr
 head-titles trace span =
     let h = height trace.head.nodes span in
     let first = first_text trace in
-    let said = said_line 40 (keep_text trace.keep) (keep_meaning trace.keep) in
+    let quiet = is_quiet_before span.first trace.slots in
+    let strange = strange_past span.last trace.slots in
+    let shown = window_text span trace.head.slots quiet strange in
+    let said = said_line 60 (keep_text trace.keep) (keep_meaning trace.keep) in
     let back = back_said trace.back in
     let name = title first (plain-head trace.head) in
     let all =
     untitled (svg_line h) (ended (title_element first) ∷ style_lines) (first ∷ []) (svg-titles h)
     (titled (ended (title_element first)) style_lines first [] (line_of name) styles-titles)
-    ▹ untitled (ground h) (text_line [] 12 20 (shown_text trace span) ∷ said ∷ back) [] (ground-titles h)
-    (untitled (text_line [] 12 20 (shown_text trace span)) (said ∷ back) []
-    (text-titles [] 12 20 (shown_text trace span) refl (plain-shown trace span))
+    ▹ untitled (ground h) (text_line [] 12 20 first ∷ text_line [] 12 40 shown ∷ said ∷ back) [] (ground-titles h)
+    (untitled (text_line [] 12 20 first) (text_line [] 12 40 shown ∷ said ∷ back) []
+    (text-titles [] 12 20 first refl (plain-head trace.head))
+    (untitled (text_line [] 12 40 shown) (said ∷ back) []
+    (text-titles [] 12 40 shown refl (plain-shown span trace.head.slots quiet strange))
     (untitled said back []
-    (said-titles 40 (keep_text trace.keep) (keep_meaning trace.keep) (plain-keep trace.keep) (plain-keep_meaning trace.keep))
-    (back_said-titles trace.back))) in
+    (said-titles 60 (keep_text trace.keep) (keep_meaning trace.keep) (plain-keep trace.keep) (plain-keep_meaning trace.keep))
+    (back_said-titles trace.back)))) in
     record { are = all.are; once = all.once; each = all.each }
 
 -- Bands.
@@ -104,30 +110,47 @@ row-titles y name is = classed-titles (codes "row") 64 y name refl is
 band-titles : (n : ℕ) (span : Span) (band : ℕ) → Have (band_lines n span band) []
 band-titles n span band =
     let t = span.first + columns n * band in
-    let row : ℕ → List ℕ = λ k. row_line (row_y n span t k + 13) (codes "node " ++ decimal k) in
-    let members = row_line (row_y n span t n + 17) (codes "members") in
-    let clocks = row_line (row_y n span t (n + 1) + 17) (codes "clocks") in
+    let row : ℕ → List ℕ = λ k. row_line (row_y n span t k + 14) (codes "node " ++ decimal k) in
+    let members = row_line (row_y n span t n + 18) (codes "members") in
+    let clocks = row_line (row_y n span t (n + 1) + 18) (codes "clocks") in
+    let apart = row_line (row_y n span t (n + 2) + 18) (codes "apart") in
     let all =
-    map-none row (below n) (λ k. row-titles (row_y n span t k + 13) (codes "node " ++ decimal k) (simp parts))
-    ▹ untitled members (clocks ∷ []) [] (row-titles (row_y n span t n + 17) (codes "members") refl)
-    (untitled clocks [] [] (row-titles (row_y n span t (n + 1) + 17) (codes "clocks") refl) no-lines) in
+    map-none row (below n) (λ k. row-titles (row_y n span t k + 14) (codes "node " ++ decimal k) (simp parts))
+    ▹ untitled members (clocks ∷ apart ∷ []) [] (row-titles (row_y n span t n + 18) (codes "members") refl)
+    (untitled clocks (apart ∷ []) [] (row-titles (row_y n span t (n + 1) + 18) (codes "clocks") refl)
+    (untitled apart [] [] (row-titles (row_y n span t (n + 2) + 18) (codes "apart") refl) no-lines)) in
     record { are = all.are; once = all.once; each = all.each }
 
 -- Cells.
 
 number-titles : (n : ℕ) (span : Span) (t : ℕ) → Have (number_lines n span t) []
 number-titles n span t =
-    let x = column_x n span t + 8 in
+    let x = column_x n span t + 9 in
     let y = row_y n span t 0 - 5 in
     if-none (t % 5 == 0) (text_line (class_of (codes "slot")) x y (decimal t) ∷ [])
     (untitled (text_line (class_of (codes "slot")) x y (decimal t)) [] []
     (classed-titles (codes "slot") x y (decimal t) refl (plain-decimal t)) no-lines)
 
-node-titles : (head : Head) (t k : ℕ) (node : NodeShown) (most : Option ℕ) (x y : ℕ)
-    → IsLineWith (node_cell head t k node most x y) (node_text head t k node ∷ [])
-node-titles head t k node most x y =
-    cell-titles (node_class node most) x y (node_text head t k node) (letter node.word) (plain-class node most)
-    (plain-node head t k node) (plain-letter node.word)
+line-titles : (x y high : ℕ) → IsLineWith (round_line x y high) []
+line-titles x y high =
+    let shape = codes "M" ++ decimal x ++ codes " " ++ decimal y ++ codes "h1v" ++ decimal high ++ codes "h-1z" in
+    let all =
+    tag (codes "<path") (λ rest. refl) refl ▸ tag (class_of (codes "round")) (λ rest. refl) refl
+    ▸ plain (attribute (codes "d") shape) (simp parts) ▸ tag (codes "/>") (λ rest. refl) refl in
+    line_of all
+
+round-titles : (n : ℕ) (span : Span) (t : ℕ) (slot : SlotLines) → Have (round_start_lines n span t slot) []
+round-titles n span t slot =
+    let x = column_x n span t - 1 in
+    let y = row_y n span t 0 - 3 in
+    if-none (starts_round slot.nodes) (round_line x y (20 * n + 6) ∷ [])
+    (untitled (round_line x y (20 * n + 6)) [] [] (line-titles x y (20 * n + 6)) no-lines)
+
+node-titles : (head : Head) (t k : ℕ) (node : NodeShown) (most : Option ℕ) (refused : Bool) (x y : ℕ)
+    → IsLineWith (node_cell head t k node most refused x y) (node_text head t k node ∷ [])
+node-titles head t k node most refused x y =
+    cell-titles (node_class node most refused) x y (node_text head t k node) (letter node.word)
+    (plain-class node most refused) (plain-node head t k node) (plain-letter node.word)
 
 members-titles : (head : Head) (slot : SlotLines) (held : List ℕ) (t x y : ℕ)
     → IsLineWith (members_cell_of held slot.nodes t x y (members_title head t slot)) (members_said head t slot held ∷ [])
@@ -145,6 +168,12 @@ clocks-titles t slot x y =
     cell-titles (codes "none") x y (codes "slot " ++ decimal t ++ codes " clocks apart " ++ apart_text range)
     (apart_shown range) refl (plain-clocks t range) (plain-apart_shown range)
 
+far-titles : (t : ℕ) (slot : SlotLines) (x y : ℕ) → IsLineWith (far_cell t slot x y) (far_said t slot ∷ [])
+far-titles t slot x y =
+    let far = node_apart slot.nodes in
+    cell-titles (codes "apart") x y (codes "slot " ++ decimal t ++ codes " clock apart from most " ++ far_text far)
+    (far_shown far) refl (plain-far t far) (plain-far_shown far)
+
 slot-titles : (trace : WholeTrace) (span : Span) (t : ℕ)
     → Have (cell_lines trace.head span t (slot_at trace t)) (cell_titles trace t)
 slot-titles trace span t =
@@ -153,18 +182,22 @@ slot-titles trace span t =
     let n = head.nodes in
     let x = column_x n span t in
     let most = held_by_most slot in
+    let refused = is_refused slot.nodes in
     let name : ℕ → List ℕ = λ k. node_text head t k (node_at slot k) in
-    let node : ℕ → List ℕ = λ k. node_cell head t k (node_at slot k) most x (row_y n span t k) in
+    let node : ℕ → List ℕ = λ k. node_cell head t k (node_at slot k) most refused x (row_y n span t k) in
     let members = members_cell head t slot x (row_y n span t n + 4) in
     let clocks = clocks_cell t slot x (row_y n span t (n + 1) + 4) in
+    let far = far_cell t slot x (row_y n span t (n + 2) + 4) in
     let said = members_said head t slot (shown_memberships slot.nodes) in
     let apart = clocks_said t slot in
+    let most_far = far_said t slot in
     let all =
-    number-titles n span t
-    ▹ map-each node name (below n) (λ k. node-titles head t k (node_at slot k) most x (row_y n span t k))
-    ▹ titled members (clocks ∷ []) said (apart ∷ [])
+    number-titles n span t ▹ round-titles n span t slot
+    ▹ map-each node name (below n) (λ k. node-titles head t k (node_at slot k) most refused x (row_y n span t k))
+    ▹ titled members (clocks ∷ far ∷ []) said (apart ∷ most_far ∷ [])
     (members-titles head slot (shown_memberships slot.nodes) t x (row_y n span t n + 4))
-    (titled clocks [] apart [] (clocks-titles t slot x (row_y n span t (n + 1) + 4)) no-lines) in
+    (titled clocks (far ∷ []) apart (most_far ∷ []) (clocks-titles t slot x (row_y n span t (n + 1) + 4))
+    (titled far [] most_far [] (far-titles t slot x (row_y n span t (n + 2) + 4)) no-lines)) in
     record { are = all.are; once = all.once; each = all.each }
 
 -- What stands beside the cells.
@@ -174,7 +207,7 @@ why_box-titles w x y =
     let all =
     tag (codes "<rect") (λ rest. refl) refl ▸ tag (class_of (codes "why")) (λ rest. refl) refl ▸ place-adds x y
     ▸ plain (attribute (codes "width") (decimal (7 * length (word_text w) + 6))) (simp parts)
-    ▸ tag (codes " height=\"17\"/>") (λ rest. refl) refl in
+    ▸ tag (codes " height=\"19\"/>") (λ rest. refl) refl in
     line_of all
 
 why-titles : (n : ℕ) (span : Span) (t : ℕ) (slot : SlotLines) (k : ℕ) → Have (why_lines n span t slot k) []
@@ -182,22 +215,22 @@ why-titles n span t slot k =
     let w = (node_at slot k).word in
     let x = column_x n span t in
     let y = row_y n span t k in
-    let box = why_box w (x + 18) y in
-    let word = why_word w (x + 21) (y + 13) in
+    let box = why_box w (x + 20) y in
+    let word = why_word w (x + 23) (y + 14) in
     if-none (is_leaving_word w) (box ∷ word ∷ [])
-    (untitled box (word ∷ []) [] (why_box-titles w (x + 18) y)
-    (untitled word [] [] (classed-titles (codes "why") (x + 21) (y + 13) (word_text w) refl (plain-word w)) no-lines))
+    (untitled box (word ∷ []) [] (why_box-titles w (x + 20) y)
+    (untitled word [] [] (classed-titles (codes "why") (x + 23) (y + 14) (word_text w) refl (plain-word w)) no-lines))
 
 host-titles : (t : ℕ) (by : HostLine) (x y : ℕ) → IsLineWith (host_mark t by x y) (host_text t by ∷ [])
 host-titles t (by_host.Write host number) x y =
     let by = by_host.Write host number in
-    mark-titles (codes "write") write_shape x (y + 17) (host_text t by) refl refl (plain-host t by)
+    mark-titles (codes "write") write_shape x (y + 19) (host_text t by) refl refl (plain-host t by)
 host-titles t (by_host.Read host source.Status number payload) x y =
     let by = by_host.Read host source.Status number payload in
-    mark-titles (codes "status") status_shape (x + 12) y (host_text t by) refl refl (plain-host t by)
+    mark-titles (codes "status") status_shape (x + 19) y (host_text t by) refl refl (plain-host t by)
 host-titles t (by_host.Read host (source.Node p) number payload) x y =
     let by = by_host.Read host (source.Node p) number payload in
-    mark-titles (codes "read") read_shape (x + 11) (y + 12) (host_text t by) refl refl (plain-host t by)
+    mark-titles (codes "read") read_shape (x + 19) (y + 19) (host_text t by) refl refl (plain-host t by)
 
 beside-titles : (trace : WholeTrace) (span : Span) (t : ℕ)
     → Have (beside_lines trace.head.nodes span t (slot_at trace t)) (texts_of_hosts trace t)
@@ -216,7 +249,7 @@ beside-titles trace span t =
 pole-titles : (n : ℕ) (span : Span) (t : ℕ) → IsLineWith (flag_pole n span t) []
 pole-titles n span t =
     let shape = codes "M" ++ decimal (column_x n span t - 1) ++ codes " " ++ decimal (row_y n span t 0 - 26) ++ codes "v"
-    ++ decimal (18 * n + 26) in
+    ++ decimal (20 * n + 26) in
     let all =
     tag (codes "<path") (λ rest. refl) refl ▸ tag (class_of (codes "flag")) (λ rest. refl) refl
     ▸ plain (attribute (codes "d") shape) (simp parts) ▸ tag (codes "/>") (λ rest. refl) refl in
@@ -243,7 +276,7 @@ back-titles n span (Some b) =
 -- The legend.
 
 legend-titles : (x y : ℕ) (meaning : List ℕ) → Plain meaning → IsLineWith (legend_text x y meaning) []
-legend-titles x y meaning is = text-titles [] (x + 23) (y + 13) meaning refl is
+legend-titles x y meaning is = text-titles [] (x + 25) (y + 14) meaning refl is
 
 -- an entry: a line with a title, and a text
 entry : (first : List ℕ) (x y : ℕ) (name meaning : List ℕ) → IsLineWith first (name ∷ []) → Plain meaning
@@ -271,25 +304,42 @@ cell_entry-titles top i class shown meaning c s m =
     let y = legend_y top i in
     entry (cell class x y meaning shown) x y meaning meaning (cell-titles class x y meaning shown c m s) m
 
-mark_entry-titles : (top i : ℕ) (class shape : List ℕ) (down : ℕ) (meaning : List ℕ) → Plain class → Plain shape → Plain meaning
-    → Have (mark_entry top i class shape down meaning) (meaning ∷ [])
-mark_entry-titles top i class shape down meaning c s m =
+round_entry-titles : (top i : ℕ) (meaning : List ℕ) → Plain meaning → Have (round_entry top i meaning) []
+round_entry-titles top i meaning m =
     let x = legend_x i in
     let y = legend_y top i in
-    entry (mark class shape (x + 6) (y + down) meaning) x y meaning meaning (mark-titles class shape (x + 6) (y + down) meaning c s m) m
+    untitled (round_line (x + 9) y 19) (legend_text x y meaning ∷ []) [] (line-titles (x + 9) y 19)
+    (untitled (legend_text x y meaning) [] [] (legend-titles x y meaning m) no-lines)
+
+mark_entry-titles : (top i : ℕ) (class shape : List ℕ) (right down : ℕ) (meaning : List ℕ) → Plain class → Plain shape
+    → Plain meaning → Have (mark_entry top i class shape right down meaning) (meaning ∷ [])
+mark_entry-titles top i class shape right down meaning c s m =
+    let x = legend_x i in
+    let y = legend_y top i in
+    entry (mark class shape (x + right) (y + down) meaning) x y meaning meaning
+    (mark-titles class shape (x + right) (y + down) meaning c s m) m
 
 classes-titles : (top : ℕ) → Have (class_entries top) class_titles
 classes-titles top =
     let all =
-    cell_entry-titles top 0 (codes "agree") (codes "4") (codes "how many members all nodes hold") refl refl refl
-    ▹ cell_entry-titles top 1 (codes "differ") (codes "!") (codes "nodes hold different members") refl refl refl
-    ▹ cell_entry-titles top 2 (codes "none") (codes "7") (codes "microticks between the clocks") refl refl refl
-    ▹ cell_entry-titles top 3 (codes "correct data") (codes "c") (codes "a message was sent or delivered") refl refl refl
-    ▹ cell_entry-titles top 4 (codes "correct other") (codes "c") (codes "holds other members than most") refl refl refl
-    ▹ cell_entry-titles top 5 (codes "correct doubt") (codes "c") (codes "in doubt about its own frame") refl refl refl
-    ▹ mark_entry-titles top 6 (codes "write") write_shape 11 (codes "its host writes a message") refl refl refl
-    ▹ mark_entry-titles top 7 (codes "read") read_shape 6 (codes "its host reads a node's message") refl refl refl
-    ▹ mark_entry-titles top 8 (codes "status") status_shape 6 (codes "its host reads its status") refl refl refl in
+    cell_entry-titles top 0 (codes "agree") (codes "4") (codes "members: how many all nodes hold") refl refl refl
+    ▹ cell_entry-titles top 1 (codes "differ") (codes "!") (codes "members: nodes hold different ones") refl refl refl
+    ▹ round_entry-titles top 2 (codes "a round begins: node 0 is due") refl
+    ▹ cell_entry-titles top 3 (codes "none") (codes "7") (codes "clocks: microticks between them") refl refl refl
+    ▹ cell_entry-titles top 4 (codes "none") (codes "12k") (codes "12k: 12000 to 12999, 1M+: 1000000 up") refl refl refl
+    ▹ cell_entry-titles top 5 (codes "apart") (codes "3") (codes "apart: its clock is far from most") refl refl refl
+    ▹ cell_entry-titles top 6 (codes "correct data") (codes "c") (codes "a message was sent or delivered") refl refl refl
+    ▹ cell_entry-titles top 7 (codes "correct other") (codes "c") (codes "holds other members than most") refl refl refl
+    ▹ cell_entry-titles top 8 (codes "correct doubt") (codes "c") (codes "in doubt about its own frame") refl refl refl
+    ▹ cell_entry-titles top 9 (codes "send refused") (codes "s") (codes "few took the frame of this sender") refl refl refl in
+    record { are = all.are; once = all.once; each = all.each }
+
+marks-titles : (top : ℕ) → Have (mark_entries top) mark_titles
+marks-titles top =
+    let all =
+    mark_entry-titles top 10 (codes "write") write_shape 0 19 (codes "its host writes a message") refl refl refl
+    ▹ mark_entry-titles top 11 (codes "read") read_shape 19 19 (codes "its host reads a node's message") refl refl refl
+    ▹ mark_entry-titles top 12 (codes "status") status_shape 19 0 (codes "its host reads its status") refl refl refl in
     record { are = all.are; once = all.once; each = all.each }
 
 -- The whole.
@@ -311,11 +361,12 @@ picture_of-titles trace span =
     ▹ flat-each cells (cell_titles trace) (shown_slots span) (slot-titles trace span)
     ▹ flat-each beside (texts_of_hosts trace) (shown_slots span) (beside-titles trace span)
     ▹ keep-titles n span trace.keep ▹ back-titles n span trace.back ▹ words-titles top 0 words
-    ▹ classes-titles (top + 118) ▹ untitled (ended (codes "</svg>")) [] [] (record { titled = refl; one = refl }) no-lines in record {
-      are = all.are ∙ nested (first_text trace ∷ []) shown done (map word_text words) class_titles;
+    ▹ classes-titles (top + 118) ▹ marks-titles (top + 118)
+    ▹ untitled (ended (codes "</svg>")) [] [] (record { titled = refl; one = refl }) no-lines in record {
+      are = all.are ∙ nested (first_text trace ∷ []) shown done (map word_text words) class_titles mark_titles;
       once = all.once;
       each = all.each;
     }
   where
-    nested : (a b c d e : Lines) → a ++ [] ++ b ++ c ++ [] ++ [] ++ d ++ e ++ [] ≡ a ++ (b ++ (c ++ (d ++ e)))
-    nested a b c d e = simp (append_assoc, append-nil)
+    nested : (a b c d e f : Lines) → a ++ [] ++ b ++ c ++ [] ++ [] ++ d ++ e ++ f ++ [] ≡ a ++ (b ++ (c ++ (d ++ e ++ f)))
+    nested a b c d e f = simp (append_assoc, append-nil)

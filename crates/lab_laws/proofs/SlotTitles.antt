@@ -4,7 +4,7 @@ use Rattle.std.proofs.Common.{List, [], ◌∷◌, ◌++◌, length, filter, ref
 use Rattle.std.specs.Prelude.{◌==◌}
 use Rattle.std.specs.List.{flat_map, range_with_len}
 use Rattle.std.specs.Fmt.{signed_decimal}
-use Rattle.std.proofs.lemmas.Bool.{and_parts, and_from, leb-true, leb-false, le-leb, cases_eq}
+use Rattle.std.proofs.lemmas.Bool.{and_parts, and_from, leb-true, le-leb, cases_eq}
 use Rattle.std.proofs.lemmas.List.{append_assoc, append-nil}
 use Rattle.std.proofs.lemmas.List.Elements.{filter-append}
 use Rattle.ttp_base.specs.NodeSet.{below, set_bits}
@@ -18,13 +18,14 @@ use Rattle.whole_trace.specs.declared.shown.HostLine.{HostLine}
 use Rattle.whole_trace.specs.declared.shown.HostLine.TheVariants as by_host
 use Rattle.whole_trace.specs.declared.shown.NodeShown.{NodeShown}
 use Rattle.whole_trace.specs.Whole.{SlotLines, WholeTrace}
-use Rattle.shown_slot.specs.Nodes.{clock_range}
+use Rattle.shown_slot.specs.Nodes.{clock_range, node_apart}
 use Rattle.shown_slot.specs.Trace.{node_at, first_text, node_text, host_text}
 use Rattle.picture_text.specs.declared.window.Span.{Span}
-use Rattle.picture_text.specs.Cells.{shown_memberships, membership_text, apart_text}
+use Rattle.picture_text.specs.Cells.{shown_memberships, membership_text, apart_text, far_text}
 use Rattle.picture_text.specs.Picture.{slot_at, shown_slots, is_shown}
-use Rattle.picture_text.specs.Window.{columns, span_shown, slot_of_interest}
+use Rattle.picture_text.specs.Window.{span_shown}
 use Rattle.lab_laws.specs.Titles.{begins_with, texts_of_nodes, texts_of_hosts, is_of_slot, node_start, members_said, clocks_said}
+use Rattle.lab_laws.specs.Titles.{far_said}
 use Rattle.lab_laws.specs.Titles.{cell_titles, legend_titles, shown_of, picture_titles}
 use Rattle.lab_laws.proofs.LineStarts.{of-other, of-own, start-other, start-own, start-node, start-neighbour}
 
@@ -158,6 +159,12 @@ clocks_rest slot = codes "clocks apart " ++ apart_text (clock_range slot.nodes)
 clocks-begin : (t : ℕ) (slot : SlotLines) → clocks_said t slot ≡ codes "slot " ++ (decimal t ++ 32 ∷ clocks_rest slot)
 clocks-begin t slot = three (codes "slot ") (decimal t) (codes " clocks apart ") (apart_text (clock_range slot.nodes))
 
+abbrev far_rest : SlotLines → List ℕ
+far_rest slot = codes "clock apart from most " ++ far_text (node_apart slot.nodes)
+
+far-begins : (t : ℕ) (slot : SlotLines) → far_said t slot ≡ codes "slot " ++ (decimal t ++ 32 ∷ far_rest slot)
+far-begins t slot = three (codes "slot ") (decimal t) (codes " clock apart from most ") (far_text (node_apart slot.nodes))
+
 no-node : (head : Head) (slot : SlotLines) (held bytes : List ℕ)
     → begins_with (codes " node " ++ bytes) (32 ∷ said_rest head slot held) ≡ false
 no-node head slot [] bytes = refl
@@ -171,12 +178,14 @@ no-line head slot (members ∷ others) = refl
 
 -- A slot.
 
--- lines that pass a test, before two that don't
-two-left : (p : List ℕ → Bool) (lines kept : Lines) (one other : List ℕ) → filter p lines ≡ kept → p one ≡ false
-    → p other ≡ false → filter p (lines ++ (one ∷ other ∷ [])) ≡ kept
-two-left p lines kept one other is first second =
-    filter-append p lines (one ∷ other ∷ [])
-    ∙ (λ i. is i ++ (left_out (p one) one (filter p (other ∷ [])) first ∙ left_out (p other) other [] second) i)
+-- lines that pass a test, before three that don't
+three-left : (p : List ℕ → Bool) (lines kept : Lines) (one two other : List ℕ) → filter p lines ≡ kept → p one ≡ false
+    → p two ≡ false → p other ≡ false → filter p (lines ++ (one ∷ two ∷ other ∷ [])) ≡ kept
+three-left p lines kept one two other is first second third =
+    filter-append p lines (one ∷ two ∷ other ∷ [])
+    ∙ (λ i. is i
+    ++ (left_out (p one) one (filter p (two ∷ other ∷ [])) first ∙ left_out (p two) two (filter p (other ∷ [])) second
+    ∙ left_out (p other) other [] third) i)
     ∙ append-nil kept
 
 pub nodes-own : (trace : WholeTrace) (t : ℕ) → filter (is_of_slot t) (texts_of_nodes trace t) ≡ texts_of_nodes trace t
@@ -192,10 +201,11 @@ cells-own trace t =
     let head = trace.head in
     let slot = slot_at trace t in
     let held = shown_memberships slot.nodes in
-    two-left (is_of_slot t) (texts_of_nodes trace t) (texts_of_nodes trace t) (members_said head t slot held) (clocks_said t slot)
-    (nodes-own trace t)
+    three-left (is_of_slot t) (texts_of_nodes trace t) (texts_of_nodes trace t) (members_said head t slot held) (clocks_said t slot)
+    (far_said t slot) (nodes-own trace t)
     (ap (is_of_slot t) (members-begin head t slot held) ∙ of-own t (32 ∷ said_rest head slot held) ∙ no-line head slot held)
     (ap (is_of_slot t) (clocks-begin t slot) ∙ of-own t (32 ∷ clocks_rest slot))
+    (ap (is_of_slot t) (far-begins t slot) ∙ of-own t (32 ∷ far_rest slot))
 
 -- a test that no line of the slot passes
 abbrev pub FailsIn : (List ℕ → Bool) → ℕ → Type 0
@@ -212,9 +222,10 @@ cells-other : (trace : WholeTrace) (p : List ℕ → Bool) (s : ℕ) → FailsIn
 cells-other trace p s none =
     let slot = slot_at trace s in
     let held = shown_memberships slot.nodes in
-    two-left p (texts_of_nodes trace s) [] (members_said trace.head s slot held) (clocks_said s slot) (nodes-other trace p s none)
+    three-left p (texts_of_nodes trace s) [] (members_said trace.head s slot held) (clocks_said s slot) (far_said s slot)
+    (nodes-other trace p s none)
     (ap p (members-begin trace.head s slot held) ∙ none (said_rest trace.head slot held))
-    (ap p (clocks-begin s slot) ∙ none (clocks_rest slot))
+    (ap p (clocks-begin s slot) ∙ none (clocks_rest slot)) (ap p (far-begins s slot) ∙ none (far_rest slot))
 
 pub hosts-own : (trace : WholeTrace) (t : ℕ) → filter (is_of_slot t) (texts_of_hosts trace t) ≡ texts_of_hosts trace t
 hosts-own trace t =
@@ -234,17 +245,12 @@ hosts-other trace p s none =
 -- The slots shown.
 
 -- the last of them is none past the trace
-chosen-last : (few : Bool) (count many first : ℕ) → nat_le count many ≡ few → first ≤ count - many
-    → (cond few (let whole : Span = record { first = 0; last = count - 1 } in whole)
-    (record { first = first; last = first + many - 1 })).last ≤ count - 1
-chosen-last true count many first is low = omega arith
-chosen-last false count many first is low = let less = leb-false count many is in omega (arith, less, low)
-
 pub last-shown : (n : ℕ) (slots : List SlotLines) (asked : Option Span) → (span_shown n slots asked).last ≤ length slots - 1
 last-shown n slots None =
-    let many = 4 * columns n in
-    chosen-last (nat_le (length slots) many) (length slots) many (min (slot_of_interest slots - 2 * n) (length slots - many))
-    refl (omega arith)
+    at-most _ (length slots)
+  where
+    at-most : (end count : ℕ) → min end count - 1 ≤ count - 1
+    at-most end count = omega arith
 last-shown n slots (Some asked) = omega arith
 
 -- The picture.
@@ -353,10 +359,12 @@ title-of_node trace asked t k few small shows within =
     ap p (node-begins head t j (node_at slot j))
     ∙ start-neighbour t k j (node_rest head (node_at slot j)) (omega (arith, within, small)) (omega (arith, less, small)) ne) in
     let cells =
-    two-left p (texts_of_nodes trace t) (text k ∷ []) (members_said head t slot held) (clocks_said t slot) nodes
+    three-left p (texts_of_nodes trace t) (text k ∷ []) (members_said head t slot held) (clocks_said t slot)
+    (far_said t slot) nodes
     (ap p (members-begin head t slot held) ∙ start-own t k (32 ∷ said_rest head slot held)
     ∙ no-node head slot held (decimal k ++ codes " "))
-    (ap p (clocks-begin t slot) ∙ start-own t k (32 ∷ clocks_rest slot)) in
+    (ap p (clocks-begin t slot) ∙ start-own t k (32 ∷ clocks_rest slot))
+    (ap p (far-begins t slot) ∙ start-own t k (32 ∷ far_rest slot)) in
     let hosts =
     filter-no p (host_text t) slot.hosts (λ by. ap p (host-begins t by) ∙ start-own t k (codes " host " ++ host_rest by)) in
     passed trace asked p t (text k ∷ []) [] few shows refl refl cells hosts (λ s less ne rest.

@@ -127,8 +127,8 @@ cell-titles class x y name shown c n s =
     let all =
     tag (codes "<g") (λ rest. refl) refl ▸ attribute-adds (codes "class") class refl c ▸ tag (codes ">") (λ rest. refl) refl
     ▸ title name n ▸ tag (codes "<rect") (λ rest. refl) refl ▸ place-adds x y
-    ▸ tag (codes " width=\"17\" height=\"17\"/>") (λ rest. refl) refl ▸ tag (codes "<text") (λ rest. refl) refl
-    ▸ place-adds (x + 8) (y + 13) ▸ tag (codes ">") (λ rest. refl) refl ▸ plain shown s
+    ▸ tag (codes " width=\"19\" height=\"19\"/>") (λ rest. refl) refl ▸ tag (codes "<text") (λ rest. refl) refl
+    ▸ place-adds (x + 9) (y + 14) ▸ tag (codes ">") (λ rest. refl) refl ▸ plain shown s
     ▸ tag (codes "</text></g>") (λ rest. refl) refl in
     line_of all
 

@@ -6,10 +6,10 @@ use Rattle.ttp_base.specs.Text.{Lines, lines_of}
 use Rattle.line_reader.specs.TraceLines.{word_text}
 use Rattle.whole_trace.specs.declared.shown.Head.{Head}
 use Rattle.whole_trace.specs.Whole.{SlotLines, WholeTrace}
-use Rattle.shown_slot.specs.Nodes.{clock_range}
+use Rattle.shown_slot.specs.Nodes.{clock_range, node_apart}
 use Rattle.shown_slot.specs.Trace.{node_at, first_text, keeps_text, returns_text, node_text, host_text}
 use Rattle.picture_text.specs.declared.window.Span.{Span}
-use Rattle.picture_text.specs.Cells.{shown_memberships, members_title, apart_text}
+use Rattle.picture_text.specs.Cells.{shown_memberships, members_title, apart_text, far_text}
 use Rattle.picture_text.specs.Picture.{slot_at, shown_slots}
 use Rattle.picture_text.specs.Tables.{words}
 use Rattle.picture_text.specs.Window.{span_shown}
@@ -79,7 +79,8 @@ texts_of_lines text = map (λ line. take (length line - 1) line) (lines_of text)
 
 -- The titles that a picture has.
 
--- what the cells below those of the nodes say: which members holders of these memberships hold, and how far clocks are apart
+-- what the cells below those of the nodes say: which members holders of these memberships hold, how far clocks are apart, and
+-- whose is far from most
 abbrev pub members_said : Head → ℕ → SlotLines → List ℕ → List ℕ
 members_said head t slot [] = codes "slot " ++ decimal t ++ codes " members -"
 members_said head t slot (members ∷ others) = members_title head t slot
@@ -87,28 +88,39 @@ members_said head t slot (members ∷ others) = members_title head t slot
 abbrev pub clocks_said : ℕ → SlotLines → List ℕ
 clocks_said t slot = codes "slot " ++ decimal t ++ codes " clocks apart " ++ apart_text (clock_range slot.nodes)
 
+abbrev pub far_said : ℕ → SlotLines → List ℕ
+far_said t slot = codes "slot " ++ decimal t ++ codes " clock apart from most " ++ far_text (node_apart slot.nodes)
+
 -- the titles of the cells of slot t: those of the nodes are their lines
 abbrev pub cell_titles : WholeTrace → ℕ → Lines
 cell_titles trace t =
     let slot = slot_at trace t in
-    texts_of_nodes trace t ++ (members_said trace.head t slot (shown_memberships slot.nodes) ∷ clocks_said t slot ∷ [])
+    texts_of_nodes trace t
+    ++ (members_said trace.head t slot (shown_memberships slot.nodes) ∷ clocks_said t slot ∷ far_said t slot ∷ [])
 
--- the titles of the legend: what its classes and marks mean, and these behind its words
+-- the titles of the legend: what its classes and its marks mean, and these behind its words
 abbrev pub class_titles : Lines
 class_titles =
-    codes "how many members all nodes hold"
-    ∷ codes "nodes hold different members"
-    ∷ codes "microticks between the clocks"
+    codes "members: how many all nodes hold"
+    ∷ codes "members: nodes hold different ones"
+    ∷ codes "clocks: microticks between them"
+    ∷ codes "12k: 12000 to 12999, 1M+: 1000000 up"
+    ∷ codes "apart: its clock is far from most"
     ∷ codes "a message was sent or delivered"
     ∷ codes "holds other members than most"
     ∷ codes "in doubt about its own frame"
-    ∷ codes "its host writes a message"
+    ∷ codes "few took the frame of this sender"
+    ∷ []
+
+abbrev pub mark_titles : Lines
+mark_titles =
+    codes "its host writes a message"
     ∷ codes "its host reads a node's message"
     ∷ codes "its host reads its status"
     ∷ []
 
 abbrev pub legend_titles : Lines
-legend_titles = map word_text words ++ class_titles
+legend_titles = map word_text words ++ class_titles ++ mark_titles
 
 -- the slots that a picture of a trace shows, and the titles that it has
 abbrev pub shown_of : WholeTrace → Option Span → Span

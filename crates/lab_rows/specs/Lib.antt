@@ -1,6 +1,7 @@
 pub mod Bare
 pub mod Cases
 pub mod Small
+pub mod Slots
 pub mod SmallCampaign
 pub mod SmallPicture
 pub mod SmallTitles

@@ -12,6 +12,7 @@ titles_before =
     ∷ codes "slot 0 node 3 off peer - msg - mem 0000 acc 0 rej 0 ack none clock 0"
     ∷ codes "slot 0 members 0007 of 0 1 0006 of 2"
     ∷ codes "slot 0 clocks apart 8"
+    ∷ codes "slot 0 clock apart from most node 0"
     ∷ []
 
 abbrev pub titles_slot_1 : Lines
@@ -22,6 +23,7 @@ titles_slot_1 =
     ∷ codes "slot 1 node 3 wait peer - msg - mem 0000 acc 0 rej 0 ack none clock 0"
     ∷ codes "slot 1 members 0007 of 1"
     ∷ codes "slot 1 clocks apart 8"
+    ∷ codes "slot 1 clock apart from most -"
     ∷ []
 
 abbrev pub titles_slot_2 : Lines
@@ -32,6 +34,7 @@ titles_slot_2 =
     ∷ codes "slot 2 node 3 wait peer - msg - mem 0000 acc 0 rej 0 ack none clock 0"
     ∷ codes "slot 2 members 0003 of 1"
     ∷ codes "slot 2 clocks apart 0"
+    ∷ codes "slot 2 clock apart from most -"
     ∷ []
 
 abbrev pub titles_hosts : Lines
@@ -61,12 +64,15 @@ titles_legend =
     ∷ codes "denied"
     ∷ codes "unacknowledged"
     ∷ codes "clique"
-    ∷ codes "how many members all nodes hold"
-    ∷ codes "nodes hold different members"
-    ∷ codes "microticks between the clocks"
+    ∷ codes "members: how many all nodes hold"
+    ∷ codes "members: nodes hold different ones"
+    ∷ codes "clocks: microticks between them"
+    ∷ codes "12k: 12000 to 12999, 1M+: 1000000 up"
+    ∷ codes "apart: its clock is far from most"
     ∷ codes "a message was sent or delivered"
     ∷ codes "holds other members than most"
     ∷ codes "in doubt about its own frame"
+    ∷ codes "few took the frame of this sender"
     ∷ codes "its host writes a message"
     ∷ codes "its host reads a node's message"
     ∷ codes "its host reads its status"

@@ -4,5 +4,6 @@
 //! what was worked out from the rules of docs/VIEWS.md, and the check computes it.
 
 pub mod picture;
+pub mod slots;
 pub mod titles;
 pub mod wave;

@@ -6,9 +6,9 @@ pub long_cell : (all front back closed shut class title p q shown : List ℕ) �
     → front ≡ codes "<g class=\"" ++ class ++ codes "\"><title>" ++ title
     → back ≡ closed ++ (codes "</text></g>" ++ newline)
     → closed ≡ shut ++ shown
-    → shut ≡ codes "</title><rect" ++ p ++ codes " width=\"17\" height=\"17\"/>" ++ codes "<text" ++ q ++ codes ">"
+    → shut ≡ codes "</title><rect" ++ p ++ codes " width=\"19\" height=\"19\"/>" ++ codes "<text" ++ q ++ codes ">"
     → all ≡ codes "<g" ++ attribute (codes "class") class ++ codes ">" ++ title_element title
-    ++ codes "<rect" ++ p ++ codes " width=\"17\" height=\"17\"/>"
+    ++ codes "<rect" ++ p ++ codes " width=\"19\" height=\"19\"/>"
     ++ codes "<text" ++ q ++ codes ">" ++ shown ++ codes "</text></g>" ++ newline
 long_cell all front back closed shut class title p q shown a b c d e =
     let ending = c ∙ ap (λ (l : List ℕ). l ++ (codes "</text></g>" ++ newline))
@@ -16,6 +16,6 @@ long_cell all front back closed shut class title p q shown a b c d e =
     a ∙ ap (λ (l : List ℕ). l ++ back) b
     ∙ ap (λ (l : List ℕ). (codes "<g class=\"" ++ class ++ codes "\"><title>" ++ title) ++ l) ending
     ∙ sym (three_parts (codes "<g class=\"" ++ class ++ codes "\"><title>" ++ title)
-    (codes "</title><rect" ++ p ++ codes " width=\"17\" height=\"17\"/>" ++ codes "<text" ++ q ++ codes ">") shown
+    (codes "</title><rect" ++ p ++ codes " width=\"19\" height=\"19\"/>" ++ codes "<text" ++ q ++ codes ">") shown
     (codes "</text></g>" ++ newline))
     ∙ cell_parts class title p q shown

@@ -3,13 +3,12 @@ use Rattle.picture_text.proofs.Words.{◌≡◌, ℕ, suc, ◌+◌, ◌-◌, ◌
 use Rattle.picture_text.proofs.Words.{◌∷◌, ◌++◌, refl, ◌∙◌, Option, Some, None, arith, codes, length, get_or, ◌==◌}
 use Rattle.picture_text.proofs.Words.{list_any, flat_map, signed_decimal, set_bits, Lines, hex, Back, Keep}
 use Rattle.picture_text.proofs.Words.{number_or_dash, ack_word, word_text, keep_text, Head, HostLine, NodeShown}
-use Rattle.picture_text.proofs.Words.{SlotLines, WholeTrace, is_holder, header_text, node_text, host_text, Span}
+use Rattle.picture_text.proofs.Words.{SlotLines, is_holder, header_text, node_text, host_text, Span}
 use Rattle.picture_text.proofs.Words.{shown_memberships, node_class, each_node, membership_text, members_title}
 use Rattle.picture_text.proofs.Words.{count_of, apart_text, apart_shown, more_text, words, letter, keep_meaning}
-use Rattle.picture_text.proofs.Words.{strange_past}
 use Rattle.std.proofs.Common.{zero, ◌&&◌, nat_lt}
 use Rattle.std.proofs.Common.{ℤ, pos, negsuc, decimal}
-use Rattle.std.specs.Prelude.{nat_le, is_some}
+use Rattle.std.specs.Prelude.{is_some}
 use Rattle.std.specs.List.{AllByRecursion, list_all}
 use Rattle.std.specs.Fmt.{digit_glyph, digits_onto, digits}
 use Rattle.std.proofs.lemmas.Bool.{and_parts, not-true}
@@ -27,9 +26,10 @@ use Rattle.line_reader.specs.declared.trace_line.Word.TheVariants as word
 use Rattle.line_reader.specs.TraceLines.{back_text}
 use Rattle.whole_trace.specs.declared.shown.HostLine.TheVariants as by_host
 use Rattle.shown_slot.specs.declared.node.ClockRange.{ClockRange}
-use Rattle.shown_slot.specs.Nodes.{spread_in}
-use Rattle.shown_slot.specs.Trace.{first_text}
-use Rattle.picture_text.specs.Cells.{holders_of, doubt_class, other_class, data_class}
+use Rattle.shown_slot.specs.Nodes.{sends, spread_in}
+use Rattle.picture_text.specs.Cells.{holders_of, doubt_class, other_class, data_class, refused_class, short_number}
+use Rattle.picture_text.specs.Cells.{far_text, far_shown}
+use Rattle.picture_text.specs.Picture.{before_text, behind_text, window_text}
 use Rattle.picture_text.specs.Cells.{head_member_digits}
 use Rattle.picture_text.specs.Tables.{word_meaning, rule_meanings, returning_meanings, back_meaning}
 use Rattle.picture_text.specs.Tables.{keep_name, back_name}
@@ -143,10 +143,6 @@ plain-meaning w =
     not-true (list_any is_special (word_text w ++ codes ": " ++ word_meaning w))
     (each-word (λ v. not (list_any is_special (word_text v ++ codes ": " ++ word_meaning v))) refl w)
 
-plain-if : (b : Bool) (x y : List ℕ) → Plain x → Plain y → Plain (cond b x y)
-plain-if true x y p q = p
-plain-if false x y p q = q
-
 -- Lines of the trace.
 
 pub plain-head : (head : Head) → Plain (header_text head)
@@ -176,17 +172,27 @@ pub plain-more : (s : Option ℕ) → Plain (more_text s)
 plain-more None = refl
 plain-more (Some t) = simp parts
 
--- the text of the line that says what is shown
-abbrev pub shown_text : WholeTrace → Span → List ℕ
-shown_text trace span =
-    first_text trace ++ codes ", shown: slots " ++ decimal span.first ++ codes " to " ++ decimal span.last
-    ++ more_text (strange_past span.last trace.slots)
+plain-if : (b : Bool) (x y : List ℕ) → Plain x → Plain y → Plain (cond b x y)
+plain-if true x y p q = p
+plain-if false x y p q = q
 
-pub plain-shown : (trace : WholeTrace) (span : Span) → Plain (shown_text trace span)
-plain-shown trace span =
-    let first = plain-head trace.head in
-    let more = plain-more (strange_past span.last trace.slots) in
-    simp (parts, first, more)
+plain-before : (first : ℕ) (quiet : Bool) → Plain (before_text first quiet)
+plain-before first quiet =
+    let all = codes "; before: all nodes off or listening" in
+    let some = codes "; before: ttplab picture TRACE 0 " ++ decimal (first - 1) in
+    plain-if (first == 0) [] (cond quiet all some) refl (plain-if quiet all some refl (simp parts))
+
+plain-behind : (last slots : ℕ) → Plain (behind_text last slots)
+plain-behind last slots =
+    plain-if (last + 1 == slots) []
+    (codes "; behind: ttplab picture TRACE " ++ decimal (last + 1) ++ codes " " ++ decimal (slots - 1)) refl (simp parts)
+
+pub plain-shown : (span : Span) (slots : ℕ) (quiet : Bool) (strange : Option ℕ) → Plain (window_text span slots quiet strange)
+plain-shown span slots quiet strange =
+    let before = plain-before span.first quiet in
+    let behind = plain-behind span.last slots in
+    let more = plain-more strange in
+    simp (parts, before, behind, more)
 
 -- an entry of a table of such texts
 plain-any : (table : Lines) (i : ℕ) → AllByRecursion (λ text. Plain text) table → Plain (get_or table i [])
@@ -206,13 +212,16 @@ plain-back_meaning (back.No rule slot) =
 
 -- Cells.
 
-pub plain-class : (node : NodeShown) (most : Option ℕ) → Plain (node_class node most)
-plain-class node most =
+pub plain-class : (node : NodeShown) (most : Option ℕ) (refused : Bool) → Plain (node_class node most refused)
+plain-class node most refused =
     let message = plain-if (is_some node.message) (codes " data") [] refl refl in
     let doubt = plain-if (is_doubt node.ack) (codes " doubt") [] refl refl in
-    plain-append (word_text node.word ++ doubt_class node ++ other_class node most) (data_class node)
+    let sent = plain-if (sends node.word && refused) (codes " refused") [] refl refl in
+    plain-append (word_text node.word ++ doubt_class node ++ other_class node most ++ data_class node)
+    (refused_class node refused)
+    (plain-append (word_text node.word ++ doubt_class node ++ other_class node most) (data_class node)
     (plain-append (word_text node.word ++ doubt_class node) (other_class node most)
-    (plain-append (word_text node.word) (doubt_class node) (plain-word node.word) doubt) (other most)) message
+    (plain-append (word_text node.word) (doubt_class node) (plain-word node.word) doubt) (other most)) message) sent
   where
     other : (held : Option ℕ) → Plain (other_class node held)
     other None = refl
@@ -252,10 +261,28 @@ pub plain-clocks : (t : ℕ) (range : Option ClockRange)
 plain-clocks t range =
     plain-append (codes "slot " ++ decimal t ++ codes " clocks apart ") (apart_text range) (simp parts) (plain-apart range)
 
+plain-short : (number : ℕ) → Plain (short_number number)
+plain-short number =
+    let thousands = decimal (number / 1000) ++ codes "k" in
+    plain-if (nat_lt number 10000) (decimal number) (cond (nat_lt number 1000000) thousands (codes "1M+"))
+    (plain-decimal number) (plain-if (nat_lt number 1000000) thousands (codes "1M+") (simp parts) refl)
+
 pub plain-apart_shown : (range : Option ClockRange) → Plain (apart_shown range)
 plain-apart_shown None = refl
-plain-apart_shown (Some range) =
-    plain-if (nat_le 1000 (spread_in range)) (codes "*") (decimal (spread_in range)) refl (plain-decimal (spread_in range))
+plain-apart_shown (Some range) = plain-short (spread_in range)
+
+plain-far_text : (far : Option ℕ) → Plain (far_text far)
+plain-far_text None = refl
+plain-far_text (Some k) = simp parts
+
+pub plain-far : (t : ℕ) (far : Option ℕ) → Plain (codes "slot " ++ decimal t ++ codes " clock apart from most " ++ far_text far)
+plain-far t far =
+    plain-append (codes "slot " ++ decimal t ++ codes " clock apart from most ") (far_text far) (simp parts)
+    (plain-far_text far)
+
+pub plain-far_shown : (far : Option ℕ) → Plain (far_shown far)
+plain-far_shown None = refl
+plain-far_shown (Some k) = plain-decimal k
 
 -- Flags.
 

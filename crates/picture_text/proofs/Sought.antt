@@ -1,14 +1,13 @@
 -- The first slot that is sought, and slots one after another.
 use Rattle.picture_text.proofs.Words.{◌≡◌, ℕ, ◌+◌, ◌<◌, ◌≤◌, Bool, List, [], ◌∷◌, length, drop, get_or, Some, None}
-use Rattle.picture_text.proofs.Words.{refl, sym, ap, ◌∙◌, arith, length-drop, ◌-◌, position, Option, unwrap_or}
-use Rattle.picture_text.proofs.Words.{position_or_len, SlotLines, no_slot_lines, is_strange, has_start, strange_past}
+use Rattle.picture_text.proofs.Words.{refl, sym, ap, ◌∙◌, arith, length-drop, ◌-◌, position, Option}
+use Rattle.picture_text.proofs.Words.{position_or_len, SlotLines, no_slot_lines, is_strange, strange_past}
 use Rattle.std.specs.Prelude.{option_map}
 use Rattle.std.proofs.lemmas.Bool.{lt-ltb, le-ltb}
 use Rattle.std.proofs.lemmas.Bool.Decides.{nat_tests}
 use Rattle.std.proofs.lemmas.List.{drop-drop, get_or-drop}
 use Rattle.std.proofs.lemmas.List.Quantifiers.{position-Some}
 use Rattle.std.proofs.lemmas.List.Sums.{position_or_len_is, fails_before_first}
-use Rattle.picture_text.specs.Window.{slot_of_interest}
 
 pub found_at : {X : Type 0} (p : X → Bool) (xs : List X) (n : ℕ) → position_or_len p xs ≡ n → n < length xs
     → position p xs ≡ Some n
@@ -34,16 +33,6 @@ not_all xs t e = omega (arith, length-drop t xs, ap length e)
 -- what is found lies within
 pub found_within : {X : Type 0} (p : X → Bool) (xs : List X) (n : ℕ) (d : X) → Some n ≡ position p xs → n < length xs
 found_within p xs n d e = (position-Some p xs n d (sym e)).0
-
--- the slot of interest, by what is found
-pub interest-strange : (slots : List SlotLines) (s : ℕ) → Some s ≡ position is_strange slots
-    → s ≡ slot_of_interest slots
-interest-strange slots s e = ap (λ (o : Option ℕ). unwrap_or o (unwrap_or (position has_start slots) 0)) e
-
-pub interest-calm : (slots : List SlotLines) (s : ℕ) → None ≡ position is_strange slots
-    → s ≡ unwrap_or (position has_start slots) 0
-    → s ≡ slot_of_interest slots
-interest-calm slots s e start = start ∙ ap (λ (o : Option ℕ). unwrap_or o (unwrap_or (position has_start slots) 0)) e
 
 -- the slots past one, where those before another one are behind
 pub behind : (slots from : List SlotLines) (first last : ℕ) → first ≤ last → from ≡ drop first slots

@@ -2,24 +2,23 @@
 use Rattle.picture_text.proofs.Words.{◌≡◌, ℕ, ◌+◌, List, [], ◌∷◌, ◌++◌, Bool, codes, refl, sym, ap, ◌∙◌, subst}
 use Rattle.picture_text.proofs.Words.{append_assoc, Option, flat_map, Output, Lines, lines_below, Back, Keep, keep_text}
 use Rattle.picture_text.proofs.Words.{Head, WholeTrace, header_text, Span, attribute, title_element, ended, size}
-use Rattle.picture_text.proofs.Words.{svg_line, more_text, word_entries, class_entries, picture_of, band_lines}
+use Rattle.picture_text.proofs.Words.{svg_line, word_entries, class_entries, mark_entries, picture_of, band_lines}
 use Rattle.picture_text.proofs.Words.{cell_lines, beside_lines, slot_at, keep_flag, back_flag, Puts, keep_meaning}
 use Rattle.picture_text.proofs.Words.{words, strange_past}
-use Rattle.std.proofs.Common.{decimal}
-use Rattle.picture_text.specs.Picture.{style_lines, said_line, back_said, text_line}
+use Rattle.picture_text.specs.Picture.{style_lines, window_text, said_line, back_said, text_line}
 use Rattle.picture_text.specs.Picture.{picture_head_lines}
 use Rattle.picture_text.specs.Picture.{shown_slots}
-use Rattle.picture_text.specs.Window.{height, bands, legend_top}
+use Rattle.picture_text.specs.Window.{height, bands, legend_top, is_quiet_before}
 use Rattle.picture_text.proofs.Puts.{puts_then}
 
 -- each of the parts, by what it is written from
-abbrev pub front_lines : Head → Span → Option ℕ → Keep → Option Back → Lines
-front_lines head span strange keep back =
+abbrev pub front_lines : Head → Span → Bool → Option ℕ → Keep → Option Back → Lines
+front_lines head span quiet strange keep back =
     svg_line (height head.nodes span) ∷ ended (title_element (header_text head)) ∷ style_lines
     ++ ended (codes "<rect" ++ size (height head.nodes span) ++ codes " fill=\"#ffffff\"/>")
-    ∷ text_line [] 12 20 (header_text head ++ codes ", shown: slots " ++ decimal span.first ++ codes " to "
-    ++ decimal span.last ++ more_text strange)
-    ∷ said_line 40 (keep_text keep) (keep_meaning keep) ∷ back_said back
+    ∷ text_line [] 12 20 (header_text head)
+    ∷ text_line [] 12 40 (window_text span head.slots quiet strange)
+    ∷ said_line 60 (keep_text keep) (keep_meaning keep) ∷ back_said back
 
 abbrev pub row_lines : WholeTrace → Span → Head → Lines
 row_lines trace span head =
@@ -31,42 +30,47 @@ abbrev pub end_lines : Span → Head → Keep → Option Back → Lines
 end_lines span head keep back =
     keep_flag head.nodes span keep ++ back_flag head.nodes span back
     ++ word_entries (legend_top head.nodes span) 0 words
-    ++ class_entries (legend_top head.nodes span + 118) ++ ended (codes "</svg>") ∷ []
+    ++ class_entries (legend_top head.nodes span + 118) ++ mark_entries (legend_top head.nodes span + 118)
+    ++ ended (codes "</svg>") ∷ []
 
 front-is : (trace : WholeTrace) (span : Span)
-    → front_lines trace.head span (strange_past span.last trace.slots) trace.keep trace.back ≡ picture_head_lines trace span
+    → front_lines trace.head span (is_quiet_before span.first trace.slots) (strange_past span.last trace.slots) trace.keep
+    trace.back
+    ≡ picture_head_lines trace span
 front-is trace span =
     let h = height trace.head.nodes span in
     ap (λ (fill : List ℕ). svg_line h ∷ ended (title_element (header_text trace.head)) ∷ style_lines
     ++ ended fill
-    ∷ text_line [] 12 20 (header_text trace.head ++ codes ", shown: slots " ++ decimal span.first ++ codes " to "
-    ++ decimal span.last ++ more_text (strange_past span.last trace.slots))
-    ∷ said_line 40 (keep_text trace.keep) (keep_meaning trace.keep) ∷ back_said trace.back)
+    ∷ text_line [] 12 20 (header_text trace.head)
+    ∷ text_line [] 12 40 (window_text span trace.head.slots (is_quiet_before span.first trace.slots)
+    (strange_past span.last trace.slots))
+    ∷ said_line 60 (keep_text trace.keep) (keep_meaning trace.keep) ∷ back_said trace.back)
     (sym (append_assoc (codes "<rect" ++ size h) (attribute (codes "fill") (codes "#ffffff")) (codes "/>")))
 
-nine : (h b c d k l w e s : Lines) → h ++ (b ++ c ++ d) ++ (k ++ l ++ w ++ e ++ s)
-    ≡ h ++ b ++ c ++ d ++ k ++ l ++ w ++ e ++ s
-nine h b c d k l w e s = simp append_assoc refl
+ten : (h b c d k l w e m s : Lines) → h ++ (b ++ c ++ d) ++ (k ++ l ++ w ++ e ++ m ++ s)
+    ≡ h ++ b ++ c ++ d ++ k ++ l ++ w ++ e ++ m ++ s
+ten h b c d k l w e m s = simp append_assoc refl
 
-pub picture_put : (trace : WholeTrace) (span : Span) (head : Head) (strange : Option ℕ) (keep again : Keep)
+pub picture_put : (trace : WholeTrace) (span : Span) (head : Head) (quiet : Bool) (strange : Option ℕ) (keep again : Keep)
     (back once : Option Back) (f g h i : Bool) (a b c d : Output) → head ≡ trace.head
+    → quiet ≡ is_quiet_before span.first trace.slots
     → strange ≡ strange_past span.last trace.slots → keep ≡ trace.keep → again ≡ trace.keep → back ≡ trace.back
-    → once ≡ trace.back → Puts f a g b (front_lines head span strange keep back)
+    → once ≡ trace.back → Puts f a g b (front_lines head span quiet strange keep back)
     → Puts g b h c (row_lines trace span head)
     → Puts h c i d (end_lines span head again once) → Puts f a i d (picture_of trace span)
-picture_put trace span head strange keep again back once f g h i a b c d is past kept kept-too due due-too p q r =
+picture_put trace span head quiet strange keep again back once f g h i a b c d is calm past kept kept-too due due-too p q r =
     let n = trace.head.nodes in
-    let front : front_lines head span strange keep back ≡ picture_head_lines trace span =
-    (λ j. front_lines (is j) span (past j) (kept j) (due j)) ∙ front-is trace span in
+    let front : front_lines head span quiet strange keep back ≡ picture_head_lines trace span =
+    (λ j. front_lines (is j) span (calm j) (past j) (kept j) (due j)) ∙ front-is trace span in
     let rows : row_lines trace span head ≡ row_lines trace span trace.head = ap (row_lines trace span) is in
     let ends : end_lines span head again once ≡ end_lines span trace.head trace.keep trace.back =
     λ j. end_lines span (is j) (kept-too j) (due-too j) in
-    subst (Puts f a i d) (nine (picture_head_lines trace span)
+    subst (Puts f a i d) (ten (picture_head_lines trace span)
     (lines_below (band_lines n span) (bands n span))
     (flat_map (λ t. cell_lines trace.head span t (slot_at trace t)) (shown_slots span))
     (flat_map (λ t. beside_lines n span t (slot_at trace t)) (shown_slots span))
     (keep_flag n span trace.keep) (back_flag n span trace.back) (word_entries (legend_top n span) 0 words)
-    (class_entries (legend_top n span + 118)) (ended (codes "</svg>") ∷ []))
+    (class_entries (legend_top n span + 118)) (mark_entries (legend_top n span + 118)) (ended (codes "</svg>") ∷ []))
     (puts_then f h i a c d (picture_head_lines trace span ++ row_lines trace span trace.head)
     (end_lines span trace.head trace.keep trace.back)
     (puts_then f g h a b c (picture_head_lines trace span) (row_lines trace span trace.head)

@@ -4,11 +4,11 @@ pub use Rattle.picture_text.specs.Cells.{apart_shown, apart_text, attribute, cou
 pub use Rattle.picture_text.specs.Cells.{host_of, members_title, membership_text, shown_memberships, node_cell}
 pub use Rattle.picture_text.specs.Cells.{node_class, place_attributes, title_element}
 pub use Rattle.picture_text.specs.Picture.{back_flag, band_lines, beside_lines, cell_lines, class_entries, ended}
-pub use Rattle.picture_text.specs.Picture.{keep_flag, more_text, no_slot_lines, picture_of, row_line, size, slot_at}
+pub use Rattle.picture_text.specs.Picture.{keep_flag, mark_entries, more_text, no_slot_lines, picture_of, row_line, size, slot_at}
 pub use Rattle.picture_text.specs.Picture.{svg_line, word_entries, word_entry}
 pub use Rattle.picture_text.specs.Sheet.{Puts}
 pub use Rattle.picture_text.specs.Tables.{keep_meaning, letter, words}
-pub use Rattle.picture_text.specs.Window.{column_x, has_start, is_strange, row_y, strange_past}
+pub use Rattle.picture_text.specs.Window.{column_x, is_strange, row_y, strange_past}
 pub use Rattle.picture_text.specs.declared.window.Span.{Span}
 pub use Rattle.shown_slot.specs.Nodes.{is_holder}
 pub use Rattle.shown_slot.specs.Trace.{header_text, host_text, node_at, node_text}

@@ -1,5 +1,5 @@
 -- The cells and marks of a picture: what stands in each of them, and the element that shows it.
-use Rattle.std.specs.Prelude.{ℕ, ◌+◌, ◌==◌, nat_le, Bool, ◌&&◌, not, List, [], ◌∷◌, ◌++◌, map}
+use Rattle.std.specs.Prelude.{ℕ, ◌+◌, ◌/◌, ◌==◌, nat_le, nat_lt, Bool, ◌&&◌, not, List, [], ◌∷◌, ◌++◌, map}
 use Rattle.std.specs.Prelude.{length, filter, flat_map, Option, Some, None, is_some, codes, decimal, if◌then◌else◌}
 use Rattle.std.specs.List.{list_any}
 use Rattle.ttp_base.specs.NodeSet.{below, set_bits}
@@ -12,7 +12,7 @@ use Rattle.whole_trace.specs.declared.shown.HostLine.TheVariants as line
 use Rattle.whole_trace.specs.declared.shown.NodeShown.{NodeShown}
 use Rattle.whole_trace.specs.Whole.{SlotLines}
 use Rattle.shown_slot.specs.declared.node.ClockRange.{ClockRange}
-use Rattle.shown_slot.specs.Nodes.{is_holder, clock_range, spread_in}
+use Rattle.shown_slot.specs.Nodes.{sends, is_holder, clock_range, spread_in, node_apart}
 use Rattle.shown_slot.specs.Trace.{node_at, node_text, host_text}
 use Rattle.picture_text.specs.Tables.{letter}
 use Rattle.ttp_world.specs.Acknowledgement.{is_doubt}
@@ -32,8 +32,8 @@ title_element title = codes "<title>" ++ title ++ codes "</title>"
 abbrev pub cell : List ℕ → ℕ → ℕ → List ℕ → List ℕ → List ℕ
 cell class x y title shown =
     codes "<g" ++ attribute (codes "class") class ++ codes ">" ++ title_element title
-    ++ codes "<rect" ++ place_attributes x y ++ codes " width=\"17\" height=\"17\"/>"
-    ++ codes "<text" ++ place_attributes (x + 8) (y + 13) ++ codes ">" ++ shown ++ codes "</text></g>" ++ newline
+    ++ codes "<rect" ++ place_attributes x y ++ codes " width=\"19\" height=\"19\"/>"
+    ++ codes "<text" ++ place_attributes (x + 9) (y + 14) ++ codes ">" ++ shown ++ codes "</text></g>" ++ newline
 
 -- a mark of this class and shape
 abbrev pub mark : List ℕ → List ℕ → ℕ → ℕ → List ℕ → List ℕ
@@ -43,13 +43,13 @@ mark class shape x y title =
     ++ codes ">" ++ title_element title ++ codes "</path>" ++ newline
 
 abbrev pub write_shape : List ℕ
-write_shape = codes "h6l-3-5z"
+write_shape = codes "v-10l10 10z"
 
 abbrev pub read_shape : List ℕ
-read_shape = codes "h6l-3 5z"
+read_shape = codes "h-10l10-10z"
 
 abbrev pub status_shape : List ℕ
-status_shape = codes "h5v5h-5z"
+status_shape = codes "v10l-10-10z"
 
 -- Members.
 
@@ -102,12 +102,18 @@ other_class node (Some members) =
 abbrev pub data_class : NodeShown → List ℕ
 data_class node = if is_some node.message then codes " data" else []
 
-abbrev pub node_class : NodeShown → Option ℕ → List ℕ
-node_class node most = word_text node.word ++ doubt_class node ++ other_class node most ++ data_class node
+-- the sender of a frame that is refused
+abbrev pub refused_class : NodeShown → Bool → List ℕ
+refused_class node refused = if sends node.word && refused then codes " refused" else []
 
--- the cell of node k, where most holders hold these members
-abbrev pub node_cell : Head → ℕ → ℕ → NodeShown → Option ℕ → ℕ → ℕ → List ℕ
-node_cell head t k node most x y = cell (node_class node most) x y (node_text head t k node) (letter node.word)
+abbrev pub node_class : NodeShown → Option ℕ → Bool → List ℕ
+node_class node most refused =
+    word_text node.word ++ doubt_class node ++ other_class node most ++ data_class node ++ refused_class node refused
+
+-- the cell of node k, where most holders hold these members, and the frame of the slot is refused or not
+abbrev pub node_cell : Head → ℕ → ℕ → NodeShown → Option ℕ → Bool → ℕ → ℕ → List ℕ
+node_cell head t k node most refused x y =
+    cell (node_class node most refused) x y (node_text head t k node) (letter node.word)
 
 -- What all nodes hold.
 
@@ -147,15 +153,36 @@ abbrev pub apart_text : Option ClockRange → List ℕ
 apart_text None = codes "-"
 apart_text (Some range) = decimal (spread_in range)
 
+-- a number in at most four characters: whole thousands from 10,000 on, and no more than that from 1,000,000 on
+abbrev pub short_number : ℕ → List ℕ
+short_number number =
+    if nat_lt number 10000
+    then decimal number
+    else if nat_lt number 1000000 then decimal (number / 1000) ++ codes "k" else codes "1M+"
+
 abbrev pub apart_shown : Option ClockRange → List ℕ
 apart_shown None = codes "-"
-apart_shown (Some range) = if nat_le 1000 (spread_in range) then codes "*" else decimal (spread_in range)
+apart_shown (Some range) = short_number (spread_in range)
 
 abbrev pub clocks_cell : ℕ → SlotLines → ℕ → ℕ → List ℕ
 clocks_cell t slot x y =
     let range = clock_range slot.nodes in
     cell (codes "none") x y (codes "slot " ++ decimal t ++ codes " clocks apart " ++ apart_text range)
     (apart_shown range)
+
+-- the node whose clock is far from most
+abbrev pub far_text : Option ℕ → List ℕ
+far_text None = codes "-"
+far_text (Some k) = codes "node " ++ decimal k
+
+abbrev pub far_shown : Option ℕ → List ℕ
+far_shown None = codes "-"
+far_shown (Some k) = decimal k
+
+abbrev pub far_cell : ℕ → SlotLines → ℕ → ℕ → List ℕ
+far_cell t slot x y =
+    let far = node_apart slot.nodes in
+    cell (codes "apart") x y (codes "slot " ++ decimal t ++ codes " clock apart from most " ++ far_text far) (far_shown far)
 
 -- Hosts.
 
@@ -164,11 +191,11 @@ abbrev pub host_of : HostLine → ℕ
 host_of (line.Write host number) = host
 host_of (line.Read host source number payload) = host
 
--- the mark of a host's line beside the cell of its node
+-- the mark of a host's line, in a corner of the cell of its node
 abbrev pub host_mark : ℕ → HostLine → ℕ → ℕ → List ℕ
 host_mark t (line.Write host number) x y =
-    mark (codes "write") write_shape x (y + 17) (host_text t (line.Write host number))
+    mark (codes "write") write_shape x (y + 19) (host_text t (line.Write host number))
 host_mark t (line.Read host source.Status number payload) x y =
-    mark (codes "status") status_shape (x + 12) y (host_text t (line.Read host source.Status number payload))
+    mark (codes "status") status_shape (x + 19) y (host_text t (line.Read host source.Status number payload))
 host_mark t (line.Read host (source.Node p) number payload) x y =
-    mark (codes "read") read_shape (x + 11) (y + 12) (host_text t (line.Read host (source.Node p) number payload))
+    mark (codes "read") read_shape (x + 19) (y + 19) (host_text t (line.Read host (source.Node p) number payload))

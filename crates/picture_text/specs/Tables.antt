@@ -76,8 +76,8 @@ word_meaning word.Join = codes "joined on a frame"
 word_meaning word.Send = codes "sent its frame"
 word_meaning word.Correct = codes "accepted the frame"
 word_meaning word.Tentative = codes "its own frame may be lost"
-word_meaning word.Incorrect = codes "a frame that does not fit"
-word_meaning word.Invalid = codes "a spoilt frame"
+word_meaning word.Incorrect = codes "a frame of another C-state"
+word_meaning word.Invalid = codes "spoilt, or too early or late"
 word_meaning word.Null = codes "heard nothing"
 word_meaning word.Denied = codes "left: its frame was lost"
 word_meaning word.Unacknowledged = codes "left: no answer"
@@ -88,39 +88,55 @@ abbrev pub styles : Lines
 styles =
     codes ".null rect{stroke:#a0a0a0}.off rect{stroke:#c0c0c0;stroke-dasharray:2}"
     ∷ codes ".other rect{stroke:#d00000;stroke-width:2}.doubt rect{stroke:#000000;stroke-width:2;stroke-dasharray:3 2}"
-    ∷ codes ".data text{text-decoration:underline}"
-    ∷ codes ".agree rect,.none rect{fill:#ffffff}.none text{fill:#666666;font-size:9px}"
+    ∷ codes ".data text{text-decoration:underline}.refused rect{fill:#d00000}.round{fill:#7a8a94}"
+    ∷ codes ".agree rect,.none rect{fill:#ffffff}.none text{fill:#555555;font-size:7.5px}.apart rect{fill:#ffffff}.apart text{fill:#555555;font-size:10px}"
     ∷ codes ".differ rect{fill:#000000}.differ text{fill:#ffffff;font-weight:bold}"
     ∷ codes ".row{text-anchor:end}.slot{text-anchor:middle;font-size:10px;fill:#444444}.said{font-weight:bold}"
     ∷ codes "rect.why{fill:#ffffff}text.why{fill:#b03a00;font-weight:bold;font-size:11px}"
-    ∷ codes ".write{fill:#007a5a}.read{fill:#000000}.status{fill:#8b3a8b}"
+    ∷ codes ".write,.read,.status{stroke:#000000}.write{fill:#00c853}.read{fill:#ffd000}.status{fill:#e040fb}"
     ∷ codes ".flag{stroke:#000000}.keep{text-anchor:end;font-size:10px}.back{font-size:10px}"
-    ∷ codes ".why,.flag{pointer-events:none}"
+    ∷ codes ".why,.flag,.round{pointer-events:none}"
     ∷ []
 
 -- Tests.
 
+-- what it means that a rule is broken that both tests have
+abbrev pub bounds_passed : List ℕ
+bounds_passed = codes "a drift or a reading error is past the list's"
+
+abbrev pub starts_ill : List ℕ
+starts_ill = codes "no node would start, two would in the same slot, or one comes on after the start"
+
+abbrev pub some_lost : List ℕ
+some_lost = codes "two or more nodes lost a frame, but not all"
+
+abbrev pub too_soon : List ℕ
+too_soon = codes "a fault comes too soon after the start or another fault"
+
+abbrev pub too_few : List ℕ
+too_few = codes "fewer than four correct nodes are left to measure clocks by"
+
 -- what it means that a rule is broken, from rule 1 on, of the hypothesis and of what armed nodes are owed
 abbrev pub rule_meanings : Lines
 rule_meanings =
-    codes "a drift or a reading error is past the list's"
+    bounds_passed
     ∷ codes "the window is narrower than clocks of this list need"
     ∷ codes "a bit is flipped, a node is armed, or a clock jumps a second time or by less than four windows"
-    ∷ codes "no node would start, two would in the same slot, or one comes on after the start"
-    ∷ codes "two or more nodes lost a frame, but not all"
-    ∷ codes "a fault comes too soon after the start or another fault"
-    ∷ codes "fewer than four correct nodes are left to measure clocks by"
+    ∷ starts_ill
+    ∷ some_lost
+    ∷ too_soon
+    ∷ too_few
     ∷ []
 
 abbrev pub returning_meanings : Lines
 returning_meanings =
-    codes "as H1"
+    bounds_passed
     ∷ codes "the window is narrower than clocks need of which one came back"
     ∷ codes "a bit is flipped, or a clock jumps a second time or by less than four windows"
-    ∷ codes "as H4"
-    ∷ codes "as H5"
-    ∷ codes "as H6"
-    ∷ codes "as H7"
+    ∷ starts_ill
+    ∷ some_lost
+    ∷ too_soon
+    ∷ too_few
     ∷ codes "the node armed in this slot is not owed its place"
     ∷ []
 

@@ -23,15 +23,23 @@ pub fn make_node_row(line: &mut Line, y: u64, number: u8)
     close_text(line);
 }
 
+// Makes the name of another row.
+fn make_row(line: &mut Line, y: u64, name: &str)
+    requires { length name.now ≤ 100 }
+    ensures { line.new ≡ row_line y name.now }
+{
+    make_text_of(line, "row", 64, y, name);
+}
+
 // Writes the names of the nodes beside the band that begins with this slot.
 #[tactic(auto, using(crate::proofs::Puts::puts))]
 fn put_node_rows<K: Sink>(frame: Frame, slot: u32, sheet: &mut Sheet, out: &mut K)
     ensures { Puts sheet.old.failed (K.output out.old) sheet.new.failed (K.output out.new)
-        (map (λ k. row_line (row_y frame.head.nodes frame.span slot k + 13) (codes "node " ++ decimal k))
+        (map (λ k. row_line (row_y frame.head.nodes frame.span slot k + 14) (codes "node " ++ decimal k))
         (below frame.head.nodes)) }
 {
     for number in 0..frame.head.nodes {
-        make_node_row(&mut sheet.line, row_y(frame, slot, number) + 13, number);
+        make_node_row(&mut sheet.line, row_y(frame, slot, number) + 14, number);
         sheet.write(out);
     }
 }
@@ -46,21 +54,15 @@ fn put_band<K: Sink>(frame: Frame, band: u32, sheet: &mut Sheet, out: &mut K)
     let nodes = frame.head.nodes;
     let slot = frame.span.first + columns(nodes) * band;
     put_node_rows(frame, slot, sheet, out);
-    make_text_of(
-        &mut sheet.line,
-        "row",
-        64,
-        row_y(frame, slot, nodes) + 17,
-        "members",
-    );
+    make_row(&mut sheet.line, row_y(frame, slot, nodes) + 18, "members");
     sheet.write(out);
-    make_text_of(
+    make_row(
         &mut sheet.line,
-        "row",
-        64,
-        row_y(frame, slot, nodes + 1) + 17,
+        row_y(frame, slot, nodes + 1) + 18,
         "clocks",
     );
+    sheet.write(out);
+    make_row(&mut sheet.line, row_y(frame, slot, nodes + 2) + 18, "apart");
     sheet.write(out);
 }
 

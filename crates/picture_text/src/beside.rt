@@ -30,7 +30,7 @@ fn make_why_box(line: &mut Line, word: Word, x: u64, y: u64)
     line.put_text("<rect class=\"why\"");
     put_place(line, x, y);
     put_field(line, " width=\"", 7 * letters + 6);
-    line.put_text("\" height=\"17\"/>\n");
+    line.put_text("\" height=\"19\"/>\n");
 }
 
 // Writes why a node left, if it did.
@@ -48,13 +48,13 @@ fn put_why<K: Sink>(
     let word = node_at(shown, number).word;
     if is_leaving_word(word) {
         let at = corner(frame, slot, number);
-        make_why_box(&mut sheet.line, word, at.x + 18, at.y);
+        make_why_box(&mut sheet.line, word, at.x + 20, at.y);
         sheet.write(out);
         make_text_of(
             &mut sheet.line,
             "why",
-            at.x + 21,
-            at.y + 13,
+            at.x + 23,
+            at.y + 14,
             word_text(word),
         );
         sheet.write(out);
@@ -91,7 +91,7 @@ fn make_mark_of(
     slot: u32,
     host_line: &HostLine,
 )
-    requires { (length class.now ≤ 6) × (length shape.now ≤ 8) }
+    requires { (length class.now ≤ 6) × (length shape.now ≤ 11) }
     ensures { line.new ≡ mark class.now shape.now at.x at.y (host_text slot host_line.now) }
 {
     open_mark(line, class, shape, at);
@@ -107,17 +107,17 @@ fn make_host_mark(line: &mut Line, frame: Frame, slot: u32, host_line: &HostLine
     let cell = corner(frame, slot, host_of(host_line));
     match host_line {
         HostLine::Write { .. } => {
-            let at = beside(cell, 0, 17);
-            make_mark_of(line, "write", "h6l-3-5z", at, slot, host_line);
+            let at = beside(cell, 0, 19);
+            make_mark_of(line, "write", "v-10l10 10z", at, slot, host_line);
         }
         HostLine::Read { source, .. } => match source {
             Source::Status => {
-                let at = beside(cell, 12, 0);
-                make_mark_of(line, "status", "h5v5h-5z", at, slot, host_line);
+                let at = beside(cell, 19, 0);
+                make_mark_of(line, "status", "v10l-10-10z", at, slot, host_line);
             }
             Source::Node(_) => {
-                let at = beside(cell, 11, 12);
-                make_mark_of(line, "read", "h6l-3 5z", at, slot, host_line);
+                let at = beside(cell, 19, 19);
+                make_mark_of(line, "read", "h-10l10-10z", at, slot, host_line);
             }
         },
     }

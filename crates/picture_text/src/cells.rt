@@ -3,15 +3,17 @@
 
 ghost use Rattle.std.specs.Prelude.{◌≡◌, ◌+◌, ◌-◌, ◌*◌, ◌<◌, ◌≤◌, [], ◌∷◌, ◌++◌, length, map, codes, decimal};
 ghost use Rattle.ttp_base.specs.NodeSet.{below};
-ghost use Rattle.shown_slot.specs.Nodes.{clock_range};
+ghost use Rattle.shown_slot.specs.Nodes.{clock_range, node_apart};
 ghost use Rattle.shown_slot.specs.Trace.{no_shown_node, node_at};
-ghost use Rattle.picture_text.specs.Cells.{doubt_class, other_class, data_class, node_class, node_cell};
-ghost use Rattle.picture_text.specs.Cells.{apart_text, apart_shown, clocks_cell};
-ghost use Rattle.picture_text.specs.Picture.{number_lines, cell_lines};
+ghost use Rattle.picture_text.specs.Cells.{doubt_class, other_class, data_class, refused_class, node_class, node_cell};
+ghost use Rattle.picture_text.specs.Cells.{apart_text, short_number, apart_shown, clocks_cell, far_text, far_shown, far_cell};
+ghost use Rattle.picture_text.specs.Picture.{number_lines, round_start_lines, cell_lines};
 ghost use Rattle.picture_text.specs.Sheet.{Puts};
 ghost use Rattle.picture_text.specs.Window.{row_y, column_x};
 
-use crate::element::{close_cell, close_title, make_number_of, open_cell, open_title, put_field};
+use crate::element::{
+    close_cell, close_title, make_number_of, make_round, open_cell, open_title, put_field,
+};
 use crate::frame::{Corner, Frame};
 use crate::grid::{column_x, corner, row_y};
 use crate::members::{held_by_most, memberships_of};
@@ -20,7 +22,9 @@ use crate::sheet::Sheet;
 use crate::tables::letter;
 use crate::titles::put_node_text;
 use line_reader::Word;
-use shown_slot::{ClockRange, clock_range, is_holder, word_text};
+use shown_slot::{
+    ClockRange, clock_range, is_holder, is_refused, node_apart, sends, starts_round, word_text,
+};
 use ttp_base::{Line, NodeSet, Sink};
 use ttp_world::Ack;
 use whole_trace::{NodeShown, SlotShown};
@@ -87,16 +91,37 @@ fn data_class(node: &NodeShown) -> &'static str
     if node.message.is_some() { " data" } else { "" }
 }
 
+// That it sent a frame that is refused.
+fn refused_class(node: &NodeShown, refused: bool) -> &'static str
+    ensures text { result.now ≡ refused_class node.now refused }
+    ensures short { length result.now ≤ 8 }
+{
+    if sends(node.word) && refused {
+        " refused"
+    } else {
+        ""
+    }
+}
+
+/// What holds of a slot and stands in its nodes' cells: the members that most holders hold, and whether the frame is
+/// refused.
+#[derive(Clone, Copy)]
+struct Common {
+    most: Option<u32>,
+    refused: bool,
+}
+
 // Adds the class of a node's cell.
-fn put_class(line: &mut Line, node: &NodeShown, most: Option<u32>)
+fn put_class(line: &mut Line, node: &NodeShown, common: Common)
     requires { length line.old ≤ 20 }
-    ensures text { line.new ≡ line.old ++ node_class node.now most }
-    ensures short { length line.new ≤ length line.old + 31 }
+    ensures text { line.new ≡ line.old ++ node_class node.now common.most common.refused }
+    ensures short { length line.new ≤ length line.old + 39 }
 {
     line.put_text(word_text(node.word));
     line.put_text(doubt_class(node));
-    line.put_text(other_class(node, most));
+    line.put_text(other_class(node, common.most));
     line.put_text(data_class(node));
+    line.put_text(refused_class(node, common.refused));
 }
 
 // Makes the cell of a node.
@@ -106,14 +131,14 @@ fn make_node_cell(
     slot: u32,
     number: u8,
     shown: &SlotShown<'_>,
-    most: Option<u32>,
+    common: Common,
 )
-    ensures { line.new ≡ node_cell frame.head slot number (node_at shown.now number) most
+    ensures { line.new ≡ node_cell frame.head slot number (node_at shown.now number) common.most common.refused
         (column_x frame.head.nodes frame.span slot) (row_y frame.head.nodes frame.span slot number) }
 {
     let node = node_at(shown, number);
     open_cell(line);
-    put_class(line, &node, most);
+    put_class(line, &node, common);
     open_title(line);
     put_node_text(line, &frame.head, slot, number, &node);
     close_title(line, corner(frame, slot, number));
@@ -127,16 +152,16 @@ fn put_node_cells<K: Sink>(
     frame: Frame,
     slot: u32,
     shown: &SlotShown<'_>,
-    most: Option<u32>,
+    common: Common,
     sheet: &mut Sheet,
     out: &mut K,
 )
     ensures { Puts sheet.old.failed (K.output out.old) sheet.new.failed (K.output out.new)
-        (map (λ k. node_cell frame.head slot k (node_at shown.now k) most (column_x frame.head.nodes frame.span slot)
+        (map (λ k. node_cell frame.head slot k (node_at shown.now k) common.most common.refused (column_x frame.head.nodes frame.span slot)
         (row_y frame.head.nodes frame.span slot k)) (below frame.head.nodes)) }
 {
     for number in 0..frame.head.nodes {
-        make_node_cell(&mut sheet.line, frame, slot, number, shown, most);
+        make_node_cell(&mut sheet.line, frame, slot, number, shown, common);
         sheet.write(out);
     }
 }
@@ -153,31 +178,46 @@ fn put_apart(line: &mut Line, range: Option<ClockRange>)
     }
 }
 
+// Adds a number in at most four characters.
+fn put_short(line: &mut Line, number: u64)
+    requires { length line.old ≤ 600 }
+    ensures text { line.new ≡ line.old ++ short_number number }
+    ensures short { length line.new ≤ length line.old + 21 }
+{
+    if number < 10_000 {
+        line.put_number(number);
+    } else if number < 1_000_000 {
+        line.put_number(number / 1000);
+        line.put_text("k");
+    } else {
+        line.put_text("1M+");
+    }
+}
+
 // Adds it as it is shown.
 fn put_apart_shown(line: &mut Line, range: Option<ClockRange>)
     requires { length line.old ≤ 600 }
     ensures text { line.new ≡ line.old ++ apart_shown range }
-    ensures short { length line.new ≤ length line.old + 20 }
+    ensures short { length line.new ≤ length line.old + 21 }
 {
     match range {
-        Some(range) => {
-            let spread = range.spread();
-            if 1000 <= spread {
-                line.put_text("*");
-            } else {
-                line.put_number(spread);
-            }
-        }
+        Some(range) => put_short(line, range.spread()),
         None => line.put_text("-"),
     }
 }
 
-// Makes the cell of the clocks.
-fn make_clocks_cell(line: &mut Line, frame: Frame, slot: u32, shown: &SlotShown<'_>)
+// Makes the cell of the clocks, whose range is this.
+fn make_clocks_cell(
+    line: &mut Line,
+    frame: Frame,
+    slot: u32,
+    shown: &SlotShown<'_>,
+    range: Option<ClockRange>,
+)
+    requires { range ≡ clock_range shown.now.nodes }
     ensures { line.new ≡ clocks_cell slot shown.now (column_x frame.head.nodes frame.span slot)
         (row_y frame.head.nodes frame.span slot (frame.head.nodes + 1) + 4) }
 {
-    let range = clock_range(shown.nodes());
     let at = Corner {
         x: column_x(frame, slot),
         y: row_y(frame, slot, frame.head.nodes + 1) + 4,
@@ -192,15 +232,107 @@ fn make_clocks_cell(line: &mut Line, frame: Frame, slot: u32, shown: &SlotShown<
     close_cell(line);
 }
 
+// Adds the node whose clock is far from most.
+fn put_far(line: &mut Line, far: Option<usize>)
+    requires { length line.old ≤ 600 }
+    ensures text { line.new ≡ line.old ++ far_text far }
+    ensures short { length line.new ≤ length line.old + 25 }
+{
+    match far {
+        Some(number) => put_field(line, "node ", number as u64),
+        None => line.put_text("-"),
+    }
+}
+
+// Adds it as it is shown.
+fn put_far_shown(line: &mut Line, far: Option<usize>)
+    requires { length line.old ≤ 600 }
+    ensures text { line.new ≡ line.old ++ far_shown far }
+    ensures short { length line.new ≤ length line.old + 20 }
+{
+    match far {
+        Some(number) => line.put_number(number as u64),
+        None => line.put_text("-"),
+    }
+}
+
+// Makes the cell of the node whose clock is far from most, where the range of the clocks is this.
+fn make_far_cell(
+    line: &mut Line,
+    frame: Frame,
+    slot: u32,
+    shown: &SlotShown<'_>,
+    range: Option<ClockRange>,
+)
+    requires { range ≡ clock_range shown.now.nodes }
+    ensures { line.new ≡ far_cell slot shown.now (column_x frame.head.nodes frame.span slot)
+        (row_y frame.head.nodes frame.span slot (frame.head.nodes + 2) + 4) }
+{
+    let far = node_apart(range, shown.nodes());
+    let at = Corner {
+        x: column_x(frame, slot),
+        y: row_y(frame, slot, frame.head.nodes + 2) + 4,
+    };
+    open_cell(line);
+    line.put_text("apart\"><title>");
+    put_field(line, "slot ", u64::from(slot));
+    line.put_text(" clock apart from most ");
+    put_far(line, far);
+    close_title(line, at);
+    put_far_shown(line, far);
+    close_cell(line);
+}
+
+// Writes the cells of the clocks.
+#[tactic(auto, using(crate::proofs::Puts::puts))]
+fn put_clocks_cells<K: Sink>(
+    frame: Frame,
+    slot: u32,
+    shown: &SlotShown<'_>,
+    sheet: &mut Sheet,
+    out: &mut K,
+)
+    ensures { Puts sheet.old.failed (K.output out.old) sheet.new.failed (K.output out.new)
+        (clocks_cell slot shown.now (column_x frame.head.nodes frame.span slot)
+        (row_y frame.head.nodes frame.span slot (frame.head.nodes + 1) + 4)
+        ∷ far_cell slot shown.now (column_x frame.head.nodes frame.span slot)
+        (row_y frame.head.nodes frame.span slot (frame.head.nodes + 2) + 4) ∷ []) }
+{
+    let range = clock_range(shown.nodes());
+    make_clocks_cell(&mut sheet.line, frame, slot, shown, range);
+    sheet.write(out);
+    make_far_cell(&mut sheet.line, frame, slot, shown, range);
+    sheet.write(out);
+}
+
 // Writes the number of a slot, where it is due.
 fn put_number<K: Sink>(frame: Frame, slot: u32, sheet: &mut Sheet, out: &mut K)
     ensures { Puts sheet.old.failed (K.output out.old) sheet.new.failed (K.output out.new)
         (number_lines frame.head.nodes frame.span slot) }
 {
     if slot % 5 == 0 {
-        let x = column_x(frame, slot) + 8;
+        let x = column_x(frame, slot) + 9;
         let y = row_y(frame, slot, 0) - 5;
         make_number_of(&mut sheet.line, "slot", x, y, u64::from(slot));
+        sheet.write(out);
+    }
+}
+
+// Writes the line of a round, where one begins in the slot.
+fn put_round<K: Sink>(
+    frame: Frame,
+    slot: u32,
+    shown: &SlotShown<'_>,
+    sheet: &mut Sheet,
+    out: &mut K,
+)
+    ensures { Puts sheet.old.failed (K.output out.old) sheet.new.failed (K.output out.new)
+        (round_start_lines frame.head.nodes frame.span slot shown.now) }
+{
+    if starts_round(shown.nodes()) {
+        let x = column_x(frame, slot) - 1;
+        let y = row_y(frame, slot, 0) - 3;
+        make_round(&mut sheet.line, x, y, 20 * u64::from(frame.head.nodes) + 6);
         sheet.write(out);
     }
 }
@@ -218,10 +350,13 @@ pub(crate) fn put_cells<K: Sink>(
         (cell_lines frame.head frame.span slot shown.now) }
 {
     let found = memberships_of(shown.nodes());
-    let most = held_by_most(shown, &found);
+    let common = Common {
+        most: held_by_most(shown, &found),
+        refused: is_refused(shown.nodes()),
+    };
     put_number(frame, slot, sheet, out);
-    put_node_cells(frame, slot, shown, most, sheet, out);
+    put_round(frame, slot, shown, sheet, out);
+    put_node_cells(frame, slot, shown, common, sheet, out);
     put_members_cell(frame, slot, shown, &found, sheet, out);
-    make_clocks_cell(&mut sheet.line, frame, slot, shown);
-    sheet.write(out);
+    put_clocks_cells(frame, slot, shown, sheet, out);
 }

@@ -4,7 +4,7 @@
 ghost use Rattle.std.specs.Prelude.{◌≡◌, ◌+◌, ◌≤◌, [], ◌++◌, length, codes, decimal};
 ghost use Rattle.ttp_base.specs.Text.{newline};
 ghost use Rattle.picture_text.specs.Cells.{place_attributes, cell, mark};
-ghost use Rattle.picture_text.specs.Picture.{class_of, text_line};
+ghost use Rattle.picture_text.specs.Picture.{class_of, text_line, round_line};
 
 use crate::frame::Corner;
 use ttp_base::Line;
@@ -51,14 +51,14 @@ pub fn open_title(line: &mut Line)
 pub(crate) fn close_title(line: &mut Line, at: Corner)
     requires { length line.old ≤ 450 }
     ensures text { line.new ≡ line.old ++ (codes "</title><rect" ++ place_attributes at.x at.y
-        ++ codes " width=\"17\" height=\"17\"/>"
-        ++ codes "<text" ++ place_attributes (at.x + 8) (at.y + 13) ++ codes ">") }
+        ++ codes " width=\"19\" height=\"19\"/>"
+        ++ codes "<text" ++ place_attributes (at.x + 9) (at.y + 14) ++ codes ">") }
     ensures short { length line.new ≤ length line.old + 150 }
 {
     line.put_text("</title><rect");
     put_place(line, at.x, at.y);
-    line.put_text(" width=\"17\" height=\"17\"/><text");
-    put_place(line, at.x + 8, at.y + 13);
+    line.put_text(" width=\"19\" height=\"19\"/><text");
+    put_place(line, at.x + 9, at.y + 14);
     line.put_text(">");
 }
 
@@ -116,6 +116,17 @@ pub fn make_mark(line: &mut Line, class: &str, shape: &str, at: Corner, title: &
     open_mark(line, class, shape, at);
     line.put_text(title);
     close_mark(line);
+}
+
+/// Makes the line of a round, from this place down.
+pub(crate) fn make_round(line: &mut Line, x: u64, y: u64, high: u64)
+    ensures { line.new ≡ round_line x y high }
+{
+    line.clear();
+    put_field(line, "<path class=\"round\" d=\"M", x);
+    put_field(line, " ", y);
+    put_field(line, "h1v", high);
+    line.put_text("h-1z\"/>\n");
 }
 
 /// Begins a text without a class, before what it shows.

@@ -31,7 +31,7 @@ fn make_pole(line: &mut Line, frame: Frame, slot: u32)
         column_x(frame, slot) - 1,
     );
     put_field(line, " ", row_y(frame, slot, 0) - 26);
-    put_field(line, "v", 18 * u64::from(frame.head.nodes) + 26);
+    put_field(line, "v", 20 * u64::from(frame.head.nodes) + 26);
     line.put_text("\"/>\n");
 }
 

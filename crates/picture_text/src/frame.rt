@@ -10,6 +10,7 @@ pub(crate) struct Frame {
     pub(crate) head: Head,
     pub(crate) span: Span,
     ghost few: { (1 ≤ head.nodes) × (head.nodes ≤ 24) },
+    ghost some: { 1 ≤ head.slots },
     ghost shown: { (span.first ≤ span.last) × (span.last < 2 ^ 31) },
 }
 

@@ -17,9 +17,9 @@ pub fn columns(nodes: u8) -> u32
 fn band_height(nodes: u8) -> u64
     requires { nodes ≤ 24 }
     ensures value { result ≡ band_height nodes }
-    ensures low { result ≤ 512 }
+    ensures low { result ≤ 584 }
 {
-    18 * u64::from(nodes) + 80
+    20 * u64::from(nodes) + 104
 }
 
 /// How many bands the slots take.
@@ -36,39 +36,39 @@ pub(crate) fn legend_top(frame: Frame) -> u64
     ensures value { result ≡ legend_top frame.head.nodes frame.span }
     ensures low { result ≤ 2 ^ 42 }
 {
-    74 + band_height(frame.head.nodes) * u64::from(bands(frame))
+    92 + band_height(frame.head.nodes) * u64::from(bands(frame))
 }
 
 /// How high the picture is.
 pub(crate) fn height(frame: Frame) -> u64
     ensures { result ≡ height frame.head.nodes frame.span }
 {
-    legend_top(frame) + 196
+    legend_top(frame) + 234
 }
 
 /// The left edge of a slot.
 pub(crate) fn column_x(frame: Frame, slot: u32) -> u64
     ensures value { result ≡ column_x frame.head.nodes frame.span slot }
-    ensures within { (72 ≤ result) × (result ≤ 1000) }
+    ensures within { (72 ≤ result) × (result ≤ 1012) }
 {
-    72 + 18 * u64::from(slot.saturating_sub(frame.span.first) % columns(frame.head.nodes))
+    72 + 20 * u64::from(slot.saturating_sub(frame.span.first) % columns(frame.head.nodes))
 }
 
 /// The upper edge of a row of a slot.
 #[tactic(auto, using(crate::proofs::Places::bands_are_low))]
 pub(crate) fn row_y(frame: Frame, slot: u32, row: u8) -> u64
     ensures value { result ≡ row_y frame.head.nodes frame.span slot row }
-    ensures within { (102 ≤ result) × (result ≤ 2 ^ 42) }
+    ensures within { (120 ≤ result) × (result ≤ 2 ^ 42) }
 {
     let band = slot.saturating_sub(frame.span.first) / columns(frame.head.nodes);
-    102 + band_height(frame.head.nodes) * u64::from(band) + 18 * u64::from(row)
+    120 + band_height(frame.head.nodes) * u64::from(band) + 20 * u64::from(row)
 }
 
 /// The corner of a row of a slot.
 pub(crate) fn corner(frame: Frame, slot: u32, row: u8) -> Corner
     ensures x { result.x ≡ column_x frame.head.nodes frame.span slot }
     ensures y { result.y ≡ row_y frame.head.nodes frame.span slot row }
-    ensures near { (result.x ≤ 1000) × (result.y ≤ 2 ^ 42) }
+    ensures near { (result.x ≤ 1012) × (result.y ≤ 2 ^ 42) }
 {
     Corner {
         x: column_x(frame, slot),

@@ -1,12 +1,12 @@
 //! The head of a picture: its size, its styles and what the tests say.
 #![tactic(auto, using(ttp_base::proofs::Room::room))]
 
-ghost use Rattle.std.specs.Prelude.{◌≡◌, ◌+◌, ◌≤◌, [], ◌∷◌, ◌++◌, length, codes, decimal};
+ghost use Rattle.std.specs.Prelude.{◌≡◌, ◌+◌, ◌<◌, ◌≤◌, ◌^◌, [], ◌∷◌, ◌++◌, length, codes, decimal};
 ghost use Rattle.line_reader.specs.TraceLines.{keep_text, back_text};
 ghost use Rattle.shown_slot.specs.Trace.{header_text};
 ghost use Rattle.picture_text.specs.Cells.{title_element};
-ghost use Rattle.picture_text.specs.Picture.{ended, size, svg_line, style_lines, more_text, said_line};
-ghost use Rattle.picture_text.specs.Picture.{back_said, text_line};
+ghost use Rattle.picture_text.specs.Picture.{ended, size, svg_line, style_lines, before_text, behind_text, more_text};
+ghost use Rattle.picture_text.specs.Picture.{window_text, said_line, back_said, text_line};
 ghost use Rattle.picture_text.specs.Sheet.{Puts};
 ghost use Rattle.picture_text.specs.Tables.{keep_meaning, back_meaning};
 ghost use Rattle.picture_text.specs.Window.{height};
@@ -16,6 +16,7 @@ use crate::frame::Frame;
 use crate::grid::height;
 use crate::sheet::Sheet;
 use crate::tables::{STYLE_LINES, returning_meaning, rule_meaning};
+use crate::window::Span;
 use shown_slot::{back_text, header_text, keep_text};
 use ttp_base::{Line, Sink};
 use ttp_world::{Back, Keep};
@@ -27,10 +28,10 @@ fn make_svg(line: &mut Line, height: u64)
     line.clear();
     put_field(
         line,
-        "<svg xmlns=\"http://www.w3.org/2000/svg\" width=\"1036\" height=\"",
+        "<svg xmlns=\"http://www.w3.org/2000/svg\" width=\"1140\" height=\"",
         height,
     );
-    put_field(line, "\" viewBox=\"0 0 1036 ", height);
+    put_field(line, "\" viewBox=\"0 0 1140 ", height);
     line.put_text("\">\n");
 }
 
@@ -55,8 +56,41 @@ fn make_ground(line: &mut Line, height: u64)
     ensures { line.new ≡ ended (codes "<rect" ++ size height ++ codes " fill=\"#ffffff\"/>") }
 {
     line.clear();
-    put_field(line, "<rect width=\"1036\" height=\"", height);
+    put_field(line, "<rect width=\"1140\" height=\"", height);
     line.put_text("\" fill=\"#ffffff\"/>\n");
+}
+
+// Adds what is left out before the first slot shown.
+fn put_before(line: &mut Line, first: u32, quiet: bool)
+    requires { length line.old ≤ 400 }
+    ensures text { line.new ≡ line.old ++ before_text first quiet }
+    ensures short { length line.new ≤ length line.old + 60 }
+{
+    if first == 0 {
+        return;
+    }
+    if quiet {
+        line.put_text("; before: all nodes off or listening");
+    } else {
+        put_field(
+            line,
+            "; before: ttplab picture TRACE 0 ",
+            u64::from(first - 1),
+        );
+    }
+}
+
+// Adds what is left out behind the last one of so many.
+fn put_behind(line: &mut Line, last: u32, slots: u32)
+    requires line { length line.old ≤ 400 }
+    requires slots { (last < 2 ^ 31) × (1 ≤ slots) }
+    ensures text { line.new ≡ line.old ++ behind_text last slots }
+    ensures short { length line.new ≤ length line.old + 80 }
+{
+    if last + 1 != slots {
+        put_field(line, "; behind: ttplab picture TRACE ", u64::from(last + 1));
+        put_field(line, " ", u64::from(slots - 1));
+    }
 }
 
 // Adds that more happens past the slots shown.
@@ -70,17 +104,28 @@ fn put_more(line: &mut Line, strange: Option<u32>)
     }
 }
 
-// Makes the line of what is shown.
-fn make_shown(line: &mut Line, frame: Frame, strange: Option<u32>)
-    ensures { line.new ≡ text_line [] 12 20
-        (header_text frame.head ++ codes ", shown: slots " ++ decimal frame.span.first
-        ++ codes " to " ++ decimal frame.span.last ++ more_text strange) }
+// Makes the first line of the trace as a text.
+fn make_first(line: &mut Line, head: &Head)
+    ensures { line.new ≡ text_line [] 12 20 (header_text head.now) }
 {
     open_text(line, 12, 20);
-    let text = header_text(&frame.head);
+    let text = header_text(head);
     line.put_bytes(text.bytes());
-    put_field(line, ", shown: slots ", u64::from(frame.span.first));
-    put_field(line, " to ", u64::from(frame.span.last));
+    close_text(line);
+}
+
+// Makes the line of what is shown and what is left out.
+fn make_shown(line: &mut Line, frame: Frame, quiet: bool, strange: Option<u32>)
+    ensures { line.new ≡ text_line [] 12 40 (window_text frame.span frame.head.slots quiet strange) }
+{
+    let Span { first, last } = frame.span;
+    let slots = frame.head.slots;
+    open_text(line, 12, 40);
+    put_field(line, "shown: slots ", u64::from(first));
+    put_field(line, " to ", u64::from(last));
+    put_field(line, " of 0 to ", u64::from(slots - 1));
+    put_before(line, first, quiet);
+    put_behind(line, last, slots);
     put_more(line, strange);
     close_text(line);
 }
@@ -103,9 +148,9 @@ pub fn put_keep_meaning(line: &mut Line, keep: &Keep)
 }
 
 fn make_keep_said(line: &mut Line, keep: &Keep)
-    ensures { line.new ≡ said_line 40 (keep_text keep.now) (keep_meaning keep.now) }
+    ensures { line.new ≡ said_line 60 (keep_text keep.now) (keep_meaning keep.now) }
 {
-    open_text_of(line, "said", 12, 40);
+    open_text_of(line, "said", 12, 60);
     let text = keep_text(keep);
     line.put_bytes(text.bytes());
     line.put_text(": ");
@@ -125,9 +170,9 @@ pub fn back_meaning(back: &Back) -> &'static str
 }
 
 fn make_back_said(line: &mut Line, back: &Back)
-    ensures { line.new ≡ said_line 58 (back_text back.now) (back_meaning back.now) }
+    ensures { line.new ≡ said_line 78 (back_text back.now) (back_meaning back.now) }
 {
-    open_text_of(line, "said", 12, 58);
+    open_text_of(line, "said", 12, 78);
     let text = back_text(back);
     line.put_bytes(text.bytes());
     line.put_text(": ");
@@ -146,9 +191,11 @@ fn put_back_said<K: Sink>(back: Option<Back>, sheet: &mut Sheet, out: &mut K)
     }
 }
 
-/// Writes the head, where `strange` is the first strange slot past those shown.
+/// Writes the head, where only quiet slots are before those shown or others too, and `strange` is the first strange slot
+/// past them.
 pub(crate) fn put_head<K: Sink>(
     frame: Frame,
+    quiet: bool,
     strange: Option<u32>,
     keep: Keep,
     back: Option<Back>,
@@ -158,9 +205,9 @@ pub(crate) fn put_head<K: Sink>(
     ensures { Puts sheet.old.failed (K.output out.old) sheet.new.failed (K.output out.new)
         (svg_line (height frame.head.nodes frame.span) ∷ ended (title_element (header_text frame.head)) ∷ style_lines
         ++ ended (codes "<rect" ++ size (height frame.head.nodes frame.span) ++ codes " fill=\"#ffffff\"/>")
-        ∷ text_line [] 12 20 (header_text frame.head ++ codes ", shown: slots " ++ decimal frame.span.first
-        ++ codes " to " ++ decimal frame.span.last ++ more_text strange)
-        ∷ said_line 40 (keep_text keep) (keep_meaning keep) ∷ back_said back) }
+        ∷ text_line [] 12 20 (header_text frame.head)
+        ∷ text_line [] 12 40 (window_text frame.span frame.head.slots quiet strange)
+        ∷ said_line 60 (keep_text keep) (keep_meaning keep) ∷ back_said back) }
 {
     let high = height(frame);
     make_svg(&mut sheet.line, high);
@@ -170,7 +217,9 @@ pub(crate) fn put_head<K: Sink>(
     put_styles(sheet, out);
     make_ground(&mut sheet.line, high);
     sheet.write(out);
-    make_shown(&mut sheet.line, frame, strange);
+    make_first(&mut sheet.line, &frame.head);
+    sheet.write(out);
+    make_shown(&mut sheet.line, frame, quiet, strange);
     sheet.write(out);
     make_keep_said(&mut sheet.line, &keep);
     sheet.write(out);

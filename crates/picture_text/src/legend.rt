@@ -1,15 +1,15 @@
-//! The legend: words, and then classes and marks.
+//! The legend: words, classes and marks.
 #![tactic(auto, using(ttp_base::proofs::Room::room))]
 
 ghost use Rattle.std.specs.Prelude.{◌≡◌, ◌+◌, ◌*◌, ◌^◌, ◌<◌, ◌≤◌, [], ◌∷◌, length, get_or};
 ghost use Rattle.picture_text.specs.Cells.{cell};
 ghost use Rattle.line_reader.specs.declared.trace_line.Word.TheVariants as word;
-ghost use Rattle.picture_text.specs.Picture.{legend_x, legend_y, legend_text, mark_entry};
-ghost use Rattle.picture_text.specs.Picture.{word_entries, class_entries};
+ghost use Rattle.picture_text.specs.Picture.{legend_x, legend_y, legend_text, cell_entry, round_entry};
+ghost use Rattle.picture_text.specs.Picture.{mark_entry, word_entries, class_entries, mark_entries};
 ghost use Rattle.picture_text.specs.Sheet.{Puts};
 ghost use Rattle.picture_text.specs.Tables.{words};
 
-use crate::element::{make_cell, make_mark, make_text};
+use crate::element::{make_cell, make_mark, make_round, make_text};
 use crate::frame::Corner;
 use crate::grid::beside;
 use crate::sheet::Sheet;
@@ -25,7 +25,7 @@ fn entry_corner(top: u64, number: u8) -> Corner
     ensures near { (result.x ≤ 1000) × (result.y ≤ 2 ^ 44) }
 {
     Corner {
-        x: 72 + 316 * u64::from(number % 3),
+        x: 72 + 345 * u64::from(number % 3),
         y: top + 22 * u64::from(number / 3),
     }
 }
@@ -51,7 +51,7 @@ fn put_entry<K: Sink>(
     let at = entry_corner(top, number);
     make_cell(&mut sheet.line, class, at, title, shown);
     sheet.write(out);
-    make_text(&mut sheet.line, at.x + 23, at.y + 13, text);
+    make_text(&mut sheet.line, at.x + 25, at.y + 14, text);
     sheet.write(out);
 }
 
@@ -77,120 +77,186 @@ pub(crate) fn put_words<K: Sink>(top: u64, sheet: &mut Sheet, out: &mut K)
     }
 }
 
-// Writes the entry of a mark, so far below the upper edge.
+// Writes the entry of a class of cells.
+fn put_class<K: Sink>(
+    top: u64,
+    number: u8,
+    class: &str,
+    shown: &str,
+    meaning: &str,
+    sheet: &mut Sheet,
+    out: &mut K,
+)
+    requires texts { (length class.now ≤ 20) × (length shown.now ≤ 20) × (length meaning.now ≤ 100) }
+    requires top { top ≤ 2 ^ 43 }
+    ensures { Puts sheet.old.failed (K.output out.old) sheet.new.failed (K.output out.new)
+        (cell_entry top number class.now shown.now meaning.now) }
+{
+    put_entry(top, number, class, meaning, shown, meaning, sheet, out);
+}
+
+// Writes the entry of the line of a round.
+fn put_round_entry<K: Sink>(top: u64, number: u8, meaning: &str, sheet: &mut Sheet, out: &mut K)
+    requires text { length meaning.now ≤ 100 }
+    requires top { top ≤ 2 ^ 43 }
+    ensures { Puts sheet.old.failed (K.output out.old) sheet.new.failed (K.output out.new)
+        (round_entry top number meaning.now) }
+{
+    let at = entry_corner(top, number);
+    make_round(&mut sheet.line, at.x + 9, at.y, 19);
+    sheet.write(out);
+    make_text(&mut sheet.line, at.x + 25, at.y + 14, meaning);
+    sheet.write(out);
+}
+
+// Writes the entry of a mark, so far to the right and below.
 fn put_mark_entry<K: Sink>(
     top: u64,
     number: u8,
     class: &str,
     shape: &str,
+    right: u8,
     down: u8,
     meaning: &str,
     sheet: &mut Sheet,
     out: &mut K,
 )
-    requires texts { (length class.now ≤ 6) × (length shape.now ≤ 8) × (length meaning.now ≤ 100) }
+    requires texts { (length class.now ≤ 6) × (length shape.now ≤ 11) × (length meaning.now ≤ 100) }
     requires top { top ≤ 2 ^ 43 }
     ensures { Puts sheet.old.failed (K.output out.old) sheet.new.failed (K.output out.new)
-        (mark_entry top number class.now shape.now down meaning.now) }
+        (mark_entry top number class.now shape.now right down meaning.now) }
 {
     let at = entry_corner(top, number);
-    make_mark(&mut sheet.line, class, shape, beside(at, 6, down), meaning);
+    let corner = beside(at, right, down);
+    make_mark(&mut sheet.line, class, shape, corner, meaning);
     sheet.write(out);
-    make_text(&mut sheet.line, at.x + 23, at.y + 13, meaning);
+    make_text(&mut sheet.line, at.x + 25, at.y + 14, meaning);
     sheet.write(out);
 }
 
-/// Writes the entries of classes and marks, from this edge on.
+/// Writes the entries of classes, from this edge on.
 pub(crate) fn put_classes<K: Sink>(top: u64, sheet: &mut Sheet, out: &mut K)
     requires { top ≤ 2 ^ 43 }
     ensures { Puts sheet.old.failed (K.output out.old) sheet.new.failed (K.output out.new) (class_entries top) }
 {
-    put_entry(
+    put_class(
         top,
         0,
         "agree",
-        "how many members all nodes hold",
         "4",
-        "how many members all nodes hold",
+        "members: how many all nodes hold",
         sheet,
         out,
     );
-    put_entry(
+    put_class(
         top,
         1,
         "differ",
-        "nodes hold different members",
         "!",
-        "nodes hold different members",
+        "members: nodes hold different ones",
         sheet,
         out,
     );
-    put_entry(
-        top,
-        2,
-        "none",
-        "microticks between the clocks",
-        "7",
-        "microticks between the clocks",
-        sheet,
-        out,
-    );
-    put_entry(
+    put_round_entry(top, 2, "a round begins: node 0 is due", sheet, out);
+    put_class(
         top,
         3,
-        "correct data",
-        "a message was sent or delivered",
-        "c",
-        "a message was sent or delivered",
+        "none",
+        "7",
+        "clocks: microticks between them",
         sheet,
         out,
     );
-    put_entry(
+    put_class(
         top,
         4,
-        "correct other",
-        "holds other members than most",
-        "c",
-        "holds other members than most",
+        "none",
+        "12k",
+        "12k: 12000 to 12999, 1M+: 1000000 up",
         sheet,
         out,
     );
-    put_entry(
+    put_class(
         top,
         5,
+        "apart",
+        "3",
+        "apart: its clock is far from most",
+        sheet,
+        out,
+    );
+    put_class(
+        top,
+        6,
+        "correct data",
+        "c",
+        "a message was sent or delivered",
+        sheet,
+        out,
+    );
+    put_class(
+        top,
+        7,
+        "correct other",
+        "c",
+        "holds other members than most",
+        sheet,
+        out,
+    );
+    put_class(
+        top,
+        8,
         "correct doubt",
-        "in doubt about its own frame",
         "c",
         "in doubt about its own frame",
         sheet,
         out,
     );
+    put_class(
+        top,
+        9,
+        "send refused",
+        "s",
+        "few took the frame of this sender",
+        sheet,
+        out,
+    );
+}
+
+/// Writes those of marks, from the same edge on.
+pub(crate) fn put_mark_entries<K: Sink>(top: u64, sheet: &mut Sheet, out: &mut K)
+    requires { top ≤ 2 ^ 43 }
+    ensures { Puts sheet.old.failed (K.output out.old) sheet.new.failed (K.output out.new) (mark_entries top) }
+{
     put_mark_entry(
         top,
-        6,
+        10,
         "write",
-        "h6l-3-5z",
-        11,
+        "v-10l10 10z",
+        0,
+        19,
         "its host writes a message",
         sheet,
         out,
     );
     put_mark_entry(
         top,
-        7,
+        11,
         "read",
-        "h6l-3 5z",
-        6,
+        "h-10l10-10z",
+        19,
+        19,
         "its host reads a node's message",
         sheet,
         out,
     );
     put_mark_entry(
         top,
-        8,
+        12,
         "status",
-        "h5v5h-5z",
-        6,
+        "v10l-10-10z",
+        19,
+        0,
         "its host reads its status",
         sheet,
         out,

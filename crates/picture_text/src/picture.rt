@@ -6,11 +6,11 @@ ghost use Rattle.std.specs.Prelude.{None, OnErr, IsTrue, position};
 ghost use Rattle.ttp_base.specs.Outside.{WroteLines, CutShort};
 ghost use Rattle.ttp_base.specs.Text.{lines_below};
 ghost use Rattle.picture_text.specs.Picture.{ended, band_lines, cell_lines, beside_lines, slot_at, shown_slots};
-ghost use Rattle.picture_text.specs.Picture.{keep_flag, back_flag, word_entries, class_entries, picture_of};
+ghost use Rattle.picture_text.specs.Picture.{keep_flag, back_flag, word_entries, class_entries, mark_entries, picture_of};
 ghost use Rattle.picture_text.specs.Picture.{picture_lines};
 ghost use Rattle.picture_text.specs.Sheet.{Puts};
 ghost use Rattle.picture_text.specs.Tables.{words};
-ghost use Rattle.picture_text.specs.Window.{bands, legend_top, is_strange};
+ghost use Rattle.picture_text.specs.Window.{bands, legend_top, is_strange, is_quiet_before};
 
 use crate::band::put_bands;
 use crate::beside::put_beside;
@@ -19,7 +19,7 @@ use crate::flag::{put_back_flag, put_keep_flag};
 use crate::frame::Frame;
 use crate::grid::legend_top;
 use crate::head::put_head;
-use crate::legend::{put_classes, put_words};
+use crate::legend::{put_classes, put_mark_entries, put_words};
 use crate::sheet::Sheet;
 use crate::walk::{Shown, skipped, span_shown, strange_past};
 use crate::window::Span;
@@ -96,19 +96,22 @@ fn put_rest<K: Sink>(frame: Frame, keep: Keep, back: Option<Back>, sheet: &mut S
     ensures { Puts sheet.old.failed (K.output out.old) sheet.new.failed (K.output out.new)
         (keep_flag frame.head.nodes frame.span keep ++ back_flag frame.head.nodes frame.span back
         ++ word_entries (legend_top frame.head.nodes frame.span) 0 words
-        ++ class_entries (legend_top frame.head.nodes frame.span + 118) ++ ended (codes "</svg>") ∷ []) }
+        ++ class_entries (legend_top frame.head.nodes frame.span + 118)
+        ++ mark_entries (legend_top frame.head.nodes frame.span + 118) ++ ended (codes "</svg>") ∷ []) }
 {
     let top = legend_top(frame);
     put_keep_flag(frame, keep, sheet, out);
     put_back_flag(frame, back, sheet, out);
     put_words(top, sheet, out);
     put_classes(top + 118, sheet, out);
+    put_mark_entries(top + 118, sheet, out);
     sheet.put(b"</svg>\n", out);
 }
 
 // Writes the picture of these slots.
 fn put_span<K: Sink>(trace: &Whole<'_>, shown: Shown, sheet: &mut Sheet, out: &mut K)
     requires shown { (shown.span.first ≤ shown.span.last) × (shown.span.last < length trace.now.slots) }
+    requires quiet { shown.is_quiet_before ≡ is_quiet_before shown.span.first trace.now.slots }
     requires calm { IsTrue shown.is_calm → position is_strange trace.now.slots ≡ None }
     ensures { Puts sheet.old.failed (K.output out.old) sheet.new.failed (K.output out.new)
         (picture_of trace.now shown.span) }
@@ -118,7 +121,15 @@ fn put_span<K: Sink>(trace: &Whole<'_>, shown: Shown, sheet: &mut Sheet, out: &m
     let frame = Frame { head, span };
     let first = skipped(trace.slots(), span.first);
     let strange = strange_past(trace, shown, first.again());
-    put_head(frame, strange, trace.keep(), trace.back(), sheet, out);
+    put_head(
+        frame,
+        shown.is_quiet_before,
+        strange,
+        trace.keep(),
+        trace.back(),
+        sheet,
+        out,
+    );
     put_rows(trace, frame, &first, sheet, out);
     put_rest(frame, trace.keep(), trace.back(), sheet, out);
 }

@@ -57,8 +57,8 @@ const WORD_MEANINGS: [&str; 15] = [
     "send: sent its frame",
     "correct: accepted the frame",
     "tentative: its own frame may be lost",
-    "incorrect: a frame that does not fit",
-    "invalid: a spoilt frame",
+    "incorrect: a frame of another C-state",
+    "invalid: spoilt, or too early or late",
     "null: heard nothing",
     "denied: left: its frame was lost",
     "unacknowledged: left: no answer",
@@ -94,16 +94,28 @@ pub(crate) const STYLE_LINES: [&str; 28] = [
     ".clique rect{fill:#b03a00}.clique text{fill:#ffffff}\n",
     ".null rect{stroke:#a0a0a0}.off rect{stroke:#c0c0c0;stroke-dasharray:2}\n",
     ".other rect{stroke:#d00000;stroke-width:2}.doubt rect{stroke:#000000;stroke-width:2;stroke-dasharray:3 2}\n",
-    ".data text{text-decoration:underline}\n",
-    ".agree rect,.none rect{fill:#ffffff}.none text{fill:#666666;font-size:9px}\n",
+    ".data text{text-decoration:underline}.refused rect{fill:#d00000}.round{fill:#7a8a94}\n",
+    ".agree rect,.none rect{fill:#ffffff}.none text{fill:#555555;font-size:7.5px}.apart rect{fill:#ffffff}.apart text{fill:#555555;font-size:10px}\n",
     ".differ rect{fill:#000000}.differ text{fill:#ffffff;font-weight:bold}\n",
     ".row{text-anchor:end}.slot{text-anchor:middle;font-size:10px;fill:#444444}.said{font-weight:bold}\n",
     "rect.why{fill:#ffffff}text.why{fill:#b03a00;font-weight:bold;font-size:11px}\n",
-    ".write{fill:#007a5a}.read{fill:#000000}.status{fill:#8b3a8b}\n",
+    ".write,.read,.status{stroke:#000000}.write{fill:#00c853}.read{fill:#ffd000}.status{fill:#e040fb}\n",
     ".flag{stroke:#000000}.keep{text-anchor:end;font-size:10px}.back{font-size:10px}\n",
-    ".why,.flag{pointer-events:none}\n",
+    ".why,.flag,.round{pointer-events:none}\n",
     "</style>\n",
 ];
+
+// What it means that a rule is broken that both tests have.
+const BOUNDS_PASSED: &str = "a drift or a reading error is past the list's";
+
+const STARTS_ILL: &str =
+    "no node would start, two would in the same slot, or one comes on after the start";
+
+const SOME_LOST: &str = "two or more nodes lost a frame, but not all";
+
+const TOO_SOON: &str = "a fault comes too soon after the start or another fault";
+
+const TOO_FEW: &str = "fewer than four correct nodes are left to measure clocks by";
 
 /// What it means that a rule of the hypothesis is broken.
 pub(crate) fn rule_meaning(number: u8) -> &'static str
@@ -111,14 +123,14 @@ pub(crate) fn rule_meaning(number: u8) -> &'static str
     ensures short { length result.now ≤ 100 }
 {
     match number {
-        0 | 1 => "a drift or a reading error is past the list's",
+        0 | 1 => BOUNDS_PASSED,
         2 => "the window is narrower than clocks of this list need",
         3 =>
             "a bit is flipped, a node is armed, or a clock jumps a second time or by less than four windows",
-        4 => "no node would start, two would in the same slot, or one comes on after the start",
-        5 => "two or more nodes lost a frame, but not all",
-        6 => "a fault comes too soon after the start or another fault",
-        7 => "fewer than four correct nodes are left to measure clocks by",
+        4 => STARTS_ILL,
+        5 => SOME_LOST,
+        6 => TOO_SOON,
+        7 => TOO_FEW,
         _ => "",
     }
 }
@@ -129,13 +141,13 @@ pub(crate) fn returning_meaning(number: u8) -> &'static str
     ensures short { length result.now ≤ 100 }
 {
     match number {
-        0 | 1 => "as H1",
+        0 | 1 => BOUNDS_PASSED,
         2 => "the window is narrower than clocks need of which one came back",
         3 => "a bit is flipped, or a clock jumps a second time or by less than four windows",
-        4 => "as H4",
-        5 => "as H5",
-        6 => "as H6",
-        7 => "as H7",
+        4 => STARTS_ILL,
+        5 => SOME_LOST,
+        6 => TOO_SOON,
+        7 => TOO_FEW,
         8 => "the node armed in this slot is not owed its place",
         _ => "",
     }

@@ -110,7 +110,7 @@ fn put_source(line: &mut Line, source: Source)
 
 /// Adds the line of a host.
 pub(crate) fn put_host_text(line: &mut Line, slot: u32, host_line: &HostLine)
-    requires { length line.old ≤ 83 }
+    requires { length line.old ≤ 86 }
     ensures text { line.new ≡ line.old ++ host_text slot host_line.now }
     ensures short { length line.new ≤ 624 }
 {

@@ -1,24 +1,27 @@
 //! The slots that a picture is to show, found in the trace.
-ghost use Rattle.std.specs.Prelude.{◌≡◌, ◌+◌, ◌<◌, ◌≤◌, ◌^◌, length, drop, position, unwrap_or, None, IfSome, IsTrue};
-ghost use Rattle.picture_text.specs.Window.{is_sought, is_strange, has_start, slot_of_interest, strange_past, chosen_span};
-ghost use Rattle.picture_text.specs.Window.{span_shown};
+ghost use Rattle.std.specs.Prelude.{◌≡◌, ◌+◌, ◌*◌, ◌<◌, ◌≤◌, ◌^◌, length, drop, position, None, Some, IfSome};
+ghost use Rattle.std.specs.Prelude.{IsTrue};
+ghost use Rattle.picture_text.specs.Window.{is_sought, is_strange, first_or_0, strange_past, columns};
+ghost use Rattle.picture_text.specs.Window.{rounds_left_out, span_from, chosen_span, span_shown, is_quiet_before};
 
 use crate::grid::columns;
 use crate::window::{Sought, Span, is_sought};
 use whole_trace::{Slots, Whole};
 
-/// The slots that a picture shows, and whether no slot of the trace is strange, where that came out when they were chosen.
+/// The slots that a picture shows, and whether only quiet slots are before them.
 #[derive(Clone, Copy)]
 pub(crate) struct Shown {
     pub(crate) span: Span,
+    pub(crate) is_quiet_before: bool,
+    /// No slot of the trace is strange, where that came out when they were chosen.
     pub(crate) is_calm: bool,
 }
 
-// The slot of interest, and whether no slot is strange.
+// The first slot that is sought, or else 0, and whether there is none.
 #[derive(Clone, Copy)]
-struct Interest {
+struct Found {
     slot: u32,
-    is_calm: bool,
+    is_none: bool,
 }
 
 // The first of these slots that is sought, counted from 0.
@@ -51,29 +54,20 @@ pub(crate) fn skipped<'a>(slots: Slots<'a>, count: u32) -> Slots<'a>
     left
 }
 
-fn slot_of_start(trace: &Whole<'_>) -> u32
-    requires { length trace.now.slots < 2 ^ 32 }
-    ensures { result ≡ unwrap_or (position has_start trace.now.slots) 0 }
+fn first_or_0(trace: &Whole<'_>, sought: Sought) -> Found
+    requires { (1 ≤ length trace.now.slots) × (length trace.now.slots < 2 ^ 32) }
+    ensures slot { result.slot ≡ first_or_0 sought trace.now.slots }
+    ensures within { result.slot < length trace.now.slots }
+    ensures none { IsTrue result.is_none → position (is_sought sought) trace.now.slots ≡ None }
 {
-    match first_sought(trace.slots(), Sought::Start) {
-        Some(slot) => slot,
-        None => 0,
-    }
-}
-
-fn slot_of_interest(trace: &Whole<'_>) -> Interest
-    requires { length trace.now.slots < 2 ^ 32 }
-    ensures slot { result.slot ≡ slot_of_interest trace.now.slots }
-    ensures calm { IsTrue result.is_calm → position is_strange trace.now.slots ≡ None }
-{
-    match first_sought(trace.slots(), Sought::Strange) {
-        Some(slot) => Interest {
+    match first_sought(trace.slots(), sought) {
+        Some(slot) => Found {
             slot,
-            is_calm: false,
+            is_none: false,
         },
-        None => Interest {
-            slot: slot_of_start(trace),
-            is_calm: true,
+        None => Found {
+            slot: 0,
+            is_none: true,
         },
     }
 }
@@ -107,31 +101,83 @@ pub(crate) fn strange_past(trace: &Whole<'_>, shown: Shown, from: Slots<'_>) -> 
     }
 }
 
+// Whether only quiet slots are before one; where it is the first, nothing is looked at.
+fn is_quiet_before(trace: &Whole<'_>, first: u32) -> bool
+    requires { (1 ≤ length trace.now.slots) × (length trace.now.slots < 2 ^ 32) }
+    ensures { result ≡ is_quiet_before first trace.now.slots }
+{
+    if first == 0 {
+        return true;
+    }
+    first <= first_or_0(trace, Sought::Busy).slot
+}
+
+// How many whole rounds behind the quiet slots of a long trace are left out.
+fn rounds_left_out(nodes: u8, slots: u32, quiet: u32, strange: u32) -> u32
+    requires nodes { (1 ≤ nodes) × (nodes ≤ 24) }
+    requires long { (quiet + 4 * columns nodes < slots) × (slots ≤ 2 ^ 30) × (strange ≤ 2 ^ 30) }
+    ensures { result ≡ rounds_left_out nodes slots quiet strange }
+{
+    let many = 4 * columns(nodes);
+    let nodes = u32::from(nodes);
+    let to_trouble = strange.saturating_sub(quiet + 2 * nodes) / nodes;
+    let to_end = (slots - (quiet + many) + nodes - 1) / nodes;
+    to_trouble.min(to_end)
+}
+
+// At most four bands of slots from one on.
+fn span_from(nodes: u8, slots: u32, first: u32) -> Span
+    requires nodes { (1 ≤ nodes) × (nodes ≤ 24) }
+    requires first { (first < slots) × (slots ≤ 2 ^ 30) }
+    ensures value { result ≡ span_from nodes slots first }
+    ensures within { (result.first ≤ result.last) × (result.last < slots) }
+{
+    Span {
+        first,
+        last: (first + 4 * columns(nodes)).min(slots) - 1,
+    }
+}
+
 fn chosen_span(trace: &Whole<'_>) -> Shown
     ensures value { result.span ≡ chosen_span trace.now.head.nodes trace.now.slots }
     ensures within { (result.span.first ≤ result.span.last) × (result.span.last < length trace.now.slots) }
+    ensures quiet { result.is_quiet_before ≡ is_quiet_before result.span.first trace.now.slots }
     ensures calm { IsTrue result.is_calm → position is_strange trace.now.slots ≡ None }
 {
     let head = trace.head();
-    let many = 4 * columns(head.nodes);
-    if head.slots <= many {
+    let quiet = first_or_0(trace, Sought::Busy).slot;
+    if head.slots <= quiet + 4 * columns(head.nodes) {
         return Shown {
-            span: Span {
-                first: 0,
-                last: head.slots - 1,
-            },
+            span: span_from(head.nodes, head.slots, quiet),
+            is_quiet_before: true,
             is_calm: false,
         };
     }
-    let Interest { slot, is_calm } = slot_of_interest(trace);
-    let earlier = slot.saturating_sub(2 * u32::from(head.nodes));
-    let first = earlier.min(head.slots - many);
+    let strange = first_or_0(trace, Sought::Strange);
+    let rounds = rounds_left_out(head.nodes, head.slots, quiet, strange.slot);
+    let first = quiet + u32::from(head.nodes) * rounds;
+    Shown {
+        span: span_from(head.nodes, head.slots, first),
+        is_quiet_before: first <= quiet,
+        is_calm: strange.is_none,
+    }
+}
+
+// The slots that were asked for, as far as there are any.
+fn asked_span(trace: &Whole<'_>, asked: Span) -> Shown
+    requires { (asked.first ≤ asked.last) × (asked.first < length trace.now.slots) }
+    ensures value { result.span ≡ span_shown trace.now.head.nodes trace.now.slots (Some asked) }
+    ensures within { (result.span.first ≤ result.span.last) × (result.span.last < length trace.now.slots) }
+    ensures quiet { result.is_quiet_before ≡ is_quiet_before result.span.first trace.now.slots }
+    ensures calm { IsTrue result.is_calm → position is_strange trace.now.slots ≡ None }
+{
     Shown {
         span: Span {
-            first,
-            last: first + many - 1,
+            first: asked.first,
+            last: asked.last.min(trace.head().slots - 1),
         },
-        is_calm,
+        is_quiet_before: is_quiet_before(trace, asked.first),
+        is_calm: false,
     }
 }
 
@@ -140,16 +186,11 @@ pub(crate) fn span_shown(trace: &Whole<'_>, asked: Option<Span>) -> Shown
     requires { IfSome asked (λ span. (span.first ≤ span.last) × (span.first < length trace.now.slots)) }
     ensures value { result.span ≡ span_shown trace.now.head.nodes trace.now.slots asked }
     ensures within { (result.span.first ≤ result.span.last) × (result.span.last < length trace.now.slots) }
+    ensures quiet { result.is_quiet_before ≡ is_quiet_before result.span.first trace.now.slots }
     ensures calm { IsTrue result.is_calm → position is_strange trace.now.slots ≡ None }
 {
     match asked {
-        Some(asked) => Shown {
-            span: Span {
-                first: asked.first,
-                last: asked.last.min(trace.head().slots - 1),
-            },
-            is_calm: false,
-        },
+        Some(asked) => asked_span(trace, asked),
         None => chosen_span(trace),
     }
 }

@@ -1,7 +1,7 @@
 //! Which slots a picture shows.
 ghost use Rattle.std.specs.Prelude.{◌≡◌};
-ghost use Rattle.std.specs.List.{list_any};
-ghost use Rattle.picture_text.specs.Window.{is_strange_word, is_start_word, differ, is_strange, has_start, is_sought};
+ghost use Rattle.std.specs.List.{list_any, list_all};
+ghost use Rattle.picture_text.specs.Window.{is_strange_word, is_quiet_word, differ, is_strange, is_busy, is_sought};
 
 use line_reader::Word;
 use shown_slot::agreement;
@@ -18,7 +18,7 @@ pub struct Span {
 #[derive(Clone, Copy)]
 pub(crate) enum Sought {
     Strange,
-    Start,
+    Busy,
 }
 
 fn is_strange_word(word: Word) -> bool
@@ -35,11 +35,11 @@ fn is_strange_word(word: Word) -> bool
     }
 }
 
-fn is_start_word(word: Word) -> bool
-    ensures { result ≡ is_start_word word }
+fn is_quiet_word(word: Word) -> bool
+    ensures { result ≡ is_quiet_word word }
 {
     match word {
-        Word::Start => true,
+        Word::Off | Word::Wait => true,
         _ => false,
     }
 }
@@ -67,10 +67,10 @@ fn is_strange(slot: &SlotShown<'_>) -> bool
     differ(slot.nodes()) || has_strange_word(slot)
 }
 
-fn has_start(slot: &SlotShown<'_>) -> bool
-    ensures { result ≡ has_start slot.now }
+fn is_quiet(slot: &SlotShown<'_>) -> bool
+    ensures { result ≡ list_all (λ node. is_quiet_word node.word) slot.now.nodes }
 {
-    slot.nodes().iter().any(|node| is_start_word(node.word))
+    slot.nodes().iter().all(|node| is_quiet_word(node.word))
 }
 
 /// Whether a slot is one that is sought.
@@ -79,6 +79,6 @@ pub(crate) fn is_sought(sought: Sought, slot: &SlotShown<'_>) -> bool
 {
     match sought {
         Sought::Strange => is_strange(slot),
-        Sought::Start => has_start(slot),
+        Sought::Busy => !is_quiet(slot),
     }
 }

@@ -1,7 +1,8 @@
--- What both views say of the nodes after a slot, by what their lines show.
-use Rattle.std.specs.Prelude.{ℕ, ◌+◌, ◌*◌, ◌==◌, ℤ, ◌-ℤ◌, int_le, unsigned_abs, Bool, true, false, ◌&&◌, ◌||◌, not}
-use Rattle.std.specs.Prelude.{List, [], ◌∷◌, Option, Some, None, if◌then◌else◌}
-use Rattle.std.specs.List.{list_all}
+-- What views say of the nodes after a slot, by what their lines show.
+use Rattle.std.specs.Prelude.{ℕ, ◌+◌, ◌*◌, ◌==◌, nat_lt, ℤ, ◌-ℤ◌, int_le, unsigned_abs, Bool, true, false, ◌&&◌, ◌||◌}
+use Rattle.std.specs.Prelude.{not, List, [], ◌∷◌, length, filter, position, Option, Some, None, if◌then◌else◌}
+use Rattle.std.specs.List.{list_all, list_any}
+use Rattle.std.specs.Ordering.{int_eq}
 use Rattle.ttp_base.specs.NodeSet.{set_bits}
 use Rattle.ttp_world.specs.Acknowledgement.{is_doubt}
 use Rattle.line_reader.specs.declared.trace_line.Word.{Word}
@@ -101,3 +102,72 @@ clock_range (node ∷ nodes) =
 -- how far apart they are
 abbrev pub spread_in : ClockRange → ℕ
 spread_in range = unsigned_abs (range.high -ℤ range.low)
+
+-- Rounds.
+
+-- a node for which node 0 is due in the slot
+abbrev pub has_first_due : NodeShown → Bool
+has_first_due node = is_active_word node.word && is_first node.peer
+  where
+    is_first : Option ℕ → Bool
+    is_first None = false
+    is_first (Some k) = k == 0
+
+-- a round begins in the slot
+abbrev pub starts_round : List NodeShown → Bool
+starts_round nodes = list_any has_first_due nodes
+
+-- The frame of a slot.
+
+-- a node whose line has this word did not take the frame, or took it
+abbrev pub is_refusing_word : Word → Bool
+is_refusing_word word.Incorrect = true
+is_refusing_word word.Invalid = true
+is_refusing_word word.Null = true
+is_refusing_word _ = false
+
+abbrev pub is_taking_word : Word → Bool
+is_taking_word word.Join = true
+is_taking_word word.Correct = true
+is_taking_word word.Tentative = true
+is_taking_word _ = false
+
+-- more nodes refuse it than take it
+abbrev pub is_refused : List NodeShown → Bool
+is_refused nodes =
+    nat_lt (length (filter (λ node. is_taking_word node.word) nodes))
+    (length (filter (λ node. is_refusing_word node.word) nodes))
+
+-- The node whose clock is far from most.
+
+abbrev pub clock_distance : ℤ → ℤ → ℕ
+clock_distance a b = unsigned_abs (a -ℤ b)
+
+-- an active node whose clock is nearer to the highest one of a range than to the lowest one, or the other way round
+abbrev pub is_near_high : ClockRange → NodeShown → Bool
+is_near_high range node =
+    is_active_word node.word && nat_lt (clock_distance range.high node.offset) (clock_distance node.offset range.low)
+
+abbrev pub is_near_low : ClockRange → NodeShown → Bool
+is_near_low range node =
+    is_active_word node.word && nat_lt (clock_distance node.offset range.low) (clock_distance range.high node.offset)
+
+-- an active node that has this clock
+abbrev pub has_clock : ℤ → NodeShown → Bool
+has_clock clock node = is_active_word node.word && int_eq node.offset clock
+
+-- with so many nodes near to each end of their range: the first one at the end to which fewer are near
+abbrev pub apart_by : ℕ → ℕ → ClockRange → List NodeShown → Option ℕ
+apart_by high low range nodes =
+    if nat_lt high low
+    then position (has_clock range.high) nodes
+    else if nat_lt low high then position (has_clock range.low) nodes else None
+
+abbrev pub apart_in : Option ClockRange → List NodeShown → Option ℕ
+apart_in None nodes = None
+apart_in (Some range) nodes =
+    apart_by (length (filter (is_near_high range) nodes)) (length (filter (is_near_low range) nodes)) range nodes
+
+-- the node whose clock is far from most, where there is one
+abbrev pub node_apart : List NodeShown → Option ℕ
+node_apart nodes = apart_in (clock_range nodes) nodes

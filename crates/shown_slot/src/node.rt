@@ -1,7 +1,9 @@
 //! What a trace shows of nodes after a slot.
-ghost use Rattle.std.specs.Prelude.{◌≡◌, ◌+◌, ◌^◌, ◌<◌, ◌≤◌, length};
+ghost use Rattle.std.specs.Prelude.{◌≡◌, ◌+◌, ◌^◌, ◌<◌, ◌≤◌, length, filter, position};
 ghost use Rattle.shown_slot.specs.Nodes.{is_active_word, is_leaving_word, sends, is_holder, hold_members, agreement};
 ghost use Rattle.shown_slot.specs.Nodes.{spread_in, sender_among, bits_where, widened, clock_range};
+ghost use Rattle.shown_slot.specs.Nodes.{has_first_due, starts_round, is_refusing_word, is_taking_word, is_refused};
+ghost use Rattle.shown_slot.specs.Nodes.{is_near_high, is_near_low, has_clock, apart_by, apart_in};
 
 use line_reader::Word;
 use ttp_world::Ack;
@@ -184,5 +186,133 @@ impl ClockRange {
         ensures { result ≡ spread_in self.now }
     {
         self.high.abs_diff(self.low)
+    }
+}
+
+// Whether node 0 is due in the slot for a node.
+fn has_first_due(node: &NodeShown) -> bool
+    ensures { result ≡ has_first_due node.now }
+{
+    is_active_word(node.word) && matches!(node.peer, Some(0))
+}
+
+/// Whether a round begins in the slot: node 0 is due in it for an active node.
+pub fn starts_round(nodes: &[NodeShown]) -> bool
+    ensures { result ≡ starts_round nodes.now }
+{
+    nodes.iter().any(|node| has_first_due(node))
+}
+
+// Whether a node whose line has this word did not take the frame of the slot.
+fn is_refusing_word(word: Word) -> bool
+    ensures { result ≡ is_refusing_word word }
+{
+    match word {
+        Word::Incorrect | Word::Invalid | Word::Null => true,
+        _ => false,
+    }
+}
+
+// Whether it took it.
+fn is_taking_word(word: Word) -> bool
+    ensures { result ≡ is_taking_word word }
+{
+    match word {
+        Word::Join | Word::Correct | Word::Tentative => true,
+        _ => false,
+    }
+}
+
+fn count_taking(nodes: &[NodeShown]) -> usize
+    ensures { result ≡ length (filter (λ node. is_taking_word node.word) nodes.now) }
+{
+    nodes
+        .iter()
+        .filter(|node| is_taking_word(node.word))
+        .count()
+}
+
+fn count_refusing(nodes: &[NodeShown]) -> usize
+    ensures { result ≡ length (filter (λ node. is_refusing_word node.word) nodes.now) }
+{
+    nodes
+        .iter()
+        .filter(|node| is_refusing_word(node.word))
+        .count()
+}
+
+/// Whether more nodes refuse the frame of the slot than take it.
+pub fn is_refused(nodes: &[NodeShown]) -> bool
+    ensures { result ≡ is_refused nodes.now }
+{
+    count_taking(nodes) < count_refusing(nodes)
+}
+
+fn is_near_high(range: ClockRange, node: &NodeShown) -> bool
+    ensures { result ≡ is_near_high range node.now }
+{
+    is_active_word(node.word) && range.high.abs_diff(node.offset) < node.offset.abs_diff(range.low)
+}
+
+fn is_near_low(range: ClockRange, node: &NodeShown) -> bool
+    ensures { result ≡ is_near_low range node.now }
+{
+    is_active_word(node.word) && node.offset.abs_diff(range.low) < range.high.abs_diff(node.offset)
+}
+
+fn count_near_high(range: ClockRange, nodes: &[NodeShown]) -> usize
+    ensures { result ≡ length (filter (is_near_high range) nodes.now) }
+{
+    nodes
+        .iter()
+        .filter(|node| is_near_high(range, node))
+        .count()
+}
+
+fn count_near_low(range: ClockRange, nodes: &[NodeShown]) -> usize
+    ensures { result ≡ length (filter (is_near_low range) nodes.now) }
+{
+    nodes.iter().filter(|node| is_near_low(range, node)).count()
+}
+
+fn has_clock(clock: i64, node: &NodeShown) -> bool
+    ensures { result ≡ has_clock clock node.now }
+{
+    is_active_word(node.word) && node.offset == clock
+}
+
+// The first active node that has this clock.
+fn first_with(clock: i64, nodes: &[NodeShown]) -> Option<usize>
+    ensures { result ≡ position (has_clock clock) nodes.now }
+{
+    nodes.iter().position(|node| has_clock(clock, node))
+}
+
+// With so many nodes near to each end of their range: the first one at the end to which fewer are near.
+fn apart_by(high: usize, low: usize, range: ClockRange, nodes: &[NodeShown]) -> Option<usize>
+    ensures { result ≡ apart_by high low range nodes.now }
+{
+    if high < low {
+        first_with(range.high, nodes)
+    } else if low < high {
+        first_with(range.low, nodes)
+    } else {
+        None
+    }
+}
+
+/// The node whose clock is far from most, where `range` is that of the nodes' clocks: the first one at the end of the
+/// range to which fewer active nodes are near. `None` where no node is active, or as many are near to both ends.
+pub fn node_apart(range: Option<ClockRange>, nodes: &[NodeShown]) -> Option<usize>
+    ensures { result ≡ apart_in range nodes.now }
+{
+    match range {
+        None => None,
+        Some(range) => apart_by(
+            count_near_high(range, nodes),
+            count_near_low(range, nodes),
+            range,
+            nodes,
+        ),
     }
 }

@@ -32,7 +32,7 @@ const COMMANDS: &[Row] = &[
     (&["wave", "trace"], "$version ttplab wave $end\n"),
     (
         &["picture", "trace", "0", "00009"],
-        "<svg xmlns=\"http://www.w3.org/2000/svg\" width=\"1036\" height=\"422\" viewBox=\"0 0 1036 422\">\n",
+        "<svg xmlns=\"http://www.w3.org/2000/svg\" width=\"1140\" height=\"510\" viewBox=\"0 0 1140 510\">\n",
     ),
     (
         CAMPAIGN,

@@ -14,4 +14,4 @@ returns c =
       c.word_text.ensures.text,
     )
     (box_parts (codes "<rect class=\"why\"") (place_attributes c.args.x c.args.y) (codes " width=\"")
-    (decimal (7 * length (word_text c.args.word) + 6)) (codes "\"") (codes " height=\"17\"/>") newline)
+    (decimal (7 * length (word_text c.args.word) + 6)) (codes "\"") (codes " height=\"19\"/>") newline)

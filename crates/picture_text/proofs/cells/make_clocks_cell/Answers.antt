@@ -19,11 +19,10 @@ returns c =
       c.from.ensures,
       c.put_text.ensures,
       c.open_cell.ensures,
-      c.clock_range-range.ensures,
-      c.nodes.ensures.value,
+      c.requires,
       c.column_x.ensures.value,
       c.row_y.ensures.value,
     )
     (cell_parts (codes "none")
     (codes "slot " ++ decimal c.args.slot ++ codes " clocks apart " ++ apart_text (clock_range c.args.shown.now.nodes))
-    (place_attributes x y) (place_attributes (x + 8) (y + 13)) (apart_shown (clock_range c.args.shown.now.nodes)))
+    (place_attributes x y) (place_attributes (x + 9) (y + 14)) (apart_shown (clock_range c.args.shown.now.nodes)))

@@ -21,5 +21,5 @@ returns c =
       c.open_cell.ensures,
       c.node_at-node.ensures,
     )
-    (cell_parts (node_class node c.args.most) (node_text head c.args.slot c.args.number node) (place_attributes x y)
-    (place_attributes (x + 8) (y + 13)) (letter node.word))
+    (cell_parts (node_class node c.args.common.most c.args.common.refused) (node_text head c.args.slot c.args.number node) (place_attributes x y)
+    (place_attributes (x + 9) (y + 14)) (letter node.word))

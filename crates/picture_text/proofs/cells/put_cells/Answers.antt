@@ -1,7 +1,7 @@
-use Rattle.picture_text.proofs.Words.{ap, ℕ, ◌+◌, map, Option, below, node_at, node_cell, column_x, row_y}
-use Rattle.picture_text.specs.Cells.{clocks_cell, members_cell}
-use Rattle.picture_text.specs.Picture.{number_lines}
-use Rattle.picture_text.proofs.Rows.{cells_more}
+use Rattle.picture_text.proofs.Words.{◌∙◌, ap, map, below, node_at, node_cell, column_x, row_y}
+use Rattle.picture_text.proofs.Words.{subst, Puts}
+use Rattle.shown_slot.specs.Nodes.{is_refused}
+use Rattle.picture_text.proofs.Pairs.{puts_both}
 use Rattle.picture_text.proofs.cells.put_cells.Goals as goal
 
 pub returns : goal.returns
@@ -9,10 +9,12 @@ returns g c =
     let n = c.args.frame.head.nodes in
     let span = c.args.frame.span in
     let t = c.args.slot in
-    cells_more _ _ _ _ _ _ _ _ _ _ (number_lines n span t) _ _
-    (members_cell c.args.frame.head t c.args.shown.now (column_x n span t) (row_y n span t n + 4))
-    c.make_clocks_cell.new.line (clocks_cell t c.args.shown.now (column_x n span t) (row_y n span t (n + 1) + 4))
-    c.put_number.ensures c.put_node_cells.ensures
-    (ap (λ (most : Option ℕ). map (λ k. node_cell c.args.frame.head t k (node_at c.args.shown.now k) most
-    (column_x n span t) (row_y n span t k)) (below n)) c.held_by_most-most.ensures)
-    c.put_members_cell.ensures c.write.ensures c.make_clocks_cell.ensures
+    let refused = c.is_refused.ensures ∙ ap is_refused c.nodes-2.ensures.value in
+    puts_both
+    (puts_both (puts_both c.put_number.ensures c.put_round.ensures)
+    (subst (Puts c.put_round.new.sheet.failed (g.K.Sink.output c.put_round.new.out) c.put_node_cells.new.sheet.failed
+    (g.K.Sink.output c.put_node_cells.new.out))
+    (λ j. map (λ k. node_cell c.args.frame.head t k (node_at c.args.shown.now k) (c.held_by_most.ensures j) (refused j)
+    (column_x n span t) (row_y n span t k)) (below n))
+    c.put_node_cells.ensures))
+    (puts_both c.put_members_cell.ensures c.put_clocks_cells.ensures)

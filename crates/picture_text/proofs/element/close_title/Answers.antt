@@ -12,5 +12,5 @@ returns-clause-text c =
       c.put_text.ensures,
     )
     (between_parts c.args.line.now (codes "</title><rect") (place_attributes c.args.at.x c.args.at.y)
-    (codes " width=\"17\" height=\"17\"/>") (codes "<text") (place_attributes (c.args.at.x + 8) (c.args.at.y + 13))
+    (codes " width=\"19\" height=\"19\"/>") (codes "<text") (place_attributes (c.args.at.x + 9) (c.args.at.y + 14))
     (codes ">"))

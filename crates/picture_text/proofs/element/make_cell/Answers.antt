@@ -14,4 +14,4 @@ returns c =
       c.open_cell.ensures,
     )
     (cell_parts c.args.class.now c.args.title.now (place_attributes c.args.at.x c.args.at.y)
-    (place_attributes (c.args.at.x + 8) (c.args.at.y + 13)) c.args.shown.now)
+    (place_attributes (c.args.at.x + 9) (c.args.at.y + 14)) c.args.shown.now)

@@ -18,5 +18,5 @@ returns c =
       c.clear.ensures,
     )
     (pole_parts (codes "<path class=\"flag\"") (codes " d=\"") (codes "M") (decimal (column_x n span c.args.slot - 1))
-    (codes " ") (decimal (row_y n span c.args.slot 0 - 26)) (codes "v") (decimal (18 * n + 26)) (codes "\"")
+    (codes " ") (decimal (row_y n span c.args.slot 0 - 26)) (codes "v") (decimal (20 * n + 26)) (codes "\"")
     (codes "/>") newline)

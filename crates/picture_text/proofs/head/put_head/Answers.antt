@@ -11,5 +11,6 @@ returns g c =
     (puts_first
     (c.make_ground.ensures ∙ ap (λ (h : ℕ). ended (codes "<rect" ++ size h ++ codes " fill=\"#ffffff\"/>")) high)
     c.write-3.ensures
-    (puts_first c.make_shown.ensures c.write-4.ensures
-    (puts_first c.make_keep_said.ensures c.write-5.ensures c.put_back_said.ensures)))
+    (puts_first c.make_first.ensures c.write-4.ensures
+    (puts_first c.make_shown.ensures c.write-5.ensures
+    (puts_first c.make_keep_said.ensures c.write-6.ensures c.put_back_said.ensures))))

@@ -3,7 +3,6 @@ use Rattle.picture_text.proofs.legend.put_classes.Goals as goal
 
 pub returns : goal.returns
 returns g c =
-    puts_both (puts_both (puts_both (puts_both (puts_both (puts_both (puts_both (puts_both
-    c.put_entry.ensures c.put_entry-2.ensures) c.put_entry-3.ensures) c.put_entry-4.ensures)
-    c.put_entry-5.ensures) c.put_entry-6.ensures) c.put_mark_entry.ensures) c.put_mark_entry-2.ensures)
-    c.put_mark_entry-3.ensures
+    puts_both (puts_both (puts_both (puts_both (puts_both (puts_both (puts_both (puts_both (puts_both
+    c.put_class.ensures c.put_class-2.ensures) c.put_round_entry.ensures) c.put_class-3.ensures) c.put_class-4.ensures)
+    c.put_class-5.ensures) c.put_class-6.ensures) c.put_class-7.ensures) c.put_class-8.ensures) c.put_class-9.ensures

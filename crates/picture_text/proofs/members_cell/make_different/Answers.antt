@@ -14,4 +14,4 @@ returns-clause-text c =
       c.open_members.ensures.text,
     )
     (long_cell_parts (codes "differ") (members_title c.args.head.now c.args.slot c.args.shown.now)
-    (place_attributes c.args.at.x c.args.at.y) (place_attributes (c.args.at.x + 8) (c.args.at.y + 13)) (codes "!"))
+    (place_attributes c.args.at.x c.args.at.y) (place_attributes (c.args.at.x + 9) (c.args.at.y + 14)) (codes "!"))

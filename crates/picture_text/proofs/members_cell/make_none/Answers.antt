@@ -15,4 +15,4 @@ returns c =
       c.open_cell.ensures,
     )
     (cell_parts (codes "none") (codes "slot " ++ decimal c.args.slot ++ codes " members -")
-    (place_attributes c.args.at.x c.args.at.y) (place_attributes (c.args.at.x + 8) (c.args.at.y + 13)) (codes "-"))
+    (place_attributes c.args.at.x c.args.at.y) (place_attributes (c.args.at.x + 9) (c.args.at.y + 14)) (codes "-"))

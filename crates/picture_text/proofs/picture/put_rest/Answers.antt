@@ -1,6 +1,6 @@
 use Rattle.picture_text.proofs.Words.{subst, ℕ, ◌+◌, [], ◌∷◌, ◌++◌, codes, ended, keep_flag, back_flag, word_entries}
-use Rattle.picture_text.proofs.Words.{class_entries, Puts, words}
-use Rattle.picture_text.proofs.Rows.{five_parts}
+use Rattle.picture_text.proofs.Words.{class_entries, mark_entries, Puts, words}
+use Rattle.picture_text.proofs.Pairs.{puts_both}
 use Rattle.picture_text.proofs.picture.put_rest.Goals as goal
 
 pub returns : goal.returns
@@ -10,9 +10,7 @@ returns g c =
     subst (λ (top : ℕ). Puts c.args.sheet.now.failed (g.K.Sink.output c.args.out.now) c.put.new.self.failed
     (g.K.Sink.output c.put.new.out)
     (keep_flag n span c.args.keep ++ back_flag n span c.args.back ++ word_entries top 0 words
-    ++ class_entries (top + 118) ++ ended (codes "</svg>") ∷ []))
+    ++ class_entries (top + 118) ++ mark_entries (top + 118) ++ ended (codes "</svg>") ∷ []))
     c.legend_top-top.ensures.value
-    (five_parts _ _ _ _ _ _ _ _ _ _ _ _ (keep_flag n span c.args.keep) (back_flag n span c.args.back)
-    (word_entries c.legend_top-top.result 0 words) (class_entries (c.legend_top-top.result + 118))
-    (ended (codes "</svg>") ∷ [])
-    c.put_keep_flag.ensures c.put_back_flag.ensures c.put_words.ensures c.put_classes.ensures c.put.ensures)
+    (puts_both (puts_both (puts_both (puts_both (puts_both c.put_keep_flag.ensures c.put_back_flag.ensures)
+    c.put_words.ensures) c.put_classes.ensures) c.put_mark_entries.ensures) c.put.ensures)

@@ -1,0 +1,8 @@
+use Rattle.picture_text.proofs.Pairs.{puts_two}
+use Rattle.picture_text.proofs.legend.put_round_entry.Goals as goal
+
+pub returns : goal.returns
+returns g c =
+    puts_two (rw (c.entry_corner-at.ensures.x, c.entry_corner-at.ensures.y) at c.make_round.ensures)
+    (rw (c.entry_corner-at.ensures.x, c.entry_corner-at.ensures.y) at c.make_text.ensures) c.write.ensures
+    c.write-2.ensures
