@@ -1,12 +1,12 @@
 -- Runs of a script without some of its fault lines, and what they tell of a story.
 use Rattle.std.specs.List.{filter_map, list_any}
-use Rattle.std.specs.Prelude.{Bool, List, None, Option, Some, [], false, filter, not, suc, true, ℕ, ◌==◌, ◌||◌, ◌∷◌}
+use Rattle.std.specs.Prelude.{Bool, List, None, Option, Some, [], false, filter, not, suc, true, ℕ, ◌&&◌, ◌==◌, ◌||◌}
+use Rattle.std.specs.Prelude.{◌∷◌}
 use Rattle.std.specs.Str.{bytes_eq}
-use Rattle.campaign.specs.Tried.{row_of}
 use Rattle.campaign.specs.ZerosWorld.{zeros_world}
 use Rattle.causes.specs.Story.{is_fault_event}
 use Rattle.causes.specs.declared.cause.ScriptLine.{ScriptLine}
-use Rattle.ttp_world.specs.Diary.{entry_of}
+use Rattle.ttp_world.specs.Diary.{diary_of, newest_entry}
 use Rattle.ttp_world.specs.Trace.{entry_word}
 use Rattle.ttp_world.specs.declared.medl.Medl.{Medl}
 use Rattle.ttp_world.specs.declared.node.Entry.{Entry}
@@ -29,7 +29,7 @@ with_faults_at places script = record script { events = events_kept places 0 scr
 
 -- the entry of node k in a slot of a script's run
 abbrev pub entry_in_run : Medl → Script → ℕ → ℕ → Entry
-entry_in_run list script slot k = entry_of (row_of (zeros_world list script (suc slot)) slot) k
+entry_in_run list script slot k = newest_entry (diary_of (zeros_world list script (suc slot)) k)
 
 -- two entries have one word
 abbrev pub is_same_word : Entry → Entry → Bool
@@ -61,3 +61,14 @@ without_line lines l = filter (λ other. not (is_same_line other l)) lines
 abbrev pub is_needed : Medl → Script → List ScriptLine → ℕ → ℕ → Entry → ScriptLine → Bool
 is_needed list script lines slot k e l =
     not (is_same_word e (entry_alone list script (without_line lines l) slot k))
+
+-- each fault among some events stands at one of some places, where the first event has this place
+abbrev pub names_faults_from : List ℕ → ℕ → List Event → Bool
+names_faults_from places place [] = true
+names_faults_from places place (event ∷ events) =
+    (not (is_fault_event event) || list_any (λ other. other == place) places)
+    && names_faults_from places (suc place) events
+
+-- some lines are all fault lines of a script, and may be others too
+abbrev pub names_all_faults : List ScriptLine → Script → Bool
+names_all_faults lines script = names_faults_from (places_of_lines lines) 0 script.events

@@ -1,7 +1,7 @@
 -- The text of `ttplab why`.
 use Rattle.std.specs.Fmt.{signed_decimal}
 use Rattle.std.specs.Prelude.{Bool, List, None, Option, Some, [], codes, decimal, false, filter, flat_map, get_or}
-use Rattle.std.specs.Prelude.{if◌then◌else◌, length, map, nat_lt, option_map, reverse, slice_get, suc, true}
+use Rattle.std.specs.Prelude.{if◌then◌else◌, length, map, nat_lt, not, option_map, reverse, slice_get, suc, true}
 use Rattle.std.specs.Prelude.{unwrap_or, ℕ, ◌&&◌, ◌++◌, ◌==◌, ◌∷◌}
 use Rattle.std.specs.Str.{bytes_eq}
 use Rattle.campaign.specs.CostText.{channels_word, fault_words, listed}
@@ -16,6 +16,7 @@ use Rattle.causes.specs.declared.cause.Miss.{Miss}
 use Rattle.causes.specs.declared.cause.ScriptLine.{ScriptLine}
 use Rattle.causes.specs.declared.cause.Spot.{Spot}
 use Rattle.ttp_base.specs.Text.{Lines, newline}
+use Rattle.ttp_world.specs.Frame.{frame}
 use Rattle.ttp_world.specs.Hypothesis.{needed}
 use Rattle.ttp_world.specs.Script.{drift_of, on_slot}
 use Rattle.ttp_world.specs.Trace.{entry_word, number_or_dash, peer_of}
