@@ -5,7 +5,8 @@ use Rattle.campaign.specs.Tried.{both_channels, only_a, only_b}
 use Rattle.campaign.specs.ZerosWorld.{zeros_world}
 use Rattle.causes.specs.RunSlots.{RunSlots, newest_spot, slots_of_run}
 use Rattle.causes.specs.Story.{spots_back, told_spot}
-use Rattle.causes.specs.WhyText.{LineNumbers, told_line}
+use Rattle.causes.specs.WhyText.{told_line}
+use Rattle.causes.specs.declared.cause.LineNumbers.{LineNumbers}
 use Rattle.ttp_world.specs.declared.medl.Medl.{Medl}
 use Rattle.ttp_world.specs.declared.medl.SlotPlan.{SlotPlan}
 use Rattle.ttp_world.specs.declared.script.Event.{Event}

@@ -1,7 +1,7 @@
 -- The text of `ttplab why`.
 use Rattle.std.specs.Fmt.{signed_decimal}
 use Rattle.std.specs.Prelude.{Bool, List, None, Option, Some, [], codes, decimal, false, filter, flat_map, get_or}
-use Rattle.std.specs.Prelude.{if◌then◌else◌, length, map, nat_lt, not, option_map, reverse, slice_get, suc, true}
+use Rattle.std.specs.Prelude.{if◌then◌else◌, length, map, nat_lt, option_map, reverse, slice_get, suc, true}
 use Rattle.std.specs.Prelude.{unwrap_or, ℕ, ◌&&◌, ◌++◌, ◌==◌, ◌∷◌}
 use Rattle.std.specs.Str.{bytes_eq}
 use Rattle.campaign.specs.CostText.{channels_word, fault_words, listed}
@@ -12,11 +12,11 @@ use Rattle.causes.specs.RunSlots.{RunSlots, slots_of_run}
 use Rattle.causes.specs.Story.{Story, Told, has_spot, lines_told, states_fault, story}
 use Rattle.causes.specs.declared.cause.Because.{Because}
 use Rattle.causes.specs.declared.cause.ClockNote.{ClockNote}
+use Rattle.causes.specs.declared.cause.LineNumbers.{LineNumbers}
 use Rattle.causes.specs.declared.cause.Miss.{Miss}
 use Rattle.causes.specs.declared.cause.ScriptLine.{ScriptLine}
 use Rattle.causes.specs.declared.cause.Spot.{Spot}
 use Rattle.ttp_base.specs.Text.{Lines, newline}
-use Rattle.ttp_world.specs.Frame.{frame}
 use Rattle.ttp_world.specs.Hypothesis.{needed}
 use Rattle.ttp_world.specs.Script.{drift_of, on_slot}
 use Rattle.ttp_world.specs.Trace.{entry_word, number_or_dash, peer_of}
@@ -30,12 +30,6 @@ use Rattle.causes.specs.declared.cause.ScriptLine.TheVariants as line
 use Rattle.causes.specs.declared.cause.Miss.TheVariants as miss
 
 -- The numbers of lines.
-
--- the number in the file of each node's `on` and `drift` line, and of the line of each event
-pub record LineNumbers : Type 0 where
-  pub on : List ℕ
-  pub drift : List ℕ
-  pub events : List ℕ
 
 abbrev pub number_of_line : LineNumbers → ScriptLine → ℕ
 number_of_line numbers (line.Event place) = get_or numbers.events place 0
@@ -63,9 +57,12 @@ in_file_order numbers (l ∷ lines) = insert_line numbers l (in_file_order numbe
 abbrev pub number_words : List ℕ → List ℕ
 number_words numbers = listed (map decimal numbers)
 
+abbrev pub number_word : LineNumbers → ScriptLine → List ℕ
+number_word numbers l = decimal (number_of_line numbers l)
+
 -- the numbers of lines with commas between them, as they stand
 abbrev pub line_number_words : LineNumbers → List ScriptLine → List ℕ
-line_number_words numbers lines = number_words (map (number_of_line numbers) lines)
+line_number_words numbers lines = listed (map (number_word numbers) lines)
 
 abbrev pub node_word : ℕ → List ℕ
 node_word k = codes "node " ++ decimal k

@@ -144,3 +144,12 @@ pub struct Cause {
     pub lines: List<ScriptLine>,
     pub entries: List<Spot>,
 }
+
+/// The numbers in the file of a script's lines, counted from 1: of the `on` and of the `drift` line of each node, 0 where it
+/// has none, and of the line of each event.
+#[derive(Drop)]
+pub struct LineNumbers {
+    pub on: List<u32>,
+    pub drift: List<u32>,
+    pub events: List<u32>,
+}

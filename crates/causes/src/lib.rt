@@ -23,4 +23,4 @@
 
 mod cause;
 
-pub use cause::{Because, Cause, ClockNote, Miss, ScriptLine, Spot};
+pub use cause::{Because, Cause, ClockNote, LineNumbers, Miss, ScriptLine, Spot};
