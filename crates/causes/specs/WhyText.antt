@@ -172,19 +172,27 @@ entry_head slot k e =
     codes "slot " ++ decimal slot ++ codes " node " ++ decimal k ++ codes " " ++ entry_word e
     ++ codes " peer " ++ number_or_dash (peer_of k e)
 
--- what the root adds
+-- what the root adds, by its entry and slot
+abbrev pub root_part : Entry → ℕ → List ℕ
+root_part e slot = codes ", by the " ++ entry_word e ++ codes " of slot " ++ decimal slot
+
 abbrev pub root_words : RunSlots → List Spot → List ℕ
 root_words run [] = []
-root_words run (spot ∷ spots) =
-    codes ", by the " ++ entry_word (entry_at_spot run spot) ++ codes " of slot " ++ decimal spot.slot
+root_words run (spot ∷ spots) = root_part (entry_at_spot run spot) spot.slot
+
+-- the line of an entry by what it names, in the orders of the file and of the story
+abbrev pub named_line : Medl → LineNumbers → Spot → Entry → List ScriptLine → List Spot → Because → List ℕ → List ℕ
+named_line list numbers spot e lines entries why origin =
+    entry_head spot.slot spot.node e
+    ++ codes " lines " ++ line_number_words numbers lines
+    ++ codes " entries " ++ listed (map spot_word entries)
+    ++ codes " because " ++ because_words list numbers why ++ origin ++ newline
 
 -- the line of an entry of a story, of which these spots are the oldest first
 abbrev pub told_line : Medl → LineNumbers → RunSlots → List Spot → List Spot → Told → List ℕ
 told_line list numbers run spots origin told =
-    entry_head told.spot.slot told.spot.node (entry_at_spot run told.spot)
-    ++ codes " lines " ++ line_number_words numbers (in_file_order numbers told.cause.lines)
-    ++ codes " entries " ++ listed (map spot_word (filter (has_spot told.cause.entries) spots))
-    ++ codes " because " ++ because_words list numbers told.cause.because ++ root_words run origin ++ newline
+    named_line list numbers told.spot (entry_at_spot run told.spot) (in_file_order numbers told.cause.lines)
+    (filter (has_spot told.cause.entries) spots) told.cause.because (root_words run origin)
 
 -- the lines of what is told, the newest first, of which the first alone has the root
 abbrev pub told_lines : Medl → LineNumbers → RunSlots → List Spot → List Spot → List Told → Lines

@@ -18,6 +18,8 @@
 pub mod laws;
 mod runs;
 mod script;
+mod words;
 
 pub use runs::{entry_alone, entry_in_run, is_needed};
 pub use script::with_faults_at;
+pub use words::entry_word;

@@ -3,18 +3,18 @@ ghost use Rattle.std.specs.Prelude.{◌≡◌, ◌+◌, ◌<◌, [], ◌∷◌, 
 ghost use Rattle.std.specs.List.{filter_map};
 ghost use Rattle.ttp_world.specs.Medl.{IsValid};
 ghost use Rattle.ttp_world.specs.Script.{IsValidScript};
-ghost use Rattle.ttp_world.specs.Trace.{verdict_word, reason_word, entry_word};
 ghost use Rattle.run_costs.specs.Standing.{IsRunAfter};
 ghost use Rattle.causes.specs.Reduced.{entry_in_run, is_same_word, is_same_line, place_of_line, places_of_lines};
 ghost use Rattle.causes.specs.Reduced.{entry_alone, without_line, is_needed};
 
 use crate::laws::fewer_is_valid;
 use crate::script::with_faults_at;
+use crate::words::entry_word;
 use causes::ScriptLine;
 use run_costs::Run;
 use std::alloc::Global;
 use ttp_base::{List, Memory};
-use ttp_world::{Entry, Medl, Reason, Script, Verdict};
+use ttp_world::{Entry, Medl, Script};
 
 // The entry of a node in the newest slot of a run.
 fn entry_shown(list: &Medl, script: &Script, slot: u32, run: &Run, node: u8) -> Entry
@@ -134,48 +134,6 @@ fn without(
         }
     }
     Ok(others)
-}
-
-// The word for a verdict.
-fn verdict_word(verdict: Verdict) -> &'static str
-    ensures { result.now ≡ verdict_word verdict }
-{
-    match verdict {
-        Verdict::Null => "null",
-        Verdict::Invalid => "invalid",
-        Verdict::Incorrect => "incorrect",
-        Verdict::Correct => "correct",
-        Verdict::Tentative => "tentative",
-        Verdict::Denied => "denied",
-    }
-}
-
-// The word for why a node left.
-fn reason_word(reason: Reason) -> &'static str
-    ensures { result.now ≡ reason_word reason }
-{
-    match reason {
-        Reason::Denied => "denied",
-        Reason::Unacknowledged => "unacknowledged",
-        Reason::Clique => "clique",
-    }
-}
-
-// The word for what a node did in a slot.
-fn entry_word(entry: &Entry) -> &'static str
-    ensures { result.now ≡ entry_word entry.now }
-{
-    match entry {
-        Entry::Off => "off",
-        Entry::Waited => "wait",
-        Entry::Retried => "retry",
-        Entry::Gone => "gone",
-        Entry::Started => "start",
-        Entry::Sent { .. } => "send",
-        Entry::Joined { .. } => "join",
-        Entry::Judged { verdict, .. } => verdict_word(*verdict),
-        Entry::Left { reason, .. } => reason_word(*reason),
-    }
 }
 
 // Two entries have one word.

@@ -11,10 +11,12 @@
 #![tactic(auto, using(std::proofs::Common::append_assoc))]
 
 mod because;
+mod entries;
 mod lines;
 mod lists;
 mod miss;
 
 pub use because::put_because;
+pub use entries::{put_alone, put_entry_head, put_named_line, put_root, put_why_head};
 pub use lines::put_event;
 pub use miss::put_miss;

@@ -8,15 +8,15 @@ use causes::{LineNumbers, ScriptLine};
 use fault_runs::campaign_text::Text;
 use ttp_base::Memory;
 
-// A comma, unless the word of this place is the first.
-fn put_comma(text: &mut Text, place: usize) -> Result<(), Memory>
+/// A comma, unless the word of this place is the first.
+pub(crate) fn put_comma(text: &mut Text, place: usize) -> Result<(), Memory>
     ensures { OnOk result (text.new ≡ text.old ++ comma_before place) }
 {
     if place == 0 { Ok(()) } else { text.put(",") }
 }
 
-// A dash where there are no words.
-fn put_dash(text: &mut Text, count: usize) -> Result<(), Memory>
+/// A dash where there are no words.
+pub(crate) fn put_dash(text: &mut Text, count: usize) -> Result<(), Memory>
     ensures { OnOk result (text.new ≡ text.old ++ dash_for count) }
 {
     if count == 0 { text.put("-") } else { Ok(()) }
