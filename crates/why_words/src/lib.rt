@@ -4,10 +4,10 @@
 //! `specs/WhyText.antt` of causes have them:
 //!
 //! ```text
-//! put_because(&mut text, list, numbers, &cause.because)?;
+//! put_because(alloc, &mut text, list, numbers, &cause.because)?;
 //! ```
 //!
-//! It adds to a growing text, knows no cluster, and takes no memory but for the text. A word costs its bytes.
+//! It adds to a growing text, knows no cluster, and takes no memory but for texts. A word costs its bytes.
 #![tactic(auto, using(std::proofs::Common::append_assoc))]
 
 mod because;
