@@ -24,5 +24,5 @@ pub mod laws;
 mod script;
 mod tried;
 
-pub use script::with_fault;
+pub use script::{copy_of, with_fault};
 pub use tried::faults_in;

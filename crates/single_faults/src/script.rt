@@ -8,8 +8,8 @@ use std::alloc::Global;
 use ttp_base::{List, Memory};
 use ttp_world::{Event, Events, Payload, Script};
 
-// The same event.
-fn copy_of(event: &Event) -> Event
+/// The same event.
+pub fn copy_of(event: &Event) -> Event
     ensures { result ≡ event.now }
 {
     match event {

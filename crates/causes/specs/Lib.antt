@@ -1,0 +1,14 @@
+pub mod RunSlots
+pub mod Sources
+pub mod LinesOf
+pub mod Said
+pub mod Listening
+pub mod Clocks
+pub mod Members
+pub mod Missed
+pub mod Judged
+pub mod OwnSlots
+pub mod Causes
+pub mod Story
+pub mod Reduced
+pub mod WhyText

@@ -1,0 +1,3 @@
+mod AllNamed
+mod Shown
+pub mod Valid
