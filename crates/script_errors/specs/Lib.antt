@@ -1,0 +1,5 @@
+pub mod Spots
+pub mod Words
+pub mod Errors
+pub mod Agrees
+pub mod SoFar
