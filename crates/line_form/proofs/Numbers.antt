@@ -39,10 +39,10 @@ numeral-again limit n few small =
     ap (λ (r : Option ℕ). r >>= λ m. given (nat_lt m limit) m) (numeral_in-again n (omega (arith, few, small)))
     ∙ gives (nat_lt n limit) n (is_lt n limit small)
 
-own : IsNumeralModel (λ word. list_all is_digit word ≡ true) (fold append_digit 0)
+pub own : IsNumeralModel (λ word. list_all is_digit word ≡ true) (fold append_digit 0)
 own = numerals_by_fold _ (search rules) (λ v word. fold append_digit v word) (search rules)
 
-no_zero : (word : List ℕ) → has_leading_zero word ≡ false → 0 < length word → get_or word 0 0 ≡ 48 → length word ≡ 1
+pub no_zero : (word : List ℕ) → has_leading_zero word ≡ false → 0 < length word → get_or word 0 0 ≡ 48 → length word ≡ 1
 no_zero word none some first = grind (arith, nat_tests)
 
 numeral_in-takes : (word : List ℕ) (n : ℕ) → numeral_in 18 word ≡ Some n → word ≡ decimal n
@@ -90,11 +90,11 @@ signed-again limit (pos n) few small =
 signed-again limit (negsuc n) few small =
     rw (numeral-again limit (suc n) few (omega (arith, small)), not_zero n) refl
 
-first_is : (word : List ℕ) (b : ℕ) → 0 < b → (slice_index word 0 == b) ≡ true → word ≡ b ∷ drop 1 word
+pub first_is : (word : List ℕ) (b : ℕ) → 0 < b → (slice_index word 0 == b) ≡ true → word ≡ b ∷ drop 1 word
 first_is [] b some same = absurd (omega (arith, some, eqb-true 0 b same))
 first_is (c ∷ word) b some same = ap (λ (x : ℕ). x ∷ word) (eqb-true c b same)
 
-either : {A : Type 0} (P : A → Type 0) (b : Bool) (r s : Option A) (y : A) → (b ≡ true → r ≡ Some y → P y)
+pub either : {A : Type 0} (P : A → Type 0) (b : Bool) (r s : Option A) (y : A) → (b ≡ true → r ≡ Some y → P y)
     → (b ≡ false → s ≡ Some y → P y) → cond b r s ≡ Some y → P y
 either P true r s y one other e = one refl e
 either P false r s y one other e = other refl e
