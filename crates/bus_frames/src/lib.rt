@@ -8,8 +8,8 @@
 //!
 //! Of a trace it says which host's message each frame carried; everything else follows from list and script.
 //! The text is a function of these (`frame_lines` of `specs/FrameText.antt`), whose words are those of
-//! ttp_world and ttp_frame: `channel_signal`, `flip_bits`, `match_of`. `frames` of lab_top writes it for a
-//! text that `verify` of trace_check took:
+//! ttp_world and ttp_frame: `channel_signal`, `flip_bits`, `match_of`. It is written for a text that `verify`
+//! of trace_check took, with the statuses of a command:
 //!
 //! ```text
 //! match put_frames(alloc, list, script, text, out) {

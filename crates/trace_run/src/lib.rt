@@ -5,11 +5,11 @@
 //! `verify` of trace_check has said that it is a trace. It stands for the numbers of the slots so far
 //! (`TraceStandsFor` of `specs/Run.antt`). In each slot [`TraceRun::make`] makes the slot, after which the
 //! plant and the messages of its frames are there to be read (`HasMade`), and [`TraceRun::pass`] goes behind
-//! the slot's lines. The text of modes and that of frames are written so:
+//! the slot's lines. `put_all` of bus_frames goes through each slot so:
 //!
 //! ```text
 //! run.make(list, script, slot, rest);
-//! know_slot(run.plant(), run.chosen(), &mut nodes, list);
+//! note_offsets(list, run.plant(), &mut offsets);
 //! rest = run.pass(list, script, slot, rest);
 //! ```
 //!
