@@ -5,7 +5,7 @@ use Rattle.std.specs.Prelude.{◌∷◌}
 use Rattle.causes.specs.LinesOf.{lines_where}
 use Rattle.causes.specs.Listening.{join_cause}
 use Rattle.causes.specs.RunSlots.{RunSlot, RunSlots, back_to, entry_in_slot, is_joined, is_miss_or_tentative, past_in}
-use Rattle.causes.specs.RunSlots.{place_of_node, spots_of}
+use Rattle.causes.specs.RunSlots.{place_of_node, spots_at_node}
 use Rattle.causes.specs.Said.{JoinedFrame, frame_joined}
 use Rattle.causes.specs.Sources.{ChannelReason, has_sources, sources_of}
 use Rattle.causes.specs.declared.cause.ClockNote.{ClockNote}
@@ -87,8 +87,8 @@ error_lines k s =
       | false ↦ []
     ]
 
-abbrev pub drift_lines : ℕ → RunSlot → List ScriptLine
-drift_lines x s = if is_outside s.begun.list.drift (drift_of s.begun.script x) then line.Drift x ∷ [] else []
+abbrev pub outside_drift_lines : ℕ → RunSlot → List ScriptLine
+outside_drift_lines x s = if is_outside s.begun.list.drift (drift_of s.begun.script x) then line.Drift x ∷ [] else []
 
 -- Clocks that were not corrected.
 
@@ -104,7 +104,7 @@ unread_before x stint [] = []
 unread_before x stint (first ∷ before) = elim (was_averaged x first) [
   | true ↦ []
   | false ↦
-      spots_of x (filter (λ s. nat_le stint s.begun.number && is_unread first.begun.list (entry_in_slot x s))
+      spots_at_node x (filter (λ s. nat_le stint s.begun.number && is_unread first.begun.list (entry_in_slot x s))
       (take (length first.begun.list.slots) before))
 ]
 
@@ -155,7 +155,7 @@ clock_reason p k s before =
     record {
       miss = miss.Clock (deviation_in s.begun k p) (map (λ n. n.note) noted);
       sources = record {
-        lines = jumps ++ (error_lines k s ++ (drift_lines p s ++ drift_lines k s));
+        lines = jumps ++ (error_lines k s ++ (outside_drift_lines p s ++ outside_drift_lines k s));
         entries = flat_map (λ n. n.entries) noted;
       };
     }

@@ -7,7 +7,7 @@ use Rattle.causes.specs.Missed.{missed_cause}
 use Rattle.causes.specs.RunSlots.{RunSlot, RunSlots, back_to, doubted_in, entry_in_slot, is_incorrect, is_joined}
 use Rattle.causes.specs.RunSlots.{is_miss_or_tentative, is_quiet, is_rejected, is_sent, judged_since_own, judged_so}
 use Rattle.causes.specs.RunSlots.{newest_departure, node_spot, own_slot, past_in, place_of_node, since_own, slots_to}
-use Rattle.causes.specs.RunSlots.{spots_of}
+use Rattle.causes.specs.RunSlots.{spots_at_node}
 use Rattle.causes.specs.Said.{said}
 use Rattle.causes.specs.Sources.{cause_by, only_entries}
 use Rattle.causes.specs.declared.cause.Because.{Because}
@@ -54,7 +54,7 @@ unacknowledged_cause k before =
 -- its correct entries in doubt since its own
 abbrev pub settled_doubts : ℕ → RunSlots → List Spot
 settled_doubts k before =
-    spots_of k (filter (λ s. is_some (doubted_in k s)) (judged_so is_correct k (since_own k before)))
+    spots_at_node k (filter (λ s. is_some (doubted_in k s)) (judged_so is_correct k (since_own k before)))
 
 -- its entries that count as neither, where with them it would have accepted more than it rejected
 abbrev pub quiet_entries : ℕ → RunSlot → RunSlots → List Spot

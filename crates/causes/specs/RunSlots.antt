@@ -168,12 +168,12 @@ abbrev pub judged_so : (Verdict → Bool) → ℕ → RunSlots → RunSlots
 judged_so p k slots = filter (λ s. is_judged_so p (entry_in_slot k s)) slots
 
 -- the entries of node k in some slots
-abbrev pub spots_of : ℕ → RunSlots → List Spot
-spots_of k slots = map (node_spot k) slots
+abbrev pub spots_at_node : ℕ → RunSlots → List Spot
+spots_at_node k slots = map (node_spot k) slots
 
 -- its entries with such verdicts since its own
 abbrev pub judged_since_own : (Verdict → Bool) → ℕ → RunSlots → List Spot
-judged_since_own p k before = spots_of k (judged_so p k (since_own k before))
+judged_since_own p k before = spots_at_node k (judged_so p k (since_own k before))
 
 -- node k's newest departure in these slots
 abbrev pub newest_departure : ℕ → RunSlots → Spot

@@ -72,18 +72,18 @@ spot_word spot = decimal spot.slot ++ codes ":" ++ decimal spot.node
 
 -- A line of the script.
 
-abbrev pub event_words : Event → List ℕ
-event_words (event.Flip node channels bit slot) =
+abbrev pub named_event_words : Event → List ℕ
+named_event_words (event.Flip node channels bit slot) =
     codes "flip " ++ decimal node ++ codes " " ++ channels_word channels ++ codes " " ++ decimal bit
     ++ codes " " ++ decimal slot
-event_words (event.Error node value from to) =
+named_event_words (event.Error node value from to) =
     codes "error " ++ decimal node ++ codes " " ++ signed_decimal value ++ codes " " ++ decimal from
     ++ codes " " ++ decimal to
-event_words (event.Arm node slot) = codes "arm " ++ decimal node ++ codes " " ++ decimal slot
-event_words e = fault_words e
+named_event_words (event.Arm node slot) = codes "arm " ++ decimal node ++ codes " " ++ decimal slot
+named_event_words e = fault_words e
 
 abbrev pub line_words : Script → ScriptLine → List ℕ
-line_words script (line.Event place) = unwrap_or (option_map event_words (slice_get script.events place)) []
+line_words script (line.Event place) = unwrap_or (option_map named_event_words (slice_get script.events place)) []
 line_words script (line.On k) =
     codes "on " ++ decimal k ++ codes " " ++ number_or_dash (on_slot script k)
 line_words script (line.Drift k) =

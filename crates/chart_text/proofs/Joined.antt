@@ -70,10 +70,6 @@ counts_parts o a b p c d e f g h i j k l m = simp append_assoc refl
 pub told_parts : (o a b c d : List ℕ) → o ++ a ++ (b ++ c) ++ d ≡ o ++ (a ++ b ++ c ++ d)
 told_parts o a b c d = simp append_assoc refl
 
--- the name of a cell of a node and a slot
-pub name_parts : (o a b c d : List ℕ) → o ++ (a ++ b) ++ (c ++ d) ≡ o ++ (a ++ b ++ c ++ d)
-name_parts o a b c d = simp append_assoc refl
-
 -- the line of the script's own run
 pub own_parts : (front t text u w cost e feed : List ℕ)
     → front ++ t ++ text ++ (u ++ w) ++ cost ++ (e ++ feed)

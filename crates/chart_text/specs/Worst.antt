@@ -47,13 +47,13 @@ ten_worst size faults = fold (ten_with size) [] faults
 abbrev pub first_word : List ℕ → List ℕ
 first_word text = take (length_before 32 text) text
 
-abbrev pub behind_word : List ℕ → List ℕ
-behind_word text = drop (length_before 32 text + 1) text
+abbrev pub behind_first_word : List ℕ → List ℕ
+behind_first_word text = drop (length_before 32 text + 1) text
 
 -- what stands behind the first so many words of a text
 abbrev pub words_from : ℕ → List ℕ → List ℕ
 words_from zero text = text
-words_from (suc n) text = behind_word (words_from n text)
+words_from (suc n) text = behind_first_word (words_from n text)
 
 -- the healthy nodes that left, and the fault, which are the twelfth word of a line and those from the nineteenth on
 abbrev pub hurt_word : List ℕ → List ℕ

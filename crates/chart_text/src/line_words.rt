@@ -2,7 +2,7 @@
 #![tactic(auto)]
 
 ghost use Rattle.std.specs.Prelude.{◌≡◌, ◌≤◌, ◌==◌, length, position};
-ghost use Rattle.chart_text.specs.Worst.{first_word, behind_word, words_from, hurt_word, fault_in_line};
+ghost use Rattle.chart_text.specs.Worst.{first_word, behind_first_word, words_from, hurt_word, fault_in_line};
 
 // Where the first space is.
 fn space(text: &[u8]) -> Option<usize>
@@ -23,8 +23,8 @@ fn first_word(text: &[u8]) -> &[u8]
 }
 
 // What stands behind it.
-fn behind_word(text: &[u8]) -> &[u8]
-    ensures value { result.now ≡ behind_word text.now }
+fn behind_first_word(text: &[u8]) -> &[u8]
+    ensures value { result.now ≡ behind_first_word text.now }
     ensures within { length result.now ≤ length text.now }
 {
     match space(text) {
@@ -40,7 +40,7 @@ fn words_from(count: u8, text: &[u8]) -> &[u8]
 {
     let mut rest = text;
     for _number in 0..count {
-        rest = behind_word(rest);
+        rest = behind_first_word(rest);
     }
     rest
 }

@@ -118,10 +118,10 @@ on_marked list before number line words true = on_append number (mark_errors num
     (on_said list before number line (behind_mark words))
 on_marked list before number line words false = on_said list before number line words
 
-on_line : (list : Option Medl) (before : Before) (number : ℕ) (line : List ℕ)
+line_stating_on : (list : Option Medl) (before : Before) (number : ℕ) (line : List ℕ)
     → AllOn number (line_errors list before number line)
 unfolding line_errors
-on_line list before number line =
+line_stating_on list before number line =
     on_marked list before number line (spots_of line) (is_marked number line (spots_of line))
 
 -- No error is told of a line before.
@@ -150,7 +150,7 @@ from_lines : (list : Option Medl) (lines : List (List ℕ)) (before : Before) (s
 from_lines list [] before said number = from_end number said
 from_lines list (line ∷ lines) before said number =
     from_append number (line_errors list before number line) _
-    (from_on number (line_errors list before number line) (on_line list before number line))
+    (from_on number (line_errors list before number line) (line_stating_on list before number line))
     (from_later number _ (from_lines list lines (before_next list before number line)
     (said || says_something line (spots_of line)) (number + 1)))
 

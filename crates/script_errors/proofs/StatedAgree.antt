@@ -12,7 +12,7 @@ use Rattle.script_text.specs.declared.error.LineFault.TheVariants as faults
 use Rattle.script_errors.specs.declared.error.Wrong.{Wrong}
 use Rattle.script_errors.specs.declared.error.Wrong.TheVariants as wrong
 use Rattle.script_errors.specs.declared.spots.Spot.{Spot}
-use Rattle.script_errors.specs.Errors.{Before, Taken, stated, line_stating, slots_line, on_line, drift_line, again, buffer_wrong}
+use Rattle.script_errors.specs.Errors.{Before, Taken, stated, line_stating, line_stating_slots, line_stating_on, line_stating_drift, again, buffer_wrong}
 use Rattle.script_errors.specs.Errors.{stated_wrong, errors_of_word}
 use Rattle.script_errors.specs.Agrees.{reader_fault}
 use Rattle.script_errors.proofs.OwnAgree.{Outcome}
@@ -66,10 +66,10 @@ pub stated_outcome : (number : ℕ) (at : Spot) (list : Medl) (before : Before) 
     → Outcome number (further_faults list (stated before) s)
     (errors_of_word number at (stated_wrong (Some list) before s))
 stated_outcome number at list before (says_slots count) =
-    repeat_outcome number at wrong.SlotsAgain (slots_line before) _ (λ n. refl) (found slots_said before.taken)
+    repeat_outcome number at wrong.SlotsAgain (line_stating_slots before) _ (λ n. refl) (found slots_said before.taken)
 stated_outcome number at list before (says_on node slot) =
-    repeat_outcome number at (wrong.OnAgain node) (on_line before node) _ (λ n. refl) (found (on_said node) before.taken)
+    repeat_outcome number at (wrong.OnAgain node) (line_stating_on before node) _ (λ n. refl) (found (on_said node) before.taken)
 stated_outcome number at list before (says_drift node value) =
-    repeat_outcome number at (wrong.DriftAgain node) (drift_line before node) _ (λ n. refl)
+    repeat_outcome number at (wrong.DriftAgain node) (line_stating_drift before node) _ (λ n. refl)
     (found (drift_said node) before.taken)
 stated_outcome number at list before (says_event e) = event_outcome number at list before e

@@ -53,14 +53,14 @@ line_stating test [] = None
 line_stating test (t ∷ taken) = if test t.states then Some t.line else line_stating test taken
 
 -- that says the slots of the run, when node k is on, and how its clock drifts
-abbrev pub slots_line : Before → Option ℕ
-slots_line before = line_stating (λ s. is_some (slots_said s)) before.taken
+abbrev pub line_stating_slots : Before → Option ℕ
+line_stating_slots before = line_stating (λ s. is_some (slots_said s)) before.taken
 
-abbrev pub on_line : Before → ℕ → Option ℕ
-on_line before k = line_stating (λ s. is_some (on_said k s)) before.taken
+abbrev pub line_stating_on : Before → ℕ → Option ℕ
+line_stating_on before k = line_stating (λ s. is_some (on_said k s)) before.taken
 
-abbrev pub drift_line : Before → ℕ → Option ℕ
-drift_line before k = line_stating (λ s. is_some (drift_said k s)) before.taken
+abbrev pub line_stating_drift : Before → ℕ → Option ℕ
+line_stating_drift before k = line_stating (λ s. is_some (drift_said k s)) before.taken
 
 -- Errors of one line.
 
@@ -122,9 +122,9 @@ buffer_wrong (Some list) node slot count =
 
 -- what is wrong with what a line states beside the lines before
 abbrev pub stated_wrong : Option Medl → Before → Statement → Option Wrong
-stated_wrong list before (says_slots count) = again wrong.SlotsAgain (slots_line before)
-stated_wrong list before (says_on node slot) = again (wrong.OnAgain node) (on_line before node)
-stated_wrong list before (says_drift node value) = again (wrong.DriftAgain node) (drift_line before node)
+stated_wrong list before (says_slots count) = again wrong.SlotsAgain (line_stating_slots before)
+stated_wrong list before (says_on node slot) = again (wrong.OnAgain node) (line_stating_on before node)
+stated_wrong list before (says_drift node value) = again (wrong.DriftAgain node) (line_stating_drift before node)
 stated_wrong list before (says_event (event.Write node slot payload)) =
     buffer_wrong list node slot (count_by (is_write_at node slot) (stated before) + 1)
 stated_wrong list before (says_event e) = None

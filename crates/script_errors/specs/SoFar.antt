@@ -9,7 +9,7 @@ use Rattle.script_errors.specs.declared.writes.WriteCounts.{WriteCounts}
 use Rattle.script_errors.specs.declared.error.Form.{Form}
 use Rattle.script_errors.specs.declared.error.ScriptError.{ScriptError}
 use Rattle.script_errors.specs.declared.spots.Spot.{Spot}
-use Rattle.script_errors.specs.Errors.{Before, stated, slots_line, on_line, drift_line, errors_of_word, stated_wrong}
+use Rattle.script_errors.specs.Errors.{Before, stated, line_stating_slots, line_stating_on, line_stating_drift, errors_of_word, stated_wrong}
 use Rattle.script_errors.specs.Errors.{line_states, taken_unless, full_errors, form_errors, form_after, said_errors}
 use Rattle.script_errors.specs.Errors.{said_after, line_errors, before_next, length_errors, is_full, before_comment}
 
@@ -27,9 +27,9 @@ pub record CountsOneMore (old new : WriteCounts) (node slot : ℕ) : Type 0 wher
 pub record StandsFor (list : Option Medl) (so_far : SoFar) (before : Before) : Type 0 where
   pub named : so_far.named ≡ before.named
   pub slots : option_map (λ s. s.count) so_far.slots ≡ slots_of (stated before)
-  pub slots_line : option_map (λ s. s.line) so_far.slots ≡ slots_line before
-  pub on : (k : ℕ) → k < most_nodes → slice_index_or so_far.on k None ≡ on_line before k
-  pub drift : (k : ℕ) → k < most_nodes → slice_index_or so_far.drift k None ≡ drift_line before k
+  pub line_stating_slots : option_map (λ s. s.line) so_far.slots ≡ line_stating_slots before
+  pub on : (k : ℕ) → k < most_nodes → slice_index_or so_far.on k None ≡ line_stating_on before k
+  pub drift : (k : ℕ) → k < most_nodes → slice_index_or so_far.drift k None ≡ line_stating_drift before k
   pub writes : is_some list ≡ true → (k t : ℕ) → k < most_nodes
       → counted_writes so_far.writes k t ≡ count_by (is_write_at k t) (stated before)
 

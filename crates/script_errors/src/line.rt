@@ -43,7 +43,7 @@ fn finish_slots(
     ensures { OnOk result ((list : Option Medl) (before : Before) → StandsFor list so_far.old before
         → Finishes list before number line.now form.Slots first words.now so_far.new found.old found.new) }
 {
-    if let Some(line) = so_far.slots_line() {
+    if let Some(line) = so_far.line_stating_slots() {
         so_far.name();
         return tell(found, number, first, Wrong::SlotsAgain { line });
     }
@@ -67,7 +67,7 @@ fn finish_on(
         → Finishes list before number line.now form.On first words.now so_far.new found.old found.new) }
 {
     let node = number_at(line, words[0]);
-    if let Some(line) = so_far.on_line(node) {
+    if let Some(line) = so_far.line_stating_on(node) {
         so_far.name();
         return tell(found, number, first, Wrong::OnAgain { node, line });
     }
@@ -91,7 +91,7 @@ fn finish_drift(
         → Finishes list before number line.now form.Drift first words.now so_far.new found.old found.new) }
 {
     let node = number_at(line, words[0]);
-    if let Some(line) = so_far.drift_line(node) {
+    if let Some(line) = so_far.line_stating_drift(node) {
         so_far.name();
         return tell(found, number, first, Wrong::DriftAgain { node, line });
     }

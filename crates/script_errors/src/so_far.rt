@@ -2,7 +2,7 @@
 ghost use Rattle.std.specs.Prelude.{List as Items, ◌≡◌, ◌<◌, ℕ, ℤ, Option, OnOk, is_some, true, false};
 ghost use Rattle.ttp_base.specs.NodeSet.{most_nodes};
 ghost use Rattle.script_text.specs.Statement.{says_slots, says_on, says_drift, says_event};
-ghost use Rattle.script_errors.specs.Errors.{Before, no_line_before, slots_or_most, with_taken, slots_line, on_line, drift_line};
+ghost use Rattle.script_errors.specs.Errors.{Before, no_line_before, slots_or_most, with_taken, line_stating_slots, line_stating_on, line_stating_drift};
 ghost use Rattle.script_errors.specs.SoFar.{StandsFor, counted_writes};
 ghost use Rattle.script_text.specs.Faults.{is_write_at};
 ghost use Rattle.ttp_world.specs.declared.medl.Medl.{Medl};
@@ -57,8 +57,8 @@ impl SoFar {
     }
 
     /// The line that says the slots of the run.
-    pub(crate) fn slots_line(&self) -> Option<u32>
-        ensures { (list : Option Medl) (before : Before) → StandsFor list self.now before → result ≡ slots_line before }
+    pub(crate) fn line_stating_slots(&self) -> Option<u32>
+        ensures { (list : Option Medl) (before : Before) → StandsFor list self.now before → result ≡ line_stating_slots before }
     {
         match self.slots {
             Some(slots) => Some(slots.line),
@@ -67,17 +67,17 @@ impl SoFar {
     }
 
     /// The line that says when a node is on.
-    pub(crate) fn on_line(&self, node: u32) -> Option<u32>
+    pub(crate) fn line_stating_on(&self, node: u32) -> Option<u32>
         requires { node < most_nodes }
-        ensures { (list : Option Medl) (before : Before) → StandsFor list self.now before → result ≡ on_line before node }
+        ensures { (list : Option Medl) (before : Before) → StandsFor list self.now before → result ≡ line_stating_on before node }
     {
         self.on[node as usize]
     }
 
     /// The line that says how a node's clock drifts.
-    pub(crate) fn drift_line(&self, node: u32) -> Option<u32>
+    pub(crate) fn line_stating_drift(&self, node: u32) -> Option<u32>
         requires { node < most_nodes }
-        ensures { (list : Option Medl) (before : Before) → StandsFor list self.now before → result ≡ drift_line before node }
+        ensures { (list : Option Medl) (before : Before) → StandsFor list self.now before → result ≡ line_stating_drift before node }
     {
         self.drift[node as usize]
     }

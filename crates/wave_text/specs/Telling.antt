@@ -9,9 +9,11 @@ use Rattle.line_reader.specs.declared.trace_line.Word.TheVariants as word
 use Rattle.whole_trace.specs.declared.shown.NodeShown.{NodeShown}
 use Rattle.shown_slot.specs.Nodes.{is_active_word}
 
+-- a byte behind the digits: a letter, or another such sign
 abbrev pub is_letter : ℕ → Bool
 is_letter c = nat_lt 57 c
 
+-- a binary number with one digit more
 abbrev pub with_bit : ℕ → ℕ → ℕ
 with_bit v c = 2 * v + (c - 48)
 

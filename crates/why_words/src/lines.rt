@@ -2,7 +2,7 @@
 ghost use Rattle.std.specs.Prelude.{◌≡◌, ◌++◌, ◌<◌, length, OnOk};
 ghost use Rattle.ttp_world.specs.declared.script.Event.TheVariants as event;
 ghost use Rattle.campaign.specs.CostText.{channels_word};
-ghost use Rattle.causes.specs.WhyText.{event_words};
+ghost use Rattle.causes.specs.WhyText.{named_event_words};
 
 use fault_runs::campaign_text::{Text, put_fault};
 use ttp_base::Memory;
@@ -25,7 +25,7 @@ fn put_flip(
     bit: u16,
     slot: u32,
 ) -> Result<(), Memory>
-    ensures { OnOk result (text.new ≡ text.old ++ event_words (event.Flip node channels bit slot)) }
+    ensures { OnOk result (text.new ≡ text.old ++ named_event_words (event.Flip node channels bit slot)) }
 {
     text.put("flip ")?;
     text.put_number(u64::from(node))?;
@@ -38,7 +38,7 @@ fn put_flip(
 }
 
 fn put_error(text: &mut Text, node: u8, value: i64, from: u32, to: u32) -> Result<(), Memory>
-    ensures { OnOk result (text.new ≡ text.old ++ event_words (event.Error node value from to)) }
+    ensures { OnOk result (text.new ≡ text.old ++ named_event_words (event.Error node value from to)) }
 {
     text.put("error ")?;
     text.put_number(u64::from(node))?;
@@ -51,7 +51,7 @@ fn put_error(text: &mut Text, node: u8, value: i64, from: u32, to: u32) -> Resul
 }
 
 fn put_arm(text: &mut Text, node: u8, slot: u32) -> Result<(), Memory>
-    ensures { OnOk result (text.new ≡ text.old ++ event_words (event.Arm node slot)) }
+    ensures { OnOk result (text.new ≡ text.old ++ named_event_words (event.Arm node slot)) }
 {
     text.put("arm ")?;
     text.put_number(u64::from(node))?;
@@ -65,7 +65,7 @@ fn put_arm(text: &mut Text, node: u8, slot: u32) -> Result<(), Memory>
 ///
 /// Where memory was refused; some of it may have been added.
 pub fn put_event(text: &mut Text, event: &Event) -> Result<(), Memory>
-    ensures { OnOk result (text.new ≡ text.old ++ event_words event.now) }
+    ensures { OnOk result (text.new ≡ text.old ++ named_event_words event.now) }
 {
     match event {
         Event::Flip {

@@ -4,7 +4,7 @@ use Rattle.script_text.specs.Statement.{Statement, says_on}
 use Rattle.script_text.specs.Numbers.{decimal_value}
 use Rattle.script_errors.specs.declared.error.Wrong.TheVariants as wrong
 use Rattle.script_errors.specs.Spots.{spot, spot_text}
-use Rattle.script_errors.specs.Errors.{again, stated_wrong, with_taken, on_line}
+use Rattle.script_errors.specs.Errors.{again, stated_wrong, with_taken, line_stating_on}
 use Rattle.script_errors.specs.SoFar.{StandsFor}
 use Rattle.script_errors.proofs.Stated.{states_on, finishes_told, finishes_kept}
 use Rattle.script_errors.proofs.line.finish_on.Goals as goal
@@ -15,8 +15,8 @@ returns-in-Some c = on_ok_weaker c.tell.result (λ now list before stands.
     c.number_at-node.ensures c.requires.number in
     finishes_told list before _ _ _ _ _ _ _ _ (wrong.OnAgain c.number_at-node.result c.in-Some.line)
     (ap (stated_wrong list before) (states_on c.args.line.now c.args.first c.args.words.now c.requires.full)
-    ∙ ap (λ (k : ℕ). again (wrong.OnAgain k) (on_line before k)) (sym node)
-    ∙ ap (again (wrong.OnAgain c.number_at-node.result)) (sym (c.on_line.ensures list before stands) ∙ c.in-Some.is))
+    ∙ ap (λ (k : ℕ). again (wrong.OnAgain k) (line_stating_on before k)) (sym node)
+    ∙ ap (again (wrong.OnAgain c.number_at-node.result)) (sym (c.line_stating_on.ensures list before stands) ∙ c.in-Some.is))
     (c.name.ensures list before stands) now) c.tell.ensures
 
 pub returns : goal.returns
@@ -26,8 +26,8 @@ returns c = λ list before stands.
     let says = states_on c.args.line.now c.args.first c.args.words.now c.requires.full in
     finishes_kept list before _ _ _ _ _ _ _
     (ap (stated_wrong list before) says
-    ∙ ap (λ (k : ℕ). again (wrong.OnAgain k) (on_line before k)) (sym node)
-    ∙ ap (again (wrong.OnAgain c.number_at-node.result)) (sym (c.on_line.ensures list before stands) ∙ c.in_default.is))
+    ∙ ap (λ (k : ℕ). again (wrong.OnAgain k) (line_stating_on before k)) (sym node)
+    ∙ ap (again (wrong.OnAgain c.number_at-node.result)) (sym (c.line_stating_on.ensures list before stands) ∙ c.in_default.is))
     (subst (λ (s : Statement). StandsFor list c.take_on.new.self (with_taken before c.args.number s))
     (ap (λ (k : ℕ). says_on k (decimal_value (spot_text c.args.line.now (get_or c.args.words.now 1 (spot 0 0))))) node ∙ sym says)
     (c.take_on.ensures list before (decimal_value (spot_text c.args.line.now (get_or c.args.words.now 1 (spot 0 0)))) stands))

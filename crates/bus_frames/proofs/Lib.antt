@@ -1,0 +1,11 @@
+pub mod Acts
+pub mod Channels
+pub mod Digits
+pub mod Lists
+pub mod Nodes
+pub mod Offsets
+pub mod Parts
+pub mod Sent
+pub mod States
+pub mod Texts
+pub mod Told

@@ -1,0 +1,4 @@
+pub mod Sending
+pub mod FrameText
+pub mod Standing
+pub mod WorkedCases
