@@ -1,7 +1,6 @@
 pub mod Requests
 pub mod Alike
 pub mod Nodes
-pub mod Writes
-pub mod Slots
+pub mod Made
 pub mod Texts
 pub mod TextLines

@@ -1,6 +1,5 @@
 -- What is known of modes while a trace is read, and what it stands for.
-use Rattle.std.specs.Prelude.{◌≡◌, ℕ, ◌-◌, ◌<◌, Bool, List, [], ◌∷◌, length, drop, get_or, Option, Some, None, IfSome}
-use Rattle.ttp_base.specs.Text.{Lines, lines_of}
+use Rattle.std.specs.Prelude.{◌≡◌, ℕ, ◌<◌, Bool, List, [], ◌∷◌, length, get_or, Option, Some, None, IfSome}
 use Rattle.ttp_world.specs.declared.medl.Medl.{Medl}
 use Rattle.ttp_world.specs.declared.node.Chosen.{Chosen}
 use Rattle.ttp_world.specs.declared.node.Delivered.{Delivered}
@@ -9,17 +8,13 @@ use Rattle.ttp_world.specs.declared.node.Entry.TheVariants as entry
 use Rattle.ttp_world.specs.declared.script.Script.{Script}
 use Rattle.ttp_world.specs.After.{place_after}
 use Rattle.ttp_world.specs.Diary.{History, entry_of, diary_of, place_of}
-use Rattle.ttp_world.specs.Legal.{IsLegalRun}
 use Rattle.ttp_world.specs.Messages.{delivered_of}
-use Rattle.ttp_world.specs.Trace.{trace_head, history_lines, trace_lines}
-use Rattle.ttp_world.specs.World.{Numbers, chosen_of, world}
+use Rattle.ttp_world.specs.World.{chosen_of}
 use Rattle.node_parts.specs.ClockStandsFor.{ClockStandsFor}
 use Rattle.controller.specs.PlantStands.{PlantStandsFor, outcome_at}
 use Rattle.controller.specs.PlantView.{PlantView}
-use Rattle.trace_check.specs.Outgoing.{HoldsNewest}
 use Rattle.mode_change.specs.declared.node.Modes.{Modes}
 use Rattle.mode_change.specs.declared.node.NodeModes.{NodeModes}
-use Rattle.mode_change.specs.declared.run.Run.{Run}
 use Rattle.mode_change.specs.Modes.{mode_asked, mode_delivered, mode_requested, modes_of, live_in}
 
 -- One node.
@@ -96,33 +91,3 @@ pub record IsKnownAfter (nodes : List NodeModes) (list : Medl) (slot : ℕ) : Ty
   pub history : History
   pub slots : slot ≡ length history
   pub known : KnowAll nodes list script (row ∷ history)
-
--- The run.
-
--- a run stands for these numbers
-pub record RunStandsFor (run : Run) (list : Medl) (script : Script) (numbers : Numbers) : Type 0 where
-  pub same : run.plant.list ≡ list
-  pub plant : PlantStandsFor run.plant script (world list script numbers)
-  pub outgoing : HoldsNewest run.outgoing list script (length numbers)
-  pub nodes : KnowAll run.nodes.items list script (world list script numbers)
-
--- the numbers of the first slots of a run, so many
-abbrev pub first_numbers : Script → Numbers → ℕ → Numbers
-first_numbers script whole slot = drop (script.slots - slot) whole
-
--- the lines of a trace up to those of the first slots
-abbrev pub first_lines : Medl → Script → Numbers → Lines
-first_lines list script numbers = trace_head list script ∷ history_lines list script (world list script numbers) numbers
-
--- After so many slots of a run by legal numbers, this is left of a text that is its trace.
-pub record IsAt (run : Run) (list : Medl) (script : Script) (whole : Numbers) (slot : ℕ) (rest : List ℕ)
-    : Type 0 where
-  pub legal : IsLegalRun list script whole
-  pub stands : RunStandsFor run list script (first_numbers script whole slot)
-  pub left : lines_of rest
-      ≡ drop (length (first_lines list script (first_numbers script whole slot))) (trace_lines list script whole)
-
--- so it is by some
-pub record IsSomewhere (run : Run) (list : Medl) (script : Script) (slot : ℕ) (rest : List ℕ) : Type 0 where
-  pub whole : Numbers
-  pub at : IsAt run list script whole slot rest

@@ -17,8 +17,8 @@
 //! }
 //! ```
 //!
-//! A plant goes through the run, with the messages that the lines of the trace name. A slot costs its
-//! nodes, as it does a plant, and a line for each node is one write. All memory is taken before the first
+//! A plant goes through the run, with the messages that the lines of the trace name ([`trace_run`]). A slot
+//! costs its nodes, as it does a plant, and a line for each node is one write. All memory is taken before the first
 //! line is written, and none for a slot. Threads share nothing here. No crate below knows of modes but as
 //! fields of the list.
 #![tactic(auto, unfolding(ttp_base::specs::NodeSet::with_node, ttp_base::specs::NodeSet::members_in, ttp_world::specs::Trace::digits))]
@@ -33,10 +33,10 @@ ghost use Rattle.ttp_world.specs.Script.{IsValidScript};
 ghost use Rattle.ttp_world.specs.World.{Numbers, world};
 ghost use Rattle.mode_change.specs.OneMode.{RunsOneMode};
 
+mod all_nodes;
 mod line;
 mod node;
 mod put;
-mod run;
 mod worked_case;
 
 pub use node::Modes;

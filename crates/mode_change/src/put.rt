@@ -9,14 +9,16 @@ ghost use Rattle.ttp_world.specs.Medl.{IsValid};
 ghost use Rattle.ttp_world.specs.Script.{IsValidScript};
 ghost use Rattle.ttp_world.specs.TraceNumbers.{numbers_in};
 ghost use Rattle.trace_check.specs.Answer.{is_trace};
-ghost use Rattle.mode_change.specs.Knowing.{IsKnownAfter, KnowAll, RunStandsFor};
+ghost use Rattle.trace_run.specs.Run.{TraceStandsFor};
+ghost use Rattle.mode_change.specs.Knowing.{IsKnownAfter, KnowAll};
 ghost use Rattle.mode_change.specs.ModeText.{mode_slot_lines, mode_lines};
 
+use crate::all_nodes::{know_slot, new_nodes};
 use crate::line::{head_line, make_line};
 use crate::node::NodeModes;
-use crate::run::Run;
 use line_text::cut_line;
 use std::alloc::Global;
+use trace_run::TraceRun;
 use ttp_base::{Failed, Line, Sink};
 use ttp_world::{Medl, Script};
 
@@ -49,7 +51,8 @@ fn put_nodes<K: Sink>(
 
 // Writes the text of modes by a run that has not begun.
 fn put_all<K: Sink>(
-    run: Run,
+    run: TraceRun,
+    nodes: Vec<NodeModes>,
     list: &Medl,
     script: &Script,
     text: &[u8],
@@ -58,19 +61,23 @@ fn put_all<K: Sink>(
     requires list { IsValid list.now }
     requires script { IsValidScript list.now script.now }
     requires trace { IsTrue (is_trace list.now script.now text.now) }
-    requires begun { RunStandsFor run list.now script.now [] }
+    requires begun { TraceStandsFor run list.now script.now [] }
+    requires known { KnowAll nodes.items list.now script.now [] }
     ensures ok { OnOk result (WroteLines (K.output out.old) (K.output out.new)
         (mode_lines list.now script.now (numbers_in list.now script.now (lines_of text.now)))) }
     ensures failed { OnErr result (CutShort (K.output out.old) (K.output out.new)
         (mode_lines list.now script.now (numbers_in list.now script.now (lines_of text.now)))) }
 {
     let mut run = run;
+    let mut nodes = nodes;
     let mut line = Line::new();
     out.write(head_line(list, script).bytes())?;
     let mut rest = cut_line(text).1;
     for slot in 0..script.slots {
-        rest = run.step(list, script, slot, rest);
-        put_nodes(list, slot, &run.nodes, &mut line, out)?;
+        run.make(list, script, slot, rest);
+        know_slot(run.plant(), run.chosen(), &mut nodes, list);
+        put_nodes(list, slot, &nodes, &mut line, out)?;
+        rest = run.pass(list, script, slot, rest);
     }
     Ok(())
 }
@@ -110,10 +117,10 @@ pub fn put_modes<K: Sink>(
         (mode_lines list.now script.now (numbers_in list.now script.now (lines_of text.now)))) }
     ensures memory { IfErr result (λ fault. fault ≡ ModeFault.Memory → Wrote (K.output out.old) (K.output out.new) []) }
 {
-    let Ok(run) = Run::new(alloc, list) else {
+    let (Ok(nodes), Ok(run)) = (new_nodes(alloc, list), TraceRun::new(alloc, list)) else {
         return Err(ModeFault::Memory);
     };
-    match put_all(run, list, script, text, out) {
+    match put_all(run, nodes, list, script, text, out) {
         Ok(()) => Ok(()),
         Err(_) => Err(ModeFault::Failed),
     }

@@ -1,7 +1,7 @@
 use Rattle.std.proofs.Common.{◌≡◌, ◌∙◌, List, length, refl, sym, subst, arith}
 use Rattle.mode_change.specs.declared.node.NodeModes.{NodeModes}
 use Rattle.mode_change.proofs.Nodes.{AreNew, new-more}
-use Rattle.mode_change.proofs.run.Run.new.Goals as goal
+use Rattle.mode_change.proofs.all_nodes.new_nodes.Goals as goal
 
 pub loop-init : goal.loop-init
 loop-init c = rw c.new-nodes.ensures (record { count = refl; each = λ script k node less is. absurd (omega (arith, less)) })
@@ -18,11 +18,6 @@ returns c = λ script.
     let are = subst (λ (nodes : List NodeModes). AreNew nodes c.args.list.now c.loop.counter) (sym c.into_vec.ensures)
     c.loop.invariant in
     record {
-      same = c.in_ok-new.ensures.list;
-      plant = c.in_ok-new.ensures.stands script;
-      outgoing = c.in_ok-new-2.ensures script;
-      nodes = record {
-        count = are.count ∙ all;
-        each = λ k node less is. are.each script k node (omega (arith, less, all)) is;
-      };
+      count = are.count ∙ all;
+      each = λ k node less is. are.each script k node (omega (arith, less, all)) is;
     }

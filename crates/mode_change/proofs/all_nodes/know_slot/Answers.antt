@@ -1,6 +1,6 @@
 use Rattle.std.proofs.Common.{◌∙◌, ◌+◌, ◌<◌, sym, subst, length, get_or, set, arith}
 use Rattle.mode_change.proofs.Nodes.{IsEntering, chosen-is, entering-all, entering-first, entering-next, entry-shown, knows-next, old-is}
-use Rattle.mode_change.proofs.run.know_slot.Goals as goal
+use Rattle.mode_change.proofs.all_nodes.know_slot.Goals as goal
 
 pub loop-node-init : goal.loop-node-init
 loop-node-init c = entering-first c.args.plant.now c.args.chosen.now c.args.nodes.now c.args.list.now
