@@ -1,12 +1,14 @@
 -- What holds of each ending of a form: what its texts are made of, and what its status and the form tell of each other.
-use Rattle.std.proofs.Common.{◌≡◌, ◌≢◌, ℕ, true, false, ◌++◌, [], ◌∷◌, Option, Some, None, Result, Ok, Err, refl, subst, arith}
-use Rattle.std.proofs.Common.{List}
-use Rattle.std.specs.Prelude.{codes}
-use Rattle.ttp_base.specs.Text.{Lines, newline, is_line}
+use Rattle.std.proofs.Common.{◌≡◌, ℕ, true, false, ◌++◌, [], ◌∷◌, Option, Some, None, Result, Ok, Err, refl, subst, arith}
+use Rattle.std.proofs.Common.{List, Bool}
+use Rattle.std.specs.Prelude.{codes, if◌then◌else◌}
+use Rattle.ttp_base.specs.Text.{Lines, lines_of, newline, is_line}
 use Rattle.ttp_base.proofs.Lines.{is_line-append}
 use Rattle.ttp_base.proofs.Numerals.{has}
 use Rattle.ttp_world.specs.declared.medl.Medl.{Medl}
 use Rattle.ttp_world.specs.declared.script.Script.{Script}
+use Rattle.ttp_world.specs.TraceNumbers.{numbers_in}
+use Rattle.trace_check.specs.Answer.{is_trace}
 use Rattle.campaign.specs.Lines.{campaign_lines}
 use Rattle.wave_text.proofs.DeclaredLines.{wave_lines-each}
 use Rattle.lab_laws.proofs.LinesAndTitles.{picture_lines-each}
@@ -14,7 +16,7 @@ use Rattle.lab_laws.proofs.CampaignsRead.{campaign-draws}
 use Rattle.script_gen.specs.Generator.{generated}
 use Rattle.script_lines.specs.ScriptLines.{script_lines}
 use Rattle.commands.specs.declared.read.FileFault.{FileFault}
-use Rattle.commands.specs.Files.{refused_list, refused_script}
+use Rattle.commands.specs.Files.{refused_list, refused_script, trace_plan}
 use Rattle.commands.specs.Lines.{AreLines}
 use Rattle.commands.specs.Plan.{ends, said_ending, whole_ending}
 use Rattle.commands.specs.Texts.{one, those, no_texts}
@@ -23,13 +25,17 @@ use Rattle.commands.proofs.Lines.{refused_list-final, refused_script-final}
 use Rattle.commands.proofs.Plans.{Every, list_every, both_every}
 use Rattle.lab_top.specs.declared.refusal.TextFault.{TextFault}
 use Rattle.lab_top.specs.Forms.{lab_usage_line, viewed_ending, view_plan, campaign_ending, campaign_plan, script_ending}
-use Rattle.lab_top.specs.Forms.{script_form_plan, lab_plan_of}
+use Rattle.lab_top.specs.Forms.{script_form_plan, frames_ending, frames_plan, lab_plan_of}
+use Rattle.lab_top.specs.Frames.{frames_named}
 use Rattle.lab_top.specs.Help.{help_lines, version_line}
 use Rattle.lab_top.specs.Refusals.{text_fault_line}
-use Rattle.lab_top.specs.Texts.{begun, LabEnding, ttplab}
+use Rattle.lab_top.specs.Texts.{begun, differences, LabEnding, ttplab}
 use Rattle.lab_top.specs.Views.{View, viewed, wave_view, picture_view, chart_view}
-use Rattle.lab_top.specs.Words.{LabForm, wave, picture, campaign, chart, script_by, help, version, is_campaign, reads_list}
+use Rattle.lab_top.specs.Words.{LabForm, wave, picture, campaign, chart, frames, script_by, help, version}
+use Rattle.lab_top.specs.Words.{is_campaign, is_frames, reads_list}
 use Rattle.lab_top.proofs.CampaignLines.{campaign_lines-each}
+use Rattle.lab_top.proofs.Differences.{differences-each}
+use Rattle.lab_top.proofs.FrameLines.{frame_lines-each}
 use Rattle.lab_top.proofs.GeneratedLines.{script_lines-each}
 use Rattle.lab_top.proofs.Refusals.{text_fault_line-is_line, viewed-taken}
 
@@ -38,7 +44,8 @@ pub record IsOfForm (form : Option LabForm) (ending : LabEnding) : Type 0 where
   pub final : IsFinal ttplab ending
   -- the usage line answers words of no form alone
   pub usage : ending.status ≡ 2 → form ≡ None
-  pub not_1 : ending.status ≢ 1
+  -- and status 1 that of `frames` alone
+  pub differs : ending.status ≡ 1 → is_frames form ≡ true
   -- only forms that read a list refuse one
   pub lists : ending.status ≡ 3 → reads_list form ≡ true
   -- but for a campaign, nothing stands where memory is refused
@@ -55,7 +62,7 @@ view_ends form view text (Ok value) is lines = record {
   final = text_final ttplab 0 (view.lines value) (omega arith)
       (lines.each text value (viewed-taken view text value is).whole);
   usage = λ two. absurd (omega (arith, two));
-  not_1 = λ one. omega (arith, one);
+  differs = λ one. absurd (omega (arith, one));
   lists = λ three. absurd (omega (arith, three));
   lets = λ other. refl;
 }
@@ -63,7 +70,7 @@ view_ends form view text (Err fault) is lines = record {
   final = line_final ttplab 4 (text_fault_line view.kind fault) (omega arith)
       (text_fault_line-is_line view.kind fault lines.plain);
   usage = λ two. absurd (omega (arith, two));
-  not_1 = λ one. omega (arith, one);
+  differs = λ one. absurd (omega (arith, one));
   lists = λ three. absurd (omega (arith, three));
   lets = λ other. refl;
 }
@@ -82,7 +89,7 @@ no_list : (form : Option LabForm) → reads_list form ≡ true → (fault : File
 no_list form is fault = record {
   final = refused_list-final ttplab fault;
   usage = λ two. absurd (omega (arith, two));
-  not_1 = λ one. omega (arith, one);
+  differs = λ one. absurd (omega (arith, one));
   lists = λ three. is;
   lets = λ other. refl;
 }
@@ -91,7 +98,7 @@ no_script : (form : Option LabForm) (fault : FileFault) → IsOfForm form (said_
 no_script form fault = record {
   final = refused_script-final ttplab fault;
   usage = λ two. absurd (omega (arith, two));
-  not_1 = λ one. omega (arith, one);
+  differs = λ one. absurd (omega (arith, one));
   lists = λ three. absurd (omega (arith, three));
   lets = λ other. refl;
 }
@@ -112,7 +119,7 @@ campaign_ends list script first last medl right =
         unfinished = begun-each text each;
       };
       usage = λ two. absurd (omega (arith, two));
-      not_1 = λ one. omega (arith, one);
+      differs = λ one. absurd (omega (arith, one));
       lists = λ three. refl;
       lets = λ other. absurd (cc);
     }
@@ -124,6 +131,48 @@ of_campaign list script first last =
     both_every (IsOfForm form) SaysLine list script (λ medl right. ends (campaign_ending medl right first last)) refl refl
     (no_list form refl) (no_script form) (campaign_ends list script first last)
 
+-- lines that are written whole
+of_lines : (form : Option LabForm) (text : Lines) → AreLines text → IsOfForm form (whole_ending 0 (one text))
+of_lines form text each = record {
+  final = text_final ttplab 0 text (omega arith) each;
+  usage = λ two. absurd (omega (arith, two));
+  differs = λ one. absurd (omega (arith, one));
+  lists = λ three. absurd (omega (arith, three));
+  lets = λ other. refl;
+}
+
+-- of a text, a trace has its frames, and any other the line on it
+
+difference_ends : (list script trace : List ℕ) (medl : Medl) (right : Script) (text : List ℕ)
+    → IsOfForm (Some (frames list script trace)) (whole_ending 1 (those (differences medl right text)))
+difference_ends list script trace medl right text = record {
+  final = record {
+    status = omega arith;
+    texts = differences-each medl right text;
+    unfinished = one_text ttplab [] tt;
+  };
+  usage = λ two. absurd (omega (arith, two));
+  differs = λ one. refl;
+  lists = λ three. absurd (omega (arith, three));
+  lets = λ other. refl;
+}
+
+frames_ends : (list script trace : List ℕ) (medl : Medl) (right : Script) (text : List ℕ) (same : Bool)
+    → IsOfForm (Some (frames list script trace)) (if same then whole_ending 0 (one (frames_named medl right text))
+    else whole_ending 1 (those (differences medl right text)))
+frames_ends list script trace medl right text true =
+    of_lines (Some (frames list script trace)) (frames_named medl right text)
+    (frame_lines-each medl right (numbers_in medl right (lines_of text)))
+frames_ends list script trace medl right text false = difference_ends list script trace medl right text
+
+of_frames : (list script trace : List ℕ)
+    → Every (IsOfForm (Some (frames list script trace))) SaysLine (frames_plan list script trace)
+of_frames list script trace =
+    let form = Some (frames list script trace) in
+    both_every (IsOfForm form) SaysLine list script (λ medl right. trace_plan trace (λ text. ends (frames_ending medl right text)))
+    refl refl (no_list form refl) (no_script form)
+    (λ medl right. (refl, λ text. frames_ends list script trace medl right text (is_trace medl right text)))
+
 -- a generated script is made of lines
 
 script_ends : (list : List ℕ) (slots number : ℕ) (medl : Medl)
@@ -133,7 +182,7 @@ script_ends list slots number medl =
     record {
       final = text_final ttplab 0 text (omega arith) (script_lines-each (generated medl slots number));
       usage = λ two. absurd (omega (arith, two));
-      not_1 = λ one. omega (arith, one);
+      differs = λ one. absurd (omega (arith, one));
       lists = λ three. refl;
       lets = λ other. refl;
     }
@@ -145,24 +194,14 @@ of_script list slots number =
     list_every (IsOfForm form) SaysLine list (λ medl. ends (script_ending slots number medl)) refl (no_list form refl)
     (script_ends list slots number)
 
--- and so are lines that never change
-of_lines : (form : Option LabForm) (text : Lines) → AreLines text → IsOfForm form (whole_ending 0 (one text))
-of_lines form text each = record {
-  final = text_final ttplab 0 text (omega arith) each;
-  usage = λ two. absurd (omega (arith, two));
-  not_1 = λ one. omega (arith, one);
-  lists = λ three. absurd (omega (arith, three));
-  lets = λ other. refl;
-}
-
 help-each : AreLines help_lines
-help-each = (refl, (refl, (refl, (refl, (refl, (refl, (refl, (refl, (refl, tt)))))))))
+help-each = (refl, (refl, (refl, (refl, (refl, (refl, (refl, (refl, (refl, (refl, tt))))))))))
 
 pub lab_forms : (form : Option LabForm) → Every (IsOfForm form) SaysLine (lab_plan_of form)
 lab_forms None = record {
   final = line_final ttplab 2 lab_usage_line (omega arith) refl;
   usage = λ two. refl;
-  not_1 = λ one. omega (arith, one);
+  differs = λ one. absurd (omega (arith, one));
   lists = λ three. absurd (omega (arith, three));
   lets = λ other. refl;
 }
@@ -175,6 +214,7 @@ lab_forms (Some (campaign list script first last)) = of_campaign list script fir
 lab_forms (Some (chart name asked)) =
     of_view (Some (chart name asked)) (chart_view asked) name
     (record { plain = refl; each = λ text whole is. (campaign-draws text whole asked is).each })
+lab_forms (Some (frames list script trace)) = of_frames list script trace
 lab_forms (Some (script_by list slots number)) = of_script list slots number
 lab_forms (Some help) = of_lines (Some help) help_lines help-each
 lab_forms (Some version) = of_lines (Some version) (version_line ∷ []) (refl, tt)

@@ -3,9 +3,14 @@ pub mod CampaignLines
 pub mod GeneratedLines
 pub mod Refusals
 pub mod Charts
+pub mod Differences
+pub mod FrameLines
 pub mod Forms
 pub mod Promises
 pub mod Views
+pub mod RefusedFiles
 pub mod CampaignPromises
+pub mod Fronts
+pub mod FramesPromises
 pub mod ScriptPromises
 pub mod ThreeWords

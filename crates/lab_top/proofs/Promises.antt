@@ -46,9 +46,9 @@ lab_promise form before now answer follows never =
           let few : answer.status ≤ 4 = omega (arith, two) in
           (ended_of form before now answer call few).usage (sym (call.ended few).2.status ∙ two);
       no_form = never;
-      not_1 = λ one.
+      differs = λ one.
           let few : answer.status ≤ 4 = omega (arith, one) in
-          (ended_of form before now answer call few).not_1 (sym (call.ended few).2.status ∙ one);
+          (ended_of form before now answer call few).differs (sym (call.ended few).2.status ∙ one);
       lists = λ three.
           let few : answer.status ≤ 4 = omega (arith, three) in
           (ended_of form before now answer call few).lists (sym (call.ended few).2.status ∙ three);

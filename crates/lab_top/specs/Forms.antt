@@ -1,25 +1,27 @@
 -- What each form of `ttplab` asks for, and how it ends.
-use Rattle.std.specs.Prelude.{ℕ, List, ◌++◌, Option, Some, None, Result, Ok, Err, codes}
+use Rattle.std.specs.Prelude.{ℕ, List, ◌++◌, Option, Some, None, Result, Ok, Err, codes, if◌then◌else◌}
 use Rattle.ttp_world.specs.declared.medl.Medl.{Medl}
 use Rattle.ttp_world.specs.declared.script.Script.{Script}
 use Rattle.campaign.specs.Lines.{campaign_lines}
-use Rattle.commands.specs.Files.{list_plan, both_plan}
+use Rattle.trace_check.specs.Answer.{is_trace}
+use Rattle.commands.specs.Files.{list_plan, both_plan, trace_plan}
 use Rattle.commands.specs.Plan.{whole_ending, line_ending, said_ending, ends, asks}
 use Rattle.commands.specs.Texts.{one, those}
 use Rattle.script_gen.specs.Generator.{generated}
 use Rattle.script_lines.specs.ScriptLines.{script_lines}
 use Rattle.lab_top.specs.declared.refusal.TextFault.{TextFault}
+use Rattle.lab_top.specs.Frames.{frames_named}
 use Rattle.lab_top.specs.Help.{help_lines, version_line}
 use Rattle.lab_top.specs.Refusals.{refused_text}
-use Rattle.lab_top.specs.Texts.{begun, LabEnding, LabPlan}
+use Rattle.lab_top.specs.Texts.{begun, differences, LabEnding, LabPlan}
 use Rattle.lab_top.specs.Views.{View, text_file, viewed, wave_view, picture_view, chart_view}
-use Rattle.lab_top.specs.Words.{LabForm, wave, picture, campaign, chart, script_by, help, version}
+use Rattle.lab_top.specs.Words.{LabForm, wave, picture, campaign, chart, frames, script_by, help, version}
 
 -- the line that answers words of no form
 abbrev pub lab_usage_line : List ℕ
 lab_usage_line =
     codes "usage: wave TRACE | picture TRACE [FIRST LAST] | campaign LIST SCRIPT FIRST LAST"
-    ++ codes " | chart CAMPAIGN [FIRST LAST] | script LIST SLOTS NUMBER\n"
+    ++ codes " | chart CAMPAIGN [FIRST LAST] | frames LIST SCRIPT TRACE | script LIST SLOTS NUMBER\n"
 
 -- a view ends with its lines, or with the line that says why a text is not shown
 abbrev pub viewed_ending : {Value : Type 0} → View Value → Result Value TextFault → LabEnding
@@ -41,6 +43,18 @@ abbrev pub campaign_plan : List ℕ → List ℕ → ℕ → ℕ → LabPlan
 campaign_plan list script first last =
     both_plan list script (λ medl right. ends (campaign_ending medl right first last))
 
+-- the frames of a text that is a trace of a list and a script; else the line that names the first wrong one
+abbrev pub frames_ending : Medl → Script → List ℕ → LabEnding
+frames_ending list script text =
+    if is_trace list script text
+    then whole_ending 0 (one (frames_named list script text))
+    else whole_ending 1 (those (differences list script text))
+
+-- it asks for the list, the script and the text
+abbrev pub frames_plan : List ℕ → List ℕ → List ℕ → LabPlan
+frames_plan list script trace =
+    both_plan list script (λ medl right. trace_plan trace (λ text. ends (frames_ending medl right text)))
+
 -- a generated script ends with its text
 abbrev pub script_ending : ℕ → ℕ → Medl → LabEnding
 script_ending slots number list = whole_ending 0 (one (script_lines (generated list slots number)))
@@ -60,6 +74,7 @@ lab_plan_of (Some (wave trace)) = view_plan wave_view trace
 lab_plan_of (Some (picture trace asked)) = view_plan (picture_view asked) trace
 lab_plan_of (Some (campaign list script first last)) = campaign_plan list script first last
 lab_plan_of (Some (chart name asked)) = view_plan (chart_view asked) name
+lab_plan_of (Some (frames list script trace)) = frames_plan list script trace
 lab_plan_of (Some (script_by list slots number)) = script_form_plan list slots number
 lab_plan_of (Some help) = ends help_ending
 lab_plan_of (Some version) = ends (line_ending 0 version_line)

@@ -2,9 +2,11 @@ pub mod Words
 pub mod Help
 pub mod Refusals
 pub mod Views
+pub mod Frames
 pub mod Texts
 pub mod Forms
 pub mod Promise
 pub mod ViewPromise
 pub mod CampaignPromise
+pub mod FramesPromise
 pub mod ScriptPromise

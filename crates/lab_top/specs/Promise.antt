@@ -5,7 +5,7 @@ use Rattle.commands.specs.Plan.{Outside}
 use Rattle.commands.specs.Promise.{Promise}
 use Rattle.lab_top.specs.Forms.{lab_plan_of}
 use Rattle.lab_top.specs.Texts.{LabAnswer, ttplab}
-use Rattle.lab_top.specs.Words.{LabForm, is_campaign, reads_list}
+use Rattle.lab_top.specs.Words.{LabForm, is_campaign, is_frames, reads_list}
 
 -- a call by words of this form promises
 pub record LabPromise (form : Option LabForm) (before now : Outside) (answer : LabAnswer) : Type 0 where
@@ -18,6 +18,6 @@ pub record LabPromise (form : Option LabForm) (before now : Outside) (answer : L
   -- Words of no form take no memory, and only they are answered by the usage line.
   pub usage : answer.status ≡ 2 → form ≡ None
   pub no_form : form ≡ None → answer.status ≢ 7
-  -- Status 1 never comes, and status 3, of a list that is refused, for the forms that read one.
-  pub not_1 : answer.status ≢ 1
+  -- Status 1 is an answer of `frames` alone, and status 3, of a list that is refused, one of the forms that read a list.
+  pub differs : answer.status ≡ 1 → is_frames form ≡ true
   pub lists : answer.status ≡ 3 → reads_list form ≡ true

@@ -2,13 +2,18 @@
 -- the first lines that want of memory may leave of one; it keeps nothing for its caller.
 use Rattle.std.specs.Prelude.{◌≡◌, ℕ, List, ◌∷◌, ◌++◌, None}
 use Rattle.ttp_base.specs.Text.{Lines}
+use Rattle.ttp_world.specs.declared.medl.Medl.{Medl}
+use Rattle.ttp_world.specs.declared.script.Script.{Script}
 use Rattle.commands.specs.Plan.{Ending, Plan}
 use Rattle.commands.specs.Texts.{Program, Answer}
+use Rattle.lab_top.specs.Frames.{IsDifference}
 
 -- A set of texts.
 pub data LabSets : Type 0 where
   -- no lines, or the first lines of this text, but not all
   begun : (text : Lines) → LabSets
+  -- the line that names the first wrong one of a text that is no trace of a list and a script
+  differences : (list : Medl) (script : Script) (text : List ℕ) → LabSets
 
 -- these lines begin a text, and are not all of it
 pub record IsProperFront (text lines : Lines) : Type 0 where
@@ -19,6 +24,7 @@ pub record IsProperFront (text lines : Lines) : Type 0 where
 -- these lines are a text of a set
 abbrev pub IsOfSet : LabSets → Lines → Type 0
 IsOfSet (begun text) lines = IsProperFront text lines
+IsOfSet (differences list script text) lines = IsDifference list script text lines
 
 -- the program
 abbrev pub ttplab : Program

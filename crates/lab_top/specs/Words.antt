@@ -18,6 +18,9 @@ pub data LabForm : Type 0 where
   campaign : (list script : List ℕ) (first last : ℕ) → LabForm
   -- the chart of the campaign of this name, of the slots that are asked for, or else of those that are chosen
   chart : (name : List ℕ) (asked : Option Span) → LabForm
+  -- the frames on the bus, for the text of the third name, which is to be a trace of the script of this name for the list
+  -- of this name
+  frames : (list script trace : List ℕ) → LabForm
   -- the script that this number gives for the list of this name, in a run of so many slots
   script_by : (list : List ℕ) (slots number : ℕ) → LabForm
   -- what each form writes, and which version this is
@@ -28,9 +31,15 @@ abbrev pub is_campaign : Option LabForm → Bool
 is_campaign (Some (campaign list script first last)) = true
 is_campaign _ = false
 
+-- a form is that of `frames`
+abbrev pub is_frames : Option LabForm → Bool
+is_frames (Some (frames list script trace)) = true
+is_frames _ = false
+
 -- the forms that read a list
 abbrev pub reads_list : Option LabForm → Bool
 reads_list (Some (campaign list script first last)) = true
+reads_list (Some (frames list script trace)) = true
 reads_list (Some (script_by list slots number)) = true
 reads_list _ = false
 
@@ -94,7 +103,8 @@ lab_form_of (verb ∷ text ∷ []) =
 lab_form_of (verb ∷ text ∷ first ∷ last ∷ []) =
     if bytes_eq verb (codes "picture") then form_of_slots (picture text) (slot_named first) (slot_named last)
     else (if bytes_eq verb (codes "chart") then form_of_slots (chart text) (slot_named first) (slot_named last)
-    else (if bytes_eq verb (codes "script") then script_of_words text (slots_named first) (draw_named last) else None))
+    else (if bytes_eq verb (codes "frames") then Some (frames text first last)
+    else (if bytes_eq verb (codes "script") then script_of_words text (slots_named first) (draw_named last) else None)))
 lab_form_of (verb ∷ list ∷ script ∷ first ∷ last ∷ []) =
     if bytes_eq verb (codes "campaign") then campaign_of_range list script (bound_named first) (bound_named last) else None
 lab_form_of _ = None
@@ -105,6 +115,7 @@ lab_form_asked (command.Wave trace) = Some (wave trace.now)
 lab_form_asked (command.Picture trace asked) = Some (picture trace.now asked)
 lab_form_asked (command.Campaign list script first last) = Some (campaign list.now script.now first last)
 lab_form_asked (command.Chart name asked) = Some (chart name.now asked)
+lab_form_asked (command.Frames list script trace) = Some (frames list.now script.now trace.now)
 lab_form_asked (command.Script list slots number) = Some (script_by list.now slots number)
 lab_form_asked command.Help = Some help
 lab_form_asked command.Version = Some version

@@ -12,16 +12,17 @@ use picture_text::Sheet;
 use ttp_base::{Failed, Sink};
 
 // What the program is for, a line for each form, and where the pages are.
-const HELP_LINES: [&str; 9] = [
+const HELP_LINES: [&str; 10] = [
     "ttplab 1.0.0: pictures of traces, and campaigns of single faults, of clusters of TTP/C controllers\n",
     "\n",
     "wave TRACE                       a waveform of the trace, for a viewer of VCD files\n",
     "picture TRACE [FIRST LAST]       a picture of the trace, or of these slots of it, as SVG\n",
     "campaign LIST SCRIPT FIRST LAST  what each single fault in these slots costs, a line for each\n",
     "chart CAMPAIGN [FIRST LAST]      a picture of a campaign, or of these slots of it, as SVG\n",
+    "frames LIST SCRIPT TRACE         each frame on the bus in the run of a trace, byte by byte\n",
     "script LIST SLOTS NUMBER         the script that ttpbench sample runs, as a text\n",
     "\n",
-    "docs/FIRST.md is the page to begin with; docs/VIEWS.md, docs/CAMPAIGNS.md and docs/CHARTS.md have the forms.\n",
+    "docs/FIRST.md is the page to begin with; docs/VIEWS.md, docs/CAMPAIGNS.md, docs/CHARTS.md and docs/FRAMES.md have the forms.\n",
 ];
 
 // Writes them.

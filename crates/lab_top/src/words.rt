@@ -34,6 +34,13 @@ pub(crate) enum Command<'a> {
         campaign: &'a str,
         asked: Option<Span>,
     },
+    /// The frames on the bus, for the text of the third name, which is to be a trace of the script of this name for the
+    /// list of this name.
+    Frames {
+        list: &'a str,
+        script: &'a str,
+        trace: &'a str,
+    },
     /// The script that this number gives for the list of this name, in a run of so many slots.
     Script {
         list: &'a str,
@@ -190,13 +197,18 @@ fn chart_of_slots<'a>(campaign: &'a str, first: &str, last: &str) -> Command<'a>
 }
 
 // The command of four words.
-fn slots_command<'a>(verb: &str, text: &'a str, first: &str, last: &str) -> Command<'a>
+fn slots_command<'a>(verb: &str, text: &'a str, first: &'a str, last: &'a str) -> Command<'a>
     ensures form { lab_form_asked result ≡ lab_form_of (verb.now ∷ text.now ∷ first.now ∷ last.now ∷ []) }
     ensures slots { HasScriptSlots result }
 {
     match verb {
         "picture" => picture_of_slots(text, first, last),
         "chart" => chart_of_slots(text, first, last),
+        "frames" => Command::Frames {
+            list: text,
+            script: first,
+            trace: last,
+        },
         "script" => script_of_words(text, first, last),
         _ => Command::NoForm,
     }

@@ -14,6 +14,18 @@ const LIST: &str =
 
 const SCRIPT: &str = "slots 12\non 0 0\non 1 0\non 2 0\non 3 0\non 4 0\n";
 
+// A slot in which all five listen, and its trace.
+const SHORT: &str = "slots 1\non 0 0\non 1 0\non 2 0\non 3 0\non 4 0\n";
+
+const LISTENING: &str = "ttpbench trace 1 nodes 5 rounds 1 slots 1 schedule 000000
+slot 0 node 0 wait peer - msg - mem 0000 acc 0 rej 0 ack none clock 0
+slot 0 node 1 wait peer - msg - mem 0000 acc 0 rej 0 ack none clock 0
+slot 0 node 2 wait peer - msg - mem 0000 acc 0 rej 0 ack none clock 0
+slot 0 node 3 wait peer - msg - mem 0000 acc 0 rej 0 ack none clock 0
+slot 0 node 4 wait peer - msg - mem 0000 acc 0 rej 0 ack none clock 0
+keeps yes start 10
+";
+
 // A slot of four nodes, of which node 0 listens.
 const TRACE: &str = "ttpbench trace 1 nodes 4 rounds 1 slots 1 schedule 000000
 slot 0 node 0 wait peer - msg - mem 0000 acc 0 rej 0 ack none clock 0
@@ -45,6 +57,10 @@ const COMMANDS: &[Row] = &[
     (
         &["--version"],
         "ttplab 1.0.0 (rattle-kit-13f logic dac8208d650f15bf)\n",
+    ),
+    (
+        &["frames", "list", "short", "listening"],
+        "ttplab frames 1 nodes 5 rounds 1 slots 1 schedule 000000\n",
     ),
     (&["script", "list", "12", "7"], "slots 12\n"),
     (
@@ -120,6 +136,8 @@ fn are_answered<R: AllocGlobal + Threads + Sync>(rt: &R) -> bool {
     let files = [
         ("list", LIST),
         ("script", SCRIPT),
+        ("short", SHORT),
+        ("listening", LISTENING),
         ("trace", TRACE),
         ("campaign", text_of(campaign.bytes())),
     ];
