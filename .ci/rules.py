@@ -468,10 +468,11 @@ class Outcome:
         self.lines, self.messages = [], {}
 
 
-def outcome_by_numbers(cluster, medl, script, t, acts, numbers):
+def outcome_by_numbers(cluster, medl, script, t, acts, numbers, channels=None):
     """What a slot makes of a cluster whose nodes have begun it and whose hosts have written.
 
-    `numbers` has the message number of each frame that carries one.
+    `numbers` has the message number of each frame that carries one. `channels` has what the channels carry, where another text
+    tells it; else it is what the nodes send.
     """
     after = Outcome(cluster.nodes)
     frames, told = {}, {}
@@ -494,7 +495,7 @@ def outcome_by_numbers(cluster, medl, script, t, acts, numbers):
             told[k] = (act, k, None)
         elif act in ("off", "gone"):
             told[k] = (act, None, None)
-    channels = {channel: on_channel(script, t, channel, frames) for channel in "AB"}
+    channels = channels or {channel: on_channel(script, t, channel, frames) for channel in "AB"}
     for node, act in zip(after.nodes, acts):
         k = node.number
         # A clock is read as it is at the beginning of the slot, after its jumps.
