@@ -1,11 +1,30 @@
--- Counts of pieces, added up one after another.
-use Rattle.chart_text.proofs.Words.{◌≡◌, ◌∙◌, ℕ, ◌+◌, ◌<◌, ◌^◌, nat_lt, Bool, true, false, ◌&&◌, List, [], ◌∷◌, map, ap, sym}
-use Rattle.chart_text.proofs.Words.{refl, arith, counts_sum, Piece}
+-- Slots and counts of pieces, one after another.
+use Rattle.chart_text.proofs.Words.{◌≡◌, ◌∙◌, ℕ, ◌+◌, ◌<◌, ◌^◌, nat_lt, Bool, true, false, ◌&&◌, ◌||◌, List, [], ◌∷◌, map, ap, sym}
+use Rattle.chart_text.proofs.Words.{refl, arith, counts_sum, Piece, is_tried}
 use Rattle.std.proofs.Common.{add-zero, zero-add, add_assoc}
 use Rattle.std.proofs.lemmas.Bool.{lt-ltb, ltb-true}
 use Rattle.campaign.specs.declared.cost.Counts.{Counts}
 use Rattle.whole_campaign.specs.Due.{no_runs}
 use Rattle.whole_campaign.specs.Readable.{counts_together, counts_fit}
+use Rattle.chart_text.specs.Columns.{is_of_piece}
+
+-- the slots of one piece more
+
+either : (a b c : Bool) → ((a || b) || c) ≡ (a || (b || c))
+either true b c = refl
+either false b c = refl
+
+pub piece-marked : (t : ℕ) (before after all : Bool) (left rest : List Piece) (piece : Piece) → left ≡ piece ∷ rest
+    → after ≡ (before || is_of_piece t piece) → (before || is_tried left t) ≡ all → (after || is_tried rest t) ≡ all
+piece-marked t before after all left rest piece is more known =
+    ap (λ (b : Bool). b || is_tried rest t) more
+    ∙ either before (is_of_piece t piece) (is_tried rest t)
+    ∙ ap (λ (pieces : List Piece). before || is_tried pieces t) (sym is)
+    ∙ known
+
+pub none-marked : (t : ℕ) (mark all : Bool) (left : List Piece) → left ≡ [] → (mark || is_tried left t) ≡ all → mark ≡ all
+none-marked t true all left is known = known
+none-marked t false all left is known = ap (λ (pieces : List Piece). is_tried pieces t) (sym is) ∙ known
 
 -- no runs before others
 pub none-first : (counts : Counts) → counts_together no_runs counts ≡ counts

@@ -2,9 +2,9 @@
 #![tactic(auto)]
 
 ghost use Rattle.std.specs.Prelude.{◌≡◌, ◌+◌, ◌-◌, ◌^◌, ◌<◌, ◌≤◌, [], ◌∷◌, ◌++◌, codes, decimal, length, map, IfOk, OnOk};
-ghost use Rattle.std.specs.Prelude.{ℕ, false, Err, IfErr, IfSome, List};
+ghost use Rattle.std.specs.Prelude.{ℕ, true, false, Err, IfErr, IfSome, List};
 ghost use Rattle.ttp_base.specs.Outside.{WroteLines, CutShort};
-ghost use Rattle.whole_campaign.specs.Readable.{counts_sum, IsReadable};
+ghost use Rattle.whole_campaign.specs.Readable.{counts_fit, counts_sum, IsReadable};
 ghost use Rattle.picture_text.specs.Sheet.{Puts};
 ghost use Rattle.picture_text.specs.Picture.{ended, text_line};
 ghost use Rattle.chart_text.specs.Chart.{slots_shown_text, many_listed, chart_head, chart_body, chart_end, chart_of, chart_lines};
@@ -28,9 +28,9 @@ use crate::frame::{Frame, chart_height, key_top, list_top, most_columns};
 use crate::head::{make_harm, put_front, put_hidden, put_own, put_sums};
 use crate::key::{put_how_to_read, put_key, put_legend, put_words_meant};
 use crate::listed::put_worst;
-use crate::marks::{count_marks, keep_asked, keep_from, mark_pieces, marked_slot, place_in};
+use crate::marks::{count_marks, keep_asked, keep_from, marked_slot, place_in};
 use crate::size::Size;
-use crate::sums::sums_of;
+use crate::sums::{Sums, sums_of};
 use crate::survey::{Found, first_hidden, survey_of};
 use crate::table::put_table;
 use crate::tally::Tallies;
@@ -51,24 +51,32 @@ pub enum ChartFault {
     Failed,
 }
 
-// Marks the slots in which faults are tried.
-fn mark_tried(marks: &mut [bool], pieces: Pieces<'_>)
-    requires { (t : ℕ) → has_mark marks.old t ≡ false }
-    ensures { marked_slots marks.new ≡ tried_slots (length marks.old) pieces.entry }
+// Marks the slots in which faults are tried, and gives the sums of what their pieces count.
+fn mark_tried(pieces: Pieces<'_>, marks: &mut [bool]) -> Sums
+    requires none { (t : ℕ) → has_mark marks.old t ≡ false }
+    requires kept { counts_fit (counts_sum (map (λ piece. piece.kept) pieces)) ≡ true }
+    requires broken { counts_fit (counts_sum (map (λ piece. piece.broken) pieces)) ≡ true }
+    ensures marks { marked_slots marks.new ≡ tried_slots (length marks.old) pieces.entry }
+    ensures kept { result.kept ≡ counts_sum (map (λ piece. piece.kept) pieces.entry) }
+    ensures broken { result.broken ≡ counts_sum (map (λ piece. piece.broken) pieces.entry) }
 {
-    mark_pieces(marks, pieces);
+    sums_of(pieces, marks)
 }
 
-// A mark for each slot of a run in which faults are tried.
+// A mark for each slot of a run in which faults are tried, and the sums of what their pieces count.
 #[tactic(auto, using(crate::proofs::Slots::none_marked))]
-fn tried_marks(alloc: Global, slots: u32, pieces: Pieces<'_>) -> Result<Vec<bool>, Memory>
-    ensures length { IfOk result (λ marks. length marks.items ≡ slots) }
-    ensures marks { IfOk result (λ marks. marked_slots marks.items ≡ tried_slots slots pieces.entry) }
+fn tried_marks(alloc: Global, slots: u32, pieces: Pieces<'_>) -> Result<(Vec<bool>, Sums), Memory>
+    requires kept { counts_fit (counts_sum (map (λ piece. piece.kept) pieces)) ≡ true }
+    requires broken { counts_fit (counts_sum (map (λ piece. piece.broken) pieces)) ≡ true }
+    ensures length { IfOk result (λ r. length r.0.items ≡ slots) }
+    ensures marks { IfOk result (λ r. marked_slots r.0.items ≡ tried_slots slots pieces.entry) }
+    ensures kept { IfOk result (λ r. r.1.kept ≡ counts_sum (map (λ piece. piece.kept) pieces.entry)) }
+    ensures broken { IfOk result (λ r. r.1.broken ≡ counts_sum (map (λ piece. piece.broken) pieces.entry)) }
 {
     match vec![in alloc; false; slots as usize] {
         Ok(mut marks) => {
-            mark_tried(&mut marks, pieces);
-            Ok(marks)
+            let sums = mark_tried(pieces, &mut marks);
+            Ok((marks, sums))
         }
         Err(_) => Err(Memory),
     }
@@ -139,12 +147,12 @@ fn put_head<K: Sink>(
     campaign: &Campaign<'_>,
     frame: Frame,
     marks: &[bool],
+    sums: Sums,
     found: &Found,
     buffer: &mut Buffer,
     sheet: &mut Sheet,
     out: &mut K,
 )
-    requires readable { IsReadable campaign.now }
     requires size { frame.size ≡ size_of_campaign campaign.now }
     requires marks { length marks.now ≤ 20000 }
     requires shown { frame.many ≡ length (marked_slots marks.now) }
@@ -152,6 +160,8 @@ fn put_head<K: Sink>(
     requires listed { frame.listed ≡ many_listed frame.size campaign.now.faults }
     requires tallies { AreTallies frame.size found.now.tallies [] campaign.now.faults }
     requires most { found.now.survey.most ≡ most_lost frame.size campaign.now.faults }
+    requires kept { sums.kept ≡ counts_sum (map (λ piece. piece.kept) campaign.now.pieces) }
+    requires broken { sums.broken ≡ counts_sum (map (λ piece. piece.broken) campaign.now.pieces) }
     requires own { length campaign.now.own.text + length campaign.now.own.cost + 200 ≤ buffer.old.room }
     requires test { length campaign.now.own.test_text + 300 ≤ buffer.old.room }
     ensures puts { Puts sheet.old.failed (K.output out.old) sheet.new.failed (K.output out.new)
@@ -174,7 +184,7 @@ fn put_head<K: Sink>(
     make_shown(&mut sheet.line, frame, marks, hidden);
     sheet.write(out);
     put_own(campaign.own(), buffer, sheet, out);
-    put_sums(sums_of(campaign.pieces()), sheet, out);
+    put_sums(sums, sheet, out);
 }
 
 // Writes the columns and what stands beside them.
@@ -266,6 +276,7 @@ fn put_with_room<K: Sink>(
     campaign: &Campaign<'_>,
     frame: Frame,
     marks: &[bool],
+    sums: Sums,
     found: &Found,
     worst: &Worst<'_>,
     out: &mut K,
@@ -280,6 +291,8 @@ fn put_with_room<K: Sink>(
     requires longest { found.now.survey.longest ≡ longest_text campaign.now.faults }
     requires most { found.now.survey.most ≡ most_lost frame.size campaign.now.faults }
     requires tallies { AreTallies frame.size found.now.tallies [] campaign.now.faults }
+    requires kept { sums.kept ≡ counts_sum (map (λ piece. piece.kept) campaign.now.pieces) }
+    requires broken { sums.broken ≡ counts_sum (map (λ piece. piece.broken) campaign.now.pieces) }
     requires worst { worst.now ≡ ten_worst frame.size campaign.now.faults }
     ensures ok { OnOk result (WroteLines (K.output out.old) (K.output out.new)
         (chart_of frame.size campaign.now.own (marked_slots marks.now) campaign.now.faults
@@ -297,7 +310,16 @@ fn put_with_room<K: Sink>(
         return Err(ChartFault::Memory);
     };
     let mut sheet = Sheet::new();
-    put_head(campaign, frame, marks, found, &mut buffer, &mut sheet, out);
+    put_head(
+        campaign,
+        frame,
+        marks,
+        sums,
+        found,
+        &mut buffer,
+        &mut sheet,
+        out,
+    );
     put_body(
         campaign,
         frame,
@@ -326,25 +348,28 @@ fn size_of_campaign(campaign: &Campaign<'_>) -> Size
     }
 }
 
-// A mark for each slot of a run that is shown.
+// A mark for each slot of a run that is shown, and the sums of what the pieces count.
 fn shown_marks(
     alloc: Global,
     campaign: &Campaign<'_>,
     size: Size,
     harm: Option<u32>,
     asked: Option<Span>,
-) -> Result<Vec<bool>, Memory>
+) -> Result<(Vec<bool>, Sums), Memory>
+    requires readable { IsReadable campaign.now }
     requires size { size ≡ size_of_campaign campaign.now }
     requires nodes { (4 ≤ size.nodes) × (size.nodes ≤ 24) }
     requires slots { size.slots ≤ 20000 }
     requires harm { harm ≡ first_told_slot (does_harm size) campaign.now.faults }
-    ensures length { IfOk result (λ marks. length marks.items ≡ size.slots) }
-    ensures marks { IfOk result (λ marks. marked_slots marks.items ≡ slots_shown campaign.now asked) }
+    ensures length { IfOk result (λ r. length r.0.items ≡ size.slots) }
+    ensures marks { IfOk result (λ r. marked_slots r.0.items ≡ slots_shown campaign.now asked) }
+    ensures kept { IfOk result (λ r. r.1.kept ≡ counts_sum (map (λ piece. piece.kept) campaign.now.pieces)) }
+    ensures broken { IfOk result (λ r. r.1.broken ≡ counts_sum (map (λ piece. piece.broken) campaign.now.pieces)) }
 {
     match tried_marks(alloc, size.slots, campaign.pieces()) {
-        Ok(mut marks) => {
+        Ok((mut marks, sums)) => {
             keep_shown(&mut marks, size.nodes, harm, asked);
-            Ok(marks)
+            Ok((marks, sums))
         }
         Err(_) => Err(Memory),
     }
@@ -378,7 +403,7 @@ pub fn put_chart<K: Sink>(
         return Err(ChartFault::Memory);
     };
     let found = survey_of(size, campaign.faults(), &mut worst);
-    let Ok(marks) = shown_marks(alloc, campaign, size, found.survey.harm, asked) else {
+    let Ok((marks, sums)) = shown_marks(alloc, campaign, size, found.survey.harm, asked) else {
         return Err(ChartFault::Memory);
     };
     let many = count_marks(&marks);
@@ -387,5 +412,5 @@ pub fn put_chart<K: Sink>(
     }
     let listed = worst.len() as u8;
     let frame = Frame { size, many, listed };
-    put_with_room(alloc, campaign, frame, &marks, &found, &worst, out)
+    put_with_room(alloc, campaign, frame, &marks, sums, &found, &worst, out)
 }

@@ -5,11 +5,11 @@ ghost use Rattle.std.specs.Prelude.{◌≡◌, ℕ, ◌+◌, ◌-◌, ◌<◌, �
 ghost use Rattle.std.specs.Prelude.{nat_le, nat_lt, ◌==◌, Bool};
 ghost use Rattle.whole_campaign.specs.Due.{as_count};
 ghost use Rattle.ttp_base.specs.NodeSet.{below};
-ghost use Rattle.chart_text.specs.Columns.{is_of_piece, is_tried, is_asked, place_in};
+ghost use Rattle.chart_text.specs.Columns.{is_of_piece, is_asked, place_in};
 ghost use Rattle.chart_text.specs.Steps.{marked_slots, has_mark};
 
 use picture_text::Span;
-use whole_campaign::{Piece, Pieces};
+use whole_campaign::Piece;
 
 /// Whether a slot is marked.
 pub(crate) fn has_mark(marks: &[bool], slot: u32) -> bool
@@ -21,25 +21,14 @@ pub(crate) fn has_mark(marks: &[bool], slot: u32) -> bool
     }
 }
 
-// Marks the slots of a piece, as far as there are any.
-fn mark_piece(marks: &mut [bool], piece: &Piece)
+/// Marks the slots of a piece, as far as there are any.
+pub(crate) fn mark_piece(marks: &mut [bool], piece: &Piece)
     ensures { (t : ℕ) → t < length marks.old
         → has_mark marks.new t ≡ (has_mark marks.old t || is_of_piece t piece.now) }
 {
     let end = marks.len().min(piece.last as usize + 1);
     for t in piece.first as usize..end {
         marks[t] = true;
-    }
-}
-
-/// Marks the slots of all pieces.
-pub(crate) fn mark_pieces(marks: &mut [bool], pieces: Pieces<'_>)
-    ensures { (t : ℕ) → t < length marks.old
-        → has_mark marks.new t ≡ (has_mark marks.old t || is_tried pieces.entry t) }
-{
-    let mut left = pieces;
-    while let Some(piece) = left.next_piece() {
-        mark_piece(marks, &piece);
     }
 }
 

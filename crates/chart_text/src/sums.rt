@@ -1,10 +1,13 @@
-//! The counts of all pieces, added up.
+//! The slots and the counts of all pieces, by one walk over them.
 #![tactic(auto)]
 
-ghost use Rattle.std.specs.Prelude.{◌≡◌, ◌+◌, ◌^◌, ◌<◌, true, map};
+ghost use Rattle.std.specs.Prelude.{◌≡◌, ℕ, ◌+◌, ◌^◌, ◌<◌, ◌||◌, true, length, map};
 ghost use Rattle.whole_campaign.specs.Due.{no_runs};
 ghost use Rattle.whole_campaign.specs.Readable.{counts_together, counts_sum, counts_fit};
+ghost use Rattle.chart_text.specs.Columns.{is_tried};
+ghost use Rattle.chart_text.specs.Steps.{has_mark};
 
+use crate::marks::mark_piece;
 use campaign::Counts;
 use whole_campaign::Pieces;
 
@@ -43,10 +46,12 @@ fn added(sum: Counts, more: Counts) -> Counts
     }
 }
 
-/// The sums of the counts of all pieces.
-pub(crate) fn sums_of(pieces: Pieces<'_>) -> Sums
+/// The sums of the counts of all pieces, whose slots are marked on the way.
+pub(crate) fn sums_of(pieces: Pieces<'_>, marks: &mut [bool]) -> Sums
     requires kept { counts_fit (counts_sum (map (λ piece. piece.kept) pieces)) ≡ true }
     requires broken { counts_fit (counts_sum (map (λ piece. piece.broken) pieces)) ≡ true }
+    ensures marks { (t : ℕ) → t < length marks.old
+        → has_mark marks.new t ≡ (has_mark marks.old t || is_tried pieces.entry t) }
     ensures kept { result.kept ≡ counts_sum (map (λ piece. piece.kept) pieces.entry) }
     ensures broken { result.broken ≡ counts_sum (map (λ piece. piece.broken) pieces.entry) }
 {
@@ -56,6 +61,7 @@ pub(crate) fn sums_of(pieces: Pieces<'_>) -> Sums
         broken: no_runs(),
     };
     while let Some(piece) = left.next_piece() {
+        mark_piece(marks, &piece);
         sums = Sums {
             kept: added(sums.kept, piece.kept),
             broken: added(sums.broken, piece.broken),

@@ -1,4 +1,4 @@
-use Rattle.chart_text.proofs.Words.{◌∙◌, ◌&&◌, [], ap, List, map, Piece, counts_sum, puts_both, puts_first}
+use Rattle.chart_text.proofs.Words.{◌∙◌, ◌&&◌, [], ap, puts_both, puts_first}
 use Rattle.chart_text.proofs.Words.{first_told_slot, is_hidden, does_harm, marked_slots}
 use Rattle.picture_text.specs.Picture.{class_of, text_line}
 use Rattle.std.proofs.Common.{codes}
@@ -16,10 +16,6 @@ returns-clause-puts g c =
     let t = tallied size c.args.found.now.tallies.all faults c.requires.tallies.whole in
     let hidden = c.first_hidden-hidden.ensures
     ∙ ap (first_told_slot (λ fault. does_harm size fault && is_hidden shown fault)) c.faults.ensures in
-    let kept = c.sums_of.ensures.kept
-    ∙ ap (λ (ps : List Piece). counts_sum (map (λ piece. piece.kept) ps)) c.pieces.ensures in
-    let broken = c.sums_of.ensures.broken
-    ∙ ap (λ (ps : List Piece). counts_sum (map (λ piece. piece.broken) ps)) c.pieces.ensures in
     puts_both
     (puts_both
     (along
@@ -33,4 +29,4 @@ returns-clause-puts g c =
     (puts_first
     (c.make_shown.ensures ∙ (λ i. text_line [] 12 40 (slots_shown_text size shown (hidden i))))
     c.write-2.ensures (along (ap own_lines c.own.ensures) c.put_own.ensures.puts))))
-    (along (λ i. counted_lines (kept i) (broken i)) c.put_sums.ensures)
+    (along (λ i. counted_lines (c.requires.kept i) (c.requires.broken i)) c.put_sums.ensures)
