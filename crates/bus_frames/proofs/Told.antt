@@ -43,7 +43,7 @@ use Rattle.bus_frames.proofs.States.{after-Sent, after-Started, members-nodes, n
 
 -- By an entry of a node that sends.
 
-state-by : (list : Medl) (k : ℕ) (past : NodePast) (s : SlotSurroundings) (valid : IsValid list) (node : k < length list.slots)
+pub state-by : (list : Medl) (k : ℕ) (past : NodePast) (s : SlotSurroundings) (valid : IsValid list) (node : k < length list.slots)
     → AreNodes list past.members → (a : Act) (sent : List SentFrame) (e : Entry) → ActsBy a sent e → is_sending e ≡ true
     → state_after (past_after list k past e s) ≡ state_by list k past a
 state-by list k past s valid node are a sent entry.Started by is =
@@ -128,7 +128,7 @@ full : (bare : Bool) (n : ℕ) → (cond bare 0 n == 0) ≡ false → cond bare 
 full true n some = absurd (true≢false some)
 full false n some = refl
 
-size-plan : (list : Medl) (k : ℕ) (past : NodePast) (a : Act) → sends a ≡ true → (size_by list past a == 0) ≡ false
+pub size-plan : (list : Medl) (k : ℕ) (past : NodePast) (a : Act) → sends a ≡ true → (size_by list past a == 0) ≡ false
     → (a ≡ Send → (coming_place list past).slot ≡ k)
     → size_by list past a ≡ (plan_at list k).payload
 size-plan list k past Start is some own = absurd (true≢false some)
@@ -138,7 +138,7 @@ size-plan list k past Send is some own =
     ∙ ap (λ slot. (plan_at list slot).payload) (own refl)
 size-plan list k past _ is some own = absurd (true≢false (sym is))
 
-loaded-by : (list : Medl) (past : NodePast) (a : Act) → sends a ≡ true → (size_by list past a == 0) ≡ false
+pub loaded-by : (list : Medl) (past : NodePast) (a : Act) → sends a ≡ true → (size_by list past a == 0) ≡ false
     → sends_payload list past a ≡ true
 loaded-by list past Start is some = absurd (true≢false some)
 loaded-by list past Send is some = ap not some
@@ -148,7 +148,7 @@ same-payload : (empty : Bool) (xs ys : List ℕ) → (empty ≡ false → xs ≡
 same-payload true xs ys same = refl
 same-payload false xs ys same = same refl
 
-long-payload : (size : ℕ) (empty : Bool) (xs : List ℕ) → (size == 0) ≡ empty → (empty ≡ false → length xs ≡ size)
+pub long-payload : (size : ℕ) (empty : Bool) (xs : List ℕ) → (size == 0) ≡ empty → (empty ≡ false → length xs ≡ size)
     → length (cond empty [] xs) ≡ size
 long-payload size true xs is long = sym (eqb-true size 0 is)
 long-payload size false xs is long = long refl
