@@ -74,9 +74,6 @@ nearer-of_three (Some a) None c = refl
 nearer-of_three (Some a) (Some b) None = refl
 nearer-of_three (Some a) (Some b) (Some c) = ap (λ n. Some n) (least-of_three a b c)
 
-most-of_three : (x y z : ℕ) → max (max x y) z ≡ max x (max y z)
-most-of_three x y z = omega arith
-
 sum-of_three : (x y z : ℕ) → (x + y) + z ≡ x + (y + z)
 sum-of_three x y z = omega arith
 
@@ -118,7 +115,7 @@ with-together m one other = λ i. record {
   counts = sym (counts-of_three m.counts one.counts other.counts) i;
   free = sym (common-of_three m.free one.free other.free) i;
   least = sym (nearer-of_three (nearest m) one.least other.least) i;
-  most = sym (most-of_three m.most one.most other.most) i;
+  most = (let most : max m.most (max one.most other.most) ≡ max (max m.most one.most) other.most = omega arith in most) i;
 }
 
 pub together : (some others : List Margin) → total_of (some ++ others) ≡ totals_together (total_of some) (total_of others)

@@ -5,7 +5,7 @@ use Rattle.std.specs.Prelude.{flat_map, if◌then◌else◌}
 use Rattle.std.specs.Str.{bytes_eq}
 use Rattle.std.proofs.lemmas.Bool.{and_parts}
 use Rattle.std.proofs.lemmas.Int.{ints}
-use Rattle.std.proofs.lemmas.Slice.Eq.{bytes_eq-Decides}
+use Rattle.line_form.proofs.NumberWords.{same_text}
 use Rattle.ttp_world.specs.declared.medl.Medl.{Medl}
 use Rattle.ttp_world.specs.declared.script.Script.{Script}
 use Rattle.clock_margins.specs.declared.margin.Outcome.{Outcome}
@@ -20,9 +20,6 @@ use Rattle.margin_laws.specs.Ranges.{values_between, told_as, told_in_range, Are
 
 -- What is the same by its test is the same.
 
-same_bytes : (one other : List ℕ) → bytes_eq one other ≡ true → one ≡ other
-same_bytes one other same = (bytes_eq-Decides one other).0 same
-
 same_truth : (one other : Bool) → is_same_truth one other ≡ true → one ≡ other
 same_truth true other same = sym same
 same_truth false true same = same
@@ -34,7 +31,7 @@ same_sets [] (m ∷ more) same = grind (arith, same)
 same_sets (members ∷ sets) [] same = grind (arith, same)
 same_sets (members ∷ sets) (m ∷ more) same =
     let parts = and_parts (bytes_eq members m) (are_same_sets sets more) same in
-    λ i. same_bytes members m parts.0 i ∷ same_sets sets more parts.1 i
+    λ i. same_text members m parts.0 i ∷ same_sets sets more parts.1 i
 
 same_outcome : (one other : Outcome) → is_same_outcome one other ≡ true → one ≡ other
 same_outcome one other same =
@@ -42,8 +39,8 @@ same_outcome one other same =
     let hurt = and_parts (bytes_eq one.hurt other.hurt) _ left.1 in
     let split = and_parts (is_same_truth one.split other.split) _ hurt.1 in
     λ i. record {
-      left = same_bytes one.left other.left left.0 i;
-      hurt = same_bytes one.hurt other.hurt hurt.0 i;
+      left = same_text one.left other.left left.0 i;
+      hurt = same_text one.hurt other.hurt hurt.0 i;
       split = same_truth one.split other.split split.0 i;
       end = same_sets one.end other.end split.1 i;
     }
@@ -53,7 +50,7 @@ same_told told range same =
     let parts = and_parts (bytes_eq told.test range.test) _ same in
     λ i. record {
       value = told.value;
-      test = same_bytes told.test range.test parts.0 i;
+      test = same_text told.test range.test parts.0 i;
       outcome = same_outcome told.outcome range.outcome parts.1 i;
     }
 
