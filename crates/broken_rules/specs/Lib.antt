@@ -1,0 +1,4 @@
+pub mod Clocks
+pub mod Jumps
+pub mod Start
+pub mod Conditions

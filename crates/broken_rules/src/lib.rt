@@ -1,0 +1,25 @@
+//! The rules of the hypothesis that a script breaks, each by what.
+//!
+//! `keeps` and `returns` of hypothesis name the first rule that is broken, with a slot. [`broken_conditions`] tells of
+//! each rule that asks nothing of faulty nodes, whichever others are broken, what breaks it, with the numbers: clocks,
+//! the window, flipped bits and jumps, and the start. What it tells is the definition of `specs/Conditions.antt`, and it
+//! names the slots that hypothesis names.
+//!
+//! ```text
+//! let broken = broken_conditions(list, script);
+//! if let Some(needed) = broken.window { .. list.window, needed .. }
+//! ```
+//!
+//! Where a node of the script is armed, the rules are those on armed nodes. A line of the script that breaks a rule is
+//! told by its place among the events. The crate takes no memory, forms no text, and knows no lines.
+#![tactic(auto, using(ttp_world::proofs::Lists::nodes))]
+
+mod clocks;
+mod conditions;
+mod jumps;
+mod start;
+
+pub use crate::clocks::PastBound;
+pub use crate::conditions::{BrokenConditions, broken_conditions};
+pub use crate::jumps::{Disturbance, Disturbed};
+pub use crate::start::NoStart;
