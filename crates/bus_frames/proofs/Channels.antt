@@ -16,8 +16,9 @@ use Rattle.ttp_world.specs.World.{chosen_of, slot_after}
 use Rattle.controller.specs.PlantView.{PlantView}
 use Rattle.medium.specs.StandsFor.{sent_by}
 use Rattle.bus_frames.specs.FrameText.{frame_line, bus_line}
-use Rattle.bus_frames.specs.Sending.{sending_in}
-use Rattle.bus_frames.specs.Standing.{SlotStands, frame_with, frames_told, lines_of_node, payload_with}
+use Rattle.bus_frames.specs.Sending.{frames_sent, sending_in}
+use Rattle.bus_frames.specs.Standing.{SlotStands, frame_with, frames_there, frames_told, lines_of_node, payload_with}
+use Rattle.bus_frames.proofs.Lists.{frames-alone}
 use Rattle.bus_frames.proofs.Told.{frames, silent}
 
 -- a frame of node k lies on a channel
@@ -56,25 +57,29 @@ module _ (plant : PlantView) (chosen : List Chosen) (offsets : List ℤ) (list :
           (payload_with (sending_in (slot_after list script before) k) (chosen_of chosen k))) ∷ []) [])
           (ap (λ t. not (has_send_fault script fault.Silence k c t)) stands.long ∙ is)
 
-  pub no-lines : (there : List SentFrame) → lies script slot c row k ≡ false
-      → lines_of_node list script row before c there k ≡ []
-  no-lines there is = ap (map (bus_line list script before c there)) (nothing-there is)
+  pub no-lines : lies script slot c row k ≡ false
+      → lines_of_node list script row before c (frames_there list script row before c) k ≡ []
+  no-lines is = ap (map (bus_line list script before c (frames_there list script row before c))) (nothing-there is)
+
+  -- what is on the channel, where no two frames lie there
+  pub alone-signal : lies script slot c row k ≡ true → nat_le 2 (length (frames_there list script row before c)) ≡ false
+      → channel_signal script (length before) c (frames_sent list script row before)
+      ≡ signal_of script (length before) c (sent_by k (frame_with list (sending_in (slot_after list script before) k)
+      (payload_with (sending_in (slot_after list script before) k) (chosen_of chosen k))))
+  alone-signal is few =
+      ap (combined_signal script (length before) c) (frames-alone list script row before c k _ node (there is) few)
 
   -- the line that is formed
-  pub one-line : (others : List SentFrame) (meets : Bool) (line : List ℕ) → lies script slot c row k ≡ true
-      → meets ≡ nat_le 2 (length others)
-      → line ≡ frame_line list slot c (sending_in (slot_after list script before) k) meets (channel_signal script slot c
-      (sent_by k (frame_with list (sending_in (slot_after list script before) k)
-      (payload_with (sending_in (slot_after list script before) k) (chosen_of chosen k))) ∷ []))
-      → lines_of_node list script row before c others k ≡ line ∷ []
-  one-line others meets line is same line_is =
-      let parts = and_parts (is_sending (entry_of row k)) (not (has_send_fault script fault.Silence k c slot)) is in
+  pub one-line : (meets : Bool) (line : List ℕ) → lies script slot c row k ≡ true
+      → meets ≡ nat_le 2 (length (frames_there list script row before c))
+      → line ≡ frame_line list slot c (sending_in (slot_after list script before) k) meets
+      (signal_of script (length before) c (sent_by k (frame_with list (sending_in (slot_after list script before) k)
+      (payload_with (sending_in (slot_after list script before) k) (chosen_of chosen k)))))
+      → lines_of_node list script row before c (frames_there list script row before c) k ≡ line ∷ []
+  one-line meets line is same line_is =
       let frame = sent_by k (frame_with list (sending_in (slot_after list script before) k)
       (payload_with (sending_in (slot_after list script before) k) (chosen_of chosen k))) in
-      let signal : channel_signal script slot c (frame ∷ []) ≡ signal_of script slot c frame =
-      ap (λ (b : Bool). combined_signal script slot c (cond b (frame ∷ []) [])) parts.1 in
-      ap (map (bus_line list script before c others)) (there is)
+      ap (map (bus_line list script before c (frames_there list script row before c))) (there is)
       ∙ ap (λ (l : List ℕ). l ∷ []) (sym (line_is
-      ∙ (λ i. frame_line list (sym stands.long i) c (sending_in (slot_after list script before) k) (same i) (signal i))
-      ∙ ap (λ t. frame_line list (length before) c (sending_in (slot_after list script before) k) (nat_le 2 (length others))
-      (signal_of script t c frame)) (sym stands.long)))
+      ∙ (λ i. frame_line list (sym stands.long i) c (sending_in (slot_after list script before) k) (same i)
+      (signal_of script (length before) c frame))))

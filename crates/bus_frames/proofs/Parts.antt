@@ -9,8 +9,7 @@ use Rattle.ttp_world.specs.declared.script.Channel.{Channel}
 use Rattle.ttp_world.specs.declared.script.Fault.TheVariants as fault
 use Rattle.ttp_world.specs.declared.script.Script.{Script}
 use Rattle.ttp_world.specs.Fitting.{carried_length, payload_in}
-use Rattle.ttp_world.specs.Medium.{SentFrame, Signal, Silence, Noise, Bits, channel_signal, combined_signal, flip_bit}
-use Rattle.ttp_world.specs.Medium.{flip_bits, flip_in_byte, remains}
+use Rattle.ttp_world.specs.Medium.{SentFrame, Signal, Silence, Noise, Bits, flip_bit, flip_bits, flip_in_byte, signal_of}
 use Rattle.ttp_world.specs.Medl.{member_width}
 use Rattle.ttp_world.specs.Script.{flipped_bits, has_send_fault}
 use Rattle.medium.specs.declared.arrival.Arrival.{Arrival}
@@ -85,19 +84,17 @@ length-flip_bits : (bits bytes : List ℕ) → length (flip_bits bytes bits) ≡
 length-flip_bits [] bytes = refl
 length-flip_bits (bit ∷ bits) bytes = length-flip_bits bits (flip_bit bytes bit) ∙ length-flip_bit bytes bit
 
--- one frame on a channel, and what it is there: as long as it was sent
-pub long-alone : (script : Script) (slot n : ℕ) (c : Channel) (sent : SentFrame) → length sent.bytes ≡ n
-    → IsLongSignal n (channel_signal script slot c (sent ∷ []))
-long-alone script slot n c sent long =
-    cond_both (remains script slot c sent) (sent ∷ []) [] (λ (fs : List SentFrame). IsLongSignal n (combined_signal script slot c fs))
-    (λ here. cond_both (has_send_fault script fault.Noise sent.sender c slot) Noise
+-- what remains of a frame on a channel is as long as it was sent
+long-signal : (script : Script) (slot n : ℕ) (c : Channel) (sent : SentFrame) → length sent.bytes ≡ n
+    → IsLongSignal n (signal_of script slot c sent)
+long-signal script slot n c sent long =
+    cond_both (has_send_fault script fault.Noise sent.sender c slot) Noise
     (Bits sent.sender (flip_bits sent.bytes (flipped_bits script sent.sender c slot))) (IsLongSignal n) (λ noisy. tt)
-    (λ whole. length-flip_bits (flipped_bits script sent.sender c slot) sent.bytes ∙ long))
-    (λ silent. tt)
+    (λ whole. length-flip_bits (flipped_bits script sent.sender c slot) sent.bytes ∙ long)
 
 pub long-shown : (list : Medl) (sending : Sending) (script : Script) (slot : ℕ) (c : Channel) (sent : SentFrame)
-    (came : Arrival) (clock : ℕ → ℤ) → Shows came (channel_signal script slot c (sent ∷ [])) clock
+    (came : Arrival) (clock : ℕ → ℤ) → Shows came (signal_of script slot c sent) clock
     → length sent.bytes ≡ 1 + carried_length (member_width list) sending.header + sending.size + 3
     → IsAsLong list sending came
 long-shown list sending script slot c sent came clock shows long =
-    long-came list sending came (channel_signal script slot c (sent ∷ [])) clock shows (long-alone script slot _ c sent long)
+    long-came list sending came (signal_of script slot c sent) clock shows (long-signal script slot _ c sent long)

@@ -1,6 +1,6 @@
 -- What stands where the lines of a slot are written.
 use Rattle.std.specs.Prelude.{◌≡◌, ℕ, ◌+◌, ◌^◌, ◌<◌, ◌≤◌, ℤ, pos, unsigned_abs, List, length, get_or, Option, Some, None, if◌then◌else◌}
-use Rattle.std.specs.Prelude.{◌==◌, [], map}
+use Rattle.std.specs.Prelude.{◌==◌, [], map, Bool, nat_le}
 use Rattle.ttp_base.specs.NodeSet.{set_bits}
 use Rattle.ttp_base.specs.Text.{Lines}
 use Rattle.ttp_world.specs.declared.medl.Medl.{Medl}
@@ -72,16 +72,12 @@ pub record IsSomeSlot (plant : PlantView) (chosen : List Chosen) (offsets : List
   pub before : History
   pub stands : SlotStands plant chosen offsets list script slot row before
 
--- so it is, with this message for node k and this clock
-pub record IsSomePast (plant : PlantView) (list : Medl) (script : Script) (slot k : ℕ) (message : Chosen) (offset : ℤ)
-    : Type 0 where
+-- so it is of some messages
+pub record IsSomeChoice (plant : PlantView) (offsets : List ℤ) (list : Medl) (script : Script) (slot : ℕ) : Type 0 where
   pub chosen : List Chosen
-  pub offsets : List ℤ
   pub some : IsSomeSlot plant chosen offsets list script slot
-  pub message_is : message ≡ chosen_of chosen k
-  pub offset_is : offset ≡ get_or offsets k (pos 0)
 
--- so it is of some messages, clocks and script as well
+-- so it is of some clocks and script as well
 pub record IsPastSlot (plant : PlantView) (list : Medl) : Type 0 where
   pub chosen : List Chosen
   pub offsets : List ℤ
@@ -136,6 +132,16 @@ lines_of_node list script row before c there k =
 abbrev pub frames_there : Medl → Script → List Entry → History → Channel → List SentFrame
 frames_there list script row before c =
     remaining_frames script (length before) c (frames_sent list script row before)
+
+-- A plant is past some slot of these clocks, where this is node k's, and where this says whether two frames or more lie on
+-- a channel.
+pub record IsSomePast (plant : PlantView) (list : Medl) (script : Script) (slot k : ℕ) (c : Channel) (meets : Bool)
+    (offset : ℤ) : Type 0 where
+  pub chosen : List Chosen
+  pub offsets : List ℤ
+  pub some : IsSomeSlot plant chosen offsets list script slot
+  pub offset_is : offset ≡ get_or offsets k (pos 0)
+  pub meets_is : meets ≡ nat_le 2 (length (frames_there list script some.row some.before c))
 
 -- bits that came are as many as it has
 abbrev pub IsAsLong : Medl → Sending → Arrival → Type 0

@@ -19,11 +19,10 @@
 //! }
 //! ```
 //!
-//! A plant goes through the run ([`trace_run`]), and a node that has sent shows in its status with which
-//! C-state. Its frame is made once more for each channel and put on a medium of its own, which tells what its
-//! sender's faults leave of it. A slot costs its nodes, as it does a plant; each line with bytes costs two
-//! check words, one to make the frame and one to judge it, and each line is one write. All memory is taken
-//! before the first line, and none for a slot. Threads share nothing here.
+//! A plant goes through the run ([`trace_run`]) and shows what each slot carried on either channel; a node that
+//! has sent shows in its status with which C-state. A slot costs its nodes, as it does a plant; each line with
+//! bytes costs one check word, to judge them, and each line is one write. All memory is taken before the first
+//! line, and none for a slot. Threads share nothing here.
 #![tactic(auto)]
 
 mod line;

@@ -1,5 +1,5 @@
 //! The text of frames, written.
-ghost use Rattle.std.specs.Prelude.{◌≡◌, ℤ, ◌+◌, ◌^◌, ◌<◌, ◌≤◌, ◌&&◌, not, pos, [], ◌∷◌, length, nat_le, unsigned_abs, ◌+ℤ◌};
+ghost use Rattle.std.specs.Prelude.{◌≡◌, ℤ, ◌^◌, ◌<◌, ◌≤◌, ◌&&◌, not, pos, [], false, length, nat_le, unsigned_abs, ◌+ℤ◌};
 ghost use Rattle.std.specs.Prelude.{get_or, ℕ, OnOk, OnErr, IfErr, IfOk, IsTrue, List as Items};
 ghost use Rattle.ttp_base.specs.Outside.{WroteLines, CutShort, Wrote};
 ghost use Rattle.ttp_base.specs.Text.{lines_of};
@@ -8,29 +8,26 @@ ghost use Rattle.ttp_world.specs.declared.node.Entry.{Entry as Did};
 ghost use Rattle.ttp_world.specs.declared.script.Fault.TheVariants as fault;
 ghost use Rattle.ttp_world.specs.declared.script.TheConstants.{SLOT_LIMIT};
 ghost use Rattle.ttp_world.specs.Diary.{History, entry_of};
-ghost use Rattle.ttp_world.specs.Fitting.{carried_length};
-ghost use Rattle.ttp_world.specs.Medium.{SentFrame, channel_signal, is_sending};
-ghost use Rattle.ttp_world.specs.Medl.{IsValid, member_width};
-ghost use Rattle.ttp_world.specs.Script.{AreBounded, IsValidScript, has_send_fault, incidents_of, is_among};
+ghost use Rattle.ttp_world.specs.Medium.{Signal, is_sending};
+ghost use Rattle.ttp_world.specs.Medl.{IsValid};
+ghost use Rattle.ttp_world.specs.Script.{AreBounded, IsValidScript, has_send_fault, is_among};
 ghost use Rattle.ttp_world.specs.TraceNumbers.{numbers_in};
-ghost use Rattle.ttp_world.specs.World.{chosen_of};
-ghost use Rattle.medium.specs.StandsFor.{sent_by};
+ghost use Rattle.medium.specs.Shows.{Shows};
 ghost use Rattle.trace_check.specs.Answer.{is_trace};
 ghost use Rattle.trace_run.specs.Run.{TraceStandsFor};
-ghost use Rattle.bus_frames.specs.FrameText.{channel_lines, frame_line, frame_lines, frame_slot_lines, signal_line};
-ghost use Rattle.bus_frames.specs.Standing.{AreNear, AreClocksShown, IsPastSlot, IsSendable, IsSomePast, IsSomeSlot, SlotStands};
-ghost use Rattle.bus_frames.specs.Standing.{frame_with, frames_there, lines_of_node, payload_with};
+ghost use Rattle.bus_frames.specs.FrameText.{channel_lines, frame_line, frame_lines, frame_slot_lines};
+ghost use Rattle.bus_frames.specs.Standing.{AreNear, AreClocksShown, IsAsLong, IsPastSlot, IsSendable, IsSomeChoice, IsSomePast};
+ghost use Rattle.bus_frames.specs.Standing.{SlotStands, frames_there, lines_of_node};
 
 use crate::line::{collision_line, head_line, signal_line};
 use crate::sending::{Sending, is_sending, sending_of};
 use controller::Plant;
 use line_text::cut_line;
-use medium::{Medium, Outgoing};
+use medium::Arrival;
 use std::alloc::Global;
 use trace_run::TraceRun;
 use ttp_base::{Failed, Line, List, Memory, Sink};
-use ttp_frame::{FrameIn, encode};
-use ttp_world::{Channel, Channels, Chosen, Incidents, Medl, Script};
+use ttp_world::{Channel, Channels, Incidents, Medl, Script};
 
 // Whether a channel is one of these.
 fn is_among(channel: Channel, channels: Channels) -> bool
@@ -80,81 +77,26 @@ fn count_on(list: &Medl, script: &Script, slot: u32, plant: &Plant, channel: Cha
     many
 }
 
-// The frame of what a node has sent, with the message that was chosen for it.
-fn frame_of(list: &Medl, sending: &Sending, chosen: &Chosen) -> Outgoing
-    requires valid { IsValid list.now }
-    requires sendable { IsSendable list.now sending.now }
-    requires payload { length (payload_with sending.now chosen.now) ≡ sending.now.size }
-    ensures frame { result ≡ frame_with list.now sending.now (payload_with sending.now chosen.now) }
-    ensures long { length result ≡ 1 + carried_length (member_width list.now) sending.now.header + sending.now.size + 3 }
-{
-    let payload = if sending.size == 0 {
-        &[]
-    } else {
-        chosen.payload.bytes()
-    };
-    let frame = FrameIn {
-        wide: list.is_wide(),
-        header: sending.header,
-        cstate: sending.state,
-        payload,
-    };
-    let mut bytes = [0; 256];
-    let len = encode(&frame, list.schedule, &mut bytes) as u16;
-    Outgoing { len, bytes }
-}
-
-// Forms the line of a frame that is alone on the channel.
-fn form_alone(
-    list: &Medl,
-    script: &Script,
-    slot: u32,
-    incidents: &Incidents,
-    channel: Channel,
-    sending: &Sending,
-    chosen: &Chosen,
-    medium: &mut Medium,
-    line: &mut Line,
-)
-    requires valid { IsValid list.now }
-    requires incidents { incidents.now ≡ incidents_of script.now sending.now.node slot }
-    requires sendable { IsSendable list.now sending.now }
-    requires payload { length (payload_with sending.now chosen.now) ≡ sending.now.size }
-    ensures { line.new ≡ signal_line list.now slot channel sending.now (channel_signal script.now slot channel
-        (sent_by sending.now.node (frame_with list.now sending.now (payload_with sending.now chosen.now)) ∷ [])) }
-{
-    let frame = frame_of(list, sending, chosen);
-    medium.begin(slot);
-    medium.put(script, incidents, sending.node, &frame, sending.clock);
-    signal_line(list, slot, channel, sending, &medium.carried(channel), line);
-}
-
-// Forms the line of a frame, be it that it meets another.
+// Forms the line of a frame, where this is on the channel, be it that it meets another.
 fn form_line(
     list: &Medl,
-    script: &Script,
     slot: u32,
-    incidents: &Incidents,
     channel: Channel,
     sending: &Sending,
-    chosen: &Chosen,
+    there: &Arrival,
     meets: bool,
-    medium: &mut Medium,
     line: &mut Line,
 )
     requires valid { IsValid list.now }
-    requires incidents { incidents.now ≡ incidents_of script.now sending.now.node slot }
     requires sendable { IsSendable list.now sending.now }
-    requires payload { length (payload_with sending.now chosen.now) ≡ sending.now.size }
-    ensures { line.new ≡ frame_line list.now slot channel sending.now meets (channel_signal script.now slot channel
-        (sent_by sending.now.node (frame_with list.now sending.now (payload_with sending.now chosen.now)) ∷ [])) }
+    requires long { meets ≡ false → IsAsLong list.now sending.now there.now }
+    ensures { (s : Signal) (clock : ℕ → ℤ) → (meets ≡ false → Shows there.now s clock)
+        → line.new ≡ frame_line list.now slot channel sending.now meets s }
 {
     if meets {
         collision_line(list, slot, channel, sending, line);
     } else {
-        form_alone(
-            list, script, slot, incidents, channel, sending, chosen, medium, line,
-        );
+        signal_line(list, slot, channel, sending, there, line);
     }
 }
 
@@ -175,30 +117,28 @@ fn put_node<K: Sink>(
     slot: u32,
     plant: &Plant,
     node: u8,
-    chosen: &Chosen,
     offset: i64,
     channel: Channel,
     meets: bool,
-    medium: &mut Medium,
     line: &mut Line,
     out: &mut K,
 ) -> Result<(), Failed>
     requires list { IsValid list.now }
     requires node { node < length list.now.slots }
-    requires past { IsSomePast plant.now list.now script.now slot node chosen.now offset }
+    requires past { IsSomePast plant.now list.now script.now slot node channel meets offset }
     requires near { unsigned_abs offset ≤ 2 ^ 60 }
     ensures ok { (all : Items Choice) (offsets : Items ℤ) (row : Items Did) (before : History)
         → SlotStands plant.now all offsets list.now script.now slot row before
-        → chosen.now ≡ chosen_of all node → offset ≡ get_or offsets node (pos 0) → (there : Items SentFrame)
-        → meets ≡ nat_le 2 (length there)
+        → offset ≡ get_or offsets node (pos 0)
+        → meets ≡ nat_le 2 (length (frames_there list.now script.now row before channel))
         → OnOk result (WroteLines (K.output out.old) (K.output out.new)
-        (lines_of_node list.now script.now row before channel there node)) }
+        (lines_of_node list.now script.now row before channel (frames_there list.now script.now row before channel) node)) }
     ensures failed { (all : Items Choice) (offsets : Items ℤ) (row : Items Did) (before : History)
         → SlotStands plant.now all offsets list.now script.now slot row before
-        → chosen.now ≡ chosen_of all node → offset ≡ get_or offsets node (pos 0) → (there : Items SentFrame)
-        → meets ≡ nat_le 2 (length there)
+        → offset ≡ get_or offsets node (pos 0)
+        → meets ≡ nat_le 2 (length (frames_there list.now script.now row before channel))
         → OnErr result (CutShort (K.output out.old) (K.output out.new)
-        (lines_of_node list.now script.now row before channel there node)) }
+        (lines_of_node list.now script.now row before channel (frames_there list.now script.now row before channel) node)) }
 {
     if !lies_on(list, script, slot, plant, node, channel) {
         return Ok(());
@@ -208,7 +148,13 @@ fn put_node<K: Sink>(
         return Ok(());
     };
     form_line(
-        list, script, slot, &incidents, channel, &sending, chosen, meets, medium, line,
+        list,
+        slot,
+        channel,
+        &sending,
+        &plant.carried(channel),
+        meets,
+        line,
     );
     out.write(line.bytes())
 }
@@ -219,23 +165,21 @@ fn put_channel<K: Sink>(
     script: &Script,
     slot: u32,
     plant: &Plant,
-    chosen: &[Chosen],
     offsets: &[i64],
     channel: Channel,
-    medium: &mut Medium,
     line: &mut Line,
     out: &mut K,
 ) -> Result<(), Failed>
     requires list { IsValid list.now }
-    requires past { IsSomeSlot plant.now chosen.now offsets.now list.now script.now slot }
+    requires past { IsSomeChoice plant.now offsets.now list.now script.now slot }
     requires near { AreNear offsets.now }
     requires count { length offsets.now ≡ length list.now.slots }
-    ensures ok { (row : Items Did) (before : History)
-        → SlotStands plant.now chosen.now offsets.now list.now script.now slot row before
+    ensures ok { (chosen : Items Choice) (row : Items Did) (before : History)
+        → SlotStands plant.now chosen offsets.now list.now script.now slot row before
         → OnOk result (WroteLines (K.output out.old) (K.output out.new)
         (channel_lines list.now script.now row before channel)) }
-    ensures failed { (row : Items Did) (before : History)
-        → SlotStands plant.now chosen.now offsets.now list.now script.now slot row before
+    ensures failed { (chosen : Items Choice) (row : Items Did) (before : History)
+        → SlotStands plant.now chosen offsets.now list.now script.now slot row before
         → OnErr result (CutShort (K.output out.old) (K.output out.new)
         (channel_lines list.now script.now row before channel)) }
 {
@@ -243,8 +187,7 @@ fn put_channel<K: Sink>(
     for node in 0..list.nodes() {
         let k = usize::from(node);
         put_node(
-            list, script, slot, plant, node, &chosen[k], offsets[k], channel, meets, medium, line,
-            out,
+            list, script, slot, plant, node, offsets[k], channel, meets, line, out,
         )?;
     }
     Ok(())
@@ -256,49 +199,25 @@ fn put_slot<K: Sink>(
     script: &Script,
     slot: u32,
     plant: &Plant,
-    chosen: &[Chosen],
     offsets: &[i64],
-    medium: &mut Medium,
     line: &mut Line,
     out: &mut K,
 ) -> Result<(), Failed>
     requires list { IsValid list.now }
-    requires past { IsSomeSlot plant.now chosen.now offsets.now list.now script.now slot }
+    requires past { IsSomeChoice plant.now offsets.now list.now script.now slot }
     requires near { AreNear offsets.now }
     requires count { length offsets.now ≡ length list.now.slots }
-    ensures ok { (row : Items Did) (before : History)
-        → SlotStands plant.now chosen.now offsets.now list.now script.now slot row before
+    ensures ok { (chosen : Items Choice) (row : Items Did) (before : History)
+        → SlotStands plant.now chosen offsets.now list.now script.now slot row before
         → OnOk result (WroteLines (K.output out.old) (K.output out.new)
         (frame_slot_lines list.now script.now row before)) }
-    ensures failed { (row : Items Did) (before : History)
-        → SlotStands plant.now chosen.now offsets.now list.now script.now slot row before
+    ensures failed { (chosen : Items Choice) (row : Items Did) (before : History)
+        → SlotStands plant.now chosen offsets.now list.now script.now slot row before
         → OnErr result (CutShort (K.output out.old) (K.output out.new)
         (frame_slot_lines list.now script.now row before)) }
 {
-    put_channel(
-        list,
-        script,
-        slot,
-        plant,
-        chosen,
-        offsets,
-        Channel::A,
-        medium,
-        line,
-        out,
-    )?;
-    put_channel(
-        list,
-        script,
-        slot,
-        plant,
-        chosen,
-        offsets,
-        Channel::B,
-        medium,
-        line,
-        out,
-    )
+    put_channel(list, script, slot, plant, offsets, Channel::A, line, out)?;
+    put_channel(list, script, slot, plant, offsets, Channel::B, line, out)
 }
 
 // Notes the clocks that a plant shows.
@@ -320,7 +239,6 @@ fn note_offsets(list: &Medl, plant: &Plant, offsets: &mut [i64])
 fn put_all<K: Sink>(
     run: TraceRun,
     offsets: Vec<i64>,
-    medium: Medium,
     list: &Medl,
     script: &Script,
     text: &[u8],
@@ -339,23 +257,12 @@ fn put_all<K: Sink>(
 {
     let mut run = run;
     let mut offsets = offsets;
-    let mut medium = medium;
     let mut line = Line::new();
     out.write(head_line(list, script).bytes())?;
     let mut rest = cut_line(text).1;
     for slot in 0..script.slots {
         run.make(list, script, slot, rest);
-        put_slot(
-            list,
-            script,
-            slot,
-            run.plant(),
-            run.chosen(),
-            &offsets,
-            &mut medium,
-            &mut line,
-            out,
-        )?;
+        put_slot(list, script, slot, run.plant(), &offsets, &mut line, out)?;
         note_offsets(list, run.plant(), &mut offsets);
         rest = run.pass(list, script, slot, rest);
     }
@@ -409,14 +316,10 @@ pub fn put_frames<K: Sink>(
         (frame_lines list.now script.now (numbers_in list.now script.now (lines_of text.now)))) }
     ensures memory { IfErr result (λ fault. fault ≡ FrameFault.Memory → Wrote (K.output out.old) (K.output out.new) []) }
 {
-    let (Ok(run), Ok(offsets), Ok(medium)) = (
-        TraceRun::new(alloc, list),
-        zeros(alloc, list),
-        Medium::new(alloc, list),
-    ) else {
+    let (Ok(run), Ok(offsets)) = (TraceRun::new(alloc, list), zeros(alloc, list)) else {
         return Err(FrameFault::Memory);
     };
-    match put_all(run, offsets, medium, list, script, text, out) {
+    match put_all(run, offsets, list, script, text, out) {
         Ok(()) => Ok(()),
         Err(_) => Err(FrameFault::Failed),
     }

@@ -2,6 +2,7 @@
 use Rattle.controller.proofs.Words.{◌≡◌, ℕ, zero, suc, ◌+◌, ◌<◌, List, [], ◌∷◌, length, get_or, Some, refl, sym, ap}
 use Rattle.controller.proofs.Words.{◌∙◌, subst, arith, slice_get, none-some, same_Some, Medl, Chosen, Script, History}
 use Rattle.controller.proofs.Words.{Seat, IsOutcomeOf, AreSeats, IsEnded, most_ahead, add-one, AreLeft, HaveEnded}
+use Rattle.controller.proofs.Words.{Carried, CarriesFrames, slot_after, frames_in}
 use Rattle.controller.specs.PlantStands.{PlantStandsFor, no_outcome, outcomes_of, plant_of, IsStep}
 use Rattle.controller.proofs.Parts.{each-of}
 
@@ -27,10 +28,13 @@ left_at {list = list} {script = script} {history = history} {chosen = chosen} {s
 
 -- So the three passes step a plant: each node stands for what the world's slot makes of the history.
 pub is-step : {list : Medl} {script : Script} {slot : ℕ} {history : History} {chosen : List Chosen} {old new : List Seat}
-    → PlantStandsFor (plant_of list slot old) script history → length new ≡ length list.slots
-    → AreSeats list IsEnded (most_ahead (slot + 1)) 0 new → HaveEnded list script history chosen 0 new
-    → IsStep (plant_of list (slot + 1) new) script history chosen
-is-step {slot = slot} stands count are ended = record {
+    {before after : Carried} → PlantStandsFor (plant_of list slot old before) script history
+    → length new ≡ length list.slots → AreSeats list IsEnded (most_ahead (slot + 1)) 0 new
+    → HaveEnded list script history chosen 0 new
+    → CarriesFrames (slot_after list script history) (frames_in (slot_after list script history) chosen) after
+    → IsStep (plant_of list (slot + 1) new after) script history chosen
+is-step {slot = slot} stands count are ended carries = record {
   stands = record { slot = add-one slot ∙ ap suc stands.slot; count = count; are = are; seats = ended.stand };
   left = λ k node. left_at ended.left k (omega (arith, node, count));
+  carries = carries;
 }

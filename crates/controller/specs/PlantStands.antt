@@ -6,11 +6,12 @@ use Rattle.ttp_world.specs.declared.node.NodeState.{NodeState}
 use Rattle.ttp_world.specs.declared.script.Script.{Script}
 use Rattle.ttp_world.specs.Diary.{History}
 use Rattle.ttp_world.specs.Past.{state_of}
-use Rattle.ttp_world.specs.World.{slot_after, row_in, node_past}
+use Rattle.ttp_world.specs.World.{slot_after, row_in, node_past, frames_in}
+use Rattle.medium.specs.Carried.{Carried}
 use Rattle.controller.specs.declared.controller.Outcome.{Outcome}
 use Rattle.controller.specs.declared.seat.Seat.{Seat}
 use Rattle.controller.specs.Parts.{EachFrom}
-use Rattle.controller.specs.Passes.{ArePayloadsBefore, IsOutcomeOf, StandAfter}
+use Rattle.controller.specs.Passes.{ArePayloadsBefore, CarriesFrames, IsOutcomeOf, StandAfter}
 use Rattle.controller.specs.PlantView.{PlantView}
 use Rattle.controller.specs.PlantWithin.{AreSeats, IsEnded, most_ahead}
 use Rattle.controller.specs.StandsFor.{ControllerStandsFor}
@@ -23,8 +24,8 @@ pub record PlantStandsFor (plant : PlantView) (script : Script) (history : Histo
   pub seats : StandAfter script history 0 plant.seats
 
 -- the plant of a list after so many slots
-abbrev pub plant_of : Medl → ℕ → List Seat → PlantView
-plant_of list slot seats = record { list = list; slot = slot; seats = seats }
+abbrev pub plant_of : Medl → ℕ → List Seat → Carried → PlantView
+plant_of list slot seats carried = record { list = list; slot = slot; seats = seats; carried = carried }
 
 -- What is left for hosts: nothing before the first slot, and then what the newest one left.
 
@@ -55,6 +56,9 @@ MayStep plant script chosen = ArePayloadsBefore script plant.slot chosen 0 plant
 pub record IsStep (new : PlantView) (script : Script) (history : History) (chosen : List Chosen) : Type 0 where
   pub stands : PlantStandsFor new script (row_in (slot_after new.list script history) chosen ∷ history)
   pub left : (k : ℕ) → k < length new.list.slots → IsOutcomeOf new.list script history chosen k (outcome_at new k)
+  -- what was sent in it lies on the medium
+  pub carries : CarriesFrames (slot_after new.list script history) (frames_in (slot_after new.list script history) chosen)
+      new.carried
 
 -- whatever history it stood for
 abbrev pub Steps : PlantView → PlantView → Script → List Chosen → Type 0

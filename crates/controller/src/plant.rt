@@ -7,17 +7,18 @@ ghost use Rattle.ttp_world.specs.declared.script.Script.{Script};
 ghost use Rattle.ttp_world.specs.Medl.{IsValid};
 ghost use Rattle.ttp_world.specs.Script.{IsValidScript};
 ghost use Rattle.controller.specs.PlantStands.{PlantStandsFor, plant_of, MayStep, Steps};
+ghost use Rattle.medium.specs.StandsFor.{ShowsCarried};
 ghost use Rattle.controller.specs.PlantStands.{ShowsNode, outcome_at, outcomes_of, no_outcomes};
 ghost use Rattle.controller.specs.PlantWithin.{IsEnded, IsControllerOf, AreSeats, most_ahead};
 
 use crate::passes::{begin_all, plan_all, take_all};
 use crate::seat::{Seat, copy_seats, seats_of};
-use medium::Medium;
+use medium::{Arrival, Medium};
 use std::alloc::Global;
 use std::marker::Model;
 use std::snapshot::Snapshot;
 use ttp_base::Memory;
-use ttp_world::{Chosen, Delivered, Medl, NodeState, Script, StatusWords};
+use ttp_world::{Channel, Chosen, Delivered, Medl, NodeState, Script, StatusWords};
 
 /// The whole cluster, stepped on one thread.
 ///
@@ -41,7 +42,7 @@ impl Model for Plant {
 
     ghost use Rattle.controller.specs.PlantStands.{plant_of};
 
-    ghost view = { λ p. plant_of p.given.value p.slot p.seats.items };
+    ghost view = { λ p. plant_of p.given.value p.slot p.seats.items p.medium };
 
     ghost invariant = { λ p. IsPlantWithin p.given.value p.slot p.seats.items };
 }
@@ -61,11 +62,11 @@ fn step(
     requires nodes { length seats.old ≡ length list.now.slots }
     requires seats { AreSeats list.now IsEnded (most_ahead slot) 0 seats.old }
     requires count { length chosen.now ≡ length list.now.slots }
-    requires chosen { MayStep (plant_of list.now slot seats.old) script.now chosen.now }
+    requires chosen { MayStep (plant_of list.now slot seats.old medium.old) script.now chosen.now }
     ensures nodes { length seats.new ≡ length seats.old }
     ensures seats { AreSeats list.now IsEnded (most_ahead (slot + 1)) 0 seats.new }
-    ensures steps { let old = plant_of list.now slot seats.old in
-        let new = plant_of list.now (slot + 1) seats.new in
+    ensures steps { let old = plant_of list.now slot seats.old medium.old in
+        let new = plant_of list.now (slot + 1) seats.new medium.new in
         Steps old new script.now chosen.now }
 {
     begin_all(seats, list, script, 0, slot);
@@ -121,6 +122,7 @@ impl Plant {
         ensures { self.new ≡ other.now }
     {
         copy_seats(&mut self.seats, &other.seats);
+        self.medium.copy_from(&other.medium);
         self.slot = other.slot;
     }
 
@@ -149,6 +151,14 @@ impl Plant {
         ensures { option_copied result ≡ (outcome_at self.now k).delivered }
     {
         self.seat(k).outcome.delivered.as_ref()
+    }
+
+    /// What the newest slot carried on a channel, for a receiver without faults: the bytes of a frame are lent as they
+    /// lie there.
+    pub fn carried(&self, channel: Channel) -> Arrival<'_>
+        ensures { ShowsCarried self.now.carried channel result }
+    {
+        self.medium.carried(channel)
     }
 
     /// The status of a node after the newest slot, zeros before the first.

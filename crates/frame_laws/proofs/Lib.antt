@@ -1,3 +1,4 @@
 pub mod Channels
 pub mod Nodes
 pub mod Unflipped
+pub mod Reading

@@ -9,14 +9,17 @@ ghost use Rattle.ttp_world.specs.declared.script.Fault.TheVariants as fault;
 ghost use Rattle.ttp_world.specs.declared.script.Script.{Script};
 ghost use Rattle.ttp_world.specs.Diary.{History, cstate_at, entry_of};
 ghost use Rattle.ttp_world.specs.Legal.{IsLegal};
-ghost use Rattle.ttp_world.specs.Medium.{SentFrame, Silence, Noise, channel_signal, flip_bits, is_sending};
+ghost use Rattle.ttp_world.specs.Medium.{SentFrame, Bits, Silence, Noise, channel_signal, flip_bits, is_sending};
 ghost use Rattle.ttp_world.specs.Medl.{IsValid};
 ghost use Rattle.ttp_world.specs.Script.{IsValidScript, flipped_bits, has_send_fault};
 ghost use Rattle.ttp_world.specs.World.{Numbers, SlotNumbers, messages_chosen, node_past, row_in, slot_after, world};
 ghost use Rattle.bus_frames.specs.FrameText.{channel_lines, found_word};
 ghost use Rattle.bus_frames.specs.Sending.{frames_sent, sending_in};
 ghost use Rattle.bus_frames.specs.Standing.{frames_there, frames_told, lines_of_node};
+ghost use Rattle.bus_frames.specs.declared.sending.Sending.{Sending};
+ghost use Rattle.bus_frames.specs.FrameText.{signal_line};
 ghost use Rattle.frame_laws.specs.Lines.{IsLoneLine, meeting_line};
+ghost use Rattle.frame_laws.specs.Reading.{IsReadBack, IsToldFrame};
 
 /// A channel without a line is silent (`none`), and a silent one has none (`silent`). One line says what is
 /// on it (`alone`). Where there are two or more it is noise (`noise`), and each says `collision` (`meet`).
@@ -71,4 +74,14 @@ pub fn unflipped()
         → (sent : SentFrame) → frames_told list script row before k ≡ sent ∷ []
         → found_word list (sending_in (slot_after list script before) k)
         (flip_bits sent.bytes (flipped_bits script k c (length before))) ≡ codes "match") }
+{}
+
+/// The way back. A line with bytes is read as one row of values alone: slot, channel, sender, kind of frame, what the bytes are,
+/// clock, C-state, and the header, C-state, payload and check word of the bytes, which put together are the bytes. What the
+/// bytes are is `match_of` of them, with the header and size of the kind and the C-state that the line tells: what `judge` of
+/// ttp_frame answers, with the schedule's number of the first line.
+pub fn way_back()
+    ensures { (list : Medl) (slot : ℕ) (c : Channel) (sending : Sending) (bytes : List ℕ) (k : ℕ)
+        → IsToldFrame list slot sending bytes
+        → IsReadBack list slot c sending bytes (signal_line list slot c sending (Bits k bytes)) }
 {}

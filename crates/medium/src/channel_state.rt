@@ -70,6 +70,16 @@ impl ChannelState {
         self.content = Content::Silence;
     }
 
+    /// Becomes a copy of another channel. It costs the bytes of the frame that is there, if one is.
+    pub(crate) fn copy(&mut self, other: &ChannelState)
+        ensures { self.new ≡ other.now }
+    {
+        if let Content::Bits { .. } = other.content {
+            self.frame.copy(&other.frame);
+        }
+        self.content = other.content;
+    }
+
     // Puts the frame there as the sender's flips leave it on this channel.
     fn carry(&mut self, sent: &Sent, channel: Channel)
         ensures { self.new ≡ bits sent.now.sender

@@ -109,6 +109,15 @@ impl Medium {
         self.b.put(&sent, Channel::B);
     }
 
+    /// Becomes a copy of another medium. It costs the bytes of the frames that are there.
+    pub fn copy_from(&mut self, other: &Medium)
+        ensures { self.new ≡ other.now }
+    {
+        self.slot = other.slot;
+        self.a.copy(&other.a);
+        self.b.copy(&other.b);
+    }
+
     /// What is on a channel in this slot, for a receiver without faults.
     pub fn carried(&self, channel: Channel) -> Arrival<'_>
         ensures { ShowsCarried self.now channel result }

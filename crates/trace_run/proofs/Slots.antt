@@ -17,12 +17,12 @@ use Rattle.ttp_world.specs.Medl.{IsValid}
 use Rattle.ttp_world.specs.Outgoing.{nothing_chosen, message_chosen}
 use Rattle.ttp_world.specs.Script.{IsValidScript}
 use Rattle.ttp_world.specs.Trace.{node_line_of, trace_lines}
-use Rattle.ttp_world.specs.World.{SlotNumbers, Numbers, chosen_of, is_loaded, messages_chosen, row_in, slot_after, world}
+use Rattle.ttp_world.specs.World.{SlotNumbers, Numbers, chosen_of, frames_in, is_loaded, messages_chosen, row_in, slot_after, world}
 use Rattle.ttp_world.specs.Messages.{message_of}
-use Rattle.ttp_world.proofs.Carried.{AreOfHosts, message_of-row_in, messages_of-row_in, row_in-same}
+use Rattle.ttp_world.proofs.Carried.{AreOfHosts, frames_in-same, message_of-row_in, messages_of-row_in, row_in-same}
 use Rattle.ttp_world.proofs.LegalShapes.{legal-message, legal-older, legal-shapes}
 use Rattle.ttp_world.proofs.Worlds.{length-world, row_of_world}
-use Rattle.controller.specs.Passes.{AreChosen, IsOutcomeOf}
+use Rattle.controller.specs.Passes.{AreChosen, CarriesFrames, IsOutcomeOf}
 use Rattle.controller.specs.PlantStands.{PlantStandsFor, MayStep, IsStep, Steps, outcome_at}
 use Rattle.controller.specs.PlantView.{PlantView}
 use Rattle.controller.proofs.Payloads.{chosen-step}
@@ -109,6 +109,11 @@ module _ (list : Medl) (script : Script) (valid : IsValid list) (valid_script : 
     outcomes = λ k node.
         subst (λ (l : Medl). IsOutcomeOf l script history chosen k (outcome_at plant k)) same
         (step.left k (subst (λ (l : Medl). k < length l.slots) (sym same) node));
+    carries = subst (λ frames. CarriesFrames (slot_after list script (world list script numbers)) frames plant.carried)
+        (frames_in-same (slot_after list script (world list script numbers)) chosen _
+        (messages_of-row_in (slot_after list script (world list script numbers)) chosen of_hosts))
+        (subst (λ (l : Medl). CarriesFrames (slot_after l script history) (frames_in (slot_after l script history) chosen)
+        plant.carried) same step.carries);
   }
 
   -- Where the text begins with the lines of the slot by legal numbers, it is the slot of these numbers.

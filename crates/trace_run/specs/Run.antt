@@ -9,8 +9,8 @@ use Rattle.ttp_world.specs.Diary.{History}
 use Rattle.ttp_world.specs.Legal.{IsLegalRun}
 use Rattle.ttp_world.specs.Messages.{messages_of}
 use Rattle.ttp_world.specs.Trace.{trace_head, history_lines, trace_lines}
-use Rattle.ttp_world.specs.World.{Numbers, chosen_of, is_loaded, row_in, slot_after, world}
-use Rattle.controller.specs.Passes.{AreChosen, IsOutcomeOf}
+use Rattle.ttp_world.specs.World.{Numbers, chosen_of, frames_in, is_loaded, row_in, slot_after, world}
+use Rattle.controller.specs.Passes.{AreChosen, CarriesFrames, IsOutcomeOf}
 use Rattle.controller.specs.PlantStands.{PlantStandsFor, outcome_at}
 use Rattle.controller.specs.PlantView.{PlantView}
 use Rattle.trace_check.specs.Outgoing.{HasChosen, HoldsNewest}
@@ -65,6 +65,9 @@ pub record HasMade (plant : PlantView) (chosen : List Chosen) (list : Medl) (scr
   pub sizes : AreChosen (slot_after list script history) chosen
   -- what the slot left for each host
   pub outcomes : (k : ℕ) → k < length list.slots → IsOutcomeOf list script history chosen k (outcome_at plant k)
+  -- the frames that the row tells lie on the medium
+  pub carries : CarriesFrames (slot_after list script history)
+      (frames_in (slot_after list script history) (messages_of list script (length history) row)) plant.carried
 
 -- the slot that follows the first ones was made, whose lines stand at the front of the text
 pub record IsMade (run : TraceRun) (list : Medl) (script : Script) (whole : Numbers) (slot : ℕ) (text : List ℕ)

@@ -341,6 +341,34 @@ fn less_is_received(alloc: Global) -> bool {
     }
 }
 
+// Whether a copy of a medium carries what it carries.
+fn is_copied(alloc: Global, medium: &mut Medium) -> bool {
+    let Some(script) = script(alloc, [Line::None, Line::None]) else {
+        return false;
+    };
+    put_frames(medium, &script, FIRST);
+    let_go(script);
+    match &mut Medium::new(alloc, &empty_list(alloc)) {
+        Ok(copy) => {
+            copy.copy_from(medium);
+            is_heard(&copy.carried(Channel::A), ZERO)
+        }
+        Err(_) => false,
+    }
+}
+
+fn copies(alloc: Global) -> bool {
+    match &mut Medium::new(alloc, &empty_list(alloc)) {
+        Ok(medium) => is_copied(alloc, medium),
+        Err(_) => false,
+    }
+}
+
+#[test]
+fn a_copy_carries_the_same(rt: HostRuntime) {
+    assert!(rt; copies(rt.alloc()));
+}
+
 #[test]
 fn a_receiver_with_a_fault_hears_less_than_is_carried(rt: HostRuntime) {
     assert!(rt; less_is_received(rt.alloc()));

@@ -85,11 +85,11 @@ fn step_in_parts(
     requires nodes { length seats.old ≡ length list.now.slots }
     requires seats { AreSeats list.now IsEnded (most_ahead slot) 0 seats.old }
     requires count { length chosen.now ≡ length list.now.slots }
-    requires chosen { MayStep (plant_of list.now slot seats.old) script.now chosen.now }
+    requires chosen { MayStep (plant_of list.now slot seats.old medium.old) script.now chosen.now }
     ensures nodes { length seats.new ≡ length seats.old }
     ensures seats { AreSeats list.now IsEnded (most_ahead (slot + 1)) 0 seats.new }
-    ensures steps { let old = plant_of list.now slot seats.old in
-        let new = plant_of list.now (slot + 1) seats.new in
+    ensures steps { let old = plant_of list.now slot seats.old medium.old in
+        let new = plant_of list.now (slot + 1) seats.new medium.new in
         Steps old new script.now chosen.now }
 {
     begin_in_parts(seats, list, script, cut, slot);

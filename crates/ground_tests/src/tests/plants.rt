@@ -5,9 +5,10 @@ ghost use Rattle.ttp_world.specs.Script.{IsValidScript};
 
 use super::lists::{bare_nodes, let_go};
 use controller::{Controller, Plant, is_loaded, laws};
+use medium::Arrival;
 use std::alloc::Global;
 use ttp_base::{List, Memory};
-use ttp_world::{Ack, Chosen, Entry, Events, Medl, Payload, Phase, Script, Verdict};
+use ttp_world::{Ack, Channel, Chosen, Entry, Events, Medl, Payload, Phase, Script, Verdict};
 
 /// All four nodes are switched on in the first slot, and nothing else happens.
 pub(super) fn quiet_script(alloc: Global) -> Result<Script, Memory>
@@ -168,6 +169,14 @@ fn is_told(plant: &Plant) -> bool
         && plant.status(1).words == [9, 41, 0x0001_0001_0003, 256]
 }
 
+// Whether its frame lies on both channels: header, C-state and check word.
+fn is_carried(plant: &Plant) -> bool {
+    let a = plant.carried(Channel::A);
+    let b = plant.carried(Channel::B);
+    matches!(a, Arrival::Bits { bytes, offset: 0 } if bytes.len() == 10)
+        && matches!(b, Arrival::Bits { bytes, offset: 0 } if bytes.len() == 10)
+}
+
 // Whether a controller and a plant of the cluster begin so, before the first slot.
 fn begins(alloc: Global) -> bool {
     match &bare_nodes(alloc) {
@@ -179,7 +188,7 @@ fn begins(alloc: Global) -> bool {
 // Whether the tenth slot was the first one after the start.
 fn has_started(alloc: Global) -> bool {
     match &after(alloc, 10) {
-        Ok(plant) => is_answered(plant) && is_sent(plant) && is_told(plant),
+        Ok(plant) => is_answered(plant) && is_sent(plant) && is_carried(plant) && is_told(plant),
         Err(_) => false,
     }
 }

@@ -13,6 +13,14 @@ fn laws_of_payloads() {
 }
 
 #[test]
+fn laws_of_lines_of_frames() {
+    frame_laws::laws::channels();
+    frame_laws::laws::nodes();
+    frame_laws::laws::unflipped();
+    frame_laws::laws::way_back();
+}
+
+#[test]
 fn laws_of_one_slot() {
     safety_laws::slots::views();
     safety_laws::slots::hearing();

@@ -50,11 +50,14 @@ put_slot-requires-clause-past g c =
     let slot = c.loop-slot.slot in
     let made = c.make.ensures whole c.loop-slot.invariant.at in
     record {
-      row = made.row;
-      before = world list script (first_numbers script whole slot);
-      stands = rw (c.plant.ensures, c.chosen.ensures, c.deref.ensures.value)
-          (slot-stands c.make.new.self list script whole slot c.loop-slot.rest.now made c.requires.list
-          c.loop-slot.offsets.items c.loop-slot.invariant.are);
+      chosen = c.make.new.self.outgoing.chosen.items;
+      some = record {
+        row = made.row;
+        before = world list script (first_numbers script whole slot);
+        stands = rw (c.plant.ensures, c.deref.ensures.value)
+            (slot-stands c.make.new.self list script whole slot c.loop-slot.rest.now made c.requires.list
+            c.loop-slot.offsets.items c.loop-slot.invariant.are);
+      };
     }
 
 pub returns-in_err-put_slot-clause-failed : goal.returns-in_err-put_slot-clause-failed
@@ -69,8 +72,8 @@ returns-in_err-put_slot-clause-failed g c =
     rw failed.1 (cut-next c.make.new.self list script whole slot c.loop-slot.rest.now made c.requires.list
     (g.K.Sink.output c.args.out.now) (g.K.Sink.output c.loop-slot.out) (g.K.Sink.output c.put_slot.new.out)
     c.loop-slot.invariant.wrote
-    (c.in_err-put_slot.ensures.failed made.row (world list script (first_numbers script whole slot))
-    (rw (c.plant.ensures, c.chosen.ensures, c.deref.ensures.value)
+    (c.in_err-put_slot.ensures.failed c.make.new.self.outgoing.chosen.items made.row (world list script (first_numbers script whole slot))
+    (rw (c.plant.ensures, c.deref.ensures.value)
     (slot-stands c.make.new.self list script whole slot c.loop-slot.rest.now made c.requires.list
     c.loop-slot.offsets.items c.loop-slot.invariant.are))))
 
@@ -91,8 +94,8 @@ loop-slot-preserved g c =
       wrote = wrote-next run list script whole slot rest made c.requires.list
           (g.K.Sink.output c.args.out.now) (g.K.Sink.output c.loop-slot.out) (g.K.Sink.output c.put_slot.new.out)
           c.loop-slot.invariant.wrote
-          (c.in_ok-put_slot.ensures.ok made.row (world list script (first_numbers script whole slot))
-          (rw (c.plant.ensures, c.chosen.ensures, c.deref.ensures.value)
+          (c.in_ok-put_slot.ensures.ok run.outgoing.chosen.items made.row (world list script (first_numbers script whole slot))
+          (rw (c.plant.ensures, c.deref.ensures.value)
           (slot-stands run list script whole slot rest made c.requires.list
           c.loop-slot.offsets.items c.loop-slot.invariant.are)));
       count = ap length items_is ∙ c.note_offsets.ensures.count ∙ ap length c.deref_mut.ensures.value

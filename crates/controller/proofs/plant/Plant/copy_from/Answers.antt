@@ -26,4 +26,4 @@ returns c =
     let same = rw (← c.self.view_is, ← c.other.view_is) at c.requires in
     let seats = with_items_is c.self.inside.seats c.copy_seats.new.to
     (omega (arith, c.copy_seats.auto.to, c.deref_mut.ensures.len)) ∙ c.copy_seats.ensures ∙ c.deref.ensures.value in
-    rw (seats, ← same) c.other.view_is
+    rw (seats, c.copy_from.ensures, ← same) c.other.view_is

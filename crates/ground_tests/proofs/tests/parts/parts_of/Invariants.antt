@@ -5,5 +5,5 @@ use Rattle.ground_tests.proofs.tests.parts.parts_of.Given as goal
 abbrev pub invariant-loop-slot : goal.invariant-loop-slot
 invariant-loop-slot l = record {
   history : History;
-  stands : PlantStandsFor (plant_of l.list l.slot l.seats.items) l.script history;
+  stands : PlantStandsFor (plant_of l.list l.slot l.seats.items l.medium) l.script history;
 }
