@@ -6,7 +6,7 @@ use Rattle.std.proofs.Common.{Ok, Err, ◌↔◌}
 use Rattle.std.specs.Result.{IsOk, OnErr}
 use Rattle.ttp_base.specs.Outside.{CutShort}
 use Rattle.picture_text.proofs.Ending.{end_ok, end_failed}
-use Rattle.picture_text.proofs.Puts.{puts_then, puts_none}
+use Rattle.ttp_base.proofs.Puts.{puts_then, puts_none}
 
 -- what is left of a list: the lines of its first item and those of the others, or none
 pub left_first : {X : Type 0} (lines : X → Lines) (old rest : List X) (x : X) (g h i : Bool) (b c d : Output)

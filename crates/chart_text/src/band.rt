@@ -5,16 +5,16 @@ ghost use Rattle.std.specs.Prelude.{◌+◌, ◌≤◌, ◌++◌, map, codes, de
 ghost use Rattle.ttp_base.specs.NodeSet.{below};
 ghost use Rattle.ttp_base.specs.Text.{lines_below};
 ghost use Rattle.picture_text.specs.Picture.{row_line};
-ghost use Rattle.picture_text.specs.Sheet.{Puts};
+ghost use Rattle.ttp_base.specs.Sheet.{Puts};
 ghost use Rattle.chart_text.specs.Chart.{row_names};
 ghost use Rattle.chart_text.specs.Columns.{chart_bands, chart_y};
 
 use crate::frame::{Frame, chart_bands, chart_y};
-use picture_text::{Sheet, columns, make_node_row, make_text_of};
-use ttp_base::Sink;
+use picture_text::{columns, make_node_row, make_text_of};
+use ttp_base::{Sheet, Sink};
 
 // Writes the names of the nodes beside the band that begins with this column.
-#[tactic(auto, using(picture_text::proofs::Puts::puts))]
+#[tactic(auto, using(ttp_base::proofs::Puts::puts))]
 fn put_node_names<K: Sink>(nodes: u8, column: u32, sheet: &mut Sheet, out: &mut K)
     requires { (4 ≤ nodes) × (nodes ≤ 24) }
     ensures { Puts sheet.old.failed (K.output out.old) sheet.new.failed (K.output out.new)
@@ -42,7 +42,7 @@ fn put_names<K: Sink>(nodes: u8, band: u32, sheet: &mut Sheet, out: &mut K)
 }
 
 /// Writes the names of the rows of all bands.
-#[tactic(auto, using(picture_text::proofs::Puts::puts))]
+#[tactic(auto, using(ttp_base::proofs::Puts::puts))]
 pub(crate) fn put_bands<K: Sink>(frame: Frame, sheet: &mut Sheet, out: &mut K)
     ensures { Puts sheet.old.failed (K.output out.old) sheet.new.failed (K.output out.new)
         (lines_below (row_names frame.size.nodes) (chart_bands frame.size.nodes frame.many)) }

@@ -4,7 +4,7 @@
 ghost use Rattle.std.specs.Prelude.{◌≡◌, ◌+◌, ℕ, ◌<◌, ◌≤◌, [], ◌∷◌, length, List};
 ghost use Rattle.ttp_base.specs.Text.{lines_below};
 ghost use Rattle.whole_campaign.specs.Whole.{FaultTold};
-ghost use Rattle.picture_text.specs.Sheet.{Puts};
+ghost use Rattle.ttp_base.specs.Sheet.{Puts};
 ghost use Rattle.chart_text.specs.Chart.{node_sum_lines, of_all_slots_lines};
 ghost use Rattle.chart_text.specs.Column.{block_lines, slot_sum_lines};
 ghost use Rattle.chart_text.specs.Columns.{beside_x};
@@ -14,8 +14,8 @@ ghost use Rattle.chart_text.specs.Walks.{IsTally, AreTallies};
 use crate::frame::{Frame, beside_x, chart_corner, chart_x, chart_y};
 use crate::sum::{Summed, make_harmful, make_sum};
 use crate::tally::{Tallies, Tally};
-use picture_text::{Corner, Sheet, make_text_of};
-use ttp_base::Sink;
+use picture_text::{Corner, make_text_of};
+use ttp_base::{Sheet, Sink};
 use whole_campaign::Doing;
 
 // What stands behind the class of a cell of a node and a slot.

@@ -5,7 +5,7 @@ ghost use Rattle.std.specs.Prelude.{◌≡◌, ◌+◌, ◌-◌, ◌^◌, ◌<�
 ghost use Rattle.std.specs.Prelude.{ℕ, true, false, Err, IfErr, IfSome, List};
 ghost use Rattle.ttp_base.specs.Outside.{WroteLines, CutShort};
 ghost use Rattle.whole_campaign.specs.Readable.{counts_fit, counts_sum, IsReadable};
-ghost use Rattle.picture_text.specs.Sheet.{Puts};
+ghost use Rattle.ttp_base.specs.Sheet.{Puts};
 ghost use Rattle.picture_text.specs.Picture.{ended, text_line};
 ghost use Rattle.chart_text.specs.Chart.{slots_shown_text, many_listed, chart_head, chart_body, chart_end, chart_of, chart_lines};
 ghost use Rattle.chart_text.specs.Columns.{size_of_campaign, first_told_slot, slots_shown, chosen_slots, tried_slots, place_of_harm, shown_among};
@@ -35,9 +35,9 @@ use crate::survey::{Found, first_hidden, survey_of};
 use crate::table::put_table;
 use crate::tally::Tallies;
 use crate::worst::Worst;
-use picture_text::{Sheet, Span, close_text, open_text};
+use picture_text::{Span, close_text, open_text};
 use std::alloc::Global;
-use ttp_base::{Line, Memory, Sink};
+use ttp_base::{Line, Memory, Sheet, Sink};
 use whole_campaign::{Campaign, Pieces};
 
 /// Why a chart was not written whole.

@@ -5,7 +5,7 @@ ghost use Rattle.std.specs.Prelude.{◌≡◌, ℕ, ◌+◌, ◌-◌, ◌*◌, �
 ghost use Rattle.ttp_base.specs.NodeSet.{below};
 ghost use Rattle.ttp_base.specs.Text.{lines_below};
 ghost use Rattle.whole_campaign.specs.Readable.{in_order_from};
-ghost use Rattle.picture_text.specs.Sheet.{Puts};
+ghost use Rattle.ttp_base.specs.Sheet.{Puts};
 ghost use Rattle.picture_text.specs.Picture.{class_of, text_line};
 ghost use Rattle.chart_text.specs.Column.{is_gap, has_number, number_line, gap_line, faults_told_in, mark_lines};
 ghost use Rattle.chart_text.specs.Column.{column_of, column_lines};
@@ -23,8 +23,8 @@ use crate::frame::{Frame, chart_x, chart_y};
 use crate::marks::has_mark;
 use crate::size::Size;
 use crate::tally::Tallies;
-use picture_text::{Corner, Sheet, make_number_of};
-use ttp_base::Sink;
+use picture_text::{Corner, make_number_of};
+use ttp_base::{Sheet, Sink};
 
 /// Where a column stands: its number, its slot, and the slot of the column before it, if there is one.
 #[derive(Clone, Copy)]
@@ -119,7 +119,7 @@ fn tally_slot(size: Size, slot: u32, from: &Ahead<'_>) -> Tallies
 }
 
 // Writes the marks of the faults of a slot, which come next, and passes them.
-#[tactic(auto, using(picture_text::proofs::Puts::puts))]
+#[tactic(auto, using(ttp_base::proofs::Puts::puts))]
 fn put_marks<K: Sink>(
     frame: Frame,
     column: Column,
@@ -148,7 +148,7 @@ fn put_marks<K: Sink>(
 }
 
 // Writes the column of a slot.
-#[tactic(auto, using(picture_text::proofs::Puts::puts))]
+#[tactic(auto, using(ttp_base::proofs::Puts::puts))]
 fn put_column<K: Sink>(
     frame: Frame,
     column: Column,
@@ -178,7 +178,7 @@ fn put_column<K: Sink>(
 }
 
 /// Writes the columns of all marked slots.
-#[tactic(auto, using(picture_text::proofs::Puts::puts))]
+#[tactic(auto, using(ttp_base::proofs::Puts::puts))]
 pub(crate) fn put_columns<K: Sink>(
     frame: Frame,
     marks: &[bool],

@@ -2,7 +2,7 @@
 #![tactic(auto, using(ttp_base::proofs::Room::room))]
 
 ghost use Rattle.std.specs.Prelude.{◌≡◌, ◌+◌, ◌*◌, ◌≤◌, length};
-ghost use Rattle.picture_text.specs.Sheet.{Puts};
+ghost use Rattle.ttp_base.specs.Sheet.{Puts};
 ghost use Rattle.chart_text.specs.Column.{mark_of, is_plain, mark_lines};
 ghost use Rattle.chart_text.specs.Columns.{chart_x, chart_y};
 ghost use Rattle.chart_text.specs.Elements.{fault_shape};
@@ -14,8 +14,8 @@ use crate::buffer::Buffer;
 use crate::frame::{Frame, chart_x, chart_y};
 use crate::kind::{marks_above, marks_left};
 use crate::look::{Look, fault_look, look_text};
-use picture_text::{Corner, Sheet, close_mark, open_mark};
-use ttp_base::{Line, Sink};
+use picture_text::{Corner, close_mark, open_mark};
+use ttp_base::{Line, Sheet, Sink};
 use whole_campaign::{FaultLine, FaultShown};
 
 // Makes a mark with a line of the campaign.
@@ -74,7 +74,7 @@ fn is_plain(look: Look) -> bool
 }
 
 /// Writes the mark of a fault, where it has one.
-#[tactic(auto, using(picture_text::proofs::Puts::puts_then, picture_text::proofs::Puts::puts_none))]
+#[tactic(auto, using(ttp_base::proofs::Puts::puts_then, ttp_base::proofs::Puts::puts_none))]
 pub(crate) fn put_fault_mark<K: Sink>(
     frame: Frame,
     column: u32,

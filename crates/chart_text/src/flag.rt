@@ -3,15 +3,15 @@
 
 ghost use Rattle.std.specs.Prelude.{◌≡◌, ◌+◌, ◌-◌, ◌*◌, ◌<◌, ◌≤◌, [], ◌∷◌, ◌++◌, length, codes, decimal, Some};
 ghost use Rattle.picture_text.specs.Picture.{class_of, text_line};
-ghost use Rattle.picture_text.specs.Sheet.{Puts};
+ghost use Rattle.ttp_base.specs.Sheet.{Puts};
 ghost use Rattle.picture_text.specs.Tables.{keep_name, keep_slot, back_name, back_slot};
 ghost use Rattle.chart_text.specs.Chart.{test_slot, test_name, test_flag};
 ghost use Rattle.chart_text.specs.Columns.{chart_x, chart_y};
 
 use crate::element::make_pole;
 use crate::frame::{chart_x, chart_y};
-use picture_text::{Corner, Sheet, close_text, open_text_of, put_field};
-use ttp_base::{Line, Sink};
+use picture_text::{Corner, close_text, open_text_of, put_field};
+use ttp_base::{Line, Sheet, Sink};
 use ttp_world::{Back, Keep};
 use whole_campaign::Test;
 
@@ -58,7 +58,7 @@ fn make_name(line: &mut Line, x: u64, y: u64, test: &Test)
 }
 
 /// Writes the flag, where its slot has a column.
-#[tactic(auto, using(picture_text::proofs::Puts::puts_none))]
+#[tactic(auto, using(ttp_base::proofs::Puts::puts_none))]
 pub(crate) fn put_flag<K: Sink>(
     nodes: u8,
     column: Option<u32>,

@@ -5,7 +5,7 @@ ghost use Rattle.std.specs.Prelude.{◌≡◌, ◌+◌, ◌≤◌, [], ◌++◌,
 ghost use Rattle.whole_campaign.specs.Own.{own_of};
 ghost use Rattle.picture_text.specs.Cells.{title_element};
 ghost use Rattle.picture_text.specs.Picture.{class_of, ended, text_line};
-ghost use Rattle.picture_text.specs.Sheet.{Puts};
+ghost use Rattle.ttp_base.specs.Sheet.{Puts};
 ghost use Rattle.chart_text.specs.Chart.{chart_size, chart_svg, chart_title, chart_styles};
 ghost use Rattle.chart_text.specs.Chart.{harm_text, hidden_text, test_meaning, counts_told, counted_lines, own_lines, chart_front};
 
@@ -15,9 +15,9 @@ use crate::size::Size;
 use crate::sums::Sums;
 use campaign::Counts;
 use picture_text::{
-    Sheet, back_meaning, close_text, open_text, open_text_of, put_field, put_keep_meaning,
+    back_meaning, close_text, open_text, open_text_of, put_field, put_keep_meaning,
 };
-use ttp_base::{Line, Sink};
+use ttp_base::{Line, Sheet, Sink};
 use whole_campaign::{OwnLine, Test};
 
 // The lines of the styles, those of the looks in the order of the table.
@@ -151,7 +151,7 @@ fn make_counts(line: &mut Line, y: u64, place: &str, counts: &Counts)
 }
 
 /// Writes the counts of all pieces.
-#[tactic(auto, using(picture_text::proofs::Puts::puts))]
+#[tactic(auto, using(ttp_base::proofs::Puts::puts))]
 pub(crate) fn put_sums<K: Sink>(sums: Sums, sheet: &mut Sheet, out: &mut K)
     ensures { Puts sheet.old.failed (K.output out.old) sheet.new.failed (K.output out.new)
         (counted_lines sums.kept sums.broken) }
@@ -209,7 +209,7 @@ fn make_said(buffer: &mut Buffer, line: &mut Line, own: OwnLine<'_>)
 }
 
 /// Writes what the script's own line says.
-#[tactic(auto, using(picture_text::proofs::Puts::puts))]
+#[tactic(auto, using(ttp_base::proofs::Puts::puts))]
 pub(crate) fn put_own<K: Sink>(
     own: OwnLine<'_>,
     buffer: &mut Buffer,

@@ -4,15 +4,15 @@
 ghost use Rattle.std.specs.Prelude.{◌≡◌, ◌^◌, ◌<◌, ◌≤◌, map};
 ghost use Rattle.ttp_base.specs.NodeSet.{below};
 ghost use Rattle.ttp_base.specs.Text.{lines_below};
-ghost use Rattle.picture_text.specs.Sheet.{Puts};
+ghost use Rattle.ttp_base.specs.Sheet.{Puts};
 ghost use Rattle.chart_text.specs.Key.{how_to_read, words_meant, key_x, key_y, key_square, key_lines, look_x, look_y, look_entry};
 ghost use Rattle.chart_text.specs.Key.{look_legend};
 
 use crate::element::{make_look_cell, make_words};
 use crate::kind::{marks_above, marks_left, put_key_said};
 use crate::look::{LOOKS, look_at, look_meaning};
-use picture_text::{Corner, Sheet, close_cell, make_text, make_text_of, put_place};
-use ttp_base::{Line, Sink};
+use picture_text::{Corner, close_cell, make_text, make_text_of, put_place};
+use ttp_base::{Line, Sheet, Sink};
 
 // The places of faults.
 const PLACES: u8 = 16;
@@ -51,7 +51,7 @@ fn make_key_square(line: &mut Line, top: u64, place: u8)
 }
 
 // Writes the squares of all places.
-#[tactic(auto, using(picture_text::proofs::Puts::puts))]
+#[tactic(auto, using(ttp_base::proofs::Puts::puts))]
 fn put_key_squares<K: Sink>(top: u64, sheet: &mut Sheet, out: &mut K)
     requires { top ≤ 2 ^ 31 }
     ensures { Puts sheet.old.failed (K.output out.old) sheet.new.failed (K.output out.new)
@@ -161,7 +161,7 @@ fn look_corner(top: u64, number: u8) -> Corner
 }
 
 /// Writes the legend.
-#[tactic(auto, using(picture_text::proofs::Puts::puts_none, picture_text::proofs::Puts::puts_below))]
+#[tactic(auto, using(ttp_base::proofs::Puts::puts_none, ttp_base::proofs::Puts::puts_below))]
 pub(crate) fn put_legend<K: Sink>(top: u64, sheet: &mut Sheet, out: &mut K)
     requires { top ≤ 2 ^ 31 }
     ensures { Puts sheet.old.failed (K.output out.old) sheet.new.failed (K.output out.new)

@@ -3,7 +3,7 @@
 
 ghost use Rattle.std.specs.Prelude.{◌≡◌, ◌+◌, ◌^◌, ◌≤◌, [], ◌++◌, length, codes, decimal, ◌==◌, if◌then◌else◌};
 ghost use Rattle.picture_text.specs.Picture.{class_of, text_line};
-ghost use Rattle.picture_text.specs.Sheet.{Puts};
+ghost use Rattle.ttp_base.specs.Sheet.{Puts};
 ghost use Rattle.chart_text.specs.Elements.{wide_cell};
 ghost use Rattle.chart_text.specs.Looks.{look_text};
 ghost use Rattle.chart_text.specs.Steps.{longest_text};
@@ -17,10 +17,9 @@ use crate::look::{fault_look, look_text};
 use crate::size::Size;
 use crate::worst::Worst;
 use picture_text::{
-    Corner, Sheet, close_cell, close_text, open_cell, open_text, open_text_of, open_title,
-    put_field,
+    Corner, close_cell, close_text, open_cell, open_text, open_text_of, open_title, put_field,
 };
-use ttp_base::{Line, Sink};
+use ttp_base::{Line, Sheet, Sink};
 use whole_campaign::FaultLine;
 
 // Makes the cell of a look with a number.
@@ -80,7 +79,7 @@ fn make_lost(buffer: &mut Buffer, line: &mut Line, size: Size, y: u64, fault: &F
 }
 
 // Writes the lines of one of the worst.
-#[tactic(auto, using(picture_text::proofs::Puts::puts))]
+#[tactic(auto, using(ttp_base::proofs::Puts::puts))]
 fn put_listed<K: Sink>(
     size: Size,
     y: u64,
@@ -105,7 +104,7 @@ fn put_listed<K: Sink>(
 }
 
 // Writes the lines of all of them.
-#[tactic(auto, using(picture_text::proofs::Puts::puts))]
+#[tactic(auto, using(ttp_base::proofs::Puts::puts))]
 fn put_list<K: Sink>(
     size: Size,
     top: u64,
@@ -152,7 +151,7 @@ fn make_list_title(line: &mut Line, y: u64, harmful: u64)
 }
 
 /// Writes the list of the worst of so many harmful faults.
-#[tactic(auto, using(picture_text::proofs::Puts::puts))]
+#[tactic(auto, using(ttp_base::proofs::Puts::puts))]
 pub(crate) fn put_worst<K: Sink>(
     size: Size,
     top: u64,

@@ -7,7 +7,7 @@ ghost use Rattle.ttp_base.specs.NodeSet.{below};
 ghost use Rattle.whole_campaign.specs.Faults.{first_place};
 ghost use Rattle.ttp_base.specs.Text.{lines_below};
 ghost use Rattle.picture_text.specs.Picture.{text_line, class_of};
-ghost use Rattle.picture_text.specs.Sheet.{Puts};
+ghost use Rattle.ttp_base.specs.Sheet.{Puts};
 ghost use Rattle.chart_text.specs.declared.look.Look.TheVariants as look;
 ghost use Rattle.chart_text.specs.Elements.{look_cell};
 ghost use Rattle.chart_text.specs.Key.{many_class, count_line, kind_lines, many_places, part_lines, table_lines};
@@ -17,8 +17,8 @@ ghost use Rattle.chart_text.specs.Looks.{looks, kind_said, doing_word};
 use crate::element::make_look_cell;
 use crate::kind::{doing_word, first_place, kind_number, many_places, put_kind};
 use crate::look::{LOOKS, look_at};
-use picture_text::{Corner, Sheet, close_text, make_number_of, make_text_of, open_text};
-use ttp_base::{Line, Sink};
+use picture_text::{Corner, close_text, make_number_of, make_text_of, open_text};
+use ttp_base::{Line, Sheet, Sink};
 use whole_campaign::Doing;
 
 fn many_class(many: u64) -> &'static str
@@ -49,7 +49,7 @@ fn make_count(line: &mut Line, counts: &[u64; 252], at: Corner, kind: u16, numbe
 }
 
 // Writes these numbers for each look.
-#[tactic(auto, using(picture_text::proofs::Puts::puts))]
+#[tactic(auto, using(ttp_base::proofs::Puts::puts))]
 fn put_counts<K: Sink>(counts: &[u64; 252], at: Corner, kind: u16, sheet: &mut Sheet, out: &mut K)
     requires { at.x ≤ 2 ^ 31 }
     ensures { Puts sheet.old.failed (K.output out.old) sheet.new.failed (K.output out.new)
@@ -71,7 +71,7 @@ fn make_kind(line: &mut Line, at: Corner, place: u8)
 }
 
 // Writes the row of a kind.
-#[tactic(auto, using(picture_text::proofs::Puts::puts))]
+#[tactic(auto, using(ttp_base::proofs::Puts::puts))]
 fn put_kind_row<K: Sink>(
     counts: &[u64; 252],
     doing: Doing,
@@ -90,7 +90,7 @@ fn put_kind_row<K: Sink>(
 }
 
 // Writes the rows of a word.
-#[tactic(auto, using(picture_text::proofs::Puts::puts))]
+#[tactic(auto, using(ttp_base::proofs::Puts::puts))]
 fn put_kind_rows<K: Sink>(
     counts: &[u64; 252],
     top: u64,
@@ -113,7 +113,7 @@ fn put_kind_rows<K: Sink>(
 }
 
 // Writes the head of the part of a word.
-#[tactic(auto, using(picture_text::proofs::Puts::puts))]
+#[tactic(auto, using(ttp_base::proofs::Puts::puts))]
 fn put_part_head<K: Sink>(top: u64, x: u64, sheet: &mut Sheet, out: &mut K)
     requires { (top ≤ 2 ^ 31) × (x ≤ 2 ^ 31) }
     ensures { Puts sheet.old.failed (K.output out.old) sheet.new.failed (K.output out.new)
@@ -130,7 +130,7 @@ fn put_part_head<K: Sink>(top: u64, x: u64, sheet: &mut Sheet, out: &mut K)
 }
 
 // Writes the part of a word.
-#[tactic(auto, using(picture_text::proofs::Puts::puts))]
+#[tactic(auto, using(ttp_base::proofs::Puts::puts))]
 fn put_part<K: Sink>(
     counts: &[u64; 252],
     top: u64,
@@ -150,7 +150,7 @@ fn put_part<K: Sink>(
 }
 
 /// Writes the table of these counts.
-#[tactic(auto, using(picture_text::proofs::Puts::puts))]
+#[tactic(auto, using(ttp_base::proofs::Puts::puts))]
 pub(crate) fn put_table<K: Sink>(counts: &[u64; 252], top: u64, sheet: &mut Sheet, out: &mut K)
     requires { top ≤ 2 ^ 31 }
     ensures { Puts sheet.old.failed (K.output out.old) sheet.new.failed (K.output out.new)

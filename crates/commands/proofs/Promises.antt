@@ -13,13 +13,22 @@ use Rattle.commands.proofs.Lines.{AreOfLines, IsFinal, SaysLine, one_text, lines
 use Rattle.commands.proofs.Plans.{Every, all_come, file_comes, told_comes}
 
 none_rose_then : (a b c : Files) → NoneRose a b → NoneRose b c → NoneRose a c
-none_rose_then a b c p q = λ name. q name ∙ p name
+none_rose_then a b c p q = record { names = λ name. q.names name ∙ p.names name; all = q.all ∙ p.all }
 
 none_fell_after : (a b c : Files) → NoneRose a b → NoneFell b c → NoneFell a c
-none_fell_after a b c p q = λ name. subst (λ n. n ≤ c.faults name) (p name) (q name)
+none_fell_after a b c p q = record {
+  names = λ name. subst (λ n. n ≤ c.faults name) (p.names name) (q.names name);
+  all = subst (λ n. n ≤ c.all_faults) p.all q.all;
+}
 
 none_fell : (a b : Files) → NoneRose a b → NoneFell a b
-none_fell a b quiet = λ name. omega (arith, quiet name)
+none_fell a b quiet = record { names = λ name. omega (arith, quiet.names name); all = omega (arith, quiet.all) }
+
+none_rose_same : (a b : Files) → b ≡ a → NoneRose a b
+none_rose_same a b same = record {
+  names = λ name. ap (λ (f : Files). f.faults name) same;
+  all = ap (λ (f : Files). f.all_faults) same;
+}
 
 same_then : (a b c : Files) → HoldsTheSame a b → HoldsTheSame b c → HoldsTheSame a c
 same_then a b c p q = record {
@@ -165,7 +174,7 @@ module _ (p : Program) where
                         );
                         last = ap (λ (l : List Load). load_of file ∷ l) u.1.last;
                         risen =
-                            subst (λ n. HasRisen n (now.files.faults u.1.file.name)) (one.quiet u.1.file.name) u.1.risen;
+                            subst (λ n. HasRisen n (now.files.faults u.1.file.name)) (one.quiet.names u.1.file.name) u.1.risen;
                         line = u.1.line;
                       },
                       u.2,
@@ -184,8 +193,8 @@ module _ (p : Program) where
         asked = ap (λ (f : Files). f.loads) same ∙ sym (append-nil before.files.loads);
         in_order = tt;
         keeps = same_files before.files now.files same;
-        count = λ name. omega (arith, ap (λ (f : Files). f.faults name) same);
-        how = inl (ending, record { comes = refl; quiet = λ name. ap (λ (f : Files). f.faults name) same }, follows.1);
+        count = none_fell before.files now.files (none_rose_same before.files now.files same);
+        how = inl (ending, record { comes = refl; quiet = none_rose_same before.files now.files same }, follows.1);
       }
   ended (asks file next) before now answer (inl goes) =
       goes_on file next before now answer goes.0 goes.1.0 goes.1.1.0 goes.1.1.1

@@ -11,7 +11,7 @@ use Rattle.ttp_base.specs.declared.memory_library.MemoryLibrary.{MemoryLibrary}
 use Rattle.ttp_base.specs.declared.memory_sink.MemorySink.{MemorySink}
 use Rattle.ttp_base.specs.MemoryLibrary.{library_held, library_fail, library_sure, library_files}
 use Rattle.ttp_base.specs.MemorySink.{sink_bytes, sink_room, sink_fail, sink_output}
-use Rattle.ttp_base.specs.Outside.{Held, holds, Files, HasRisen, count_end, Output, Wrote}
+use Rattle.ttp_base.specs.Outside.{Held, holds, Files, HasRisen, NoneRose, NoneCounted, count_end, Output, Wrote}
 use Rattle.ttp_world.specs.declared.medl.Medl.{Medl}
 use Rattle.ttp_world.specs.declared.script.Script.{Script}
 use Rattle.script_text.specs.ScriptFile.{script_of}
@@ -29,12 +29,17 @@ pub record HoldsSurely (files : Files) (name bytes : List ℕ) : Type 0 where
   pub sure : files.sure name ≡ true
   pub counts : files.faults name < count_end
 
--- a library in memory, no load of which is to fail, is sure of what it holds
+-- no fault was counted where none was before and no count rose, as where bytes are added
+pub still_none_counted : {before now : Files} → NoneCounted before → NoneRose before now → NoneCounted now
+still_none_counted none same = record { names = λ name. same.names name ∙ none.names name; all = same.all ∙ none.all }
+
+-- a library in memory, no load of which is to fail, and which counted no fault, is sure of what it holds
 pub surely_in_memory : (library : MemoryLibrary) (name bytes : List ℕ) → library_fail library ≡ []
-    → library_held library name ≡ holds bytes → HoldsSurely (library_files library) name bytes
-surely_in_memory library name bytes never is =
+    → NoneCounted (library_files library) → library_held library name ≡ holds bytes
+    → HoldsSurely (library_files library) name bytes
+surely_in_memory library name bytes never none is =
     let sure : library_sure library name ≡ true = rw (never, is) refl in
-    record { held = is; sure = sure; counts = rw sure (omega arith) }
+    record { held = is; sure = sure; counts = omega (arith, none.names name) }
 
 -- bytes that may be held are those that are
 may_be-held : {held : Held} {all bytes : List ℕ} → held ≡ holds all → MayBe held bytes → bytes ≡ all

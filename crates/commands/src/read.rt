@@ -19,7 +19,7 @@ pub(crate) const SCRIPT_LIMIT: usize = 1_048_576;
 pub(crate) const TRACE_LIMIT: usize = 134_217_728;
 
 /// What is wrong with a file's bytes.
-#[derive(Clone, Copy)]
+#[derive(Clone, Copy, PartialEq, Eq)]
 pub enum FileFault {
     /// They are more than the limit.
     TooLarge,

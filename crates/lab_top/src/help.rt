@@ -1,15 +1,14 @@
 //! The word `--help`.
 ghost use Rattle.std.specs.Prelude.{OnOk, OnErr};
 ghost use Rattle.ttp_base.specs.Outside.{WroteLines, CutShort};
-ghost use Rattle.picture_text.specs.Sheet.{Puts};
+ghost use Rattle.ttp_base.specs.Sheet.{Puts};
 ghost use Rattle.commands.specs.Outcome.{ShowsEnding};
 ghost use Rattle.commands.specs.Texts.{alone};
 ghost use Rattle.lab_top.specs.Forms.{help_ending};
 ghost use Rattle.lab_top.specs.Help.{help_lines};
 ghost use Rattle.lab_top.specs.Texts.{ttplab};
 
-use picture_text::Sheet;
-use ttp_base::{Failed, Sink};
+use ttp_base::{Failed, Sheet, Sink};
 
 // What the program is for, a line for each form, and where the pages are.
 const HELP_LINES: [&str; 10] = [

@@ -1,4 +1,3 @@
-mod Decimal
 pub mod Putting
 pub mod Options
 pub mod Closing

@@ -36,7 +36,6 @@ pub mod laws;
 mod named;
 mod put;
 mod reader;
-mod text;
 mod words;
 
 pub use named::Named;
@@ -45,4 +44,4 @@ pub use put::{
     put_payload, put_rest, put_signed, put_word,
 };
 pub use reader::Reader;
-pub use text::Text;
+pub use ttp_base::Text;

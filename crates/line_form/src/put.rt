@@ -6,7 +6,7 @@ ghost use Rattle.line_form.specs.Kinds.{spell, number, or_dash, named, commas, j
 ghost use Rattle.line_form.specs.Forms.{worded};
 
 use crate::named::Named;
-use crate::text::Text;
+use ttp_base::Text;
 
 /// A number behind a label.
 #[tactic(auto, using(ttp_base::proofs::Room::room), unfolding(crate::specs::Forms::worded))]

@@ -4,12 +4,12 @@ ghost use Rattle.line_form.specs.Kinds.{number, signed, hexed, hexed_or, one_of,
 ghost use Rattle.line_form.specs.Forms.{field_value, past, is_end, closed_line, labelled, next_word, left_behind, FitsNamed};
 
 use crate::named::Named;
-use crate::text::Text;
 use crate::words::{
     behind_prefix, byte_or_dash_in, hex_in, hex_or_in, named_in, number_in, number_or_dash_in,
     payload_in, place_among, signed_in, word_end,
 };
 use std::marker::Model;
+use ttp_base::Text;
 
 /// What is left of a line that is read, which is nothing once a word was none. Contracts see that.
 #[derive(Drop)]

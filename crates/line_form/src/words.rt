@@ -6,7 +6,7 @@ ghost use Rattle.line_form.specs.Kinds.{is_hex, hex_value, hex_number, hex_paylo
 ghost use Rattle.line_form.specs.Forms.{FitsNamed};
 
 use crate::named::Named;
-use crate::text::Text;
+use ttp_base::Text;
 
 /// What follows a label at the front of bytes, if they begin with it.
 pub(crate) fn behind_prefix<'a>(label: &[u8], bytes: &'a [u8]) -> Option<&'a [u8]>

@@ -3,7 +3,7 @@ use Rattle.picture_text.proofs.Words.{◌≡◌, refl, Bool, true, false, subst,
 use Rattle.picture_text.proofs.Words.{Puts}
 use Rattle.std.proofs.Common.{Result, Ok, Err, ◌↔◌}
 use Rattle.std.specs.Result.{IsOk, OnOk, OnErr}
-use Rattle.picture_text.proofs.Puts.{all_wrote, all_cut}
+use Rattle.ttp_base.proofs.Puts.{all_wrote, all_cut}
 
 -- lines of the slots shown, from a sheet on that did not fail
 pub from_start : (failed fails : Bool) (a b : Output) (lines : Span → Lines) (span shown : Span)

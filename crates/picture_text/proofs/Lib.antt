@@ -4,12 +4,10 @@ pub mod LongCell
 pub mod Whole
 pub mod Holders
 pub mod Rows
-pub mod Puts
 pub mod Places
 pub mod Digits
 pub mod Distinct
 pub mod Sought
 pub mod Joined
-pub mod Pairs
 pub mod NodeLine
 pub mod Words

@@ -2,7 +2,7 @@
 use Rattle.picture_text.proofs.Words.{◌≡◌, ℕ, ◌+◌, ◌-◌, ◌*◌, ◌/◌, ◌<◌, ◌≤◌, Bool, map, List, [], ◌∷◌, subst, sym}
 use Rattle.picture_text.proofs.Words.{arith, flat_map, range_with_len, below, Output, Lines, Puts}
 use Rattle.std.proofs.Math.Nat.{mul-le-mul_left}
-use Rattle.picture_text.proofs.Puts.{puts_none, puts_next, puts_then, puts_range}
+use Rattle.ttp_base.proofs.Puts.{puts_none, puts_next, puts_then, puts_range}
 
 pub one_more : (f g h : Bool) (a b c : Output) (line : ℕ → List ℕ) (k : ℕ) (one : List ℕ)
     → Puts f a g b (map line (below k)) → Puts g b h c (one ∷ []) → one ≡ line k

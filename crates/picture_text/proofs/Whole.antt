@@ -9,7 +9,7 @@ use Rattle.picture_text.specs.Picture.{style_lines, window_text, said_line, back
 use Rattle.picture_text.specs.Picture.{picture_head_lines}
 use Rattle.picture_text.specs.Picture.{shown_slots}
 use Rattle.picture_text.specs.Window.{height, bands, legend_top, is_quiet_before}
-use Rattle.picture_text.proofs.Puts.{puts_then}
+use Rattle.ttp_base.proofs.Puts.{puts_then}
 
 -- each of the parts, by what it is written from
 abbrev pub front_lines : Head → Span → Bool → Option ℕ → Keep → Option Back → Lines

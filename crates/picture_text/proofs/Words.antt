@@ -6,7 +6,7 @@ pub use Rattle.picture_text.specs.Cells.{node_class, place_attributes, title_ele
 pub use Rattle.picture_text.specs.Picture.{back_flag, band_lines, beside_lines, cell_lines, class_entries, ended}
 pub use Rattle.picture_text.specs.Picture.{keep_flag, mark_entries, more_text, no_slot_lines, picture_of, row_line, size, slot_at}
 pub use Rattle.picture_text.specs.Picture.{svg_line, word_entries, word_entry}
-pub use Rattle.picture_text.specs.Sheet.{Puts}
+pub use Rattle.ttp_base.specs.Sheet.{Puts}
 pub use Rattle.picture_text.specs.Tables.{keep_meaning, letter, words}
 pub use Rattle.picture_text.specs.Window.{column_x, is_strange, row_y, strange_past}
 pub use Rattle.picture_text.specs.declared.window.Span.{Span}

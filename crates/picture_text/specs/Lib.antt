@@ -1,5 +1,4 @@
 pub mod Window
 pub mod Tables
 pub mod Cells
-pub mod Sheet
 pub mod Picture

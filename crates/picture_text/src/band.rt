@@ -5,14 +5,13 @@ ghost use Rattle.std.specs.Prelude.{◌≡◌, ◌+◌, ◌*◌, ◌<◌, ◌≤
 ghost use Rattle.ttp_base.specs.NodeSet.{below};
 ghost use Rattle.ttp_base.specs.Text.{lines_below};
 ghost use Rattle.picture_text.specs.Picture.{row_line, band_lines};
-ghost use Rattle.picture_text.specs.Sheet.{Puts};
+ghost use Rattle.ttp_base.specs.Sheet.{Puts};
 ghost use Rattle.picture_text.specs.Window.{columns, bands, row_y};
 
 use crate::element::{close_text, make_text_of, open_text_of, put_field};
 use crate::frame::Frame;
 use crate::grid::{bands, columns, row_y};
-use crate::sheet::Sheet;
-use ttp_base::{Line, Sink};
+use ttp_base::{Line, Sheet, Sink};
 
 /// Makes the name of the row of a node.
 pub fn make_node_row(line: &mut Line, y: u64, number: u8)
@@ -32,7 +31,7 @@ fn make_row(line: &mut Line, y: u64, name: &str)
 }
 
 // Writes the names of the nodes beside the band that begins with this slot.
-#[tactic(auto, using(crate::proofs::Puts::puts))]
+#[tactic(auto, using(ttp_base::proofs::Puts::puts))]
 fn put_node_rows<K: Sink>(frame: Frame, slot: u32, sheet: &mut Sheet, out: &mut K)
     ensures { Puts sheet.old.failed (K.output out.old) sheet.new.failed (K.output out.new)
         (map (λ k. row_line (row_y frame.head.nodes frame.span slot k + 14) (codes "node " ++ decimal k))
@@ -45,7 +44,7 @@ fn put_node_rows<K: Sink>(frame: Frame, slot: u32, sheet: &mut Sheet, out: &mut 
 }
 
 // Writes the names of the rows of a band.
-#[tactic(auto, using(crate::proofs::Puts::puts))]
+#[tactic(auto, using(ttp_base::proofs::Puts::puts))]
 fn put_band<K: Sink>(frame: Frame, band: u32, sheet: &mut Sheet, out: &mut K)
     requires { band < bands frame.head.nodes frame.span }
     ensures { Puts sheet.old.failed (K.output out.old) sheet.new.failed (K.output out.new)
@@ -67,7 +66,7 @@ fn put_band<K: Sink>(frame: Frame, band: u32, sheet: &mut Sheet, out: &mut K)
 }
 
 /// Writes the names of the rows of all bands.
-#[tactic(auto, using(crate::proofs::Puts::puts_none, crate::proofs::Puts::puts_below))]
+#[tactic(auto, using(ttp_base::proofs::Puts::puts_none, ttp_base::proofs::Puts::puts_below))]
 pub(crate) fn put_bands<K: Sink>(frame: Frame, sheet: &mut Sheet, out: &mut K)
     ensures { Puts sheet.old.failed (K.output out.old) sheet.new.failed (K.output out.new)
         (lines_below (band_lines frame.head.nodes frame.span) (bands frame.head.nodes frame.span)) }

@@ -6,18 +6,17 @@ ghost use Rattle.ttp_base.specs.Text.{lines_below};
 ghost use Rattle.picture_text.specs.Cells.{host_of, mark, host_mark};
 ghost use Rattle.shown_slot.specs.Trace.{host_text};
 ghost use Rattle.picture_text.specs.Picture.{why_box, why_lines, beside_lines};
-ghost use Rattle.picture_text.specs.Sheet.{Puts};
+ghost use Rattle.ttp_base.specs.Sheet.{Puts};
 ghost use Rattle.picture_text.specs.Window.{row_y, column_x};
 
 use crate::cells::node_at;
 use crate::element::{close_mark, make_text_of, open_mark, put_field, put_place};
 use crate::frame::{Corner, Frame};
 use crate::grid::{beside, corner};
-use crate::sheet::Sheet;
 use crate::titles::put_host_text;
 use line_reader::Word;
 use shown_slot::{is_leaving_word, word_text};
-use ttp_base::{Line, Sink};
+use ttp_base::{Line, Sheet, Sink};
 use ttp_world::Source;
 use whole_trace::{HostLine, SlotShown};
 
@@ -62,7 +61,7 @@ fn put_why<K: Sink>(
 }
 
 // Writes why nodes left.
-#[tactic(auto, using(crate::proofs::Puts::puts_none, crate::proofs::Puts::puts_below))]
+#[tactic(auto, using(ttp_base::proofs::Puts::puts_none, ttp_base::proofs::Puts::puts_below))]
 fn put_whys<K: Sink>(frame: Frame, slot: u32, shown: &SlotShown<'_>, sheet: &mut Sheet, out: &mut K)
     ensures { Puts sheet.old.failed (K.output out.old) sheet.new.failed (K.output out.new)
         (lines_below (why_lines frame.head.nodes frame.span slot shown.now) frame.head.nodes) }
@@ -124,7 +123,7 @@ fn make_host_mark(line: &mut Line, frame: Frame, slot: u32, host_line: &HostLine
 }
 
 // Writes the marks of the lines of hosts.
-#[tactic(auto, using(crate::proofs::Puts::puts))]
+#[tactic(auto, using(ttp_base::proofs::Puts::puts))]
 fn put_marks<K: Sink>(
     frame: Frame,
     slot: u32,
@@ -145,7 +144,7 @@ fn put_marks<K: Sink>(
 }
 
 /// Writes what stands beside the cells of a slot.
-#[tactic(auto, using(crate::proofs::Puts::puts_then))]
+#[tactic(auto, using(ttp_base::proofs::Puts::puts_then))]
 pub(crate) fn put_beside<K: Sink>(
     frame: Frame,
     slot: u32,

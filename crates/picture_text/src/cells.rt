@@ -8,7 +8,7 @@ ghost use Rattle.shown_slot.specs.Trace.{no_shown_node, node_at};
 ghost use Rattle.picture_text.specs.Cells.{doubt_class, other_class, data_class, refused_class, node_class, node_cell};
 ghost use Rattle.picture_text.specs.Cells.{apart_text, short_number, apart_shown, clocks_cell, far_text, far_shown, far_cell};
 ghost use Rattle.picture_text.specs.Picture.{number_lines, round_start_lines, cell_lines};
-ghost use Rattle.picture_text.specs.Sheet.{Puts};
+ghost use Rattle.ttp_base.specs.Sheet.{Puts};
 ghost use Rattle.picture_text.specs.Window.{row_y, column_x};
 
 use crate::element::{
@@ -18,14 +18,13 @@ use crate::frame::{Corner, Frame};
 use crate::grid::{column_x, corner, row_y};
 use crate::members::{held_by_most, memberships_of};
 use crate::members_cell::put_members_cell;
-use crate::sheet::Sheet;
 use crate::tables::letter;
 use crate::titles::put_node_text;
 use line_reader::Word;
 use shown_slot::{
     ClockRange, clock_range, is_holder, is_refused, node_apart, sends, starts_round, word_text,
 };
-use ttp_base::{Line, NodeSet, Sink};
+use ttp_base::{Line, NodeSet, Sheet, Sink};
 use ttp_world::Ack;
 use whole_trace::{NodeShown, SlotShown};
 
@@ -147,7 +146,7 @@ fn make_node_cell(
 }
 
 // Writes the cells of the nodes.
-#[tactic(auto, using(crate::proofs::Puts::puts))]
+#[tactic(auto, using(ttp_base::proofs::Puts::puts))]
 fn put_node_cells<K: Sink>(
     frame: Frame,
     slot: u32,
@@ -284,7 +283,7 @@ fn make_far_cell(
 }
 
 // Writes the cells of the clocks.
-#[tactic(auto, using(crate::proofs::Puts::puts))]
+#[tactic(auto, using(ttp_base::proofs::Puts::puts))]
 fn put_clocks_cells<K: Sink>(
     frame: Frame,
     slot: u32,
@@ -338,7 +337,7 @@ fn put_round<K: Sink>(
 }
 
 /// Writes the cells of a slot.
-#[tactic(auto, using(crate::proofs::Puts::puts))]
+#[tactic(auto, using(ttp_base::proofs::Puts::puts))]
 pub(crate) fn put_cells<K: Sink>(
     frame: Frame,
     slot: u32,

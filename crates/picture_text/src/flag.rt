@@ -3,15 +3,14 @@
 
 ghost use Rattle.std.specs.Prelude.{◌≡◌, ◌+◌, ◌-◌, ◌*◌, ◌<◌, ◌≤◌, [], ◌∷◌, ◌++◌, length, codes};
 ghost use Rattle.picture_text.specs.Picture.{class_of, text_line, is_shown, keep_flag, back_flag, flag_pole};
-ghost use Rattle.picture_text.specs.Sheet.{Puts};
+ghost use Rattle.ttp_base.specs.Sheet.{Puts};
 ghost use Rattle.picture_text.specs.Tables.{keep_name, keep_slot, back_name, back_slot};
 ghost use Rattle.picture_text.specs.Window.{column_x, row_y};
 
 use crate::element::{close_text, open_text_of, put_field};
 use crate::frame::Frame;
 use crate::grid::{column_x, row_y};
-use crate::sheet::Sheet;
-use ttp_base::{Line, Sink};
+use ttp_base::{Line, Sheet, Sink};
 use ttp_world::{Back, Keep};
 
 fn is_shown(frame: Frame, slot: u32) -> bool
@@ -132,7 +131,7 @@ fn put_flag_of<K: Sink>(frame: Frame, back: Back, sheet: &mut Sheet, out: &mut K
 }
 
 /// Writes it where the trace has such an answer.
-#[tactic(auto, using(crate::proofs::Puts::puts_then, crate::proofs::Puts::puts_none))]
+#[tactic(auto, using(ttp_base::proofs::Puts::puts_then, ttp_base::proofs::Puts::puts_none))]
 pub(crate) fn put_back_flag<K: Sink>(
     frame: Frame,
     back: Option<Back>,

@@ -7,18 +7,17 @@ ghost use Rattle.shown_slot.specs.Trace.{header_text};
 ghost use Rattle.picture_text.specs.Cells.{title_element};
 ghost use Rattle.picture_text.specs.Picture.{ended, size, svg_line, style_lines, before_text, behind_text, more_text};
 ghost use Rattle.picture_text.specs.Picture.{window_text, said_line, back_said, text_line};
-ghost use Rattle.picture_text.specs.Sheet.{Puts};
+ghost use Rattle.ttp_base.specs.Sheet.{Puts};
 ghost use Rattle.picture_text.specs.Tables.{keep_meaning, back_meaning};
 ghost use Rattle.picture_text.specs.Window.{height};
 
 use crate::element::{close_text, open_text, open_text_of, put_field};
 use crate::frame::Frame;
 use crate::grid::height;
-use crate::sheet::Sheet;
 use crate::tables::{STYLE_LINES, returning_meaning, rule_meaning};
 use crate::window::Span;
 use shown_slot::{back_text, header_text, keep_text};
-use ttp_base::{Line, Sink};
+use ttp_base::{Line, Sheet, Sink};
 use ttp_world::{Back, Keep};
 use whole_trace::Head;
 
@@ -181,7 +180,7 @@ fn make_back_said(line: &mut Line, back: &Back)
 }
 
 // Writes what the test on armed nodes says, where the trace has it.
-#[tactic(auto, using(crate::proofs::Puts::puts))]
+#[tactic(auto, using(ttp_base::proofs::Puts::puts))]
 fn put_back_said<K: Sink>(back: Option<Back>, sheet: &mut Sheet, out: &mut K)
     ensures { Puts sheet.old.failed (K.output out.old) sheet.new.failed (K.output out.new) (back_said back) }
 {

@@ -6,16 +6,15 @@ ghost use Rattle.picture_text.specs.Cells.{cell};
 ghost use Rattle.line_reader.specs.declared.trace_line.Word.TheVariants as word;
 ghost use Rattle.picture_text.specs.Picture.{legend_x, legend_y, legend_text, cell_entry, round_entry};
 ghost use Rattle.picture_text.specs.Picture.{mark_entry, word_entries, class_entries, mark_entries};
-ghost use Rattle.picture_text.specs.Sheet.{Puts};
+ghost use Rattle.ttp_base.specs.Sheet.{Puts};
 ghost use Rattle.picture_text.specs.Tables.{words};
 
 use crate::element::{make_cell, make_mark, make_round, make_text};
 use crate::frame::Corner;
 use crate::grid::beside;
-use crate::sheet::Sheet;
 use crate::tables::{WORDS, letter, word_meaning, word_number};
 use shown_slot::word_text;
-use ttp_base::Sink;
+use ttp_base::{Sheet, Sink};
 
 // The place of an entry of the legend whose upper edge this is.
 fn entry_corner(top: u64, number: u8) -> Corner
@@ -56,7 +55,7 @@ fn put_entry<K: Sink>(
 }
 
 /// Writes the entries of the words, from this edge on.
-#[tactic(auto, using(crate::proofs::Puts::puts))]
+#[tactic(auto, using(ttp_base::proofs::Puts::puts))]
 pub(crate) fn put_words<K: Sink>(top: u64, sheet: &mut Sheet, out: &mut K)
     requires { top ≤ 2 ^ 43 }
     ensures { Puts sheet.old.failed (K.output out.old) sheet.new.failed (K.output out.new) (word_entries top 0 words) }

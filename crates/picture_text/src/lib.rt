@@ -16,8 +16,7 @@
 //!
 //! The crate reads no text: the trace is a value of whole_trace, which is gone over a few times where no slots are asked for. A
 //! slot that is shown costs its nodes and its hosts' lines, any other one its reading. It takes no memory, and shares nothing
-//! between threads. Where the lines of a picture are formed and written ([`Sheet`]), and the elements that they are made of, are
-//! there for other pictures too.
+//! between threads. The elements that lines of a picture are made of are there for other pictures too.
 #![tactic(auto)]
 
 mod band;
@@ -29,11 +28,9 @@ mod frame;
 mod grid;
 mod head;
 mod legend;
-mod long_line;
 mod members;
 mod members_cell;
 mod picture;
-mod sheet;
 mod tables;
 mod titles;
 mod walk;
@@ -48,5 +45,4 @@ pub use frame::Corner;
 pub use grid::{beside as place_beside, columns};
 pub use head::{back_meaning, put_keep_meaning};
 pub use picture::put_picture;
-pub use sheet::Sheet;
 pub use window::Span;

@@ -4,18 +4,16 @@
 ghost use Rattle.std.specs.Prelude.{◌≡◌, ◌+◌, ◌*◌, ◌<◌, ◌≤◌, [], ◌∷◌, ◌++◌, length, codes, decimal, flat_map};
 ghost use Rattle.picture_text.specs.Cells.{shown_memberships, holders_of, each_node, membership_text, count_of, cell};
 ghost use Rattle.picture_text.specs.Cells.{members_title, members_cell};
-ghost use Rattle.picture_text.specs.Sheet.{Puts};
+ghost use Rattle.ttp_base.specs.Sheet.{Puts};
 ghost use Rattle.picture_text.specs.Window.{column_x, row_y};
 
 use crate::element::{close_cell, close_title, open_cell, open_title, put_field};
 use crate::frame::{Corner, Frame};
 use crate::grid::{column_x, row_y};
-use crate::long_line::LongLine;
 use crate::members::{Memberships, holds};
-use crate::sheet::Sheet;
 use crate::titles::put_members;
 use shown_slot::is_holder;
-use ttp_base::{Line, Sink};
+use ttp_base::{Line, Sheet, Sink, Text};
 use whole_trace::{Head, NodeShown, SlotShown};
 
 // Adds the numbers of the nodes of a slot that hold these members.
@@ -47,7 +45,7 @@ fn make_membership(line: &mut Line, head: &Head, slot: &SlotShown<'_>, members: 
 
 // Adds the texts of memberships to a long line.
 fn put_memberships(
-    long: &mut LongLine,
+    long: &mut Text<4096>,
     line: &mut Line,
     head: &Head,
     slot: &SlotShown<'_>,
@@ -167,7 +165,7 @@ fn make_none(line: &mut Line, slot: u32, at: Corner)
 }
 
 /// Writes the cell of the members that the nodes of a slot hold, where `found` are its memberships.
-#[tactic(auto, using(crate::proofs::Puts::puts_then, crate::proofs::Puts::puts_none))]
+#[tactic(auto, using(ttp_base::proofs::Puts::puts_then, ttp_base::proofs::Puts::puts_none))]
 pub(crate) fn put_members_cell<K: Sink>(
     frame: Frame,
     slot: u32,

@@ -1,5 +1,5 @@
 //! The picture of a trace.
-#![tactic(auto, using(crate::proofs::Puts::puts))]
+#![tactic(auto, using(ttp_base::proofs::Puts::puts))]
 
 ghost use Rattle.std.specs.Prelude.{◌≡◌, ◌+◌, ◌<◌, ◌≤◌, [], ◌∷◌, ◌++◌, codes, length, flat_map, drop, IfSome, OnOk};
 ghost use Rattle.std.specs.Prelude.{None, OnErr, IsTrue, position};
@@ -8,7 +8,7 @@ ghost use Rattle.ttp_base.specs.Text.{lines_below};
 ghost use Rattle.picture_text.specs.Picture.{ended, band_lines, cell_lines, beside_lines, slot_at, shown_slots};
 ghost use Rattle.picture_text.specs.Picture.{keep_flag, back_flag, word_entries, class_entries, mark_entries, picture_of};
 ghost use Rattle.picture_text.specs.Picture.{picture_lines};
-ghost use Rattle.picture_text.specs.Sheet.{Puts};
+ghost use Rattle.ttp_base.specs.Sheet.{Puts};
 ghost use Rattle.picture_text.specs.Tables.{words};
 ghost use Rattle.picture_text.specs.Window.{bands, legend_top, is_strange, is_quiet_before};
 
@@ -20,10 +20,9 @@ use crate::frame::Frame;
 use crate::grid::legend_top;
 use crate::head::put_head;
 use crate::legend::{put_classes, put_mark_entries, put_words};
-use crate::sheet::Sheet;
 use crate::walk::{Shown, skipped, span_shown, strange_past};
 use crate::window::Span;
-use ttp_base::{Failed, Sink};
+use ttp_base::{Failed, Sheet, Sink};
 use ttp_world::{Back, Keep};
 use whole_trace::{Slots, Whole};
 

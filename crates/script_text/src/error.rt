@@ -3,7 +3,7 @@
 use ttp_base::Memory;
 
 /// What is wrong with a line, in the order in which it is looked for.
-#[derive(Clone, Copy)]
+#[derive(Clone, Copy, PartialEq, Eq)]
 pub enum LineFault {
     /// The first word names no form of a line, the form has another number of words, or channels or
     /// a fault are spelled otherwise.
@@ -30,7 +30,7 @@ pub enum LineFault {
 }
 
 /// Why a text is no script for a list.
-#[derive(Clone, Copy)]
+#[derive(Clone, Copy, PartialEq, Eq)]
 pub enum ScriptError {
     /// The first faulty line, counted from 1, with its first fault. Where the whole script has no
     /// `slots` line, and no other fault, it is the line after the last.

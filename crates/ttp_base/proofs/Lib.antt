@@ -1,4 +1,5 @@
 pub mod Below
+mod Counts
 mod Decimal
 pub mod Hex
 mod Known
@@ -9,6 +10,7 @@ pub mod NodeSets
 pub mod NodeTests
 pub mod Numerals
 pub mod Outputs
+pub mod Puts
 pub mod Room
 mod Sinks
 pub mod SetWords

@@ -2,6 +2,7 @@ pub mod Faults
 pub mod Errors
 pub mod Text
 pub mod Outside
+pub mod Sheet
 pub mod MemorySink
 pub mod MemoryLibrary
 pub mod System

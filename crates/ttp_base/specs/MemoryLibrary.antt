@@ -1,15 +1,14 @@
 -- What a library in memory keeps.
 use Rattle.std.specs.Prelude.{◌≡◌, ◌≢◌, ◌&&◌, if◌then◌else◌, Bool, true, false, ℕ, List, Option, Some, None}
 use Rattle.std.specs.BTreeMap.{get_by_text}
-use Rattle.std.specs.declared.alloc.Global.{Global}
-use Rattle.std.specs.declared.vec.Vec.{Vec}
+use Rattle.ttp_base.specs.declared.memory_library.Kept.{Kept}
 use Rattle.ttp_base.specs.declared.memory_library.MemoryLibrary.{MemoryLibrary}
 use Rattle.ttp_base.specs.Outside.{Held, untold, absent, holds, never_fails, Files}
 
 -- what is held under a name
-abbrev pub held_in : Option (Vec ℕ Global) → Held
+abbrev pub held_in : Option Kept → Held
 held_in None = absent
-held_in (Some bytes) = holds bytes.items
+held_in (Some kept) = holds (kept.bytes).items
 
 abbrev pub library_held : MemoryLibrary → List ℕ → Held
 library_held library name = held_in (get_by_text library.files name)
@@ -35,12 +34,26 @@ is_held (holds bytes) = true
 abbrev pub library_sure : MemoryLibrary → List ℕ → Bool
 library_sure library name = never_fails (library_fail library) && is_held (library_held library name)
 
--- what it tells of them: no fault of a name that it is sure of, and of each other name the one count
+-- the count of faults when a name was first held, or the one now where it is not held
+abbrev pub first_count : ℕ → Option Kept → ℕ
+first_count now None = now
+first_count now (Some kept) = kept.faults
+
+-- the count of a name: that of all faults, but for a name of which the library is sure that of the faults up to then
+abbrev pub told_count : Bool → ℕ → Option Kept → ℕ
+told_count never faults kept = if never && is_held (held_in kept) then first_count faults kept else faults
+
+abbrev pub library_count : MemoryLibrary → List ℕ → ℕ
+library_count library name =
+    told_count (never_fails (library_fail library)) (library_faults library) (get_by_text library.files name)
+
+-- what it tells of them
 abbrev pub library_files : MemoryLibrary → Files
 library_files library = record {
   held = library_held library;
   sure = library_sure library;
-  faults = λ name. if library_sure library name then 0 else library_faults library;
+  faults = library_count library;
+  all_faults = library_faults library;
   loads = (library.asked).loads;
 }
 

@@ -38,12 +38,14 @@ pub record Load : Type 0 where
   pub name : List ℕ
   pub limit : ℕ
 
--- what a library tells of the names, whether it is sure of each, its counts of faults with them, and the loads that it
--- was asked for so far, the first one first. Of a name that it is sure of no load fails but for want of memory.
+-- what a library tells of the names, whether it is sure of each, its counts of faults with them, its count of all faults,
+-- and the loads that it was asked for so far, the first one first. Of a name that it is sure of no load fails but for want
+-- of memory.
 pub record Files : Type 0 where
   pub held : List ℕ → Held
   pub sure : List ℕ → Bool
   pub faults : List ℕ → ℕ
+  pub all_faults : ℕ
   pub loads : List Load
 
 -- what a load with this limit may give: the first bytes of those that are held, one more than the limit
@@ -63,13 +65,20 @@ pub record HoldsTheSame (before now : Files) : Type 0 where
   pub sure : (name : List ℕ) → now.sure name ≡ before.sure name
   pub calm : (name : List ℕ) → before.sure name ≡ true → now.faults name ≡ before.faults name
 
--- no name's count fell
-abbrev pub NoneFell : Files → Files → Type 0
-NoneFell before now = (name : List ℕ) → before.faults name ≤ now.faults name
+-- no count fell: that of no name, nor that of all faults
+pub record NoneFell (before now : Files) : Type 0 where
+  pub names : (name : List ℕ) → before.faults name ≤ now.faults name
+  pub all : before.all_faults ≤ now.all_faults
 
--- no name's count changed
-abbrev pub NoneRose : Files → Files → Type 0
-NoneRose before now = (name : List ℕ) → now.faults name ≡ before.faults name
+-- no count changed: that of no name, nor that of all faults
+pub record NoneRose (before now : Files) : Type 0 where
+  pub names : (name : List ℕ) → now.faults name ≡ before.faults name
+  pub all : now.all_faults ≡ before.all_faults
+
+-- no fault was counted so far
+pub record NoneCounted (files : Files) : Type 0 where
+  pub names : (name : List ℕ) → files.faults name ≡ 0
+  pub all : files.all_faults ≡ 0
 
 -- ---- output
 

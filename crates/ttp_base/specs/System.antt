@@ -10,6 +10,7 @@ system_files library = record {
   held = λ _. untold;
   sure = λ _. false;
   faults = λ _. library.faults;
+  all_faults = library.faults;
   loads = (library.asked).loads;
 }
 

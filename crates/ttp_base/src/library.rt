@@ -17,8 +17,8 @@ pub enum LoadError {
 ///
 /// An implementation may tell what it holds, as one over memory does, or tell nothing, as one over
 /// files. It may say that it is sure of a name, and then no load of it fails but for want of memory.
-/// It counts its faults for each name; one counter may stand for every name. No count falls, and each
-/// stands still at 2^64 - 1. It tells which loads it was asked for, so that a caller's
+/// It counts its faults for each name, and all of them; one counter may stand for every name. No count
+/// falls, and each stands still at 2^64 - 1. It tells which loads it was asked for, so that a caller's
 /// contract can say that it asks for no other.
 pub trait Library {
     /// What it holds, of which names it is sure, its counts of faults, and the loads that it was asked for so far.

@@ -1,9 +1,9 @@
 -- The words of this crate's proofs, from one place.
 pub use Rattle.line_reader.specs.TraceLines.{word_text}
 pub use Rattle.line_reader.specs.declared.trace_line.Word.{Word}
-pub use Rattle.picture_text.proofs.Pairs.{puts_both, puts_one}
-pub use Rattle.picture_text.proofs.Puts.{puts_below, puts_none, puts_then}
-pub use Rattle.picture_text.specs.Sheet.{Puts}
+pub use Rattle.ttp_base.proofs.Puts.{puts_both, puts_one}
+pub use Rattle.ttp_base.proofs.Puts.{puts_below, puts_none, puts_then}
+pub use Rattle.ttp_base.specs.Sheet.{Puts}
 pub use Rattle.shown_slot.specs.Nodes.{is_active_word, sends}
 pub use Rattle.shown_slot.specs.Ports.{all_whats, larger, later, message_in_line, most_bytes, newest_host_message}
 pub use Rattle.shown_slot.specs.Ports.{port_if, ports_of, size_of}

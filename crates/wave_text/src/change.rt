@@ -1,6 +1,6 @@
 //! The changes of the variables of a cluster and of its nodes, written.
 ghost use Rattle.std.specs.Prelude.{◌≡◌, ◌<◌, ◌≤◌, ℕ, [], ◌∷◌, length, Some, IsTrue};
-ghost use Rattle.picture_text.specs.Sheet.{Puts};
+ghost use Rattle.ttp_base.specs.Sheet.{Puts};
 ghost use Rattle.wave_text.specs.declared.variable.NodeVariable.TheVariants as of_node;
 ghost use Rattle.wave_text.specs.Moment.{DiffersInCounts, unless_first};
 ghost use Rattle.wave_text.specs.Values.{cluster_value, node_value};

@@ -19,7 +19,7 @@ fn put_wire(line: &mut Draft, size: u32)
     ensures short { length line.new ≤ length line.old + 25 }
 {
     line.put_text("wire ");
-    line.put_decimal(u64::from(size));
+    line.put_number(u64::from(size));
 }
 
 #[tactic(auto, using(ttp_base::proofs::Room::room))]
@@ -29,7 +29,7 @@ fn put_range(line: &mut Draft, size: u32)
     ensures short { length line.new ≤ length line.old + 26 }
 {
     line.put_text(" [");
-    line.put_decimal(u64::from(size.saturating_sub(1)));
+    line.put_number(u64::from(size.saturating_sub(1)));
     line.put_text(":0]");
 }
 
@@ -146,7 +146,7 @@ fn put_source(line: &mut Draft, source: Source)
 {
     match source {
         Source::Status => line.put_text("status"),
-        Source::Node(node) => line.put_decimal(u64::from(node)),
+        Source::Node(node) => line.put_number(u64::from(node)),
     }
 }
 

@@ -1,11 +1,11 @@
 //! The declarations, written.
-#![tactic(auto, using(picture_text::proofs::Puts::puts))]
+#![tactic(auto, using(ttp_base::proofs::Puts::puts))]
 
 ghost use Rattle.std.specs.Prelude.{◌≡◌, ◌<◌, ◌≤◌, [], ◌∷◌, ◌++◌, ◌==◌, codes, decimal};
 ghost use Rattle.std.specs.Prelude.{if◌then◌else◌, All, flat_map, map};
 ghost use Rattle.std.specs.List.{list_any};
 ghost use Rattle.ttp_base.specs.Text.{lines_below};
-ghost use Rattle.picture_text.specs.Sheet.{Puts};
+ghost use Rattle.ttp_base.specs.Sheet.{Puts};
 ghost use Rattle.wave_text.specs.Variables.{cluster_variables, node_variables, HasLetters};
 ghost use Rattle.wave_text.specs.Variables.{cluster_declaration, node_declaration, port_declaration, port_declarations};
 ghost use Rattle.wave_text.specs.Variables.{scope_line, host_scope, node_scope, declarations, ports_at};
@@ -103,7 +103,7 @@ fn make_scope_line(line: &mut Draft, node: u8)
 {
     line.clear();
     line.put_text("$scope module node");
-    line.put_decimal(u64::from(node));
+    line.put_number(u64::from(node));
     line.put_text(" $end\n");
 }
 

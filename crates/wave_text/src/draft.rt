@@ -1,108 +1,11 @@
 //! A line of a waveform while it is formed.
-ghost use Rattle.std.specs.Prelude.{◌≡◌, ◌+◌, ◌≤◌, ◌<◌, [], ◌++◌, length, take, drop};
-ghost use Rattle.std.specs.Fmt.{decimal, signed_decimal};
+ghost use Rattle.std.specs.Prelude.{◌≡◌, ◌+◌, ◌≤◌, ◌<◌, ◌++◌, length};
 ghost use Rattle.wave_text.specs.Values.{binary, binary_number, number_text, wires_text};
 
-use std::marker::Model;
+use ttp_base::Text;
 
-/// A text of at most 2,048 bytes, which contracts see as the list of its bytes. It lies in a fixed buffer,
-/// so no call takes memory.
-#[derive(Drop)]
-pub(crate) struct Draft {
-    bytes: [u8; 2048],
-    len: usize,
-}
-
-impl Model for Draft {
-    ghost use Rattle.std.specs.Prelude.{List, ℕ, take, ◌≤◌};
-
-    ghost Value = { List ℕ };
-
-    ghost view = { λ d. take d.len d.bytes };
-
-    ghost invariant = { λ d. d.len ≤ 2048 };
-}
-
-// Writes a piece into a buffer from a place on.
-fn put_at(buffer: &mut [u8], at: usize, piece: &[u8])
-    requires { at + length piece.now ≤ length buffer.old }
-    ensures { buffer.new ≡ take at buffer.old ++ piece.now ++ drop (at + length piece.now) buffer.old }
-{
-    let end = at + piece.len();
-    buffer[at..end].copy_from_slice(piece);
-}
-
-impl Draft {
-    /// The empty text.
-    pub(crate) fn new() -> Draft
-        ensures { result ≡ [] }
-    {
-        Draft {
-            bytes: [0; 2048],
-            len: 0,
-        }
-    }
-
-    /// Takes all of the text away.
-    pub(crate) fn clear(&mut self)
-        ensures { self.new ≡ [] }
-    {
-        self.len = 0;
-    }
-
-    /// How many bytes it has.
-    pub(crate) fn len(&self) -> usize
-        ensures { result ≡ length self.now }
-    {
-        self.len
-    }
-
-    /// The text so far.
-    pub(crate) fn bytes(&self) -> &[u8]
-        ensures { result.now ≡ self.now }
-    {
-        &self.bytes[..self.len]
-    }
-
-    /// Adds bytes as they are.
-    pub(crate) fn put_bytes(&mut self, piece: &[u8])
-        requires { length self.old + length piece.now ≤ 2048 }
-        ensures { self.new ≡ self.old ++ piece.now }
-    {
-        let start = self.len;
-        put_at(&mut self.bytes, start, piece);
-        self.len = start + piece.len();
-    }
-
-    /// Adds a text as it is.
-    pub(crate) fn put_text(&mut self, text: &str)
-        requires { length self.old + length text.now ≤ 2048 }
-        ensures { self.new ≡ self.old ++ text.now }
-    {
-        self.put_bytes(text.as_bytes());
-    }
-
-    /// Adds a number in decimal digits.
-    pub(crate) fn put_decimal(&mut self, v: u64)
-        requires { length self.old + length (decimal v) ≤ 2048 }
-        ensures { self.new ≡ self.old ++ decimal v }
-    {
-        let mut buffer = itoa::Buffer::new();
-        let digits = buffer.format(v);
-        self.put_bytes(digits.as_bytes());
-    }
-
-    /// Adds a number in decimal digits, with a `-` before a negative one.
-    pub(crate) fn put_signed(&mut self, v: i64)
-        requires { length self.old + length (signed_decimal v) ≤ 2048 }
-        ensures { self.new ≡ self.old ++ signed_decimal v }
-    {
-        if v < 0 {
-            self.put_text("-");
-        }
-        self.put_decimal(v.unsigned_abs());
-    }
-}
+/// A text of at most 2,048 bytes.
+pub(crate) type Draft = Text<2048>;
 
 /// Adds the lowest binary digits of a number, as many as are asked for, the most significant first.
 #[tactic(auto, using(crate::proofs::Binary::digits))]

@@ -1,8 +1,8 @@
 //! What stands before the declarations, written.
-#![tactic(auto, using(picture_text::proofs::Puts::puts))]
+#![tactic(auto, using(ttp_base::proofs::Puts::puts))]
 
 ghost use Rattle.std.specs.Prelude.{◌≡◌, ◌≤◌, [], ◌∷◌, length};
-ghost use Rattle.picture_text.specs.Sheet.{Puts};
+ghost use Rattle.ttp_base.specs.Sheet.{Puts};
 ghost use Rattle.shown_slot.specs.Trace.{first_text, keeps_text, returns_text};
 ghost use Rattle.wave_text.specs.Wave.{comment_line, comment_lines, wave_head_lines};
 

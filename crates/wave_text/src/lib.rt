@@ -14,7 +14,7 @@
 //! ```
 //!
 //! The declarations and the changes of a slot are written line by line, each as one piece, exactly as the definition has them, to
-//! the `Sheet` of picture_text: once the sink failed nothing more is written, and the end tells of it.
+//! the `Sheet` of ttp_base: once the sink failed nothing more is written, and the end tells of it.
 //! [`laws::lines_of_waveforms`] says that each line of a waveform is one line, and [`laws::values_tell_lines`] that the values of
 //! a node tell its line again.
 //!

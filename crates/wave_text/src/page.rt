@@ -1,10 +1,9 @@
 //! Where the values of variables and lines are formed, and lines written.
 ghost use Rattle.std.specs.Prelude.{◌≡◌, [], ◌∷◌, false};
-ghost use Rattle.picture_text.specs.Sheet.{Puts};
+ghost use Rattle.ttp_base.specs.Sheet.{Puts};
 
 use crate::draft::Draft;
-use picture_text::Sheet;
-use ttp_base::Sink;
+use ttp_base::{Sheet, Sink};
 
 /// The value of a variable in the slot before, its value now or a line, and the sheet to which lines go.
 #[derive(Drop)]

@@ -1,6 +1,6 @@
 //! The changes of a host's variables, written.
 ghost use Rattle.std.specs.Prelude.{◌≡◌, ◌≤◌, ◌++◌, length};
-ghost use Rattle.picture_text.specs.Sheet.{Puts};
+ghost use Rattle.ttp_base.specs.Sheet.{Puts};
 ghost use Rattle.wave_text.specs.Moment.{unless_first};
 ghost use Rattle.wave_text.specs.Values.{port_value};
 ghost use Rattle.wave_text.specs.Variables.{port_letter, source_letter, port_code, HasLetters, HasSourceLetter};

@@ -1,9 +1,9 @@
 //! A slot of a waveform, written.
-#![tactic(auto, using(picture_text::proofs::Puts::puts))]
+#![tactic(auto, using(ttp_base::proofs::Puts::puts))]
 
 ghost use Rattle.std.specs.Prelude.{◌≡◌, ◌<◌, ◌≤◌, [], ◌==◌, if◌then◌else◌, All, option_map, flat_map};
 ghost use Rattle.ttp_base.specs.Text.{lines_below};
-ghost use Rattle.picture_text.specs.Sheet.{Puts};
+ghost use Rattle.ttp_base.specs.Sheet.{Puts};
 ghost use Rattle.shown_slot.specs.Trace.{no_shown_node, node_at};
 ghost use Rattle.wave_text.specs.Moment.{ShowsMessages, ShowsNewest, unless_first};
 ghost use Rattle.wave_text.specs.Variables.{HasLetters, ports_at};

@@ -177,7 +177,7 @@ fn put_ack(line: &mut Draft, ack: Ack)
         Ack::First => line.put_text("sfirst"),
         Ack::Doubt(successor) => {
             line.put_text("sdoubt:");
-            line.put_decimal(u64::from(successor));
+            line.put_number(u64::from(successor));
         }
     }
 }

@@ -1,9 +1,9 @@
 //! The waveform of a trace, written.
-#![tactic(auto, using(picture_text::proofs::Puts::puts))]
+#![tactic(auto, using(ttp_base::proofs::Puts::puts))]
 
 ghost use Rattle.std.specs.Prelude.{◌≡◌, ◌<◌, ◌≤◌, [], ◌∷◌, length, All, Err, OnOk};
 ghost use Rattle.ttp_base.specs.Outside.{WroteLines, CutShort};
-ghost use Rattle.picture_text.specs.Sheet.{Puts};
+ghost use Rattle.ttp_base.specs.Sheet.{Puts};
 ghost use Rattle.shown_slot.specs.Trace.{member_room, trace_ports};
 ghost use Rattle.wave_text.specs.Moment.{ShowsMessages};
 ghost use Rattle.wave_text.specs.Variables.{HasLetters};
@@ -46,7 +46,7 @@ fn make_time(line: &mut Draft, slot: u32)
 {
     line.clear();
     line.put_text("#");
-    line.put_decimal(u64::from(slot));
+    line.put_number(u64::from(slot));
     line.put_text("\n");
 }
 

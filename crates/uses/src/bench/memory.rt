@@ -1,8 +1,8 @@
 //! Files, words and what is missing, in memory.
 ghost use Rattle.std.specs.Prelude.{◌≡◌, ◌+◌, [], codes, map, Some, IfOk};
-ghost use Rattle.ttp_base.specs.MemoryLibrary.{library_held, library_fail};
+ghost use Rattle.ttp_base.specs.MemoryLibrary.{library_held, library_fail, library_files};
 ghost use Rattle.ttp_base.specs.MemorySink.{sink_output};
-ghost use Rattle.ttp_base.specs.Outside.{holds};
+ghost use Rattle.ttp_base.specs.Outside.{holds, NoneCounted};
 ghost use Rattle.commands.specs.Words.{texts_of};
 
 use std::alloc::{AllocError, Global};
@@ -52,6 +52,7 @@ pub(crate) fn words_of(alloc: Global, words: &[&str]) -> Result<Vec<String>, Mem
 
 /// A library that holds a list under `list`, a script under `script`, and a trace under `trace`, no load of
 /// which fails but for want of memory.
+#[tactic(auto, using(commands::proofs::Sure::still_none_counted))]
 pub(crate) fn holding(
     alloc: Global,
     list: &[u8],
@@ -62,6 +63,7 @@ pub(crate) fn holding(
     ensures script { IfOk result (λ library. library_held library (codes "script") ≡ holds script.now) }
     ensures trace { IfOk result (λ library. library_held library (codes "trace") ≡ holds trace.now) }
     ensures never { IfOk result (λ library. library_fail library ≡ []) }
+    ensures counts { IfOk result (λ library. NoneCounted (library_files library)) }
 {
     let mut library = MemoryLibrary::new(alloc, List::new(alloc));
     library.add("list", list)?;

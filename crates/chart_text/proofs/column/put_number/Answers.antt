@@ -1,5 +1,5 @@
 use Rattle.chart_text.proofs.Words.{◌∙◌, sym, puts_one}
-use Rattle.picture_text.proofs.Pairs.{puts_where, puts_unless}
+use Rattle.ttp_base.proofs.Puts.{puts_where, puts_unless}
 use Rattle.chart_text.specs.Column.{has_number}
 use Rattle.chart_text.proofs.column.put_number.Goals as goal
 

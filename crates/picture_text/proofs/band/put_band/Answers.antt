@@ -1,7 +1,7 @@
 use Rattle.picture_text.proofs.Words.{◌≡◌, ◌∙◌, ap, subst, ℕ, ◌+◌, ◌*◌, List, ◌++◌, [], ◌∷◌, map, codes, arith, below, row_line}
 use Rattle.picture_text.proofs.Words.{Puts, row_y}
 use Rattle.std.proofs.Common.{decimal}
-use Rattle.picture_text.proofs.Pairs.{puts_both, puts_first, puts_two}
+use Rattle.ttp_base.proofs.Puts.{puts_both, puts_first, puts_two}
 use Rattle.picture_text.proofs.Rows.{band_within}
 use Rattle.picture_text.proofs.band.put_band.Goals as goal
 

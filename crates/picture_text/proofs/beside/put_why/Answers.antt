@@ -1,7 +1,7 @@
 use Rattle.picture_text.proofs.Words.{ap, sym, ◌∙◌, NodeShown}
 use Rattle.shown_slot.specs.Nodes.{is_leaving_word}
 use Rattle.shown_slot.specs.Trace.{node_at}
-use Rattle.picture_text.proofs.Pairs.{puts_two, puts_where, puts_unless}
+use Rattle.ttp_base.proofs.Puts.{puts_two, puts_where, puts_unless}
 use Rattle.picture_text.proofs.beside.put_why.Goals as goal
 
 pub returns-then-is_leaving_word : goal.returns-then-is_leaving_word

@@ -1,7 +1,7 @@
 use Rattle.picture_text.proofs.Words.{◌∙◌, ap, map, below, node_at, node_cell, column_x, row_y}
 use Rattle.picture_text.proofs.Words.{subst, Puts}
 use Rattle.shown_slot.specs.Nodes.{is_refused}
-use Rattle.picture_text.proofs.Pairs.{puts_both}
+use Rattle.ttp_base.proofs.Puts.{puts_both}
 use Rattle.picture_text.proofs.cells.put_cells.Goals as goal
 
 pub returns : goal.returns

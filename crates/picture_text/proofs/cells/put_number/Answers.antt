@@ -1,6 +1,6 @@
 use Rattle.picture_text.proofs.Words.{◌%◌, ◌==◌}
 use Rattle.std.proofs.lemmas.Bool.{eq-eqb, ne_eqb}
-use Rattle.picture_text.proofs.Pairs.{puts_one, puts_where, puts_unless}
+use Rattle.ttp_base.proofs.Puts.{puts_one, puts_where, puts_unless}
 use Rattle.picture_text.proofs.cells.put_number.Goals as goal
 
 pub returns-then-slot-eq0 : goal.returns-then-slot-eq0

@@ -1,6 +1,6 @@
 use Rattle.picture_text.proofs.Words.{ap, sym, ◌∙◌}
 use Rattle.shown_slot.specs.Nodes.{starts_round}
-use Rattle.picture_text.proofs.Pairs.{puts_one, puts_where, puts_unless}
+use Rattle.ttp_base.proofs.Puts.{puts_one, puts_where, puts_unless}
 use Rattle.picture_text.proofs.cells.put_round.Goals as goal
 
 pub returns-then-starts_round : goal.returns-then-starts_round

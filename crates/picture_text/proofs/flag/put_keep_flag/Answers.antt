@@ -1,7 +1,7 @@
 use Rattle.picture_text.proofs.Words.{ap, sym, ◌∙◌}
 use Rattle.picture_text.specs.Picture.{is_shown}
 use Rattle.picture_text.specs.Tables.{keep_slot}
-use Rattle.picture_text.proofs.Pairs.{puts_two, puts_where, puts_unless}
+use Rattle.ttp_base.proofs.Puts.{puts_two, puts_where, puts_unless}
 use Rattle.picture_text.proofs.flag.put_keep_flag.Goals as goal
 
 pub returns-then-is_shown : goal.returns-then-is_shown

@@ -1,4 +1,4 @@
-use Rattle.picture_text.proofs.Pairs.{puts_one}
+use Rattle.ttp_base.proofs.Puts.{puts_one}
 use Rattle.picture_text.proofs.head.put_back_said.Goals as goal
 
 pub returns-in-Some : goal.returns-in-Some

@@ -1,5 +1,5 @@
 use Rattle.picture_text.proofs.Words.{ℕ, ◌++◌, codes, ap, ◌∙◌, ended, size, svg_line}
-use Rattle.picture_text.proofs.Pairs.{puts_both, puts_first}
+use Rattle.ttp_base.proofs.Puts.{puts_both, puts_first}
 use Rattle.picture_text.proofs.head.put_head.Goals as goal
 
 pub returns : goal.returns

@@ -1,4 +1,4 @@
-use Rattle.picture_text.proofs.Pairs.{puts_two}
+use Rattle.ttp_base.proofs.Puts.{puts_two}
 use Rattle.picture_text.proofs.legend.put_entry.Goals as goal
 
 pub returns : goal.returns

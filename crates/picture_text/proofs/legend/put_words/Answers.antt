@@ -1,6 +1,6 @@
 use Rattle.picture_text.proofs.Words.{get_or, ℕ, word_entry, words}
 use Rattle.line_reader.specs.declared.trace_line.Word.TheVariants as word
-use Rattle.picture_text.proofs.Puts.{puts_below}
+use Rattle.ttp_base.proofs.Puts.{puts_below}
 use Rattle.picture_text.proofs.legend.put_words.Goals as goal
 
 pub loop-number-preserved : goal.loop-number-preserved

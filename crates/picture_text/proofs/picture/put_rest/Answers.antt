@@ -1,6 +1,6 @@
 use Rattle.picture_text.proofs.Words.{subst, ℕ, ◌+◌, [], ◌∷◌, ◌++◌, codes, ended, keep_flag, back_flag, word_entries}
 use Rattle.picture_text.proofs.Words.{class_entries, mark_entries, Puts, words}
-use Rattle.picture_text.proofs.Pairs.{puts_both}
+use Rattle.ttp_base.proofs.Puts.{puts_both}
 use Rattle.picture_text.proofs.picture.put_rest.Goals as goal
 
 pub returns : goal.returns

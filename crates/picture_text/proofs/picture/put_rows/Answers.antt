@@ -1,4 +1,4 @@
-use Rattle.picture_text.proofs.Pairs.{puts_both}
+use Rattle.ttp_base.proofs.Puts.{puts_both}
 use Rattle.picture_text.proofs.picture.put_rows.Goals as goal
 
 pub returns : goal.returns

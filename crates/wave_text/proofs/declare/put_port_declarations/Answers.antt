@@ -1,6 +1,6 @@
 use Rattle.wave_text.proofs.Words.{◌==◌, [], ap, map, subst, sym, What, port_declaration, port_variables, Puts}
 use Rattle.wave_text.proofs.Words.{puts_both}
-use Rattle.picture_text.proofs.Pairs.{puts_where}
+use Rattle.ttp_base.proofs.Puts.{puts_where}
 use Rattle.std.proofs.lemmas.Bool.{eq-eqb}
 use Rattle.wave_text.proofs.declare.put_port_declarations.Goals as goal
 

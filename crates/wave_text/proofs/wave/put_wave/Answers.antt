@@ -1,5 +1,5 @@
 use Rattle.wave_text.proofs.Words.{Bool, true, false, subst, wave_lines, Puts}
-use Rattle.picture_text.proofs.Puts.{all_wrote, all_cut}
+use Rattle.ttp_base.proofs.Puts.{all_wrote, all_cut}
 use Rattle.wave_text.proofs.wave.put_wave.Goals as goal
 
 pub returns-then-page-clause-failed : goal.returns-then-page-clause-failed

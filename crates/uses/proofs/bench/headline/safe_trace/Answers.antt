@@ -33,8 +33,8 @@ returns-then-status-ne0-clause-missing g c =
     let held = c.in_ok-library.ensures in
     λ medl right are.
     elim (ran c.ask-status.ensures.promise.call
-    (surely_in_memory c.in_ok-library.library (codes "list") c.args.list.now held.never held.list)
-    (surely_in_memory c.in_ok-library.library (codes "script") c.args.script.now held.never held.script) are
+    (surely_in_memory c.in_ok-library.library (codes "list") c.args.list.now held.never held.counts held.list)
+    (surely_in_memory c.in_ok-library.library (codes "script") c.args.script.now held.never held.counts held.script) are
     (omega (arith, c.in_ok-out.ensures.quiet)) (c.ask-status.ensures.of_run (codes "list") (codes "script") asked)) [
       | inl whole ↦ absurd (c.if-status-ne0.true whole.0)
       | inr (inl seven) ↦ inl seven

@@ -1,7 +1,7 @@
 use Rattle.std.proofs.Common.{◌≤◌, length, take, ap, arith, length-append}
 use Rattle.std.proofs.lemmas.List.{length-take-le}
 use Rattle.ttp_base.proofs.Hex.{length-hex_bytes}
-use Rattle.line_form.proofs.text.Text.put_hex_bytes.Goals as goal
+use Rattle.ttp_base.proofs.text.Text.put_hex_bytes.Goals as goal
 
 pub put_bytes-requires : goal.put_bytes-requires
 put_bytes-requires g c =

@@ -1,6 +1,6 @@
 use Rattle.std.proofs.Common.{◌≡◌, ◌-◌, ◌≤◌, ◌++◌, length, take, drop}
 use Rattle.ttp_base.specs.Text.{hex}
-use Rattle.ttp_base.proofs.line.fill_hex.Given as goal
+use Rattle.ttp_base.proofs.text.fill_hex.Given as goal
 
 -- the digits still due and those written are all of them
 abbrev pub invariant-loop-place : goal.invariant-loop-place

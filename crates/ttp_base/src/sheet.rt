@@ -1,18 +1,19 @@
-//! Where the lines of a picture are formed and written.
+//! Where lines are formed and written one after another, over a sink that may fail.
 ghost use Rattle.std.specs.Prelude.{◌≡◌, ◌↔◌, IsOk, [], ◌∷◌, map, false};
-ghost use Rattle.picture_text.specs.Sheet.{Puts};
+ghost use Rattle.ttp_base.specs.Sheet.{Puts};
 
-use crate::long_line::LongLine;
-use ttp_base::{Failed, Line, Sink};
+use crate::fault::Failed;
+use crate::sink::Sink;
+use crate::text::{Line, Text};
 
-/// A line that is formed, and whether the sink failed.
+/// A line that is formed, a longer one, and whether the sink failed.
 ///
 /// After a failure nothing more is written, so that what writes several lines goes on as if it had written
 /// them, and one place at the end tells of it.
 #[derive(Drop)]
 pub struct Sheet {
     pub line: Line,
-    pub(crate) long: LongLine,
+    pub long: Text<4096>,
     pub failed: bool,
 }
 
@@ -36,7 +37,7 @@ impl Sheet {
     {
         Sheet {
             line: Line::new(),
-            long: LongLine::new(),
+            long: Text::new(),
             failed: false,
         }
     }
@@ -49,7 +50,7 @@ impl Sheet {
     }
 
     /// Writes the long line.
-    pub(crate) fn write_long<K: Sink>(&mut self, out: &mut K)
+    pub fn write_long<K: Sink>(&mut self, out: &mut K)
         ensures { Puts self.old.failed (K.output out.old) self.new.failed (K.output out.new) (self.old.long ∷ []) }
     {
         self.failed = put_line(self.failed, self.long.bytes(), out);

@@ -1,7 +1,6 @@
-use Rattle.std.proofs.Common.{Bor}
-use Rattle.picture_text.proofs.Words.{ℕ, List}
-use Rattle.picture_text.proofs.Puts.{puts_item}
-use Rattle.picture_text.proofs.sheet.Sheet.put_lines.Goals as goal
+use Rattle.std.proofs.Common.{Bor, ℕ, List}
+use Rattle.ttp_base.proofs.Puts.{puts_item}
+use Rattle.ttp_base.proofs.sheet.Sheet.put_lines.Goals as goal
 
 pub loop-line-preserved : goal.loop-line-preserved
 loop-line-preserved g c =

@@ -1,31 +1,32 @@
-//! A line of text in a buffer of fixed size.
+//! A text in a buffer of fixed size.
 ghost use Rattle.std.specs.Prelude.{◌≡◌, ℕ, ◌+◌, ◌-◌, ◌*◌, ◌^◌, ◌<◌, ◌≤◌, [], ◌++◌, length, take, drop};
 ghost use Rattle.std.specs.Fmt.{decimal, signed_decimal};
 ghost use Rattle.ttp_base.specs.Text.{hex_digit, hex, hex_bytes};
 
 use std::marker::Model;
 
-const ROOM: usize = 640;
-
-/// A text of at most 640 bytes, which contracts see as the list of its bytes.
+/// A text of at most so many bytes, which contracts see as the list of its bytes.
 ///
 /// It lies in a fixed buffer, so no call takes memory. A caller knows that what it adds fits, by
-/// the text's length or by [`Line::room`].
+/// the text's length or by [`Text::room`].
 #[derive(Drop)]
-pub struct Line {
-    bytes: [u8; 640],
+pub struct Text<const ROOM: usize> {
+    bytes: [u8; ROOM],
     len: usize,
 }
 
-impl Model for Line {
+impl<const ROOM: usize> Model for Text<ROOM> {
     ghost use Rattle.std.specs.Prelude.{List, ℕ, take, ◌≤◌};
 
     ghost Value = { List ℕ };
 
     ghost view = { λ l. take l.len l.bytes };
 
-    ghost invariant = { λ l. l.len ≤ 640 };
+    ghost invariant = { λ l. l.len ≤ ROOM };
 }
+
+/// A text with room for each line of a trace: at most 640 bytes.
+pub type Line = Text<640>;
 
 // Writes a piece into a buffer from a place on.
 fn put_at(buffer: &mut [u8], at: usize, piece: &[u8])
@@ -48,13 +49,13 @@ fn hex_digit(value: u8) -> u8
     }
 }
 
-impl Line {
-    /// The empty line.
-    pub fn new() -> Line
+impl<const ROOM: usize> Text<ROOM> {
+    /// The empty text.
+    pub fn new() -> Text<ROOM>
         ensures { result ≡ [] }
     {
-        Line {
-            bytes: [0; 640],
+        Text {
+            bytes: [0; ROOM],
             len: 0,
         }
     }
@@ -83,7 +84,7 @@ impl Line {
 
     /// How many bytes still fit.
     pub fn room(&self) -> usize
-        ensures { result + length self.now ≡ 640 }
+        ensures { result + length self.now ≡ ROOM }
     {
         ROOM - self.len
     }
@@ -97,7 +98,7 @@ impl Line {
 
     /// Adds a text as it is.
     pub fn put_text(&mut self, t: &str)
-        requires { length self.old + length t.now ≤ 640 }
+        requires { length self.old + length t.now ≤ ROOM }
         ensures { self.new ≡ self.old ++ t.now }
     {
         self.put_bytes(t.as_bytes());
@@ -107,7 +108,7 @@ impl Line {
     #[inline(always)]
     #[tactic(auto, using(std::proofs::lemmas::Fmt::decimal_digit, crate::proofs::Decimal::decimal_two_digits))]
     pub fn put_number(&mut self, v: u64)
-        requires { length self.old + length (decimal v) ≤ 640 }
+        requires { length self.old + length (decimal v) ≤ ROOM }
         ensures { self.new ≡ self.old ++ decimal v }
     {
         if v < 10 {
@@ -122,7 +123,7 @@ impl Line {
     // The same for any number. It stands apart, so that numbers of one digit or two are put in place.
     #[inline(never)]
     fn put_digits(&mut self, v: u64)
-        requires { length self.old + length (decimal v) ≤ 640 }
+        requires { length self.old + length (decimal v) ≤ ROOM }
         ensures { self.new ≡ self.old ++ decimal v }
     {
         let mut buffer = itoa::Buffer::new();
@@ -132,7 +133,7 @@ impl Line {
 
     /// Adds a number in decimal digits, with a `-` before a negative one.
     pub fn put_signed(&mut self, v: i64)
-        requires { length self.old + length (signed_decimal v) ≤ 640 }
+        requires { length self.old + length (signed_decimal v) ≤ ROOM }
         ensures { self.new ≡ self.old ++ signed_decimal v }
     {
         if v < 0 {
@@ -145,7 +146,7 @@ impl Line {
     pub fn put_hex(&mut self, v: u64, digits: u8)
         requires count { (1 ≤ digits) × (digits ≤ 16) }
         requires value { v < 16 ^ digits }
-        requires room { length self.old + digits ≤ 640 }
+        requires room { length self.old + digits ≤ ROOM }
         ensures { self.new ≡ self.old ++ hex digits v }
     {
         let start = self.len;
@@ -156,7 +157,7 @@ impl Line {
 
     /// Adds two lower-case hexadecimal digits for each byte.
     pub fn put_hex_bytes(&mut self, b: &[u8])
-        requires { length self.old + 2 * length b.now ≤ 640 }
+        requires { length self.old + 2 * length b.now ≤ ROOM }
         ensures { self.new ≡ self.old ++ hex_bytes b.now }
     {
         for byte in b {
@@ -166,7 +167,7 @@ impl Line {
 
     /// Adds bytes as they are.
     pub fn put_bytes(&mut self, piece: &[u8])
-        requires { length self.old + length piece.now ≤ 640 }
+        requires { length self.old + length piece.now ≤ ROOM }
         ensures { self.new ≡ self.old ++ piece.now }
     {
         // Read once, since for all that a compiler sees the bytes written may change it.

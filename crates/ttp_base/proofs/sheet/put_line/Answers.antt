@@ -1,6 +1,7 @@
-use Rattle.picture_text.proofs.Words.{[], ◌∷◌, Bool, true, false, subst, sym, Puts}
-use Rattle.picture_text.proofs.Puts.{puts_wrote, puts_cut, puts_nothing}
-use Rattle.picture_text.proofs.sheet.put_line.Goals as goal
+use Rattle.std.proofs.Common.{[], ◌∷◌, Bool, true, false, subst, sym}
+use Rattle.ttp_base.specs.Sheet.{Puts}
+use Rattle.ttp_base.proofs.Puts.{puts_wrote, puts_cut, puts_nothing}
+use Rattle.ttp_base.proofs.sheet.put_line.Goals as goal
 
 pub returns-then-failed : goal.returns-then-failed
 returns-then-failed g c =

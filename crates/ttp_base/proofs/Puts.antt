@@ -1,13 +1,17 @@
 -- Lines that are put one after another.
-use Rattle.picture_text.proofs.Words.{◌≡◌, refl, ap, ◌∙◌, ℕ, ◌+◌, ◌<◌, map, List, [], ◌∷◌, ◌++◌, subst, sym, Bool, true}
-use Rattle.picture_text.proofs.Words.{length, take, get_or}
-use Rattle.picture_text.proofs.Words.{false, append_assoc, append-nil, flat_map-append, flat_map, range_with_len, below}
-use Rattle.picture_text.proofs.Words.{Output, WroteLines, CutShort, Lines, lines_below, Puts}
-use Rattle.std.proofs.lemmas.List.{map-append, map-id, take_more}
+use Rattle.std.proofs.Common.{◌≡◌, refl, ap, ◌∙◌, ℕ, ◌+◌, ◌<◌, map, List, [], ◌∷◌, ◌++◌, subst, sym, Bool, true}
+use Rattle.std.proofs.Common.{length, take, get_or, false, append_assoc}
+use Rattle.std.proofs.lemmas.List.{append-nil, map-append, map-id, take_more}
+use Rattle.std.proofs.lemmas.List.Concat.{flat_map-append}
 use Rattle.std.proofs.lemmas.List.FromFn.{map-range_with_len_more}
+use Rattle.std.specs.List.{flat_map, range_with_len}
+use Rattle.std.specs.Prelude.{if◌then◌else◌}
+use Rattle.ttp_base.specs.NodeSet.{below}
+use Rattle.ttp_base.specs.Outside.{Output, WroteLines, CutShort}
+use Rattle.ttp_base.specs.Sheet.{HasPut, Puts}
+use Rattle.ttp_base.specs.Text.{Lines, lines_below}
 use Rattle.ttp_base.proofs.Below.{flat_map-next, map-next}
 use Rattle.ttp_base.proofs.Outputs.{Wrote-join, Wrote-none, CutShort-after, CutShort-more}
-use Rattle.picture_text.specs.Sheet.{HasPut}
 
 -- no lines, and lines in two parts
 pub puts_none : (f : Bool) (a : Output) → Puts f a f a []
@@ -65,6 +69,39 @@ puts_item {X} line xs k d f g h a b c one p within q e =
     (sym (ap (map line) (take_more xs k d within) ∙ map-append line (take k xs) (get_or xs k d ∷ [])))
     (puts_then f g h a b c (map line (take k xs)) (line (get_or xs k d) ∷ []) p
     (subst (λ (l : List ℕ). Puts g b h c (l ∷ [])) e q))
+
+-- one line, and two
+pub puts_one : {f g : Bool} {a b : Output} {x y : List ℕ} → x ≡ y → Puts f a g b (x ∷ []) → Puts f a g b (y ∷ [])
+puts_one {f} {g} {a} {b} e p = subst (λ (line : List ℕ). Puts f a g b (line ∷ [])) e p
+
+-- lines behind one
+pub puts_first : {f g h : Bool} {a b c : Output} {x y : List ℕ} {ys : Lines} → x ≡ y → Puts f a g b (x ∷ [])
+    → Puts g b h c ys → Puts f a h c (y ∷ ys)
+puts_first {f} {g} {h} {a} {b} {c} {x} {y} {ys} e p q = puts_then f g h a b c (y ∷ []) ys (puts_one e p) q
+
+pub puts_two : {f g h : Bool} {a b c : Output} {x y v w : List ℕ} → x ≡ v → y ≡ w → Puts f a g b (x ∷ [])
+    → Puts g b h c (y ∷ []) → Puts f a h c (v ∷ w ∷ [])
+puts_two e d p q = puts_first e p (puts_one d q)
+
+-- lines in two parts
+pub puts_both : {f g h : Bool} {a b c : Output} {x y : Lines} → Puts f a g b x → Puts g b h c y → Puts f a h c (x ++ y)
+puts_both {f} {g} {h} {a} {b} {c} {x} {y} p q = puts_then f g h a b c x y p q
+
+-- lines that are put where something is so, and others where it is not
+pub puts_where : {f g : Bool} {a b : Output} {x : Lines} (is : Bool) (more : Lines) → is ≡ true → Puts f a g b x
+    → Puts f a g b (if is then x else more)
+puts_where {f} {g} {a} {b} {x} is more so p =
+    subst (λ (s : Bool). Puts f a g b (if s then x else more)) (sym so) p
+
+pub puts_else : {f g : Bool} {a b : Output} {more : Lines} (is : Bool) (x : Lines) → is ≡ false → Puts f a g b more
+    → Puts f a g b (if is then x else more)
+puts_else {f} {g} {a} {b} {more} is x so p =
+    subst (λ (s : Bool). Puts f a g b (if s then x else more)) (sym so) p
+
+-- and none where it is not
+pub puts_unless : {f : Bool} {a : Output} (is : Bool) (x : Lines) → is ≡ false
+    → Puts f a f a (if is then x else [])
+puts_unless {f} {a} is x so = puts_else is x so (puts_none f a)
 
 -- all of them
 pub all_wrote : (a b : Output) (x : Lines) → Puts false a false b x → WroteLines a b x

@@ -1,5 +1,6 @@
-use Rattle.picture_text.proofs.Words.{map, take, Puts}
-use Rattle.picture_text.proofs.sheet.Sheet.put_lines.Given as goal
+use Rattle.std.proofs.Common.{map, take}
+use Rattle.ttp_base.specs.Sheet.{Puts}
+use Rattle.ttp_base.proofs.sheet.Sheet.put_lines.Given as goal
 
 -- the lines so far were put
 abbrev pub invariant-loop-line : goal.invariant-loop-line
