@@ -1,5 +1,6 @@
 //! A question to `bench` over files and output in memory.
-ghost use Rattle.ttp_base.specs.MemoryLibrary.{library_files};
+ghost use Rattle.std.specs.Prelude.{◌≤◌};
+ghost use Rattle.ttp_base.specs.MemoryLibrary.{library_faults, library_files};
 ghost use Rattle.ttp_base.specs.MemorySink.{sink_output};
 ghost use Rattle.commands.specs.Plan.{outside};
 ghost use Rattle.commands.specs.Words.{texts_of};
@@ -19,8 +20,9 @@ pub(crate) fn ask<R: Threads + Wait + Sync>(
     library: &mut MemoryLibrary,
     out: &mut MemorySink,
 ) -> u8
-    ensures { IsAnswered (texts_of words.now) (outside (library_files library.old) (sink_output out.old))
+    ensures answered { IsAnswered (texts_of words.now) (outside (library_files library.old) (sink_output out.old))
         (outside (library_files library.new) (sink_output out.new)) result }
+    ensures faults { library_faults library.old ≤ library_faults library.new }
 {
     let gate = OpenGate::new();
     let mut kept = None;

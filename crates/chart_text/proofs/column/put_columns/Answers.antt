@@ -1,7 +1,7 @@
 use Rattle.chart_text.proofs.Words.{◌≡◌, ◌<◌, ◌+◌, ◌∙◌, ap, sym, subst, ℕ, length, get_or, arith}
 use Rattle.chart_text.proofs.Words.{in_order_from, column_lines, column_of, shown_before, faults_told_in, SameFrom}
 use Rattle.chart_text.proofs.Words.{longest_text, marked_slots}
-use Rattle.picture_text.specs.declared.sheet.Sheet.{Sheet}
+use Rattle.ttp_base.specs.declared.sheet.Sheet.{Sheet}
 use Rattle.chart_text.specs.Steps.{Roomy}
 use Rattle.chart_text.proofs.Order.{same-then, same-later}
 use Rattle.chart_text.proofs.Slots.{count-marked, count-unmarked, marked-at, shown_before-next}

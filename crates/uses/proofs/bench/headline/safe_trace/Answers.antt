@@ -10,7 +10,7 @@ use Rattle.uses.proofs.bench.headline.safe_trace.Goals as goal
 pub returns-clause-trace : goal.returns-clause-trace
 returns-clause-trace g c =
     let asked = ap form_of (ap texts_of c.deref.ensures.value ∙ c.in_ok-words.ensures) in
-    let w = (c.ask-status.ensures.of_run (codes "list") (codes "script") asked).trace c.if-status-ne0.false in
+    let w = (c.ask-status.ensures.answered.of_run (codes "list") (codes "script") asked).trace c.if-status-ne0.false in
     let held = c.in_ok-library.ensures in
     record {
       list = w.medl;
@@ -32,10 +32,10 @@ returns-then-status-ne0-clause-missing g c =
     let asked = ap form_of (ap texts_of c.deref.ensures.value ∙ c.in_ok-words.ensures) in
     let held = c.in_ok-library.ensures in
     λ medl right are.
-    elim (ran c.ask-status.ensures.promise.call
+    elim (ran c.ask-status.ensures.answered.promise.call
     (surely_in_memory c.in_ok-library.library (codes "list") c.args.list.now held.never held.counts held.list)
     (surely_in_memory c.in_ok-library.library (codes "script") c.args.script.now held.never held.counts held.script) are
-    (omega (arith, c.in_ok-out.ensures.quiet)) (c.ask-status.ensures.of_run (codes "list") (codes "script") asked)) [
+    (omega (arith, c.in_ok-out.ensures.quiet)) (c.ask-status.ensures.answered.of_run (codes "list") (codes "script") asked)) [
       | inl whole ↦ absurd (c.if-status-ne0.true whole.0)
       | inr (inl seven) ↦ inl seven
       | inr (inr six) ↦

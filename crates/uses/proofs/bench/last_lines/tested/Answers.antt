@@ -8,7 +8,7 @@ use Rattle.uses.proofs.bench.last_lines.tested.Goals as goal
 pub returns-in-0 : goal.returns-in-0
 returns-in-0 g c =
     let asked = ap form_of (ap texts_of c.deref.ensures.value ∙ c.in_ok-words.ensures) in
-    let w = (c.ask.ensures.of_keeps (codes "list") (codes "script") asked).said c.in-0.is in
+    let w = (c.ask.ensures.answered.of_keeps (codes "list") (codes "script") asked).said c.in-0.is in
     record {
       list = w.medl;
       script = w.right;
