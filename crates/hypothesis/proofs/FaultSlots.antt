@@ -46,7 +46,7 @@ too_early-many gap earliest slot (suc n) wide many =
 abbrev slots_of : List FaultyNode → List ℕ
 slots_of faulty = map (λ f. f.slot) faulty
 
-slots-all_in : (slot : ℕ) (ks : List ℕ) → slots_of (all_in slot ks) ≡ replicate (length ks) slot
+pub slots-all_in : (slot : ℕ) (ks : List ℕ) → slots_of (all_in slot ks) ≡ replicate (length ks) slot
 slots-all_in slot [] = refl
 slots-all_in slot (k ∷ ks) = ap (λ rest. slot ∷ rest) (slots-all_in slot ks)
 
@@ -57,7 +57,7 @@ reverse-replicate (suc n) slot =
     reverse_onto (replicate n slot) slot [] ∙ ap (λ rest. rest ++ slot ∷ []) (reverse-replicate n slot)
     ∙ replicate_more n slot ∙ ap (λ m. replicate m slot) next
 
-slots-later : (slot : ℕ) (ks : List ℕ) (faulty : List FaultyNode)
+pub slots-later : (slot : ℕ) (ks : List ℕ) (faulty : List FaultyNode)
     → reverse (slots_of (all_in slot ks ++ faulty)) ≡ reverse (slots_of faulty) ++ replicate (length ks) slot
 slots-later slot ks faulty =
     ap reverse (map-append (λ (f : FaultyNode). f.slot) (all_in slot ks) faulty)

@@ -6,7 +6,7 @@ use Rattle.hypothesis.proofs.Words.{filter-filter, Medl, Event, Script, ClusterS
 use Rattle.hypothesis.proofs.Words.{loss_in, jumpers_in, loses, expected_sender, is_other, others_in, is_breaking}
 use Rattle.hypothesis.proofs.Words.{jumps_now, IsValid, disturbance_broken, has_jump, jump_of, jump_in, is_on}
 use Rattle.hypothesis.proofs.Words.{is_ever_on, incidents_of, is_jump_within, IsOfKinds, may_lose, HaveSameNodes}
-use Rattle.hypothesis.proofs.Words.{AreFaultsIn}
+use Rattle.hypothesis.proofs.Words.{AreFaultsIn, nodes_made}
 use Rattle.std.specs.Prelude.{filter}
 use Rattle.std.proofs.lemmas.Bool.{or_parts}
 use Rattle.ttp_base.proofs.NodeLists.{filter-none}
@@ -123,10 +123,14 @@ loss-none list script start faulty slot none =
 
 -- a slot with neither loss nor jump leaves the faulty nodes as they are
 pub calm-faults : (list : Medl) (script : Script) (start : ClusterStart) (slot : ℕ) (before : List FaultyNode)
-    (faulty : List ℕ) → loss_in list script start (numbers_of before) slot ≡ Harmless
-    → jumpers_in list script (numbers_of before) slot ≡ [] → HaveSameNodes faulty (numbers_of before)
-    → AreFaultsIn list script start slot before (record { faulty = faulty; count = 0; breaks = false })
-calm-faults list script start slot before faulty loss jumpers same = record {
+    (faulty jumped made : List ℕ) → loss_in list script start (numbers_of before) slot ≡ Harmless
+    → jumpers_in list script (numbers_of before) slot ≡ [] → HaveSameNodes faulty (numbers_of before) → jumped ≡ []
+    → made ≡ [] → AreFaultsIn list script start slot before
+    (record { before = faulty; jumped = jumped; made = made; faulty = faulty; count = 0; breaks = false })
+calm-faults list script start slot before faulty jumped made loss jumpers same no_jump no_loss = record {
+  before = same;
+  jumped = no_jump ∙ sym jumpers;
+  made = no_loss ∙ sym (ap nodes_made loss);
   faulty = rw (loss, jumpers) same;
   count = rw (loss, jumpers) refl;
   breaks = sym (ap is_breaking loss);

@@ -25,7 +25,7 @@ one-fails p n k less fails = fails-range p 0 n k (omega arith) (omega arith) fai
 pub none-below : (p : ℕ → Bool) (n : ℕ) → ((k : ℕ) → k < n → p k ≡ false) → find p (below n) ≡ None
 none-below p n each = none-range p 0 n (λ k from to. each k (omega arith))
 
-first-range : (p : ℕ → Bool) (a n k : ℕ) → a ≤ k → k < a + n → ((j : ℕ) → a ≤ j → j < k → p j ≡ false) → p k ≡ true
+pub first-range : (p : ℕ → Bool) (a n k : ℕ) → a ≤ k → k < a + n → ((j : ℕ) → a ≤ j → j < k → p j ≡ false) → p k ≡ true
     → find p (range_with_len a n) ≡ Some k
 first-range p a zero k from to before passes = absurd (omega arith)
 first-range p a (suc n) k from to before passes = elim (cases_eq a k) [

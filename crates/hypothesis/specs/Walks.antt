@@ -67,12 +67,15 @@ back_course list script start = record {
 -- Slots.
 
 -- what a slot makes of the nodes that are faulty at its beginning
-pub record AreFaultsIn (list : Medl) (script : Script) (start : ClusterStart) (slot : ℕ) (before : List FaultyNode)
+pub record AreFaultsIn (list : Medl) (script : Script) (start : ClusterStart) (slot : ℕ) (those : List FaultyNode)
     (faults : SlotFaults) : Type 0 where
+  pub before : HaveSameNodes faults.before (numbers_of those)
+  pub jumped : faults.jumped ≡ jumpers_in list script (numbers_of those) slot
+  pub made : faults.made ≡ nodes_made (loss_in list script start (numbers_of those) slot)
   pub faulty : HaveSameNodes faults.faulty
-      (numbers_of (faulty_nodes_in list script start slot before ++ before))
-  pub count : faults.count ≡ length (made_in list script start slot before)
-  pub breaks : faults.breaks ≡ is_breaking (loss_in list script start (numbers_of before) slot)
+      (numbers_of (faulty_nodes_in list script start slot those ++ those))
+  pub count : faults.count ≡ length (made_in list script start slot those)
+  pub breaks : faults.breaks ≡ is_breaking (loss_in list script start (numbers_of those) slot)
 
 -- what it does in a course
 pub record AreFaultsOf (course : Course) (slot : ℕ) (faults : SlotFaults) : Type 0 where

@@ -24,8 +24,8 @@ use crate::start::Start;
 use ttp_base::NodeSet;
 use ttp_world::{Event, Kind, Medl, SLOT_LIMIT, Script};
 
-// Two rounds, in slots.
-fn two_rounds(list: &Medl) -> u32
+/// Two rounds, in slots.
+pub fn two_rounds(list: &Medl) -> u32
     requires { IsValid list.now }
     ensures { result ≡ two_rounds list.now }
 {
@@ -33,7 +33,7 @@ fn two_rounds(list: &Medl) -> u32
 }
 
 /// Four rounds, in slots.
-pub(crate) fn four_rounds(list: &Medl) -> u32
+pub fn four_rounds(list: &Medl) -> u32
     requires { IsValid list.now }
     ensures { result ≡ four_rounds list.now }
 {
@@ -88,8 +88,8 @@ fn is_arm_line(list: &Medl, slot: u32, event: &Event) -> bool
     }
 }
 
-// Whether there is one arm line alone in the four rounds from a slot on.
-fn is_only_arm(list: &Medl, script: &Script, slot: u32) -> bool
+/// Whether there is one arm line alone in the four rounds from a slot on. Goes over all events.
+pub fn is_only_arm(list: &Medl, script: &Script, slot: u32) -> bool
     requires valid { IsValid list.now }
     requires script { IsValidScript list.now script.now }
     requires slot { slot < script.now.slots }
@@ -165,8 +165,8 @@ fn is_sound(script: &Script, faulty: NodeSet, slot: u32, node: u8) -> bool
     script.is_on(node, slot) && !faulty.has(node)
 }
 
-// Whether a node that is not faulty hears nothing in a slot, where these are.
-fn is_deaf(script: &Script, faulty: NodeSet, slot: u32, node: u8) -> bool
+/// Whether a node that is on and not faulty hears nothing in a slot, where these are. Costs a look-up.
+pub fn is_deaf(script: &Script, faulty: NodeSet, slot: u32, node: u8) -> bool
     requires on { node < length script.now.on }
     requires node { node < most_nodes }
     ensures { result ≡ is_deaf script.now faulty slot node }
@@ -246,8 +246,8 @@ fn round_of(list: &Medl, start: Start, slot: u32) -> u8
     (turns / u64::from(list.nodes()) % u64::from(list.rounds)) as u8
 }
 
-// Whether another node that is not faulty sends a frame in a slot that can be joined on, where these are.
-fn offers_place(
+/// Whether another node that is not faulty sends a frame in a slot that can be joined on, where these are. A few steps.
+pub fn offers_place(
     list: &Medl,
     script: &Script,
     start: Start,
@@ -373,6 +373,7 @@ pub(crate) fn breaks_arm_in(
     list: &Medl,
     script: &Script,
     start: Start,
+    jumps: Jumps,
     newest: &NewestSlots,
     slot: u32,
     kept: &mut KeptIncidents,
@@ -382,12 +383,12 @@ pub(crate) fn breaks_arm_in(
     requires slot { slot < script.now.slots }
     requires come { HasRoundsFrom list.now script.now slot newest.now.end }
     requires newest { AreNewest list.now script.now (told_start start) newest.now }
-    requires inside { disturbance_broken list.now script.now ≡ None }
+    requires inside { jumps ≡ Jumps.Far → disturbance_broken list.now script.now ≡ None }
     requires kept { AreKeptFrom list.now script.now slot kept.old }
     ensures kept { AreKeptFrom list.now script.now (slot + 1) kept.new }
     ensures value { result ≡ breaks_arm_in list.now script.now (told_start start) slot }
 {
-    go_on(list, script, Jumps::Far, slot, kept);
+    go_on(list, script, jumps, slot, kept);
     if !kept.incidents.kinds.arm {
         return false;
     }

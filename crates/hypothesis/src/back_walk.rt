@@ -3,14 +3,14 @@ ghost use Rattle.std.specs.Prelude.{◌≡◌, ℕ, ◌+◌, ◌-◌, ◌*◌, �
 ghost use Rattle.ttp_base.specs.NodeSet.{most_nodes};
 ghost use Rattle.ttp_world.specs.Hypothesis.{start_of, numbers_of};
 ghost use Rattle.ttp_world.specs.Medl.{IsValid};
-ghost use Rattle.ttp_world.specs.Returning.{disturbance_broken, slots_before, faulty_since, breaks_back_in, arms_broken};
+ghost use Rattle.ttp_world.specs.Returning.{disturbance_broken, slots_before, faulty_since, faulty_at, breaks_back_in, arms_broken};
 ghost use Rattle.ttp_world.specs.Returning.{four_rounds, breaks_arm_in, unless_back, started_back};
 ghost use Rattle.ttp_world.specs.Script.{IsValidScript};
 ghost use Rattle.ttp_world.specs.declared.keep.Back.TheVariants as back;
 ghost use Rattle.hypothesis.specs.FaultySlots.{AreNewest};
 ghost use Rattle.hypothesis.specs.SlotIncidents.{AreKeptFrom};
 ghost use Rattle.hypothesis.specs.Standing.{told_start, HaveSameNodes};
-ghost use Rattle.hypothesis.specs.Walks.{back_course, AreFaultsOf, HasWalked};
+ghost use Rattle.hypothesis.specs.Walks.{back_course, AreFaultsIn, AreFaultsOf, HasWalked};
 
 use crate::arms::{breaks_arm_in, four_rounds};
 use crate::forgiven::{faulty_then, stayed_in};
@@ -45,6 +45,8 @@ pub(crate) fn back_faults_in(
     ensures end { newest.new.end ≡ newest.old.end + 1 }
     ensures newest { AreNewest list.now script.now (told_start start) newest.new }
     ensures faults { AreFaultsOf (back_course list.now script.now (told_start start)) newest.old.end result }
+    ensures nodes { AreFaultsIn list.now script.now (told_start start) newest.old.end
+        (faulty_at list.now script.now (told_start start) newest.old.end) result }
 {
     let slot = newest.end;
     let rounds = four_rounds(list);
@@ -98,6 +100,7 @@ fn late_arms_broken(
     list: &Medl,
     script: &Script,
     start: Start,
+    jumps: Jumps,
     newest: &NewestSlots,
     kept: &mut KeptIncidents,
 ) -> Option<u32>
@@ -105,7 +108,7 @@ fn late_arms_broken(
     requires script { IsValidScript list.now script.now }
     requires end { newest.now.end ≡ script.now.slots }
     requires newest { AreNewest list.now script.now (told_start start) newest.now }
-    requires inside { disturbance_broken list.now script.now ≡ None }
+    requires inside { jumps ≡ Jumps.Far → disturbance_broken list.now script.now ≡ None }
     requires kept { AreKeptFrom list.now script.now (script.now.slots + 1 - four_rounds list.now) kept.old }
     requires before { (t : ℕ) → t + four_rounds list.now ≤ script.now.slots
         → breaks_arm_in list.now script.now (told_start start) t ≡ false }
@@ -113,19 +116,19 @@ fn late_arms_broken(
 {
     let from = (script.slots + 1).saturating_sub(four_rounds(list));
     for slot in from..script.slots {
-        if breaks_arm_in(list, script, start, newest, slot, kept) {
+        if breaks_arm_in(list, script, start, jumps, newest, slot, kept) {
             return Some(slot);
         }
     }
     None
 }
 
-// The first slot with a node that is armed and does not meet what is asked of it. Each is asked about once
-// four rounds from it on have come, or the run has ended.
-fn arms_broken(list: &Medl, script: &Script, start: Start) -> Option<u32>
+/// The first slot with a node that is armed and does not meet what is asked of it. Each is asked about once
+/// four rounds from it on have come, or the run has ended.
+pub(crate) fn arms_broken(list: &Medl, script: &Script, start: Start, jumps: Jumps) -> Option<u32>
     requires valid { IsValid list.now }
     requires script { IsValidScript list.now script.now }
-    requires inside { disturbance_broken list.now script.now ≡ None }
+    requires inside { jumps ≡ Jumps.Far → disturbance_broken list.now script.now ≡ None }
     ensures { result ≡ arms_broken list.now script.now (told_start start) }
 {
     let rounds = four_rounds(list);
@@ -134,22 +137,23 @@ fn arms_broken(list: &Medl, script: &Script, start: Start) -> Option<u32>
     let mut kept = nothing_kept();
     let mut arms = nothing_kept();
     for slot in 0..script.slots {
-        faulty = back_faults_in(
-            list,
-            script,
-            start,
-            Jumps::Far,
-            &mut newest,
-            faulty,
-            &mut kept,
-        )
-        .faulty;
+        faulty = back_faults_in(list, script, start, jumps, &mut newest, faulty, &mut kept).faulty;
         let has_come = slot + 1 >= rounds;
-        if has_come && breaks_arm_in(list, script, start, &newest, slot + 1 - rounds, &mut arms) {
+        if has_come
+            && breaks_arm_in(
+                list,
+                script,
+                start,
+                jumps,
+                &newest,
+                slot + 1 - rounds,
+                &mut arms,
+            )
+        {
             return Some(slot + 1 - rounds);
         }
     }
-    late_arms_broken(list, script, start, &newest, &mut arms)
+    late_arms_broken(list, script, start, jumps, &newest, &mut arms)
 }
 
 // What a walk over the whole run says of the rules on the distances of faults, on nodes to measure and on
@@ -167,7 +171,7 @@ fn walked_back(list: &Medl, script: &Script, start: Start, walk: Walk) -> Back
     if let Some(slot) = walk.unsteady {
         return Back::No { rule: 7, slot };
     }
-    match arms_broken(list, script, start) {
+    match arms_broken(list, script, start, Jumps::Far) {
         Some(slot) => Back::No { rule: 8, slot },
         None => Back::Yes { start: start.slot },
     }

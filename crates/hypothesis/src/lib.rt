@@ -11,9 +11,10 @@
 //! ```
 //!
 //! Beside it stand the questions that other tests of scripts ask as well: the start, the sender that is due,
-//! drifts and reading errors within their bounds, and nodes to measure clocks by. [`KeptFaulty`] and
-//! [`BackFaulty`] go over a run slot by slot and tell who is faulty after each, by the one test and by the
-//! other, also where a rule is broken.
+//! drifts and reading errors within their bounds, nodes to measure clocks by, and parts of what an arm line
+//! meets. [`KeptFaulty`] and [`BackFaulty`] go over a run slot by slot and tell who is faulty after each, by
+//! the one test and by the other, also where a rule is broken; the second also tells what a slot makes of the
+//! nodes. [`first_broken_arm`] finds the slot of the rule on arm lines, whichever others are broken.
 //!
 //! A rule is told only where each rule before it holds in the whole run. The rules have a file each, and
 //! `src/walk.rt` goes over the slots once for those on losses, distances and nodes to measure; it keeps the
@@ -55,15 +56,17 @@ mod steady;
 mod walk;
 
 pub use crate::armed::has_arm;
+pub use crate::arms::{four_rounds, is_deaf, is_only_arm, offers_place, two_rounds};
 use crate::back_walk::started_back;
 pub use crate::clocks::{drifts_hold, errors_hold_within};
 use crate::clocks::{back_window_broken, clocks_broken, window_broken};
-pub use crate::faulty::{BackFaulty, KeptFaulty};
-pub use crate::losses::expected_sender;
+pub use crate::faulty::{BackFaulty, KeptFaulty, first_broken_arm};
+pub use crate::losses::{expected_sender, is_lost};
 pub use crate::nodes::lesser;
 use crate::outside::{disturbance_broken, outside_broken};
 pub use crate::start::{Start, sole_start, start_of};
-pub use crate::steady::has_four_steady;
+pub use crate::steady::{has_four_steady, is_steady};
+pub use crate::walk::SlotFaults;
 use crate::walk::started_keep;
 use ttp_world::{Back, Keep, Medl, Script};
 

@@ -30,8 +30,8 @@ pub(crate) enum SlotLoss {
     Breaks,
 }
 
-// Whether a frame is lost on both channels, where this happens to its sender and that to its receiver.
-fn is_lost(sending: &Incidents, hearing: &Incidents) -> bool
+/// Whether a frame is lost on both channels, where this happens to its sender and that to its receiver.
+pub fn is_lost(sending: &Incidents, hearing: &Incidents) -> bool
     ensures { (script : Script) (sender slot receiver : ℕ) → sending.now ≡ incidents_of script sender slot
         → hearing.now ≡ incidents_of script receiver slot → result ≡ loses script sender slot receiver }
 {

@@ -12,8 +12,8 @@ use crate::start::{Start, is_ever_on};
 use ttp_base::NodeSet;
 use ttp_world::{Medl, SLOT_LIMIT, Script};
 
-// Whether a node with `sync` is ever on and not faulty.
-fn is_steady(list: &Medl, script: &Script, faulty: NodeSet, node: u8) -> bool
+/// Whether a node with `sync` is ever on and not faulty, where these are.
+pub fn is_steady(list: &Medl, script: &Script, faulty: NodeSet, node: u8) -> bool
     requires valid { IsValid list.now }
     requires script { IsValidScript list.now script.now }
     requires node { node < length list.now.slots }

@@ -21,13 +21,18 @@ use ttp_world::{Keep, Medl, SLOT_LIMIT, Script};
 
 /// What a slot makes of the faulty nodes.
 #[derive(Clone, Copy)]
-pub(crate) struct SlotFaults {
+pub struct SlotFaults {
+    /// The nodes that are faulty at its beginning.
+    pub before: NodeSet,
+    /// Those that become faulty in it since their clocks jump, and the one that does so by a loss, if one does.
+    pub jumped: NodeSet,
+    pub made: NodeSet,
     /// The faulty nodes after the slot.
-    pub(crate) faulty: NodeSet,
+    pub faulty: NodeSet,
     /// How many became faulty in it.
-    pub(crate) count: u8,
+    pub count: u8,
     /// Whether its losses are those of more than one fault.
-    pub(crate) breaks: bool,
+    pub breaks: bool,
 }
 
 /// What the slots so far have shown.
@@ -66,6 +71,9 @@ fn faults_of(
     let loss = loss_in(list, script, start, incidents, fallen, slot);
     let made = nodes_made(loss);
     SlotFaults {
+        before: faulty,
+        jumped: jumpers,
+        made,
         faulty: united(made, fallen),
         count: made.count() + jumpers.count(),
         breaks: is_breaking(loss),
@@ -94,6 +102,9 @@ pub(crate) fn faults_in(
     go_on(list, script, jumps, slot, kept);
     if is_calm(list, start, kept, slot) {
         return SlotFaults {
+            before: faulty,
+            jumped: NodeSet::empty(),
+            made: NodeSet::empty(),
             faulty,
             count: 0,
             breaks: false,

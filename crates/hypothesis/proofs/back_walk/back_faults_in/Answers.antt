@@ -23,4 +23,5 @@ returns c =
           (record { stayed = stayed; joined = made.count });
       end = search rules;
       faults = back-faults list script start slot c.faults_in-faults.result made;
+      nodes = made;
     }

@@ -10,7 +10,8 @@ returns-then-is_calm c =
       kept = λ t from. c.go_on.ensures.later t (omega (arith, from));
       faults = λ before same.
           let calm = c.is_calm.ensures script (numbers_of before) c.go_on.ensures.now c.if-is_calm.true in
-          calm-faults list script (told_start c.args.start) c.args.slot before c.args.faulty calm.0 calm.1 same;
+          calm-faults list script (told_start c.args.start) c.args.slot before c.args.faulty c.empty.result
+          c.empty-then-is_calm.result calm.0 calm.1 same c.empty.ensures c.empty-then-is_calm.ensures;
     }
 
 pub returns-clause-kept : goal.returns-clause-kept

@@ -37,12 +37,16 @@ returns c = λ so_far same.
     c.loss_in-loss.ensures.value ∙ same_loss list script start before c.united-fallen.result slot few
     (sender-small list start slot c.requires.valid) fell in
     let made = c.nodes_made-made.ensures ∙ ap nodes_made loss in
+    let jumped = c.jumpers_in-jumpers.ensures ∙ same_jumpers list script c.args.faulty before slot few same in
     record {
+      before = same;
+      jumped = jumped;
+      made = made;
       faulty =
           faulty-next list script start slot so_far c.nodes_made-made.result c.united-fallen.result c.united.result
           made fell c.united.ensures;
       count = (λ i. c.count.ensures i + c.count-2.ensures i)
           ∙ count-next list script start slot so_far c.nodes_made-made.result c.jumpers_in-jumpers.result made
-          (c.jumpers_in-jumpers.ensures ∙ same_jumpers list script c.args.faulty before slot few same);
+          jumped;
       breaks = c.is_breaking.ensures ∙ ap is_breaking loss;
     }
