@@ -24,7 +24,7 @@ use Rattle.commands.proofs.Lines.{AreOfLines, IsFinal, SaysLine, one_text, lines
 use Rattle.commands.proofs.Lines.{refused_list-final, refused_script-final}
 use Rattle.commands.proofs.Plans.{Every, list_every, both_every}
 use Rattle.lab_top.specs.declared.refusal.TextFault.{TextFault}
-use Rattle.lab_top.specs.Forms.{lab_usage_line, viewed_ending, view_plan, campaign_ending, campaign_plan, script_ending}
+use Rattle.lab_top.specs.Forms.{lab_usage_line, viewed_ending, view_plan, lines_ending, lines_plan, script_ending}
 use Rattle.lab_top.specs.Forms.{script_form_plan, frames_ending, frames_plan, lab_plan_of}
 use Rattle.lab_top.specs.Frames.{frames_named}
 use Rattle.lab_top.specs.Help.{help_lines, version_line}
@@ -32,7 +32,7 @@ use Rattle.lab_top.specs.Refusals.{text_fault_line}
 use Rattle.lab_top.specs.Texts.{begun, differences, LabEnding, ttplab}
 use Rattle.lab_top.specs.Views.{View, viewed, wave_view, picture_view, chart_view}
 use Rattle.lab_top.specs.Words.{LabForm, wave, picture, campaign, chart, frames, script_by, help, version}
-use Rattle.lab_top.specs.Words.{is_campaign, is_frames, reads_list}
+use Rattle.lab_top.specs.Words.{may_be_begun, is_frames, reads_list}
 use Rattle.lab_top.proofs.CampaignLines.{campaign_lines-each}
 use Rattle.lab_top.proofs.Differences.{differences-each}
 use Rattle.lab_top.proofs.FrameLines.{frame_lines-each}
@@ -48,8 +48,8 @@ pub record IsOfForm (form : Option LabForm) (ending : LabEnding) : Type 0 where
   pub differs : ending.status ≡ 1 → is_frames form ≡ true
   -- only forms that read a list refuse one
   pub lists : ending.status ≡ 3 → reads_list form ≡ true
-  -- but for a campaign, nothing stands where memory is refused
-  pub lets : is_campaign form ≡ false → ending.unfinished ≡ no_texts
+  -- but for a form that writes lines of a list and a script, nothing stands where memory is refused
+  pub lets : may_be_begun form ≡ false → ending.unfinished ≡ no_texts
 
 -- each line of a view of what a text is taken for is one line, and so is the line that refuses a text
 record IsOfLines {Value : Type 0} (view : View Value) : Type 0 where
@@ -103,33 +103,27 @@ no_script form fault = record {
   lets = λ other. refl;
 }
 
--- a campaign is made of lines, and so are its first ones
+-- lines of a list and a script are lines, and so are the first ones
+
 begun-each : (text : Lines) → AreLines text → AreOfLines ttplab (those (begun text))
 begun-each text each lines some = lines_front lines (some.next ∷ some.rest) (subst AreLines some.begins each)
 
-campaign_ends : (list script : List ℕ) (first last : ℕ) (medl : Medl) (right : Script)
-    → IsOfForm (Some (campaign list script first last)) (campaign_ending medl right first last)
-campaign_ends list script first last medl right =
-    let text = campaign_lines medl right first last in
-    let each = campaign_lines-each medl right first last in
-    record {
-      final = record {
-        status = omega arith;
-        texts = one_text ttplab text each;
-        unfinished = begun-each text each;
-      };
-      usage = λ two. absurd (omega (arith, two));
-      differs = λ one. absurd (omega (arith, one));
-      lists = λ three. refl;
-      lets = λ other. absurd (cc);
-    }
+lines_ends : (form : Option LabForm) → may_be_begun form ≡ true → (text : Lines) → AreLines text
+    → IsOfForm form (lines_ending text)
+lines_ends form may text each = record {
+  final = record { status = omega arith; texts = one_text ttplab text each; unfinished = begun-each text each };
+  usage = λ two. absurd (omega (arith, two));
+  differs = λ one. absurd (omega (arith, one));
+  lists = λ three. absurd (omega (arith, three));
+  lets = λ other. absurd (cc);
+}
 
-of_campaign : (list script : List ℕ) (first last : ℕ)
-    → Every (IsOfForm (Some (campaign list script first last))) SaysLine (campaign_plan list script first last)
-of_campaign list script first last =
-    let form = Some (campaign list script first last) in
-    both_every (IsOfForm form) SaysLine list script (λ medl right. ends (campaign_ending medl right first last)) refl refl
-    (no_list form refl) (no_script form) (campaign_ends list script first last)
+of_both : (form : Option LabForm) → may_be_begun form ≡ true → reads_list form ≡ true → (lines : Medl → Script → Lines)
+    → ((medl : Medl) (right : Script) → AreLines (lines medl right)) → (list script : List ℕ)
+    → Every (IsOfForm form) SaysLine (lines_plan lines list script)
+of_both form may reads lines each list script =
+    both_every (IsOfForm form) SaysLine list script (λ medl right. ends (lines_ending (lines medl right))) refl refl
+    (no_list form reads) (no_script form) (λ medl right. lines_ends form may (lines medl right) (each medl right))
 
 -- lines that are written whole
 of_lines : (form : Option LabForm) (text : Lines) → AreLines text → IsOfForm form (whole_ending 0 (one text))
@@ -210,7 +204,9 @@ lab_forms (Some (wave trace)) =
 lab_forms (Some (picture trace asked)) =
     of_view (Some (picture trace asked)) (picture_view asked) trace
     (record { plain = refl; each = λ text whole is. picture_lines-each whole asked })
-lab_forms (Some (campaign list script first last)) = of_campaign list script first last
+lab_forms (Some (campaign list script first last)) =
+    of_both (Some (campaign list script first last)) refl refl (λ medl right. campaign_lines medl right first last)
+    (λ medl right. campaign_lines-each medl right first last) list script
 lab_forms (Some (chart name asked)) =
     of_view (Some (chart name asked)) (chart_view asked) name
     (record { plain = refl; each = λ text whole is. (campaign-draws text whole asked is).each })

@@ -9,6 +9,7 @@ pub mod Forms
 pub mod Promises
 pub mod Views
 pub mod RefusedFiles
+pub mod LinesPromises
 pub mod CampaignPromises
 pub mod Fronts
 pub mod FramesPromises

@@ -11,7 +11,7 @@ use Rattle.commands.proofs.Promises.{wrote_nothing, promise}
 use Rattle.lab_top.specs.Forms.{lab_plan_of}
 use Rattle.lab_top.specs.Promise.{LabPromise}
 use Rattle.lab_top.specs.Texts.{LabSets, LabAnswer, ttplab}
-use Rattle.lab_top.specs.Words.{LabForm, is_campaign}
+use Rattle.lab_top.specs.Words.{LabForm, may_be_begun}
 use Rattle.lab_top.proofs.Forms.{IsOfForm, lab_forms}
 
 module _ (form : Option LabForm) (before now : Outside) (answer : LabAnswer)
@@ -23,7 +23,7 @@ module _ (form : Option LabForm) (before now : Outside) (answer : LabAnswer)
       all_come (IsOfForm form) SaysLine before.files.held (lab_plan_of form) call.loads final.0 (lab_forms form)
       final.1.comes
 
-  empty_of : is_campaign form ≡ false → IsUnfinished ttplab (lab_plan_of form) before now call.loads
+  empty_of : may_be_begun form ≡ false → IsUnfinished ttplab (lab_plan_of form) before now call.loads
       → Wrote before.output now.output []
   empty_of other (inl none) = none
   empty_of other (inr some) =

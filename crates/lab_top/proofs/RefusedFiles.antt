@@ -19,7 +19,7 @@ use Rattle.commands.proofs.Fronts.{list_from-front, script_from-front}
 use Rattle.commands.proofs.Plans.{Every, all_come, end_comes, told_comes}
 use Rattle.commands.proofs.Promises.{wrote_nothing}
 use Rattle.commands.proofs.Told.{Quiet}
-use Rattle.lab_top.specs.CampaignPromise.{ToldList, ToldScript}
+use Rattle.lab_top.specs.LinesPromise.{ToldList, ToldScript}
 use Rattle.lab_top.specs.Texts.{LabEnding, LabPlan, LabAnswer, ttplab}
 use Rattle.lab_top.specs.ViewPromise.{HoldsText, WroteOrNone}
 

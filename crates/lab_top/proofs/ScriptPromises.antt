@@ -17,7 +17,7 @@ use Rattle.commands.proofs.Fronts.{list_from-front}
 use Rattle.commands.proofs.Plans.{AllAsk, list_every, end_comes}
 use Rattle.commands.proofs.Right.{right_list, may_be}
 use Rattle.commands.proofs.Told.{Quiet, told_shows, told_cut}
-use Rattle.lab_top.specs.CampaignPromise.{ToldList}
+use Rattle.lab_top.specs.LinesPromise.{ToldList}
 use Rattle.lab_top.specs.Forms.{script_ending, script_form_plan}
 use Rattle.lab_top.specs.ScriptPromise.{WroteScript, ScriptPromise}
 use Rattle.lab_top.specs.Texts.{LabEnding, LabPlan, LabAnswer, ttplab}

@@ -1,5 +1,6 @@
 -- What each form of `ttplab` asks for, and how it ends.
 use Rattle.std.specs.Prelude.{ℕ, List, ◌++◌, Option, Some, None, Result, Ok, Err, codes, if◌then◌else◌}
+use Rattle.ttp_base.specs.Text.{Lines}
 use Rattle.ttp_world.specs.declared.medl.Medl.{Medl}
 use Rattle.ttp_world.specs.declared.script.Script.{Script}
 use Rattle.campaign.specs.Lines.{campaign_lines}
@@ -32,16 +33,13 @@ viewed_ending view (Err fault) = said_ending (refused_text view.kind fault)
 abbrev pub view_plan : {Value : Type 0} → View Value → List ℕ → LabPlan
 view_plan view name = asks (text_file view.kind name) (λ text. ends (viewed_ending view (viewed view text)))
 
--- a campaign ends with its lines, and takes memory before each
-abbrev pub campaign_ending : Medl → Script → ℕ → ℕ → LabEnding
-campaign_ending medl right first last =
-    let lines = campaign_lines medl right first last in
-    record { status = 0; texts = one lines; unfinished = those (begun lines) }
+-- what writes lines of a list and a script ends with them, and takes memory before each
+abbrev pub lines_ending : Lines → LabEnding
+lines_ending lines = record { status = 0; texts = one lines; unfinished = those (begun lines) }
 
 -- it asks for the list and the script
-abbrev pub campaign_plan : List ℕ → List ℕ → ℕ → ℕ → LabPlan
-campaign_plan list script first last =
-    both_plan list script (λ medl right. ends (campaign_ending medl right first last))
+abbrev pub lines_plan : (Medl → Script → Lines) → List ℕ → List ℕ → LabPlan
+lines_plan lines list script = both_plan list script (λ medl right. ends (lines_ending (lines medl right)))
 
 -- the frames of a text that is a trace of a list and a script; else the line that names the first wrong one
 abbrev pub frames_ending : Medl → Script → List ℕ → LabEnding
@@ -72,7 +70,8 @@ abbrev pub lab_plan_of : Option LabForm → LabPlan
 lab_plan_of None = ends (line_ending 2 lab_usage_line)
 lab_plan_of (Some (wave trace)) = view_plan wave_view trace
 lab_plan_of (Some (picture trace asked)) = view_plan (picture_view asked) trace
-lab_plan_of (Some (campaign list script first last)) = campaign_plan list script first last
+lab_plan_of (Some (campaign list script first last)) =
+    lines_plan (λ medl right. campaign_lines medl right first last) list script
 lab_plan_of (Some (chart name asked)) = view_plan (chart_view asked) name
 lab_plan_of (Some (frames list script trace)) = frames_plan list script trace
 lab_plan_of (Some (script_by list slots number)) = script_form_plan list slots number

@@ -11,7 +11,7 @@ use Rattle.commands.specs.Faults.{file_fault_line}
 use Rattle.commands.specs.Plan.{Outside}
 use Rattle.commands.specs.Read.{list_from, script_from}
 use Rattle.commands.specs.Right.{MayBe, AreTold}
-use Rattle.lab_top.specs.CampaignPromise.{MayBeBoth, ToldList, ToldScript}
+use Rattle.lab_top.specs.LinesPromise.{MayBeBoth, ToldList, ToldScript}
 use Rattle.lab_top.specs.Frames.{frames_named, IsDifference}
 use Rattle.lab_top.specs.ViewPromise.{HoldsText, WroteOrNone}
 

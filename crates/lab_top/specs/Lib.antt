@@ -7,6 +7,7 @@ pub mod Texts
 pub mod Forms
 pub mod Promise
 pub mod ViewPromise
+pub mod LinesPromise
 pub mod CampaignPromise
 pub mod FramesPromise
 pub mod ScriptPromise

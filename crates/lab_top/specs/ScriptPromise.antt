@@ -9,7 +9,7 @@ use Rattle.commands.specs.Faults.{file_fault_line}
 use Rattle.commands.specs.Plan.{Outside}
 use Rattle.commands.specs.Read.{list_from}
 use Rattle.commands.specs.Right.{MayBe}
-use Rattle.lab_top.specs.CampaignPromise.{ToldList}
+use Rattle.lab_top.specs.LinesPromise.{ToldList}
 use Rattle.lab_top.specs.ViewPromise.{HoldsText, WroteOrNone}
 
 -- the text was written of the script that the number gives for a list that the file of this name may be

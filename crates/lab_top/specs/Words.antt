@@ -27,9 +27,10 @@ pub data LabForm : Type 0 where
   help : LabForm
   version : LabForm
 
-abbrev pub is_campaign : Option LabForm → Bool
-is_campaign (Some (campaign list script first last)) = true
-is_campaign _ = false
+-- the forms of which want of memory may leave some first lines
+abbrev pub may_be_begun : Option LabForm → Bool
+may_be_begun (Some (campaign list script first last)) = true
+may_be_begun _ = false
 
 -- a form is that of `frames`
 abbrev pub is_frames : Option LabForm → Bool

@@ -10,7 +10,8 @@
 //! ```
 //!
 //! A contract sees the call as the plan of its form (`specs/Forms.antt`), which commands carries out, and each form has a promise
-//! in its own words: the views of `specs/Views.antt` in `ViewPromise`, a campaign in `CampaignPromise`, frames in `FramesPromise`.
+//! in its own words: the views of `specs/Views.antt` in `ViewPromise`, a campaign in `CampaignPromise`, of which `LinesPromise` holds
+//! of each form that writes lines of a list and a script, frames in `FramesPromise`.
 //!
 //! It shows traces and campaigns, and knows nothing of what is right in one: it takes a text for one by its form. It has the
 //! crates below run campaigns, and say whether a text is the trace of a run, and knows nothing of what a node does. It never opens a file and never prints: that is the
@@ -18,6 +19,7 @@
 //! of at most 134,217,728 bytes it holds what the form needs, which doesn't grow with the text.
 #![tactic(auto)]
 
+mod both;
 mod call;
 mod chart;
 mod faults;

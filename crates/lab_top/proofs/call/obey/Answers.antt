@@ -15,3 +15,6 @@ pub returns-in-Version-clause-follows : goal.returns-in-Version-clause-follows
 returns-in-Version-clause-follows g c =
     let told = rw c.as_bytes.ensures.value at c.say.ensures in
     rw c.in-Version.is (refl, inl (said ttplab (notice 0 version_line) _ _ c.say.result told))
+
+pub returns-in-Campaign-clause-follows : goal.returns-in-Campaign-clause-follows
+returns-in-Campaign-clause-follows g c = rw c.in-Campaign.is c.campaign.ensures
