@@ -1,15 +1,13 @@
 -- Counts of pairs: the classes make up all of them, and two lists what both have.
 use Rattle.std.proofs.Common.{◌≡◌, ℕ, ◌+◌, Bool, true, false, cond, not, List, [], ◌∷◌, ◌++◌, refl, sym, ap, ◌∙◌}
-use Rattle.std.proofs.Common.{arith, length, length-append, map, append-nil}
+use Rattle.std.proofs.Common.{arith, length, length-append, map}
 use Rattle.std.specs.Prelude.{count_by, filter, flat_map}
-use Rattle.std.proofs.lemmas.List.Elements.{filter-append}
 use Rattle.std.proofs.lemmas.List.Sums.{sum_by-append, sum_by-cons}
 use Rattle.fault_pairs.specs.declared.pair.PairClass.{PairClass}
 use Rattle.fault_pairs.specs.declared.pair.PairClass.TheVariants as class
-use Rattle.fault_pairs.specs.declared.pair.PairCounts.{PairCounts}
 use Rattle.fault_pairs.specs.Classes.{is_sum, is_less, is_own, is_divided, is_third, is_torn_pair, is_dead_pair}
-use Rattle.fault_pairs.specs.Sums.{PairTold, pair_counts, told_apart, told_kept, told_broken}
-use Rattle.pair_laws.specs.Added.{counts_of_both, sum_of_counts, classes_sum, no_pairs}
+use Rattle.fault_pairs.specs.Sums.{PairTold, pair_counts}
+use Rattle.pair_laws.specs.Added.{counts_of_both, sum_of_counts, classes_sum}
 
 -- Each pair is of one class.
 

@@ -1,5 +1,5 @@
 -- The first faults of a range of slots, and how far their second ones are apart.
-use Rattle.std.proofs.Common.{◌≡◌, ℕ, suc, ◌+◌, ◌-◌, ◌<◌, ◌≤◌, Bool, true, false, cond, ◌&&◌, List, [], ◌∷◌, ◌++◌, refl, sym, ap}
+use Rattle.std.proofs.Common.{◌≡◌, ℕ, suc, ◌+◌, ◌-◌, ◌<◌, ◌≤◌, Bool, true, false, cond, ◌&&◌, List, [], ◌∷◌, ◌++◌, refl, ap}
 use Rattle.std.proofs.Common.{◌∙◌, arith, map, min}
 use Rattle.std.specs.Prelude.{nat_le, filter, flat_map}
 use Rattle.std.specs.List.{AllByRecursion}
@@ -12,9 +12,9 @@ use Rattle.ttp_world.specs.declared.medl.Medl.{Medl}
 use Rattle.ttp_world.specs.declared.script.Event.{Event}
 use Rattle.ttp_world.specs.declared.script.Script.{Script}
 use Rattle.ttp_world.specs.Diary.{History}
-use Rattle.campaign.specs.Tried.{with_fault, faults_in, row_of, slots_between, faults_from}
+use Rattle.campaign.specs.Tried.{with_fault, faults_in, row_of, slots_between}
 use Rattle.campaign.specs.ZerosWorld.{zeros_world}
-use Rattle.fault_pairs.specs.Pairs.{FirstFault, SecondFault, firsts_among, firsts_in, firsts_from}
+use Rattle.fault_pairs.specs.Pairs.{FirstFault, SecondFault, firsts_among, firsts_in}
 use Rattle.fault_pairs.specs.Pairs.{second_apart, seconds_beside, seconds_in, seconds_behind, seconds_of}
 use Rattle.fault_pairs.specs.Sums.{PairTold}
 use Rattle.pair_laws.specs.Ranges.{firsts_of_range, pairs_of_first, pairs_of_range}
