@@ -1,0 +1,4 @@
+pub mod Pairs
+pub mod Classes
+pub mod Sums
+pub mod PairText

@@ -1,0 +1,5 @@
+mod Counted
+mod Joined
+mod Distances
+mod Firsts
+mod Kept

@@ -1,0 +1,4 @@
+pub mod Clusters
+pub mod Told
+pub mod Texts
+pub mod Given
