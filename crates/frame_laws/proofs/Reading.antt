@@ -111,10 +111,6 @@ state-bytes width c =
     (all-append (time ++ round) slot (all-append time round (bytes-are 2 c.time) (bytes-are 1 c.round)) (bytes-are 1 c.slot))
     (bytes-are width (set_bits c.members))
 
-width-few : (wide : Bool) → member_bytes wide ≤ 3
-width-few true = omega arith
-width-few false = omega arith
-
 -- Texts.
 
 some-spaced : (bytes : List ℕ) → (length bytes == 0) ≡ false → spaced bytes ≡ codes " " ++ hex_bytes bytes
@@ -123,8 +119,10 @@ some-spaced bytes some = ap (λ b. cond b [] (codes " " ++ hex_bytes bytes)) som
 none-spaced : (bytes : List ℕ) → (length bytes == 0) ≡ true → spaced bytes ≡ []
 none-spaced bytes none = ap (λ b. cond b [] (codes " " ++ hex_bytes bytes)) none
 
-four : (a b c d e : List ℕ) → a ++ b ++ c ++ d ++ e ≡ a ++ (b ++ (c ++ (d ++ e)))
-four a b c d e = simp append_assoc
+words-nested : (parts : FrameParts)
+    → spaced parts.header ++ spaced parts.state ++ spaced parts.load ++ spaced parts.check ++ newline
+    ≡ spaced parts.header ++ (spaced parts.state ++ (spaced parts.load ++ (spaced parts.check ++ newline)))
+words-nested parts = simp append_assoc
 
 spell-on : (bytes more : List ℕ) → codes " " ++ hex_bytes bytes ++ more ≡ codes " " ++ (hex_bytes bytes ++ more)
 spell-on bytes more = append_assoc (codes " ") (hex_bytes bytes) more
@@ -134,7 +132,7 @@ byte-text : (stated loaded : Bool) (parts : FrameParts) → (length parts.header
     → spaced parts.header ++ spaced parts.state ++ spaced parts.load ++ spaced parts.check ++ newline
     ≡ spelled_before newline (byte_form stated loaded) (byte_values stated loaded parts)
 byte-text stated loaded parts header state load check =
-    four (spaced parts.header) (spaced parts.state) (spaced parts.load) (spaced parts.check) newline
+    words-nested parts
     ∙ (λ i. some-spaced parts.header header i ++ (spaced parts.state ++ (spaced parts.load
     ++ (some-spaced parts.check check i ++ newline))))
     ∙ by-parts stated loaded state load
@@ -188,9 +186,10 @@ both-ways : (b : Bool) → b ≡ not (not b)
 both-ways true = refl
 both-ways false = refl
 
-carried-few : (stated : Bool) (width : ℕ) → width ≤ 3 → cond stated (4 + width) 0 ≤ 7
-carried-few true width few = omega (arith, few)
-carried-few false width few = omega arith
+carried-few : (stated wide : Bool) → cond stated (4 + member_bytes wide) 0 ≤ 7
+carried-few true true = omega arith
+carried-few true false = omega arith
+carried-few false wide = omega arith
 
 carried-none : (stated : Bool) (width : ℕ) → (cond stated (4 + width) 0 == 0) ≡ not stated
 carried-none true width = positive (4 + width) (omega arith)
@@ -230,15 +229,15 @@ fits-payload : (most : ℕ) (bytes : List ℕ) → length bytes ≤ most → lis
     → fits_kind (payload most) bytes ≡ true
 fits-payload most bytes few are = both_true (nat_le (length bytes) most) (list_all is_byte bytes) (is_le (length bytes) most few) are
 
-module _ (width header size : ℕ) (parts : FrameParts) (are : AreParts width header size parts) (few : size ≤ 240)
-    (width_few : width ≤ 3) where
+module _ (wide : Bool) (header size : ℕ) (parts : FrameParts) (are : AreParts (member_bytes wide) header size parts)
+    (few : size ≤ 240) where
   header_fits : fits_kind (payload 1) parts.header ≡ true
   header_fits = let n = are.header_long in fits-payload 1 parts.header (omega (arith, n)) are.header_bytes
 
   state_fits : fits_kind (payload 7) parts.state ≡ true
   state_fits =
       let n = are.state_long in
-      let short = carried-few (is_explicit header) width width_few in
+      let short = carried-few (is_explicit header) wide in
       fits-payload 7 parts.state (omega (arith, n, short)) are.state_bytes
 
   load_fits : fits_kind (payload 240) parts.load ≡ true
@@ -276,7 +275,7 @@ module _ (list : Medl) (slot : ℕ) (c : Channel) (sending : Sending) (bytes : L
       let m = match_of (is_wide list) bytes sending.header sending.size list.schedule sending.state in
       let state = cstate_bytes (member_width list) sending.state in
       let long = length-cstate_bytes (member_width list) sending.state in
-      let short = width-few (is_wide list) in
+      let short = carried-few true (is_wide list) in
       rw (
         is_lt slot 100000 told.slot_few,
         letter-few c,
@@ -285,8 +284,8 @@ module _ (list : Medl) (slot : ℕ) (c : Channel) (sending : Sending) (bytes : L
         match-few m,
         is_lt (unsigned_abs sending.clock) (10 ^ 18) told.clock,
         fits-payload 7 state (omega (arith, long, short)) (state-bytes (member_width list) sending.state),
-        fits-parts (member_width list) sending.header sending.size
-            (frame_parts (member_width list) sending.header sending.size bytes) are told.size short (is_explicit sending.header)
+        fits-parts (is_wide list) sending.header sending.size
+            (frame_parts (member_width list) sending.header sending.size bytes) are told.size (is_explicit sending.header)
             (not (sending.size == 0)),
       ) refl
 
