@@ -42,10 +42,6 @@ place-here p n all x left rest is here known =
     ap (position_or_len p) is ∙ ap (λ (b : Bool). cond (not b) (1 + position_or_len p rest) 0) here in
     omega (arith, none, known)
 
-pub place-none : (p : FaultTold → Bool) (n all : ℕ) (left : List FaultTold) → left ≡ []
-    → n + position_or_len p left ≡ all → n ≡ all
-place-none p n all left is known = omega (arith, ap (position_or_len p) is, known)
-
 -- a line that was put among others, of which the first ones stay
 pub told-inserted : (lines after : List FaultLine) (n most : ℕ) (x : FaultLine) → after ≡ take most (insert lines n x)
     → map told_of after ≡ take most (insert (map told_of lines) n (told_of x))

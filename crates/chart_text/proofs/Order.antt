@@ -14,9 +14,6 @@ order-earlier s t (x ∷ xs) less order =
     let first = leb-true t x.shown.slot parts.0 in
     ap (λ (b : Bool). b && in_order_from x.shown.slot xs) (le-leb s x.shown.slot (omega arith)) ∙ parts.1
 
-pub order-none : (t : ℕ) (xs : List FaultTold) → xs ≡ [] → in_order_from t xs ≡ true
-order-none t xs is = ap (in_order_from t) is
-
 -- the first fault, and what is behind it
 pub order-first : (t : ℕ) (x : FaultTold) (rest : List FaultTold) → in_order_from t (x ∷ rest) ≡ true
     → (t ≤ x.shown.slot) × (in_order_from x.shown.slot rest ≡ true)
@@ -73,10 +70,6 @@ same-later s t xs ys same less r from = same r (omega (arith, less, from))
 
 pub same-then : (t : ℕ) (xs ys zs : List FaultTold) → SameFrom t xs ys → SameFrom t ys zs → SameFrom t xs zs
 same-then t xs ys zs same again s from = same s from ∙ again s from
-
--- along an equation of the lists
-pub same-along : (t : ℕ) (all xs ys : List FaultTold) → xs ≡ ys → SameFrom t all xs → SameFrom t all ys
-same-along t all xs ys is same = subst (SameFrom t all) is same
 
 -- The first fault is passed: the others are left.
 

@@ -2,8 +2,8 @@
 use Rattle.chart_text.proofs.Words.{◌≡◌, ◌≢◌, ℕ, ◌+◌, ◌-◌, ◌<◌, ◌≤◌, Bool, true, false, cond, ◌&&◌, List, [], ◌∷◌}
 use Rattle.chart_text.proofs.Words.{◌++◌, length, get_or, take, drop, refl, sym, ap, ◌∙◌, arith, subst, replicate, ◌==◌}
 use Rattle.chart_text.proofs.Words.{nat_le, nat_lt, filter, Some, None, list_any, eq-eqb, ne_eqb}
-use Rattle.chart_text.proofs.Words.{get_or-replicate, length-replicate, get_or-set_other, nat_tests, length-filter}
-use Rattle.chart_text.proofs.Words.{count_by-le-length, below, Piece, as_count, Span, is_tried, is_asked, shown_before}
+use Rattle.chart_text.proofs.Words.{get_or-replicate, length-replicate, get_or-set_other, nat_tests}
+use Rattle.chart_text.proofs.Words.{below, Piece, as_count, Span, is_tried, is_asked, shown_before}
 use Rattle.chart_text.proofs.Words.{has_mark, marked_slots}
 use Rattle.std.proofs.Common.{zero, suc}
 use Rattle.std.proofs.Common.{set, length-append, length-drop, inl, inr}
@@ -206,10 +206,6 @@ placed-mark marks t within is =
     subst (λ (n : ℕ). Placed (has_mark marks) t (filter (has_mark marks) (below n))) all
     (placed (has_mark marks) t (length marks - (t + 1)) is)
 
-pub marked-within : (marks : List Bool) (t : ℕ) → t < length marks → has_mark marks t ≡ true
-    → length (filter (has_mark marks) (below t)) < length (marked_slots marks)
-marked-within marks t within is = (placed-mark marks t within is).within
-
 pub marked-at : (marks : List Bool) (t : ℕ) → t < length marks → has_mark marks t ≡ true
     → get_or (marked_slots marks) (length (filter (has_mark marks) (below t))) 0 ≡ t
 marked-at marks t within is = (placed-mark marks t within is).at
@@ -230,10 +226,6 @@ place-marked marks t within is =
 -- and that another one stands nowhere
 pub place-unmarked : (marks : List Bool) (t : ℕ) → has_mark marks t ≡ false → place_in (marked_slots marks) t ≡ None
 place-unmarked marks t none = position-none (λ s. s == t) (marked_slots marks) (marked-any marks t ∙ none)
-
--- no more numbers pass than there are
-pub few-below : (p : ℕ → Bool) (n : ℕ) → length (filter p (below n)) ≤ n
-few-below p n = omega (arith, length-filter p (below n), count_by-le-length p (below n), length-range_with_len 0 n)
 
 -- one slot more was passed, which is not the one that is sought
 pub low-next : (b : Bool) (passed number : ℕ) → (b && (passed == number)) ≡ false → passed ≤ number

@@ -159,8 +159,3 @@ block-some size c t k tally [] is some = absurd (some is.many)
 block-some size c t k tally (x ∷ these) is some =
     λ i. tally_cell size (summed.OfCell t k) (sends_class (is.first i)) (is.many i) (is.counts i) (is.worst i)
     (chart_x size.nodes c) (chart_y size.nodes c k) ∷ []
-
-pub block-none : (size : Size) (c t k : ℕ) (tally : Tally) (these : List FaultTold) → IsTallied size tally these
-    → tally.many ≡ 0 → block_of size c t k these ≡ []
-block-none size c t k tally [] is none = refl
-block-none size c t k tally (x ∷ these) is none = absurd (omega (arith, is.many, none))

@@ -28,11 +28,6 @@ list_first size y z old rest x g h i b c d e next p q =
     (puts_then g h i b c d (listed_lines size y x) (list_lines size (y + 20) rest) p
     (subst (λ (n : ℕ). Puts h c i d (list_lines size n rest)) next q))
 
-pub list_none : (size : Size) (y : ℕ) (old : List FaultTold) (f : Bool) (b : Output) → old ≡ []
-    → Puts f b f b (list_lines size y old)
-list_none size y old f b e =
-    subst (λ (ys : List FaultTold). Puts f b f b (list_lines size y ys)) (sym e) (puts_none f b)
-
 -- along an equation of the lines
 pub along : {f g : Bool} {a b : Output} {x y : Lines} → x ≡ y → Puts f a g b x → Puts f a g b y
 along {f} {g} {a} {b} e p = subst (Puts f a g b) e p

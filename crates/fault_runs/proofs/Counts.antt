@@ -1,12 +1,11 @@
 -- Counts, one run more at a time.
 use Rattle.fault_runs.proofs.Words.{◌≡◌, ℕ, ◌+◌, Bool, true, false, cond, List, [], ◌∷◌, ◌++◌, refl, ap, sym, ◌∙◌}
-use Rattle.fault_runs.proofs.Words.{length-append, append-nil, arith, filter, if◌then◌else◌, map-append, Medl, Cost}
-use Rattle.fault_runs.proofs.Words.{Counts, AreAtMost, Summary, is_same_cost}
+use Rattle.fault_runs.proofs.Words.{length-append, arith, if◌then◌else◌, Medl, Cost}
+use Rattle.fault_runs.proofs.Words.{Counts, AreAtMost, is_same_cost}
 use Rattle.std.specs.Prelude.{count_by, is_some}
-use Rattle.std.proofs.lemmas.List.Elements.{filter-append}
 use Rattle.std.proofs.lemmas.List.Sums.{sum_by-append}
 use Rattle.std.specs.Prelude.{sum_by}
-use Rattle.campaign.specs.Lines.{has_hurt, is_torn, is_dead, counts_of, costs_of}
+use Rattle.campaign.specs.Lines.{has_hurt, is_torn, is_dead, counts_of}
 
 count-next : {X : Type 0} (p : X → Bool) (xs : List X) (x : X)
     → count_by p (xs ++ x ∷ []) ≡ count_by p xs + (if p x then 1 else 0)
@@ -42,21 +41,6 @@ counts-next list own costs cost same hurt split torn dead is_same is_hurt is_spl
         → count_by p costs + (if b then 1 else 0) ≡ count_by p (costs ++ cost ∷ [])
     counted p b is =
         ap (λ (t : Bool). count_by p costs + (if t then 1 else 0)) is ∙ sym (count-next p costs cost)
-
--- of the runs that a test takes, one more that it takes or not
-
-pub costs-in : (p : Summary → Bool) (runs : List Summary) (s : Summary) → p s ≡ true
-    → costs_of (filter p (runs ++ s ∷ [])) ≡ costs_of (filter p runs) ++ s.cost ∷ []
-costs-in p runs s is =
-    ap costs_of (filter-append p runs (s ∷ [])
-    ∙ ap (λ (b : Bool). filter p runs ++ cond b (s ∷ []) []) is)
-    ∙ map-append (λ (t : Summary). t.cost) (filter p runs) (s ∷ [])
-
-pub costs-out : (p : Summary → Bool) (runs : List Summary) (s : Summary) → p s ≡ false
-    → costs_of (filter p (runs ++ s ∷ [])) ≡ costs_of (filter p runs)
-costs-out p runs s is =
-    ap costs_of (filter-append p runs (s ∷ [])
-    ∙ ap (λ (b : Bool). filter p runs ++ cond b (s ∷ []) []) is ∙ append-nil (filter p runs))
 
 -- what is at most so many is at most one more
 pub at_most-more : (most : ℕ) (counts : Counts) → AreAtMost most counts → AreAtMost (most + 1) counts

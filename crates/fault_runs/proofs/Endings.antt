@@ -14,17 +14,6 @@ front-none o lines = record { whole = []; rest = lines; text = refl; wrote = Wro
 pub fewer-none : (o : Output) (line : List ℕ) (rest : Lines) → WroteFewer o o (line ∷ rest)
 fewer-none o line rest = record { whole = []; next = line; rest = rest; text = refl; wrote = Wrote-none o }
 
--- fewer than all are some first ones
-pub leaves-fewer : (why : CampaignFault) (before now : Output) (lines : Lines) → LeftFewerBy why before now lines
-    → LeftBy why before now lines
-leaves-fewer fault.Failed before now lines cut = cut
-leaves-fewer fault.Memory before now lines few = record {
-  whole = few.whole;
-  rest = few.next ∷ few.rest;
-  text = few.text;
-  wrote = few.wrote;
-}
-
 -- behind lines that were written
 pub leaves-after : (why : CampaignFault) (a b c : Output) (x y : Lines) → WroteLines a b x → LeftBy why b c y
     → LeftBy why a c (x ++ y)

@@ -18,12 +18,6 @@ flat_map-next f words i within =
     ap (flat_map f) (take_more words i 0 within) ∙ flat_map-append f (take i words) (get_or words i 0 ∷ [])
     ∙ ap (λ (t : List _). flat_map f (take i words) ++ t) (append-nil (f (get_or words i 0)))
 
--- Words as digits.
-
-pub word_hexes-next : (words : List ℕ) (i : ℕ) → i < length words
-    → flat_map word_hex (take (i + 1) words) ≡ flat_map word_hex (take i words) ++ word_hex (get_or words i 0)
-word_hexes-next words i within = flat_map-next word_hex words i within
-
 -- The first bytes of words.
 
 take-append : (n : ℕ) (xs ys : List ℕ) → take n (xs ++ ys) ≡ take n xs ++ take (n - length xs) ys

@@ -35,12 +35,6 @@ noted-more ports before after all left shown known letters size step = record {
       step (get_or ports i d).host (get_or ports i d).what known.done (letters i d less) (known.newest i d less);
 }
 
-pub all-noted : (ports : List Port) (messages : List (Option Message)) (all : List HostLine)
-    → AreNoted ports messages all [] → All (λ port. HasNewest messages all port.host port.what) ports
-all-noted ports messages all known =
-    subst (λ (lines : List HostLine). All (λ port. HasNewest messages lines port.host port.what) ports)
-    (sym (append-nil known.done) ∙ known.whole) known.newest
-
 pub cleared-more : (ports : List Port) (messages : List (Option Message)) (i : ℕ) (e : Port) → i < length ports
     → HasLetters (get_or ports i e) → AreCleared ports messages i
     → AreCleared ports (set messages (table_place (get_or ports i e).host (get_or ports i e).what) None) (i + 1)
@@ -98,13 +92,6 @@ taken-more before sizes after all left shown known size step = record {
       (step k does (lines ++ known.done) has (known.most k does lines has is));
 }
 
-pub all-taken : (before sizes : List (Option ℕ)) (all : List HostLine) → AreTaken before sizes all []
-    → (k : ℕ) (does : What) (lines : List HostLine) → HasPlace k does → HasMost before lines k does
-    → HasMost sizes (lines ++ all) k does
-all-taken before sizes all known k does lines has is =
-    subst (λ (ls : List HostLine). HasMost sizes (lines ++ ls) k does) (sym (append-nil known.done) ∙ known.whole)
-    (known.most k does lines has is)
-
 pub slots-taken-more : (sizes after : List (Option ℕ)) (all left : List SlotLines) (slot : SlotLines)
     → AreSlotsTaken sizes all (slot ∷ left) → length after ≡ 624
     → ((k : ℕ) (does : What) (lines : List HostLine) → HasPlace k does → HasMost sizes lines k does
@@ -121,9 +108,3 @@ slots-taken-more sizes after all left slot known size step =
           ∙ sym (flat_map-append hosts known.done (slot ∷ [])))
           (step k does (flat_map hosts known.done) has (known.most k does has));
     }
-
-pub all-slots-taken : (sizes : List (Option ℕ)) (all : List SlotLines) → AreSlotsTaken sizes all []
-    → (k : ℕ) (does : What) → HasPlace k does → HasMost sizes (flat_map (λ slot. slot.hosts) all) k does
-all-slots-taken sizes all known k does has =
-    subst (λ (slots : List SlotLines). HasMost sizes (flat_map (λ slot. slot.hosts) slots) k does)
-    (sym (append-nil known.done) ∙ known.whole) (known.most k does has)

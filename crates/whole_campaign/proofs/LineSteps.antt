@@ -1,5 +1,5 @@
 -- Steps over the lines of a campaign.
-use Rattle.std.proofs.Common.{◌≡◌, ℕ, ◌+◌, ◌<◌, List, [], ◌∷◌, ◌++◌, length, get_or, drop, Option, Some, None, refl, ap, sym, ◌∙◌}
+use Rattle.std.proofs.Common.{◌≡◌, ℕ, ◌+◌, ◌<◌, List, [], ◌∷◌, ◌++◌, length, get_or, drop, Option, Some, None, ap, sym, ◌∙◌}
 use Rattle.std.proofs.Common.{arith, length-append}
 use Rattle.std.specs.List.{concat}
 use Rattle.ttp_base.specs.Text.{Lines, lines_of}
@@ -12,9 +12,7 @@ use Rattle.whole_campaign.specs.Own.{Common, OwnShown, own_in, own_of_line}
 use Rattle.whole_campaign.specs.Runs.{campaign_head_in, head_of_line}
 use Rattle.whole_campaign.specs.Words.{without_feed}
 use Rattle.whole_campaign.specs.Due.{due_in_campaign}
-use Rattle.whole_campaign.specs.Whole.{one_further, wrong_behind, wrong_line, FaultTold, items_behind, onto, told_at, faults_told}
-use Rattle.whole_campaign.specs.Whole.{piece_ended, pieces_from}
-use Rattle.whole_campaign.specs.Steps.{IsPassed}
+use Rattle.whole_campaign.specs.Whole.{wrong_behind, wrong_line}
 
 -- a line that is cut off the front of a text has some bytes
 pub line_has_bytes : (text line rest : List ℕ) → lines_of text ≡ line ∷ lines_of rest → 0 < length line
@@ -35,46 +33,11 @@ pub wrong_here : (frame : Common) (d : Due) (text line : List ℕ) (others : Lin
 wrong_here frame d text line others cut wrong =
     ap (wrong_line frame d) cut ∙ ap (wrong_behind (λ next. wrong_line frame next others)) wrong
 
-pub wrong_later : (frame : Common) (d : Due) (text : List ℕ) (told : Option FaultTold) (next : Due) (rest : List ℕ)
-    → IsPassed frame d text told next rest
-    → wrong_line frame d (lines_of text) ≡ one_further (wrong_line frame next (lines_of rest))
-wrong_later frame d text told next rest p =
-    ap (wrong_line frame d) p.cut ∙ ap (wrong_behind (λ n. wrong_line frame n (lines_of rest))) p.next
-
-one-none : (wrong : Option ℕ) → one_further wrong ≡ None → wrong ≡ None
-one-none None is = refl
-one-none (Some n) is = cc
-
-pub goes_further : (frame : Common) (d : Due) (text : List ℕ) (told : Option FaultTold) (next : Due) (rest : List ℕ)
-    → IsPassed frame d text told next rest → wrong_line frame d (lines_of text) ≡ None
-    → wrong_line frame next (lines_of rest) ≡ None
-goes_further frame d text told next rest p right =
-    one-none (wrong_line frame next (lines_of rest)) (sym (wrong_later frame d text told next rest p) ∙ right)
-
-pub faults_later : (frame : Common) (d : Due) (text : List ℕ) (told : Option FaultTold) (next : Due) (rest : List ℕ)
-    → IsPassed frame d text told next rest
-    → faults_told frame d (lines_of text) ≡ onto told (faults_told frame next (lines_of rest))
-faults_later frame d text told next rest p =
-    ap (faults_told frame d) p.cut
-    ∙ ap (λ (n : Option Due). onto (told_at frame d p.line) (items_behind (λ m. faults_told frame m (lines_of rest)) n)) p.next
-    ∙ ap (λ (t : Option FaultTold). onto t (faults_told frame next (lines_of rest))) p.tells
-
-pub pieces_later : (frame : Common) (d : Due) (text : List ℕ) (told : Option FaultTold) (next : Due) (rest : List ℕ)
-    → IsPassed frame d text told next rest
-    → pieces_from frame d (lines_of text) ≡ onto (piece_ended d) (pieces_from frame next (lines_of rest))
-pieces_later frame d text told next rest p =
-    ap (pieces_from frame d) p.cut
-    ∙ ap (λ (n : Option Due). onto (piece_ended d) (items_behind (λ m. pieces_from frame m (lines_of rest)) n)) p.next
-
 -- Many lines later.
 
 abbrev pub lines_further : ℕ → Option ℕ → Option ℕ
 lines_further n None = None
 lines_further n (Some line) = Some (n + line)
-
-pub further-one : (n : ℕ) (wrong : Option ℕ) → lines_further n (one_further wrong) ≡ lines_further (n + 1) wrong
-further-one n None = refl
-further-one n (Some line) = let e : n + (line + 1) ≡ n + 1 + line = omega arith in ap (λ (m : ℕ). Some m) e
 
 -- The first two lines.
 

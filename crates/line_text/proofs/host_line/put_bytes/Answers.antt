@@ -1,13 +1,15 @@
-use Rattle.std.proofs.Common.{ℕ, ◌++◌, ◌∙◌, List, ap, min, take}
+use Rattle.std.proofs.Common.{arith, ℕ, ◌++◌, ◌∙◌, List, ap, min, take}
 use Rattle.ttp_base.specs.Text.{hex_bytes}
 use Rattle.line_text.proofs.WordTexts.{room_for_bytes, put_bytes-next}
 use Rattle.line_text.proofs.host_line.put_bytes.Goals as goal
 
 pub put_hex_bytes-requires : goal.put_hex_bytes-requires
-put_hex_bytes-requires c =
-    room_for_bytes c.loop-word.line c.args.line.now c.args.words.now c.to_be_bytes.result c.args.size
-    c.loop-word.word-index c.min-count.result c.loop-word.invariant.0 c.loop-word-test.true
-    (c.min-count.ensures ∙ ap (λ (n : ℕ). min n 8) c.loop-word.invariant.1) c.requires
+put_hex_bytes-requires c = (
+  omega arith,
+  room_for_bytes c.loop-word.line c.args.line.now c.args.words.now c.to_be_bytes.result c.args.size
+      c.loop-word.word-index c.min-count.result c.loop-word.invariant.0 c.loop-word-test.true
+      (c.min-count.ensures ∙ ap (λ (n : ℕ). min n 8) c.loop-word.invariant.1) c.requires,
+)
 
 pub loop-word-preserved : goal.loop-word-preserved
 loop-word-preserved c =
