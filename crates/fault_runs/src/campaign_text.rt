@@ -24,7 +24,7 @@ mod fault_words;
 mod lines;
 mod text;
 
-pub use cost_words::put_cost;
+pub use cost_words::{put_cost, put_nodes};
 pub use fault_words::put_fault;
-pub use lines::{put_counts, put_head, put_own, put_run};
+pub use lines::{fault_node, put_counts, put_head, put_own, put_place, put_run, put_test};
 pub use text::Text;

@@ -54,7 +54,12 @@ fn put_leaves(text: &mut Text, leaves: &[Leave]) -> Result<(), Memory>
     put_dash(text, leaves.len())
 }
 
-fn put_nodes(text: &mut Text, nodes: NodeSet) -> Result<(), Memory>
+/// Adds the nodes of a set in ascending order with commas between them, or a dash.
+///
+/// # Errors
+///
+/// Where memory was refused; some of it may have been added.
+pub fn put_nodes(text: &mut Text, nodes: NodeSet) -> Result<(), Memory>
     ensures { OnOk result (text.new ≡ text.old ++ listed (map decimal (in_order nodes))) }
 {
     let mut place: usize = 0;

@@ -52,8 +52,12 @@ fn put_back(text: &mut Text, back: Back) -> Result<bool, Memory>
     }
 }
 
-// Adds what the test of a script says. Returns whether it says yes.
-fn put_test(text: &mut Text, list: &Medl, script: &Script) -> Result<bool, Memory>
+/// Adds what the test of a script says, and returns whether it says yes. It costs the test.
+///
+/// # Errors
+///
+/// Where memory was refused; some of it may have been added.
+pub fn put_test(text: &mut Text, list: &Medl, script: &Script) -> Result<bool, Memory>
     requires valid { IsValid list.now }
     requires script { IsValidScript list.now script.now }
     ensures text { OnOk result (text.new ≡ text.old ++ test_words list.now script.now) }
@@ -151,8 +155,8 @@ fn fault_slot(fault: &Event) -> u32
     }
 }
 
-// Its node.
-fn fault_node(fault: &Event) -> u8
+/// The node of a fault; 0 for what is no loss and no jump.
+pub fn fault_node(fault: &Event) -> u8
     ensures { result ≡ fault_node fault.now }
 {
     match fault {
@@ -161,8 +165,12 @@ fn fault_node(fault: &Event) -> u8
     }
 }
 
-// The words of the slot and the node of a fault.
-fn put_place(text: &mut Text, fault: &Event) -> Result<(), Memory>
+/// Adds the words of the slot and the node of a fault.
+///
+/// # Errors
+///
+/// Where memory was refused; some of it may have been added.
+pub fn put_place(text: &mut Text, fault: &Event) -> Result<(), Memory>
     ensures { OnOk result (text.new ≡ text.old ++ place_words fault.now) }
 {
     text.put_labelled("slot ", u64::from(fault_slot(fault)))?;

@@ -75,7 +75,7 @@ impl Text {
     }
 
     /// Adds a label, and a number in decimal digits.
-    pub(crate) fn put_labelled(&mut self, label: &str, number: u64) -> Result<(), Memory>
+    pub fn put_labelled(&mut self, label: &str, number: u64) -> Result<(), Memory>
         ensures { OnOk result (self.new ≡ self.old ++ (label.now ++ decimal number)) }
     {
         self.put(label)?;
