@@ -21,6 +21,6 @@ returns c =
     (c.number-slot.result, (c.byte-host.result, (source_told c.source-source.result, (c.number-number.result, (c.payload-payload.result, tt)))))
     _ c.close.result c.close.ensures
     (read-means c.number-slot.result c.byte-host.result c.source-source.result c.number-number.result
-    c.payload-payload.result c.of.result c.len.result (c.of.ensures ∙ c.bytes.ensures.text) c.len.ensures
+    c.payload-payload.result c.of.result c.len.result (c.of.ensures ∙ c.bytes.ensures) c.len.ensures
     (sym c.has_size.ensures ∙ c.if-not-has_size.false))
     (search (closing, rules) depth 40 fits 100000)
