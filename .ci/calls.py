@@ -20,7 +20,7 @@ import tempfile
 import rules
 import samples
 import traces
-from counted import TOP, UNPROVED, Counted, answer, unasked
+from counted import TOP, UNPROVED, Counted, answer, text_of, unasked
 
 FOLDER = os.path.join(TOP, ".ci", "calls")
 # The texts that all tables use come first.
@@ -33,11 +33,6 @@ SECONDS = 600
 # The run of eight nodes whose hosts are at work in slots 100 to 119: what node 5's status shows by the slot of the round, flags and
 # the frames that it accepted.
 FLAGS, ACCEPTED = (1, 17, 17, 1, 17, 41, 17, 145), (3, 4, 5, 5, 6, 1, 2, 3)
-
-
-def text_of(path):
-    with open(path, encoding="latin-1", newline="") as file:
-        return file.read()
 
 
 class Texts:

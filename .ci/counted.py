@@ -34,6 +34,18 @@ def answer(words, *, name="ttpbench", out=subprocess.PIPE, seconds=120, **how):
     return ran.returncode, (ran.stdout or b"").decode("latin-1"), ran.stderr.decode("latin-1")
 
 
+def text_of(path):
+    """What a file holds, a letter for each byte."""
+    with open(path, encoding="latin-1", newline="") as file:
+        return file.read()
+
+
+def lab_usage():
+    """The line that answers words of no form of ttplab, as its page shows it."""
+    with open(os.path.join(TOP, "docs", "VIEWS.md"), encoding="utf-8") as file:
+        return re.search(r"`(usage: .*?)`", file.read())[1].replace("\\|", "|") + "\n"
+
+
 # What ttplab tells of a campaign: how far it has come, and that it tried nothing.
 TOLD = re.compile(r"^ttplab: (?:\d+ of \d+ slots, about \d+ \w+ left|no fault was tried: the script has slots 0 to \d+)\n", re.M)
 
@@ -45,6 +57,13 @@ def unasked(said, status, name):
     if status not in range(2, 9):
         return said
     return "" if re.fullmatch(rf"{name}: .+\n", said, re.S) else said or "nothing was said"
+
+
+def asked_lab(*words, **how):
+    """The status and the text with which ttplab ends; and what else it said on standard error, if it did."""
+    status, text, said = answer(words, name="ttplab", seconds=300, **how)
+    said = unasked(said, status, "ttplab")
+    return (status, text, said) if said else (status, text)
 
 
 class Counted:
