@@ -1,0 +1,320 @@
+-- All that is wrong with a list, in the order in which the reader looks for it.
+--
+-- A value is an `Option`: what a fault hides is missing, and what is measured by a missing value is not looked at.
+use Rattle.std.specs.Prelude.{ℕ, ℤ, suc, ◌-◌, Bool, true, false, not, ◌&&◌, ◌||◌, ◌==◌, List, [], ◌∷◌, ◌++◌, length, take, drop}
+use Rattle.std.specs.Prelude.{map, count_by, nat_le, nat_lt, codes, Option, Some, None, is_some, unwrap_or, slice_index}
+use Rattle.std.specs.Prelude.{if◌then◌else◌, option_and_then}
+use Rattle.std.specs.List.{list_all}
+use Rattle.std.specs.Str.{is_utf8, bytes_eq, utf8_valid_len}
+use Rattle.toml.specs.Data.{Data, string, integer, float, boolean, datetime, array, table}
+use Rattle.toml.specs.Data.{Members, no_members, member, as_integer, as_bool, as_str}
+use Rattle.ttp_world.specs.declared.medl.Kind.{Kind}
+use Rattle.script_text.specs.Lines.{is_blank, is_line_feed}
+use Rattle.medl_text.specs.declared.error.FieldName.{FieldName}
+use Rattle.medl_text.specs.declared.error.FieldName.TheVariants as names
+use Rattle.medl_text.specs.declared.error.Field.{Field}
+use Rattle.medl_text.specs.ListFile.{at_top, at_slot, held_at, is_within, number_at, flag_at, text_at, kinds_at}
+use Rattle.medl_text.specs.ListFile.{is_kind, is_answer, payload_limit, slots_in, are_tables, slot_limit, modes_in}
+use Rattle.medl_text.specs.ListFile.{is_known_key, top_keys, slot_keys, document_of}
+use Rattle.list_errors.specs.declared.error.ValueType.{ValueType}
+use Rattle.list_errors.specs.declared.error.ValueType.TheVariants as value_type
+use Rattle.list_errors.specs.declared.error.Wrong.{Wrong}
+use Rattle.list_errors.specs.declared.error.Wrong.TheVariants as wrong
+
+-- a value, where nothing is wrong with it
+abbrev pub unless : {X : Type 0} → List Wrong → X → Option X
+unless [] x = Some x
+unless (w ∷ ws) x = None
+
+-- The faults of one key.
+
+-- the type of a value
+abbrev pub type_of : Data → ValueType
+type_of (string s) = value_type.String
+type_of (integer z) = value_type.Integer
+type_of (float x) = value_type.Float
+type_of (boolean b) = value_type.Boolean
+type_of (datetime dt) = value_type.Datetime
+type_of (array ds) = value_type.Array
+type_of (table ms) = value_type.Table
+
+-- what is wrong with the value of a key that is seen as another type
+abbrev pub kind_wrongs : {X : Type 0} → Field → Data → (X → List Wrong) → Option X → List Wrong
+kind_wrongs field d wrongs None = wrong.WrongKind field (type_of d) ∷ []
+kind_wrongs field d wrongs (Some x) = wrongs x
+
+-- what is wrong with a key: it is there, it is of its type, and what it holds is right
+abbrev pub key_wrongs : {X : Type 0} → Field → (Data → Option X) → (X → List Wrong) → Option Data → List Wrong
+key_wrongs field seen_as wrongs None = wrong.Missing field ∷ []
+key_wrongs field seen_as wrongs (Some d) = kind_wrongs field d wrongs (seen_as d)
+
+-- with one that may be absent
+abbrev pub optional_wrongs : {X : Type 0} → Field → (Data → Option X) → (X → List Wrong) → Option Data → List Wrong
+optional_wrongs field seen_as wrongs None = []
+optional_wrongs field seen_as wrongs (Some d) = kind_wrongs field d wrongs (seen_as d)
+
+-- nothing is wrong with the value itself
+abbrev pub nothing_wrong : {X : Type 0} → X → List Wrong
+nothing_wrong x = []
+
+-- a number of a range
+abbrev pub range_wrongs : Field → ℕ → ℕ → ℤ → List Wrong
+range_wrongs field low high z = if is_within low high z then [] else wrong.OutOfRange field z low high ∷ []
+
+unfoldable pub number_wrongs : Field → ℕ → ℕ → Members → List Wrong
+number_wrongs field low high table = key_wrongs field as_integer (range_wrongs field low high) (held_at field table)
+
+-- the number itself
+abbrev pub number_of : Field → ℕ → ℕ → Members → Option ℕ
+number_of field low high table = unless (number_wrongs field low high table) (number_at field table)
+
+-- `true` or `false`
+unfoldable pub flag_wrongs : Field → Members → List Wrong
+flag_wrongs field table = key_wrongs field as_bool nothing_wrong (held_at field table)
+
+-- Letters.
+
+-- there are as many as are due, where that is known
+abbrev pub has_count : Option ℕ → List ℕ → Bool
+has_count None letters = true
+has_count (Some due) letters = length letters == due
+
+-- the kinds of a slot
+abbrev pub letters_wrongs : Option ℕ → ℕ → List ℕ → List Wrong
+letters_wrongs rounds k letters =
+    if has_count rounds letters && list_all is_kind letters then [] else wrong.Kinds k letters ∷ []
+
+unfoldable pub kinds_wrongs : Option ℕ → ℕ → Members → List Wrong
+kinds_wrongs rounds k table =
+    let field = at_slot k names.Kinds in key_wrongs field as_str (letters_wrongs rounds k) (held_at field table)
+
+-- the kinds themselves
+abbrev pub kinds_of : Option ℕ → ℕ → Members → Option (List Kind)
+kinds_of rounds k table = unless (kinds_wrongs rounds k table) (kinds_at k table)
+
+-- the modes in which a slot is live
+abbrev pub answers_wrongs : Option ℕ → ℕ → List ℕ → List Wrong
+answers_wrongs modes k letters =
+    if has_count modes letters && list_all is_answer letters then [] else wrong.Live k letters ∷ []
+
+unfoldable pub live_wrongs : Option ℕ → ℕ → Members → List Wrong
+live_wrongs modes k table =
+    let field = at_slot k names.Live in optional_wrongs field as_str (answers_wrongs modes k) (held_at field table)
+
+-- A slot.
+
+-- the largest payload of frames of these kinds, or of any where they are not known
+abbrev pub data_limit : Option (List Kind) → ℕ
+data_limit None = 240
+data_limit (Some kinds) = payload_limit kinds
+
+unfoldable pub data_wrongs : Option ℕ → ℕ → Members → List Wrong
+data_wrongs rounds k table = number_wrongs (at_slot k names.DataSize) 0 (data_limit (kinds_of rounds k table)) table
+
+-- the payload itself
+abbrev pub payload_of : Option ℕ → ℕ → Members → Option ℕ
+payload_of rounds k table = unless (data_wrongs rounds k table) (number_at (at_slot k names.DataSize) table)
+
+-- a slot that asks for modes has payload, where that is known
+abbrev pub request_wrongs : ℕ → Option ℕ → Bool → List Wrong
+request_wrongs k None requests = []
+request_wrongs k (Some payload) requests = if requests && (payload == 0) then wrong.NoRequestData k ∷ [] else []
+
+unfoldable pub requests_wrongs : ℕ → Option ℕ → Members → List Wrong
+requests_wrongs k payload table =
+    let field = at_slot k names.Requests in
+    optional_wrongs field as_bool (request_wrongs k payload) (held_at field table)
+
+-- all that is wrong with a slot's keys, in their order
+unfoldable pub slot_wrongs : Option ℕ → Option ℕ → ℕ → Members → List Wrong
+slot_wrongs rounds modes k table =
+    kinds_wrongs rounds k table
+    ++ (data_wrongs rounds k table
+    ++ (flag_wrongs (at_slot k names.Sync) table
+    ++ (flag_wrongs (at_slot k names.Start) table
+    ++ (requests_wrongs k (payload_of rounds k table) table
+    ++ live_wrongs modes k table))))
+
+-- with those of some slots, the first of which has this number
+abbrev pub slots_wrongs : Option ℕ → Option ℕ → ℕ → List Members → List Wrong
+slots_wrongs rounds modes k [] = []
+slots_wrongs rounds modes k (table ∷ tables) =
+    slot_wrongs rounds modes k table ++ slots_wrongs rounds modes (suc k) tables
+
+-- The array of slots.
+
+-- its elements are tables
+abbrev pub tables_wrongs : Field → Data → Bool → List Wrong
+tables_wrongs field d true = []
+tables_wrongs field d false = wrong.WrongKind field (type_of d) ∷ []
+
+abbrev pub array_wrongs_of : Field → Option Data → List Wrong
+array_wrongs_of field None = wrong.Missing field ∷ []
+array_wrongs_of field (Some (array ds)) = tables_wrongs field (array ds) (are_tables ds)
+array_wrongs_of field (Some d) = wrong.WrongKind field (type_of d) ∷ []
+
+unfoldable pub array_wrongs : Members → List Wrong
+array_wrongs file = array_wrongs_of (at_top names.Slot) (held_at (at_top names.Slot) file)
+
+-- the slots, where they are an array of tables
+abbrev pub elements_of : Members → Option (List Members)
+elements_of file = unless (array_wrongs file) (slots_in file)
+
+-- the most slots of a list of this version, or of any
+abbrev pub count_limit : Option ℕ → ℕ
+count_limit None = 24
+count_limit (Some version) = slot_limit version
+
+unfoldable pub count_wrongs : Option ℕ → ℕ → List Wrong
+count_wrongs version n = if nat_le 4 n && nat_le n (count_limit version) then [] else wrong.SlotCount n ∷ []
+
+-- Keys that no list has.
+
+-- the keys of a table but these, in their order
+abbrev pub others : List FieldName → Members → List (List ℕ)
+others known no_members = []
+others known (member key d table) = if is_known_key known key then others known table else key ∷ others known table
+
+unfoldable pub unknown_at_top : Members → List Wrong
+unknown_at_top file = map (λ key. wrong.Unknown None key) (others top_keys file)
+
+abbrev pub unknown_at_slot : ℕ → Members → List Wrong
+unknown_at_slot k table = map (λ key. wrong.Unknown (Some k) key) (others slot_keys table)
+
+abbrev pub unknown_in_slots : ℕ → List Members → List Wrong
+unknown_in_slots k [] = []
+unknown_in_slots k (table ∷ tables) = unknown_at_slot k table ++ unknown_in_slots (suc k) tables
+
+-- Slots for clock synchronization.
+
+-- whether each slot has `sync`, where it says so
+abbrev pub syncs_of : ℕ → List Members → List (Option Bool)
+syncs_of k [] = []
+syncs_of k (table ∷ tables) =
+    unless (flag_wrongs (at_slot k names.Sync) table) (flag_at (at_slot k names.Sync) table) ∷ syncs_of (suc k) tables
+
+-- how many have
+abbrev pub sync_count : List (Option Bool) → ℕ
+sync_count syncs = count_by (λ sync. unwrap_or sync false) syncs
+
+-- fewer than four have, where all say so and there are as many slots as a list may have
+abbrev pub counts_syncs : List (Option Bool) → Bool
+counts_syncs syncs = (nat_le 4 (length syncs) && nat_le (length syncs) 24) && list_all is_some syncs
+
+unfoldable pub sync_wrongs : List (Option Bool) → List Wrong
+sync_wrongs syncs =
+    if counts_syncs syncs && nat_lt (sync_count syncs) 4 then wrong.NoSync (sync_count syncs) ∷ [] else []
+
+-- The whole table.
+
+-- how many modes the cluster has
+unfoldable pub modes_wrongs : Members → List Wrong
+modes_wrongs file =
+    let field = at_top names.Modes in optional_wrongs field as_integer (range_wrongs field 1 8) (held_at field file)
+
+-- the version, the rounds and the modes, where they are right
+abbrev pub version_of : Members → Option ℕ
+version_of file = number_of (at_top names.Version) 1 2 file
+
+abbrev pub rounds_of : Members → Option ℕ
+rounds_of file = number_of (at_top names.Rounds) 1 64 file
+
+abbrev pub modes_of : Members → Option ℕ
+modes_of file = unless (modes_wrongs file) (modes_in file)
+
+-- what is wrong with the keys at the top
+unfoldable pub top_wrongs : Members → List Wrong
+top_wrongs file =
+    number_wrongs (at_top names.Version) 1 2 file
+    ++ (number_wrongs (at_top names.Rounds) 1 64 file
+    ++ (number_wrongs (at_top names.Schedule) 0 16777215 file
+    ++ (number_wrongs (at_top names.Buffers) 1 16 file
+    ++ (number_wrongs (at_top names.Drift) 0 1000 file
+    ++ (number_wrongs (at_top names.Error) 0 1000 file
+    ++ (number_wrongs (at_top names.Window) 1 1000000 file
+    ++ (array_wrongs file
+    ++ modes_wrongs file)))))))
+
+-- the slots that are looked at: 24 of them
+abbrev pub looked_at : Option (List Members) → List Members
+looked_at None = []
+looked_at (Some tables) = take 24 tables
+
+-- what is wrong with the number of slots
+abbrev pub number_of_slots_wrongs : Option ℕ → Option (List Members) → List Wrong
+number_of_slots_wrongs version None = []
+number_of_slots_wrongs version (Some tables) = count_wrongs version (length tables)
+
+-- which slots have `sync`; where there are more than are looked at, that is not known
+abbrev pub all_syncs_of : Option (List Members) → List (Option Bool)
+all_syncs_of None = []
+all_syncs_of (Some tables) = if nat_le (length tables) 24 then syncs_of 0 tables else []
+
+-- all that is wrong with the table of a file
+unfoldable pub table_wrongs : Members → List Wrong
+table_wrongs file =
+    let slots = elements_of file in
+    top_wrongs file
+    ++ (number_of_slots_wrongs (version_of file) slots
+    ++ (slots_wrongs (rounds_of file) (modes_of file) 0 (looked_at slots)
+    ++ (unknown_at_top file
+    ++ (unknown_in_slots 0 (looked_at slots)
+    ++ sync_wrongs (all_syncs_of slots)))))
+
+-- A file that is no list.
+
+-- the largest file, in bytes
+abbrev pub list_limit : ℕ
+list_limit = 1048576
+
+-- it begins with the mark of UTF-16
+abbrev pub is_utf16 : List ℕ → Bool
+is_utf16 text =
+    ((slice_index text 0 == 255) && (slice_index text 1 == 254))
+    || ((slice_index text 0 == 254) && (slice_index text 1 == 255))
+
+-- a byte with which no word goes on: a blank, a line feed, or a carriage return before one or at the end
+abbrev pub ends_word : ℕ → List ℕ → Bool
+ends_word b bs = is_blank b || (is_line_feed b || ((b == 13) && (length bs == 0 || is_line_feed (slice_index bs 0))))
+
+-- The text from the first word of the first line of a script that says something on. `inside` says that a comment has
+-- begun.
+abbrev pub said_from : Bool → List ℕ → List ℕ
+said_from inside [] = []
+said_from true (b ∷ bs) = said_from (not (is_line_feed b)) bs
+said_from false (b ∷ bs) =
+    if ends_word b bs then said_from false bs else (if b == 35 then said_from true bs else b ∷ bs)
+
+-- no word goes on here
+abbrev pub is_word_end : List ℕ → Bool
+is_word_end [] = true
+is_word_end (b ∷ bs) = ends_word b bs
+
+-- that word is `slots`
+abbrev pub begins_script : List ℕ → Bool
+begins_script text = bytes_eq (take 5 text) (codes "slots") && is_word_end (drop 5 text)
+
+-- what is wrong with a text that is no TOML
+abbrev pub not_toml : List ℕ → Wrong
+not_toml text =
+    if begins_script (said_from false text) then wrong.IsScript (length text - length (said_from false text))
+    else (if is_utf8 text then wrong.NotToml
+    else wrong.NotUtf8 (utf8_valid_len text) (slice_index text (utf8_valid_len text)))
+
+-- what is wrong with the table that a text is
+abbrev pub document_wrongs : List ℕ → Option Members → List Wrong
+document_wrongs text None = not_toml text ∷ []
+document_wrongs text (Some file) = table_wrongs file
+
+-- all that is wrong with the bytes of a list
+unfoldable pub list_wrongs : List ℕ → List Wrong
+list_wrongs text =
+    if nat_lt list_limit (length text) then wrong.TooLarge ∷ []
+    else (if is_utf16 text then wrong.Utf16 ∷ [] else document_wrongs text (document_of text))
+
+-- the rounds and the modes that a text says, where it is a document and they are right in it
+unfoldable pub rounds_said : List ℕ → Option ℕ
+rounds_said text = option_and_then rounds_of (document_of text)
+
+unfoldable pub modes_said : List ℕ → Option ℕ
+modes_said text = option_and_then modes_of (document_of text)

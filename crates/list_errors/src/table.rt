@@ -1,0 +1,155 @@
+//! The values at the keys of a table, each with what is wrong with it.
+ghost use Rattle.std.specs.Prelude.{◌≡◌, ◌≤◌, ◌++◌, true, Some, option_map, IfOk, OnOk, IfSome};
+ghost use Rattle.std.specs.List.{list_all};
+ghost use Rattle.toml.specs.Data.{as_integer, as_bool};
+ghost use Rattle.toml.specs.View.{view, table_view, items_view};
+ghost use Rattle.medl_text.specs.ListFile.{at_top, at_slot, held_at, flag_at, are_tables, tables_of};
+ghost use Rattle.list_errors.specs.Errors.{unless, type_of, kind_wrongs, range_wrongs, number_wrongs, number_of};
+ghost use Rattle.list_errors.specs.Errors.{flag_wrongs, nothing_wrong, elements_of, array_wrongs};
+
+use crate::error::{ValueType, Wrong};
+use medl_text::{Field, FieldName};
+use toml::{Table, Value};
+use ttp_base::{List, Memory};
+
+pub(crate) fn at_top(name: FieldName) -> Field
+    ensures { result ≡ at_top name }
+{
+    Field { name, slot: None }
+}
+
+pub(crate) fn at_slot(k: u8, name: FieldName) -> Field
+    ensures { result ≡ at_slot k name }
+{
+    Field {
+        name,
+        slot: Some(k),
+    }
+}
+
+fn type_of(value: &Value) -> ValueType
+    ensures { result ≡ type_of (view value.now) }
+{
+    match value {
+        Value::String(_) => ValueType::String,
+        Value::Integer(_) => ValueType::Integer,
+        Value::Float(_) => ValueType::Float,
+        Value::Boolean(_) => ValueType::Boolean,
+        Value::Datetime(_) => ValueType::Datetime,
+        Value::Array(_) => ValueType::Array,
+        Value::Table(_) => ValueType::Table,
+    }
+}
+
+/// The value at a key.
+pub(crate) fn member(table: &Table, field: Field) -> Option<&Value>
+    ensures { option_map (λ v. view v.now) result ≡ held_at field (table_view table.now) }
+{
+    table.get(field.name.key())
+}
+
+/// That a value has another type.
+pub(crate) fn wrong_kind(field: Field, value: &Value) -> Wrong {
+    Wrong::WrongKind {
+        field,
+        found: type_of(value),
+    }
+}
+
+/// The number of a range that a value is.
+pub(crate) fn number_in(
+    value: &Value,
+    field: Field,
+    low: u32,
+    high: u32,
+    wrongs: &mut List<Wrong>,
+) -> Result<Option<u32>, Memory> {
+    let Some(value) = value.as_integer() else {
+        wrongs.push(wrong_kind(field, value))?;
+        return Ok(None);
+    };
+    match u32::try_from(value) {
+        Ok(number) if low <= number && number <= high => Ok(Some(number)),
+        _ => {
+            wrongs.push(Wrong::OutOfRange {
+                field,
+                value,
+                low,
+                high,
+            })?;
+            Ok(None)
+        }
+    }
+}
+
+/// The number of a range at a key.
+pub(crate) fn number(
+    table: &Table,
+    field: Field,
+    low: u32,
+    high: u32,
+    wrongs: &mut List<Wrong>,
+) -> Result<Option<u32>, Memory> {
+    let Some(value) = member(table, field) else {
+        wrongs.push(Wrong::Missing { field })?;
+        return Ok(None);
+    };
+    number_in(value, field, low, high, wrongs)
+}
+
+/// The boolean that a value is.
+pub(crate) fn flag_in(
+    value: &Value,
+    field: Field,
+    wrongs: &mut List<Wrong>,
+) -> Result<Option<bool>, Memory> {
+    let found = value.as_bool();
+    if found.is_none() {
+        wrongs.push(wrong_kind(field, value))?;
+    }
+    Ok(found)
+}
+
+/// The boolean at a key.
+pub(crate) fn tell_flag(
+    table: &Table,
+    field: Field,
+    wrongs: &mut List<Wrong>,
+) -> Result<(), Memory> {
+    let Some(value) = member(table, field) else {
+        return wrongs.push(Wrong::Missing { field });
+    };
+    flag_in(value, field, wrongs)?;
+    Ok(())
+}
+
+// Whether each of some values is a table.
+fn are_tables(values: &[Value]) -> bool
+    ensures { result ≡ are_tables (items_view values.now) }
+{
+    for value in values {
+        if !value.is_table() {
+            return false;
+        }
+    }
+    true
+}
+
+/// The slots of a file, where they are an array of tables.
+pub(crate) fn elements<'a>(
+    file: &'a Table,
+    wrongs: &mut List<Wrong>,
+) -> Result<Option<&'a [Value]>, Memory> {
+    let field = at_top(FieldName::Slot);
+    let Some(value) = member(file, field) else {
+        wrongs.push(Wrong::Missing { field })?;
+        return Ok(None);
+    };
+    match value.as_array() {
+        Some(values) if are_tables(values) => Ok(Some(values.as_slice())),
+        _ => {
+            wrongs.push(wrong_kind(field, value))?;
+            Ok(None)
+        }
+    }
+}

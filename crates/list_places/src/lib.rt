@@ -1,0 +1,8 @@
+//! Where what is wrong with a list stands in its text.
+#![tactic(auto)]
+
+mod places;
+mod stop;
+
+pub use places::{Place, Places, list_places};
+pub use stop::{Due, NoValue, Span, Stop, Token, Why};
