@@ -1,15 +1,16 @@
 -- All that is wrong with a list, in the order in which the reader looks for it.
 --
 -- A value is an `Option`: what a fault hides is missing, and what is measured by a missing value is not looked at.
-use Rattle.std.specs.Prelude.{ℕ, ℤ, suc, ◌-◌, Bool, true, false, not, ◌&&◌, ◌||◌, ◌==◌, List, [], ◌∷◌, ◌++◌, length, take, drop}
-use Rattle.std.specs.Prelude.{map, count_by, nat_le, nat_lt, codes, Option, Some, None, is_some, unwrap_or, slice_index}
+use Rattle.std.specs.Prelude.{ℕ, ℤ, suc, ◌+◌, ◌-◌, Bool, true, false, not, ◌&&◌, ◌||◌, ◌==◌, List, [], ◌∷◌, ◌++◌, length, take, drop}
+use Rattle.std.specs.Prelude.{map, filter, nat_le, nat_lt, codes, Option, Some, None, option_map, slice_index}
 use Rattle.std.specs.Prelude.{if◌then◌else◌, option_and_then}
 use Rattle.std.specs.List.{list_all}
-use Rattle.std.specs.Str.{is_utf8, bytes_eq, utf8_valid_len}
+use Rattle.std.specs.Str.{is_utf8, bytes_eq}
+use Rattle.std.specs.Str.Lossy.{utf8_valid_len}
 use Rattle.toml.specs.Data.{Data, string, integer, float, boolean, datetime, array, table}
-use Rattle.toml.specs.Data.{Members, no_members, member, as_integer, as_bool, as_str}
+use Rattle.toml.specs.Data.{Members, no_members, member, Items, as_integer, as_bool, as_str, as_array}
+use Rattle.toml_parser.specs.Lexical.{space, tab, line_feed, carriage_return, hash, first}
 use Rattle.ttp_world.specs.declared.medl.Kind.{Kind}
-use Rattle.script_text.specs.Lines.{is_blank, is_line_feed}
 use Rattle.medl_text.specs.declared.error.FieldName.{FieldName}
 use Rattle.medl_text.specs.declared.error.FieldName.TheVariants as names
 use Rattle.medl_text.specs.declared.error.Field.{Field}
@@ -144,17 +145,12 @@ slots_wrongs rounds modes k (table ∷ tables) =
 -- The array of slots.
 
 -- its elements are tables
-abbrev pub tables_wrongs : Field → Data → Bool → List Wrong
-tables_wrongs field d true = []
-tables_wrongs field d false = wrong.WrongKind field (type_of d) ∷ []
-
-abbrev pub array_wrongs_of : Field → Option Data → List Wrong
-array_wrongs_of field None = wrong.Missing field ∷ []
-array_wrongs_of field (Some (array ds)) = tables_wrongs field (array ds) (are_tables ds)
-array_wrongs_of field (Some d) = wrong.WrongKind field (type_of d) ∷ []
+abbrev pub tables_wrongs : Field → Items → List Wrong
+tables_wrongs field ds = if are_tables ds then [] else wrong.WrongKind field value_type.Array ∷ []
 
 unfoldable pub array_wrongs : Members → List Wrong
-array_wrongs file = array_wrongs_of (at_top names.Slot) (held_at (at_top names.Slot) file)
+array_wrongs file =
+    let field = at_top names.Slot in key_wrongs field as_array (tables_wrongs field) (held_at field file)
 
 -- the slots, where they are an array of tables
 abbrev pub elements_of : Members → Option (List Members)
@@ -170,10 +166,16 @@ count_wrongs version n = if nat_le 4 n && nat_le n (count_limit version) then []
 
 -- Keys that no list has.
 
--- the keys of a table but these, in their order
+-- the keys of a table, in their order, and those that are not among some
+abbrev pub keys_of : Members → List (List ℕ)
+keys_of no_members = []
+keys_of (member key d table) = key ∷ keys_of table
+
+abbrev pub is_strange : List FieldName → List ℕ → Bool
+is_strange known key = not (is_known_key known key)
+
 abbrev pub others : List FieldName → Members → List (List ℕ)
-others known no_members = []
-others known (member key d table) = if is_known_key known key then others known table else key ∷ others known table
+others known table = filter (is_strange known) (keys_of table)
 
 unfoldable pub unknown_at_top : Members → List Wrong
 unknown_at_top file = map (λ key. wrong.Unknown None key) (others top_keys file)
@@ -187,23 +189,28 @@ unknown_in_slots k (table ∷ tables) = unknown_at_slot k table ++ unknown_in_sl
 
 -- Slots for clock synchronization.
 
--- whether each slot has `sync`, where it says so
-abbrev pub syncs_of : ℕ → List Members → List (Option Bool)
-syncs_of k [] = []
-syncs_of k (table ∷ tables) =
-    unless (flag_wrongs (at_slot k names.Sync) table) (flag_at (at_slot k names.Sync) table) ∷ syncs_of (suc k) tables
+-- whether slot k has `sync`, where it says so
+abbrev pub sync_of : ℕ → Members → Option Bool
+sync_of k table = unless (flag_wrongs (at_slot k names.Sync) table) (flag_at (at_slot k names.Sync) table)
 
--- how many have
-abbrev pub sync_count : List (Option Bool) → ℕ
-sync_count syncs = count_by (λ sync. unwrap_or sync false) syncs
+-- how many slots have, from number k on, where all of them say so
+abbrev pub counted : Option Bool → Option ℕ → Option ℕ
+counted None count = None
+counted (Some sync) count = option_map (λ n. (if sync then 1 else 0) + n) count
 
--- fewer than four have, where all say so and there are as many slots as a list may have
-abbrev pub counts_syncs : List (Option Bool) → Bool
-counts_syncs syncs = (nat_le 4 (length syncs) && nat_le (length syncs) 24) && list_all is_some syncs
+abbrev pub sync_count : ℕ → List Members → Option ℕ
+sync_count k [] = Some 0
+sync_count k (table ∷ tables) = counted (sync_of k table) (sync_count (suc k) tables)
 
-unfoldable pub sync_wrongs : List (Option Bool) → List Wrong
-sync_wrongs syncs =
-    if counts_syncs syncs && nat_lt (sync_count syncs) 4 then wrong.NoSync (sync_count syncs) ∷ [] else []
+-- fewer than four have
+abbrev pub few_syncs : Option ℕ → List Wrong
+few_syncs None = []
+few_syncs (Some found) = if nat_le 4 found then [] else wrong.NoSync found ∷ []
+
+-- asked of as many slots as a list may have
+unfoldable pub sync_wrongs : List Members → List Wrong
+sync_wrongs slots =
+    if nat_le 4 (length slots) && nat_le (length slots) 24 then few_syncs (sync_count 0 slots) else []
 
 -- The whole table.
 
@@ -235,31 +242,19 @@ top_wrongs file =
     ++ (array_wrongs file
     ++ modes_wrongs file)))))))
 
--- the slots that are looked at: 24 of them
-abbrev pub looked_at : Option (List Members) → List Members
-looked_at None = []
-looked_at (Some tables) = take 24 tables
-
--- what is wrong with the number of slots
-abbrev pub number_of_slots_wrongs : Option ℕ → Option (List Members) → List Wrong
-number_of_slots_wrongs version None = []
-number_of_slots_wrongs version (Some tables) = count_wrongs version (length tables)
-
--- which slots have `sync`; where there are more than are looked at, that is not known
-abbrev pub all_syncs_of : Option (List Members) → List (Option Bool)
-all_syncs_of None = []
-all_syncs_of (Some tables) = if nat_le (length tables) 24 then syncs_of 0 tables else []
+-- what is wrong with the slots, of which 24 are looked at, and with keys that no list has
+abbrev pub below_wrongs : Members → Option (List Members) → List Wrong
+below_wrongs file None = unknown_at_top file
+below_wrongs file (Some slots) =
+    count_wrongs (version_of file) (length slots)
+    ++ (slots_wrongs (rounds_of file) (modes_of file) 0 (take 24 slots)
+    ++ (unknown_at_top file
+    ++ (unknown_in_slots 0 (take 24 slots)
+    ++ sync_wrongs slots)))
 
 -- all that is wrong with the table of a file
 unfoldable pub table_wrongs : Members → List Wrong
-table_wrongs file =
-    let slots = elements_of file in
-    top_wrongs file
-    ++ (number_of_slots_wrongs (version_of file) slots
-    ++ (slots_wrongs (rounds_of file) (modes_of file) 0 (looked_at slots)
-    ++ (unknown_at_top file
-    ++ (unknown_in_slots 0 (looked_at slots)
-    ++ sync_wrongs (all_syncs_of slots)))))
+table_wrongs file = top_wrongs file ++ below_wrongs file (elements_of file)
 
 -- A file that is no list.
 
@@ -273,17 +268,18 @@ is_utf16 text =
     ((slice_index text 0 == 255) && (slice_index text 1 == 254))
     || ((slice_index text 0 == 254) && (slice_index text 1 == 255))
 
--- a byte with which no word goes on: a blank, a line feed, or a carriage return before one or at the end
+-- a byte with which no word goes on: a space, a tab, a line feed, or a carriage return before one or at the end
 abbrev pub ends_word : ℕ → List ℕ → Bool
-ends_word b bs = is_blank b || (is_line_feed b || ((b == 13) && (length bs == 0 || is_line_feed (slice_index bs 0))))
+ends_word b bs =
+    (b == space || b == tab) || (b == line_feed || ((b == carriage_return) && (length bs == 0 || first bs == line_feed)))
 
 -- The text from the first word of the first line of a script that says something on. `inside` says that a comment has
 -- begun.
 abbrev pub said_from : Bool → List ℕ → List ℕ
 said_from inside [] = []
-said_from true (b ∷ bs) = said_from (not (is_line_feed b)) bs
+said_from true (b ∷ bs) = said_from (not (b == line_feed)) bs
 said_from false (b ∷ bs) =
-    if ends_word b bs then said_from false bs else (if b == 35 then said_from true bs else b ∷ bs)
+    if ends_word b bs then said_from false bs else (if b == hash then said_from true bs else b ∷ bs)
 
 -- no word goes on here
 abbrev pub is_word_end : List ℕ → Bool
@@ -297,9 +293,10 @@ begins_script text = bytes_eq (take 5 text) (codes "slots") && is_word_end (drop
 -- what is wrong with a text that is no TOML
 abbrev pub not_toml : List ℕ → Wrong
 not_toml text =
+    if is_utf16 text then wrong.Utf16 else (
     if begins_script (said_from false text) then wrong.IsScript (length text - length (said_from false text))
     else (if is_utf8 text then wrong.NotToml
-    else wrong.NotUtf8 (utf8_valid_len text) (slice_index text (utf8_valid_len text)))
+    else wrong.NotUtf8 (utf8_valid_len text) (slice_index text (utf8_valid_len text))))
 
 -- what is wrong with the table that a text is
 abbrev pub document_wrongs : List ℕ → Option Members → List Wrong
@@ -309,12 +306,11 @@ document_wrongs text (Some file) = table_wrongs file
 -- all that is wrong with the bytes of a list
 unfoldable pub list_wrongs : List ℕ → List Wrong
 list_wrongs text =
-    if nat_lt list_limit (length text) then wrong.TooLarge ∷ []
-    else (if is_utf16 text then wrong.Utf16 ∷ [] else document_wrongs text (document_of text))
+    if nat_lt list_limit (length text) then wrong.TooLarge ∷ [] else document_wrongs text (document_of text)
 
--- the rounds and the modes that a text says, where it is a document and they are right in it
+-- the rounds and the modes that a text says, where it is a document, not too large, and they are right in it
 unfoldable pub rounds_said : List ℕ → Option ℕ
-rounds_said text = option_and_then rounds_of (document_of text)
+rounds_said text = if nat_lt list_limit (length text) then None else option_and_then rounds_of (document_of text)
 
 unfoldable pub modes_said : List ℕ → Option ℕ
-modes_said text = option_and_then modes_of (document_of text)
+modes_said text = if nat_lt list_limit (length text) then None else option_and_then modes_of (document_of text)

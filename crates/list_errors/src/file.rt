@@ -1,7 +1,10 @@
 //! What is wrong with the table of a file.
-ghost use Rattle.std.specs.Prelude.{◌≡◌, ◌≤◌, ◌++◌, true, length, OnOk, IfOk};
+ghost use Rattle.std.specs.Prelude.{◌≡◌, ◌<◌, ◌≤◌, ◌++◌, [], ◌∷◌, true, length, map, take, option_map, OnOk, IfOk, IfSome, if◌then◌else◌};
 ghost use Rattle.toml.specs.View.{table_view, items_view};
 ghost use Rattle.medl_text.specs.ListFile.{are_tables, tables_of, is_known_key};
+ghost use Rattle.list_errors.specs.Errors.{version_of, rounds_of, modes_of, elements_of, count_limit, count_wrongs};
+ghost use Rattle.list_errors.specs.Errors.{slots_wrongs, is_strange, others, unknown_in_slots, sync_of, sync_count, sync_wrongs};
+ghost use Rattle.list_errors.specs.Errors.{modes_wrongs, top_wrongs, table_wrongs};
 
 use crate::error::Wrong;
 use crate::slot::tell_slot;
@@ -43,7 +46,10 @@ pub(crate) struct Measures {
 }
 
 // A number that fits a byte.
-fn byte_of(number: Option<u32>) -> Option<u8> {
+fn byte_of(number: Option<u32>) -> Option<u8>
+    requires { IfSome number (λ n. n < 256) }
+    ensures { result ≡ number }
+{
     match number {
         Some(number) => Some(number as u8),
         None => None,
@@ -51,7 +57,11 @@ fn byte_of(number: Option<u32>) -> Option<u8> {
 }
 
 // How many modes the cluster has.
-fn tell_modes(file: &Table, wrongs: &mut List<Wrong>) -> Result<Option<u8>, Memory> {
+#[tactic(auto, unfolding(crate::specs::Errors::modes_wrongs))]
+fn tell_modes(file: &Table, wrongs: &mut List<Wrong>) -> Result<Option<u8>, Memory>
+    ensures told { OnOk result (wrongs.new ≡ wrongs.old ++ modes_wrongs (table_view file.now)) }
+    ensures value { IfOk result (λ v. v ≡ modes_of (table_view file.now)) }
+{
     let field = at_top(FieldName::Modes);
     match member(file, field) {
         Some(value) => Ok(byte_of(number_in(value, field, 1, 8, wrongs)?)),
@@ -60,7 +70,9 @@ fn tell_modes(file: &Table, wrongs: &mut List<Wrong>) -> Result<Option<u8>, Memo
 }
 
 // The most slots of a list of this version, or of any.
-fn count_limit(version: Option<u32>) -> usize {
+fn count_limit(version: Option<u32>) -> usize
+    ensures { result ≡ count_limit version }
+{
     match version {
         Some(version) if version != 2 => 16,
         _ => MOST_SLOTS,
@@ -68,7 +80,10 @@ fn count_limit(version: Option<u32>) -> usize {
 }
 
 // Whether a list may have so many slots.
-fn tell_count(version: Option<u32>, found: usize, wrongs: &mut List<Wrong>) -> Result<(), Memory> {
+#[tactic(auto, unfolding(crate::specs::Errors::count_wrongs))]
+fn tell_count(version: Option<u32>, found: usize, wrongs: &mut List<Wrong>) -> Result<(), Memory>
+    ensures { OnOk result (wrongs.new ≡ wrongs.old ++ count_wrongs version found) }
+{
     if found < 4 || count_limit(version) < found {
         wrongs.push(Wrong::SlotCount { found })?;
     }
@@ -84,6 +99,8 @@ fn tell_slots(
 ) -> Result<(), Memory>
     requires tables { are_tables (items_view looked_at.now) ≡ true }
     requires count { length looked_at.now ≤ 24 }
+    ensures { OnOk result (wrongs.new
+        ≡ wrongs.old ++ slots_wrongs measures.rounds measures.modes 0 (tables_of (items_view looked_at.now))) }
 {
     for (k, element) in looked_at.iter().enumerate() {
         let table = element.as_table().unwrap();
@@ -105,6 +122,24 @@ fn is_known_key(key: &str, known: &[FieldName]) -> bool
     known.iter().any(|name| name.key() == key)
 }
 
+// A key, where no list has it.
+fn tell_if_unknown(
+    alloc: Global,
+    slot: Option<u8>,
+    key: &str,
+    known: &[FieldName],
+    wrongs: &mut List<Wrong>,
+) -> Result<(), Memory>
+    ensures { OnOk result (wrongs.new ≡ wrongs.old
+        ++ map (λ k. Wrong.Unknown slot k) (if is_strange known.now key.now then key.now ∷ [] else [])) }
+{
+    if is_known_key(key, known) {
+        return Ok(());
+    }
+    let key = List::from_vec(Vec::from_slice(alloc, key.as_bytes())?);
+    wrongs.push(Wrong::Unknown { slot, key })
+}
+
 // The keys that no list has at the top, or in a slot.
 fn tell_unknown(
     alloc: Global,
@@ -112,12 +147,12 @@ fn tell_unknown(
     table: &Table,
     known: &[FieldName],
     wrongs: &mut List<Wrong>,
-) -> Result<(), Memory> {
+) -> Result<(), Memory>
+    ensures { OnOk result (wrongs.new
+        ≡ wrongs.old ++ map (λ key. Wrong.Unknown slot key) (others known.now (table_view table.now))) }
+{
     for key in table.keys() {
-        if !is_known_key(key.as_str(), known) {
-            let key = List::from_vec(Vec::from_slice(alloc, key.as_bytes())?);
-            wrongs.push(Wrong::Unknown { slot, key })?;
-        }
+        tell_if_unknown(alloc, slot, key.as_str(), known, wrongs)?;
     }
     Ok(())
 }
@@ -130,6 +165,7 @@ fn tell_unknown_in(
 ) -> Result<(), Memory>
     requires tables { are_tables (items_view looked_at.now) ≡ true }
     requires count { length looked_at.now ≤ 24 }
+    ensures { OnOk result (wrongs.new ≡ wrongs.old ++ unknown_in_slots 0 (tables_of (items_view looked_at.now))) }
 {
     for (k, element) in looked_at.iter().enumerate() {
         let table = element.as_table().unwrap();
@@ -139,7 +175,10 @@ fn tell_unknown_in(
 }
 
 // Whether a slot has `sync`, where it says so.
-fn sync_in(k: u8, table: &Table) -> Option<bool> {
+#[tactic(auto, unfolding(crate::specs::Errors::flag_wrongs))]
+fn sync_in(k: u8, table: &Table) -> Option<bool>
+    ensures { result ≡ sync_of k (table_view table.now) }
+{
     member(table, at_slot(k, FieldName::Sync))?.as_bool()
 }
 
@@ -147,6 +186,7 @@ fn sync_in(k: u8, table: &Table) -> Option<bool> {
 fn sync_count(elements: &[Value]) -> Option<u8>
     requires tables { are_tables (items_view elements.now) ≡ true }
     requires count { length elements.now ≤ 24 }
+    ensures { result ≡ sync_count 0 (tables_of (items_view elements.now)) }
 {
     let mut count: u8 = 0;
     for (k, element) in elements.iter().enumerate() {
@@ -158,8 +198,10 @@ fn sync_count(elements: &[Value]) -> Option<u8>
 }
 
 // Whether enough slots have `sync`.
+#[tactic(auto, unfolding(crate::specs::Errors::sync_wrongs))]
 fn tell_sync(elements: &[Value], wrongs: &mut List<Wrong>) -> Result<(), Memory>
     requires tables { are_tables (items_view elements.now) ≡ true }
+    ensures { OnOk result (wrongs.new ≡ wrongs.old ++ sync_wrongs (tables_of (items_view elements.now))) }
 {
     if elements.len() < 4 || MOST_SLOTS < elements.len() {
         return Ok(());
@@ -170,12 +212,24 @@ fn tell_sync(elements: &[Value], wrongs: &mut List<Wrong>) -> Result<(), Memory>
     }
 }
 
-/// All that is wrong with the table of a file.
-pub(crate) fn tell_table(
-    alloc: Global,
-    file: &Table,
-    wrongs: &mut List<Wrong>,
-) -> Result<Measures, Memory> {
+/// The numbers at the top, and the slots, where they are right.
+struct Top<'a> {
+    version: Option<u32>,
+    measures: Measures,
+    slots: Option<&'a [Value]>,
+}
+
+// What is wrong with the keys at the top.
+#[tactic(auto, unfolding(crate::specs::Errors::top_wrongs))]
+fn tell_top<'a>(file: &'a Table, wrongs: &mut List<Wrong>) -> Result<Top<'a>, Memory>
+    ensures told { OnOk result (wrongs.new ≡ wrongs.old ++ top_wrongs (table_view file.now)) }
+    ensures version { IfOk result (λ top. top.version ≡ version_of (table_view file.now)) }
+    ensures rounds { IfOk result (λ top. top.measures.rounds ≡ rounds_of (table_view file.now)) }
+    ensures modes { IfOk result (λ top. top.measures.modes ≡ modes_of (table_view file.now)) }
+    ensures slots { IfOk result (λ top.
+        option_map (λ vs. tables_of (items_view vs.now)) top.slots ≡ elements_of (table_view file.now)) }
+    ensures tables { IfOk result (λ top. IfSome top.slots (λ vs. are_tables (items_view vs.now) ≡ true)) }
+{
     let version = number(file, at_top(FieldName::Version), 1, 2, wrongs)?;
     let rounds = byte_of(number(file, at_top(FieldName::Rounds), 1, 64, wrongs)?);
     number(file, at_top(FieldName::Schedule), 0, 16_777_215, wrongs)?;
@@ -185,16 +239,48 @@ pub(crate) fn tell_table(
     number(file, at_top(FieldName::Window), 1, 1_000_000, wrongs)?;
     let slots = elements(file, wrongs)?;
     let modes = tell_modes(file, wrongs)?;
-    let measures = Measures { rounds, modes };
+    Ok(Top {
+        version,
+        measures: Measures { rounds, modes },
+        slots,
+    })
+}
+
+// The slots that are looked at.
+fn looked_at(slots: &[Value]) -> &[Value]
+    requires { are_tables (items_view slots.now) ≡ true }
+    ensures value { tables_of (items_view result.now) ≡ take 24 (tables_of (items_view slots.now)) }
+    ensures tables { are_tables (items_view result.now) ≡ true }
+    ensures count { length result.now ≤ 24 }
+{
+    &slots[..slots.len().min(MOST_SLOTS)]
+}
+
+/// All that is wrong with the table of a file.
+#[tactic(auto, unfolding(crate::specs::Errors::table_wrongs, crate::specs::Errors::unknown_at_top))]
+pub(crate) fn tell_table(
+    alloc: Global,
+    file: &Table,
+    wrongs: &mut List<Wrong>,
+) -> Result<Measures, Memory>
+    ensures told { OnOk result (wrongs.new ≡ wrongs.old ++ table_wrongs (table_view file.now)) }
+    ensures rounds { IfOk result (λ measures. measures.rounds ≡ rounds_of (table_view file.now)) }
+    ensures modes { IfOk result (λ measures. measures.modes ≡ modes_of (table_view file.now)) }
+{
+    let Top {
+        version,
+        measures,
+        slots,
+    } = tell_top(file, wrongs)?;
     let Some(slots) = slots else {
         tell_unknown(alloc, None, file, &TOP_KEYS, wrongs)?;
         return Ok(measures);
     };
     tell_count(version, slots.len(), wrongs)?;
-    let looked_at = &slots[..slots.len().min(MOST_SLOTS)];
-    tell_slots(alloc, measures, looked_at, wrongs)?;
+    let seen = looked_at(slots);
+    tell_slots(alloc, measures, seen, wrongs)?;
     tell_unknown(alloc, None, file, &TOP_KEYS, wrongs)?;
-    tell_unknown_in(alloc, looked_at, wrongs)?;
+    tell_unknown_in(alloc, seen, wrongs)?;
     tell_sync(slots, wrongs)?;
     Ok(measures)
 }

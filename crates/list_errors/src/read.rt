@@ -1,13 +1,14 @@
 //! From the bytes of a list to its errors.
-ghost use Rattle.std.specs.Prelude.{◌≡◌, ◌≤◌, [], length, Ok, Some, IfOk, IfSome, OnNone};
+ghost use Rattle.std.specs.Prelude.{◌≡◌, ◌≤◌, [], ◌∷◌, length, Ok, Some, None, option_map, option_and_then, IfOk, IfSome, OnNone};
 ghost use Rattle.ttp_world.specs.Medl.{IsValid};
-ghost use Rattle.medl_text.specs.ListFile.{medl_of};
+ghost use Rattle.toml.specs.View.{table_view};
+ghost use Rattle.medl_text.specs.ListFile.{document_of, medl_of};
 ghost use Rattle.list_errors.specs.Agrees.{Agrees};
-ghost use Rattle.list_errors.specs.Errors.{list_limit, list_wrongs, rounds_said, modes_said};
+ghost use Rattle.list_errors.specs.Errors.{list_limit, document_wrongs, list_wrongs, rounds_of, modes_of, rounds_said, modes_said};
 
 use crate::error::Wrong;
 use crate::file::{Measures, tell_table};
-use crate::front::{is_utf16, not_toml};
+use crate::front::not_toml;
 use medl_text::{MedlError, read_medl};
 use std::alloc::Global;
 use std::str;
@@ -32,7 +33,12 @@ pub struct ListFound {
 const LIST_LIMIT: usize = 1_048_576;
 
 // One thing is wrong with a whole file.
-fn one(alloc: Global, wrong: Wrong) -> Result<ListFound, Memory> {
+fn one_wrong(alloc: Global, wrong: Wrong) -> Result<ListFound, Memory>
+    ensures wrongs { IfOk result (λ found. found.wrongs ≡ wrong ∷ []) }
+    ensures list { IfOk result (λ found. found.list ≡ None) }
+    ensures rounds { IfOk result (λ found. found.rounds ≡ None) }
+    ensures modes { IfOk result (λ found. found.modes ≡ None) }
+{
     let mut wrongs = List::new(alloc);
     wrongs.push(wrong)?;
     Ok(ListFound {
@@ -44,7 +50,10 @@ fn one(alloc: Global, wrong: Wrong) -> Result<ListFound, Memory> {
 }
 
 // The table that the bytes of a file are, where they are one.
-fn document_of(alloc: Global, text: &[u8]) -> Result<Option<Table>, Memory> {
+#[tactic(auto, unfolding(medl_text::specs::ListFile::document_of))]
+fn document_of(alloc: Global, text: &[u8]) -> Result<Option<Table>, Memory>
+    ensures { IfOk result (λ file. document_of text.now ≡ option_map table_view file) }
+{
     let Ok(text) = str::from_utf8(text) else {
         return Ok(None);
     };
@@ -56,9 +65,14 @@ fn document_of(alloc: Global, text: &[u8]) -> Result<Option<Table>, Memory> {
 }
 
 // What was found in the bytes of a list that the reader refuses.
-fn refused(alloc: Global, text: &[u8]) -> Result<ListFound, Memory> {
+fn refused(alloc: Global, text: &[u8]) -> Result<ListFound, Memory>
+    ensures wrongs { IfOk result (λ found. found.wrongs ≡ document_wrongs text.now (document_of text.now)) }
+    ensures list { IfOk result (λ found. found.list ≡ None) }
+    ensures rounds { IfOk result (λ found. found.rounds ≡ option_and_then rounds_of (document_of text.now)) }
+    ensures modes { IfOk result (λ found. found.modes ≡ option_and_then modes_of (document_of text.now)) }
+{
     let Some(file) = document_of(alloc, text)? else {
-        return one(alloc, not_toml(text));
+        return one_wrong(alloc, not_toml(text));
     };
     let mut wrongs = List::new(alloc);
     let Measures { rounds, modes } = tell_table(alloc, &file, &mut wrongs)?;
@@ -71,7 +85,12 @@ fn refused(alloc: Global, text: &[u8]) -> Result<ListFound, Memory> {
 }
 
 // What was found in the bytes of a list that the reader takes.
-fn right(alloc: Global, list: Medl) -> ListFound {
+fn right(alloc: Global, list: Medl) -> ListFound
+    ensures wrongs { result.wrongs ≡ [] }
+    ensures list { result.list ≡ Some list }
+    ensures rounds { result.rounds ≡ Some list.rounds }
+    ensures modes { result.modes ≡ Some list.modes }
+{
     let rounds = Some(list.rounds);
     let modes = Some(list.modes);
     ListFound {
@@ -88,15 +107,14 @@ fn right(alloc: Global, list: Medl) -> ListFound {
 pub fn list_errors(alloc: Global, text: &[u8]) -> Result<ListFound, Memory>
     ensures exact { IfOk result (λ found. found.wrongs ≡ list_wrongs text.now) }
     ensures agrees { IfOk result (λ found. length text.now ≤ list_limit → Agrees found.wrongs (medl_of text.now)) }
+    ensures rounds { IfOk result (λ found. found.rounds ≡ rounds_said text.now) }
+    ensures modes { IfOk result (λ found. found.modes ≡ modes_said text.now) }
     ensures list { IfOk result (λ found. IfSome found.list (λ list. medl_of text.now ≡ Ok list)) }
     ensures none { IfOk result (λ found. OnNone found.list (found.wrongs ≡ [] → ⊥)) }
     ensures valid { IfOk result (λ found. IfSome found.list IsValid) }
 {
     if LIST_LIMIT < text.len() {
-        return one(alloc, Wrong::TooLarge);
-    }
-    if is_utf16(text) {
-        return one(alloc, Wrong::Utf16);
+        return one_wrong(alloc, Wrong::TooLarge);
     }
     match read_medl(alloc, text) {
         Ok(list) => Ok(right(alloc, list)),

@@ -1,9 +1,8 @@
 //! The values at the keys of a table, each with what is wrong with it.
-ghost use Rattle.std.specs.Prelude.{◌≡◌, ◌≤◌, ◌++◌, true, Some, option_map, IfOk, OnOk, IfSome};
-ghost use Rattle.std.specs.List.{list_all};
+ghost use Rattle.std.specs.Prelude.{◌≡◌, ◌≤◌, pos, ◌++◌, true, unwrap_or, option_map, IfOk, OnOk, IfSome};
 ghost use Rattle.toml.specs.Data.{as_integer, as_bool};
 ghost use Rattle.toml.specs.View.{view, table_view, items_view};
-ghost use Rattle.medl_text.specs.ListFile.{at_top, at_slot, held_at, flag_at, are_tables, tables_of};
+ghost use Rattle.medl_text.specs.ListFile.{at_top, at_slot, held_at, natural, are_tables, tables_of};
 ghost use Rattle.list_errors.specs.Errors.{unless, type_of, kind_wrongs, range_wrongs, number_wrongs, number_of};
 ghost use Rattle.list_errors.specs.Errors.{flag_wrongs, nothing_wrong, elements_of, array_wrongs};
 
@@ -49,7 +48,9 @@ pub(crate) fn member(table: &Table, field: Field) -> Option<&Value>
 }
 
 /// That a value has another type.
-pub(crate) fn wrong_kind(field: Field, value: &Value) -> Wrong {
+pub(crate) fn wrong_kind(field: Field, value: &Value) -> Wrong
+    ensures { result ≡ Wrong.WrongKind field (type_of (view value.now)) }
+{
     Wrong::WrongKind {
         field,
         found: type_of(value),
@@ -63,7 +64,14 @@ pub(crate) fn number_in(
     low: u32,
     high: u32,
     wrongs: &mut List<Wrong>,
-) -> Result<Option<u32>, Memory> {
+) -> Result<Option<u32>, Memory>
+    ensures told { OnOk result (wrongs.new ≡ wrongs.old
+        ++ kind_wrongs field (view value.now) (range_wrongs field low high) (as_integer (view value.now))) }
+    ensures value { IfOk result (λ v. v
+        ≡ unless (kind_wrongs field (view value.now) (range_wrongs field low high) (as_integer (view value.now)))
+        (natural (unwrap_or (as_integer (view value.now)) (pos 0)))) }
+    ensures range { IfOk result (λ v. IfSome v (λ n. n ≤ high)) }
+{
     let Some(value) = value.as_integer() else {
         wrongs.push(wrong_kind(field, value))?;
         return Ok(None);
@@ -83,13 +91,18 @@ pub(crate) fn number_in(
 }
 
 /// The number of a range at a key.
+#[tactic(auto, unfolding(crate::specs::Errors::number_wrongs))]
 pub(crate) fn number(
     table: &Table,
     field: Field,
     low: u32,
     high: u32,
     wrongs: &mut List<Wrong>,
-) -> Result<Option<u32>, Memory> {
+) -> Result<Option<u32>, Memory>
+    ensures told { OnOk result (wrongs.new ≡ wrongs.old ++ number_wrongs field low high (table_view table.now)) }
+    ensures value { IfOk result (λ v. v ≡ number_of field low high (table_view table.now)) }
+    ensures range { IfOk result (λ v. IfSome v (λ n. n ≤ high)) }
+{
     let Some(value) = member(table, field) else {
         wrongs.push(Wrong::Missing { field })?;
         return Ok(None);
@@ -102,20 +115,23 @@ pub(crate) fn flag_in(
     value: &Value,
     field: Field,
     wrongs: &mut List<Wrong>,
-) -> Result<Option<bool>, Memory> {
-    let found = value.as_bool();
-    if found.is_none() {
+) -> Result<Option<bool>, Memory>
+    ensures told { OnOk result (wrongs.new ≡ wrongs.old
+        ++ kind_wrongs field (view value.now) nothing_wrong (as_bool (view value.now))) }
+    ensures value { IfOk result (λ v. v ≡ as_bool (view value.now)) }
+{
+    let Some(found) = value.as_bool() else {
         wrongs.push(wrong_kind(field, value))?;
-    }
-    Ok(found)
+        return Ok(None);
+    };
+    Ok(Some(found))
 }
 
 /// The boolean at a key.
-pub(crate) fn tell_flag(
-    table: &Table,
-    field: Field,
-    wrongs: &mut List<Wrong>,
-) -> Result<(), Memory> {
+#[tactic(auto, unfolding(crate::specs::Errors::flag_wrongs))]
+pub(crate) fn tell_flag(table: &Table, field: Field, wrongs: &mut List<Wrong>) -> Result<(), Memory>
+    ensures { OnOk result (wrongs.new ≡ wrongs.old ++ flag_wrongs field (table_view table.now)) }
+{
     let Some(value) = member(table, field) else {
         return wrongs.push(Wrong::Missing { field });
     };
@@ -136,10 +152,15 @@ fn are_tables(values: &[Value]) -> bool
 }
 
 /// The slots of a file, where they are an array of tables.
+#[tactic(auto, unfolding(crate::specs::Errors::array_wrongs))]
 pub(crate) fn elements<'a>(
     file: &'a Table,
     wrongs: &mut List<Wrong>,
-) -> Result<Option<&'a [Value]>, Memory> {
+) -> Result<Option<&'a [Value]>, Memory>
+    ensures told { OnOk result (wrongs.new ≡ wrongs.old ++ array_wrongs (table_view file.now)) }
+    ensures value { IfOk result (λ v. option_map (λ vs. tables_of (items_view vs.now)) v ≡ elements_of (table_view file.now)) }
+    ensures tables { IfOk result (λ v. IfSome v (λ vs. are_tables (items_view vs.now) ≡ true)) }
+{
     let field = at_top(FieldName::Slot);
     let Some(value) = member(file, field) else {
         wrongs.push(Wrong::Missing { field })?;

@@ -5,4 +5,4 @@ mod places;
 mod stop;
 
 pub use places::{Place, Places, list_places};
-pub use stop::{Due, NoValue, Span, Stop, Token, Why};
+pub use stop::{Due, NoValue, Stop, Token, Why};

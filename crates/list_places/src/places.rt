@@ -21,8 +21,7 @@ pub struct Places {
 }
 
 /// The places of the errors of a list, in their order.
-pub fn list_places(alloc: Global, text: &[u8], wrongs: &[Wrong]) -> Result<Places, Memory>
-{
+pub fn list_places(alloc: Global, text: &[u8], wrongs: &[Wrong]) -> Result<Places, Memory> {
     let places = List::new(alloc);
     Ok(Places { places, stop: None })
 }

@@ -2,13 +2,6 @@
 
 use ttp_base::List;
 
-/// Bytes of the text from `start` up to `end`, counted from 0.
-#[derive(Clone, Copy, PartialEq, Eq)]
-pub struct Span {
-    pub start: usize,
-    pub end: usize,
-}
-
 /// What the grammar has at a place.
 #[derive(Clone, Copy, PartialEq, Eq)]
 pub enum Due {
@@ -35,8 +28,8 @@ pub enum Token {
     LineEnd,
     /// `"`.
     DoubleQuote,
-    /// A word, or one byte that begins none.
-    Shown(Span),
+    /// A word of so many bytes, or one byte that begins none.
+    Shown { len: usize },
 }
 
 /// Why a word is no value.
@@ -60,8 +53,8 @@ pub enum Why {
     Due { due: Due, token: Token },
     /// A string has no end, or a character that may not stand in it.
     NoString,
-    /// A word is no value.
-    NoValue { word: Span, why: NoValue },
+    /// A word of so many bytes is no value.
+    NoValue { len: usize, reason: NoValue },
     /// A key is defined already. `key` has its parts, with dots between; `in_brackets` says that it stands in the single
     /// brackets of a header.
     Defined { key: List<u8>, in_brackets: bool },
