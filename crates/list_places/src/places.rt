@@ -1,15 +1,16 @@
 //! The places of the errors of a list.
-use crate::stop::Stop;
-use list_errors::Wrong;
-use std::alloc::Global;
-use ttp_base::{List, Memory};
 
-/// A byte of a text by its line and its column, both counted from 1.
-#[derive(Clone, Copy, PartialEq, Eq)]
-pub struct Place {
-    pub line: u32,
-    pub column: u32,
-}
+use crate::halt::{Halt, Halted};
+use crate::lines::{Place, line_starts, place_of};
+use crate::marks::{Marks, marks_of};
+use crate::stop::Stop;
+use crate::walk::read_all;
+use list_errors::Wrong;
+use medl_text::Field;
+use std::alloc::Global;
+use std::collections::BTreeMap;
+use std::str;
+use ttp_base::{List, Memory};
 
 /// Where the errors of a list stand.
 #[derive(Drop)]
@@ -20,8 +21,102 @@ pub struct Places {
     pub stop: Option<Stop>,
 }
 
+// How many bytes are left where a key stands.
+fn left_at(keys: &BTreeMap<String, usize>, key: &str) -> Option<usize> {
+    keys.get(key).copied()
+}
+
+// The same of a key at the top or of a slot.
+fn left_at_key(marks: &Marks, slot: Option<u8>, key: &str) -> Option<usize> {
+    match slot {
+        None => left_at(&marks.top, key),
+        Some(k) => left_at(&marks.slots.as_slice().get(k as usize)?.keys, key),
+    }
+}
+
+fn left_at_field(marks: &Marks, field: Field) -> Option<usize> {
+    left_at_key(marks, field.slot, field.name.key())
+}
+
+fn left_at_slot(marks: &Marks, k: u8) -> Option<usize> {
+    Some(marks.slots.as_slice().get(k as usize)?.left)
+}
+
+// How many bytes are left where an error stands that the marks tell.
+fn left_of(marks: &Marks, wrong: &Wrong) -> Option<usize> {
+    match wrong {
+        Wrong::Missing { field } => left_at_slot(marks, field.slot?),
+        Wrong::WrongKind { field, .. } | Wrong::OutOfRange { field, .. } => {
+            left_at_field(marks, *field)
+        }
+        Wrong::SlotCount { .. } | Wrong::NoSync { .. } => left_at_key(marks, None, "slot"),
+        Wrong::Kinds { slot, .. } => left_at_key(marks, Some(*slot), "kinds"),
+        Wrong::Live { slot, .. } => left_at_key(marks, Some(*slot), "live"),
+        Wrong::NoRequestData { slot } => left_at_key(marks, Some(*slot), "requests"),
+        Wrong::Unknown { slot, key } => match str::from_utf8(key.as_slice()) {
+            Ok(key) => left_at_key(marks, *slot, key),
+            Err(_) => None,
+        },
+        _ => None,
+    }
+}
+
+// The byte of a text at which an error stands.
+fn at_of(marks: &Marks, size: usize, wrong: &Wrong) -> usize {
+    match wrong {
+        Wrong::IsScript { at } | Wrong::NotUtf8 { at, .. } => *at,
+        _ => match left_of(marks, wrong) {
+            Some(left) => size - left,
+            None => 0,
+        },
+    }
+}
+
+// Where a text stops being TOML, if the walk stops.
+fn stop_of(alloc: Global, text: &str) -> Result<Option<Stop>, Memory> {
+    match read_all(alloc, text) {
+        Ok(()) => Ok(None),
+        Err(Halt::Memory) => Err(Memory),
+        Err(Halt::Stop(Halted { left, why })) => Ok(Some(Stop {
+            at: text.len() - left,
+            why,
+        })),
+    }
+}
+
+fn is_no_toml(wrongs: &[Wrong]) -> bool {
+    matches!(wrongs, [Wrong::NotToml])
+}
+
+// The place of the one error of a text that is no TOML.
+fn place_of_stop(alloc: Global, text: &[u8], starts: &[usize]) -> Result<Places, Memory> {
+    let stop = match str::from_utf8(text) {
+        Ok(text) => stop_of(alloc, text)?,
+        Err(_) => None,
+    };
+    let at = match &stop {
+        Some(stop) => stop.at,
+        None => 0,
+    };
+    let mut places = List::new(alloc);
+    places.push(place_of(starts, at))?;
+    Ok(Places { places, stop })
+}
+
 /// The places of the errors of a list, in their order.
 pub fn list_places(alloc: Global, text: &[u8], wrongs: &[Wrong]) -> Result<Places, Memory> {
-    let places = List::new(alloc);
+    let starts = line_starts(alloc, text)?;
+    if is_no_toml(wrongs) {
+        return place_of_stop(alloc, text, starts.as_slice());
+    }
+    let marks = match str::from_utf8(text) {
+        Ok(text) => marks_of(alloc, text)?,
+        Err(_) => marks_of(alloc, "")?,
+    };
+    let mut places = List::new(alloc);
+    for wrong in wrongs {
+        let at = at_of(&marks, text.len(), wrong);
+        places.push(place_of(starts.as_slice(), at))?;
+    }
     Ok(Places { places, stop: None })
 }
