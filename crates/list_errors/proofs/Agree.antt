@@ -1,15 +1,15 @@
 -- Part for part the errors of a list begin with the first fault that the reader of lists looks for, as long as no part
 -- before has one.
-use Rattle.std.proofs.Common.{◌≡◌, ℕ, zero, suc, ◌≤◌, Bool, true, false, List, [], ◌∷◌, ◌++◌, Option, Some, None, refl, ap}
-use Rattle.std.proofs.Common.{◌∙◌, sym, inl, inr, subst, arith, length, map, take, append_assoc}
-use Rattle.std.specs.Prelude.{◌⊎◌, ◌&&◌, ◌==◌, ◌*◌, not, ℤ, nat_le, nat_lt, count_by, if◌then◌else◌, option_map}
+use Rattle.std.proofs.Common.{◌≡◌, ℕ, suc, ◌≤◌, Bool, true, false, List, [], ◌∷◌, ◌++◌, Option, Some, None, refl, ap}
+use Rattle.std.proofs.Common.{◌∙◌, sym, inl, inr, arith, length, map}
+use Rattle.std.specs.Prelude.{◌⊎◌, ◌+◌, ◌&&◌, ◌==◌, ◌*◌, not, nat_le, count_by, if◌then◌else◌}
 use Rattle.std.specs.List.{list_all}
 use Rattle.std.proofs.lemmas.Bool.{and_parts, leb-true}
-use Rattle.std.proofs.lemmas.Grind.{common_steps}
-use Rattle.toml.specs.Data.{Data, Items, Members, no_members, member, as_integer, as_bool, as_str, as_array}
+use Rattle.std.proofs.lemmas.List.Sums.{sum_by-cons}
+use Rattle.toml.specs.Data.{Data, Members, no_members, member, as_integer, as_bool, as_str, as_array}
 use Rattle.ttp_base.specs.Faults.{first_fault}
 use Rattle.ttp_world.specs.Medl.{member_bytes}
-use Rattle.ttp_world.specs.declared.medl.Medl.{Medl}
+use Rattle.ttp_world.specs.declared.medl.SlotPlan.{SlotPlan}
 use Rattle.medl_text.specs.declared.error.FieldName.{FieldName}
 use Rattle.medl_text.specs.declared.error.FieldName.TheVariants as names
 use Rattle.medl_text.specs.declared.error.Field.{Field}
@@ -20,29 +20,26 @@ use Rattle.medl_text.specs.ListFile.{is_within, is_kind, is_answer, are_tables, 
 use Rattle.medl_text.specs.ListFile.{payload_limit, kinds_at, number_at, flag_at, requests_faults, request_faults, live_faults}
 use Rattle.medl_text.specs.ListFile.{letters_faults, answers_faults, slot_faults, slot_plan_of, plans_of, slots_faults}
 use Rattle.medl_text.specs.ListFile.{tables_faults, array_faults, count_faults, slot_limit, is_known_key, has_only, top_keys}
-use Rattle.medl_text.specs.ListFile.{slot_keys, sync_faults, modes_faults, modes_in, slots_in, unknown_faults, file_faults}
-use Rattle.medl_text.specs.ListFile.{list_in, list_unless, medl_in, document_of, medl_of, medl_of_document}
-use Rattle.medl_text.specs.ListFile.unknown_in_slots as reader_unknown
+use Rattle.medl_text.specs.ListFile.{slot_keys, sync_faults, modes_faults}
+use Rattle.medl_text.specs.ListFile.{unknown_in_slots as reader_unknown}
 use Rattle.list_errors.specs.declared.error.Wrong.{Wrong}
 use Rattle.list_errors.specs.declared.error.Wrong.TheVariants as wrong
-use Rattle.list_errors.specs.Agrees.{reader_fault, Agrees}
-use Rattle.list_errors.specs.Errors.{unless, kind_wrongs, key_wrongs, optional_wrongs, nothing_wrong, range_wrongs, number_wrongs}
-use Rattle.list_errors.specs.Errors.{number_of, flag_wrongs, letters_wrongs, kinds_wrongs, kinds_of, answers_wrongs, live_wrongs}
-use Rattle.list_errors.specs.Errors.{data_limit, data_wrongs, payload_of, request_wrongs, requests_wrongs, slot_wrongs}
-use Rattle.list_errors.specs.Errors.{slots_wrongs, tables_wrongs, array_wrongs, elements_of, count_limit, count_wrongs, others}
-use Rattle.list_errors.specs.Errors.{unknown_at_top, unknown_at_slot, unknown_in_slots, sync_of, counted, sync_count, few_syncs}
-use Rattle.list_errors.specs.Errors.{sync_wrongs, modes_wrongs, version_of, rounds_of, modes_of, top_wrongs, below_wrongs}
-use Rattle.list_errors.specs.Errors.{table_wrongs, list_limit, not_toml, is_utf16, begins_script, said_from, document_wrongs}
-use Rattle.list_errors.specs.Errors.{list_wrongs}
+use Rattle.list_errors.specs.Agrees.{list_fault}
+use Rattle.list_errors.specs.Errors.{kind_wrongs, key_wrongs, optional_wrongs, nothing_wrong, range_wrongs, number_wrongs}
+use Rattle.list_errors.specs.Errors.{flag_wrongs, letters_wrongs, kinds_wrongs, answers_wrongs, live_wrongs}
+use Rattle.list_errors.specs.Errors.{data_wrongs, payload_known, request_wrongs, requests_wrongs, slot_wrongs}
+use Rattle.list_errors.specs.Errors.{slots_wrongs, tables_wrongs, array_wrongs, count_wrongs, unknown_keys}
+use Rattle.list_errors.specs.Errors.{unknown_keys_at_top, unknown_keys_at_slot, unknown_keys_in_slots, sync_count, few_syncs}
+use Rattle.list_errors.specs.Errors.{sync_wrongs, modes_wrongs}
 
 -- nothing is wrong by either, or the reader's first fault is what is wrong first
 abbrev pub Outcome : List Wrong → List MedlError → Type 0
 Outcome told found =
     ((told ≡ []) × (found ≡ []))
-    ⊎ ((fault : MedlError) × ((first_fault (map reader_fault told) ≡ Some fault) × (first_fault found ≡ Some fault)))
+    ⊎ ((fault : MedlError) × ((first_fault (map list_fault told) ≡ Some fault) × (first_fault found ≡ Some fault)))
 
-told_behind : (front more : List Wrong) (fault : MedlError) → first_fault (map reader_fault front) ≡ Some fault
-    → first_fault (map reader_fault (front ++ more)) ≡ Some fault
+told_behind : (front more : List Wrong) (fault : MedlError) → first_fault (map list_fault front) ≡ Some fault
+    → first_fault (map list_fault (front ++ more)) ≡ Some fault
 told_behind [] more fault h = absurd cc
 told_behind (w ∷ ws) more fault h = h
 
@@ -60,14 +57,14 @@ both told more found next (inr (fault, (first, is))) behind =
 
 -- one thing may be wrong
 by_test : (right : Bool) (w : Wrong)
-    → Outcome (if right then [] else w ∷ []) (if right then [] else reader_fault w ∷ [])
+    → Outcome (if right then [] else w ∷ []) (if right then [] else list_fault w ∷ [])
 by_test true w = inl (refl, refl)
-by_test false w = inr (reader_fault w, (refl, refl))
+by_test false w = inr (list_fault w, (refl, refl))
 
 -- where this holds
 in_test : (wrong_there : Bool) (w : Wrong)
-    → Outcome (if wrong_there then w ∷ [] else []) (if wrong_there then reader_fault w ∷ [] else [])
-in_test true w = inr (reader_fault w, (refl, refl))
+    → Outcome (if wrong_there then w ∷ [] else []) (if wrong_there then list_fault w ∷ [] else [])
+in_test true w = inr (list_fault w, (refl, refl))
 in_test false w = inl (refl, refl)
 
 -- Keys.
@@ -146,15 +143,15 @@ requests_agree k payload table =
     (held_at (at_slot k names.Requests) table)
     (λ requests. in_test (requests && (payload == 0)) (wrong.NoRequestData k))
 
-payload_known : (rounds : Option ℕ) (k : ℕ) (table : Members) → data_wrongs rounds k table ≡ []
-    → payload_of rounds k table ≡ Some (number_at (at_slot k names.DataSize) table)
-payload_known rounds k table right = rw right refl
+payload_is_known : (rounds : Option ℕ) (k : ℕ) (table : Members) → data_wrongs rounds k table ≡ []
+    → payload_known rounds k table ≡ Some (number_at (at_slot k names.DataSize) table)
+payload_is_known rounds k table right = rw right refl
 
 requests_there : (rounds k : ℕ) (table : Members) → data_wrongs (Some rounds) k table ≡ []
-    → Outcome (requests_wrongs k (payload_of (Some rounds) k table) table)
+    → Outcome (requests_wrongs k (payload_known (Some rounds) k table) table)
     (requests_faults k (number_at (at_slot k names.DataSize) table) table)
 requests_there rounds k table right =
-    rw (payload_known (Some rounds) k table right)
+    rw (payload_is_known (Some rounds) k table right)
     (requests_agree k (number_at (at_slot k names.DataSize) table) table)
 
 slot_agrees : (rounds modes k : ℕ) (table : Members)
@@ -176,29 +173,34 @@ slots_agree rounds modes k (table ∷ tables) =
 -- Keys that no list has.
 
 one_key : (slot : Option ℕ) (known : List FieldName) (key : List ℕ) (table : Members) (is_known : Bool)
-    → Outcome (map (λ k. wrong.Unknown slot k) (others known table))
+    → Outcome (map (λ k. wrong.Unknown slot k) (unknown_keys known table))
     (if has_only known table then [] else faults.Unknown slot ∷ [])
-    → Outcome (map (λ k. wrong.Unknown slot k) (if not is_known then key ∷ others known table else others known table))
+    → Outcome (map (λ k. wrong.Unknown slot k) (if not is_known then key ∷ unknown_keys known table else unknown_keys known table))
     (if (is_known && has_only known table) then [] else faults.Unknown slot ∷ [])
 one_key slot known key table true rest = rest
 one_key slot known key table false rest = inr (faults.Unknown slot, (refl, refl))
 
 unknown_agrees : (slot : Option ℕ) (known : List FieldName) (table : Members)
-    → Outcome (map (λ k. wrong.Unknown slot k) (others known table))
+    → Outcome (map (λ k. wrong.Unknown slot k) (unknown_keys known table))
     (if has_only known table then [] else faults.Unknown slot ∷ [])
 unknown_agrees slot known no_members = inl (refl, refl)
 unknown_agrees slot known (member key d table) =
     one_key slot known key table (is_known_key known key) (unknown_agrees slot known table)
 
 pub top_unknown : (file : Members)
-    → Outcome (unknown_at_top file) (if has_only top_keys file then [] else faults.Unknown None ∷ [])
-unfolding unknown_at_top
+    → Outcome (unknown_keys_at_top file) (if has_only top_keys file then [] else faults.Unknown None ∷ [])
+unfolding unknown_keys_at_top
 top_unknown file = unknown_agrees None top_keys file
 
-pub slots_unknown : (k : ℕ) (tables : List Members) → Outcome (unknown_in_slots k tables) (reader_unknown k tables)
+slot_unknown : (k : ℕ) (table : Members)
+    → Outcome (unknown_keys_at_slot k table) (if has_only slot_keys table then [] else faults.Unknown (Some k) ∷ [])
+unfolding unknown_keys_at_slot
+slot_unknown k table = unknown_agrees (Some k) slot_keys table
+
+pub slots_unknown : (k : ℕ) (tables : List Members) → Outcome (unknown_keys_in_slots k tables) (reader_unknown k tables)
 slots_unknown k [] = inl (refl, refl)
 slots_unknown k (table ∷ tables) =
-    both _ _ _ _ (unknown_agrees (Some k) slot_keys table) (λ right. slots_unknown (suc k) tables)
+    both _ _ _ _ (slot_unknown k table) (λ right. slots_unknown (suc k) tables)
 
 -- Slots for clock synchronization.
 
@@ -229,7 +231,13 @@ syncs_agree rounds modes k (table ∷ tables) none =
     let here = sync_right rounds (Some modes) k table (front_right (slot_wrongs rounds (Some modes) k table) _ none) in
     let rest = syncs_agree rounds modes (suc k) tables
     (back_right (slot_wrongs rounds (Some modes) k table) (slots_wrongs rounds (Some modes) (suc k) tables) none) in
-    rw (here, rest, plan_syncs modes k table) refl
+    let more : count_by (λ (plan : SlotPlan). plan.sync) (plans_of modes k (table ∷ tables))
+    ≡ (if flag_at (at_slot k names.Sync) table then 1 else 0)
+    + count_by (λ (plan : SlotPlan). plan.sync) (plans_of modes (suc k) tables) =
+    sum_by-cons (λ (plan : SlotPlan). if plan.sync then 1 else 0) (slot_plan_of modes k table) (plans_of modes (suc k) tables)
+    ∙ ap (λ (b : Bool). (if b then 1 else 0) + count_by (λ (plan : SlotPlan). plan.sync) (plans_of modes (suc k) tables))
+    (plan_syncs modes k table) in
+    rw (here, rest) (ap Some (sym more))
 
 few_agree : (found : ℕ) → Outcome (few_syncs (Some found)) (if nat_le 4 found then [] else faults.NoSync found ∷ [])
 few_agree found = by_test (nat_le 4 found) (wrong.NoSync found)

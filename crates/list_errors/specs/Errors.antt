@@ -7,14 +7,15 @@ use Rattle.std.specs.Prelude.{if◌then◌else◌, option_and_then}
 use Rattle.std.specs.List.{list_all}
 use Rattle.std.specs.Str.{is_utf8, bytes_eq}
 use Rattle.std.specs.Str.Lossy.{utf8_valid_len}
-use Rattle.toml.specs.Data.{Data, string, integer, float, boolean, datetime, array, table}
+use Rattle.toml.specs.Data as toml_data
+use Rattle.toml.specs.Data.{Data}
 use Rattle.toml.specs.Data.{Members, no_members, member, Items, as_integer, as_bool, as_str, as_array}
 use Rattle.toml_parser.specs.Lexical.{space, tab, line_feed, carriage_return, hash, first}
 use Rattle.ttp_world.specs.declared.medl.Kind.{Kind}
 use Rattle.medl_text.specs.declared.error.FieldName.{FieldName}
 use Rattle.medl_text.specs.declared.error.FieldName.TheVariants as names
 use Rattle.medl_text.specs.declared.error.Field.{Field}
-use Rattle.medl_text.specs.ListFile.{at_top, at_slot, held_at, is_within, number_at, flag_at, text_at, kinds_at}
+use Rattle.medl_text.specs.ListFile.{at_top, at_slot, held_at, is_within, number_at, flag_at, kinds_at}
 use Rattle.medl_text.specs.ListFile.{is_kind, is_answer, payload_limit, slots_in, are_tables, slot_limit, modes_in}
 use Rattle.medl_text.specs.ListFile.{is_known_key, top_keys, slot_keys, document_of}
 use Rattle.list_errors.specs.declared.error.ValueType.{ValueType}
@@ -23,21 +24,21 @@ use Rattle.list_errors.specs.declared.error.Wrong.{Wrong}
 use Rattle.list_errors.specs.declared.error.Wrong.TheVariants as wrong
 
 -- a value, where nothing is wrong with it
-abbrev pub unless : {X : Type 0} → List Wrong → X → Option X
-unless [] x = Some x
-unless (w ∷ ws) x = None
+abbrev pub where_right : {X : Type 0} → List Wrong → X → Option X
+where_right [] x = Some x
+where_right (w ∷ ws) x = None
 
 -- The faults of one key.
 
 -- the type of a value
 abbrev pub type_of : Data → ValueType
-type_of (string s) = value_type.String
-type_of (integer z) = value_type.Integer
-type_of (float x) = value_type.Float
-type_of (boolean b) = value_type.Boolean
-type_of (datetime dt) = value_type.Datetime
-type_of (array ds) = value_type.Array
-type_of (table ms) = value_type.Table
+type_of (toml_data.string s) = value_type.String
+type_of (toml_data.integer z) = value_type.Integer
+type_of (toml_data.float x) = value_type.Float
+type_of (toml_data.boolean b) = value_type.Boolean
+type_of (toml_data.datetime dt) = value_type.Datetime
+type_of (toml_data.array ds) = value_type.Array
+type_of (toml_data.table ms) = value_type.Table
 
 -- what is wrong with the value of a key that is seen as another type
 abbrev pub kind_wrongs : {X : Type 0} → Field → Data → (X → List Wrong) → Option X → List Wrong
@@ -66,8 +67,8 @@ unfoldable pub number_wrongs : Field → ℕ → ℕ → Members → List Wrong
 number_wrongs field low high table = key_wrongs field as_integer (range_wrongs field low high) (held_at field table)
 
 -- the number itself
-abbrev pub number_of : Field → ℕ → ℕ → Members → Option ℕ
-number_of field low high table = unless (number_wrongs field low high table) (number_at field table)
+abbrev pub number_known : Field → ℕ → ℕ → Members → Option ℕ
+number_known field low high table = where_right (number_wrongs field low high table) (number_at field table)
 
 -- `true` or `false`
 unfoldable pub flag_wrongs : Field → Members → List Wrong
@@ -90,8 +91,8 @@ kinds_wrongs rounds k table =
     let field = at_slot k names.Kinds in key_wrongs field as_str (letters_wrongs rounds k) (held_at field table)
 
 -- the kinds themselves
-abbrev pub kinds_of : Option ℕ → ℕ → Members → Option (List Kind)
-kinds_of rounds k table = unless (kinds_wrongs rounds k table) (kinds_at k table)
+abbrev pub kinds_known : Option ℕ → ℕ → Members → Option (List Kind)
+kinds_known rounds k table = where_right (kinds_wrongs rounds k table) (kinds_at k table)
 
 -- the modes in which a slot is live
 abbrev pub answers_wrongs : Option ℕ → ℕ → List ℕ → List Wrong
@@ -110,11 +111,11 @@ data_limit None = 240
 data_limit (Some kinds) = payload_limit kinds
 
 unfoldable pub data_wrongs : Option ℕ → ℕ → Members → List Wrong
-data_wrongs rounds k table = number_wrongs (at_slot k names.DataSize) 0 (data_limit (kinds_of rounds k table)) table
+data_wrongs rounds k table = number_wrongs (at_slot k names.DataSize) 0 (data_limit (kinds_known rounds k table)) table
 
 -- the payload itself
-abbrev pub payload_of : Option ℕ → ℕ → Members → Option ℕ
-payload_of rounds k table = unless (data_wrongs rounds k table) (number_at (at_slot k names.DataSize) table)
+abbrev pub payload_known : Option ℕ → ℕ → Members → Option ℕ
+payload_known rounds k table = where_right (data_wrongs rounds k table) (number_at (at_slot k names.DataSize) table)
 
 -- a slot that asks for modes has payload, where that is known
 abbrev pub request_wrongs : ℕ → Option ℕ → Bool → List Wrong
@@ -133,7 +134,7 @@ slot_wrongs rounds modes k table =
     ++ (data_wrongs rounds k table
     ++ (flag_wrongs (at_slot k names.Sync) table
     ++ (flag_wrongs (at_slot k names.Start) table
-    ++ (requests_wrongs k (payload_of rounds k table) table
+    ++ (requests_wrongs k (payload_known rounds k table) table
     ++ live_wrongs modes k table))))
 
 -- with those of some slots, the first of which has this number
@@ -154,7 +155,7 @@ array_wrongs file =
 
 -- the slots, where they are an array of tables
 abbrev pub elements_of : Members → Option (List Members)
-elements_of file = unless (array_wrongs file) (slots_in file)
+elements_of file = where_right (array_wrongs file) (slots_in file)
 
 -- the most slots of a list of this version, or of any
 abbrev pub count_limit : Option ℕ → ℕ
@@ -171,36 +172,36 @@ abbrev pub keys_of : Members → List (List ℕ)
 keys_of no_members = []
 keys_of (member key d table) = key ∷ keys_of table
 
-abbrev pub is_strange : List FieldName → List ℕ → Bool
-is_strange known key = not (is_known_key known key)
+abbrev pub is_unknown_key : List FieldName → List ℕ → Bool
+is_unknown_key known key = not (is_known_key known key)
 
-abbrev pub others : List FieldName → Members → List (List ℕ)
-others known table = filter (is_strange known) (keys_of table)
+abbrev pub unknown_keys : List FieldName → Members → List (List ℕ)
+unknown_keys known table = filter (is_unknown_key known) (keys_of table)
 
-unfoldable pub unknown_at_top : Members → List Wrong
-unknown_at_top file = map (λ key. wrong.Unknown None key) (others top_keys file)
+unfoldable pub unknown_keys_at_top : Members → List Wrong
+unknown_keys_at_top file = map (λ key. wrong.Unknown None key) (unknown_keys top_keys file)
 
-abbrev pub unknown_at_slot : ℕ → Members → List Wrong
-unknown_at_slot k table = map (λ key. wrong.Unknown (Some k) key) (others slot_keys table)
+unfoldable pub unknown_keys_at_slot : ℕ → Members → List Wrong
+unknown_keys_at_slot k table = map (λ key. wrong.Unknown (Some k) key) (unknown_keys slot_keys table)
 
-abbrev pub unknown_in_slots : ℕ → List Members → List Wrong
-unknown_in_slots k [] = []
-unknown_in_slots k (table ∷ tables) = unknown_at_slot k table ++ unknown_in_slots (suc k) tables
+abbrev pub unknown_keys_in_slots : ℕ → List Members → List Wrong
+unknown_keys_in_slots k [] = []
+unknown_keys_in_slots k (table ∷ tables) = unknown_keys_at_slot k table ++ unknown_keys_in_slots (suc k) tables
 
 -- Slots for clock synchronization.
 
 -- whether slot k has `sync`, where it says so
 abbrev pub sync_of : ℕ → Members → Option Bool
-sync_of k table = unless (flag_wrongs (at_slot k names.Sync) table) (flag_at (at_slot k names.Sync) table)
+sync_of k table = where_right (flag_wrongs (at_slot k names.Sync) table) (flag_at (at_slot k names.Sync) table)
 
 -- how many slots have, from number k on, where all of them say so
-abbrev pub counted : Option Bool → Option ℕ → Option ℕ
-counted None count = None
-counted (Some sync) count = option_map (λ n. (if sync then 1 else 0) + n) count
+abbrev pub with_sync : Option Bool → Option ℕ → Option ℕ
+with_sync None count = None
+with_sync (Some sync) count = option_map (λ n. (if sync then 1 else 0) + n) count
 
 abbrev pub sync_count : ℕ → List Members → Option ℕ
 sync_count k [] = Some 0
-sync_count k (table ∷ tables) = counted (sync_of k table) (sync_count (suc k) tables)
+sync_count k (table ∷ tables) = with_sync (sync_of k table) (sync_count (suc k) tables)
 
 -- fewer than four have
 abbrev pub few_syncs : Option ℕ → List Wrong
@@ -220,14 +221,14 @@ modes_wrongs file =
     let field = at_top names.Modes in optional_wrongs field as_integer (range_wrongs field 1 8) (held_at field file)
 
 -- the version, the rounds and the modes, where they are right
-abbrev pub version_of : Members → Option ℕ
-version_of file = number_of (at_top names.Version) 1 2 file
+abbrev pub version_known : Members → Option ℕ
+version_known file = number_known (at_top names.Version) 1 2 file
 
-abbrev pub rounds_of : Members → Option ℕ
-rounds_of file = number_of (at_top names.Rounds) 1 64 file
+abbrev pub rounds_known : Members → Option ℕ
+rounds_known file = number_known (at_top names.Rounds) 1 64 file
 
-abbrev pub modes_of : Members → Option ℕ
-modes_of file = unless (modes_wrongs file) (modes_in file)
+abbrev pub modes_known : Members → Option ℕ
+modes_known file = where_right (modes_wrongs file) (modes_in file)
 
 -- what is wrong with the keys at the top
 unfoldable pub top_wrongs : Members → List Wrong
@@ -244,12 +245,12 @@ top_wrongs file =
 
 -- what is wrong with the slots, of which 24 are looked at, and with keys that no list has
 abbrev pub below_wrongs : Members → Option (List Members) → List Wrong
-below_wrongs file None = unknown_at_top file
+below_wrongs file None = unknown_keys_at_top file
 below_wrongs file (Some slots) =
-    count_wrongs (version_of file) (length slots)
-    ++ (slots_wrongs (rounds_of file) (modes_of file) 0 (take 24 slots)
-    ++ (unknown_at_top file
-    ++ (unknown_in_slots 0 (take 24 slots)
+    count_wrongs (version_known file) (length slots)
+    ++ (slots_wrongs (rounds_known file) (modes_known file) 0 (take 24 slots)
+    ++ (unknown_keys_at_top file
+    ++ (unknown_keys_in_slots 0 (take 24 slots)
     ++ sync_wrongs slots)))
 
 -- all that is wrong with the table of a file
@@ -263,8 +264,8 @@ abbrev pub list_limit : ℕ
 list_limit = 1048576
 
 -- it begins with the mark of UTF-16
-abbrev pub is_utf16 : List ℕ → Bool
-is_utf16 text =
+abbrev pub has_utf16_mark : List ℕ → Bool
+has_utf16_mark text =
     ((slice_index text 0 == 255) && (slice_index text 1 == 254))
     || ((slice_index text 0 == 254) && (slice_index text 1 == 255))
 
@@ -288,12 +289,12 @@ is_word_end (b ∷ bs) = ends_word b bs
 
 -- that word is `slots`
 abbrev pub begins_script : List ℕ → Bool
-begins_script text = bytes_eq (take 5 text) (codes "slots") && is_word_end (drop 5 text)
+begins_script text = bytes_eq (codes "slots") (take 5 text) && is_word_end (drop 5 text)
 
 -- what is wrong with a text that is no TOML
 abbrev pub not_toml : List ℕ → Wrong
 not_toml text =
-    if is_utf16 text then wrong.Utf16 else (
+    if has_utf16_mark text then wrong.Utf16 else (
     if begins_script (said_from false text) then wrong.IsScript (length text - length (said_from false text))
     else (if is_utf8 text then wrong.NotToml
     else wrong.NotUtf8 (utf8_valid_len text) (slice_index text (utf8_valid_len text))))
@@ -310,7 +311,7 @@ list_wrongs text =
 
 -- the rounds and the modes that a text says, where it is a document, not too large, and they are right in it
 unfoldable pub rounds_said : List ℕ → Option ℕ
-rounds_said text = if nat_lt list_limit (length text) then None else option_and_then rounds_of (document_of text)
+rounds_said text = if nat_lt list_limit (length text) then None else option_and_then rounds_known (document_of text)
 
 unfoldable pub modes_said : List ℕ → Option ℕ
-modes_said text = if nat_lt list_limit (length text) then None else option_and_then modes_of (document_of text)
+modes_said text = if nat_lt list_limit (length text) then None else option_and_then modes_known (document_of text)

@@ -1,9 +1,9 @@
 //! What is wrong with the table of a file.
-ghost use Rattle.std.specs.Prelude.{◌≡◌, ◌<◌, ◌≤◌, ◌++◌, [], ◌∷◌, true, length, map, take, option_map, OnOk, IfOk, IfSome, if◌then◌else◌};
+ghost use Rattle.std.specs.Prelude.{◌≡◌, ◌<◌, ◌≤◌, ◌++◌, [], ◌∷◌, ◌&&◌, nat_le, true, length, map, take, option_map, OnOk, IfOk, IfSome, if◌then◌else◌};
 ghost use Rattle.toml.specs.View.{table_view, items_view};
 ghost use Rattle.medl_text.specs.ListFile.{are_tables, tables_of, is_known_key};
-ghost use Rattle.list_errors.specs.Errors.{version_of, rounds_of, modes_of, elements_of, count_limit, count_wrongs};
-ghost use Rattle.list_errors.specs.Errors.{slots_wrongs, is_strange, others, unknown_in_slots, sync_of, sync_count, sync_wrongs};
+ghost use Rattle.list_errors.specs.Errors.{version_known, rounds_known, modes_known, elements_of, count_limit, count_wrongs};
+ghost use Rattle.list_errors.specs.Errors.{slots_wrongs, is_unknown_key, unknown_keys, unknown_keys_at_top, unknown_keys_at_slot, unknown_keys_in_slots, few_syncs, sync_of, sync_count, sync_wrongs};
 ghost use Rattle.list_errors.specs.Errors.{modes_wrongs, top_wrongs, table_wrongs};
 
 use crate::error::Wrong;
@@ -60,7 +60,7 @@ fn byte_of(number: Option<u32>) -> Option<u8>
 #[tactic(auto, unfolding(crate::specs::Errors::modes_wrongs))]
 fn tell_modes(file: &Table, wrongs: &mut List<Wrong>) -> Result<Option<u8>, Memory>
     ensures told { OnOk result (wrongs.new ≡ wrongs.old ++ modes_wrongs (table_view file.now)) }
-    ensures value { IfOk result (λ v. v ≡ modes_of (table_view file.now)) }
+    ensures value { IfOk result (λ v. v ≡ modes_known (table_view file.now)) }
 {
     let field = at_top(FieldName::Modes);
     match member(file, field) {
@@ -131,7 +131,7 @@ fn tell_if_unknown(
     wrongs: &mut List<Wrong>,
 ) -> Result<(), Memory>
     ensures { OnOk result (wrongs.new ≡ wrongs.old
-        ++ map (λ k. Wrong.Unknown slot k) (if is_strange known.now key.now then key.now ∷ [] else [])) }
+        ++ map (λ k. Wrong.Unknown slot k) (if is_unknown_key known.now key.now then key.now ∷ [] else [])) }
 {
     if is_known_key(key, known) {
         return Ok(());
@@ -149,12 +149,31 @@ fn tell_unknown(
     wrongs: &mut List<Wrong>,
 ) -> Result<(), Memory>
     ensures { OnOk result (wrongs.new
-        ≡ wrongs.old ++ map (λ key. Wrong.Unknown slot key) (others known.now (table_view table.now))) }
+        ≡ wrongs.old ++ map (λ key. Wrong.Unknown slot key) (unknown_keys known.now (table_view table.now))) }
 {
     for key in table.keys() {
         tell_if_unknown(alloc, slot, key.as_str(), known, wrongs)?;
     }
     Ok(())
+}
+
+#[tactic(auto, unfolding(crate::specs::Errors::unknown_keys_at_top))]
+fn tell_unknown_at_top(alloc: Global, file: &Table, wrongs: &mut List<Wrong>) -> Result<(), Memory>
+    ensures { OnOk result (wrongs.new ≡ wrongs.old ++ unknown_keys_at_top (table_view file.now)) }
+{
+    tell_unknown(alloc, None, file, &TOP_KEYS, wrongs)
+}
+
+#[tactic(auto, unfolding(crate::specs::Errors::unknown_keys_at_slot))]
+fn tell_unknown_at_slot(
+    alloc: Global,
+    k: u8,
+    table: &Table,
+    wrongs: &mut List<Wrong>,
+) -> Result<(), Memory>
+    ensures { OnOk result (wrongs.new ≡ wrongs.old ++ unknown_keys_at_slot k (table_view table.now)) }
+{
+    tell_unknown(alloc, Some(k), table, &SLOT_KEYS, wrongs)
 }
 
 // The same of slots.
@@ -165,11 +184,11 @@ fn tell_unknown_in(
 ) -> Result<(), Memory>
     requires tables { are_tables (items_view looked_at.now) ≡ true }
     requires count { length looked_at.now ≤ 24 }
-    ensures { OnOk result (wrongs.new ≡ wrongs.old ++ unknown_in_slots 0 (tables_of (items_view looked_at.now))) }
+    ensures { OnOk result (wrongs.new ≡ wrongs.old ++ unknown_keys_in_slots 0 (tables_of (items_view looked_at.now))) }
 {
     for (k, element) in looked_at.iter().enumerate() {
         let table = element.as_table().unwrap();
-        tell_unknown(alloc, Some(k as u8), table, &SLOT_KEYS, wrongs)?;
+        tell_unknown_at_slot(alloc, k as u8, table, wrongs)?;
     }
     Ok(())
 }
@@ -197,22 +216,37 @@ fn sync_count(elements: &[Value]) -> Option<u8>
     Some(count)
 }
 
-// Whether enough slots have `sync`.
-#[tactic(auto, unfolding(crate::specs::Errors::sync_wrongs))]
-fn tell_sync(elements: &[Value], wrongs: &mut List<Wrong>) -> Result<(), Memory>
-    requires tables { are_tables (items_view elements.now) ≡ true }
-    ensures { OnOk result (wrongs.new ≡ wrongs.old ++ sync_wrongs (tables_of (items_view elements.now))) }
+// Whether some list has so many slots.
+fn is_count(n: usize) -> bool
+    ensures { result ≡ (nat_le 4 n && nat_le n 24) }
 {
-    if elements.len() < 4 || MOST_SLOTS < elements.len() {
-        return Ok(());
-    }
-    match sync_count(elements) {
+    4 <= n && n <= MOST_SLOTS
+}
+
+// Fewer than four slots have `sync`, where it is known how many have.
+fn tell_few(found: Option<u8>, wrongs: &mut List<Wrong>) -> Result<(), Memory>
+    ensures { OnOk result (wrongs.new ≡ wrongs.old ++ few_syncs found) }
+{
+    match found {
         Some(found) if found < 4 => wrongs.push(Wrong::NoSync { found }),
         _ => Ok(()),
     }
 }
 
-/// The numbers at the top, and the slots, where they are right.
+// Whether enough slots have `sync`.
+#[tactic(auto, using(medl_text::proofs::Counts::counts), unfolding(crate::specs::Errors::sync_wrongs))]
+fn tell_sync(elements: &[Value], wrongs: &mut List<Wrong>) -> Result<(), Memory>
+    requires tables { are_tables (items_view elements.now) ≡ true }
+    ensures { OnOk result (wrongs.new ≡ wrongs.old ++ sync_wrongs (tables_of (items_view elements.now))) }
+{
+    if !is_count(elements.len()) {
+        return Ok(());
+    }
+    tell_few(sync_count(elements), wrongs)
+}
+
+// The numbers at the top, and the slots, where they are right.
+#[derive(Clone, Copy)]
 struct Top<'a> {
     version: Option<u32>,
     measures: Measures,
@@ -223,9 +257,9 @@ struct Top<'a> {
 #[tactic(auto, unfolding(crate::specs::Errors::top_wrongs))]
 fn tell_top<'a>(file: &'a Table, wrongs: &mut List<Wrong>) -> Result<Top<'a>, Memory>
     ensures told { OnOk result (wrongs.new ≡ wrongs.old ++ top_wrongs (table_view file.now)) }
-    ensures version { IfOk result (λ top. top.version ≡ version_of (table_view file.now)) }
-    ensures rounds { IfOk result (λ top. top.measures.rounds ≡ rounds_of (table_view file.now)) }
-    ensures modes { IfOk result (λ top. top.measures.modes ≡ modes_of (table_view file.now)) }
+    ensures version { IfOk result (λ top. top.version ≡ version_known (table_view file.now)) }
+    ensures rounds { IfOk result (λ top. top.measures.rounds ≡ rounds_known (table_view file.now)) }
+    ensures modes { IfOk result (λ top. top.measures.modes ≡ modes_known (table_view file.now)) }
     ensures slots { IfOk result (λ top.
         option_map (λ vs. tables_of (items_view vs.now)) top.slots ≡ elements_of (table_view file.now)) }
     ensures tables { IfOk result (λ top. IfSome top.slots (λ vs. are_tables (items_view vs.now) ≡ true)) }
@@ -247,40 +281,41 @@ fn tell_top<'a>(file: &'a Table, wrongs: &mut List<Wrong>) -> Result<Top<'a>, Me
 }
 
 // The slots that are looked at.
+#[tactic(auto, using(crate::proofs::Tables::looked))]
 fn looked_at(slots: &[Value]) -> &[Value]
     requires { are_tables (items_view slots.now) ≡ true }
     ensures value { tables_of (items_view result.now) ≡ take 24 (tables_of (items_view slots.now)) }
     ensures tables { are_tables (items_view result.now) ≡ true }
     ensures count { length result.now ≤ 24 }
 {
-    &slots[..slots.len().min(MOST_SLOTS)]
+    if slots.len() <= MOST_SLOTS {
+        slots
+    } else {
+        &slots[..MOST_SLOTS]
+    }
 }
 
 /// All that is wrong with the table of a file.
-#[tactic(auto, unfolding(crate::specs::Errors::table_wrongs, crate::specs::Errors::unknown_at_top))]
+#[tactic(auto, unfolding(crate::specs::Errors::table_wrongs))]
 pub(crate) fn tell_table(
     alloc: Global,
     file: &Table,
     wrongs: &mut List<Wrong>,
 ) -> Result<Measures, Memory>
     ensures told { OnOk result (wrongs.new ≡ wrongs.old ++ table_wrongs (table_view file.now)) }
-    ensures rounds { IfOk result (λ measures. measures.rounds ≡ rounds_of (table_view file.now)) }
-    ensures modes { IfOk result (λ measures. measures.modes ≡ modes_of (table_view file.now)) }
+    ensures rounds { IfOk result (λ measures. measures.rounds ≡ rounds_known (table_view file.now)) }
+    ensures modes { IfOk result (λ measures. measures.modes ≡ modes_known (table_view file.now)) }
 {
-    let Top {
-        version,
-        measures,
-        slots,
-    } = tell_top(file, wrongs)?;
-    let Some(slots) = slots else {
-        tell_unknown(alloc, None, file, &TOP_KEYS, wrongs)?;
-        return Ok(measures);
+    let top = tell_top(file, wrongs)?;
+    let Some(slots) = top.slots else {
+        tell_unknown_at_top(alloc, file, wrongs)?;
+        return Ok(top.measures);
     };
-    tell_count(version, slots.len(), wrongs)?;
+    tell_count(top.version, slots.len(), wrongs)?;
     let seen = looked_at(slots);
-    tell_slots(alloc, measures, seen, wrongs)?;
-    tell_unknown(alloc, None, file, &TOP_KEYS, wrongs)?;
+    tell_slots(alloc, top.measures, seen, wrongs)?;
+    tell_unknown_at_top(alloc, file, wrongs)?;
     tell_unknown_in(alloc, seen, wrongs)?;
     tell_sync(slots, wrongs)?;
-    Ok(measures)
+    Ok(top.measures)
 }

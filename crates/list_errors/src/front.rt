@@ -1,27 +1,36 @@
 //! What a file is that is no list.
-ghost use Rattle.std.specs.Prelude.{◌≡◌, ◌<◌, ◌≤◌, ◌+◌, false, length, drop, slice_index};
-ghost use Rattle.list_errors.specs.Errors.{is_utf16, ends_word, said_from, begins_script, not_toml};
+ghost use Rattle.std.specs.Prelude.{◌≡◌, ◌≤◌, false, length, drop};
+ghost use Rattle.list_errors.specs.Errors.{has_utf16_mark, ends_word, is_word_end, said_from, begins_script, not_toml};
 
 use crate::error::Wrong;
 use std::str;
 
 // Whether a text begins with the mark of UTF-16.
-fn is_utf16(text: &[u8]) -> bool
-    ensures { result ≡ is_utf16 text.now }
+fn has_utf16_mark(text: &[u8]) -> bool
+    ensures { result ≡ has_utf16_mark text.now }
 {
     2 <= text.len()
         && ((text[0] == 0xff && text[1] == 0xfe) || (text[0] == 0xfe && text[1] == 0xff))
 }
 
-// Whether a word doesn't go on at a place.
-fn ends_word(text: &[u8], at: usize) -> bool
-    requires { at < length text.now }
-    ensures { result ≡ ends_word (slice_index text.now at) (drop (at + 1) text.now) }
+// Whether no word goes on with a byte in front of such a text.
+fn ends_word(byte: u8, behind: &[u8]) -> bool
+    ensures { result ≡ ends_word byte behind.now }
 {
-    match text[at] {
+    match byte {
         b' ' | b'\t' | b'\n' => true,
-        b'\r' => at + 1 == text.len() || text[at + 1] == b'\n',
+        b'\r' => behind.is_empty() || behind[0] == b'\n',
         _ => false,
+    }
+}
+
+// Whether no word goes on at the front of a text.
+fn is_word_end(text: &[u8]) -> bool
+    ensures { result ≡ is_word_end text.now }
+{
+    match text {
+        [byte, behind @ ..] => ends_word(*byte, behind),
+        [] => true,
     }
 }
 
@@ -36,30 +45,29 @@ fn said_from(text: &[u8]) -> usize
             inside = text[at] != b'\n';
         } else if text[at] == b'#' {
             inside = true;
-        } else if !ends_word(text, at) {
+        } else if !ends_word(text[at], &text[at + 1..]) {
             return at;
         }
     }
     text.len()
 }
 
-// Whether the word `slots` stands at a place.
-fn begins_script(text: &[u8], at: usize) -> bool
-    requires { at ≤ length text.now }
-    ensures { result ≡ begins_script (drop at text.now) }
+// Whether the word at the front of a text is `slots`.
+fn begins_script(text: &[u8]) -> bool
+    ensures { result ≡ begins_script text.now }
 {
-    text[at..].starts_with(b"slots") && (at + 5 == text.len() || ends_word(text, at + 5))
+    text.starts_with(b"slots") && is_word_end(&text[5..])
 }
 
 /// What is wrong with a text that is no TOML.
 pub(crate) fn not_toml(text: &[u8]) -> Wrong
     ensures { result ≡ not_toml text.now }
 {
-    if is_utf16(text) {
+    if has_utf16_mark(text) {
         return Wrong::Utf16;
     }
     let at = said_from(text);
-    if begins_script(text, at) {
+    if begins_script(&text[at..]) {
         return Wrong::IsScript { at };
     }
     match str::from_utf8(text) {

@@ -1,10 +1,10 @@
 //! From the bytes of a list to its errors.
-ghost use Rattle.std.specs.Prelude.{◌≡◌, ◌≤◌, [], ◌∷◌, length, Ok, Some, None, option_map, option_and_then, IfOk, IfSome, OnNone};
+ghost use Rattle.std.specs.Prelude.{◌≡◌, ◌≤◌, [], ◌∷◌, length, Ok, Some, None, option_map, option_and_then, IfOk, IfSome, IfNone};
 ghost use Rattle.ttp_world.specs.Medl.{IsValid};
 ghost use Rattle.toml.specs.View.{table_view};
 ghost use Rattle.medl_text.specs.ListFile.{document_of, medl_of};
-ghost use Rattle.list_errors.specs.Agrees.{Agrees};
-ghost use Rattle.list_errors.specs.Errors.{list_limit, document_wrongs, list_wrongs, rounds_of, modes_of, rounds_said, modes_said};
+ghost use Rattle.list_errors.specs.Agrees.{ListAgrees};
+ghost use Rattle.list_errors.specs.Errors.{list_limit, document_wrongs, list_wrongs, rounds_known, modes_known, rounds_said, modes_said};
 
 use crate::error::Wrong;
 use crate::file::{Measures, tell_table};
@@ -68,8 +68,8 @@ fn document_of(alloc: Global, text: &[u8]) -> Result<Option<Table>, Memory>
 fn refused(alloc: Global, text: &[u8]) -> Result<ListFound, Memory>
     ensures wrongs { IfOk result (λ found. found.wrongs ≡ document_wrongs text.now (document_of text.now)) }
     ensures list { IfOk result (λ found. found.list ≡ None) }
-    ensures rounds { IfOk result (λ found. found.rounds ≡ option_and_then rounds_of (document_of text.now)) }
-    ensures modes { IfOk result (λ found. found.modes ≡ option_and_then modes_of (document_of text.now)) }
+    ensures rounds { IfOk result (λ found. found.rounds ≡ option_and_then rounds_known (document_of text.now)) }
+    ensures modes { IfOk result (λ found. found.modes ≡ option_and_then modes_known (document_of text.now)) }
 {
     let Some(file) = document_of(alloc, text)? else {
         return one_wrong(alloc, not_toml(text));
@@ -101,24 +101,36 @@ fn right(alloc: Global, list: Medl) -> ListFound
     }
 }
 
-/// All that is wrong with the bytes of a list, and the list where nothing is.
+/// All that is wrong with the bytes of a list, in the order in which `read_medl` looks for it, and the list where nothing is.
 ///
-/// A file that is no list at all has one error. The only refusal is want of memory, which may come for any bytes.
+/// Bytes that are no list at all have one error, of which the first of these is told: they are more than 1,048,576, they
+/// begin with the mark of UTF-16, they are a script, they are no UTF-8, they are no TOML. Otherwise the errors are those of
+/// the table: of up to 24 slots, and of unknown keys in the order of their bytes. The only refusal is want of memory, which
+/// may come for any bytes.
+///
+/// Nothing is wrong exactly where `read_medl` takes the bytes and they are no more than 1,048,576. Where it refuses them, its
+/// fault is that of the first error.
 pub fn list_errors(alloc: Global, text: &[u8]) -> Result<ListFound, Memory>
     ensures exact { IfOk result (λ found. found.wrongs ≡ list_wrongs text.now) }
-    ensures agrees { IfOk result (λ found. length text.now ≤ list_limit → Agrees found.wrongs (medl_of text.now)) }
+    ensures agrees { IfOk result (λ found. length text.now ≤ list_limit → ListAgrees found.wrongs (medl_of text.now)) }
     ensures rounds { IfOk result (λ found. found.rounds ≡ rounds_said text.now) }
     ensures modes { IfOk result (λ found. found.modes ≡ modes_said text.now) }
     ensures list { IfOk result (λ found. IfSome found.list (λ list. medl_of text.now ≡ Ok list)) }
-    ensures none { IfOk result (λ found. OnNone found.list (found.wrongs ≡ [] → ⊥)) }
+    ensures none { IfOk result (λ found. IfNone found.list (found.wrongs ≡ [] → ⊥)) }
     ensures valid { IfOk result (λ found. IfSome found.list IsValid) }
 {
     if LIST_LIMIT < text.len() {
-        return one_wrong(alloc, Wrong::TooLarge);
+        let found = one_wrong(alloc, Wrong::TooLarge)?;
+        return Ok(found);
     }
     match read_medl(alloc, text) {
         Ok(list) => Ok(right(alloc, list)),
-        Err(MedlError::Memory) => Err(Memory),
-        Err(_) => refused(alloc, text),
+        Err(fault) => match fault {
+            MedlError::Memory => Err(Memory),
+            _ => {
+                let found = refused(alloc, text)?;
+                Ok(found)
+            }
+        },
     }
 }

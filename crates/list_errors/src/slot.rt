@@ -4,7 +4,7 @@ ghost use Rattle.std.specs.List.{list_all};
 ghost use Rattle.toml.specs.View.{table_view};
 ghost use Rattle.ttp_world.specs.Medl.{is_bare};
 ghost use Rattle.medl_text.specs.ListFile.{is_kind, kind_of, payload_limit, is_answer};
-ghost use Rattle.list_errors.specs.Errors.{has_count, kinds_wrongs, kinds_of, data_limit, requests_wrongs, live_wrongs};
+ghost use Rattle.list_errors.specs.Errors.{has_count, kinds_wrongs, kinds_known, data_limit, requests_wrongs, live_wrongs};
 ghost use Rattle.list_errors.specs.Errors.{slot_wrongs};
 
 use crate::error::Wrong;
@@ -85,7 +85,7 @@ fn tell_kinds(
     wrongs: &mut List<Wrong>,
 ) -> Result<u32, Memory>
     ensures told { OnOk result (wrongs.new ≡ wrongs.old ++ kinds_wrongs rounds k (table_view table.now)) }
-    ensures value { IfOk result (λ limit. limit ≡ data_limit (kinds_of rounds k (table_view table.now))) }
+    ensures value { IfOk result (λ limit. limit ≡ data_limit (kinds_known rounds k (table_view table.now))) }
 {
     let field = at_slot(k, FieldName::Kinds);
     let Some(value) = member(table, field) else {

@@ -3,7 +3,7 @@ ghost use Rattle.std.specs.Prelude.{◌≡◌, ◌≤◌, pos, ◌++◌, true, u
 ghost use Rattle.toml.specs.Data.{as_integer, as_bool};
 ghost use Rattle.toml.specs.View.{view, table_view, items_view};
 ghost use Rattle.medl_text.specs.ListFile.{at_top, at_slot, held_at, natural, are_tables, tables_of};
-ghost use Rattle.list_errors.specs.Errors.{unless, type_of, kind_wrongs, range_wrongs, number_wrongs, number_of};
+ghost use Rattle.list_errors.specs.Errors.{where_right, type_of, kind_wrongs, range_wrongs, number_wrongs, number_known};
 ghost use Rattle.list_errors.specs.Errors.{flag_wrongs, nothing_wrong, elements_of, array_wrongs};
 
 use crate::error::{ValueType, Wrong};
@@ -68,7 +68,7 @@ pub(crate) fn number_in(
     ensures told { OnOk result (wrongs.new ≡ wrongs.old
         ++ kind_wrongs field (view value.now) (range_wrongs field low high) (as_integer (view value.now))) }
     ensures value { IfOk result (λ v. v
-        ≡ unless (kind_wrongs field (view value.now) (range_wrongs field low high) (as_integer (view value.now)))
+        ≡ where_right (kind_wrongs field (view value.now) (range_wrongs field low high) (as_integer (view value.now)))
         (natural (unwrap_or (as_integer (view value.now)) (pos 0)))) }
     ensures range { IfOk result (λ v. IfSome v (λ n. n ≤ high)) }
 {
@@ -100,7 +100,7 @@ pub(crate) fn number(
     wrongs: &mut List<Wrong>,
 ) -> Result<Option<u32>, Memory>
     ensures told { OnOk result (wrongs.new ≡ wrongs.old ++ number_wrongs field low high (table_view table.now)) }
-    ensures value { IfOk result (λ v. v ≡ number_of field low high (table_view table.now)) }
+    ensures value { IfOk result (λ v. v ≡ number_known field low high (table_view table.now)) }
     ensures range { IfOk result (λ v. IfSome v (λ n. n ≤ high)) }
 {
     let Some(value) = member(table, field) else {
