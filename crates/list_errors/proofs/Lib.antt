@@ -1,0 +1,5 @@
+pub mod Agree
+pub mod TableAgree
+pub mod Keys
+pub mod Tables
+pub mod Told

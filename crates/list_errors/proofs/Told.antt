@@ -1,0 +1,72 @@
+-- What is told, one part behind another.
+use Rattle.std.proofs.Common.{◌≡◌, ℕ, List, [], ◌++◌, Option, Some, None, refl, ap, ◌∙◌, length, take, append_assoc}
+use Rattle.std.proofs.Common.{false}
+use Rattle.std.specs.Prelude.{◌&&◌, nat_le}
+use Rattle.toml.specs.Data.{Members}
+use Rattle.medl_text.specs.declared.error.FieldName.TheVariants as names
+use Rattle.medl_text.specs.ListFile.{at_top}
+use Rattle.list_errors.specs.declared.error.Wrong.{Wrong}
+use Rattle.list_errors.specs.Errors.{number_wrongs, array_wrongs, modes_wrongs, version_known, rounds_known, modes_known, elements_of, top_wrongs, count_wrongs, slots_wrongs}
+use Rattle.list_errors.specs.Errors.{unknown_keys_at_top, unknown_keys_in_slots, sync_wrongs, below_wrongs, table_wrongs}
+
+more : (old new next front last : List Wrong) → new ≡ old ++ front → next ≡ new ++ last → next ≡ old ++ (front ++ last)
+more old new next front last before now = now ∙ ap (λ (w : List Wrong). w ++ last) before ∙ append_assoc old front last
+
+nine_parts : (a b c d e f g h i : List Wrong)
+    → (((((((a ++ b) ++ c) ++ d) ++ e) ++ f) ++ g) ++ h) ++ i ≡ a ++ (b ++ (c ++ (d ++ (e ++ (f ++ (g ++ (h ++ i)))))))
+nine_parts a b c d e f g h i = simp append_assoc refl
+
+six_parts : (a b c d e f : List Wrong) → ((((a ++ b) ++ c) ++ d) ++ e) ++ f ≡ a ++ (b ++ (c ++ (d ++ (e ++ f))))
+six_parts a b c d e f = simp append_assoc refl
+
+-- nothing is told of `sync` where there are too few slots or too many
+pub no_syncs : (slots : List Members) (n : ℕ) → length slots ≡ n → (nat_le 4 n && nat_le n 24) ≡ false
+    → sync_wrongs slots ≡ []
+unfolding sync_wrongs
+no_syncs slots n count other = rw (count, other) refl
+
+-- the parts of the keys at the top
+pub top_told : (file : Members) (old a b c d e f g h i : List Wrong)
+    → a ≡ old ++ number_wrongs (at_top names.Version) 1 2 file → b ≡ a ++ number_wrongs (at_top names.Rounds) 1 64 file
+    → c ≡ b ++ number_wrongs (at_top names.Schedule) 0 16777215 file
+    → d ≡ c ++ number_wrongs (at_top names.Buffers) 1 16 file → e ≡ d ++ number_wrongs (at_top names.Drift) 0 1000 file
+    → f ≡ e ++ number_wrongs (at_top names.Error) 0 1000 file
+    → g ≡ f ++ number_wrongs (at_top names.Window) 1 1000000 file → h ≡ g ++ array_wrongs file
+    → i ≡ h ++ modes_wrongs file → i ≡ old ++ top_wrongs file
+unfolding top_wrongs
+top_told file old a b c d e f g h i p q r s t u v w x =
+    more old h i _ _ (more old g h _ _ (more old f g _ _ (more old e f _ _ (more old d e _ _ (more old c d _ _
+    (more old b c _ _ (more old a b _ _ p q) r) s) t) u) v) w) x
+    ∙ ap (λ (told : List Wrong). old ++ told)
+    (nine_parts (number_wrongs (at_top names.Version) 1 2 file) (number_wrongs (at_top names.Rounds) 1 64 file)
+    (number_wrongs (at_top names.Schedule) 0 16777215 file) (number_wrongs (at_top names.Buffers) 1 16 file)
+    (number_wrongs (at_top names.Drift) 0 1000 file) (number_wrongs (at_top names.Error) 0 1000 file)
+    (number_wrongs (at_top names.Window) 1 1000000 file) (array_wrongs file) (modes_wrongs file))
+
+-- the parts of a whole table
+pub table_told : (file : Members) (version rounds modes : Option ℕ) (slots seen : List Members) (n : ℕ)
+    (old top count keys unknown others sync : List Wrong)
+    → version ≡ version_known file → rounds ≡ rounds_known file → modes ≡ modes_known file → Some slots ≡ elements_of file
+    → seen ≡ take 24 slots → n ≡ length slots → top ≡ old ++ top_wrongs file → count ≡ top ++ count_wrongs version n
+    → keys ≡ count ++ slots_wrongs rounds modes 0 seen → unknown ≡ keys ++ unknown_keys_at_top file
+    → others ≡ unknown ++ unknown_keys_in_slots 0 seen → sync ≡ others ++ sync_wrongs slots → sync ≡ old ++ table_wrongs file
+unfolding table_wrongs
+table_told file version rounds modes slots seen n old top count keys unknown others sync v r m s e l a b c d f g =
+    let first = more old top count _ _ a b in
+    let second = more old count keys _ _ first c in
+    let third = more old keys unknown _ _ second d in
+    let fourth = more old unknown others _ _ third f in
+    let all = more old others sync _ _ fourth g in
+    all ∙ ap (λ (w : List Wrong). old ++ w)
+    (six_parts (top_wrongs file) (count_wrongs version n) (slots_wrongs rounds modes 0 seen) (unknown_keys_at_top file)
+    (unknown_keys_in_slots 0 seen) (sync_wrongs slots)
+    ∙ ap (λ (w : List Wrong). top_wrongs file ++ w)
+    (rw (v, r, m, e, l) refl ∙ ap (below_wrongs file) s))
+
+-- of one without slots
+pub table_told_none : (file : Members) (old top sync : List Wrong) → None ≡ elements_of file → top ≡ old ++ top_wrongs file
+    → sync ≡ top ++ unknown_keys_at_top file → sync ≡ old ++ table_wrongs file
+unfolding table_wrongs
+table_told_none file old top sync s a b =
+    more old top sync (top_wrongs file) (unknown_keys_at_top file) a b
+    ∙ ap (λ (w : Option (List Members)). old ++ (top_wrongs file ++ below_wrongs file w)) s

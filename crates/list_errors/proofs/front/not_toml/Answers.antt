@@ -1,0 +1,17 @@
+use Rattle.std.proofs.Common.{◌≡◌, false, arith}
+use Rattle.std.specs.Str.{is_utf8}
+use Rattle.std.proofs.lemmas.Bool.{false_from_ne_true}
+use Rattle.std.proofs.lemmas.Grind.{common_steps}
+use Rattle.std.proofs.lemmas.Str.{IsUtf8-from_is_utf8, is_utf8-from_IsUtf8}
+use Rattle.list_errors.proofs.front.not_toml.Goals as goal
+
+pub returns-in-Ok : goal.returns-in-Ok
+returns-in-Ok c =
+    let is_text = is_utf8-from_IsUtf8 c.args.text.now c.in-Ok.ensures.cases.1 in
+    grind (arith, common_steps)
+
+pub returns-in-Err : goal.returns-in-Err
+returns-in-Err c =
+    let no_text : is_utf8 c.args.text.now ≡ false =
+    false_from_ne_true _ (λ test. c.in-Err.ensures.cases.0 (IsUtf8-from_is_utf8 c.args.text.now test)) in
+    grind (arith, common_steps)
