@@ -1,0 +1,11 @@
+use Rattle.std.proofs.Common.{◌≡◌, drop, map}
+use Rattle.causes.specs.LinesOf.{first_line, places_from}
+use Rattle.causes.specs.declared.cause.ScriptLine.TheVariants as line
+use Rattle.run_looks.specs.Questions.{is_meant}
+use Rattle.run_looks.proofs.questions.first_line.Given as goal
+
+-- the first is that of the events from here on
+abbrev pub invariant-loop-place : goal.invariant-loop-place
+invariant-loop-place l =
+    first_line (map line.Event (places_from l.place (is_meant l.question) (drop l.place l.events)))
+    ≡ first_line (map line.Event (places_from 0 (is_meant l.question) l.events))

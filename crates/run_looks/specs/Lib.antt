@@ -1,0 +1,3 @@
+pub mod Added
+pub mod Back
+pub mod Questions
