@@ -11,6 +11,8 @@ use Rattle.causes.specs.declared.cause.Cause.{Cause}
 use Rattle.causes.specs.declared.cause.Miss.{Miss}
 use Rattle.causes.specs.declared.cause.ScriptLine.{ScriptLine}
 use Rattle.causes.specs.declared.cause.Spot.{Spot}
+use Rattle.causes.specs.declared.cause.Story.{Story}
+use Rattle.causes.specs.declared.cause.Told.{Told}
 use Rattle.ttp_base.specs.NodeSet.{below}
 use Rattle.ttp_world.specs.After.{is_active_entry}
 use Rattle.ttp_world.specs.declared.node.Entry.{Entry}
@@ -53,10 +55,6 @@ abbrev pub has_spot : List Spot → Spot → Bool
 has_spot spots spot = list_any (is_spot spot) spots
 
 -- an entry that is told, with its cause
-pub record Told : Type 0 where
-  pub spot : Spot
-  pub cause : Cause
-
 abbrev pub told_spot : RunSlots → Spot → Told
 told_spot run spot = record { spot = spot; cause = cause_at run spot }
 
@@ -147,11 +145,6 @@ added_root script k before entries = elim (was_active k before) [
 ]
 
 -- The whole.
-
--- a story: the root that was added, if one was, and what is told, the newest first
-pub record Story : Type 0 where
-  pub root : List Spot
-  pub told : List Told
 
 -- by what is reached from the entry that was asked for and the root, which it names too
 abbrev pub with_root : List Spot → List Told → List Told

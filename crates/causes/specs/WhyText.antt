@@ -9,13 +9,15 @@ use Rattle.campaign.specs.ZerosWorld.{zeros_world}
 use Rattle.causes.specs.Members.{entry_at_spot, newest_entry_of}
 use Rattle.causes.specs.Reduced.{entry_alone, is_needed, is_same_word}
 use Rattle.causes.specs.RunSlots.{RunSlots, slots_of_run}
-use Rattle.causes.specs.Story.{Story, Told, has_spot, lines_told, states_fault, story}
+use Rattle.causes.specs.Story.{has_spot, lines_told, states_fault, story}
 use Rattle.causes.specs.declared.cause.Because.{Because}
 use Rattle.causes.specs.declared.cause.ClockNote.{ClockNote}
 use Rattle.causes.specs.declared.cause.LineNumbers.{LineNumbers}
 use Rattle.causes.specs.declared.cause.Miss.{Miss}
 use Rattle.causes.specs.declared.cause.ScriptLine.{ScriptLine}
 use Rattle.causes.specs.declared.cause.Spot.{Spot}
+use Rattle.causes.specs.declared.cause.Story.{Story}
+use Rattle.causes.specs.declared.cause.Told.{Told}
 use Rattle.ttp_base.specs.Text.{Lines, newline}
 use Rattle.ttp_world.specs.Hypothesis.{needed}
 use Rattle.ttp_world.specs.Script.{drift_of, on_slot}

@@ -145,6 +145,22 @@ pub struct Cause {
     pub entries: List<Spot>,
 }
 
+/// An entry that a story tells, with its cause.
+#[derive(Drop)]
+pub struct Told {
+    pub spot: Spot,
+    pub cause: Cause,
+}
+
+/// How an entry came about.
+#[derive(Drop)]
+pub struct Story {
+    /// The root that it names beside its causes, if it names one.
+    pub root: List<Spot>,
+    /// The entries that had a part, the newest first: the first is the one that was asked for.
+    pub told: List<Told>,
+}
+
 /// The numbers in the file of a script's lines, counted from 1: of the `on` and of the `drift` line of each node, 0 where it
 /// has none, and of the line of each event.
 #[derive(Drop)]

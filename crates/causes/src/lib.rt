@@ -18,9 +18,9 @@
 //! ```
 //!
 //! A run is that of `zeros_world` (campaign), one for all legal message numbers. The crate has no code but for the types
-//! of a cause, and promises nothing; cause_rows has its worked cases.
+//! of a cause and a story, and promises nothing; cause_rows has its worked cases.
 #![tactic(auto)]
 
 mod cause;
 
-pub use cause::{Because, Cause, ClockNote, LineNumbers, Miss, ScriptLine, Spot};
+pub use cause::{Because, Cause, ClockNote, LineNumbers, Miss, ScriptLine, Spot, Story, Told};

@@ -1,0 +1,97 @@
+-- One entry of a pass, by whether it is marked.
+use Rattle.std.proofs.Common.{◌≡◌, ℕ, Bool, true, false, List, [], ◌∷◌, ◌++◌, ap, sym, ◌∙◌, filter, arith, ◌==◌, ◌≢◌, Result, Ok, Err}
+use Rattle.std.proofs.lemmas.Bool.Decides.{nat_tests}
+use Rattle.std.specs.Result.{OnOk}
+use Rattle.std.specs.Prelude.{if◌then◌else◌}
+use Rattle.causes.specs.RunSlots.{RunSlots}
+use Rattle.causes.specs.Said.{root}
+use Rattle.causes.specs.Story.{added_root, has_spot, kept_of_told, leads_to_fault, rank_of_entry, reached, told_spot, was_active, with_entries}
+use Rattle.causes.specs.declared.cause.Spot.{Spot}
+use Rattle.causes.specs.declared.cause.Told.{Told}
+use Rattle.ttp_world.specs.declared.node.Entry.{Entry}
+use Rattle.ttp_world.specs.declared.script.Script.{Script}
+
+-- What is reached.
+
+reached-if : RunSlots → List Spot → Spot → List Spot → Bool → List Told
+reached-if run marks s older b =
+    elim b as (λ x. List Told) [
+      | false ↦ reached run marks older
+      | true ↦ told_spot run s ∷ reached run ((told_spot run s).cause.entries ++ marks) older
+    ]
+
+pub reached-no : (run : RunSlots) (marks : List Spot) (s : Spot) (older : List Spot) → has_spot marks s ≡ false
+    → reached run marks (s ∷ older) ≡ reached run marks older
+unfolding reached-if
+reached-no run marks s older none = ap (reached-if run marks s older) none
+
+pub reached-yes : (run : RunSlots) (marks : List Spot) (s : Spot) (older : List Spot) → has_spot marks s ≡ true
+    → reached run marks (s ∷ older) ≡ told_spot run s ∷ reached run ((told_spot run s).cause.entries ++ marks) older
+unfolding reached-if
+reached-yes run marks s older here = ap (reached-if run marks s older) here
+
+-- What is kept.
+
+kept-if : List Spot → List Spot → Told → List Told → Bool → List Told
+kept-if back marks t older b =
+    elim b as (λ x. List Told) [
+      | false ↦ kept_of_told back marks older
+      | true ↦
+          with_entries t (filter (has_spot back) t.cause.entries)
+          ∷ kept_of_told back (filter (has_spot back) t.cause.entries ++ marks) older
+    ]
+
+pub kept-no : (back marks : List Spot) (t : Told) (older : List Told) → has_spot marks t.spot ≡ false
+    → kept_of_told back marks (t ∷ older) ≡ kept_of_told back marks older
+unfolding kept-if
+kept-no back marks t older none = ap (kept-if back marks t older) none
+
+pub kept-yes : (back marks : List Spot) (t : Told) (older : List Told) → has_spot marks t.spot ≡ true
+    → kept_of_told back marks (t ∷ older)
+    ≡ with_entries t (filter (has_spot back) t.cause.entries)
+    ∷ kept_of_told back (filter (has_spot back) t.cause.entries ++ marks) older
+unfolding kept-if
+kept-yes back marks t older here = ap (kept-if back marks t older) here
+
+-- The root.
+
+active-if : Script → ℕ → RunSlots → List Spot → Bool → Bool → Bool → List Spot
+active-if script k before entries active named leads =
+    elim active as (λ x. List Spot) [
+      | false ↦ []
+      | true ↦ elim named as (λ x. List Spot) [
+        | true ↦ []
+        | false ↦ if leads then root k before ∷ [] else []
+      ]
+    ]
+
+pub root-by : (script : Script) (k : ℕ) (before : RunSlots) (entries : List Spot) (active named leads : Bool)
+    → was_active k before ≡ active → has_spot entries (root k before) ≡ named
+    → leads_to_fault script before (root k before) ≡ leads
+    → added_root script k before entries ≡ elim active as (λ x. List Spot) [
+      | false ↦ []
+      | true ↦ elim named as (λ x. List Spot) [
+        | true ↦ []
+        | false ↦ if leads then root k before ∷ [] else []
+      ]
+    ]
+unfolding active-if
+root-by script k before entries active named leads is has fault =
+    ap (λ (b : Bool). active-if script k before entries b (has_spot entries (root k before))
+    (leads_to_fault script before (root k before))) is
+    ∙ (ap (λ (b : Bool). active-if script k before entries active b (leads_to_fault script before (root k before))) has
+    ∙ ap (active-if script k before entries active named) fault)
+
+-- what follows where there is a value
+pub on-ok : {X E : Type 0} {P Q : Type 0} (r : Result X E) → (P → Q) → OnOk r P → OnOk r Q
+on-ok (Ok x) more is = more is
+on-ok (Err e) more is = is
+
+-- an entry has a rank, or another
+pub is-rank : (e f : Entry) (r rank : ℕ) → r ≡ rank_of_entry e → e ≡ f → r ≡ rank → (rank_of_entry f == rank) ≡ true
+is-rank e f r rank is same here =
+    let of : rank_of_entry f ≡ rank = sym (ap rank_of_entry same) ∙ (sym is ∙ here) in grind (arith, nat_tests)
+
+pub not-rank : (e f : Entry) (r rank : ℕ) → r ≡ rank_of_entry e → e ≡ f → r ≢ rank → (rank_of_entry f == rank) ≡ false
+not-rank e f r rank is same other =
+    let of : rank_of_entry f ≢ rank = λ here. other (is ∙ (ap rank_of_entry same ∙ here)) in grind (arith, nat_tests)
