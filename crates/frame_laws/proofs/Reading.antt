@@ -124,9 +124,6 @@ words-nested : (parts : FrameParts)
     ≡ spaced parts.header ++ (spaced parts.state ++ (spaced parts.load ++ (spaced parts.check ++ newline)))
 words-nested parts = simp append_assoc
 
-spell-on : (bytes more : List ℕ) → codes " " ++ hex_bytes bytes ++ more ≡ codes " " ++ (hex_bytes bytes ++ more)
-spell-on bytes more = append_assoc (codes " ") (hex_bytes bytes) more
-
 byte-text : (stated loaded : Bool) (parts : FrameParts) → (length parts.header == 0) ≡ false
     → (length parts.state == 0) ≡ not stated → (length parts.load == 0) ≡ not loaded → (length parts.check == 0) ≡ false
     → spaced parts.header ++ spaced parts.state ++ spaced parts.load ++ spaced parts.check ++ newline
