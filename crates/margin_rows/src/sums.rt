@@ -31,5 +31,7 @@ pub fn what_is_free()
 
 /// Sweeps: counts are added, what is free is what both have in common, and the least value is the nearer one to 0.
 pub fn a_sum_of_sweeps()
-    ensures { total_of (one_margin ∷ other_margin ∷ []) ≡ both_margins }
+    ensures sums { total_of (one_margin ∷ other_margin ∷ []) ≡ both_margins }
+    ensures above { (total_of (other_margin ∷ [])).least ≡ Some 100 }
+    ensures none { (total_of (of_none ∷ [])).least ≡ None }
 {}
