@@ -43,11 +43,11 @@ either-some (Some x) other = refl
 
 -- Faults near.
 
-either-way : (a b : Bool) → (a || b) ≡ (b || a)
-either-way true true = refl
-either-way true false = refl
-either-way false true = refl
-either-way false false = refl
+pub either-order : (a b : Bool) → (a || b) ≡ (b || a)
+either-order true true = refl
+either-order true false = refl
+either-order false true = refl
+either-order false false = refl
 
 any-both : (p : FaultyNode → Bool) (slot : ℕ) (js ks : List ℕ)
     → list_any p (all_in slot (js ++ ks)) ≡ (list_any p (all_in slot js) || list_any p (all_in slot ks))
@@ -64,8 +64,8 @@ any-fault list script start p (suc slot) =
     let older = joinings (slots_before list script start slot) in
     list_any-append p (faults_before list script start slot) (all_in slot (js ++ ms))
     ∙ (λ i. any-fault list script start p slot i || any-both p slot js ms i)
-    ∙ either-way (list_any p older) (list_any p (all_in slot js) || list_any p (all_in slot ms))
-    ∙ ap (λ b. b || list_any p older) (either-way (list_any p (all_in slot js)) (list_any p (all_in slot ms))
+    ∙ either-order (list_any p older) (list_any p (all_in slot js) || list_any p (all_in slot ms))
+    ∙ ap (λ b. b || list_any p older) (either-order (list_any p (all_in slot js)) (list_any p (all_in slot ms))
     ∙ sym (any-both p slot ms js)) ∙ sym (list_any-append p (all_in slot (ms ++ js)) older)
 
 near-any : (list : Medl) (script : Script) (start : ClusterStart) (slot : ℕ)

@@ -16,6 +16,7 @@ use Rattle.hypothesis.specs.Walks.{all_in}
 use Rattle.broken_arms.specs.Arms.{faulty_from, by_since, by_near_fault, near_fault, why_not_owed}
 use Rattle.broken_faults.specs.Faults.{faulty_in}
 use Rattle.broken_arms.specs.Since.{IsSince}
+use Rattle.broken_arms.proofs.Owed.{either-order}
 
 -- Some are faulty just where one is found.
 
@@ -166,51 +167,27 @@ since-stays list script start node slot since is has =
     wider slot None bound = tt
     wider slot (Some s) bound = omega (arith, bound)
 
-pub since-joins : (list : Medl) (script : Script) (start : ClusterStart) (node slot : ℕ)
-    → has_node (faulty_in list script start slot) node ≡ false
-    → (has_node (jumpers_in list script (faulty_in list script start slot) slot) node
-    || has_node (nodes_made (loss_in list script start (faulty_in list script start slot) slot)) node) ≡ true
-    → IsSince list script start node (slot + 1) (Some slot)
-since-joins list script start node slot has joined =
-    let J = jumpers_in list script (faulty_in list script start slot) slot in
-    let M = nodes_made (loss_in list script start (faulty_in list script start slot) slot) in
-    let here : has_node (M ++ J) node ≡ true =
-    has_node-append M J node ∙ or-swap (has_node M node) (has_node J node) ∙ joined in
-    record {
-      value = after-slot list script start node slot
-          ∙ (λ i. cond (here i) (lesser slot (no-longer list script start node slot has i))
-          (no-longer list script start node slot has i));
-      bound = omega arith;
-    }
-  where
-    or-swap : (a b : Bool) → (a || b) ≡ (b || a)
-    or-swap true true = refl
-    or-swap true false = refl
-    or-swap false true = refl
-    or-swap false false = refl
+within : (slot : ℕ) (joined : Bool) → IfSome (cond joined (Some slot) None) (λ s. s < slot + 1)
+within slot true = omega arith
+within slot false = tt
 
-pub since-none : (list : Medl) (script : Script) (start : ClusterStart) (node slot : ℕ)
+-- one that is faulty no longer, or was not, is so since the slot, if it becomes so in it
+pub since-new : (list : Medl) (script : Script) (start : ClusterStart) (node slot : ℕ) (joined : Bool)
     → has_node (faulty_in list script start slot) node ≡ false
     → (has_node (jumpers_in list script (faulty_in list script start slot) slot) node
-    || has_node (nodes_made (loss_in list script start (faulty_in list script start slot) slot)) node) ≡ false
-    → IsSince list script start node (slot + 1) None
-since-none list script start node slot has joined =
+    || has_node (nodes_made (loss_in list script start (faulty_in list script start slot) slot)) node) ≡ joined
+    → IsSince list script start node (slot + 1) (cond joined (Some slot) None)
+since-new list script start node slot joined has is =
     let J = jumpers_in list script (faulty_in list script start slot) slot in
     let M = nodes_made (loss_in list script start (faulty_in list script start slot) slot) in
-    let here : has_node (M ++ J) node ≡ false =
-    has_node-append M J node ∙ or-swap (has_node M node) (has_node J node) ∙ joined in
+    let here : has_node (M ++ J) node ≡ joined =
+    has_node-append M J node ∙ either-order (has_node M node) (has_node J node) ∙ is in
     record {
       value = after-slot list script start node slot
           ∙ (λ i. cond (here i) (lesser slot (no-longer list script start node slot has i))
           (no-longer list script start node slot has i));
-      bound = tt;
+      bound = within slot joined;
     }
-  where
-    or-swap : (a b : Bool) → (a || b) ≡ (b || a)
-    or-swap true true = refl
-    or-swap true false = refl
-    or-swap false true = refl
-    or-swap false false = refl
 
 -- A node is faulty for long where it is so since long ago.
 
