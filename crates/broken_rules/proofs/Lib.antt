@@ -1,3 +1,4 @@
 pub mod Pairs
 pub mod FirstJumps
 pub mod Slots
+pub mod Told

@@ -14,6 +14,7 @@ use Rattle.ttp_world.specs.Hypothesis.{is_far_jump, is_jump_before, lesser, leas
 use Rattle.ttp_world.specs.Hypothesis.{outside_broken, start_of, needed}
 use Rattle.ttp_world.specs.Returning.{disturbed_slot, disturbance_broken, is_arm, has_arm, needed_back}
 use Rattle.ttp_world.specs.Script.{reading_error, jump_of}
+use Rattle.broken_arms.proofs.ArmSlots.{found-passes}
 use Rattle.broken_rules.specs.declared.jumps.Disturbed.{Disturbed}
 use Rattle.broken_rules.specs.declared.clocks.PastBound.TheVariants as past
 use Rattle.broken_rules.specs.Clocks.{past_bound_in, past_bound, past_slot}
@@ -23,18 +24,6 @@ use Rattle.broken_rules.specs.Jumps.{earlier, disturbed_from, first_disturbed}
 use Rattle.broken_rules.specs.Start.{no_start_by, no_start}
 
 -- Clocks.
-
-found-step : (p : ℕ → Bool) (x k : ℕ) (xs : List ℕ) (b : Bool) → p x ≡ b → (find p xs ≡ Some k → p k ≡ true)
-    → find p (x ∷ xs) ≡ Some k → p k ≡ true
-found-step p x k xs true is later found =
-    let here : Some x ≡ Some k = rw is at found in
-    let same : x ≡ k = grind arith in
-    ap p (sym same) ∙ is
-found-step p x k xs false is later found = later (rw is at found)
-
-found-passes : (p : ℕ → Bool) (k : ℕ) (xs : List ℕ) → find p xs ≡ Some k → p k ≡ true
-found-passes p k [] found = absurd (grind arith)
-found-passes p k (x ∷ xs) found = found-step p x k xs (p x) refl (found-passes p k xs) found
 
 one-step : (p : ℕ → Bool) (x : ℕ) (xs : List ℕ) (b : Bool) → p x ≡ b
     → (not (list_all p xs) ≡ true → is_some (find (λ k. not (p k)) xs) ≡ true) → not (list_all p (x ∷ xs)) ≡ true

@@ -6,12 +6,12 @@ ghost use Rattle.ttp_world.specs.Hypothesis.{nodes_of, clocks_broken, is_within_
 ghost use Rattle.ttp_world.specs.Medl.{IsValid, IsWithin};
 ghost use Rattle.ttp_world.specs.Returning.{needed_back};
 ghost use Rattle.ttp_world.specs.Script.{drift_of, reading_error, IsValidScript, IsWithinSpan};
-ghost use Rattle.broken_rules.specs.Clocks.{is_past, past_bound, errors_past, narrow_window, narrow_window_back};
+ghost use Rattle.broken_rules.specs.Clocks.{is_past, past_bound_in, errors_past, narrow_window, narrow_window_back};
 
-use hypothesis::{drifts_hold, keeps};
+use hypothesis::drifts_hold;
 use precision::needed;
 use ttp_base::NodeSet;
-use ttp_world::{DRIFT_LIMIT, Keep, Medl, Script};
+use ttp_world::{DRIFT_LIMIT, Medl, Script};
 
 /// Clocks that are past a bound of the list.
 #[derive(Clone, Copy)]
@@ -69,14 +69,14 @@ fn errors_past(list: &Medl, script: &Script, slot: u32) -> Option<PastBound>
     None
 }
 
-/// What is past a bound, if something is.
-pub(crate) fn past_bound(list: &Medl, script: &Script) -> Option<PastBound>
+/// What is past a bound, where the rule on clocks names this slot.
+pub(crate) fn past_bound(list: &Medl, script: &Script, broken: Option<u32>) -> Option<PastBound>
     requires valid { IsValid list.now }
     requires script { IsValidScript list.now script.now }
-    ensures { result ≡ past_bound list.now script.now }
+    ensures { result ≡ past_bound_in list.now script.now broken }
 {
-    match keeps(list, script) {
-        Keep::No { rule: 1, slot } => {
+    match broken {
+        Some(slot) => {
             if drifts_hold(list, script) {
                 errors_past(list, script, slot)
             } else {
@@ -85,7 +85,7 @@ pub(crate) fn past_bound(list: &Medl, script: &Script) -> Option<PastBound>
                 })
             }
         }
-        _ => None,
+        None => None,
     }
 }
 

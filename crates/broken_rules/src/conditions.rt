@@ -1,14 +1,14 @@
 //! The rules that ask nothing of faulty nodes, all at once.
 ghost use Rattle.std.specs.Prelude.{◌≡◌};
+ghost use Rattle.ttp_world.specs.Hypothesis.{clocks_broken};
 ghost use Rattle.ttp_world.specs.Medl.{IsValid};
 ghost use Rattle.ttp_world.specs.Returning.{has_arm};
 ghost use Rattle.ttp_world.specs.Script.{IsValidScript};
-ghost use Rattle.broken_rules.specs.Conditions.{broken_conditions, NameTheirSlots, narrow_by};
+ghost use Rattle.broken_rules.specs.Conditions.{broken_conditions, narrow_by};
 
 use crate::clocks::{PastBound, narrow_window, narrow_window_back, past_bound};
 use crate::jumps::{Disturbed, first_disturbed};
 use crate::start::{NoStart, no_start};
-use hypothesis::has_arm;
 use ttp_world::{Medl, Script};
 
 /// What breaks the first four rules of the hypothesis, or of the test on armed nodes.
@@ -37,19 +37,23 @@ fn narrow_by(list: &Medl, armed: bool) -> Option<i64>
 }
 
 /// Each of the first four rules that a script breaks, by what: those of [`hypothesis::returns`] where a node is armed,
-/// and else those of [`hypothesis::keeps`]. A rule is asked whether or not one before it is broken. Slots are counted
-/// from 0.
-///
-/// Takes no memory, and what `keeps` costs, with one more walk over the events and one over the nodes.
-pub fn broken_conditions(list: &Medl, script: &Script) -> BrokenConditions
+/// and else those of [`hypothesis::keeps`], of which the first names this slot. A rule is asked whether or not one before
+/// it is broken. Goes over the events twice, and over the nodes.
+pub(crate) fn broken_conditions(
+    list: &Medl,
+    script: &Script,
+    armed: bool,
+    clocks: Option<u32>,
+) -> BrokenConditions
     requires valid { IsValid list.now }
     requires script { IsValidScript list.now script.now }
-    ensures exact { result ≡ broken_conditions list.now script.now }
-    ensures slots { NameTheirSlots list.now script.now result }
+    requires armed { armed ≡ has_arm script.now }
+    requires clocks { clocks ≡ clocks_broken list.now script.now }
+    ensures { result ≡ broken_conditions list.now script.now }
 {
     BrokenConditions {
-        clocks: past_bound(list, script),
-        window: narrow_by(list, has_arm(script)),
+        clocks: past_bound(list, script, clocks),
+        window: narrow_by(list, armed),
         disturbed: first_disturbed(list, script),
         start: no_start(list, script),
     }

@@ -1,13 +1,13 @@
 //! The rules of the hypothesis that a script breaks, each by what.
 //!
-//! `keeps` and `returns` of hypothesis name the first rule that is broken, with a slot. [`broken_conditions`] tells of
-//! each rule that asks nothing of faulty nodes, whichever others are broken, what breaks it, with the numbers: clocks,
-//! the window, flipped bits and jumps, and the start. What it tells is the definition of `specs/Conditions.antt`, and it
-//! names the slots that hypothesis names.
+//! `keeps` and `returns` of hypothesis name the first rule that is broken, with a slot. [`broken_rules`] tells of each
+//! rule, whichever others are broken, what breaks it, with the numbers: clocks, the window, flipped bits and jumps, and
+//! the start by this crate, faults and arm lines by broken_faults. What it tells is the definition of
+//! `specs/Rules.antt`, and the first of it names the rule and the slot that hypothesis names.
 //!
 //! ```text
-//! let broken = broken_conditions(list, script);
-//! if let Some(needed) = broken.window { .. list.window, needed .. }
+//! let broken = broken_rules(list, script);
+//! if let Some(needed) = broken.conditions.window { .. list.window, needed .. }
 //! ```
 //!
 //! Where a node of the script is armed, the rules are those on armed nodes. A line of the script that breaks a rule is
@@ -17,9 +17,11 @@
 mod clocks;
 mod conditions;
 mod jumps;
+mod rules;
 mod start;
 
 pub use crate::clocks::PastBound;
-pub use crate::conditions::{BrokenConditions, broken_conditions};
+pub use crate::conditions::BrokenConditions;
 pub use crate::jumps::{Disturbance, Disturbed};
+pub use crate::rules::{Answer, BrokenRules, broken_rules};
 pub use crate::start::NoStart;
