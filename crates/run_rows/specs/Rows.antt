@@ -27,9 +27,11 @@ pub record RunShown : Type 0 where
   pub script : Script
   pub slots : ℕ
 
+-- a slot of it
 abbrev pub run_slot : RunShown → ℕ → RunSlot
 run_slot run slot = slot_in run.list run.script slot
 
+-- those before a slot
 abbrev pub past_slots : RunShown → ℕ → RunSlots
 past_slots run slot = past_slots_in run.list run.script slot
 
