@@ -1,0 +1,5 @@
+pub mod Shown
+pub mod Nodes
+pub mod Pieces
+pub mod Script
+pub mod Lines
