@@ -5,14 +5,14 @@ use Rattle.ttp_base.specs.Text.{newline}
 use Rattle.check_words.specs.declared.lines.Place.{Place}
 
 -- a place of a file of this name
-abbrev pub place_text : List ℕ → Place → List ℕ
-place_text name place =
+abbrev pub file_place : List ℕ → Place → List ℕ
+file_place name place =
     name ++ (codes ":" ++ (decimal place.line ++ (codes ":" ++ (decimal place.column ++ codes ": "))))
 
 -- what is wrong there
 abbrev pub error_line : List ℕ → Place → List ℕ → List ℕ → List ℕ
 error_line name place fault said =
-    ((((place_text name place ++ codes "error: ") ++ fault) ++ codes ": ") ++ said) ++ newline
+    ((((file_place name place ++ codes "error: ") ++ fault) ++ codes ": ") ++ said) ++ newline
 
 -- how many lines of both kinds stand before the last one
 abbrev pub counts_text : ℕ → ℕ → List ℕ

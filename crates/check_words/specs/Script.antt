@@ -56,8 +56,8 @@ spelling part.Fault = codes ", wanted silence or noise"
 spelling _ = []
 
 -- from a number to another
-abbrev pub range_text : ℤ → ℤ → List ℕ
-range_text low high = signed_decimal low ++ (codes " to " ++ signed_decimal high)
+abbrev pub low_to_high : ℤ → ℤ → List ℕ
+low_to_high low high = signed_decimal low ++ (codes " to " ++ signed_decimal high)
 
 -- the first of the nodes that are wanted
 abbrev pub nodes_from : Part → List ℕ
@@ -69,37 +69,37 @@ abbrev pub stands_text : List ℕ → ℕ → ℕ → List ℕ
 stands_text front node line = front ++ (decimal node ++ (codes " stands in line " ++ decimal line))
 
 -- what is said of a word, or of a line with this first word, beside what it is called
-unfoldable pub said : List ℕ → Wrong → List ℕ
-said word wrong.Mark = codes "a byte order mark, save the file without one"
-said word wrong.Utf16 = codes "the file is UTF-16, save it as UTF-8"
-said word wrong.IsList = codes "this file is a list, the script comes second"
-said word wrong.NoForm = meant word all_form_words
-said word wrong.NoSlots = codes "wanted a line slots T before this one"
-said word wrong.NothingSaid = codes "no line says anything, wanted slots T"
-said word wrong.Comment = shown_word word ++ codes ", a comment has a line of its own"
-said word (wrong.WordCount words form) =
+unfoldable pub script_said : List ℕ → Wrong → List ℕ
+script_said word wrong.Mark = codes "a byte order mark, save the file without one"
+script_said word wrong.Utf16 = codes "the file is UTF-16, save it as UTF-8"
+script_said word wrong.IsList = codes "this file is a list, the script comes second"
+script_said word wrong.NoForm = meant word all_form_words
+script_said word wrong.NoSlots = codes "wanted a line slots T before this one"
+script_said word wrong.NothingSaid = codes "no line says anything, wanted slots T"
+script_said word wrong.Comment = shown_word word ++ codes ", a comment has a line of its own"
+script_said word (wrong.WordCount words form) =
     codes "words " ++ (decimal words ++ (codes ", wanted " ++ (decimal (length (parts_of form) + 1) ++ (codes ": " ++
     form_words form))))
-said word (wrong.Misspelt p) = part_is p (shown_word word) (spelling p)
-said word (wrong.NoNumber p low high) = part_is p (shown_word word) (codes ", wanted a number " ++ range_text low high)
-said word (wrong.OutOfRange p value low high) = part_is p (signed_decimal value) (codes ", wanted " ++ range_text low high)
-said word (wrong.NoNode p node high) = part_is p (decimal node) (nodes_from p ++ decimal high)
-said word (wrong.NoData p node) = part_is p (decimal node) (codes ", whose data is 0 in the list")
-said word (wrong.NoSource high) =
+script_said word (wrong.Misspelt p) = part_is p (shown_word word) (spelling p)
+script_said word (wrong.NoNumber p low high) = part_is p (shown_word word) (codes ", wanted a number " ++ low_to_high low high)
+script_said word (wrong.OutOfRange p value low high) = part_is p (signed_decimal value) (codes ", wanted " ++ low_to_high low high)
+script_said word (wrong.NoNode p node high) = part_is p (decimal node) (nodes_from p ++ decimal high)
+script_said word (wrong.NoData p node) = part_is p (decimal node) (codes ", whose data is 0 in the list")
+script_said word (wrong.NoSource high) =
     part_is part.Source (shown_word word) (codes ", wanted status or a number 0 to " ++ decimal high)
-said word (wrong.ReadsItself node) =
+script_said word (wrong.ReadsItself node) =
     part_is part.Source (decimal node) (codes ", the node itself, wanted status or another node")
-said word wrong.NoDigits = part_is part.Message (shown_word word) (codes ", wanted hexadecimal digits, two for each byte")
-said word (wrong.DigitCount digits due node) =
+script_said word wrong.NoDigits = part_is part.Message (shown_word word) (codes ", wanted hexadecimal digits, two for each byte")
+script_said word (wrong.DigitCount digits due node) =
     codes "HEX has digits " ++ (decimal digits ++ (codes ", wanted " ++ (decimal due ++ (codes " for data = " ++
     (decimal (due / 2) ++ (codes " of node " ++ decimal node))))))
-said word (wrong.Backwards from to) =
+script_said word (wrong.Backwards from to) =
     codes "TO is " ++ (decimal to ++ (codes ", wanted " ++ (decimal from ++ (codes " or more, since FROM is " ++
     decimal from))))
-said word (wrong.SlotsAgain line) = codes "slots stands in line " ++ decimal line
-said word (wrong.OnAgain node line) = stands_text (codes "on ") node line
-said word (wrong.DriftAgain node line) = stands_text (codes "drift ") node line
-said word wrong.NoBuffer = codes "buffers is 1 in the list, wanted 2 or more"
-said word (wrong.TooMany node slot most) =
+script_said word (wrong.SlotsAgain line) = codes "slots stands in line " ++ decimal line
+script_said word (wrong.OnAgain node line) = stands_text (codes "on ") node line
+script_said word (wrong.DriftAgain node line) = stands_text (codes "drift ") node line
+script_said word wrong.NoBuffer = codes "buffers is 1 in the list, wanted 2 or more"
+script_said word (wrong.TooMany node slot most) =
     codes "writes of node " ++ (decimal node ++ (codes " in slot " ++ (decimal slot ++ (codes
     " reach buffers, wanted at most " ++ decimal most))))

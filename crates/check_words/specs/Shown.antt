@@ -9,12 +9,12 @@ use Rattle.check_words.specs.declared.nearest.Near.{Near}
 -- What stands there.
 
 -- a byte stands as it is: one of ASCII that prints, but no double quote and no backslash
-abbrev pub is_plain : ℕ → Bool
-is_plain b = (nat_le 32 b && nat_le b 126) && (not (b == 34) && not (b == 92))
+abbrev pub is_plain_byte : ℕ → Bool
+is_plain_byte b = (nat_le 32 b && nat_le b 126) && (not (b == 34) && not (b == 92))
 
 -- a byte as it is shown
 abbrev pub shown_byte : ℕ → List ℕ
-shown_byte b = if is_plain b then b ∷ [] else codes "\\x" ++ byte_hex b
+shown_byte b = if is_plain_byte b then b ∷ [] else codes "\\x" ++ byte_hex b
 
 -- so many bytes are shown
 abbrev pub shown_most : ℕ
@@ -45,13 +45,13 @@ near_at word place name =
     then Some (record { distance = edits word name; place = place }) else None
 
 -- the nearer one of two, the first of two as near
-abbrev pub nearer : Near → Option Near → Near
-nearer first None = first
-nearer first (Some later) = if nat_lt later.distance first.distance then later else first
+abbrev pub nearer_name : Near → Option Near → Near
+nearer_name first None = first
+nearer_name first (Some later) = if nat_lt later.distance first.distance then later else first
 
 abbrev pub nearest_of : Option Near → Option Near → Option Near
 nearest_of None later = later
-nearest_of (Some first) later = Some (nearer first later)
+nearest_of (Some first) later = Some (nearer_name first later)
 
 -- the nearest of names, of which the first stands at a place
 abbrev pub nearest_from : List ℕ → ℕ → List (List ℕ) → Option Near
@@ -59,8 +59,8 @@ nearest_from word place [] = None
 nearest_from word place (name ∷ names) = nearest_of (near_at word place name) (nearest_from word (place + 1) names)
 
 -- the nearest name of a table to a word, whose letters count as small ones
-abbrev pub nearest : List ℕ → List (List ℕ) → Option Near
-nearest word names = nearest_from (map small_letter word) 0 names
+abbrev pub nearest_name : List ℕ → List (List ℕ) → Option Near
+nearest_name word names = nearest_from (map small_letter word) 0 names
 
 -- the name at a place
 abbrev pub name_at : List (List ℕ) → ℕ → List ℕ
@@ -81,4 +81,4 @@ nearest_or_all names (Some near) = codes ", nearest " ++ name_at names near.plac
 
 -- a word that is none of these names
 unfoldable pub meant : List ℕ → List (List ℕ) → List ℕ
-meant word names = shown_word word ++ nearest_or_all names (nearest word names)
+meant word names = shown_word word ++ nearest_or_all names (nearest_name word names)

@@ -1,6 +1,6 @@
 //! Lines of the output: a place, and what is said of it.
 ghost use Rattle.std.specs.Prelude.{◌≡◌, ◌++◌, OnOk};
-ghost use Rattle.check_words.specs.Lines.{place_text, counts_text, last_line};
+ghost use Rattle.check_words.specs.Lines.{file_place, counts_text, last_line};
 
 use crate::pieces::{Piece, put_pieces};
 use crate::text::Text;
@@ -19,7 +19,7 @@ pub struct Place {
 ///
 /// As of the other function, where memory was refused; some of it may have been added.
 pub fn put_place(text: &mut Text, name: &[u8], place: Place) -> Result<(), Memory>
-    ensures { OnOk result (text.new ≡ text.old ++ place_text name.now place) }
+    ensures { OnOk result (text.new ≡ text.old ++ file_place name.now place) }
 {
     text.put_bytes(name)?;
     let pieces = [

@@ -1,6 +1,6 @@
 //! The nearest name of a table to a word that is none of them.
 ghost use Rattle.std.specs.Prelude.{◌≡◌, ◌+◌, ◌≤◌, ◌++◌, length, map, IfOk, OnOk};
-ghost use Rattle.check_words.specs.Shown.{small_letter, near_at, nearer, nearest_of, nearest_from, nearest, name_at, chosen};
+ghost use Rattle.check_words.specs.Shown.{small_letter, near_at, nearer_name, nearest_of, nearest_from, nearest_name, name_at, chosen};
 ghost use Rattle.check_words.specs.Shown.{nearest_or_all, edits, meant};
 
 use crate::shown::put_shown;
@@ -64,7 +64,7 @@ fn near_at(alloc: Global, word: &[u8], place: usize, name: &str) -> Result<Optio
 
 // The nearer one of two, the first of two as near.
 fn nearer(first: Near, later: Option<Near>) -> Near
-    ensures { result ≡ nearer first later }
+    ensures { result ≡ nearer_name first later }
 {
     match later {
         Some(later) if later.distance < first.distance => later,
@@ -156,7 +156,7 @@ fn put_nearest(text: &mut Text, names: &[&str], near: Option<Near>) -> Result<()
 // The nearest of some names to a word.
 fn nearest(alloc: Global, word: &[u8], names: &[&str]) -> Result<Option<Near>, Memory>
     requires { length names.now ≤ 1000 }
-    ensures { IfOk result (λ near. near ≡ nearest word.now (map (λ n. n.now) names.now)) }
+    ensures { IfOk result (λ near. near ≡ nearest_name word.now (map (λ n. n.now) names.now)) }
 {
     let letters = small_word(alloc, word)?;
     nearest_from(alloc, letters.as_slice(), 0, names)

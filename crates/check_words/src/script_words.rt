@@ -4,7 +4,7 @@ ghost use Rattle.script_errors.specs.declared.error.Wrong.TheVariants as wrong;
 ghost use Rattle.script_errors.specs.Words.{parts_of};
 ghost use Rattle.check_words.specs.Shown.{meant};
 ghost use Rattle.check_words.specs.Script.{part_name, form_words, all_form_words, wrong_fault, spelling, nodes_from, stands_text};
-ghost use Rattle.check_words.specs.Script.{said};
+ghost use Rattle.check_words.specs.Script.{script_said};
 
 use crate::nearest::put_meant;
 use crate::pieces::{Piece, put_pieces};
@@ -122,9 +122,9 @@ fn put_no_form(alloc: Global, text: &mut Text, word: &[u8]) -> Result<(), Memory
     put_meant(alloc, text, word, &FORM_WORDS)
 }
 
-#[tactic(auto, unfolding(crate::specs::Script::said))]
+#[tactic(auto, unfolding(crate::specs::Script::script_said))]
 fn put_comment(text: &mut Text, word: &[u8]) -> Result<(), Memory>
-    ensures { OnOk result (text.new ≡ text.old ++ said word.now wrong.Comment) }
+    ensures { OnOk result (text.new ≡ text.old ++ script_said word.now wrong.Comment) }
 {
     let pieces = [
         Piece::Shown(word),
@@ -133,9 +133,9 @@ fn put_comment(text: &mut Text, word: &[u8]) -> Result<(), Memory>
     put_pieces(text, &pieces)
 }
 
-#[tactic(auto, unfolding(crate::specs::Script::said))]
+#[tactic(auto, unfolding(crate::specs::Script::script_said))]
 fn put_word_count(text: &mut Text, word: &[u8], words: u32, form: Form) -> Result<(), Memory>
-    ensures { OnOk result (text.new ≡ text.old ++ said word.now (wrong.WordCount words form)) }
+    ensures { OnOk result (text.new ≡ text.old ++ script_said word.now (wrong.WordCount words form)) }
 {
     let pieces = [
         Piece::Words("words "),
@@ -148,9 +148,9 @@ fn put_word_count(text: &mut Text, word: &[u8], words: u32, form: Form) -> Resul
     put_pieces(text, &pieces)
 }
 
-#[tactic(auto, unfolding(crate::specs::Script::said))]
+#[tactic(auto, unfolding(crate::specs::Script::script_said))]
 fn put_misspelt(text: &mut Text, word: &[u8], part: Part) -> Result<(), Memory>
-    ensures { OnOk result (text.new ≡ text.old ++ said word.now (wrong.Misspelt part)) }
+    ensures { OnOk result (text.new ≡ text.old ++ script_said word.now (wrong.Misspelt part)) }
 {
     let pieces = [
         Piece::Words(part_name(part)),
@@ -161,7 +161,7 @@ fn put_misspelt(text: &mut Text, word: &[u8], part: Part) -> Result<(), Memory>
     put_pieces(text, &pieces)
 }
 
-#[tactic(auto, unfolding(crate::specs::Script::said))]
+#[tactic(auto, unfolding(crate::specs::Script::script_said))]
 fn put_no_number(
     text: &mut Text,
     word: &[u8],
@@ -169,7 +169,7 @@ fn put_no_number(
     low: i64,
     high: i64,
 ) -> Result<(), Memory>
-    ensures { OnOk result (text.new ≡ text.old ++ said word.now (wrong.NoNumber part low high)) }
+    ensures { OnOk result (text.new ≡ text.old ++ script_said word.now (wrong.NoNumber part low high)) }
 {
     let pieces = [
         Piece::Words(part_name(part)),
@@ -183,7 +183,7 @@ fn put_no_number(
     put_pieces(text, &pieces)
 }
 
-#[tactic(auto, unfolding(crate::specs::Script::said))]
+#[tactic(auto, unfolding(crate::specs::Script::script_said))]
 fn put_out_of_range(
     text: &mut Text,
     word: &[u8],
@@ -192,7 +192,7 @@ fn put_out_of_range(
     low: i64,
     high: i64,
 ) -> Result<(), Memory>
-    ensures { OnOk result (text.new ≡ text.old ++ said word.now (wrong.OutOfRange part value low high)) }
+    ensures { OnOk result (text.new ≡ text.old ++ script_said word.now (wrong.OutOfRange part value low high)) }
 {
     let pieces = [
         Piece::Words(part_name(part)),
@@ -206,9 +206,9 @@ fn put_out_of_range(
     put_pieces(text, &pieces)
 }
 
-#[tactic(auto, unfolding(crate::specs::Script::said))]
+#[tactic(auto, unfolding(crate::specs::Script::script_said))]
 fn put_no_node(text: &mut Text, word: &[u8], part: Part, node: u32, high: u32) -> Result<(), Memory>
-    ensures { OnOk result (text.new ≡ text.old ++ said word.now (wrong.NoNode part node high)) }
+    ensures { OnOk result (text.new ≡ text.old ++ script_said word.now (wrong.NoNode part node high)) }
 {
     let pieces = [
         Piece::Words(part_name(part)),
@@ -220,9 +220,9 @@ fn put_no_node(text: &mut Text, word: &[u8], part: Part, node: u32, high: u32) -
     put_pieces(text, &pieces)
 }
 
-#[tactic(auto, unfolding(crate::specs::Script::said))]
+#[tactic(auto, unfolding(crate::specs::Script::script_said))]
 fn put_no_data(text: &mut Text, word: &[u8], part: Part, node: u32) -> Result<(), Memory>
-    ensures { OnOk result (text.new ≡ text.old ++ said word.now (wrong.NoData part node)) }
+    ensures { OnOk result (text.new ≡ text.old ++ script_said word.now (wrong.NoData part node)) }
 {
     let pieces = [
         Piece::Words(part_name(part)),
@@ -233,9 +233,9 @@ fn put_no_data(text: &mut Text, word: &[u8], part: Part, node: u32) -> Result<()
     put_pieces(text, &pieces)
 }
 
-#[tactic(auto, unfolding(crate::specs::Script::said))]
+#[tactic(auto, unfolding(crate::specs::Script::script_said))]
 fn put_no_source(text: &mut Text, word: &[u8], high: u32) -> Result<(), Memory>
-    ensures { OnOk result (text.new ≡ text.old ++ said word.now (wrong.NoSource high)) }
+    ensures { OnOk result (text.new ≡ text.old ++ script_said word.now (wrong.NoSource high)) }
 {
     let pieces = [
         Piece::Words("SOURCE is "),
@@ -246,9 +246,9 @@ fn put_no_source(text: &mut Text, word: &[u8], high: u32) -> Result<(), Memory>
     put_pieces(text, &pieces)
 }
 
-#[tactic(auto, unfolding(crate::specs::Script::said))]
+#[tactic(auto, unfolding(crate::specs::Script::script_said))]
 fn put_reads_itself(text: &mut Text, word: &[u8], node: u32) -> Result<(), Memory>
-    ensures { OnOk result (text.new ≡ text.old ++ said word.now (wrong.ReadsItself node)) }
+    ensures { OnOk result (text.new ≡ text.old ++ script_said word.now (wrong.ReadsItself node)) }
 {
     let pieces = [
         Piece::Words("SOURCE is "),
@@ -258,9 +258,9 @@ fn put_reads_itself(text: &mut Text, word: &[u8], node: u32) -> Result<(), Memor
     put_pieces(text, &pieces)
 }
 
-#[tactic(auto, unfolding(crate::specs::Script::said))]
+#[tactic(auto, unfolding(crate::specs::Script::script_said))]
 fn put_no_digits(text: &mut Text, word: &[u8]) -> Result<(), Memory>
-    ensures { OnOk result (text.new ≡ text.old ++ said word.now wrong.NoDigits) }
+    ensures { OnOk result (text.new ≡ text.old ++ script_said word.now wrong.NoDigits) }
 {
     let pieces = [
         Piece::Words("HEX is "),
@@ -270,7 +270,7 @@ fn put_no_digits(text: &mut Text, word: &[u8]) -> Result<(), Memory>
     put_pieces(text, &pieces)
 }
 
-#[tactic(auto, unfolding(crate::specs::Script::said))]
+#[tactic(auto, unfolding(crate::specs::Script::script_said))]
 fn put_digit_count(
     text: &mut Text,
     word: &[u8],
@@ -278,7 +278,7 @@ fn put_digit_count(
     due: u32,
     node: u32,
 ) -> Result<(), Memory>
-    ensures { OnOk result (text.new ≡ text.old ++ said word.now (wrong.DigitCount digits due node)) }
+    ensures { OnOk result (text.new ≡ text.old ++ script_said word.now (wrong.DigitCount digits due node)) }
 {
     let pieces = [
         Piece::Words("HEX has digits "),
@@ -293,9 +293,9 @@ fn put_digit_count(
     put_pieces(text, &pieces)
 }
 
-#[tactic(auto, unfolding(crate::specs::Script::said))]
+#[tactic(auto, unfolding(crate::specs::Script::script_said))]
 fn put_backwards(text: &mut Text, word: &[u8], from: u32, to: u32) -> Result<(), Memory>
-    ensures { OnOk result (text.new ≡ text.old ++ said word.now (wrong.Backwards from to)) }
+    ensures { OnOk result (text.new ≡ text.old ++ script_said word.now (wrong.Backwards from to)) }
 {
     let pieces = [
         Piece::Words("TO is "),
@@ -308,9 +308,9 @@ fn put_backwards(text: &mut Text, word: &[u8], from: u32, to: u32) -> Result<(),
     put_pieces(text, &pieces)
 }
 
-#[tactic(auto, unfolding(crate::specs::Script::said))]
+#[tactic(auto, unfolding(crate::specs::Script::script_said))]
 fn put_slots_again(text: &mut Text, word: &[u8], line: u32) -> Result<(), Memory>
-    ensures { OnOk result (text.new ≡ text.old ++ said word.now (wrong.SlotsAgain line)) }
+    ensures { OnOk result (text.new ≡ text.old ++ script_said word.now (wrong.SlotsAgain line)) }
 {
     let pieces = [
         Piece::Words("slots stands in line "),
@@ -319,9 +319,9 @@ fn put_slots_again(text: &mut Text, word: &[u8], line: u32) -> Result<(), Memory
     put_pieces(text, &pieces)
 }
 
-#[tactic(auto, unfolding(crate::specs::Script::said))]
+#[tactic(auto, unfolding(crate::specs::Script::script_said))]
 fn put_on_again(text: &mut Text, word: &[u8], node: u32, line: u32) -> Result<(), Memory>
-    ensures { OnOk result (text.new ≡ text.old ++ said word.now (wrong.OnAgain node line)) }
+    ensures { OnOk result (text.new ≡ text.old ++ script_said word.now (wrong.OnAgain node line)) }
 {
     let pieces = [
         Piece::Words("on "),
@@ -332,9 +332,9 @@ fn put_on_again(text: &mut Text, word: &[u8], node: u32, line: u32) -> Result<()
     put_pieces(text, &pieces)
 }
 
-#[tactic(auto, unfolding(crate::specs::Script::said))]
+#[tactic(auto, unfolding(crate::specs::Script::script_said))]
 fn put_drift_again(text: &mut Text, word: &[u8], node: u32, line: u32) -> Result<(), Memory>
-    ensures { OnOk result (text.new ≡ text.old ++ said word.now (wrong.DriftAgain node line)) }
+    ensures { OnOk result (text.new ≡ text.old ++ script_said word.now (wrong.DriftAgain node line)) }
 {
     let pieces = [
         Piece::Words("drift "),
@@ -345,9 +345,9 @@ fn put_drift_again(text: &mut Text, word: &[u8], node: u32, line: u32) -> Result
     put_pieces(text, &pieces)
 }
 
-#[tactic(auto, unfolding(crate::specs::Script::said))]
+#[tactic(auto, unfolding(crate::specs::Script::script_said))]
 fn put_too_many(text: &mut Text, word: &[u8], node: u32, slot: u32, most: u32) -> Result<(), Memory>
-    ensures { OnOk result (text.new ≡ text.old ++ said word.now (wrong.TooMany node slot most)) }
+    ensures { OnOk result (text.new ≡ text.old ++ script_said word.now (wrong.TooMany node slot most)) }
 {
     let pieces = [
         Piece::Words("writes of node "),
@@ -365,9 +365,9 @@ fn put_too_many(text: &mut Text, word: &[u8], node: u32, slot: u32, most: u32) -
 /// # Errors
 ///
 /// Where memory was refused; some of it may have been added.
-#[tactic(auto, unfolding(crate::specs::Script::said))]
+#[tactic(auto, unfolding(crate::specs::Script::script_said))]
 pub fn put_said(alloc: Global, text: &mut Text, word: &[u8], wrong: Wrong) -> Result<(), Memory>
-    ensures { OnOk result (text.new ≡ text.old ++ said word.now wrong) }
+    ensures { OnOk result (text.new ≡ text.old ++ script_said word.now wrong) }
 {
     match wrong {
         Wrong::Mark => text.put("a byte order mark, save the file without one"),

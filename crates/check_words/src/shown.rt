@@ -2,7 +2,7 @@
 ghost use Rattle.std.specs.Prelude.{◌≡◌, ◌<◌, ◌++◌, take, codes, OnOk};
 ghost use Rattle.std.specs.List.{flat_map};
 ghost use Rattle.ttp_base.specs.Text.{hex_digit, byte_hex};
-ghost use Rattle.check_words.specs.Shown.{is_plain, shown_byte, shown_most, dots_for, shown_word};
+ghost use Rattle.check_words.specs.Shown.{is_plain_byte, shown_byte, shown_most, dots_for, shown_word};
 
 use crate::text::Text;
 use ttp_base::Memory;
@@ -12,7 +12,7 @@ const SHOWN_MOST: usize = 40;
 
 // Whether a byte is shown as it is.
 fn is_plain(byte: u8) -> bool
-    ensures { result ≡ is_plain byte }
+    ensures { result ≡ is_plain_byte byte }
 {
     32 <= byte && byte <= 126 && byte != b'"' && byte != b'\\'
 }
