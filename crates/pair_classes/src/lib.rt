@@ -9,11 +9,16 @@
 //! counts = with_pair(&counts, class);
 //! ```
 //!
-//! A call costs a step for each of 24 nodes at most, and takes no memory. The crate knows no run, no script and no line.
+//! [`Sums`] keeps the counts of all pairs so far, of each distance and of each answer of the test.
+//!
+//! A call costs a step for each of 24 nodes at most, and takes no memory but [`Sums::new`]. The crate knows no run, no script and
+//! no line.
 #![tactic(auto)]
 
 mod classes;
 mod counts;
+mod sums;
 
 pub use classes::{Harms, has_line, newly_left, pair_class, third_nodes};
 pub use counts::{no_pairs, with_pair};
+pub use sums::Sums;

@@ -1,5 +1,5 @@
 use Rattle.std.proofs.Common.{◌≡◌, ◌<◌, List, ℕ, Bool, ◌&&◌, not, sym, ap, ◌∙◌, arith, rules}
-use Rattle.std.specs.Prelude.{filter, ◌==◌}
+use Rattle.std.specs.Prelude.{filter}
 use Rattle.ttp_base.specs.NodeSet.{most_nodes, below, has_node, with_node}
 use Rattle.ttp_base.proofs.NodeLists.{with_node-next, filter-next}
 use Rattle.pair_classes.proofs.Members.{members-taken}

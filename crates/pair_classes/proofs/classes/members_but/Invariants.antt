@@ -1,5 +1,5 @@
 use Rattle.std.proofs.Common.{◌≡◌, ◌&&◌, not}
-use Rattle.std.specs.Prelude.{filter, ◌==◌}
+use Rattle.std.specs.Prelude.{filter}
 use Rattle.ttp_base.specs.NodeSet.{below, has_node}
 use Rattle.pair_classes.proofs.classes.members_but.Given as goal
 
