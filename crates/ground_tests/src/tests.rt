@@ -6,7 +6,7 @@ mod averages;
 mod base;
 mod bounds;
 mod check_words;
-mod frame_laws;
+mod frame_words;
 mod frames;
 mod heard;
 mod incidents;
