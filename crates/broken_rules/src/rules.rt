@@ -137,7 +137,8 @@ fn arm_by(
 /// is broken, but for those on faults and arm lines, as their fields say. Slots are counted from 0.
 ///
 /// Takes no memory. A script that keeps all rules costs what [`keeps`] costs, or [`returns`] where a node is armed, and
-/// two walks over the events more. For each rule on faults the slots are gone over once more where one rule is broken.
+/// three walks over the events more, with a look-up for each jump. Where a rule is broken, the slots are gone over once
+/// more for each rule on faults and arm lines.
 pub fn broken_rules(list: &Medl, script: &Script) -> BrokenRules
     requires valid { IsValid list.now }
     requires script { IsValidScript list.now script.now }
