@@ -1,8 +1,7 @@
 //! The numbers of lines, from the bytes of a file.
-ghost use Rattle.std.specs.Prelude.{◌≡◌, ◌<◌, ◌≤◌, ◌∷◌, ◌++◌, [], ℕ, length, vec_len, slice_index, IfOk, OnOk, if◌then◌else◌};
-ghost use Rattle.ttp_base.specs.NodeSet.{most_nodes};
+ghost use Rattle.std.specs.Prelude.{◌≡◌, ◌<◌, ◌≤◌, ℕ, length, vec_len, slice_index, IfOk, OnOk, if◌then◌else◌};
 ghost use Rattle.script_text.specs.Lines.{words_of_line};
-ghost use Rattle.line_numbers.specs.Numbers.{is_of_node, switches_on, sets_drift, states_event, line_numbers_in};
+ghost use Rattle.line_numbers.specs.Numbers.{is_of_node, line_numbers_in};
 ghost use Rattle.line_numbers.specs.SoFar.{KeepsLine, IsEmpty};
 
 use crate::lines::next_line;

@@ -1,5 +1,5 @@
 //! What is kept of what was reached.
-ghost use Rattle.std.specs.Prelude.{List as Items, ◌≡◌, ◌∷◌, ◌++◌, [], ℕ, filter, IfOk, OnOk};
+ghost use Rattle.std.specs.Prelude.{List as Items, ◌≡◌, ◌∷◌, [], ℕ, filter, IfOk, OnOk};
 ghost use Rattle.causes.specs.declared.cause.Spot.{Spot};
 ghost use Rattle.causes.specs.Story.{has_spot, kept_of_told};
 ghost use Rattle.why_story.specs.Marks.{AreMarked, AreInSlots, AreToldWithin};

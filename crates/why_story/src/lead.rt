@@ -1,6 +1,5 @@
 //! What leads back to a line of the script, or to a clock past the window.
-ghost use Rattle.std.specs.Prelude.{List as Items, ◌≡◌, ◌<◌, ℕ, All, IfOk};
-ghost use Rattle.ttp_base.specs.NodeSet.{most_nodes};
+ghost use Rattle.std.specs.Prelude.{List as Items, ◌≡◌, ◌<◌, ℕ, IfOk};
 ghost use Rattle.causes.specs.declared.cause.Spot.{Spot};
 ghost use Rattle.causes.specs.Story.{is_clock_miss, is_past_window, leads_back, leading};
 ghost use Rattle.why_story.specs.Marks.{AreMarked, AreInSlots, AreToldWithin};

@@ -1,5 +1,5 @@
 //! What is reached from marked entries.
-ghost use Rattle.std.specs.Prelude.{List as Items, ◌≡◌, ◌+◌, ◌<◌, ◌≤◌, ◌∷◌, ◌++◌, [], ℕ, length, IfOk, OnOk, if◌then◌else◌, ◌==◌};
+ghost use Rattle.std.specs.Prelude.{List as Items, ◌≡◌, ◌<◌, ◌≤◌, [], ℕ, length, IfOk, OnOk};
 ghost use Rattle.ttp_base.specs.NodeSet.{most_nodes};
 ghost use Rattle.causes.specs.declared.cause.Spot.{Spot};
 ghost use Rattle.causes.specs.Story.{rank_of_entry, reached, spots_back};
