@@ -6,7 +6,7 @@ use crate::error::{Form, Part};
 use crate::number::is_text;
 
 /// The form that a line's first word names.
-pub(crate) fn form_named(word: &[u8]) -> Option<Form>
+pub fn form_named(word: &[u8]) -> Option<Form>
     ensures { result ≡ form_named word.now }
 {
     if is_text(b"slots", word) {

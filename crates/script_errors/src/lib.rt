@@ -32,5 +32,8 @@ mod words;
 mod writes;
 
 pub use error::{Form, Part, ScriptError, Wrong};
+pub use form::form_named;
+pub use lines::{Cut, next_line};
+pub use number::decimal_value;
 pub use read::script_errors;
-pub use spots::Spot;
+pub use spots::{Spot, cut, spot_text};

@@ -6,9 +6,9 @@ use memchr::memchr;
 
 /// A first piece of a text, and what follows it.
 #[derive(Clone, Copy)]
-pub(crate) struct Cut<'a> {
-    pub(crate) piece: &'a [u8],
-    pub(crate) rest: &'a [u8],
+pub struct Cut<'a> {
+    pub piece: &'a [u8],
+    pub rest: &'a [u8],
 }
 
 // A line without the carriage return at its end, of which one is dropped.
@@ -44,7 +44,7 @@ fn cut_at(text: &[u8], place: usize) -> Cut<'_>
 
 /// The first line of a text, if it has one.
 #[tactic(auto, using(script_text::proofs::Cuts::cuts))]
-pub(crate) fn next_line(text: &[u8]) -> Option<Cut<'_>>
+pub fn next_line(text: &[u8]) -> Option<Cut<'_>>
     ensures none { IfNone result (lines_of_file text.now ≡ []) }
     ensures some { IfSome result (λ cut. lines_of_file text.now ≡ cut.piece.now ∷ lines_of_file cut.rest.now) }
     ensures shorter { IfSome result (λ cut. length cut.rest.now < length text.now) }

@@ -14,7 +14,7 @@ pub(crate) fn is_text(text: &[u8], word: &[u8]) -> bool
 }
 
 /// The number that a word of 1 to 9 decimal digits is.
-pub(crate) fn decimal_value(word: &[u8]) -> Option<u32>
+pub fn decimal_value(word: &[u8]) -> Option<u32>
     ensures { SomeIff result (IsTrue (is_number word.now)) (decimal_value word.now) }
 {
     if word.is_empty() || MOST_DIGITS < word.len() {

@@ -35,7 +35,7 @@ fn end_word(spots: &mut Vec<Spot>, begun: Option<u32>, end: u32) -> Result<(), M
 
 /// Puts the words of a line in the place of those that are kept.
 #[tactic(auto, unfolding(crate::specs::Spots::spots_of))]
-pub(crate) fn cut(line: &[u8], spots: &mut Vec<Spot>) -> Result<(), Memory>
+pub fn cut(line: &[u8], spots: &mut Vec<Spot>) -> Result<(), Memory>
     requires { length line.now ≤ 1048576 }
     ensures { OnOk result (spots.new.items ≡ spots_of line.now) }
 {
@@ -54,7 +54,7 @@ pub(crate) fn cut(line: &[u8], spots: &mut Vec<Spot>) -> Result<(), Memory>
 }
 
 /// The bytes of a word.
-pub(crate) fn spot_text(line: &[u8], word: Spot) -> &[u8]
+pub fn spot_text(line: &[u8], word: Spot) -> &[u8]
     ensures text { result.now ≡ spot_text line.now word }
     ensures size { length result.now ≤ length line.now }
     ensures within { 0 < length result.now → word.start + length result.now ≤ length line.now }
