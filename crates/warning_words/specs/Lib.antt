@@ -1,0 +1,3 @@
+pub mod SaidLines
+pub mod Texts
+pub mod Warnings
