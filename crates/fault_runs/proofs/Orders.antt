@@ -19,7 +19,8 @@ none-past n j (k ∷ ks) small past =
     let other : (k == j) ≡ false = ne_eqb k j (λ same. omega (arith, small.0)) in
     ap (λ (b : Bool). b || has_node ks j) other ∙ none-past n j ks small.1 past
 
-in_order-sieve : (p : ℕ → Bool) (n : ℕ) → n ≤ most_nodes → in_order (filter p (below n)) ≡ filter p (below n)
+-- the nodes of a list that pass a test stand in order
+pub in_order-sieve : (p : ℕ → Bool) (n : ℕ) → n ≤ most_nodes → in_order (filter p (below n)) ≡ filter p (below n)
 in_order-sieve p n fits =
     same_sieve (has_node (filter p (below n))) (λ j. ltb j n && p j) most_nodes each ∙ filter-below p n most_nodes fits
   where

@@ -28,7 +28,7 @@ flat_map-filter-if : {X : Type 0} (p : ℕ → Bool) (f : ℕ → List X) (k : �
 flat_map-filter-if p f k ks true rest = ap (λ ys. f k ++ ys) rest
 flat_map-filter-if p f k ks false rest = rest
 
-flat_map-filter : {X : Type 0} (p : ℕ → Bool) (f : ℕ → List X) (ks : List ℕ)
+pub flat_map-filter : {X : Type 0} (p : ℕ → Bool) (f : ℕ → List X) (ks : List ℕ)
     → flat_map f (filter p ks) ≡ flat_map (λ k. cond (p k) (f k) []) ks
 flat_map-filter p f [] = refl
 flat_map-filter p f (k ∷ ks) = flat_map-filter-if p f k ks (p k) (flat_map-filter p f ks)

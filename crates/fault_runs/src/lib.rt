@@ -26,6 +26,6 @@ mod put;
 mod tally;
 mod tried;
 
-pub use put::{CampaignFault, put_campaign};
+pub use put::{CampaignFault, put_campaign, put_own_line};
 pub use tally::has_room;
 pub use tried::processors;

@@ -9,7 +9,7 @@ ghost use Rattle.ttp_world.specs.declared.script.TheConstants.{EVENT_LIMIT};
 ghost use Rattle.ttp_world.specs.Medl.{IsValid};
 ghost use Rattle.ttp_world.specs.Script.{IsValidScript};
 ghost use Rattle.campaign.specs.CostText.{cost_words};
-ghost use Rattle.campaign.specs.Lines.{Summary, summary, campaign_lines};
+ghost use Rattle.campaign.specs.Lines.{Summary, summary, own_line, campaign_lines};
 ghost use Rattle.campaign.specs.declared.cost.Cost.{Cost};
 ghost use Rattle.campaign.specs.ZerosWorld.{zeros_world};
 ghost use Rattle.run_costs.specs.States.{AreShown};
@@ -301,6 +301,38 @@ fn own_words(alloc: Global, list: &Medl, script: &Script) -> Result<Text, Memory
     let cost = cost_of(alloc, list, script)?;
     form_words(list, &cost, &mut words)?;
     Ok(words)
+}
+
+/// Writes the line of the script's own run alone, as a campaign has it. It runs the cluster once.
+///
+/// # Errors
+///
+/// As of [`put_campaign`]: the line was cut short, or nothing was written.
+pub fn put_own_line<K: Sink>(
+    alloc: Global,
+    list: &Medl,
+    script: &Script,
+    out: &mut K,
+) -> Result<(), CampaignFault>
+    requires valid { IsValid list.now }
+    requires script { IsValidScript list.now script.now }
+    requires room { length script.now.events < EVENT_LIMIT }
+    ensures ok { OnOk result (WroteLines (K.output out.old) (K.output out.new)
+        (own_line list.now (summary list.now script.now) ∷ [])) }
+    ensures err { IfErr result (λ why. LeftFewerBy why (K.output out.old) (K.output out.new)
+        (own_line list.now (summary list.now script.now) ∷ [])) }
+{
+    let Ok(words) = own_words(alloc, list, script) else {
+        return Err(CampaignFault::Memory);
+    };
+    let common = Common {
+        list,
+        script,
+        own: words.bytes(),
+    };
+    let mut tally = Tally::new(alloc);
+    let formed = tally.form_own(&common);
+    put_formed(formed, &tally, out)
 }
 
 /// Writes the campaign of a script over the slots of a range, each line as one piece. Slots that the script

@@ -1,2 +1,3 @@
-mod Spread
-mod Added
+pub mod Spread
+pub mod Added
+pub mod Behind

@@ -45,7 +45,7 @@ same_outcome one other same =
       end = same_sets one.end other.end split.1 i;
     }
 
-same_told : (told : ValueTold) (range : Range) → is_told_as told range ≡ true → told ≡ told_as range told.value
+pub same_told : (told : ValueTold) (range : Range) → is_told_as told range ≡ true → told ≡ told_as range told.value
 same_told told range same =
     let parts = and_parts (bytes_eq told.test range.test) _ same in
     λ i. record {

@@ -1,5 +1,6 @@
 pub mod Distinct
 pub mod Later
+pub mod LeftNodes
 pub mod LaterEvents
 pub mod LaterFaults
 pub mod Nodes

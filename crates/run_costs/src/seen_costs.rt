@@ -20,3 +20,4 @@ mod seen;
 mod sets;
 
 pub use seen::SeenCost;
+pub(crate) use sets::are_split;

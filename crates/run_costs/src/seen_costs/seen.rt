@@ -1,5 +1,5 @@
 //! What was seen of a run so far.
-ghost use Rattle.std.specs.Prelude.{◌≡◌, ◌+◌, ◌<◌, ◌≤◌, [], ◌++◌, ◌||◌, ℕ, Bool, true, None, length, filter, get_or};
+ghost use Rattle.std.specs.Prelude.{◌≡◌, ◌+◌, ◌<◌, ◌≤◌, [], ◌++◌, ◌||◌, ℕ, Bool, true, None, is_some, length, map, filter, get_or};
 ghost use Rattle.std.specs.Prelude.{IfOk, OnOk};
 ghost use Rattle.std.specs.List.{filter_map, cons_option};
 ghost use Rattle.ttp_base.specs.NodeSet.{below, has_node};
@@ -7,12 +7,12 @@ ghost use Rattle.ttp_world.specs.declared.script.Script.{Script};
 ghost use Rattle.ttp_world.specs.Medl.{IsValid};
 ghost use Rattle.ttp_world.specs.Returning.{is_sound};
 ghost use Rattle.ttp_world.specs.Script.{IsValidScript};
-ghost use Rattle.campaign.specs.Cost.{cost_of, leave_after, span_with, span_after};
+ghost use Rattle.campaign.specs.Cost.{cost_of, leaves, leave_after, span_with, span_after};
 ghost use Rattle.campaign.specs.Tried.{with_fault};
 ghost use Rattle.campaign.specs.ZerosWorld.{zeros_world};
 ghost use Rattle.run_costs.specs.Later.{comes_later};
 ghost use Rattle.run_costs.specs.States.{state_at, AreShown};
-ghost use Rattle.run_costs.specs.Told.{is_hurt_by, IsSeenOf};
+ghost use Rattle.run_costs.specs.Told.{is_hurt_by, AreSound, IsSeenOf};
 
 use crate::seen_costs::faulty::Faulty;
 use crate::seen_costs::sets::{are_split, memberships};
@@ -151,6 +151,20 @@ fn leaves(alloc: Global, left: &[Option<Leave>; 24], nodes: u8) -> Result<List<L
     Ok(leaves)
 }
 
+// The nodes that ever left.
+fn left_nodes(left: &[Option<Leave>; 24], nodes: u8) -> NodeSet
+    requires { nodes ≤ 24 }
+    ensures { result ≡ filter (λ k. is_some (get_or left.now k None)) (below nodes) }
+{
+    let mut all = NodeSet::empty();
+    for node in 0..nodes {
+        if left[usize::from(node)].is_some() {
+            all = all.with(node);
+        }
+    }
+    all
+}
+
 impl SeenCost {
     /// Before the first slot.
     pub fn new(list: &Medl, script: &Script) -> SeenCost
@@ -166,20 +180,22 @@ impl SeenCost {
         }
     }
 
-    /// The next slot, by what is shown of all nodes after it.
-    pub fn add(&mut self, list: &Medl, script: &Script, states: &[NodeState], slot: u32)
+    /// The next slot, by what is shown of all nodes after it. Returns the nodes that are correct after it.
+    pub fn add(&mut self, list: &Medl, script: &Script, states: &[NodeState], slot: u32) -> NodeSet
         requires valid { IsValid list.now }
         requires script { IsValidScript list.now script.now }
         requires slot { slot < script.now.slots }
         requires seen { IsSeenOf list.now script.now slot self.old }
         requires shown { AreShown list.now script.now (zeros_world list.now script.now (slot + 1)) states.now }
-        ensures { IsSeenOf list.now script.now (slot + 1) self.new }
+        ensures seen { IsSeenOf list.now script.now (slot + 1) self.new }
+        ensures correct { AreSound list.now script.now slot result }
     {
         let faulty = self.faulty.step(list, script, slot);
         let correct = correct_in(list, script, faulty, slot);
         note_leaves(&mut self.left, states, slot);
         self.hurt = hurt_with(self.hurt, states, correct);
         self.split = span_after(slot, are_split(states, correct), self.split);
+        correct
     }
 
     /// What was seen of the same slots, where the run is that of a script with one event more, which comes
@@ -198,6 +214,15 @@ impl SeenCost {
             hurt: self.hurt,
             split: self.split,
         }
+    }
+
+    /// The nodes that left so far.
+    pub fn left(&self, list: &Medl) -> NodeSet
+        requires { IsValid list.now }
+        ensures { (script : Script) (slots : ℕ) → IsSeenOf list.now script slots self.now
+            → result ≡ map (λ leave. leave.node) (leaves list.now (zeros_world list.now script slots)) }
+    {
+        left_nodes(&self.left, list.nodes())
     }
 
     /// What the run cost so far, where these are the states after its newest slot.

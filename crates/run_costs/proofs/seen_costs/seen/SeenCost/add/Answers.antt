@@ -8,8 +8,8 @@ use Rattle.run_costs.specs.States.{AreShown}
 use Rattle.run_costs.proofs.Rows.{length-zeros, next_row, zeros-next, correct-sound, left-next, hurt-next, split-next}
 use Rattle.run_costs.proofs.seen_costs.seen.SeenCost.add.Goals as goal
 
-pub returns : goal.returns
-returns c =
+pub returns-clause-seen : goal.returns-clause-seen
+returns-clause-seen c =
     let list = c.args.list.now in
     let script = c.args.script.now in
     let slot = c.args.slot in
@@ -42,3 +42,8 @@ returns c =
           i) (seen.split i))
           ∙ ap (split_span list script) (sym next);
     }
+
+pub returns-clause-correct : goal.returns-clause-correct
+returns-clause-correct c =
+    correct-sound c.args.list.now c.args.script.now c.args.slot c.step-faulty.result c.correct_in-correct.result
+    c.requires.valid c.step-faulty.ensures.faulty c.correct_in-correct.ensures

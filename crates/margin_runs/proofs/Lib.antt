@@ -1,0 +1,9 @@
+pub mod Drifts
+pub mod Puts
+pub mod Shown
+pub mod SplitBeside
+pub mod Sweeping
+pub mod ToldParts
+pub mod Whole
+pub mod Within
+pub mod Writable

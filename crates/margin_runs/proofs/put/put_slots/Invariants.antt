@@ -1,0 +1,20 @@
+use Rattle.std.proofs.Common.{◌*◌, []}
+use Rattle.std.specs.Prelude.{flat_map}
+use Rattle.ttp_base.specs.NodeSet.{below}
+use Rattle.ttp_base.specs.Outside.{Output}
+use Rattle.margin_text.specs.Taken.{IsFewOf}
+use Rattle.run_costs.specs.Standing.{IsRunAfter}
+use Rattle.margin_runs.specs.Written.{AreSwept, jumps_asked, most_in_slot}
+use Rattle.margin_runs.proofs.put.put_slots.Given as goal
+
+-- the slots so far were swept
+abbrev pub invariant-loop-slot : goal.invariant-loop-slot
+invariant-loop-slot g l =
+    record {
+      own : IsRunAfter l.own l.list l.script l.slot;
+      few : IsFewOf (most_in_slot * l.slot) l.total;
+      swept : (begin : Output)
+          → AreSwept begin (g.K.Sink.output l.initial.out) l.list l.script l.reach [] l.initial.total
+          → AreSwept begin (g.K.Sink.output l.out) l.list l.script l.reach
+          (flat_map (jumps_asked l.list l.script l.asked) (below l.slot)) l.total;
+    }

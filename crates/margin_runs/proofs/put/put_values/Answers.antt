@@ -1,0 +1,80 @@
+use Rattle.std.proofs.Common.{◌≡◌, ℕ, ◌+◌, ◌*◌, ◌<◌, ◌≤◌, ◌^◌, ℤ, pos, ◌-ℤ◌, List, ◌++◌, length, ap, sym, subst, ◌∙◌, arith}
+use Rattle.std.specs.Prelude.{neg_ℤ, OnOk, IfErr}
+use Rattle.std.proofs.lemmas.Int.{ints}
+use Rattle.clock_margins.specs.Outcomes.{ValueTold}
+use Rattle.clock_margins.specs.Sweeps.{values_from}
+use Rattle.fault_runs.specs.declared.put.CampaignFault.{CampaignFault}
+use Rattle.fault_runs.specs.declared.put.CampaignFault.TheVariants as fault
+use Rattle.fault_runs.specs.Ends.{LeftBy}
+use Rattle.margin_runs.specs.Tries.{tolds_from, are_told}
+use Rattle.margin_runs.specs.Written.{IsPutOf, AreWritable, closed_lines, tolds_so_far}
+use Rattle.margin_runs.proofs.Puts.{none-left}
+use Rattle.margin_runs.proofs.ToldParts.{so-far-more, tolds-count}
+use Rattle.margin_runs.proofs.Within.{limit-few, some-within}
+use Rattle.margin_runs.proofs.Writable.{tolds-writable}
+use Rattle.margin_runs.proofs.put.put_values.Goals as goal
+
+pub overflow_sub-first : goal.overflow_sub-first
+overflow_sub-first g c =
+    let few = limit-few c.args.common.now.sweep.slot in
+    omega (arith, ints, few, c.requires.reach, c.requires.count)
+
+pub try_beside-requires-clause-values : goal.try_beside-requires-clause-values
+try_beside-requires-clause-values g c =
+    some-within c.args.common.now.sweep.slot c.args.reach c.args.done c.args.some c.requires.reach c.requires.count
+
+pub put_tolds-requires-clause-put : goal.put_tolds-requires-clause-put
+put_tolds-requires-clause-put g c =
+    let common = c.args.common.now in
+    let list = common.list.now in
+    let script = common.script.now in
+    let sweep = common.sweep in
+    let reach = c.args.reach in
+    let before = tolds_so_far common reach c.args.done in
+    let whole : before ++ are_told c.in-Ok.all.items ≡ tolds_so_far common reach (c.args.done + c.args.some) =
+    ap (λ (xs : List ValueTold). before ++ xs) c.in-Ok.ensures ∙ so-far-more common reach c.args.done c.args.some in
+    let count = ap length whole ∙ tolds-count list script sweep (neg_ℤ (pos reach)) (c.args.done + c.args.some) in
+    let few = limit-few sweep.slot in (
+      c.requires.put.0,
+      before,
+      c.requires.put.1,
+      subst AreWritable (sym whole)
+          (tolds-writable list script sweep (values_from (neg_ℤ (pos reach)) (c.args.done + c.args.some)) c.requires.may.valid),
+      omega (arith, count, few, c.requires.reach, c.requires.count),
+    )
+
+pub returns-in_default-clause-err : goal.returns-in_default-clause-err
+returns-in_default-clause-err g c = λ start put.
+    let common = c.args.common.now in
+    let list = common.list.now in
+    let sweep = common.sweep in
+    let out = g.K.Sink.output c.args.out.now in
+    let more = tolds_from list common.script.now sweep (pos c.args.done -ℤ pos c.args.reach) c.args.some in
+    subst (λ (xs : List ValueTold). LeftBy fault.Memory start out (closed_lines list sweep xs))
+    (so-far-more common c.args.reach c.args.done c.args.some)
+    (none-left list sweep start out (tolds_so_far common c.args.reach c.args.done) more put.wrote)
+
+pub returns-clause-ok : goal.returns-clause-ok
+returns-clause-ok g c = λ start put.
+    let common = c.args.common.now in
+    let reach = c.args.reach in
+    let before = tolds_so_far common reach c.args.done in
+    let whole : before ++ are_told c.in-Ok.all.items ≡ tolds_so_far common reach (c.args.done + c.args.some) =
+    ap (λ (xs : List ValueTold). before ++ xs) c.in-Ok.ensures ∙ so-far-more common reach c.args.done c.args.some in
+    subst
+    (λ (xs : List ValueTold). OnOk c.put_tolds.result
+    (IsPutOf start (g.K.Sink.output c.put_tolds.new.out) common.list.now common.sweep xs c.put_tolds.new.swept))
+    whole (c.put_tolds.ensures.ok start before put)
+
+pub returns-clause-err : goal.returns-clause-err
+returns-clause-err g c = λ start put.
+    let common = c.args.common.now in
+    let reach = c.args.reach in
+    let before = tolds_so_far common reach c.args.done in
+    let whole : before ++ are_told c.in-Ok.all.items ≡ tolds_so_far common reach (c.args.done + c.args.some) =
+    ap (λ (xs : List ValueTold). before ++ xs) c.in-Ok.ensures ∙ so-far-more common reach c.args.done c.args.some in
+    subst
+    (λ (xs : List ValueTold). IfErr c.put_tolds.result
+    (λ (why : CampaignFault). LeftBy why start (g.K.Sink.output c.put_tolds.new.out)
+    (closed_lines common.list.now common.sweep xs)))
+    whole (c.put_tolds.ensures.err start before put)

@@ -1,0 +1,62 @@
+-- The runs of values, as they are told before they are taken.
+use Rattle.std.specs.Prelude.{◌≡◌, ℕ, ◌+◌, ◌<◌, ◌≤◌, ℤ, pos, neg_ℤ, ◌+ℤ◌, ◌≤ℤ◌, length, List, map, Option, Some, None, IfSome}
+use Rattle.ttp_base.specs.Text.{Lines}
+use Rattle.ttp_world.specs.declared.medl.Medl.{Medl}
+use Rattle.ttp_world.specs.declared.script.Script.{Script}
+use Rattle.ttp_world.specs.declared.script.TheConstants.{EVENT_LIMIT, DRIFT_LIMIT, JUMP_LIMIT}
+use Rattle.ttp_world.specs.Medl.{IsValid}
+use Rattle.ttp_world.specs.Script.{IsValidScript}
+use Rattle.campaign.specs.ZerosWorld.{zeros_world}
+use Rattle.clock_margins.specs.declared.margin.Sweep.{Sweep}
+use Rattle.clock_margins.specs.MarginText.{range_line}
+use Rattle.clock_margins.specs.Outcomes.{ValueTold, was_split_beside, told_of_value}
+use Rattle.clock_margins.specs.Ranges.{Range}
+use Rattle.clock_margins.specs.Sweeps.{values_from}
+use Rattle.margin_text.specs.declared.told.Told.{Told}
+use Rattle.margin_text.specs.Taken.{value_told}
+use Rattle.run_costs.specs.declared.run.Run.{Run}
+use Rattle.run_costs.specs.Standing.{IsRunAfter, IsSeenAfter}
+use Rattle.margin_runs.specs.declared.beside.BesideRun.{BesideRun}
+use Rattle.margin_runs.specs.declared.tried.Common.{Common}
+
+-- the run has done so many slots, and memberships were split where it says so
+pub record IsBesideAfter (beside : BesideRun) (list : Medl) (script : Script) (slots : ℕ) : Type 0 where
+  pub run : IsSeenAfter beside.run list script slots
+  pub node : beside.node < length list.slots
+  pub split : beside.split ≡ was_split_beside list script beside.node (zeros_world list script slots)
+
+-- a run that has done no slot, by whatever script
+abbrev pub IsUnbegun : Run → Medl → Type 0
+IsUnbegun run list = (script : Script) → IsRunAfter run list script 0
+
+-- all that the runs of a sweep read: the script's own run has come to the slot of the jumps
+pub record MayTry (common : Common) : Type 0 where
+  pub valid : IsValid common.list.now
+  pub script : IsValidScript common.list.now common.script.now
+  pub room : length common.script.now.events < EVENT_LIMIT
+  pub start : IsUnbegun common.start.now common.list.now
+  pub past : IsBesideAfter common.past.now common.list.now common.script.now common.past.now.run.slots
+  pub node : common.past.now.node ≡ common.sweep.node
+  pub slot : IfSome common.sweep.slot (λ slot. (slot < common.script.now.slots) × (common.past.now.run.slots ≡ slot))
+
+-- the most that a line of a script says of a drift or of a jump
+abbrev pub limit_of : Option ℕ → ℕ
+limit_of None = DRIFT_LIMIT
+limit_of (Some slot) = JUMP_LIMIT
+
+-- so many values from one on are within it
+pub record AreWithin (slot : Option ℕ) (first : ℤ) (count : ℕ) : Type 0 where
+  pub least : neg_ℤ (pos (limit_of slot)) ≤ℤ first
+  pub greatest : (first +ℤ pos count) ≤ℤ (pos (limit_of slot) +ℤ pos 1)
+
+-- what is told of so many values from one on
+abbrev pub tolds_from : Medl → Script → Sweep → ℤ → ℕ → List ValueTold
+tolds_from list script sweep first count = map (told_of_value list script sweep) (values_from first count)
+
+-- these were told
+abbrev pub are_told : List Told → List ValueTold
+are_told all = map value_told all
+
+-- the lines of ranges
+abbrev pub range_lines : Medl → Sweep → List Range → Lines
+range_lines list sweep ranges = map (range_line list sweep) ranges

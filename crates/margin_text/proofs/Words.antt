@@ -1,0 +1,74 @@
+-- The words of tests, and the digits of memberships.
+use Rattle.std.proofs.Common.{◌≡◌, ℕ, ◌-◌, ◌/◌, ◌%◌, List, [], ◌∷◌, ◌++◌, length, take, refl, ap, sym, ◌∙◌, append_assoc, append-nil, length-append, arith}
+use Rattle.std.specs.Prelude.{codes, decimal}
+use Rattle.ttp_base.specs.Text.{newline, hex_digit, hex}
+use Rattle.line_form.specs.Forms.{worded}
+use Rattle.ttp_world.specs.declared.keep.Back.TheVariants as back
+use Rattle.ttp_world.specs.declared.keep.Keep.TheVariants as keep
+use Rattle.ttp_world.specs.Trace.{keep_line, back_line}
+use Rattle.campaign.specs.CostText.{unended}
+
+front : (text more : List ℕ) → take (length text) (text ++ more) ≡ text
+front [] more = refl
+front (b ∷ text) more = ap (λ (rest : List ℕ). b ∷ rest) (front text more)
+
+unended-line : (text : List ℕ) → unended (text ++ newline) ≡ text
+unended-line text =
+    let long = length-append text newline in
+    let one : length (text ++ newline) - 1 ≡ length text = omega (arith, long) in
+    ap (λ (n : ℕ). take n (text ++ newline)) one ∙ front text newline
+
+one-word : (label word line : List ℕ) → line ≡ worded [] label word → line ≡ unended (label ++ (word ++ newline))
+unfolding worded
+one-word label word line is =
+    is ∙ sym (unended-line (label ++ word)) ∙ ap unended (append_assoc label word newline)
+
+two-words : (label word between other first line : List ℕ) → first ≡ worded [] label word
+    → line ≡ worded first between other → line ≡ unended (label ++ word ++ between ++ other ++ newline)
+unfolding worded
+two-words label word between other first line is and =
+    and ∙ ap (λ (l : List ℕ). l ++ between ++ other) is ∙ sym (unended-line (label ++ word ++ between ++ other))
+
+pub kept-yes : (start : ℕ) (line : List ℕ) → line ≡ worded [] (codes "keeps yes start ") (decimal start)
+    → line ≡ unended (keep_line (keep.Yes start))
+kept-yes start line is = one-word (codes "keeps yes start ") (decimal start) line is
+
+pub kept-no : (rule slot : ℕ) (first line : List ℕ) → first ≡ worded [] (codes "keeps no H") (decimal rule)
+    → line ≡ worded first (codes " ") (decimal slot) → line ≡ unended (keep_line (keep.No rule slot))
+kept-no rule slot first line is and =
+    two-words (codes "keeps no H") (decimal rule) (codes " ") (decimal slot) first line is and
+
+pub owed-yes : (start : ℕ) (line : List ℕ) → line ≡ worded [] (codes "returns yes start ") (decimal start)
+    → line ≡ unended (back_line (back.Yes start))
+owed-yes start line is = one-word (codes "returns yes start ") (decimal start) line is
+
+pub owed-no : (rule slot : ℕ) (first line : List ℕ) → first ≡ worded [] (codes "returns no Q") (decimal rule)
+    → line ≡ worded first (codes " ") (decimal slot) → line ≡ unended (back_line (back.No rule slot))
+owed-no rule slot first line is and =
+    two-words (codes "returns no Q") (decimal rule) (codes " ") (decimal slot) first line is and
+
+-- the lowest digits of a number are those of what is left of it
+pub low-four : (v : ℕ) → hex 4 (v % 65536) ≡ hex 4 v
+low-four v =
+    let a : v % 65536 % 16 ≡ v % 16 = omega arith in
+    let b : v % 65536 / 16 % 16 ≡ v / 16 % 16 = omega arith in
+    let c : v % 65536 / 16 / 16 % 16 ≡ v / 16 / 16 % 16 = omega arith in
+    let d : v % 65536 / 16 / 16 / 16 % 16 ≡ v / 16 / 16 / 16 % 16 = omega arith in
+    λ i. hex_digit (d i) ∷ hex_digit (c i) ∷ hex_digit (b i) ∷ hex_digit (a i) ∷ []
+
+pub low-six : (v : ℕ) → hex 6 (v % 16777216) ≡ hex 6 v
+low-six v =
+    let a : v % 16777216 % 16 ≡ v % 16 = omega arith in
+    let b : v % 16777216 / 16 % 16 ≡ v / 16 % 16 = omega arith in
+    let c : v % 16777216 / 16 / 16 % 16 ≡ v / 16 / 16 % 16 = omega arith in
+    let d : v % 16777216 / 16 / 16 / 16 % 16 ≡ v / 16 / 16 / 16 % 16 = omega arith in
+    let e : v % 16777216 / 16 / 16 / 16 / 16 % 16 ≡ v / 16 / 16 / 16 / 16 % 16 = omega arith in
+    let f : v % 16777216 / 16 / 16 / 16 / 16 / 16 % 16 ≡ v / 16 / 16 / 16 / 16 / 16 % 16 = omega arith in
+    λ i. hex_digit (f i) ∷ hex_digit (e i) ∷ hex_digit (d i) ∷ hex_digit (c i) ∷ hex_digit (b i) ∷ hex_digit (a i) ∷ []
+
+-- six words behind another, without a line feed
+pub six-words : (text a b c d e f g h j k l m : List ℕ)
+    → worded (worded (worded (worded (worded (worded text a b) c d) e f) g h) j k) l m
+    ≡ text ++ (a ++ (b ++ (c ++ (d ++ (e ++ (f ++ (g ++ (h ++ (j ++ (k ++ (l ++ (m ++ []))))))))))))
+unfolding worded
+six-words text a b c d e f g h j k l m = simp (append_assoc, append-nil)
