@@ -9,7 +9,7 @@ use Rattle.atomic_table.specs.Table.{State, Me, Act, keeps, takes, gives, Valid,
 use Rattle.errand.specs.declared.note.Note.{Note}
 use Rattle.errand.specs.declared.note.Role.{Role}
 use Rattle.errand.specs.declared.note.Role.TheVariants.{Alone, Fresh, Gives, Awaits, Stopped, Works, Ended}
-use Rattle.errand.specs.Turns.{number, note, paired, alone, bare, laden, Offered, Begun, Stage, Turns, fetched, began, asked, looked, took, brought, gave, stopped}
+use Rattle.errand.specs.Turns.{number, MaySleep, note, paired, alone, bare, laden, Offered, Begun, Stage, Turns, fetched, began, asked, looked, took, brought, gave, stopped}
 
 module _ {J : Type 0} where
   vacant_job : (i : J) → Some i ≡ None → ⊥
@@ -268,3 +268,16 @@ module _ {J : Type 0} where
 
     pub flags : (n id : ℕ) (me : Me (Option J) (Note J)) (i x : ℕ) → 0 < i → i < 3 → number me.0.role ≢ 0 → Allows (Turns needs does) n id me i (λ _. x) (λ _ m'. m' ≡ me)
     flags n id me i x some_flag below other = allowed n id i me (λ _. x) (λ _ m'. m' ≡ me) (λ at. absurd (not_alone id me.0 other at)) (λ m p q h r a w b stage at. flag_at me.0 me.1 x id m p q h r a w b stage at i some_flag below)
+
+    awake : (r : Role) (n : ℕ) → MaySleep r n → number r ≢ 0
+    awake Alone n may = absurd may
+    awake Fresh n may = absurd may
+    awake Gives n may = absurd may
+    awake Awaits n may = λ e. omega (arith, e)
+    awake Stopped n may = absurd may
+    awake Works n may = λ e. omega (arith, e)
+    awake Ended n may = absurd may
+
+    -- one of an end that may sleep
+    pub sleeps : (n id : ℕ) (me : Me (Option J) (Note J)) (i x seen : ℕ) → 0 < i → i < 3 → MaySleep me.0.role seen → Allows (Turns needs does) n id me i (λ _. x) (λ _ m'. m' ≡ me)
+    sleeps n id me i x seen some_flag below may = flags n id me i x some_flag below (awake me.0.role seen may)

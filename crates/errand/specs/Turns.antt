@@ -19,6 +19,12 @@ number Stopped = 4
 number Works = 5
 number Ended = 6
 
+-- while the first word says this, there is nothing to do for an end with this role, and it may sleep
+abbrev pub MaySleep : Role → ℕ → Type 0
+MaySleep Awaits n = n ≡ 4
+MaySleep Works n = (n ≡ 0) ⊎ (n ≡ 2)
+MaySleep _ n = ⊥
+
 abbrev pub note : {J : Type 0} → Role → Option J → Note J
 note r j = record { role = r; job = j }
 

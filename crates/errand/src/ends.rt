@@ -1,7 +1,7 @@
 //! The giver's end and the worker's.
 ghost use Rattle.std.specs.Prelude.{false, true, ◌≡◌, ◌≢◌, ◌<◌, [], None, Some, IfOk, IfErr};
 ghost use Rattle.errand.specs.declared.note.Role.TheVariants.{Alone, Gives, Awaits, Stopped, Works, Ended};
-ghost use Rattle.errand.specs.Turns.{number, bare, laden};
+ghost use Rattle.errand.specs.Turns.{MaySleep, bare, laden};
 ghost use Rattle.errand.specs.Ends.{IsSeated};
 
 use crate::note::Note;
@@ -146,7 +146,7 @@ fn wake<J, D: Errand<J>>(board: &Board<J, D>, flag: usize)
     }
 }
 
-// Waits a little before the next look, longer from look to look.
+// Waits a little before the next look, longer from look to look. It sleeps only while the first word says what was seen.
 fn rest<R: Wait, J, D: Errand<J>>(
     rt: &R,
     board: &Board<J, D>,
@@ -157,7 +157,7 @@ fn rest<R: Wait, J, D: Errand<J>>(
 )
     requires seated { IsSeated board.now.table_id seat.old.table_id }
     requires flag { (0 < flag) × (flag < 3) }
-    requires seat { number seat.old.me.0.role ≢ 0 }
+    requires seen { MaySleep seat.old.me.0.role seen }
     ensures { (seat.new.table_id ≡ seat.old.table_id) × (seat.new.me ≡ seat.old.me) }
 {
     if looks < SPINS {
