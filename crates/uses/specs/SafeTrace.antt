@@ -11,7 +11,7 @@ use Rattle.ttp_world.specs.Diary.{History}
 use Rattle.ttp_world.specs.Hypothesis.{keeps, needed, is_correct_after}
 use Rattle.ttp_world.specs.Legal.{IsLegalRun}
 use Rattle.ttp_world.specs.Medl.{IsValid}
-use Rattle.ttp_world.specs.Returns.{returns}
+use Rattle.ttp_world.specs.Returning.{returns}
 use Rattle.ttp_world.specs.Safety.{newest_slot, members_agree, senders_are_members, none_has_left, faulty_are_gone}
 use Rattle.ttp_world.specs.Script.{IsValidScript}
 use Rattle.ttp_world.specs.Trace.{trace_lines}
