@@ -35,17 +35,21 @@ class Slot:
         self.live = keys.get("live")
 
 
+# A string, a boolean, or an integer: decimal, hexadecimal, octal or binary, perhaps with underscores between its digits.
+VALUE = r"""("[^"]*"|'[^']*'|true|false|0x[\dA-Fa-f_]+|0o[0-7_]+|0b[01_]+|[+-]?\d[\d_]*)"""
+
+
 class List:
     """A descriptor list, from its text. Keys at the top and of a slot have different names."""
 
     def __init__(self, text):
         top, slots = {}, []
         text = re.sub(r"#.*", "", text)
-        for opened, key, value in re.findall(r'(\[\[\s*slot\s*\]\]|\{)|(\w+)\s*=\s*("[^"]*"|true|false|[+-]?\d+)', text):
+        for opened, key, value in re.findall(r"(\[\[\s*slot\s*\]\]|\{)|(\w+)\s*=\s*" + VALUE, text):
             if opened:
                 slots.append({})
             else:
-                meant = value[1:-1] if value[0] == '"' else value == "true" if value in ("true", "false") else int(value)
+                meant = value[1:-1] if value[0] in "\"'" else value == "true" if value in ("true", "false") else int(value, 0)
                 (slots[-1] if slots and key in ("kinds", "data", "sync", "start", "requests", "live") else top)[key] = meant
         self.version, self.rounds, self.schedule = top["version"], top["rounds"], top["schedule"]
         self.buffers = top["buffers"]
