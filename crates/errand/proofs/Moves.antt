@@ -1,5 +1,5 @@
 -- Each step keeps the rule.
-use Rattle.std.proofs.Common.{◌≡◌, ◌≢◌, ℕ, zero, suc, ◌<◌, List, [], ◌∷◌, ◌++◌, set, get_or, eqb, replicate, refl, sym, ap, ◌∙◌, subst, inl, inr, ⊎_elim, arith, Option, Some, None}
+use Rattle.std.proofs.Common.{◌≡◌, ◌≢◌, ℕ, zero, suc, ◌<◌, List, [], ◌∷◌, ◌++◌, ◌⊎◌, set, get_or, eqb, replicate, refl, sym, ap, subst, inl, inr, ⊎_elim, arith, Option, Some, None}
 use mathlib.Core.Option.{none, some, some-ne-none, some-injective}
 use mathlib.Core.Option as maybe
 use lib.ListN.{get_elem?}
@@ -8,26 +8,19 @@ use Rattle.atomic_table.proofs.Lists.{set_again, exchanged}
 use Rattle.atomic_table.specs.Table.{State, Me, Act, keeps, takes, gives, Valid, stepped, carried_after, Allows, Splits, opening}
 use Rattle.errand.specs.declared.note.Note.{Note}
 use Rattle.errand.specs.declared.note.Role.{Role}
-use Rattle.errand.specs.declared.note.Role.TheVariants.{Alone, Fresh, Gives, Works}
-use Rattle.errand.specs.Turns.{number, note, paired, alone, bare, laden, Given, Stage, Turns, fetched, began, asked, took, brought, gave}
+use Rattle.errand.specs.declared.note.Role.TheVariants.{Alone, Fresh, Gives, Awaits, Stopped, Works, Ended}
+use Rattle.errand.specs.Turns.{number, MaySleep, note, paired, alone, bare, laden, Offered, Begun, Stage, Turns, fetched, began, asked, looked, took, brought, gave, stopped}
 
 module _ {J : Type 0} where
+  vacant_job : (i : J) → Some i ≡ None → ⊥
+  vacant_job i e = absurd (cc)
+
   abbrev pub job_or : J → Option J → J
   job_or d None = d
   job_or d (Some x) = x
 
-  -- two roles that are one
-  same_role : (r t : Role) (a b : Option J) → some (note r a) ≡ some (note t b) → number r ≡ number t
-  same_role r t a b e = ap (λ (v : Note J). number v.role) (some-injective _ _ e)
-
-  same_job : (r t : Role) (a b : Option J) → some (note r a) ≡ some (note t b) → a ≡ b
-  same_job r t a b e = ap (λ (v : Note J). v.job) (some-injective _ _ e)
-
   inside : (i j : J) → Some i ≡ Some j → i ≡ j
   inside i j e = ap (job_or i) e
-
-  vacant_job : (i : J) → Some i ≡ None → ⊥
-  vacant_job i e = absurd (cc)
 
   module _ (needs : J → Type 0) (does : J → J → Type 0) where
     abbrev S : Type 0
@@ -51,11 +44,11 @@ module _ {J : Type 0} where
 
     -- a step owes it at both forms of the table
     allowed : (n id i : ℕ) (me : Me (Option J) (Note J)) (f : ℕ → ℕ) (then : ℕ → Me (Option J) (Note J) → Type 0) → (get_elem? (note Alone None ∷ []) id ≡ some me.0 → Goes alone id i me f then)
-        → ((m p q : ℕ) (h : maybe.Option (Option J)) (r : Role) (a b : Option J) → Stage needs does m h r a b → get_elem? (note r a ∷ note Works b ∷ []) id ≡ some me.0 → Goes (paired m p q h r a b) id i me f then)
+        → ((m p q : ℕ) (h : maybe.Option (Option J)) (r : Role) (a : Option J) (w : Role) (b : Option J) → Stage needs does m h r a w b → get_elem? (note r a ∷ note w b ∷ []) id ≡ some me.0 → Goes (paired m p q h (note r a) (note w b)) id i me f then)
         → Allows (Turns needs does) n id me i f then
     allowed n id i me f then one both s holds _ at _ = ⊎_elim
         (λ (e : s ≡ alone). subst (λ (t : S). get_elem? t.views id ≡ some me.0 → Goes t id i me f then) (sym e) one at)
-        (λ x. subst (λ (t : S). get_elem? t.views id ≡ some me.0 → Goes t id i me f then) (sym x.7) (both x.0 x.1 x.2 x.3 x.4 x.5 x.6 x.8) at)
+        (λ x. subst (λ (t : S). get_elem? t.views id ≡ some me.0 → Goes t id i me f then) (sym x.8) (both x.0 x.1 x.2 x.3 x.4 x.5 x.6 x.7 x.9) at)
         holds
 
     pub opens : Turns needs does (opening (0 ∷ 0 ∷ 0 ∷ []) (replicate 1 None) (note Alone None))
@@ -65,191 +58,226 @@ module _ {J : Type 0} where
     not_alone zero v other at = other (sym (ap (λ (u : Note J). number u.role) (some-injective _ _ at)))
     not_alone (suc id) v other at = some-ne-none v (sym at)
 
+    -- which roles stand first, and which second
+    gives-first : (m : ℕ) (h : maybe.Option (Option J)) (r : Role) (a : Option J) (w : Role) (b : Option J) → Stage needs does m h r a w b → number r < 5
+    gives-first m h Alone a w b stage = absurd stage
+    gives-first m h Fresh a w b stage = omega arith
+    gives-first m h Gives a w b stage = omega arith
+    gives-first m h Awaits a w b stage = omega arith
+    gives-first m h Stopped a w b stage = omega arith
+    gives-first m h Works a w b stage = absurd stage
+    gives-first m h Ended a w b stage = absurd stage
+
+    at-work : (w : Role) → w ≡ Works → 4 < number w
+    at-work w is = rw is (omega arith)
+
+    works-second : (m : ℕ) (h : maybe.Option (Option J)) (r : Role) (a : Option J) (w : Role) (b : Option J) → Stage needs does m h r a w b → 4 < number w
+    works-second m h Alone a w b stage = absurd stage
+    works-second m h Fresh a w b stage = at-work w stage.0
+    works-second m h Gives None w b stage = at-work w stage.0
+    works-second m h Gives (Some j) w b stage = at-work w stage.0
+    works-second m h Awaits None w b stage = absurd stage
+    works-second m h Awaits (Some j) w b stage = at-work w stage.0
+    works-second m h Stopped a w b stage = ⊎_elim (at-work w) (λ (is : w ≡ Ended). rw is (omega arith)) stage.0
+    works-second m h Works a w b stage = absurd stage
+    works-second m h Ended a w b stage = absurd stage
+
+    -- a step of the giver owes it where the giver's note stands first
+    of_giver : (n id i : ℕ) (v : Note J) (c : List (ℕ × Option J)) (f : ℕ → ℕ) (then : ℕ → Me (Option J) (Note J) → Type 0) → 0 < number v.role → number v.role < 5
+        → ((m p q : ℕ) (h : maybe.Option (Option J)) (w : Role) (b : Option J) → Stage needs does m h v.role v.job w b → Goes (paired m p q h v (note w b)) 0 i (v, c) f then)
+        → Allows (Turns needs does) n id (v, c) i f then
+    of_giver n id i v c f then some_role giver goes = allowed n id i (v, c) f then (λ at. absurd (not_alone id v (λ e. omega (arith, e, some_role)) at)) (at_place id)
+      where
+        at_place : (id m p q : ℕ) (h : maybe.Option (Option J)) (r : Role) (a : Option J) (w : Role) (b : Option J) → Stage needs does m h r a w b → get_elem? (note r a ∷ note w b ∷ []) id ≡ some v
+            → Goes (paired m p q h (note r a) (note w b)) id i (v, c) f then
+        at_place zero m p q h r a w b stage at = subst (λ (u : Note J). Stage needs does m h u.role u.job w b → Goes (paired m p q h u (note w b)) 0 i (v, c) f then) (sym (some-injective _ _ at)) (goes m p q h w b) stage
+        at_place (suc zero) m p q h r a w b stage at = let e = ap (λ (u : Note J). number u.role) (some-injective _ _ at) in let second = works-second m h r a w b stage in absurd (omega (arith, e, second, giver))
+        at_place (suc (suc id)) m p q h r a w b stage at = absurd (some-ne-none _ (sym at))
+
+    -- and a step of the worker where the worker's note stands second
+    of_worker : (n id i : ℕ) (v : Note J) (c : List (ℕ × Option J)) (f : ℕ → ℕ) (then : ℕ → Me (Option J) (Note J) → Type 0) → 4 < number v.role
+        → ((m p q : ℕ) (h : maybe.Option (Option J)) (r : Role) (a : Option J) → Stage needs does m h r a v.role v.job → Goes (paired m p q h (note r a) v) 1 i (v, c) f then)
+        → Allows (Turns needs does) n id (v, c) i f then
+    of_worker n id i v c f then worker goes = allowed n id i (v, c) f then (λ at. absurd (not_alone id v (λ e. omega (arith, e, worker)) at)) (at_place id)
+      where
+        at_place : (id m p q : ℕ) (h : maybe.Option (Option J)) (r : Role) (a : Option J) (w : Role) (b : Option J) → Stage needs does m h r a w b → get_elem? (note r a ∷ note w b ∷ []) id ≡ some v
+            → Goes (paired m p q h (note r a) (note w b)) id i (v, c) f then
+        at_place zero m p q h r a w b stage at = let e = ap (λ (u : Note J). number u.role) (some-injective _ _ at) in let first = gives-first m h r a w b stage in absurd (omega (arith, e, first, worker))
+        at_place (suc zero) m p q h r a w b stage at = subst (λ (u : Note J). Stage needs does m h r a u.role u.job → Goes (paired m p q h (note r a) u) 1 i (v, c) f then) (sym (some-injective _ _ at)) (goes m p q h r a) stage
+        at_place (suc (suc id)) m p q h r a w b stage at = absurd (some-ne-none _ (sym at))
+
     hire_one : (id : ℕ) → get_elem? {A = Note J} (note Alone None ∷ []) id ≡ some (note Alone None) → Turns needs does record { words = 0 ∷ 0 ∷ 0 ∷ []; homes = some None ∷ []; views = set (note Alone None ∷ []) id (note Fresh None) ++ note Works None ∷ [] }
-    hire_one zero at = inr (0, 0, 0, some None, Fresh, None, None, refl, ((λ e. omega arith), refl, refl))
+    hire_one zero at = inr (0, 0, 0, some None, Fresh, None, Works, None, refl, (refl, refl, refl, refl))
     hire_one (suc id) at = absurd (some-ne-none _ (sym at))
 
-    hire_none : (id : ℕ) (m : ℕ) (h : maybe.Option (Option J)) (r : Role) (a b : Option J) → Stage needs does m h r a b → get_elem? (note r a ∷ note Works b ∷ []) id ≡ some (note Alone None) → ⊥
-    hire_none zero m h Alone a b stage at = stage
-    hire_none zero m h Fresh a b stage at = let e = same_role Fresh Alone a None at in absurd (omega arith)
-    hire_none zero m h Gives a b stage at = let e = same_role Gives Alone a None at in absurd (omega arith)
-    hire_none zero m h Works a b stage at = let e = same_role Works Alone a None at in absurd (omega arith)
-    hire_none (suc zero) m h r a b stage at = let e = same_role Works Alone b None at in absurd (omega arith)
-    hire_none (suc (suc id)) m h r a b stage at = some-ne-none _ (sym at)
+    hire_none : (id : ℕ) (m : ℕ) (h : maybe.Option (Option J)) (r : Role) (a : Option J) (w : Role) (b : Option J) → Stage needs does m h r a w b → get_elem? (note r a ∷ note w b ∷ []) id ≡ some (note Alone None) → ⊥
+    hire_none zero m h r a w b stage at = subst (λ (u : Note J). Stage needs does m h u.role u.job w b) (some-injective _ _ at) stage
+    hire_none (suc zero) m h r a w b stage at = let e = ap (λ (u : Note J). number u.role) (some-injective _ _ at) in let second = works-second m h r a w b stage in absurd (omega (arith, e, second))
+    hire_none (suc (suc id)) m h r a w b stage at = some-ne-none _ (sym at)
 
     pub hires : (id : ℕ) → Splits (Turns needs does) id (note Alone None) (note Fresh None) (note Works None)
     hires id s holds at = ⊎_elim
         (λ (e : s ≡ alone). subst (λ (t : S). get_elem? t.views id ≡ some (note Alone None) → Turns needs does record { words = t.words; homes = t.homes; views = set t.views id (note Fresh None) ++ note Works None ∷ [] }) (sym e) (hire_one id) at)
-        (λ x. absurd (hire_none id x.0 x.3 x.4 x.5 x.6 x.8 (subst (λ (t : S). get_elem? t.views id ≡ some (note Alone None)) x.7 at)))
+        (λ x. absurd (hire_none id x.0 x.3 x.4 x.5 x.6 x.7 x.9 (subst (λ (t : S). get_elem? t.views id ≡ some (note Alone None)) x.8 at)))
         holds
 
     -- the giver begins: it takes the slot
-    begin_at : (id m p q : ℕ) (h : maybe.Option (Option J)) (r : Role) (a b : Option J) → Stage needs does m h r a b → get_elem? (note r a ∷ note Works b ∷ []) id ≡ some (note Fresh None)
-        → Goes (paired m p q h r a b) id 0 (bare Fresh None) (λ x. x) (λ _ m'. began m')
-    begin_at zero m p q h Alone a b stage at = absurd stage
-    begin_at zero m p q h Fresh a b stage at = (note Gives None, takes 0 None, ap (λ (l : maybe.Option (Option J)). some l) stage.1, inr (m, p, q, none, Gives, None, b, refl, (stage.0, stage.2)), refl)
-    begin_at zero m p q h Gives a b stage at = let e = same_role Gives Fresh a None at in absurd (omega arith)
-    begin_at zero m p q h Works a b stage at = absurd stage
-    begin_at (suc zero) m p q h r a b stage at = let e = same_role Works Fresh b None at in absurd (omega arith)
-    begin_at (suc (suc id)) m p q h r a b stage at = absurd (some-ne-none _ (sym at))
-
     pub begins : (n id : ℕ) (me : Me (Option J) (Note J)) → me ≡ bare Fresh None → Allows (Turns needs does) n id me 0 (λ x. x) (λ _ m'. began m')
     begins n id me is = subst (λ (u : Me (Option J) (Note J)). Allows (Turns needs does) n id u 0 (λ x. x) (λ _ m'. began m')) (sym is)
-        (allowed n id 0 (bare Fresh None) (λ x. x) (λ _ m'. began m') (λ at. absurd (not_alone id _ (λ e. omega arith) at)) (begin_at id))
+        (of_giver n id 0 (note Fresh None) [] (λ x. x) (λ _ m'. began m') (omega arith) (omega arith)
+        (λ m p q h w b stage. (note Gives None, takes 0 None, ap (λ (l : maybe.Option (Option J)). some l) stage.3, inr (m, p, q, none, Gives, None, w, b, refl, (stage.0, stage.1, inl stage.2)), refl)))
 
     -- the giver gives a job
-    ask_at : (x : J) → needs x → (id m p q : ℕ) (h : maybe.Option (Option J)) (r : Role) (a b : Option J) → Stage needs does m h r a b → get_elem? (note r a ∷ note Works b ∷ []) id ≡ some (note Gives None)
-        → Goes (paired m p q h r a b) id 0 (laden Gives None (Some x)) (λ _. 1) (λ _ m'. m' ≡ bare Gives (Some x))
-    ask_at x may zero m p q h Alone a b stage at = absurd stage
-    ask_at x may zero m p q h Fresh a b stage at = let e = same_role Fresh Gives a None at in absurd (omega arith)
-    ask_at x may zero m p q h Gives None b stage at = (note Gives (Some x), gives, tt, inr (1, p, q, some (Some x), Gives, Some x, b, refl, subst (λ (o : Option J). Given needs does 1 (some (Some x)) x o) (sym stage.1) (inl (refl, refl, may))), refl)
-    ask_at x may zero m p q h Gives (Some i) b stage at = absurd (vacant_job i (same_job Gives Gives (Some i) None at))
-    ask_at x may zero m p q h Works a b stage at = absurd stage
-    ask_at x may (suc zero) m p q h r a b stage at = let e = same_role Works Gives b None at in absurd (omega arith)
-    ask_at x may (suc (suc id)) m p q h r a b stage at = absurd (some-ne-none _ (sym at))
-
     pub asks : (n id : ℕ) (me : Me (Option J) (Note J)) (x : J) → needs x → me ≡ laden Gives None (Some x) → Allows (Turns needs does) n id me 0 (λ _. 1) (λ _ m'. asked me m')
     asks n id me x may is = subst (λ (u : Me (Option J) (Note J)). Allows (Turns needs does) n id u 0 (λ _. 1) (λ _ m'. asked u m')) (sym is)
-        (allowed n id 0 (laden Gives None (Some x)) (λ _. 1) (λ _ m'. m' ≡ bare Gives (Some x)) (λ at. absurd (not_alone id _ (λ e. omega arith) at)) (ask_at x may id))
+        (of_giver n id 0 (note Gives None) ((0, Some x) ∷ []) (λ _. 1) (λ _ m'. m' ≡ bare Gives (Some x)) (omega arith) (omega arith)
+        (λ m p q h w b stage. (note Gives (Some x), gives, tt, inr (1, p, q, some (Some x), Gives, Some x, w, b, refl, (stage.0, inl (refl, refl, may, stage.1))), refl)))
 
-    -- the giver looks for the job that it gave
-    fetch_given : (j : J) (m p q : ℕ) (h : maybe.Option (Option J)) (b : Option J) → Given needs does m h j b
-        → Goes (paired m p q h Gives (Some j) b) 0 0 (bare Gives (Some j)) (λ x. x) (fetched needs does (bare Gives (Some j)))
-    fetch_given j m p q h None given = ⊎_elim
-        (λ (x : (m ≡ 1) × (h ≡ some (Some j)) × needs j). (note Gives (Some j), keeps, tt, inr (m, p, q, h, Gives, Some j, None, refl, inl x), ((λ two. let one = x.0 in absurd (omega arith)), (λ _. refl))))
-        (λ (x : (m ≡ 2) × ((k : J) × (h ≡ some (Some k)) × does j k)). (
-          note Gives None,
-          takes 0 (Some x.1.0),
-          ap (λ (l : maybe.Option (Option J)). some l) x.1.1,
-          inr (m, p, q, none, Gives, None, None, refl, ((λ one. let two = x.0 in absurd (omega arith)), refl)),
-          ((λ _. (x.1.0, refl, λ i e. subst (λ (y : J). does y x.1.0) (inside j i e) x.1.2)), (λ other. absurd (other x.0))),
-        ))
-        given
-    fetch_given j m p q h (Some y) given = (note Gives (Some j), keeps, tt, inr (m, p, q, h, Gives, Some j, Some y, refl, given), ((λ two. let four = given.0 in absurd (omega arith)), (λ _. refl)))
+    -- a job that was begun is no longer given
+    begun-number : (m : ℕ) (h : maybe.Option (Option J)) (j : J) (b : Option J) → Begun needs does m h j b → (m ≢ 1) × (m ≢ 3)
+    begun-number m h j None begun = ((λ e. omega (arith, e, begun.0)), (λ e. omega (arith, e, begun.0)))
+    begun-number m h j (Some x) begun = ((λ e. omega (arith, e, begun.0)), (λ e. omega (arith, e, begun.0)))
 
-    fetch_at : (j : J) (id m p q : ℕ) (h : maybe.Option (Option J)) (r : Role) (a b : Option J) → Stage needs does m h r a b → get_elem? (note r a ∷ note Works b ∷ []) id ≡ some (note Gives (Some j))
-        → Goes (paired m p q h r a b) id 0 (bare Gives (Some j)) (λ x. x) (fetched needs does (bare Gives (Some j)))
-    fetch_at j zero m p q h Alone a b stage at = absurd stage
-    fetch_at j zero m p q h Fresh a b stage at = let e = same_role Fresh Gives a (Some j) at in absurd (omega arith)
-    fetch_at j zero m p q h Gives None b stage at = absurd (vacant_job j (sym (same_job Gives Gives None (Some j) at)))
-    fetch_at j zero m p q h Gives (Some i) b stage at = subst (λ (y : J). Given needs does m h y b → Goes (paired m p q h Gives (Some y) b) 0 0 (bare Gives (Some j)) (λ x. x) (fetched needs does (bare Gives (Some j)))) (sym (inside i j (same_job Gives Gives (Some i) (Some j) at))) (fetch_given j m p q h b) stage
-    fetch_at j zero m p q h Works a b stage at = absurd stage
-    fetch_at j (suc zero) m p q h r a b stage at = let e = same_role Works Gives b (Some j) at in absurd (omega arith)
-    fetch_at j (suc (suc id)) m p q h r a b stage at = absurd (some-ne-none _ (sym at))
+    -- the giver looks for the job that the worker has begun
+    fetch_begun : (j : J) (m p q : ℕ) (h : maybe.Option (Option J)) (w : Role) (b : Option J) → w ≡ Works → Begun needs does m h j b
+        → Goes (paired m p q h (note Awaits (Some j)) (note w b)) 0 0 (bare Awaits (Some j)) (λ x. x) (fetched needs does (bare Awaits (Some j)))
+    fetch_begun j m p q h w None works begun = (
+      note Gives None,
+      takes 0 (Some begun.1.0),
+      ap (λ (l : maybe.Option (Option J)). some l) begun.1.1,
+      inr (m, p, q, none, Gives, None, w, None, refl, (works, refl, inr begun.0)),
+      ((λ _. (begun.1.0, refl, λ i e. subst (λ (y : J). does y begun.1.0) (inside j i e) begun.1.2)), (λ other. absurd (other begun.0))),
+    )
+    fetch_begun j m p q h w (Some y) works begun = (note Awaits (Some j), keeps, tt, inr (m, p, q, h, Awaits, Some j, w, Some y, refl, (works, begun)), ((λ two. let four = begun.0 in absurd (omega (arith, two, four))), (λ _. refl)))
 
-    pub fetches : (n id : ℕ) (me : Me (Option J) (Note J)) (j : J) → me ≡ bare Gives (Some j) → Allows (Turns needs does) n id me 0 (λ x. x) (fetched needs does me)
-    fetches n id me j is = subst (λ (u : Me (Option J) (Note J)). Allows (Turns needs does) n id u 0 (λ x. x) (fetched needs does u)) (sym is)
-        (allowed n id 0 (bare Gives (Some j)) (λ x. x) (fetched needs does (bare Gives (Some j))) (λ at. absurd (not_alone id _ (λ e. omega arith) at)) (fetch_at j id))
+    pub fetches_job : (n id : ℕ) (me : Me (Option J) (Note J)) (o : Option J) → o ≢ None → me ≡ bare Awaits o → Allows (Turns needs does) n id me 0 (λ x. x) (fetched needs does me)
+    fetches_job n id me None there is = absurd (there refl)
+    fetches_job n id me (Some j) there is = subst (λ (u : Me (Option J) (Note J)). Allows (Turns needs does) n id u 0 (λ x. x) (fetched needs does u)) (sym is)
+        (of_giver n id 0 (note Awaits (Some j)) [] (λ x. x) (fetched needs does (bare Awaits (Some j))) (omega arith) (omega arith)
+        (λ m p q h w b stage. fetch_begun j m p q h w b stage.0 stage.1))
 
     -- the giver takes back the job that it gave
-    back_given : (j : J) (m p q : ℕ) (h : maybe.Option (Option J)) (b : Option J) → Given needs does m h j b
-        → Goes (paired m p q h Gives (Some j) b) 0 0 (bare Gives (Some j)) (λ x. either (eqb x 1) 0 x) (brought needs does (bare Gives (Some j)))
-    back_given j m p q h None given = ⊎_elim
-        (λ (x : (m ≡ 1) × (h ≡ some (Some j)) × needs j). finds_one (paired m p q h Gives (Some j) None) 0 0 (bare Gives (Some j)) (brought needs does (bare Gives (Some j))) x.0 (
+    back_given : (j : J) (m p q : ℕ) (h : maybe.Option (Option J)) (w : Role) (b : Option J) → w ≡ Works → Offered needs does m h j b ⊎ Begun needs does m h j b
+        → Goes (paired m p q h (note Gives (Some j)) (note w b)) 0 0 (bare Gives (Some j)) (λ x. either (eqb x 1) 0 x) (brought needs does (bare Gives (Some j)))
+    back_given j m p q h w b works given = ⊎_elim
+        (λ (x : Offered needs does m h j b). finds_one (paired m p q h (note Gives (Some j)) (note w b)) 0 0 (bare Gives (Some j)) (brought needs does (bare Gives (Some j))) x.0 (
           note Gives None,
           takes 0 (Some j),
           ap (λ (l : maybe.Option (Option J)). some l) x.1,
-          inr (0, p, q, none, Gives, None, None, refl, ((λ e. omega arith), refl)),
+          inr (0, p, q, none, Gives, None, w, b, refl, (works, x.3, inl refl)),
           ((λ _. (j, refl, refl, x.2)), (λ other. absurd (other x.0))),
         ))
-        (λ (x : (m ≡ 2) × ((k : J) × (h ≡ some (Some k)) × does j k)). finds_other (paired m p q h Gives (Some j) None) 0 0 (bare Gives (Some j)) (brought needs does (bare Gives (Some j))) (λ one. let two = x.0 in omega arith)
-        (note Gives (Some j), keeps, tt, inr (m, p, q, h, Gives, Some j, None, refl, inr x), ((λ one. let two = x.0 in absurd (omega arith)), (λ _. refl))))
+        (λ (x : Begun needs does m h j b). finds_other (paired m p q h (note Gives (Some j)) (note w b)) 0 0 (bare Gives (Some j)) (brought needs does (bare Gives (Some j))) (begun-number m h j b x).0
+        (note Awaits (Some j), keeps, tt, inr (m, p, q, h, Awaits, Some j, w, b, refl, (works, x)), ((λ one. absurd ((begun-number m h j b x).0 one)), (λ _. refl))))
         given
-    back_given j m p q h (Some y) given = finds_other (paired m p q h Gives (Some j) (Some y)) 0 0 (bare Gives (Some j)) (brought needs does (bare Gives (Some j))) (λ one. let four = given.0 in omega arith)
-        (note Gives (Some j), keeps, tt, inr (m, p, q, h, Gives, Some j, Some y, refl, given), ((λ one. let four = given.0 in absurd (omega arith)), (λ _. refl)))
-
-    back_at : (j : J) (id m p q : ℕ) (h : maybe.Option (Option J)) (r : Role) (a b : Option J) → Stage needs does m h r a b → get_elem? (note r a ∷ note Works b ∷ []) id ≡ some (note Gives (Some j))
-        → Goes (paired m p q h r a b) id 0 (bare Gives (Some j)) (λ x. either (eqb x 1) 0 x) (brought needs does (bare Gives (Some j)))
-    back_at j zero m p q h Alone a b stage at = absurd stage
-    back_at j zero m p q h Fresh a b stage at = let e = same_role Fresh Gives a (Some j) at in absurd (omega arith)
-    back_at j zero m p q h Gives None b stage at = absurd (vacant_job j (sym (same_job Gives Gives None (Some j) at)))
-    back_at j zero m p q h Gives (Some i) b stage at = subst (λ (y : J). Given needs does m h y b → Goes (paired m p q h Gives (Some y) b) 0 0 (bare Gives (Some j)) (λ x. either (eqb x 1) 0 x) (brought needs does (bare Gives (Some j)))) (sym (inside i j (same_job Gives Gives (Some i) (Some j) at))) (back_given j m p q h b) stage
-    back_at j zero m p q h Works a b stage at = absurd stage
-    back_at j (suc zero) m p q h r a b stage at = let e = same_role Works Gives b (Some j) at in absurd (omega arith)
-    back_at j (suc (suc id)) m p q h r a b stage at = absurd (some-ne-none _ (sym at))
-
-    brings : (n id : ℕ) (me : Me (Option J) (Note J)) (j : J) → me ≡ bare Gives (Some j) → Allows (Turns needs does) n id me 0 (λ x. either (eqb x 1) 0 x) (brought needs does me)
-    brings n id me j is = subst (λ (u : Me (Option J) (Note J)). Allows (Turns needs does) n id u 0 (λ x. either (eqb x 1) 0 x) (brought needs does u)) (sym is)
-        (allowed n id 0 (bare Gives (Some j)) (λ x. either (eqb x 1) 0 x) (brought needs does (bare Gives (Some j))) (λ at. absurd (not_alone id _ (λ e. omega arith) at)) (back_at j id))
 
     pub brings_job : (n id : ℕ) (me : Me (Option J) (Note J)) (o : Option J) → o ≢ None → me ≡ bare Gives o → Allows (Turns needs does) n id me 0 (λ x. either (eqb x 1) 0 x) (brought needs does me)
     brings_job n id me None there is = absurd (there refl)
-    brings_job n id me (Some j) there is = brings n id me j is
+    brings_job n id me (Some j) there is = subst (λ (u : Me (Option J) (Note J)). Allows (Turns needs does) n id u 0 (λ x. either (eqb x 1) 0 x) (brought needs does u)) (sym is)
+        (of_giver n id 0 (note Gives (Some j)) [] (λ x. either (eqb x 1) 0 x) (brought needs does (bare Gives (Some j))) (omega arith) (omega arith)
+        (λ m p q h w b stage. back_given j m p q h w b stage.0 stage.1))
+
+    -- a worker that finds no job stays as it is
+    abbrev Idles : ℕ → ℕ → ℕ → maybe.Option (Option J) → Role → Option J → Type 0
+    Idles m p q h r a = Goes (paired m p q h (note r a) (note Works None)) 1 0 (bare Works None) (λ x. either (eqb x 1) 4 x) (took needs does (bare Works None))
+
+    idles : (m p q : ℕ) (h : maybe.Option (Option J)) (r : Role) (a : Option J) → Stage needs does m h r a Works None → m ≢ 1 → Idles m p q h r a
+    idles m p q h r a stage other = finds_other (paired m p q h (note r a) (note Works None)) 1 4 (bare Works None) (took needs does (bare Works None)) other
+        (note Works None, keeps, tt, inr (m, p, q, h, r, a, Works, None, refl, stage), ((λ one. absurd (other one)), (λ _. refl)))
 
     -- the worker begins a job
-    begin_given : (j : J) (m p q : ℕ) (h : maybe.Option (Option J)) → Given needs does m h j None → Goes (paired m p q h Gives (Some j) None) 1 0 (bare Works None) (λ x. either (eqb x 1) 4 x) (took needs does (bare Works None))
-    begin_given j m p q h given = ⊎_elim
-        (λ (x : (m ≡ 1) × (h ≡ some (Some j)) × needs j). finds_one (paired m p q h Gives (Some j) None) 1 4 (bare Works None) (took needs does (bare Works None)) x.0
-        (note Works (Some j), takes 0 (Some j), ap (λ (l : maybe.Option (Option J)). some l) x.1, inr (4, p, q, none, Gives, Some j, Some j, refl, (refl, refl)), ((λ _. (j, refl, x.2)), (λ other. absurd (other x.0)))))
-        (λ (x : (m ≡ 2) × ((k : J) × (h ≡ some (Some k)) × does j k)). finds_other (paired m p q h Gives (Some j) None) 1 4 (bare Works None) (took needs does (bare Works None)) (λ one. let two = x.0 in omega arith)
-        (note Works None, keeps, tt, inr (m, p, q, h, Gives, Some j, None, refl, inr x), ((λ one. let two = x.0 in absurd (omega arith)), (λ _. refl))))
-        given
-
-    begin_job_at : (id m p q : ℕ) (h : maybe.Option (Option J)) (r : Role) (a b : Option J) → Stage needs does m h r a b → get_elem? (note r a ∷ note Works b ∷ []) id ≡ some (note Works None)
-        → Goes (paired m p q h r a b) id 0 (bare Works None) (λ x. either (eqb x 1) 4 x) (took needs does (bare Works None))
-    begin_job_at zero m p q h Alone a b stage at = absurd stage
-    begin_job_at zero m p q h Fresh a b stage at = let e = same_role Fresh Works a None at in absurd (omega arith)
-    begin_job_at zero m p q h Gives a b stage at = let e = same_role Gives Works a None at in absurd (omega arith)
-    begin_job_at zero m p q h Works a b stage at = absurd stage
-    begin_job_at (suc zero) m p q h Alone a b stage at = absurd stage
-    begin_job_at (suc zero) m p q h Fresh a b stage at = finds_other (paired m p q h Fresh a b) 1 4 (bare Works None) (took needs does (bare Works None)) stage.0
-        (note Works None, keeps, tt, inr (m, p, q, h, Fresh, a, None, refl, (stage.0, stage.1, refl)), ((λ one. absurd (stage.0 one)), (λ _. refl)))
-    begin_job_at (suc zero) m p q h Gives None b stage at = finds_other (paired m p q h Gives None b) 1 4 (bare Works None) (took needs does (bare Works None)) stage.0
-        (note Works None, keeps, tt, inr (m, p, q, h, Gives, None, None, refl, (stage.0, refl)), ((λ one. absurd (stage.0 one)), (λ _. refl)))
-    begin_job_at (suc zero) m p q h Gives (Some j) None stage at = begin_given j m p q h stage
-    begin_job_at (suc zero) m p q h Gives (Some j) (Some y) stage at = absurd (vacant_job y (same_job Works Works (Some y) None at))
-    begin_job_at (suc zero) m p q h Works a b stage at = absurd stage
-    begin_job_at (suc (suc id)) m p q h r a b stage at = absurd (some-ne-none _ (sym at))
+    begin_job : (m p q : ℕ) (h : maybe.Option (Option J)) (r : Role) (a : Option J) → Stage needs does m h r a Works None → Idles m p q h r a
+    begin_job m p q h Alone a stage = absurd stage
+    begin_job m p q h Fresh a stage = idles m p q h Fresh a stage (λ e. omega (arith, e, stage.2))
+    begin_job m p q h Gives None stage = idles m p q h Gives None stage (λ e. ⊎_elim (λ (x : m ≡ 0). omega (arith, e, x)) (λ (x : m ≡ 2). omega (arith, e, x)) stage.2)
+    begin_job m p q h Gives (Some j) stage = ⊎_elim
+        (λ (x : Offered needs does m h j None). finds_one (paired m p q h (note Gives (Some j)) (note Works None)) 1 4 (bare Works None) (took needs does (bare Works None)) x.0
+        (note Works (Some j), takes 0 (Some j), ap (λ (l : maybe.Option (Option J)). some l) x.1, inr (4, p, q, none, Gives, Some j, Works, Some j, refl, (refl, inr (refl, refl))), ((λ _. (j, refl, x.2)), (λ other. absurd (other x.0)))))
+        (λ (x : Begun needs does m h j None). idles m p q h Gives (Some j) (refl, inr x) (begun-number m h j None x).0)
+        stage.1
+    begin_job m p q h Awaits None stage = absurd stage
+    begin_job m p q h Awaits (Some j) stage = idles m p q h Awaits (Some j) stage (begun-number m h j None stage.1).0
+    begin_job m p q h Stopped a stage = idles m p q h Stopped a stage (λ e. omega (arith, e, stage.2))
+    begin_job m p q h Works a stage = absurd stage
+    begin_job m p q h Ended a stage = absurd stage
 
     pub begins_job : (n id : ℕ) (me : Me (Option J) (Note J)) → me ≡ bare Works None → Allows (Turns needs does) n id me 0 (λ x. either (eqb x 1) 4 x) (took needs does me)
     begins_job n id me is = subst (λ (u : Me (Option J) (Note J)). Allows (Turns needs does) n id u 0 (λ x. either (eqb x 1) 4 x) (took needs does u)) (sym is)
-        (allowed n id 0 (bare Works None) (λ x. either (eqb x 1) 4 x) (took needs does (bare Works None)) (λ at. absurd (not_alone id _ (λ e. omega arith) at)) (begin_job_at id))
+        (of_worker n id 0 (note Works None) [] (λ x. either (eqb x 1) 4 x) (took needs does (bare Works None)) (omega arith) begin_job)
+
+    -- the worker looks whether a job may still come
+    abbrev Looks : ℕ → ℕ → ℕ → maybe.Option (Option J) → Role → Option J → Type 0
+    Looks m p q h r a = Goes (paired m p q h (note r a) (note Works None)) 1 0 (bare Works None) (λ x. x) (λ n m'. looked (bare Works None) n m')
+
+    goes_on : (m p q : ℕ) (h : maybe.Option (Option J)) (r : Role) (a : Option J) → Stage needs does m h r a Works None → m ≢ 3 → Looks m p q h r a
+    goes_on m p q h r a stage other = (note Works None, keeps, tt, inr (m, p, q, h, r, a, Works, None, refl, stage), ((λ three. absurd (other three)), (λ _. refl)))
+
+    look_at : (m p q : ℕ) (h : maybe.Option (Option J)) (r : Role) (a : Option J) → Stage needs does m h r a Works None → Looks m p q h r a
+    look_at m p q h Alone a stage = absurd stage
+    look_at m p q h Fresh a stage = goes_on m p q h Fresh a stage (λ e. omega (arith, e, stage.2))
+    look_at m p q h Gives None stage = goes_on m p q h Gives None stage (λ e. ⊎_elim (λ (x : m ≡ 0). omega (arith, e, x)) (λ (x : m ≡ 2). omega (arith, e, x)) stage.2)
+    look_at m p q h Gives (Some j) stage = goes_on m p q h Gives (Some j) stage (λ e. ⊎_elim (λ (x : Offered needs does m h j None). omega (arith, e, x.0)) (λ (x : Begun needs does m h j None). (begun-number m h j None x).1 e) stage.1)
+    look_at m p q h Awaits None stage = absurd stage
+    look_at m p q h Awaits (Some j) stage = goes_on m p q h Awaits (Some j) stage (begun-number m h j None stage.1).1
+    look_at m p q h Stopped a stage = (note Ended None, keeps, tt, inr (m, p, q, h, Stopped, a, Ended, None, refl, (inr refl, refl, stage.2)), ((λ _. refl), (λ other. absurd (other stage.2))))
+    look_at m p q h Works a stage = absurd stage
+    look_at m p q h Ended a stage = absurd stage
+
+    pub looks_up : (n id : ℕ) (me : Me (Option J) (Note J)) → me ≡ bare Works None → Allows (Turns needs does) n id me 0 (λ x. x) (λ n m'. looked me n m')
+    looks_up n id me is = subst (λ (u : Me (Option J) (Note J)). Allows (Turns needs does) n id u 0 (λ x. x) (λ n m'. looked u n m')) (sym is)
+        (of_worker n id 0 (note Works None) [] (λ x. x) (λ n m'. looked (bare Works None) n m') (omega arith) look_at)
 
     -- the worker gives the job back
-    give_at : (j k : J) → does j k → (id m p q : ℕ) (h : maybe.Option (Option J)) (r : Role) (a b : Option J) → Stage needs does m h r a b → get_elem? (note r a ∷ note Works b ∷ []) id ≡ some (note Works (Some j))
-        → Goes (paired m p q h r a b) id 0 (laden Works (Some j) (Some k)) (λ _. 2) (λ _ m'. gave m')
-    give_at j k done zero m p q h Alone a b stage at = absurd stage
-    give_at j k done zero m p q h Fresh a b stage at = let e = same_role Fresh Works a (Some j) at in absurd (omega arith)
-    give_at j k done zero m p q h Gives a b stage at = let e = same_role Gives Works a (Some j) at in absurd (omega arith)
-    give_at j k done zero m p q h Works a b stage at = absurd stage
-    give_at j k done (suc zero) m p q h Alone a b stage at = absurd stage
-    give_at j k done (suc zero) m p q h Fresh a b stage at = absurd (vacant_job j (sym (same_job Works Works b (Some j) at) ∙ stage.2))
-    give_at j k done (suc zero) m p q h Gives None b stage at = absurd (vacant_job j (sym (same_job Works Works b (Some j) at) ∙ stage.1))
-    give_at j k done (suc zero) m p q h Gives (Some i) None stage at = absurd (vacant_job j (sym (same_job Works Works None (Some j) at)))
-    give_at j k done (suc zero) m p q h Gives (Some i) (Some y) stage at = (note Works None, gives, tt, inr (2, p, q, some (Some k), Gives, Some i, None, refl, inr (refl, (k, refl, subst (λ (z : J). does z k) (sym (inside y j (same_job Works Works (Some y) (Some j) at)) ∙ stage.1) done))), refl)
-    give_at j k done (suc zero) m p q h Works a b stage at = absurd stage
-    give_at j k done (suc (suc id)) m p q h r a b stage at = absurd (some-ne-none _ (sym at))
+    abbrev Hands : J → J → ℕ → ℕ → ℕ → maybe.Option (Option J) → Role → Option J → Type 0
+    Hands j k m p q h r a = Goes (paired m p q h (note r a) (note Works (Some j))) 1 0 (laden Works (Some j) (Some k)) (λ _. 2) (λ _ m'. gave m')
+
+    hand_begun : (j k i : J) → does j k → (m : ℕ) (h : maybe.Option (Option J)) → Begun needs does m h i (Some j) → Begun needs does 2 (some (Some k)) i None
+    hand_begun j k i done m h begun = (refl, (k, refl, subst (λ (z : J). does z k) begun.1 done))
+
+    give_at : (j k : J) → does j k → (m p q : ℕ) (h : maybe.Option (Option J)) (r : Role) (a : Option J) → Stage needs does m h r a Works (Some j) → Hands j k m p q h r a
+    give_at j k done m p q h Alone a stage = absurd stage
+    give_at j k done m p q h Fresh a stage = absurd (vacant_job j stage.1)
+    give_at j k done m p q h Gives None stage = absurd (vacant_job j stage.1)
+    give_at j k done m p q h Gives (Some i) stage = ⊎_elim
+        (λ (x : Offered needs does m h i (Some j)). absurd (vacant_job j x.3))
+        (λ (x : Begun needs does m h i (Some j)). (note Works None, gives, tt, inr (2, p, q, some (Some k), Gives, Some i, Works, None, refl, (refl, inr (hand_begun j k i done m h x))), refl))
+        stage.1
+    give_at j k done m p q h Awaits None stage = absurd stage
+    give_at j k done m p q h Awaits (Some i) stage = (note Works None, gives, tt, inr (2, p, q, some (Some k), Awaits, Some i, Works, None, refl, (refl, hand_begun j k i done m h stage.1)), refl)
+    give_at j k done m p q h Stopped a stage = absurd (vacant_job j stage.1)
+    give_at j k done m p q h Works a stage = absurd stage
+    give_at j k done m p q h Ended a stage = absurd stage
 
     pub gives_back : (n id : ℕ) (me : Me (Option J) (Note J)) (j k : J) → me ≡ laden Works (Some j) (Some k) → does j k → Allows (Turns needs does) n id me 0 (λ _. 2) (λ _ m'. gave m')
     gives_back n id me j k is done = subst (λ (u : Me (Option J) (Note J)). Allows (Turns needs does) n id u 0 (λ _. 2) (λ _ m'. gave m')) (sym is)
-        (allowed n id 0 (laden Works (Some j) (Some k)) (λ _. 2) (λ _ m'. gave m') (λ at. absurd (not_alone id _ (λ e. omega arith) at)) (give_at j k done id))
+        (of_worker n id 0 (note Works (Some j)) ((0, Some k) ∷ []) (λ _. 2) (λ _ m'. gave m') (omega arith) (give_at j k done))
 
     -- the giver ends the work
-    stop_at : (id m p q : ℕ) (h : maybe.Option (Option J)) (r : Role) (a b : Option J) → Stage needs does m h r a b → get_elem? (note r a ∷ note Works b ∷ []) id ≡ some (note Gives None)
-        → Goes (paired m p q h r a b) id 0 (laden Gives None None) (λ _. 3) (λ _ m'. m' ≡ laden Gives None None)
-    stop_at zero m p q h Alone a b stage at = absurd stage
-    stop_at zero m p q h Fresh a b stage at = let e = same_role Fresh Gives a None at in absurd (omega arith)
-    stop_at zero m p q h Gives None b stage at = (note Gives None, keeps, tt, inr (3, p, q, h, Gives, None, b, refl, ((λ e. omega arith), stage.1)), refl)
-    stop_at zero m p q h Gives (Some i) b stage at = absurd (vacant_job i (same_job Gives Gives (Some i) None at))
-    stop_at zero m p q h Works a b stage at = absurd stage
-    stop_at (suc zero) m p q h r a b stage at = let e = same_role Works Gives b None at in absurd (omega arith)
-    stop_at (suc (suc id)) m p q h r a b stage at = absurd (some-ne-none _ (sym at))
-
-    pub stops : (n id : ℕ) (me : Me (Option J) (Note J)) → me ≡ laden Gives None None → Allows (Turns needs does) n id me 0 (λ _. 3) (λ _ m'. m' ≡ me)
-    stops n id me is = subst (λ (u : Me (Option J) (Note J)). Allows (Turns needs does) n id u 0 (λ _. 3) (λ _ m'. m' ≡ u)) (sym is)
-        (allowed n id 0 (laden Gives None None) (λ _. 3) (λ _ m'. m' ≡ laden Gives None None) (λ at. absurd (not_alone id _ (λ e. omega arith) at)) (stop_at id))
+    pub stops : (n id : ℕ) (me : Me (Option J) (Note J)) → me ≡ laden Gives None None → Allows (Turns needs does) n id me 0 (λ _. 3) (λ _ m'. stopped m')
+    stops n id me is = subst (λ (u : Me (Option J) (Note J)). Allows (Turns needs does) n id u 0 (λ _. 3) (λ _ m'. stopped m')) (sym is)
+        (of_giver n id 0 (note Gives None) ((0, None) ∷ []) (λ _. 3) (λ _ m'. stopped m') (omega arith) (omega arith)
+        (λ m p q h w b stage. (note Stopped None, keeps, tt, inr (3, p, q, h, Stopped, None, w, b, refl, (inl stage.0, stage.1, refl)), refl)))
 
     -- a word that says who sleeps
-    flag_at : (v : Note J) (c : List (ℕ × Option J)) (x : ℕ) (id m p q : ℕ) (h : maybe.Option (Option J)) (r : Role) (a b : Option J) → Stage needs does m h r a b → get_elem? (note r a ∷ note Works b ∷ []) id ≡ some v
-        → (i : ℕ) → 0 < i → i < 3 → Goes (paired m p q h r a b) id i (v, c) (λ _. x) (λ _ m'. m' ≡ (v, c))
-    flag_at v c x id m p q h r a b stage at zero some_flag below = absurd (omega arith)
-    flag_at v c x id m p q h r a b stage at (suc zero) some_flag below = (v, keeps, tt, inr (m, x, q, h, r, a, b, ap (λ (vs : List (Note J)). record { words = m ∷ x ∷ q ∷ []; homes = h ∷ []; views = vs }) (set_again (note r a ∷ note Works b ∷ []) id v at), stage), refl)
-    flag_at v c x id m p q h r a b stage at (suc (suc zero)) some_flag below = (v, keeps, tt, inr (m, p, x, h, r, a, b, ap (λ (vs : List (Note J)). record { words = m ∷ p ∷ x ∷ []; homes = h ∷ []; views = vs }) (set_again (note r a ∷ note Works b ∷ []) id v at), stage), refl)
-    flag_at v c x id m p q h r a b stage at (suc (suc (suc i))) some_flag below = absurd (omega arith)
+    flag_at : (v : Note J) (c : List (ℕ × Option J)) (x : ℕ) (id m p q : ℕ) (h : maybe.Option (Option J)) (r : Role) (a : Option J) (w : Role) (b : Option J) → Stage needs does m h r a w b → get_elem? (note r a ∷ note w b ∷ []) id ≡ some v
+        → (i : ℕ) → 0 < i → i < 3 → Goes (paired m p q h (note r a) (note w b)) id i (v, c) (λ _. x) (λ _ m'. m' ≡ (v, c))
+    flag_at v c x id m p q h r a w b stage at zero some_flag below = absurd (omega arith)
+    flag_at v c x id m p q h r a w b stage at (suc zero) some_flag below = (v, keeps, tt, inr (m, x, q, h, r, a, w, b, ap (λ (vs : List (Note J)). record { words = m ∷ x ∷ q ∷ []; homes = h ∷ []; views = vs }) (set_again (note r a ∷ note w b ∷ []) id v at), stage), refl)
+    flag_at v c x id m p q h r a w b stage at (suc (suc zero)) some_flag below = (v, keeps, tt, inr (m, p, x, h, r, a, w, b, ap (λ (vs : List (Note J)). record { words = m ∷ p ∷ x ∷ []; homes = h ∷ []; views = vs }) (set_again (note r a ∷ note w b ∷ []) id v at), stage), refl)
+    flag_at v c x id m p q h r a w b stage at (suc (suc (suc i))) some_flag below = absurd (omega arith)
 
     pub flags : (n id : ℕ) (me : Me (Option J) (Note J)) (i x : ℕ) → 0 < i → i < 3 → number me.0.role ≢ 0 → Allows (Turns needs does) n id me i (λ _. x) (λ _ m'. m' ≡ me)
-    flags n id me i x some_flag below other = allowed n id i me (λ _. x) (λ _ m'. m' ≡ me) (λ at. absurd (not_alone id me.0 other at)) (λ m p q h r a b stage at. flag_at me.0 me.1 x id m p q h r a b stage at i some_flag below)
+    flags n id me i x some_flag below other = allowed n id i me (λ _. x) (λ _ m'. m' ≡ me) (λ at. absurd (not_alone id me.0 other at)) (λ m p q h r a w b stage at. flag_at me.0 me.1 x id m p q h r a w b stage at i some_flag below)
 
-    pub fetches_job : (n id : ℕ) (me : Me (Option J) (Note J)) (o : Option J) → o ≢ None → me ≡ bare Gives o → Allows (Turns needs does) n id me 0 (λ x. x) (fetched needs does me)
-    fetches_job n id me None there is = absurd (there refl)
-    fetches_job n id me (Some j) there is = fetches n id me j is
+    awake : (r : Role) (n : ℕ) → MaySleep r n → number r ≢ 0
+    awake Alone n may = absurd may
+    awake Fresh n may = absurd may
+    awake Gives n may = absurd may
+    awake Awaits n may = λ e. omega (arith, e)
+    awake Stopped n may = absurd may
+    awake Works n may = λ e. omega (arith, e)
+    awake Ended n may = absurd may
+
+    -- one of an end that may sleep
+    pub sleeps : (n id : ℕ) (me : Me (Option J) (Note J)) (i x seen : ℕ) → 0 < i → i < 3 → MaySleep me.0.role seen → Allows (Turns needs does) n id me i (λ _. x) (λ _ m'. m' ≡ me)
+    sleeps n id me i x seen some_flag below may = flags n id me i x some_flag below (awake me.0.role seen may)

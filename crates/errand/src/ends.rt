@@ -1,11 +1,13 @@
 //! The giver's end and the worker's.
 ghost use Rattle.std.specs.Prelude.{false, true, ◌≡◌, ◌≢◌, ◌<◌, [], None, Some, IfOk, IfErr};
-ghost use Rattle.errand.specs.declared.note.Role.TheVariants.{Alone, Gives, Works};
-ghost use Rattle.errand.specs.Turns.{number, bare, laden};
+ghost use Rattle.errand.specs.declared.note.Role.TheVariants.{Alone, Gives, Awaits, Stopped, Works, Ended};
+ghost use Rattle.errand.specs.Turns.{MaySleep, bare, laden};
 ghost use Rattle.errand.specs.Ends.{IsSeated};
 
 use crate::note::Note;
-use crate::rule::{Ask, Back, Begin, Board, ByTurns, Errand, Fetch, Give, Hire, Same, Take};
+use crate::rule::{
+    Ask, Back, Begin, Board, ByTurns, Errand, Fetch, Give, Hire, Look, Same, Stop, Take,
+};
 use atomic_table::{Seat, Table};
 use std::alloc::{AllocError, Global};
 use std::sync::Wait;
@@ -88,6 +90,14 @@ pub struct Waiting<'a, J, D: Errand<J>> {
     ghost given: { (seat.me ≡ bare Gives seat.me.0.job) × (seat.me.0.job ≢ None) },
 }
 
+/// The end that gives jobs, while the worker is at work on one. It has no `Drop` either.
+pub struct Begun<'a, J, D: Errand<J>> {
+    board: &'a Board<J, D>,
+    seat: End<J>,
+    ghost seated: { IsSeated board.now.table_id seat.table_id },
+    ghost begun: { (seat.me ≡ bare Awaits seat.me.0.job) × (seat.me.0.job ≢ None) },
+}
+
 /// The end that works.
 #[derive(Drop)]
 pub struct Worker<'a, J, D: Errand<J>> {
@@ -95,6 +105,13 @@ pub struct Worker<'a, J, D: Errand<J>> {
     seat: End<J>,
     ghost seated: { IsSeated board.now.table_id seat.table_id },
     ghost free: { seat.me ≡ bare Works None },
+}
+
+/// The end that worked, once the giver is dropped: no job comes any more. Nothing else makes one.
+#[derive(Drop)]
+pub struct Dismissed<J> {
+    seat: End<J>,
+    ghost ended: { seat.me ≡ bare Ended None },
 }
 
 /// Makes the two ends.
@@ -129,7 +146,7 @@ fn wake<J, D: Errand<J>>(board: &Board<J, D>, flag: usize)
     }
 }
 
-// Waits a little before the next look, longer from look to look.
+// Waits a little before the next look, longer from look to look. It sleeps only while the first word says what was seen.
 fn rest<R: Wait, J, D: Errand<J>>(
     rt: &R,
     board: &Board<J, D>,
@@ -140,7 +157,7 @@ fn rest<R: Wait, J, D: Errand<J>>(
 )
     requires seated { IsSeated board.now.table_id seat.old.table_id }
     requires flag { (0 < flag) × (flag < 3) }
-    requires seat { number seat.old.me.0.role ≢ 0 }
+    requires seen { MaySleep seat.old.me.0.role seen }
     ensures { (seat.new.table_id ≡ seat.old.table_id) × (seat.new.me ≡ seat.old.me) }
 {
     if looks < SPINS {
@@ -191,6 +208,16 @@ impl<'a, J, D: Errand<J>> Giver<'a, J, D> {
     }
 }
 
+// Ends the work, and wakes the worker for that.
+fn stop<J, D: Errand<J>>(board: &Board<J, D>, seat: &mut End<J>)
+    requires seated { IsSeated board.now.table_id seat.old.table_id }
+    requires idle { seat.old.me ≡ laden Gives None None }
+    ensures { seat.new.me ≡ laden Stopped None None }
+{
+    board.store::<Stop>(seat, TURN, STOPPED);
+    board.wake_one(TURN);
+}
+
 impl<'a, J, D: Errand<J>> Drop for Giver<'a, J, D> {
     fn drop(self) {
         let Self {
@@ -198,15 +225,14 @@ impl<'a, J, D: Errand<J>> Drop for Giver<'a, J, D> {
             mut seat,
             late: _,
         } = self;
-        board.store::<Same>(&mut seat, TURN, STOPPED);
-        board.wake_one(TURN);
+        stop(board, &mut seat);
     }
 }
 
 // Waits until the job is done, and has the slot with it.
 fn wait_done<R: Wait, J, D: Errand<J>>(rt: &R, board: &Board<J, D>, seat: &mut End<J>)
     requires seated { IsSeated board.now.table_id seat.old.table_id }
-    requires given { (seat.old.me ≡ bare Gives seat.old.me.0.job) × (seat.old.me.0.job ≢ None) }
+    requires begun { (seat.old.me ≡ bare Awaits seat.old.me.0.job) × (seat.old.me.0.job ≢ None) }
     ensures { (seat.new.table_id ≡ seat.old.table_id) × ((k : J) × (seat.new.me ≡ laden Gives None (Some k)) × ((j : J) → seat.old.me.0.job ≡ Some j → D.does j k)) }
 {
     let mut looks = 0u32;
@@ -240,9 +266,9 @@ impl<'a, J, D: Errand<J>> Waiting<'a, J, D> {
         !self.is_begun() && self.late.wrapping_mul(SPREAD) >= HALF
     }
 
-    /// The job as it was given. `Err` where the worker has begun it or begins it soon: then the worker does it, and
-    /// [`take`](Waiting::take) has it. Costs a few looks at a word and an atomic step, and takes no memory.
-    pub fn take_back(self) -> Result<(Giver<'a, J, D>, J), Waiting<'a, J, D>>
+    /// The job as it was given. `Err` where the worker has begun it: then the worker does it, and [`take`](Begun::take)
+    /// has it. Costs a few looks at a word and an atomic step, and takes no memory.
+    pub fn take_back(self) -> Result<(Giver<'a, J, D>, J), Begun<'a, J, D>>
         ensures back { IfOk result (λ r. (self.entry.seat.me.0.job ≡ Some r.1) × D.needs r.1) }
         ensures begun { IfErr result (λ w. w.seat.me.0.job ≡ self.entry.seat.me.0.job) }
     {
@@ -253,7 +279,7 @@ impl<'a, J, D: Errand<J>> Waiting<'a, J, D> {
             late,
         } = self;
         if board.compare_exchange::<Back<D>>(&mut seat, TURN, GIVEN, NONE) != GIVEN {
-            return Err(Waiting { board, seat, late });
+            return Err(Begun { board, seat });
         }
         let job = board.exchange(&mut seat, 0, None).unwrap();
         let giver = Giver {
@@ -264,16 +290,25 @@ impl<'a, J, D: Errand<J>> Waiting<'a, J, D> {
         Ok((giver, job))
     }
 
-    /// Waits for the worker to do the job, which it has begun. One that has not begun it is waited for too, and for ever
-    /// where it never does. Costs as many looks as the work takes, and then a sleep; takes no memory.
+    /// The job as the work leaves it: the worker's if it has begun it, and else it is done here.
+    pub fn finish<R: Wait, F: Fn(J) -> J>(self, rt: &R, work: &F) -> (Giver<'a, J, D>, J)
+        requires may { (j : J) → D.needs j → F.pre work.now j }
+        requires does { (j k : J) → D.needs j → F.post work.now j k → D.does j k }
+        ensures { (j : J) → self.entry.seat.me.0.job ≡ Some j → D.does j result.1 }
+    {
+        match self.take_back() {
+            Ok((giver, job)) => (giver, work(job)),
+            Err(begun) => begun.take(rt),
+        }
+    }
+}
+
+impl<'a, J, D: Errand<J>> Begun<'a, J, D> {
+    /// Waits for the worker to do the job. Costs as many looks as the work takes, and then a sleep; takes no memory.
     pub fn take<R: Wait>(self, rt: &R) -> (Giver<'a, J, D>, J)
         ensures { (j : J) → self.entry.seat.me.0.job ≡ Some j → D.does j result.1 }
     {
-        let Waiting {
-            board,
-            mut seat,
-            late: _,
-        } = self;
+        let Begun { board, mut seat } = self;
         wait_done(rt, board, &mut seat);
         let job = board.exchange(&mut seat, 0, None).unwrap();
         let giver = Giver {
@@ -282,18 +317,6 @@ impl<'a, J, D: Errand<J>> Waiting<'a, J, D> {
             late: 0,
         };
         (giver, job)
-    }
-
-    /// The job as the work leaves it: the worker's if it has begun it or begins it soon, and else it is done here.
-    pub fn finish<R: Wait, F: Fn(J) -> J>(self, rt: &R, work: &F) -> (Giver<'a, J, D>, J)
-        requires may { (j : J) → D.needs j → F.pre work.now j }
-        requires does { (j k : J) → D.needs j → F.post work.now j k → D.does j k }
-        ensures { (j : J) → self.entry.seat.me.0.job ≡ Some j → D.does j result.1 }
-    {
-        match self.take_back() {
-            Ok((giver, job)) => (giver, work(job)),
-            Err(waiting) => waiting.take(rt),
-        }
     }
 }
 
@@ -313,11 +336,12 @@ fn wait_given<R: Wait, J, D: Errand<J>>(rt: &R, board: &Board<J, D>, seat: &mut 
     requires seated { IsSeated board.now.table_id seat.old.table_id }
     requires free { seat.old.me ≡ bare Works None }
     ensures { (seat.new.table_id ≡ seat.old.table_id)
-        × (result ≡ true → (j : J) × (seat.new.me ≡ laden Works (Some j) (Some j)) × D.needs j) }
+        × (result ≡ true → (j : J) × (seat.new.me ≡ laden Works (Some j) (Some j)) × D.needs j)
+        × (result ≡ false → seat.new.me ≡ bare Ended None) }
 {
     let mut looks = 0u32;
     for _ in rt.forever() {
-        match board.peek(TURN) {
+        match board.load::<Look>(seat, TURN) {
             GIVEN => {
                 if begin(board, seat) {
                     return true;
@@ -351,8 +375,8 @@ fn do_job<J, D: Errand<J>, F: Fn(J) -> J>(board: &Board<J, D>, seat: &mut End<J>
 }
 
 impl<'a, J, D: Errand<J>> Worker<'a, J, D> {
-    /// Does this work on each job until the giver is dropped.
-    pub fn serve<R: Wait, F: Fn(J) -> J>(self, rt: &R, work: &F)
+    /// Does this work on each job until the giver is dropped, and not shorter: the end that it gives back says so.
+    pub fn serve<R: Wait, F: Fn(J) -> J>(self, rt: &R, work: &F) -> Dismissed<J>
         requires may { (j : J) → D.needs j → F.pre work.now j }
         requires does { (j k : J) → D.needs j → F.post work.now j k → D.does j k }
     {
@@ -360,7 +384,7 @@ impl<'a, J, D: Errand<J>> Worker<'a, J, D> {
         board.store::<Same>(&mut seat, WORKER, AWAKE);
         for _ in rt.forever() {
             if !wait_given(rt, board, &mut seat) {
-                return;
+                return Dismissed { seat };
             }
             do_job(board, &mut seat, work);
         }

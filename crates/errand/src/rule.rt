@@ -1,7 +1,7 @@
 //! The rule of the table, and what each step tells.
 ghost use Rattle.std.specs.Prelude.{None, ◌≡◌};
 ghost use Rattle.errand.specs.declared.note.Role.TheVariants.{Alone, Fresh, Works};
-ghost use Rattle.errand.specs.Turns.{note, Turns, fetched, began, asked, took, brought, gave};
+ghost use Rattle.errand.specs.Turns.{note, Turns, fetched, began, asked, looked, took, brought, gave, stopped};
 
 use crate::note::Note;
 use atomic_table::{Play, Shared, Split, TableRule};
@@ -65,6 +65,12 @@ impl<J, D: Errand<J>> Play<Option<J>, Note<J>> for Back<D> {
     ghost then = { λ s m n m'. brought D.needs D.does m n m' };
 }
 
+pub(crate) struct Look;
+
+impl<J> Play<Option<J>, Note<J>> for Look {
+    ghost then = { λ s m n m'. looked m n m' };
+}
+
 pub(crate) struct Take<D> {
     errand: PhantomData<D>,
 }
@@ -77,6 +83,12 @@ pub(crate) struct Give;
 
 impl<J> Play<Option<J>, Note<J>> for Give {
     ghost then = { λ s m n m'. gave m' };
+}
+
+pub(crate) struct Stop;
+
+impl<J> Play<Option<J>, Note<J>> for Stop {
+    ghost then = { λ s m n m'. stopped m' };
 }
 
 pub(crate) struct Same;

@@ -174,7 +174,7 @@ pub closed-more : (tolds more : List ValueTold)
 closed-more tolds [] = (
   [],
   ap (λ (xs : List ValueTold). closed_ranges (ranges_of xs)) (append-nil tolds)
-  ∙ sym (append-nil (closed_ranges (ranges_of tolds))),
+      ∙ sym (append-nil (closed_ranges (ranges_of tolds))),
 )
 closed-more tolds (t ∷ more) =
     let kept = closed-kept t (ranges_of tolds) in

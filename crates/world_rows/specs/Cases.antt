@@ -137,6 +137,15 @@ is_safe_now list script history =
     && (senders_are_members list script history
     && (none_has_left list script history && faulty_are_gone list script history))
 
+-- the four tests after a history, in this order
+abbrev pub four_tests : Medl → Script → History → List Bool
+four_tests list script history =
+    members_agree list script history
+    ∷ senders_are_members list script history
+    ∷ none_has_left list script history
+    ∷ faulty_are_gone list script history
+    ∷ []
+
 abbrev pub is_safe_from : ℕ → Medl → Script → History → Bool
 is_safe_from slot list script [] = true
 is_safe_from slot list script (row ∷ history) =

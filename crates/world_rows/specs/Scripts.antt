@@ -1,5 +1,6 @@
 -- The scripts of the rows, each named for what it shows.
-use Rattle.std.specs.Prelude.{pos, [], ◌∷◌, Some, replicate}
+use Rattle.std.specs.Prelude.{◌+◌, pos, [], ◌∷◌, Some, map, replicate}
+use Rattle.ttp_base.specs.NodeSet.{below}
 use Rattle.ttp_world.specs.declared.medl.Medl.{Medl}
 use Rattle.ttp_world.specs.declared.script.Event.TheVariants as event
 use Rattle.ttp_world.specs.declared.script.Fault.TheVariants as fault
@@ -24,6 +25,14 @@ deaf_on_a = all_on_script 5 11 (event.Receive 4 only_a fault.Noise 10 10 ∷ [])
 
 abbrev pub late : Script
 late = script_on 40 (Some 0 ∷ Some 0 ∷ Some 0 ∷ Some 0 ∷ Some 30 ∷ []) []
+
+-- node 4 joins in slot 10 and then hears noise up to its own slot
+abbrev pub deaf_before_its_first : Script
+deaf_before_its_first = all_on_script 5 15 (event.Receive 4 both fault.Noise 11 13 ∷ [])
+
+-- all nodes but node 4 become faulty in their first own slots
+abbrev pub faulty_but_one : Script
+faulty_but_one = all_on_script 5 15 (map (λ k. event.Send k both fault.Noise (10 + k) (10 + k)) (below 4))
 
 -- Faults of a sender.
 

@@ -20,6 +20,7 @@ pub mod moves;
 pub mod pasts;
 pub mod rejoining;
 pub mod returning;
+pub mod safety;
 pub mod script_files;
 pub mod starts;
 pub mod tests_of_hypothesis;

@@ -1,16 +1,18 @@
-//! Two numbers counted up in rounds, one of them by a worker that stays.
+//! Two numbers counted up in rounds, one of them by a worker that stays, awake or asleep.
 ghost use Rattle.std.specs.Prelude.{◌≡◌, ◌+◌, ◌<◌, ◌≤◌};
 
 use errand::ends::{Giver, Worker, hire, open};
 use errand::rule::Errand;
 use std::alloc::Global;
+use std::hint;
 use std::sync::Wait;
 use std::thread::{Threads, join_mut};
 
-// A number that is counted up.
+// A number that is counted up, and how often the worker did it.
 #[derive(Drop)]
 struct Tally {
     count: u64,
+    served: u64,
 }
 
 struct CountUp;
@@ -27,15 +29,36 @@ fn counted_up(job: Tally) -> Tally
 {
     Tally {
         count: job.count + 1,
+        served: job.served,
     }
 }
 
-// Counts both up once, the second one by the worker if it comes to that.
+// The same by the worker, who takes so many looks for it.
+fn served_up(job: Tally, looks: u32) -> Tally
+    requires { job.count < 1000 }
+    ensures { result.count ≡ job.count + 1 }
+{
+    pass(looks);
+    Tally {
+        count: job.count + 1,
+        served: job.served.saturating_add(1),
+    }
+}
+
+// Lets the time of so many looks go by.
+fn pass(looks: u32) {
+    for _ in 0..looks {
+        hint::spin_loop();
+    }
+}
+
+// Counts both up once, the second one by the worker if it comes to that while so many looks go by.
 fn count_both<'a, R: Wait>(
     rt: &R,
     giver: &mut Option<Giver<'a, Tally, CountUp>>,
     front: Tally,
     back: Tally,
+    looks: u32,
 ) -> (Tally, Tally)
     requires { (front.count < 1000) × (back.count < 1000) }
     ensures { (result.0.count ≡ front.count + 1) × (result.1.count ≡ back.count + 1) }
@@ -44,6 +67,7 @@ fn count_both<'a, R: Wait>(
         return (counted_up(front), counted_up(back));
     };
     let waiting = hired.ask(back);
+    pass(looks);
     let front = counted_up(front);
     let (hired, back) = waiting.finish(
         rt,
@@ -56,59 +80,96 @@ fn count_both<'a, R: Wait>(
     (front, back)
 }
 
-// Counts both up in rounds, and lets the worker go.
+// Rounds that leave no time in which a worker that sleeps could begin.
+const SHORT: u64 = 5;
+
+// Counts both up in rounds, lets so many looks go by between them, and lets the worker go. The last number says how many
+// rounds of the second one the worker did.
 fn count_up<'a, R: Wait>(
     rt: &R,
     giver: &mut Option<Giver<'a, Tally, CountUp>>,
     rounds: u64,
-) -> (u64, u64)
+    looks: u32,
+) -> (u64, u64, u64)
     requires { rounds ≤ 1000 }
     ensures { (result.0 ≡ rounds) × (result.1 ≡ rounds) }
 {
-    let mut front = Tally { count: 0 };
-    let mut back = Tally { count: 0 };
+    let mut front = Tally {
+        count: 0,
+        served: 0,
+    };
+    let mut back = Tally {
+        count: 0,
+        served: 0,
+    };
     for i in 0..rounds {
-        (front, back) = count_both(rt, giver, front, back);
+        pass(looks);
+        let meanwhile = if i < SHORT { 0 } else { looks };
+        (front, back) = count_both(rt, giver, front, back, meanwhile);
     }
+    pass(looks);
     *giver = None;
-    (front.count, back.count)
+    (front.count, back.count, back.served)
 }
 
-fn serve<'a, R: Wait>(rt: &R, worker: &mut Option<Worker<'a, Tally, CountUp>>) {
+fn serve<'a, R: Wait>(rt: &R, worker: &mut Option<Worker<'a, Tally, CountUp>>, looks: u32) {
     if let Some(worker) = worker.take() {
         worker.serve(
             rt,
             &|job: Tally| -> Tally
                 requires { job.count < 1000 }
                 ensures { result.count ≡ job.count + 1 }
-            { counted_up(job) },
+            { served_up(job, looks) },
         );
     }
 }
 
-// Counts in two threads, where a second one is to be had, and says whether both numbers have come so far.
-fn count_in_threads<R: Threads + Wait + Sync>(rt: &R, alloc: Global, rounds: u64) -> bool
+// Counts in two threads, where a second one is to be had, each with so many looks, and says how many rounds the worker did,
+// where both numbers have come so far.
+fn count_in_threads<R: Threads + Wait + Sync>(
+    rt: &R,
+    alloc: Global,
+    rounds: u64,
+    looks: (u32, u32),
+) -> Option<u64>
     requires { rounds ≤ 1000 }
 {
     let Ok((table, seat)) = open::<Tally, CountUp>(alloc) else {
-        return false;
+        return None;
     };
     let (giver, worker) = hire(&table.shared, seat);
     let (mut giver, mut worker) = (Some(giver), Some(worker));
-    let mut serves = || serve(rt, &mut worker);
-    let mut counts = || -> (u64, u64)
+    let mut serves = || serve(rt, &mut worker, looks.1);
+    let mut counts = || -> (u64, u64, u64)
         requires { rounds ≤ 1000 }
         ensures { (result.0 ≡ rounds) × (result.1 ≡ rounds) }
-    { count_up(rt, &mut giver, rounds) };
-    let (_, (front, back)) = join_mut(rt, &mut serves, &mut counts);
-    front == rounds && back == rounds
+    { count_up(rt, &mut giver, rounds, looks.0) };
+    let (_, (front, back, served)) = join_mut(rt, &mut serves, &mut counts);
+    if front == rounds && back == rounds {
+        Some(served)
+    } else {
+        None
+    }
 }
 
 #[test]
 fn all_rounds_are_counted(rt: HostRuntime) {
     for rounds in [0u64, 1, 2, 1000] {
-        assert!(rt; count_in_threads(&rt, rt.alloc(), rounds));
+        assert!(rt; count_in_threads(&rt, rt.alloc(), rounds, (0, 0)).is_some());
     }
+}
+
+// Both ends sleep in a round: the worker until it is given a job, and the giver until the job is done. A round that the
+// system gives the worker no processor for is done by the giver; so that is tried again.
+#[test]
+fn who_sleeps_is_woken(rt: HostRuntime) {
+    let mut served = 0;
+    for _ in 0..20 {
+        if served < 100 {
+            served = count_in_threads(&rt, rt.alloc(), 1000, (10_000, 20_000)).unwrap_or(0);
+        }
+    }
+    assert!(rt; served >= 100);
 }
 
 // Whether a giver without a worker counts both numbers up, after which a worker that comes has nothing to do.
@@ -117,8 +178,8 @@ fn is_counted_alone<R: Wait>(rt: &R, alloc: Global) -> bool {
         return false;
     };
     let (giver, worker) = hire(&table.shared, seat);
-    let (front, back) = count_up(rt, &mut Some(giver), 10);
-    serve(rt, &mut Some(worker));
+    let (front, back, _) = count_up(rt, &mut Some(giver), 10, 0);
+    serve(rt, &mut Some(worker), 0);
     front == 10 && back == 10
 }
 
@@ -134,7 +195,13 @@ fn is_taken_back<R: Wait>(rt: &R, alloc: Global) -> bool {
         return false;
     };
     let (giver, _worker) = hire(&table.shared, seat);
-    match giver.ask(Tally { count: 7 }).take_back() {
+    match giver
+        .ask(Tally {
+            count: 7,
+            served: 0,
+        })
+        .take_back()
+    {
         Ok((_, job)) => job.count == 7,
         Err(waiting) => {
             waiting.take(rt);

@@ -24,7 +24,14 @@ returns-clause-trace g c =
           all_written c.in_ok-out.ensures.empty (ap Some (sym (c.in_ok-from_slice.ensures.items ∙ c.bytes.ensures)))
           w.text.wrote
           ∙ ap concat w.text.text;
-      safe = λ start kept. (w.text.keeping start kept).safe;
+      one = λ start kept count past within.
+          let safe = (w.text.keeping start kept).safe count past within in (safe.agree, safe.senders, safe.stay, safe.faulty);
+      on_time = λ start kept count past within.
+          let near = (w.text.keeping start kept).clocks count past within in
+          λ inside j k is_j is_k.
+          let apart = near.deviations inside j k is_j is_k in (near.clocks inside j k is_j is_k, apart.0, apart.1);
+      alike = λ start kept. (w.text.keeping start kept).frames;
+      back_safe = λ start owed. w.text.returning start owed;
     }
 
 pub returns-then-status-ne0-clause-missing : goal.returns-then-status-ne0-clause-missing
