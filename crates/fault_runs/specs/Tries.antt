@@ -10,7 +10,7 @@ use Rattle.ttp_world.specs.Script.{IsValidScript}
 use Rattle.campaign.specs.CostText.{cost_words}
 use Rattle.campaign.specs.Lines.{summary, summary_with, run_line, is_same_cost}
 use Rattle.run_costs.specs.declared.seen_run.SeenRun.{SeenRun}
-use Rattle.run_costs.specs.Standing.{IsSeenAfter}
+use Rattle.run_costs.specs.Standing.{IsRunOfList, IsSeenAfter}
 use Rattle.fault_runs.specs.declared.own.OwnRun.{OwnRun}
 use Rattle.fault_runs.specs.declared.tried.Common.{Common}
 use Rattle.fault_runs.specs.declared.tried.Tried.{Tried}
@@ -19,6 +19,11 @@ use Rattle.fault_runs.specs.declared.tried.Tried.{Tried}
 pub record IsOwnAfter (own : OwnRun) (list : Medl) (script : Script) (slots : ℕ) : Type 0 where
   pub run : IsSeenAfter own.run list script slots
   pub before : IsSeenAfter own.before list script own.before.slots
+
+-- both are runs of this list, whatever they have done
+pub record IsOwnOf (own : OwnRun) (list : Medl) : Type 0 where
+  pub run : IsRunOfList own.run.run list
+  pub before : IsRunOfList own.before.run list
 
 -- the script may be run with one fault more, and the words of what its own run costs are there
 pub record MayTry (common : Common) : Type 0 where

@@ -26,6 +26,7 @@ mod put;
 mod tally;
 mod tried;
 
-pub use put::{CampaignFault, put_campaign, put_own_line};
-pub use tally::has_room;
+pub use own::OwnRun;
+pub use put::{CampaignFault, put_campaign, put_own_line, row_of};
+pub use tally::{has_pair, has_room, is_torn};
 pub use tried::processors;

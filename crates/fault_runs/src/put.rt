@@ -103,8 +103,12 @@ fn put_all<K: Sink>(
     Ok(())
 }
 
-// What each node did, by what is shown of it.
-fn row_of(alloc: Global, states: &[NodeState]) -> Result<List<Entry>, Memory>
+/// What each node did, by what is shown of it.
+///
+/// # Errors
+///
+/// Where memory was refused.
+pub fn row_of(alloc: Global, states: &[NodeState]) -> Result<List<Entry>, Memory>
     ensures { IfOk result (λ row. row ≡ entries_of states.now) }
 {
     let mut row = List::new(alloc);

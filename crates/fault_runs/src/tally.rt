@@ -59,8 +59,8 @@ fn more(count: u64, is: bool) -> u64
     if is { count + 1 } else { count }
 }
 
-// Whether a membership of two nodes or more is left.
-fn has_pair(sets: &[NodeSet]) -> bool
+/// Whether a membership of two nodes or more is among some.
+pub fn has_pair(sets: &[NodeSet]) -> bool
     ensures { result ≡ list_any (λ members. nat_le 2 (length members)) sets.now }
 {
     for members in sets {
@@ -78,8 +78,8 @@ fn has_hurt(cost: &Cost) -> bool
     cost.hurt.count() != 0
 }
 
-// Whether two memberships or more are left.
-fn is_torn(cost: &Cost) -> bool
+/// Whether two memberships or more are left.
+pub fn is_torn(cost: &Cost) -> bool
     ensures { result ≡ is_torn cost.now }
 {
     cost.end.len() >= 2

@@ -1,6 +1,6 @@
 -- What the nodes did in a slot of the whole run, and the sweeps of their jumps.
-use Rattle.std.proofs.Common.{◌≡◌, ℕ, ◌+◌, ◌<◌, cond, List, [], ◌∷◌, map, length, ap, sym, ◌∙◌, arith}
-use Rattle.std.specs.Prelude.{filter, flat_map, nat_le, ◌&&◌}
+use Rattle.std.proofs.Common.{◌≡◌, ℕ, ◌+◌, ◌<◌, List, length, ap, sym, ◌∙◌, arith}
+use Rattle.std.specs.Prelude.{flat_map, nat_le, ◌&&◌}
 use Rattle.std.proofs.lemmas.List.{get_or-map}
 use Rattle.ttp_base.specs.NodeSet.{below}
 use Rattle.ttp_world.specs.declared.medl.Medl.{Medl}

@@ -1,5 +1,5 @@
 -- What was seen of a run where one node counts as faulty besides.
-use Rattle.std.proofs.Common.{◌≡◌, ℕ, suc, ◌+◌, ◌-◌, ◌<◌, ◌≤◌, Bool, true, false, ◌&&◌, ◌||◌, not, List, [], ◌∷◌, length, refl, ap, sym, ◌∙◌, arith}
+use Rattle.std.proofs.Common.{◌≡◌, ℕ, ◌+◌, ◌-◌, ◌<◌, ◌≤◌, Bool, true, false, ◌&&◌, ◌||◌, not, List, [], ◌∷◌, length, refl, ap, sym, ◌∙◌, arith}
 use Rattle.std.specs.Prelude.{◌==◌, nat_le}
 use Rattle.std.proofs.lemmas.Bool.{false≢true, and_parts}
 use Rattle.ttp_base.specs.NodeSet.{has_node, without_node}
@@ -11,7 +11,7 @@ use Rattle.ttp_world.specs.Diary.{History}
 use Rattle.ttp_world.specs.Returning.{is_sound, is_arm}
 use Rattle.ttp_world.specs.Safety.{newest_slot}
 use Rattle.controller.specs.Agreement.{begins_at}
-use Rattle.campaign.specs.Cost.{faulty_by_test, has_two, memberships}
+use Rattle.campaign.specs.Cost.{has_two, memberships}
 use Rattle.campaign.specs.Tried.{with_fault}
 use Rattle.campaign.specs.ZerosWorld.{zeros_world}
 use Rattle.clock_margins.specs.Outcomes.{is_sound_beside, is_split_beside, was_split_beside}

@@ -1,5 +1,5 @@
 -- Sweeps that were written, one more at a time.
-use Rattle.std.proofs.Common.{◌≡◌, ℕ, ◌+◌, ◌*◌, ◌≤◌, Bool, true, false, cond, List, [], ◌∷◌, ◌++◌, map, refl, ap, sym, subst, ◌∙◌, append-nil, arith}
+use Rattle.std.proofs.Common.{◌≡◌, ℕ, ◌≤◌, Bool, true, false, cond, List, [], ◌∷◌, ◌++◌, map, refl, ap, sym, subst, ◌∙◌, append-nil, arith}
 use Rattle.std.specs.Prelude.{filter, flat_map}
 use Rattle.std.proofs.lemmas.Grind.{flat_map-append}
 use Rattle.std.proofs.lemmas.List.{map-append}
@@ -13,7 +13,7 @@ use Rattle.clock_margins.specs.declared.margin.Sweep.{Sweep}
 use Rattle.clock_margins.specs.declared.margin.Total.{Total}
 use Rattle.clock_margins.specs.MarginText.{sweep_lines, sweep_margin}
 use Rattle.clock_margins.specs.Sums.{total_of}
-use Rattle.margin_text.specs.Taken.{AreFew, IsFewOf}
+use Rattle.margin_text.specs.Taken.{IsFewOf}
 use Rattle.fault_runs.specs.declared.put.CampaignFault.{CampaignFault}
 use Rattle.fault_runs.specs.Ends.{LeftBy}
 use Rattle.fault_runs.proofs.Endings.{leaves-after, leaves-more}

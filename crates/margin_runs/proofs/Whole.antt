@@ -6,7 +6,6 @@ use Rattle.ttp_base.proofs.Outputs.{Wrote-join}
 use Rattle.ttp_world.specs.declared.medl.Medl.{Medl}
 use Rattle.ttp_world.specs.declared.script.Script.{Script}
 use Rattle.campaign.specs.declared.cost.Span.{Span}
-use Rattle.clock_margins.specs.declared.margin.Sweep.{Sweep}
 use Rattle.clock_margins.specs.MarginText.{sweep_margin, all_line, margin_lines}
 use Rattle.clock_margins.specs.Sweeps.{reach}
 use Rattle.fault_runs.specs.declared.put.CampaignFault.{CampaignFault}

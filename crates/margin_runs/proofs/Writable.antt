@@ -1,10 +1,9 @@
 -- What is told of a value can be written, and so can its range.
-use Rattle.std.proofs.Common.{◌≡◌, ℕ, suc, ◌<◌, ◌≤◌, ℤ, Bool, true, false, ◌&&◌, not, cond, List, [], ◌∷◌, ◌++◌, map, length}
-use Rattle.std.proofs.Common.{Option, Some, None, refl, ap, sym, subst, ◌∙◌, arith}
+use Rattle.std.proofs.Common.{◌≡◌, ℕ, suc, ◌≤◌, ℤ, Bool, true, false, ◌&&◌, not, cond, List, [], ◌∷◌, ◌++◌, map, length}
+use Rattle.std.proofs.Common.{Option, Some, None, sym, subst, arith}
 use Rattle.std.specs.Prelude.{◌==◌, filter, is_some}
 use Rattle.std.specs.List.{filter_map, cons_option}
 use Rattle.std.specs.Str.{bytes_eq}
-use Rattle.ttp_base.specs.NodeSet.{most_nodes, below, without_node}
 use Rattle.ttp_base.proofs.NodeLists.{without_node-filter}
 use Rattle.std.proofs.lemmas.List.FromFn.{length-range_with_len}
 use Rattle.ttp_world.specs.declared.medl.Medl.{Medl}
@@ -13,7 +12,7 @@ use Rattle.ttp_world.specs.Diary.{History}
 use Rattle.ttp_world.specs.Hypothesis.{nodes_of}
 use Rattle.ttp_world.specs.Medl.{IsValid}
 use Rattle.ttp_world.proofs.Lists.{nodes-most}
-use Rattle.campaign.specs.Cost.{newest_leave, leaves, is_hurt, hurt_nodes, firm_members, each_once, memberships}
+use Rattle.campaign.specs.Cost.{newest_leave, is_hurt, firm_members, each_once}
 use Rattle.campaign.specs.ZerosWorld.{zeros_world}
 use Rattle.clock_margins.specs.declared.margin.Sweep.{Sweep}
 use Rattle.clock_margins.specs.Outcomes.{ValueTold, outcome_beside, told_of_value}

@@ -1,5 +1,5 @@
 -- The runs of values, as they are told before they are taken.
-use Rattle.std.specs.Prelude.{◌≡◌, ℕ, ◌+◌, ◌<◌, ◌≤◌, ℤ, pos, neg_ℤ, ◌+ℤ◌, ◌≤ℤ◌, length, List, map, Option, Some, None, IfSome}
+use Rattle.std.specs.Prelude.{◌≡◌, ℕ, ◌<◌, ℤ, length, List, map, Option, Some, None, IfSome}
 use Rattle.ttp_base.specs.Text.{Lines}
 use Rattle.ttp_world.specs.declared.medl.Medl.{Medl}
 use Rattle.ttp_world.specs.declared.script.Script.{Script}
@@ -26,28 +26,27 @@ pub record IsBesideAfter (beside : BesideRun) (list : Medl) (script : Script) (s
   pub split : beside.split ≡ was_split_beside list script beside.node (zeros_world list script slots)
 
 -- a run that has done no slot, by whatever script
-abbrev pub IsUnbegun : Run → Medl → Type 0
-IsUnbegun run list = (script : Script) → IsRunAfter run list script 0
+pub record IsUnbegun (run : Run) (list : Medl) : Type 0 where
+  pub before : (script : Script) → IsRunAfter run list script 0
 
--- all that the runs of a sweep read: the script's own run has come to the slot of the jumps
+-- a valid script with room for one event more, and a node and a slot that it has
 pub record MayTry (common : Common) : Type 0 where
   pub valid : IsValid common.list.now
   pub script : IsValidScript common.list.now common.script.now
   pub room : length common.script.now.events < EVENT_LIMIT
-  pub start : IsUnbegun common.start.now common.list.now
-  pub past : IsBesideAfter common.past.now common.list.now common.script.now common.past.now.run.slots
-  pub node : common.past.now.node ≡ common.sweep.node
-  pub slot : IfSome common.sweep.slot (λ slot. (slot < common.script.now.slots) × (common.past.now.run.slots ≡ slot))
+  pub node : common.sweep.node < length common.list.now.slots
+  pub slot : IfSome common.sweep.slot (λ slot. slot < common.script.now.slots)
+
+-- the script's own run, beside the node that is swept; it has come to the slot of the jumps
+pub record IsPastOf (common : Common) (past : BesideRun) : Type 0 where
+  pub run : IsBesideAfter past common.list.now common.script.now past.run.slots
+  pub node : past.node ≡ common.sweep.node
+  pub slot : IfSome common.sweep.slot (λ slot. past.run.slots ≡ slot)
 
 -- the most that a line of a script says of a drift or of a jump
-abbrev pub limit_of : Option ℕ → ℕ
-limit_of None = DRIFT_LIMIT
-limit_of (Some slot) = JUMP_LIMIT
-
--- so many values from one on are within it
-pub record AreWithin (slot : Option ℕ) (first : ℤ) (count : ℕ) : Type 0 where
-  pub least : neg_ℤ (pos (limit_of slot)) ≤ℤ first
-  pub greatest : (first +ℤ pos count) ≤ℤ (pos (limit_of slot) +ℤ pos 1)
+abbrev pub clock_limit : Option ℕ → ℕ
+clock_limit None = DRIFT_LIMIT
+clock_limit (Some slot) = JUMP_LIMIT
 
 -- what is told of so many values from one on
 abbrev pub tolds_from : Medl → Script → Sweep → ℤ → ℕ → List ValueTold

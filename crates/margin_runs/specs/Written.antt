@@ -1,7 +1,6 @@
 -- What was written of margins so far.
-use Rattle.std.specs.Prelude.{◌≡◌, ℕ, ◌+◌, ◌*◌, ◌<◌, nat_le, ◌&&◌, pos, neg_ℤ, List, [], ◌∷◌, ◌++◌, map, flat_map, length, filter}
-use Rattle.std.specs.Prelude.{Option, Some, None, if◌then◌else◌}
-use Rattle.ttp_base.specs.NodeSet.{below}
+use Rattle.std.specs.Prelude.{◌≡◌, ℕ, ◌<◌, nat_le, ◌&&◌, pos, neg_ℤ, List, [], ◌∷◌, map, flat_map, length, filter}
+use Rattle.std.specs.Prelude.{Option, Some, if◌then◌else◌}
 use Rattle.ttp_base.specs.Outside.{Output, WroteLines}
 use Rattle.ttp_base.specs.Text.{Lines}
 use Rattle.ttp_world.specs.declared.medl.Medl.{Medl}
@@ -25,9 +24,8 @@ use Rattle.clock_margins.specs.Sweeps.{drift_sweep, jump_sweep, jumpers, sweeps}
 use Rattle.margin_laws.specs.Behind.{closed_ranges}
 use Rattle.margin_text.specs.declared.swept.Swept.{Swept}
 use Rattle.margin_text.specs.Taken.{IsWritable, IsSweptOf, HasFew}
-use Rattle.run_costs.specs.declared.run.Run.{Run}
 use Rattle.margin_runs.specs.declared.tried.Common.{Common}
-use Rattle.margin_runs.specs.Tries.{IsUnbegun, tolds_from, range_lines}
+use Rattle.margin_runs.specs.Tries.{tolds_from, range_lines}
 
 -- A sweep.
 
@@ -75,12 +73,11 @@ pub record AreSwept (start now : Output) (list : Medl) (script : Script) (reach 
     pub wrote : WroteLines start now (lines_swept list script reach swept)
     pub total : all ≡ total_of (map (sweep_margin list script reach) swept)
 
--- a script with room for one event more, and a run that has done no slot
-pub record MayPut (list : Medl) (given : Script) (unbegun : Run) : Type 0 where
+-- a script with room for one event more
+pub record MayPut (list : Medl) (given : Script) : Type 0 where
   pub valid : IsValid list
   pub script : IsValidScript list given
   pub room : length given.events < EVENT_LIMIT
-  pub start : IsUnbegun unbegun list
 
 -- Which sweeps there are.
 

@@ -1,5 +1,5 @@
 //! Margins, written.
-ghost use Rattle.std.specs.Prelude.{◌≡◌, ◌+◌, ◌*◌, ◌^◌, ◌<◌, ◌≤◌, nat_le, ◌&&◌, [], ◌∷◌, ◌++◌, ℕ, List, length, IfOk, IfErr, OnOk};
+ghost use Rattle.std.specs.Prelude.{◌≡◌, ◌+◌, ◌*◌, ◌^◌, ◌<◌, ◌≤◌, nat_le, ◌&&◌, [], ◌∷◌, ◌++◌, ℕ, pos, neg_ℤ, ◌+ℤ◌, List, length, IfOk, IfErr, OnOk};
 ghost use Rattle.std.specs.List.{cons_option};
 ghost use Rattle.ttp_base.specs.NodeSet.{most_nodes};
 ghost use Rattle.ttp_base.specs.Outside.{Output, WroteLines};
@@ -13,13 +13,13 @@ ghost use Rattle.clock_margins.specs.declared.margin.Sweep.{Sweep};
 ghost use Rattle.clock_margins.specs.MarginText.{tolds_of, sweep_lines, sweep_margin, margin_lines};
 ghost use Rattle.clock_margins.specs.Outcomes.{ValueTold};
 ghost use Rattle.clock_margins.specs.Ranges.{ranges_of};
-ghost use Rattle.clock_margins.specs.Sweeps.{reach, value_limit};
+ghost use Rattle.clock_margins.specs.Sweeps.{reach, value_limit, values_from};
 ghost use Rattle.fault_runs.specs.Ends.{LeftBy, LeftFewerBy};
 ghost use Rattle.margin_laws.specs.Behind.{open_range};
 ghost use Rattle.margin_text.specs.Taken.{value_told, IsSweptOf, HasFew, AreFew, IsFewOf};
 ghost use Rattle.run_costs.specs.States.{AreShown, state_at};
 ghost use Rattle.run_costs.specs.Standing.{IsRunAfter};
-ghost use Rattle.margin_runs.specs.Tries.{IsBesideAfter, MayTry, limit_of, are_told, range_lines};
+ghost use Rattle.margin_runs.specs.Tries.{IsBesideAfter, MayTry, IsPastOf, clock_limit, are_told, range_lines};
 ghost use Rattle.margin_runs.specs.Written.{AreWritable, IsPutOf, closed_lines, tolds_so_far, most_values, most_in_sweep, most_in_slot};
 ghost use Rattle.margin_runs.specs.Written.{AreSwept, MayPut, lines_swept, drifts_of, all_drifts, jumps_of, jumps_in, jumps_asked};
 ghost use Rattle.margin_runs.specs.Written.{all_jumps, all_sweeps, front_lines};
@@ -162,11 +162,32 @@ fn put_tolds<K: Sink>(
     Ok(())
 }
 
+// The value at a place, counted from the least one on.
+fn value_at(reach: u32, place: u32) -> i64
+    ensures { result ≡ neg_ℤ (pos reach) +ℤ pos place }
+{
+    i64::from(place) - i64::from(reach)
+}
+
+// So many values of a sweep, behind those that are done.
+fn some_values(alloc: Global, reach: u32, done: u32, some: u32) -> Result<Vec<i64>, Memory>
+    requires reach { reach ≤ 1000000 }
+    requires count { done + some ≤ 2 * reach + 1 }
+    ensures { IfOk result (λ values. values.items ≡ values_from (neg_ℤ (pos reach) +ℤ pos done) some) }
+{
+    let mut values = Vec::new(alloc);
+    for place in 0..some {
+        values.push(value_at(reach, done + place))?;
+    }
+    Ok(values)
+}
+
 // Runs so many values more, and takes them.
 fn put_values<R: Threads + Sync, K: Sink>(
     rt: &R,
     alloc: Global,
     common: &Common,
+    past: &BesideRun,
     reach: u32,
     done: u32,
     some: u32,
@@ -176,7 +197,8 @@ fn put_values<R: Threads + Sync, K: Sink>(
     out: &mut K,
 ) -> Result<(), CampaignFault>
     requires may { MayTry common.now }
-    requires reach { reach ≤ limit_of common.now.sweep.slot }
+    requires past { IsPastOf common.now past.now }
+    requires reach { reach ≤ clock_limit common.now.sweep.slot }
     requires count { done + some ≤ 2 * reach + 1 }
     requires put { (start : Output) × IsPutOf start (K.output out.old) common.now.list.now common.now.sweep
         (tolds_so_far common.now reach done) swept.old }
@@ -189,8 +211,10 @@ fn put_values<R: Threads + Sync, K: Sink>(
         → IfErr result (λ why. LeftBy why start (K.output out.new) (closed_lines common.now.list.now common.now.sweep
         (tolds_so_far common.now reach (done + some)))) }
 {
-    let first = i64::from(done) - i64::from(reach);
-    let Ok(all) = try_beside(rt, alloc, common, first, some, threads) else {
+    let Ok(values) = some_values(alloc, reach, done, some) else {
+        return Err(CampaignFault::Memory);
+    };
+    let Ok(all) = try_beside(rt, alloc, common, past, values.as_slice(), threads) else {
         return Err(CampaignFault::Memory);
     };
     put_tolds(common.list, common.sweep, all, line, swept, out)
@@ -201,6 +225,7 @@ fn put_ranges<R: Threads + Sync, K: Sink>(
     rt: &R,
     alloc: Global,
     common: &Common,
+    past: &BesideRun,
     reach: u32,
     threads: usize,
     line: &mut Text<ROOM>,
@@ -208,7 +233,8 @@ fn put_ranges<R: Threads + Sync, K: Sink>(
     out: &mut K,
 ) -> Result<(), CampaignFault>
     requires may { MayTry common.now }
-    requires reach { reach ≤ limit_of common.now.sweep.slot }
+    requires past { IsPastOf common.now past.now }
+    requires reach { reach ≤ clock_limit common.now.sweep.slot }
     requires put { (start : Output) × IsPutOf start (K.output out.old) common.now.list.now common.now.sweep [] swept.old }
     ensures ok { (start : Output) → IsPutOf start (K.output out.old) common.now.list.now common.now.sweep [] swept.old
         → OnOk result (IsPutOf start (K.output out.new) common.now.list.now common.now.sweep
@@ -222,7 +248,7 @@ fn put_ranges<R: Threads + Sync, K: Sink>(
     while done < count {
         let some = AT_ONCE.min(count - done);
         if let Err(why) = put_values(
-            rt, alloc, common, reach, done, some, threads, line, swept, out,
+            rt, alloc, common, past, reach, done, some, threads, line, swept, out,
         ) {
             return Err(why);
         }
@@ -263,13 +289,15 @@ fn put_sweep<R: Threads + Sync, K: Sink>(
     rt: &R,
     alloc: Global,
     common: &Common,
+    past: &BesideRun,
     reach: u32,
     threads: usize,
     line: &mut Text<ROOM>,
     out: &mut K,
 ) -> Result<Margin, CampaignFault>
     requires may { MayTry common.now }
-    requires reach { reach ≤ limit_of common.now.sweep.slot }
+    requires past { IsPastOf common.now past.now }
+    requires reach { reach ≤ clock_limit common.now.sweep.slot }
     ensures margin { IfOk result (λ margin. margin
         ≡ sweep_margin common.now.list.now common.now.script.now reach common.now.sweep) }
     ensures few { IfOk result (λ margin. AreFew most_values margin.counts) }
@@ -280,7 +308,9 @@ fn put_sweep<R: Threads + Sync, K: Sink>(
 {
     let (list, sweep) = (common.list, common.sweep);
     let mut swept = Swept::new(sweep.node);
-    if let Err(why) = put_ranges(rt, alloc, common, reach, threads, line, &mut swept, out) {
+    if let Err(why) = put_ranges(
+        rt, alloc, common, past, reach, threads, line, &mut swept, out,
+    ) {
         return Err(why);
     }
     if let Err(why) = put_last(list, sweep, line, &swept, out) {
@@ -299,6 +329,7 @@ fn put_counted<R: Threads + Sync, K: Sink>(
     rt: &R,
     alloc: Global,
     common: &Common,
+    past: &BesideRun,
     reach: u32,
     threads: usize,
     line: &mut Text<ROOM>,
@@ -306,7 +337,8 @@ fn put_counted<R: Threads + Sync, K: Sink>(
     out: &mut K,
 ) -> Result<(), CampaignFault>
     requires may { MayTry common.now }
-    requires reach { reach ≤ limit_of common.now.sweep.slot }
+    requires past { IsPastOf common.now past.now }
+    requires reach { reach ≤ clock_limit common.now.sweep.slot }
     requires few { IsFewOf (2 ^ 61) total.old }
     ensures few { (most : ℕ) → IsFewOf most total.old → OnOk result (IsFewOf (most + most_in_sweep) total.new) }
     ensures ok { (start : Output) (swept : List Sweep)
@@ -318,7 +350,7 @@ fn put_counted<R: Threads + Sync, K: Sink>(
         → IfErr result (λ why. LeftBy why start (K.output out.new)
         (lines_swept common.now.list.now common.now.script.now reach (swept ++ common.now.sweep ∷ []))) }
 {
-    match put_sweep(rt, alloc, common, reach, threads, line, out) {
+    match put_sweep(rt, alloc, common, past, reach, threads, line, out) {
         Ok(margin) => {
             *total = with_margin(total, &margin);
             Ok(())
@@ -341,7 +373,6 @@ fn put_drift<R: Threads + Sync, K: Sink>(
     alloc: Global,
     list: &Medl,
     script: &Script,
-    start: &Run,
     node: u8,
     reach: u32,
     threads: usize,
@@ -349,7 +380,7 @@ fn put_drift<R: Threads + Sync, K: Sink>(
     total: &mut Total,
     out: &mut K,
 ) -> Result<(), CampaignFault>
-    requires may { MayPut list.now script.now start.now }
+    requires may { MayPut list.now script.now }
     requires node { node < length list.now.slots }
     requires reach { reach ≤ DRIFT_LIMIT }
     requires few { IsFewOf (2 ^ 61) total.old }
@@ -373,10 +404,8 @@ fn put_drift<R: Threads + Sync, K: Sink>(
         list,
         script,
         sweep: Sweep { node, slot: None },
-        start,
-        past: &past,
     };
-    put_counted(rt, alloc, &common, reach, threads, line, total, out)
+    put_counted(rt, alloc, &common, &past, reach, threads, line, total, out)
 }
 
 // The drifts of all nodes.
@@ -385,14 +414,13 @@ fn put_drifts<R: Threads + Sync, K: Sink>(
     alloc: Global,
     list: &Medl,
     script: &Script,
-    start: &Run,
     reach: u32,
     threads: usize,
     line: &mut Text<ROOM>,
     total: &mut Total,
     out: &mut K,
 ) -> Result<(), CampaignFault>
-    requires may { MayPut list.now script.now start.now }
+    requires may { MayPut list.now script.now }
     requires reach { reach ≤ DRIFT_LIMIT }
     requires few { IsFewOf 0 total.old }
     ensures ok { (begin : Output) → AreSwept begin (K.output out.old) list.now script.now reach [] total.old
@@ -404,7 +432,7 @@ fn put_drifts<R: Threads + Sync, K: Sink>(
 {
     for node in 0..list.nodes() {
         if let Err(why) = put_drift(
-            rt, alloc, list, script, start, node, reach, threads, line, total, out,
+            rt, alloc, list, script, node, reach, threads, line, total, out,
         ) {
             return Err(why);
         }
@@ -440,7 +468,6 @@ fn put_jump<R: Threads + Sync, K: Sink>(
     alloc: Global,
     list: &Medl,
     script: &Script,
-    start: &Run,
     slot: u32,
     node: u8,
     entry: &Entry,
@@ -450,7 +477,7 @@ fn put_jump<R: Threads + Sync, K: Sink>(
     total: &mut Total,
     out: &mut K,
 ) -> Result<(), CampaignFault>
-    requires may { MayPut list.now script.now start.now }
+    requires may { MayPut list.now script.now }
     requires node { node < length list.now.slots }
     requires slot { slot < script.now.slots }
     requires reach { reach ≤ JUMP_LIMIT }
@@ -478,10 +505,8 @@ fn put_jump<R: Threads + Sync, K: Sink>(
             node,
             slot: Some(slot),
         },
-        start,
-        past: &past,
     };
-    put_counted(rt, alloc, &common, reach, threads, line, total, out)
+    put_counted(rt, alloc, &common, &past, reach, threads, line, total, out)
 }
 
 // What a node did, by what is shown of it.
@@ -498,7 +523,6 @@ fn put_slot<R: Threads + Sync, K: Sink>(
     alloc: Global,
     list: &Medl,
     script: &Script,
-    start: &Run,
     slot: u32,
     states: &[NodeState],
     reach: u32,
@@ -507,7 +531,7 @@ fn put_slot<R: Threads + Sync, K: Sink>(
     total: &mut Total,
     out: &mut K,
 ) -> Result<(), CampaignFault>
-    requires may { MayPut list.now script.now start.now }
+    requires may { MayPut list.now script.now }
     requires slot { slot < script.now.slots }
     requires shown { AreShown list.now script.now (zeros_world list.now script.now (slot + 1)) states.now }
     requires reach { reach ≤ JUMP_LIMIT }
@@ -528,7 +552,6 @@ fn put_slot<R: Threads + Sync, K: Sink>(
             alloc,
             list,
             script,
-            start,
             slot,
             node,
             entry_in(states, node),
@@ -557,7 +580,6 @@ fn put_asked<R: Threads + Sync, K: Sink>(
     alloc: Global,
     list: &Medl,
     script: &Script,
-    start: &Run,
     asked: Span,
     own: &mut Run,
     slot: u32,
@@ -567,7 +589,7 @@ fn put_asked<R: Threads + Sync, K: Sink>(
     total: &mut Total,
     out: &mut K,
 ) -> Result<(), CampaignFault>
-    requires may { MayPut list.now script.now start.now }
+    requires may { MayPut list.now script.now }
     requires slot { slot < script.now.slots }
     requires own { IsRunAfter own.old list.now script.now slot }
     requires reach { reach ≤ JUMP_LIMIT }
@@ -589,7 +611,7 @@ fn put_asked<R: Threads + Sync, K: Sink>(
     }
     let states = own.states(list);
     put_slot(
-        rt, alloc, list, script, start, slot, states, reach, threads, line, total, out,
+        rt, alloc, list, script, slot, states, reach, threads, line, total, out,
     )
 }
 
@@ -599,7 +621,6 @@ fn put_slots<R: Threads + Sync, K: Sink>(
     alloc: Global,
     list: &Medl,
     script: &Script,
-    start: &Run,
     asked: Span,
     own: &mut Run,
     reach: u32,
@@ -608,7 +629,7 @@ fn put_slots<R: Threads + Sync, K: Sink>(
     total: &mut Total,
     out: &mut K,
 ) -> Result<(), CampaignFault>
-    requires may { MayPut list.now script.now start.now }
+    requires may { MayPut list.now script.now }
     requires own { IsRunAfter own.old list.now script.now 0 }
     requires reach { reach ≤ JUMP_LIMIT }
     requires few { IsFewOf 0 total.old }
@@ -621,7 +642,7 @@ fn put_slots<R: Threads + Sync, K: Sink>(
 {
     for slot in 0..script.slots {
         if let Err(why) = put_asked(
-            rt, alloc, list, script, start, asked, own, slot, reach, threads, line, total, out,
+            rt, alloc, list, script, asked, own, slot, reach, threads, line, total, out,
         ) {
             return Err(why);
         }
@@ -635,7 +656,6 @@ fn put_sweeps<R: Threads + Sync, K: Sink>(
     alloc: Global,
     list: &Medl,
     script: &Script,
-    start: &Run,
     asked: Option<Span>,
     reach: u32,
     threads: usize,
@@ -643,7 +663,7 @@ fn put_sweeps<R: Threads + Sync, K: Sink>(
     total: &mut Total,
     out: &mut K,
 ) -> Result<(), CampaignFault>
-    requires may { MayPut list.now script.now start.now }
+    requires may { MayPut list.now script.now }
     requires reach { reach ≤ value_limit asked }
     requires few { IsFewOf 0 total.old }
     ensures ok { (begin : Output) → AreSwept begin (K.output out.old) list.now script.now reach [] total.old
@@ -654,15 +674,13 @@ fn put_sweeps<R: Threads + Sync, K: Sink>(
         (lines_swept list.now script.now reach (all_sweeps list.now script.now asked))) }
 {
     match asked {
-        None => put_drifts(
-            rt, alloc, list, script, start, reach, threads, line, total, out,
-        ),
+        None => put_drifts(rt, alloc, list, script, reach, threads, line, total, out),
         Some(asked) => {
             let Ok(mut own) = Run::new(alloc, list) else {
                 return Err(CampaignFault::Memory);
             };
             put_slots(
-                rt, alloc, list, script, start, asked, &mut own, reach, threads, line, total, out,
+                rt, alloc, list, script, asked, &mut own, reach, threads, line, total, out,
             )
         }
     }
@@ -722,16 +740,13 @@ pub fn put_margins<R: Threads + Sync, K: Sink>(
         (margin_lines list.now script.now asked)) }
 {
     let reach = reach_of(list, asked);
-    let Ok(start) = Run::new(alloc, list) else {
-        return Err(CampaignFault::Memory);
-    };
     let mut line = Text::new();
     let mut total = no_sweeps();
     if let Err(why) = put_front(alloc, list, script, asked, reach, &mut line, out) {
         return Err(why);
     }
     if let Err(why) = put_sweeps(
-        rt, alloc, list, script, &start, asked, reach, threads, &mut line, &mut total, out,
+        rt, alloc, list, script, asked, reach, threads, &mut line, &mut total, out,
     ) {
         return Err(why);
     }

@@ -61,19 +61,19 @@ pub(crate) fn copy_of_script(alloc: Global, script: &Script) -> Result<Script, M
 }
 
 // The same drifts, but for one node.
-fn drift_set(drift: List<i64>, node: u8, value: i64) -> List<i64>
+fn drift_set(drift: List<i64>, node: u8, value: &i64) -> List<i64>
     requires { node < length drift }
-    ensures { result ≡ set drift node value }
+    ensures { result ≡ set drift node value.now }
 {
     let mut drift = drift.into_vec();
-    drift[usize::from(node)] = value;
+    drift[usize::from(node)] = *value;
     List::from_vec(drift)
 }
 
 /// The script with another drift of one node. It takes no memory.
-pub(crate) fn with_drift(script: Script, node: u8, value: i64) -> Script
+pub(crate) fn with_drift(script: Script, node: u8, value: &i64) -> Script
     requires { node < length script.drift }
-    ensures { result ≡ with_drift script node value }
+    ensures { result ≡ with_drift script node value.now }
 {
     let Script {
         slots,

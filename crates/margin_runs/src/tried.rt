@@ -1,5 +1,5 @@
 //! The runs of values, side by side.
-ghost use Rattle.std.specs.Prelude.{◌≡◌, ◌+◌, ◌<◌, ◌≤◌, [], ℕ, ℤ, pos, ◌+ℤ◌, length, Some, None, IfOk, OnOk};
+ghost use Rattle.std.specs.Prelude.{◌≡◌, ◌≤◌, [], ℤ, map, All, Some, None, IfOk, OnOk};
 ghost use Rattle.std.specs.Thread.{IsSync};
 ghost use Rattle.ttp_world.specs.declared.script.TheConstants.{DRIFT_LIMIT, JUMP_LIMIT};
 ghost use Rattle.ttp_world.specs.Events.{IsWithinSpan};
@@ -9,7 +9,7 @@ ghost use Rattle.clock_margins.specs.Outcomes.{told_by_script, told_of_value};
 ghost use Rattle.clock_margins.specs.Sweeps.{with_drift};
 ghost use Rattle.margin_text.specs.Taken.{value_told};
 ghost use Rattle.run_costs.specs.Standing.{IsRunOfList};
-ghost use Rattle.margin_runs.specs.Tries.{IsBesideAfter, MayTry, AreWithin, tolds_from, are_told};
+ghost use Rattle.margin_runs.specs.Tries.{IsBesideAfter, IsUnbegun, MayTry, IsPastOf, clock_limit, are_told};
 
 use crate::beside::BesideRun;
 use crate::scripts::{copy_of_script, drift_is_valid, test_of, with_drift};
@@ -29,10 +29,6 @@ pub(crate) struct Common<'a> {
     pub(crate) list: &'a Medl,
     pub(crate) script: &'a Script,
     pub(crate) sweep: Sweep,
-    /// A run that has done no slot.
-    pub(crate) start: &'a Run,
-    /// The script's own run before the slot of the jumps.
-    pub(crate) past: &'a BesideRun,
 }
 
 // Runs the slots from one on, and tells of the run of a value, whose script this is.
@@ -40,7 +36,7 @@ fn try_script(
     alloc: Global,
     list: &Medl,
     more: &Script,
-    value: i64,
+    value: &i64,
     first: u32,
     run: &mut BesideRun,
 ) -> Result<Told, Memory>
@@ -48,7 +44,7 @@ fn try_script(
     requires script { IsValidScript list.now more.now }
     requires first { first ≤ more.now.slots }
     requires run { IsBesideAfter run.old list.now more.now first }
-    ensures told { IfOk result (λ told. value_told told ≡ told_by_script list.now more.now run.old.node value) }
+    ensures told { IfOk result (λ told. value_told told ≡ told_by_script list.now more.now run.old.node value.now) }
     ensures run { OnOk result (IsRunOfList run.new.run.run list.now) }
     ensures node { OnOk result (run.new.node ≡ run.old.node) }
 {
@@ -57,7 +53,7 @@ fn try_script(
     }
     let outcome = run.outcome(alloc, list)?;
     Ok(Told {
-        value,
+        value: *value,
         test: test_of(list, more),
         outcome,
     })
@@ -67,79 +63,87 @@ fn try_script(
 fn try_drift(
     alloc: Global,
     common: &Common,
-    value: i64,
+    start: &Run,
+    value: &i64,
     more: Script,
     run: &mut BesideRun,
 ) -> Result<(Told, Script), Memory>
     requires may { MayTry common.now }
-    requires value { IsWithinSpan DRIFT_LIMIT value }
+    requires start { IsUnbegun start.now common.now.list.now }
+    requires value { IsWithinSpan DRIFT_LIMIT value.now }
     requires more { (v : ℤ) × (more ≡ with_drift common.now.script.now common.now.sweep.node v) }
     requires own { IsRunOfList run.old.run.run common.now.list.now }
     requires node { run.old.node ≡ common.now.sweep.node }
     ensures told { IfOk result (λ told. value_told told.0
-        ≡ told_by_script common.now.list.now (with_drift common.now.script.now common.now.sweep.node value)
-        common.now.sweep.node value) }
-    ensures more { IfOk result (λ told. told.1 ≡ with_drift common.now.script.now common.now.sweep.node value) }
+        ≡ told_by_script common.now.list.now (with_drift common.now.script.now common.now.sweep.node value.now)
+        common.now.sweep.node value.now) }
+    ensures more { IfOk result (λ told. told.1 ≡ with_drift common.now.script.now common.now.sweep.node value.now) }
     ensures run { OnOk result (IsRunOfList run.new.run.run common.now.list.now) }
     ensures node { OnOk result (run.new.node ≡ run.old.node) }
 {
     drift_is_valid(common.list, common.script);
     let more = with_drift(more, common.sweep.node, value);
-    run.begin(common.start, common.list, &more);
+    run.begin(start, common.list, &more);
     let told = try_script(alloc, common.list, &more, value, 0, run)?;
     Ok((told, more))
 }
 
-// What is told of a jump, made in `run`.
+// What is told of a jump, made in `run` by the script's own run before its slot.
 fn try_jump(
     alloc: Global,
     common: &Common,
+    past: &BesideRun,
     slot: u32,
-    value: i64,
+    value: &i64,
     run: &mut BesideRun,
 ) -> Result<Told, Memory>
     requires may { MayTry common.now }
+    requires past { IsPastOf common.now past.now }
     requires slot { common.now.sweep.slot ≡ Some slot }
-    requires value { IsWithinSpan JUMP_LIMIT value }
+    requires value { IsWithinSpan JUMP_LIMIT value.now }
     requires own { IsRunOfList run.old.run.run common.now.list.now }
     requires node { run.old.node ≡ common.now.sweep.node }
     ensures told { IfOk result (λ told. value_told told
-        ≡ told_of_value common.now.list.now common.now.script.now common.now.sweep value) }
+        ≡ told_of_value common.now.list.now common.now.script.now common.now.sweep value.now) }
     ensures run { OnOk result (IsRunOfList run.new.run.run common.now.list.now) }
     ensures node { OnOk result (run.new.node ≡ run.old.node) }
 {
     let (list, script) = (common.list, common.script);
     let node = common.sweep.node;
-    let jump = Event::Jump { node, value, slot };
+    let jump = Event::Jump {
+        node,
+        value: *value,
+        slot,
+    };
     more_is_valid(list, script, &jump);
     let more = with_fault(alloc, script, &jump)?;
-    run.go_on_from(common.past, list, &more, &jump);
+    run.go_on_from(past, list, &more, &jump);
     try_script(alloc, list, &more, value, slot, run)
 }
 
-// Adds what is told of so many drifts from one on.
+// Adds what is told of some drifts, one after another.
 fn add_drifts(
     alloc: Global,
     common: &Common,
-    first: i64,
-    count: u32,
+    start: &Run,
+    values: &[i64],
     run: &mut BesideRun,
     all: &mut Vec<Told>,
 ) -> Result<(), Memory>
     requires may { MayTry common.now }
+    requires start { IsUnbegun start.now common.now.list.now }
     requires drift { common.now.sweep.slot ≡ None }
-    requires values { AreWithin common.now.sweep.slot first count }
+    requires values { All (IsWithinSpan (clock_limit common.now.sweep.slot)) values.now }
     requires own { IsRunOfList run.old.run.run common.now.list.now }
     requires node { run.old.node ≡ common.now.sweep.node }
     requires none { all.old.items ≡ [] }
     ensures { OnOk result (are_told all.new.items
-        ≡ tolds_from common.now.list.now common.now.script.now common.now.sweep first count) }
+        ≡ map (told_of_value common.now.list.now common.now.script.now common.now.sweep) values.now) }
 {
     let copy = copy_of_script(alloc, common.script)?;
-    let mut more = with_drift(copy, common.sweep.node, first);
-    for place in 0..count {
-        let value = first + i64::from(place);
-        let both = try_drift(alloc, common, value, more, run)?;
+    let mut more = with_drift(copy, common.sweep.node, &0);
+    for value in values {
+        let both = try_drift(alloc, common, start, value, more, run)?;
         let (told, next) = both;
         more = next;
         all.push(told)?;
@@ -151,82 +155,91 @@ fn add_drifts(
 fn add_jumps(
     alloc: Global,
     common: &Common,
+    past: &BesideRun,
     slot: u32,
-    first: i64,
-    count: u32,
+    values: &[i64],
     run: &mut BesideRun,
     all: &mut Vec<Told>,
 ) -> Result<(), Memory>
     requires may { MayTry common.now }
+    requires past { IsPastOf common.now past.now }
     requires slot { common.now.sweep.slot ≡ Some slot }
-    requires values { AreWithin common.now.sweep.slot first count }
+    requires values { All (IsWithinSpan (clock_limit common.now.sweep.slot)) values.now }
     requires own { IsRunOfList run.old.run.run common.now.list.now }
     requires node { run.old.node ≡ common.now.sweep.node }
     requires none { all.old.items ≡ [] }
     ensures { OnOk result (are_told all.new.items
-        ≡ tolds_from common.now.list.now common.now.script.now common.now.sweep first count) }
+        ≡ map (told_of_value common.now.list.now common.now.script.now common.now.sweep) values.now) }
 {
-    for place in 0..count {
-        let value = first + i64::from(place);
-        all.push(try_jump(alloc, common, slot, value, run)?)?;
+    for value in values {
+        all.push(try_jump(alloc, common, past, slot, value, run)?)?;
     }
     Ok(())
 }
 
-// What is told of so many values from one on, one after another.
-fn try_each(alloc: Global, common: &Common, first: i64, count: u32) -> Result<Vec<Told>, Memory>
+// What is told of some values, one after another.
+fn try_each(
+    alloc: Global,
+    common: &Common,
+    past: &BesideRun,
+    values: &[i64],
+) -> Result<Vec<Told>, Memory>
     requires may { MayTry common.now }
-    requires values { AreWithin common.now.sweep.slot first count }
+    requires past { IsPastOf common.now past.now }
+    requires values { All (IsWithinSpan (clock_limit common.now.sweep.slot)) values.now }
     ensures { IfOk result (λ all. are_told all.items
-        ≡ tolds_from common.now.list.now common.now.script.now common.now.sweep first count) }
+        ≡ map (told_of_value common.now.list.now common.now.script.now common.now.sweep) values.now) }
 {
     let mut all = Vec::new(alloc);
     let mut run = BesideRun::new(alloc, common.list, common.script, common.sweep.node)?;
     match common.sweep.slot {
-        Some(slot) => add_jumps(alloc, common, slot, first, count, &mut run, &mut all)?,
-        None => add_drifts(alloc, common, first, count, &mut run, &mut all)?,
+        Some(slot) => add_jumps(alloc, common, past, slot, values, &mut run, &mut all)?,
+        None => {
+            let start = Run::new(alloc, common.list)?;
+            add_drifts(alloc, common, &start, values, &mut run, &mut all)?
+        }
     }
     Ok(all)
 }
 
-/// What is told of so many values from one on, in their order. They are halved until there is a part for each of so many
-/// threads, and each part is run in a thread of its own, or in this one where the system gives none.
+/// What is told of some values, in their order; of jumps by the script's own run before their slot. They are halved until there
+/// is a part for each of so many threads, and each part is run in a thread of its own, or in this one where the system gives none.
 #[cycle(halves)]
 #[tactic(auto, using(crate::proofs::ToldParts::halves_told))]
 pub(crate) fn try_beside<R: Threads + Sync>(
     rt: &R,
     alloc: Global,
     common: &Common,
-    first: i64,
-    count: u32,
+    past: &BesideRun,
+    values: &[i64],
     threads: usize,
 ) -> Result<Vec<Told>, Memory>
     requires may { MayTry common.now }
-    requires values { AreWithin common.now.sweep.slot first count }
+    requires past { IsPastOf common.now past.now }
+    requires values { All (IsWithinSpan (clock_limit common.now.sweep.slot)) values.now }
     ensures { IfOk result (λ all. are_told all.items
-        ≡ tolds_from common.now.list.now common.now.script.now common.now.sweep first count) }
+        ≡ map (told_of_value common.now.list.now common.now.script.now common.now.sweep) values.now) }
 {
-    if threads < 2 || count < 2 {
-        return try_each(alloc, common, first, count);
+    if threads < 2 || values.len() < 2 {
+        return try_each(alloc, common, past, values);
     }
-    let front = count / 2;
-    let back = count - front;
-    let least = first;
-    let middle = first + i64::from(front);
+    let (front, back) = values.split_at(values.len() / 2);
     let half = threads - threads / 2;
     let try_front = || -> Result<Vec<Told>, Memory>
-        requires { IsSync R.row × MayTry common.now × AreWithin common.now.sweep.slot least front }
-        ensures { IfOk result (λ all. are_told all.items ≡ tolds_from common.entry.now.list.now
-            common.entry.now.script.now common.entry.now.sweep least front) }
-    { try_beside(rt, alloc, common, least, front, half) };
+        requires { IsSync R.row × MayTry common.now × IsPastOf common.now past.now
+            × All (IsWithinSpan (clock_limit common.now.sweep.slot)) front.now }
+        ensures { IfOk result (λ all. are_told all.items ≡ map (told_of_value common.entry.now.list.now
+            common.entry.now.script.now common.entry.now.sweep) front.entry.now) }
+    { try_beside(rt, alloc, common, past, front, half) };
     let try_back = || -> Result<Vec<Told>, Memory>
-        requires { IsSync R.row × MayTry common.now × AreWithin common.now.sweep.slot middle back }
-        ensures { IfOk result (λ all. are_told all.items ≡ tolds_from common.entry.now.list.now
-            common.entry.now.script.now common.entry.now.sweep middle back) }
-    { try_beside(rt, alloc, common, middle, back, half) };
-    let (one, other) = join(rt, try_front, try_back);
-    let mut all = one?;
-    let mut rest = other?;
+        requires { IsSync R.row × MayTry common.now × IsPastOf common.now past.now
+            × All (IsWithinSpan (clock_limit common.now.sweep.slot)) back.now }
+        ensures { IfOk result (λ all. are_told all.items ≡ map (told_of_value common.entry.now.list.now
+            common.entry.now.script.now common.entry.now.sweep) back.entry.now) }
+    { try_beside(rt, alloc, common, past, back, half) };
+    let (first, second) = join(rt, try_front, try_back);
+    let mut all = first?;
+    let mut rest = second?;
     all.append(&mut rest)?;
     Ok(all)
 }

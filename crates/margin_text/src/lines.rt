@@ -1,5 +1,5 @@
 //! The lines of margins.
-ghost use Rattle.std.specs.Prelude.{◌≡◌, ◌+◌, ◌<◌, ◌≤◌, ◌++◌, [], length, get_or};
+ghost use Rattle.std.specs.Prelude.{◌≡◌, ◌+◌, ◌<◌, ◌≤◌, ◌++◌, [], length, get_or, codes};
 ghost use Rattle.ttp_base.specs.NodeSet.{most_nodes};
 ghost use Rattle.line_form.specs.Forms.{spelled, spelled_line};
 ghost use Rattle.ttp_world.specs.declared.script.Script.{Script};
@@ -110,6 +110,19 @@ fn put_outcome(line: &mut Text<ROOM>, list: &Medl, outcome: &Outcome)
     line.put_text("\n");
 }
 
+// The words of a test behind a space.
+#[tactic(auto, using(ttp_base::proofs::Room::room))]
+fn put_test(line: &mut Text<ROOM>, test: &Text<64>)
+    requires room { length line.old ≤ 150 }
+    ensures text { line.new ≡ line.old ++ (codes " " ++ test.now) }
+    ensures short { length line.new ≤ 300 }
+{
+    // A test has 64 bytes at most, which its room tells.
+    let _free = test.room();
+    line.put_text(" ");
+    line.put_bytes(test.bytes());
+}
+
 /// The line of a range.
 pub fn form_range(line: &mut Text<ROOM>, list: &Medl, sweep: Sweep, range: &OpenRange)
     requires valid { IsValid list.now }
@@ -119,8 +132,7 @@ pub fn form_range(line: &mut Text<ROOM>, list: &Medl, sweep: Sweep, range: &Open
 {
     line.clear();
     put_place(line, sweep, range);
-    line.put_text(" ");
-    line.put_bytes(range.test.bytes());
+    put_test(line, &range.test);
     put_outcome(line, list, &range.outcome);
 }
 

@@ -1,4 +1,4 @@
-use Rattle.std.proofs.Common.{◌≡◌, ◌≤◌, ℕ, subst, arith}
+use Rattle.std.proofs.Common.{◌≡◌, subst, arith}
 use Rattle.margin_runs.specs.Tries.{IsBesideAfter}
 use Rattle.margin_runs.proofs.put.past_of.Goals as goal
 

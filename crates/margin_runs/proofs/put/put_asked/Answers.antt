@@ -1,5 +1,5 @@
-use Rattle.std.proofs.Common.{◌≡◌, ℕ, ◌+◌, ◌*◌, ◌≤◌, Bool, true, false, cond, List, [], ◌++◌, ap, sym, subst, ◌∙◌, append-nil, arith}
-use Rattle.std.specs.Prelude.{OnOk, IfErr, nat_le, ◌&&◌}
+use Rattle.std.proofs.Common.{◌+◌, ◌*◌, Bool, cond, List, [], ◌++◌, ap, sym, subst, ◌∙◌, append-nil, arith}
+use Rattle.std.specs.Prelude.{OnOk, IfErr}
 use Rattle.clock_margins.specs.declared.margin.Sweep.{Sweep}
 use Rattle.fault_runs.specs.declared.put.CampaignFault.{CampaignFault}
 use Rattle.fault_runs.specs.Ends.{LeftBy}
@@ -8,12 +8,12 @@ use Rattle.margin_runs.proofs.Sweeping.{total-more}
 use Rattle.margin_runs.proofs.put.put_asked.Goals as goal
 
 -- a slot outside the range has no sweeps
-pub returns-else-is_in_range : goal.returns-else-is_in_range
-returns-else-is_in_range g c =
+pub returns-then-not-is_in_range : goal.returns-then-not-is_in_range
+returns-then-not-is_in_range g c =
     let list = c.args.list.now in
     let script = c.args.script.now in
     let slot = c.args.slot in
-    let off = sym c.is_in_range.ensures ∙ c.if-is_in_range.false in
+    let off = sym c.is_in_range.ensures ∙ c.if-not-is_in_range.true in
     record {
       own = c.step.ensures;
       few =
@@ -22,18 +22,18 @@ returns-else-is_in_range g c =
           subst
           (λ (xs : List Sweep). AreSwept begin (g.K.Sink.output c.args.out.now) list script c.args.reach xs c.args.total.now)
           (sym (ap (λ (b : Bool). swept ++ cond b (jumps_in list script slot) []) off ∙ append-nil swept)) are;
-      err = tt;
+      err = λ begin swept are. tt;
     }
 
 pub put_slot-requires-clause-shown : goal.put_slot-requires-clause-shown
-put_slot-requires-clause-shown g c =
+put_slot-requires-clause-shown g c κs within =
     c.states-states.ensures c.args.script.now (c.args.slot + 1) c.step.ensures (omega arith)
 
 pub returns-clause-ok : goal.returns-clause-ok
 returns-clause-ok g c = λ begin swept are.
     let list = c.args.list.now in
     let script = c.args.script.now in
-    let on = sym c.is_in_range.ensures ∙ c.if-is_in_range.true in
+    let on = sym c.is_in_range.ensures ∙ c.if-not-is_in_range.false in
     subst
     (λ (b : Bool). OnOk c.put_slot.result
     (AreSwept begin (g.K.Sink.output c.put_slot.new.out) list script c.args.reach
@@ -44,7 +44,7 @@ pub returns-clause-err : goal.returns-clause-err
 returns-clause-err g c = λ begin swept are.
     let list = c.args.list.now in
     let script = c.args.script.now in
-    let on = sym c.is_in_range.ensures ∙ c.if-is_in_range.true in
+    let on = sym c.is_in_range.ensures ∙ c.if-not-is_in_range.false in
     subst
     (λ (b : Bool). IfErr c.put_slot.result
     (λ (why : CampaignFault). LeftBy why begin (g.K.Sink.output c.put_slot.new.out)

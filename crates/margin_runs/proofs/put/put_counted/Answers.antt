@@ -1,4 +1,4 @@
-use Rattle.std.proofs.Common.{◌≡◌, ℕ, ◌+◌, ◌*◌, ◌≤◌, ◌^◌, subst, arith}
+use Rattle.std.proofs.Common.{◌≡◌, ℕ, ◌+◌, ◌*◌, ◌^◌, subst, arith}
 use Rattle.margin_text.specs.Taken.{IsFewOf}
 use Rattle.margin_runs.specs.Written.{most_values, most_in_sweep}
 use Rattle.margin_runs.proofs.Puts.{counts-more}

@@ -1,4 +1,4 @@
-use Rattle.std.proofs.Common.{◌≡◌, ℕ, ◌+◌, ◌<◌, ◌≤◌, Bool, true, false, cond, length, List, [], ◌∷◌, ◌++◌, refl, ap, sym, subst, ◌∙◌, append-nil, arith}
+use Rattle.std.proofs.Common.{◌≡◌, ◌+◌, Bool, true, false, cond, List, [], ◌∷◌, ◌++◌, ap, sym, subst, ◌∙◌, append-nil, arith}
 use Rattle.std.specs.Prelude.{OnOk, IfErr}
 use Rattle.ttp_world.specs.Script.{is_ever_on}
 use Rattle.clock_margins.specs.declared.margin.Sweep.{Sweep}
@@ -17,9 +17,9 @@ is_ever_on-requires g c =
     omega (arith, c.requires.node, valid.on_count)
 
 -- a node that is never on has no sweep
-pub returns-else-is_ever_on : goal.returns-else-is_ever_on
-returns-else-is_ever_on g c =
-    let off : is_ever_on c.args.script.now c.args.node ≡ false = sym c.is_ever_on.ensures ∙ c.if-is_ever_on.false in
+pub returns-then-not-is_ever_on : goal.returns-then-not-is_ever_on
+returns-then-not-is_ever_on g c =
+    let off : is_ever_on c.args.script.now c.args.node ≡ false = sym c.is_ever_on.ensures ∙ c.if-not-is_ever_on.true in
     record {
       few = λ most few. total-more most (most + most_in_sweep) c.args.total.now (omega arith) few;
       ok = λ begin swept are.
@@ -27,7 +27,7 @@ returns-else-is_ever_on g c =
           (λ (xs : List Sweep). AreSwept begin (g.K.Sink.output c.args.out.now) c.args.list.now c.args.script.now c.args.reach xs
           c.args.total.now)
           (sym (ap (λ (b : Bool). swept ++ cond b (drift_sweep c.args.node ∷ []) []) off ∙ append-nil swept)) are;
-      err = tt;
+      err = λ begin swept are. tt;
     }
 
 -- where memory is refused, the sweeps before it stand
@@ -37,7 +37,7 @@ returns-in_default-clause-err g c = λ begin swept are.
     let script = c.args.script.now in
     let reach = c.args.reach in
     let out = g.K.Sink.output c.args.out.now in
-    let on : is_ever_on script c.args.node ≡ true = sym c.is_ever_on.ensures ∙ c.if-is_ever_on.true in
+    let on : is_ever_on script c.args.node ≡ true = sym c.is_ever_on.ensures ∙ c.if-not-is_ever_on.false in
     let sweep = drift_sweep c.args.node in
     subst (λ (b : Bool). LeftBy fault.Memory begin out (lines_swept list script reach (swept ++ cond b (sweep ∷ []) [])))
     (sym on) (record {
@@ -48,21 +48,26 @@ returns-in_default-clause-err g c = λ begin swept are.
     })
 
 pub put_counted-requires-clause-may : goal.put_counted-requires-clause-may
-put_counted-requires-clause-may g c =
+put_counted-requires-clause-may g c κs within = record {
+  valid = c.requires.may.valid;
+  script = c.requires.may.script;
+  room = c.requires.may.room;
+  node = c.requires.node;
+  slot = tt;
+}
+
+pub put_counted-requires-clause-past : goal.put_counted-requires-clause-past
+put_counted-requires-clause-past g c κs within =
     let run = c.in-Ok.ensures.run in
     record {
-      valid = c.requires.may.valid;
-      script = c.requires.may.script;
-      room = c.requires.may.room;
-      start = c.requires.may.start;
-      past = subst (IsBesideAfter c.in-Ok.past c.args.list.now c.args.script.now) (sym run.run.count) run;
+      run = subst (IsBesideAfter c.in-Ok.past c.args.list.now c.args.script.now) (sym run.run.count) run;
       node = c.in-Ok.ensures.node;
       slot = tt;
     }
 
 pub returns-clause-ok : goal.returns-clause-ok
 returns-clause-ok g c = λ begin swept are.
-    let on : is_ever_on c.args.script.now c.args.node ≡ true = sym c.is_ever_on.ensures ∙ c.if-is_ever_on.true in
+    let on : is_ever_on c.args.script.now c.args.node ≡ true = sym c.is_ever_on.ensures ∙ c.if-not-is_ever_on.false in
     subst
     (λ (b : Bool). OnOk c.put_counted.result
     (AreSwept begin (g.K.Sink.output c.put_counted.new.out) c.args.list.now c.args.script.now c.args.reach
@@ -71,7 +76,7 @@ returns-clause-ok g c = λ begin swept are.
 
 pub returns-clause-err : goal.returns-clause-err
 returns-clause-err g c = λ begin swept are.
-    let on : is_ever_on c.args.script.now c.args.node ≡ true = sym c.is_ever_on.ensures ∙ c.if-is_ever_on.true in
+    let on : is_ever_on c.args.script.now c.args.node ≡ true = sym c.is_ever_on.ensures ∙ c.if-not-is_ever_on.false in
     subst
     (λ (b : Bool). IfErr c.put_counted.result
     (λ (why : CampaignFault). LeftBy why begin (g.K.Sink.output c.put_counted.new.out)

@@ -1,4 +1,4 @@
-use Rattle.std.proofs.Common.{◌≡◌, ℕ, ◌+◌, ◌*◌, ◌<◌, ◌≤◌, ◌^◌, List, ◌++◌, length, ap, sym, subst, ◌∙◌, append_assoc, arith}
+use Rattle.std.proofs.Common.{◌≡◌, ℕ, ◌+◌, ◌*◌, ◌<◌, ◌^◌, List, ◌++◌, length, ap, sym, subst, ◌∙◌, append_assoc, arith}
 use Rattle.std.specs.Prelude.{flat_map}
 use Rattle.ttp_base.specs.NodeSet.{below}
 use Rattle.ttp_base.proofs.Below.{flat_map-next, flat_map-split}
@@ -13,10 +13,10 @@ use Rattle.margin_runs.proofs.Sweeping.{total-more, more-left, picked}
 use Rattle.margin_runs.proofs.put.put_drifts.Goals as goal
 
 pub put_drift-requires-clause-few : goal.put_drift-requires-clause-few
-put_drift-requires-clause-few g c =
+put_drift-requires-clause-few g c κs within =
     let node = c.loop-node.node in
     let most = nodes-most c.args.list.now c.requires.may.valid in
-    let nodes = c.nodes.ensures in
+    let nodes = c.nodes-node-end.ensures in
     total-more (node * most_in_sweep) (2 ^ 61) c.loop-node.total (omega (arith, c.loop-node-test.true, nodes, most))
     c.loop-node.invariant.few
 
@@ -47,7 +47,7 @@ returns-in-Err-clause-err g c = λ begin none.
     let now = g.K.Sink.output c.put_drift.new.out in
     let before = flat_map (drifts_of script) (below node) in
     let here = drifts_of script node in
-    let inside : node < length list.slots = omega (arith, c.loop-node-test.true, c.nodes.ensures) in
+    let inside : node < length list.slots = omega (arith, c.loop-node-test.true, c.nodes-node-end.ensures) in
     let split = flat_map-split (drifts_of script) node (length list.slots) inside in
     let all : (before ++ here) ++ split.0 ≡ all_drifts list script =
     append_assoc before here split.0 ∙ sym split.1
@@ -61,7 +61,7 @@ returns-clause-ok g c = λ begin none.
     let list = c.args.list.now in
     let script = c.args.script.now in
     let last : c.loop-node.node ≡ length list.slots =
-    omega (arith, c.loop-node-test.false, c.loop-node.auto.node-end, c.nodes.ensures) in
+    omega (arith, c.loop-node-test.false, c.loop-node.auto.node-end, c.nodes-node-end.ensures) in
     let all : flat_map (drifts_of script) (below c.loop-node.node) ≡ all_drifts list script =
     ap (λ (n : ℕ). flat_map (drifts_of script) (below n)) last
     ∙ sym (picked drift_sweep (is_ever_on script) (below (length list.slots))) in

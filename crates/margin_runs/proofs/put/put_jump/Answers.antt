@@ -1,4 +1,4 @@
-use Rattle.std.proofs.Common.{◌≡◌, ℕ, ◌+◌, ◌<◌, ◌≤◌, Bool, true, false, cond, List, [], ◌∷◌, ◌++◌, ap, sym, subst, ◌∙◌, append-nil, arith}
+use Rattle.std.proofs.Common.{◌≡◌, ◌+◌, Bool, true, false, cond, List, [], ◌∷◌, ◌++◌, ap, sym, subst, ◌∙◌, append-nil, arith}
 use Rattle.std.specs.Prelude.{OnOk, IfErr}
 use Rattle.campaign.specs.Tried.{is_timed}
 use Rattle.clock_margins.specs.declared.margin.Sweep.{Sweep}
@@ -12,9 +12,9 @@ use Rattle.margin_runs.proofs.Sweeping.{total-more, lines-both}
 use Rattle.margin_runs.proofs.put.put_jump.Goals as goal
 
 -- where nothing is held against its clock there is no sweep
-pub returns-else-is_timed : goal.returns-else-is_timed
-returns-else-is_timed g c =
-    let off : is_timed c.args.entry.now ≡ false = sym c.is_timed.ensures ∙ c.if-is_timed.false in
+pub returns-then-not-is_timed : goal.returns-then-not-is_timed
+returns-then-not-is_timed g c =
+    let off : is_timed c.args.entry.now ≡ false = sym c.is_timed.ensures ∙ c.if-not-is_timed.true in
     record {
       few = λ most few. total-more most (most + most_in_sweep) c.args.total.now (omega arith) few;
       ok = λ begin swept are.
@@ -22,7 +22,7 @@ returns-else-is_timed g c =
           (λ (xs : List Sweep). AreSwept begin (g.K.Sink.output c.args.out.now) c.args.list.now c.args.script.now c.args.reach xs
           c.args.total.now)
           (sym (ap (λ (b : Bool). swept ++ cond b (jump_sweep c.args.slot c.args.node ∷ []) []) off ∙ append-nil swept)) are;
-      err = tt;
+      err = λ begin swept are. tt;
     }
 
 -- where memory is refused, the sweeps before it stand
@@ -32,7 +32,7 @@ returns-in_default-clause-err g c = λ begin swept are.
     let script = c.args.script.now in
     let reach = c.args.reach in
     let out = g.K.Sink.output c.args.out.now in
-    let on : is_timed c.args.entry.now ≡ true = sym c.is_timed.ensures ∙ c.if-is_timed.true in
+    let on : is_timed c.args.entry.now ≡ true = sym c.is_timed.ensures ∙ c.if-not-is_timed.false in
     let sweep = jump_sweep c.args.slot c.args.node in
     subst (λ (b : Bool). LeftBy fault.Memory begin out (lines_swept list script reach (swept ++ cond b (sweep ∷ []) [])))
     (sym on) (record {
@@ -43,21 +43,26 @@ returns-in_default-clause-err g c = λ begin swept are.
     })
 
 pub put_counted-requires-clause-may : goal.put_counted-requires-clause-may
-put_counted-requires-clause-may g c =
+put_counted-requires-clause-may g c κs within = record {
+  valid = c.requires.may.valid;
+  script = c.requires.may.script;
+  room = c.requires.may.room;
+  node = c.requires.node;
+  slot = c.requires.slot;
+}
+
+pub put_counted-requires-clause-past : goal.put_counted-requires-clause-past
+put_counted-requires-clause-past g c κs within =
     let run = c.in-Ok.ensures.run in
     record {
-      valid = c.requires.may.valid;
-      script = c.requires.may.script;
-      room = c.requires.may.room;
-      start = c.requires.may.start;
-      past = subst (IsBesideAfter c.in-Ok.past c.args.list.now c.args.script.now) (sym run.run.count) run;
+      run = subst (IsBesideAfter c.in-Ok.past c.args.list.now c.args.script.now) (sym run.run.count) run;
       node = c.in-Ok.ensures.node;
-      slot = (c.requires.slot, run.run.count);
+      slot = run.run.count;
     }
 
 pub returns-clause-ok : goal.returns-clause-ok
 returns-clause-ok g c = λ begin swept are.
-    let on : is_timed c.args.entry.now ≡ true = sym c.is_timed.ensures ∙ c.if-is_timed.true in
+    let on : is_timed c.args.entry.now ≡ true = sym c.is_timed.ensures ∙ c.if-not-is_timed.false in
     subst
     (λ (b : Bool). OnOk c.put_counted.result
     (AreSwept begin (g.K.Sink.output c.put_counted.new.out) c.args.list.now c.args.script.now c.args.reach
@@ -66,7 +71,7 @@ returns-clause-ok g c = λ begin swept are.
 
 pub returns-clause-err : goal.returns-clause-err
 returns-clause-err g c = λ begin swept are.
-    let on : is_timed c.args.entry.now ≡ true = sym c.is_timed.ensures ∙ c.if-is_timed.true in
+    let on : is_timed c.args.entry.now ≡ true = sym c.is_timed.ensures ∙ c.if-not-is_timed.false in
     subst
     (λ (b : Bool). IfErr c.put_counted.result
     (λ (why : CampaignFault). LeftBy why begin (g.K.Sink.output c.put_counted.new.out)

@@ -1,4 +1,4 @@
-use Rattle.std.proofs.Common.{◌≡◌, ℕ, List, [], ◌∷◌, Option, subst}
+use Rattle.std.proofs.Common.{ℕ, List, [], ◌∷◌, Option, subst}
 use Rattle.std.specs.Prelude.{OnOk, IfErr}
 use Rattle.std.specs.List.{cons_option}
 use Rattle.ttp_base.specs.Outside.{WroteLines}

@@ -1,4 +1,4 @@
-use Rattle.std.proofs.Common.{◌≡◌, ℕ, List, [], ◌∷◌, map, ap, subst, ◌∙◌}
+use Rattle.std.proofs.Common.{◌≡◌, ℕ, List, [], ◌∷◌, ap, subst, ◌∙◌}
 use Rattle.ttp_base.specs.Outside.{WroteLines}
 use Rattle.ttp_base.proofs.Outputs.{Wrote-none}
 use Rattle.line_form.specs.Forms.{spelled_line}
@@ -7,21 +7,13 @@ use Rattle.clock_margins.specs.MarginText.{margin_lines}
 use Rattle.clock_margins.specs.declared.margin.Total.{Total}
 use Rattle.fault_runs.specs.declared.put.CampaignFault.{CampaignFault}
 use Rattle.fault_runs.specs.Ends.{LeftFewerBy}
-use Rattle.fault_runs.proofs.Endings.{fewer-none}
 use Rattle.fault_runs.proofs.Results.{ok-weaker, err-weaker}
 use Rattle.margin_runs.proofs.Whole.{last_line, front-left, sweeps-left, last-left, all-written}
 use Rattle.margin_runs.proofs.put.put_margins.Goals as goal
 
-pub returns-in_default-clause-err : goal.returns-in_default-clause-err
-returns-in_default-clause-err g c = fewer-none _ _ _
-
 pub put_sweeps-requires-clause-may : goal.put_sweeps-requires-clause-may
-put_sweeps-requires-clause-may g c = record {
-  valid = c.requires.valid;
-  script = c.requires.script;
-  room = c.requires.room;
-  start = c.in-Ok.ensures;
-}
+put_sweeps-requires-clause-may g c κs within =
+    record { valid = c.requires.valid; script = c.requires.script; room = c.requires.room }
 
 pub returns-in-Err-clause-err : goal.returns-in-Err-clause-err
 returns-in-Err-clause-err g c =

@@ -1,18 +1,13 @@
-use Rattle.std.proofs.Common.{◌≡◌, ℕ, ◌+◌, ◌*◌, ◌≤◌, List, [], ◌∷◌, ◌++◌, ap, sym, subst, ◌∙◌, append_assoc, arith}
-use Rattle.std.proofs.lemmas.List.{map-append}
-use Rattle.ttp_base.specs.Text.{Lines}
-use Rattle.clock_margins.specs.MarginText.{range_line, margin_line, sweep_margin, sweep_lines, tolds_of}
+use Rattle.std.proofs.Common.{◌≡◌, ◌+◌, ◌*◌, List, sym, subst, ◌∙◌, arith}
 use Rattle.clock_margins.specs.Outcomes.{ValueTold}
 use Rattle.fault_runs.specs.Ends.{LeftBy}
-use Rattle.margin_runs.specs.Tries.{tolds_from}
 use Rattle.margin_runs.specs.Written.{IsPutOf, closed_lines, tolds_so_far}
 use Rattle.margin_runs.proofs.Puts.{left-more, closed-left}
-use Rattle.margin_runs.proofs.ToldParts.{so-far-more, so-far-all, so-far-rest}
-use Rattle.margin_runs.proofs.Within.{limit-few}
+use Rattle.margin_runs.proofs.ToldParts.{so-far-all, so-far-rest}
 use Rattle.margin_runs.proofs.put.put_ranges.Goals as goal
 
 pub put_values-requires-clause-put : goal.put_values-requires-clause-put
-put_values-requires-clause-put g c =
+put_values-requires-clause-put g c κs within =
     (c.requires.put.0, c.loop-done.invariant.put c.requires.put.0 c.requires.put.1)
 
 pub returns-in-Err-clause-err : goal.returns-in-Err-clause-err

@@ -1,8 +1,7 @@
-use Rattle.std.proofs.Common.{◌≡◌, ℕ, ◌+◌, ◌*◌, ◌<◌, ◌≤◌, ◌^◌, List, [], ◌++◌, length, ap, sym, subst, ◌∙◌, append_assoc, append-nil, arith}
+use Rattle.std.proofs.Common.{◌≡◌, ℕ, ◌+◌, ◌*◌, ◌<◌, ◌^◌, List, ◌++◌, length, ap, sym, subst, ◌∙◌, append_assoc, append-nil, arith}
 use Rattle.std.specs.Prelude.{flat_map}
 use Rattle.ttp_base.specs.NodeSet.{below}
 use Rattle.ttp_base.proofs.Below.{flat_map-next, flat_map-split}
-use Rattle.ttp_world.specs.declared.node.Entry.{Entry}
 use Rattle.ttp_world.proofs.Lists.{nodes-most}
 use Rattle.clock_margins.specs.declared.margin.Sweep.{Sweep}
 use Rattle.fault_runs.specs.Ends.{LeftBy}
@@ -25,15 +24,15 @@ loop-node-init g c =
     }
 
 pub entry_in-requires : goal.entry_in-requires
-entry_in-requires g c = omega (arith, c.loop-node-test.true, c.nodes.ensures, c.requires.shown.count)
+entry_in-requires g c = omega (arith, c.loop-node-test.true, c.nodes-node-end.ensures, c.requires.shown.count)
 
 pub put_jump-requires-clause-few : goal.put_jump-requires-clause-few
-put_jump-requires-clause-few g c =
+put_jump-requires-clause-few g c κs within =
     let node = c.loop-node.node in
     let valid = c.requires.may.script in
     let most = nodes-most c.args.list.now c.requires.may.valid in
     total-more (most_in_slot * c.args.slot + node * most_in_sweep) (2 ^ 61) c.loop-node.total
-    (omega (arith, c.loop-node-test.true, c.nodes.ensures, most, c.requires.slot, valid.slots.1))
+    (omega (arith, c.loop-node-test.true, c.nodes-node-end.ensures, most, c.requires.slot, valid.slots.1))
     c.loop-node.invariant.few
 
 pub loop-node-preserved : goal.loop-node-preserved
@@ -43,7 +42,7 @@ loop-node-preserved g c =
     let slot = c.args.slot in
     let node = c.loop-node.node in
     let before = flat_map (jumps_at list script slot) (below node) in
-    let inside : node < length list.slots = omega (arith, c.loop-node-test.true, c.nodes.ensures) in
+    let inside : node < length list.slots = omega (arith, c.loop-node-test.true, c.nodes-node-end.ensures) in
     let here : jumps_of slot node c.entry_in.result.now ≡ jumps_at list script slot node =
     ap (jumps_of slot node) c.entry_in.ensures
     ∙ shown-jumps list script slot c.args.states.now c.requires.slot c.requires.shown node inside in
@@ -73,7 +72,7 @@ returns-in-Err-clause-err g c = λ begin swept are.
     let why = c.in-Err.why in
     let now = g.K.Sink.output c.put_jump.new.out in
     let before = flat_map (jumps_at list script slot) (below node) in
-    let inside : node < length list.slots = omega (arith, c.loop-node-test.true, c.nodes.ensures) in
+    let inside : node < length list.slots = omega (arith, c.loop-node-test.true, c.nodes-node-end.ensures) in
     let done = jumps_of slot node c.entry_in.result.now in
     let here : done ≡ jumps_at list script slot node =
     ap (jumps_of slot node) c.entry_in.ensures
@@ -96,7 +95,7 @@ returns g c =
     let node = c.loop-node.node in
     let most = nodes-most list c.requires.may.valid in
     let last : node ≡ length list.slots =
-    omega (arith, c.loop-node-test.false, c.loop-node.auto.node-end, c.nodes.ensures) in
+    omega (arith, c.loop-node-test.false, c.loop-node.auto.node-end, c.nodes-node-end.ensures) in
     record {
       few =
           total-more (most_in_slot * slot + node * most_in_sweep) (most_in_slot * (slot + 1)) c.loop-node.total
@@ -107,5 +106,5 @@ returns g c =
           c.loop-node.total)
           (ap (λ (n : ℕ). flat_map (jumps_at list script slot) (below n)) last ∙ sym (jumps-whole list script slot))
           (c.loop-node.invariant.swept begin swept are);
-      err = tt;
+      err = λ begin swept are. tt;
     }

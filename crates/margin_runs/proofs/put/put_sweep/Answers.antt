@@ -1,15 +1,13 @@
-use Rattle.std.proofs.Common.{◌≡◌, ℕ, suc, ◌+◌, ◌*◌, ◌<◌, ◌≤◌, ◌^◌, pos, List, [], ◌∷◌, length, ap, sym, subst, ◌∙◌, arith}
+use Rattle.std.proofs.Common.{◌≡◌, ℕ, suc, ◌*◌, ◌^◌, pos, List, [], ◌∷◌, length, ap, subst, ◌∙◌, arith}
 use Rattle.std.specs.Prelude.{neg_ℤ}
-use Rattle.ttp_base.specs.NodeSet.{most_nodes}
 use Rattle.ttp_base.specs.Outside.{WroteLines}
 use Rattle.ttp_base.proofs.Outputs.{Wrote-none}
 use Rattle.ttp_world.proofs.Lists.{nodes-most}
 use Rattle.clock_margins.specs.MarginText.{tolds_of, margin_line, sweep_margin}
 use Rattle.clock_margins.specs.Sums.{margin_of}
 use Rattle.clock_margins.specs.Sweeps.{values}
-use Rattle.clock_margins.specs.declared.margin.Margin.{Margin}
 use Rattle.fault_runs.specs.Ends.{LeftBy}
-use Rattle.margin_runs.specs.Written.{IsPutOf, most_values}
+use Rattle.margin_runs.specs.Written.{most_values}
 use Rattle.margin_runs.proofs.Puts.{fewer-left, few-more, margin-few, last-left, sum-left, sweep-written}
 use Rattle.margin_runs.proofs.ToldParts.{tolds-count}
 use Rattle.margin_runs.proofs.Within.{limit-few}
@@ -19,10 +17,10 @@ use Rattle.margin_runs.proofs.put.put_sweep.Goals as goal
 pub new-swept-requires : goal.new-swept-requires
 new-swept-requires g c =
     let may = c.requires.may in
-    omega (arith, may.past.node, may.node, nodes-most c.args.common.now.list.now may.valid)
+    omega (arith, may.node, nodes-most c.args.common.now.list.now may.valid)
 
 pub put_ranges-requires-clause-put : goal.put_ranges-requires-clause-put
-put_ranges-requires-clause-put g c = (
+put_ranges-requires-clause-put g c κs within = (
   g.K.Sink.output c.args.out.now,
   record {
     swept = c.new-swept.ensures.swept;
@@ -59,7 +57,7 @@ put_last-requires g c =
         put.swept,
         tolds-writable common.list.now common.script.now common.sweep (values c.args.reach) may.valid,
       );
-      node = omega (arith, may.past.node, may.node, nodes-most common.list.now may.valid);
+      node = omega (arith, may.node, nodes-most common.list.now may.valid);
     }
 
 pub returns-in-Err-put_last-clause-err : goal.returns-in-Err-put_last-clause-err

@@ -1,5 +1,5 @@
-use Rattle.std.proofs.Common.{◌≡◌, ℕ, ◌+◌, ◌<◌, List, [], ◌∷◌, ◌++◌, length, subst}
-use Rattle.ttp_base.specs.Outside.{Output, WroteLines}
+use Rattle.std.proofs.Common.{ℕ, List, [], ◌∷◌, ◌++◌, length, subst}
+use Rattle.ttp_base.specs.Outside.{WroteLines}
 use Rattle.ttp_base.proofs.Outputs.{Wrote-none}
 use Rattle.clock_margins.specs.Ranges.{ranges_of}
 use Rattle.margin_laws.specs.Behind.{closed_ranges}

@@ -1,7 +1,6 @@
-use Rattle.std.proofs.Common.{◌≡◌, ℕ, ◌+◌, ◌<◌, ◌≤◌, ◌^◌, List, [], ◌∷◌, ◌++◌, length, refl, ap, sym, subst, ◌∙◌, append_assoc, append-nil, length-append, arith, rules}
+use Rattle.std.proofs.Common.{◌≡◌, ℕ, ◌+◌, ◌≤◌, ◌^◌, List, [], ◌∷◌, ◌++◌, length, refl, ap, sym, subst, ◌∙◌, append_assoc, append-nil, length-append, arith, rules}
 use Rattle.std.specs.Vec.Iter.{into_iter_items}
-use Rattle.ttp_base.specs.Outside.{Output}
-use Rattle.ttp_base.specs.Text.{Lines}
+use Rattle.std.proofs.lemmas.List.{nil_from_length}
 use Rattle.clock_margins.specs.Outcomes.{ValueTold}
 use Rattle.margin_text.specs.declared.told.Told.{Told}
 use Rattle.margin_text.specs.Taken.{value_told}
@@ -11,10 +10,6 @@ use Rattle.margin_runs.specs.Written.{IsPutOf, AreWritable, closed_lines}
 use Rattle.margin_runs.proofs.Puts.{few-more, told-parts, told-next, left-more}
 use Rattle.margin_runs.proofs.Writable.{front-writable}
 use Rattle.margin_runs.proofs.put.put_tolds.Goals as goal
-
-nothing_left : {X : Type 0} (l : List X) → length l ≡ 0 → l ≡ []
-nothing_left [] none = refl
-nothing_left (x ∷ xs) none = absurd (omega (arith, none))
 
 pub loop-told-init : goal.loop-told-init
 loop-told-init g c = (
@@ -100,7 +95,7 @@ returns-clause-ok g c = λ start tolds put.
     let at = c.loop-told in
     let none = c.in-None.ensures.steps in
     let empty : into_iter_items at.told-iterator ≡ [] =
-    nothing_left (into_iter_items at.told-iterator) (sym at.invariant.1 ∙ none.0) in
+    nil_from_length (into_iter_items at.told-iterator) (sym at.invariant.1 ∙ none.0) in
     let all : at.yielded ≡ c.args.all.items =
     sym (append-nil at.yielded) ∙ ap (λ (xs : List Told). at.yielded ++ xs) (sym empty) ∙ at.invariant.0
     ∙ c.into_iter-told-iterator.ensures.into_iter_gives.0 in

@@ -1,68 +1,29 @@
-use Rattle.std.proofs.Common.{to_z, of_z, w64, rules}
-use Rattle.std.proofs.lemmas.Int.{to_z-of_z}
-use Rattle.std.proofs.Common.{◌≡◌, ℕ, ◌+◌, ◌<◌, ◌≤◌, ℤ, pos, ◌+ℤ◌, List, [], ◌∷◌, ◌++◌, Option, Some, ap, sym, subst, ◌∙◌, arith}
-use Rattle.std.proofs.lemmas.Int.{ints}
-use Rattle.std.proofs.lemmas.List.{map-append}
-use Rattle.ttp_world.specs.declared.script.TheConstants.{JUMP_LIMIT}
+use Rattle.std.proofs.Common.{◌≡◌, ℕ, ◌+◌, pos, [], ◌∷◌, ◌++◌, get_or, take, Option, ap, sym, subst, ◌∙◌}
+use Rattle.std.proofs.lemmas.List.{take_more}
 use Rattle.ttp_world.specs.Events.{IsWithinSpan}
-use Rattle.clock_margins.specs.Outcomes.{told_of_value}
-use Rattle.margin_text.specs.Taken.{value_told}
-use Rattle.margin_runs.specs.Tries.{tolds_from, are_told, limit_of}
-use Rattle.margin_runs.proofs.ToldParts.{tolds-parts}
-use Rattle.margin_runs.proofs.Within.{limit-few, value-within, value-same}
+use Rattle.margin_runs.specs.Tries.{are_told, clock_limit}
+use Rattle.margin_runs.proofs.ToldParts.{told-more}
 use Rattle.margin_runs.proofs.tried.add_jumps.Goals as goal
 
-pub loop-place-init : goal.loop-place-init
-loop-place-init c = (ap are_told c.requires.none, c.requires.own, c.requires.node)
-
-pub overflow_add-value : goal.overflow_add-value
-overflow_add-value c =
-    let sweep = c.args.common.now.sweep in
-    let place = c.loop-place.place in
-    let within =
-    value-within sweep.slot c.args.first c.args.count place c.requires.values c.loop-place-test.true in
-    let few = limit-few sweep.slot in
-    omega (arith, ints, within.0, within.1, few)
+pub loop-value-init : goal.loop-value-init
+loop-value-init c = (ap are_told c.requires.none, c.requires.own, c.requires.node)
 
 pub try_jump-requires-clause-value : goal.try_jump-requires-clause-value
 try_jump-requires-clause-value c =
-    let sweep = c.args.common.now.sweep in
-    let place = c.loop-place.place in
-    let own : to_z w64 (of_z w64 c.args.first) ≡ c.args.first = search (rules, to_z-of_z) in
-    let there : to_z w64 (of_z w64 c.from.result) ≡ c.from.result = search (rules, to_z-of_z) in
-    let same = value-same sweep.slot c.args.first c.args.count place c.from.result c.requires.values c.loop-place-test.true
-    own there c.from.ensures in
-    subst (IsWithinSpan JUMP_LIMIT) (sym same)
-    (subst (λ (o : Option ℕ). IsWithinSpan (limit_of o) (c.args.first +ℤ pos place)) c.requires.slot
-    (value-within sweep.slot c.args.first c.args.count place c.requires.values c.loop-place-test.true))
+    let value = get_or c.args.values.now c.loop-value.value-index (pos 0) in
+    subst (λ (o : Option ℕ). IsWithinSpan (clock_limit o) value) c.requires.slot
+    (c.requires.values c.loop-value.value-index (pos 0) c.loop-value-test.true)
 
-pub loop-place-preserved : goal.loop-place-preserved
-loop-place-preserved c =
-    let list = c.args.common.now.list.now in
-    let script = c.args.common.now.script.now in
-    let sweep = c.args.common.now.sweep in
-    let place = c.loop-place.place in
-    let own : to_z w64 (of_z w64 c.args.first) ≡ c.args.first = search (rules, to_z-of_z) in
-    let there : to_z w64 (of_z w64 c.from.result) ≡ c.from.result = search (rules, to_z-of_z) in
-    let same = value-same sweep.slot c.args.first c.args.count place c.from.result c.requires.values c.loop-place-test.true
-    own there c.from.ensures in
-    let told = c.in_ok-try_jump.ensures.told ∙ ap (told_of_value list script sweep) same in
-    let now = c.in_ok-try_jump.field-0 in (
-      ap are_told c.in_ok-push.ensures.items
-          ∙ map-append value_told c.loop-place.all.items (now ∷ [])
-          ∙ (λ i. c.loop-place.invariant.0 i ++ told i ∷ [])
-          ∙ ap (λ (z : ℤ). tolds_from list script sweep z place ++ told_of_value list script sweep (c.args.first +ℤ pos place) ∷ []) own
-          ∙ sym (tolds-parts list script sweep c.args.first place 1)
-          ∙ ap (λ (z : ℤ). tolds_from list script sweep z (place + 1)) (sym own),
+pub loop-value-preserved : goal.loop-value-preserved
+loop-value-preserved c =
+    let values = c.args.values.now in
+    let i = c.loop-value.value-index in
+    let value = get_or values i (pos 0) in
+    let more : take i values ++ value ∷ [] ≡ take (i + 1) values =
+    sym (take_more values i (pos 0) c.loop-value-test.true) in (
+      told-more c.args.common.now.list.now c.args.common.now.script.now c.args.common.now.sweep values i value
+          c.loop-value.all.items c.push.new.self.items c.in_ok-try_jump.field-0 more c.in_ok-push.ensures.items
+          c.loop-value.invariant.0 c.in_ok-try_jump.ensures.told,
       c.in_ok-try_jump.ensures.run,
-      c.in_ok-try_jump.ensures.node ∙ c.loop-place.invariant.2,
+      c.in_ok-try_jump.ensures.node ∙ c.loop-value.invariant.2,
     )
-
-pub returns : goal.returns
-returns c =
-    let place = c.loop-place.place in
-    let last : place ≡ c.args.count = omega (arith, c.loop-place-test.false, c.loop-place.auto.place-end) in
-    c.loop-place.invariant.0
-    ∙ ap (tolds_from c.args.common.now.list.now c.args.common.now.script.now c.args.common.now.sweep (to_z w64 (of_z w64 c.args.first))) last
-    ∙ ap (λ (z : ℤ). tolds_from c.args.common.now.list.now c.args.common.now.script.now c.args.common.now.sweep z c.args.count)
-    (search (rules, to_z-of_z))

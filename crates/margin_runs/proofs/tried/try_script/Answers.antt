@@ -1,6 +1,6 @@
 use Rattle.std.proofs.Common.{to_z, of_z, w64, rules}
 use Rattle.std.proofs.lemmas.Int.{to_z-of_z}
-use Rattle.std.proofs.Common.{◌≡◌, ℕ, ◌<◌, ◌≤◌, ap, ◌∙◌, arith}
+use Rattle.std.proofs.Common.{◌≡◌, ℕ, ◌<◌, ap, ◌∙◌, arith}
 use Rattle.campaign.specs.ZerosWorld.{zeros_world}
 use Rattle.clock_margins.specs.Outcomes.{outcome_beside}
 use Rattle.margin_runs.proofs.tried.try_script.Goals as goal
@@ -18,7 +18,7 @@ returns-clause-told c =
     c.in_ok-outcome.ensures more slot beside some
     ∙ ap (λ (k : ℕ). outcome_beside list more k (zeros_world list more slot)) c.loop-slot.invariant.1
     ∙ ap (λ (n : ℕ). outcome_beside list more c.args.run.now.node (zeros_world list more n)) last in
-    let own : to_z w64 (of_z w64 c.args.value) ≡ c.args.value = search (rules, to_z-of_z) in
+    let own : to_z w64 (of_z w64 c.args.value.now) ≡ c.args.value.now = search (rules, to_z-of_z) in
     λ i. record { value = own i; test = c.test_of.ensures i; outcome = outcome i }
 
 pub returns-clause-run : goal.returns-clause-run

@@ -1,4 +1,4 @@
-use Rattle.std.proofs.Common.{◌≡◌, ℕ, sym, subst, ap, ◌∙◌}
+use Rattle.std.proofs.Common.{ℕ, sym, ap, ◌∙◌}
 use Rattle.ttp_world.specs.declared.script.Script.{Script}
 use Rattle.clock_margins.specs.Outcomes.{was_split_beside}
 use Rattle.campaign.specs.ZerosWorld.{zeros_world}

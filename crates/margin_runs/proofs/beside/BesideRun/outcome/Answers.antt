@@ -1,4 +1,4 @@
-use Rattle.std.proofs.Common.{◌≡◌, ap, ◌∙◌}
+use Rattle.std.proofs.Common.{ap, ◌∙◌}
 use Rattle.ttp_base.specs.NodeSet.{without_node}
 use Rattle.campaign.specs.declared.cost.Cost.{Cost}
 use Rattle.margin_runs.proofs.beside.BesideRun.outcome.Goals as goal

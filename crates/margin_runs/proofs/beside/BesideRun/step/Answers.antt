@@ -1,7 +1,6 @@
 use Rattle.std.proofs.Common.{◌≡◌, ℕ, ◌+◌, ◌<◌, List, length, ap, ◌∙◌, arith}
 use Rattle.ttp_base.specs.NodeSet.{has_node}
-use Rattle.clock_margins.specs.Outcomes.{is_sound_beside, was_split_beside}
-use Rattle.campaign.specs.ZerosWorld.{zeros_world}
+use Rattle.clock_margins.specs.Outcomes.{is_sound_beside}
 use Rattle.margin_runs.proofs.SplitBeside.{sound-beside, split-more}
 use Rattle.margin_runs.proofs.beside.BesideRun.step.Goals as goal
 
