@@ -1,10 +1,10 @@
 -- Where lines begin: which of them a byte is behind, and how far.
-use Rattle.std.proofs.Common.{◌≡◌, ℕ, zero, suc, ◌+◌, ◌-◌, ◌<◌, ◌≤◌, Bool, true, false, not, cond, ◌==◌, leb, List, [], ◌∷◌, ◌++◌, length, take, get_or, unwrap_or, refl, sym, ap, ◌∙◌, arith}
+use Rattle.std.proofs.Common.{◌≡◌, ℕ, zero, suc, ◌+◌, ◌-◌, ◌<◌, ◌≤◌, Bool, true, false, not, cond, ◌==◌, leb, List, [], ◌∷◌, ◌++◌, length, take, get_or, refl, sym, ap, ◌∙◌, arith}
 use Rattle.std.proofs.lemmas.Grind.{common_steps}
 use Rattle.std.proofs.lemmas.Bool.Decides.{nat_tests}
 use Rattle.std.proofs.lemmas.List.Sums.{sum_by-cons, suffix_len-take_yes, suffix_len-take_no}
 use Rattle.std.proofs.lemmas.List.{take_more}
-use Rattle.std.specs.List.{prefix_len, suffix_len, count_by, slice_get}
+use Rattle.std.specs.List.{prefix_len, suffix_len, count_by}
 use Rattle.std.specs.List.Sorted.{IsNonDecreasingBy}
 use Rattle.toml_parser.specs.Lexical.{line_feed}
 use Rattle.list_places.specs.declared.lines.Place.{Place}
@@ -154,7 +154,7 @@ rise_step true base rest above rise = rise_cons (base + 1) rest above rise
 rise_step false base rest above rise = rise
 
 starts_rise : (base : ℕ) (text : List ℕ) → IsNonDecreasingBy (λ s. s) (starts_from base text)
-starts_rise base [] i j d below low = absurd (omega arith)
+starts_rise base [] = λ i j d below low. absurd (omega arith)
 starts_rise base (b ∷ bs) =
     rise_step (b == line_feed) base (starts_from (base + 1) bs)
     (λ k e within. let up = starts_above (base + 1) bs k e within in omega (arith, up)) (starts_rise (base + 1) bs)
@@ -163,17 +163,11 @@ starts_rise base (b ∷ bs) =
 pub lines_rise : (text : List ℕ) → IsNonDecreasingBy (λ s. s) (0 ∷ starts_from 0 text)
 lines_rise text = rise_cons 0 (starts_from 0 text) (λ j d low. omega arith) (starts_rise 0 text)
 
-get_is : (xs : List ℕ) (k : ℕ) → unwrap_or (slice_get xs k) 0 ≡ get_or xs k 0
-get_is [] k = refl
-get_is (x ∷ xs) zero = refl
-get_is (x ∷ xs) (suc k) = get_is xs k
-
 -- the place of a byte by the starts of the lines
 pub place_is : (text : List ℕ) (at line start : ℕ) → at ≤ length text → up_to at (0 ∷ starts_from 0 text) ≡ line
-    → start ≡ unwrap_or (slice_get (0 ∷ starts_from 0 text) (line - 1)) 0
+    → start ≡ get_or (0 ∷ starts_from 0 text) (line - 1) 0
     → record { line = line; column = at - start + 1 } ≡ place_of text at
-place_is text at line start within is read =
-    let start_is : start ≡ get_or (0 ∷ starts_from 0 text) (line - 1) 0 = read ∙ get_is (0 ∷ starts_from 0 text) (line - 1) in
+place_is text at line start within is start_is =
     let low : leb 0 at ≡ true = grind (arith, nat_tests) in
     let count : up_to at (starts_from 0 text) ≡ count_by is_feed (take at text) = starts_count at 0 at text (omega arith) in
     let first : 1 + up_to at (starts_from 0 text) ≡ line = rw low at is in

@@ -1,5 +1,5 @@
 -- Keys where they are first written, and slots one by one.
-use Rattle.std.proofs.Common.{◌≡◌, ℕ, zero, suc, ◌+◌, ◌-◌, ◌<◌, Bool, true, false, cond, List, [], ◌∷◌, ◌++◌, length, set, Option, Some, None, is_some, refl, sym, ap, ◌∙◌, append_assoc, append_nil, arith}
+use Rattle.std.proofs.Common.{◌≡◌, ℕ, zero, suc, ◌+◌, ◌-◌, ◌<◌, Bool, true, false, cond, List, [], ◌∷◌, ◌++◌, length, set, Option, Some, None, is_some, Result, Ok, Err, IfOk, refl, sym, ap, ◌∙◌, append_assoc, append-nil, arith}
 use Rattle.std.proofs.lemmas.Grind.{common_steps}
 use Rattle.std.proofs.lemmas.Slice.Eq.{bytes_eq-Decides}
 use Rattle.std.specs.BTreeMap.{BTreeMap, get_by_text}
@@ -76,6 +76,15 @@ pub keys_kept : (m : BTreeMap (String Global) ℕ) (key : List ℕ) (at : ℕ) (
 keys_kept m key at places are some =
     λ q. are q ∙ kept_at (bytes_eq key q) key at places q refl (rw (are key) at some)
 
+pub no_value : {A : Type 0} (o : Option A) (b : Bool) → b ≡ is_some o → b ≡ false → o ≡ None
+no_value None b is off = refl
+no_value (Some x) b is off = absurd (grind arith)
+
+-- what an answer says, of another answer that it gives
+pub if_ok : {A E : Type 0} (P Q : A → Type 0) (r : Result A E) → IfOk r P → ((x : A) → P x → Q x) → IfOk r Q
+if_ok P Q (Ok x) h f = f x h
+if_ok P Q (Err e) h f = tt
+
 -- a slot more
 pub slots_push : (slots : List SlotMarks) (places : List SlotPlace) (slot : SlotMarks) (place : SlotPlace)
     → SlotsAre slots places → SlotIs slot place → SlotsAre (slots ++ slot ∷ []) (places ++ place ∷ [])
@@ -84,9 +93,11 @@ slots_push [] (p ∷ places) slot place are is = absurd are
 slots_push (s ∷ slots) [] slot place are is = absurd are
 slots_push (s ∷ slots) (p ∷ places) slot place are is = (are.0, slots_push slots places slot place are.1 is)
 
-pub no_slots : (places : List SlotPlace) → SlotsAre [] places → places ≡ []
-no_slots [] are = refl
-no_slots (p ∷ places) are = absurd are
+pub empty_stays : (slots : List SlotMarks) (places : List SlotPlace) (key : List ℕ) (at : ℕ) → length slots ≡ 0
+    → SlotsAre slots places → SlotsAre slots (in_last places key at)
+empty_stays [] [] key at none are = tt
+empty_stays [] (p ∷ places) key at none are = absurd are
+empty_stays (s ∷ slots) places key at none are = absurd (omega arith)
 
 -- a key of the last slot
 pub last_noted : (slots : List SlotMarks) (places : List SlotPlace) (n : ℕ) (old new : SlotMarks) (key : List ℕ) (at : ℕ)
@@ -119,3 +130,7 @@ slots_at [] (p ∷ places) k are = absurd are
 slots_at (s ∷ slots) [] k are = absurd are
 slots_at (s ∷ slots) (p ∷ places) zero are = are.0
 slots_at (s ∷ slots) (p ∷ places) (suc k) are = slots_at slots places k are.1
+
+-- a map without entries has no key
+pub empty_keys : (m : BTreeMap (String Global) ℕ) → m.entries ≡ [] → AreKeys m []
+empty_keys m none q = rw none

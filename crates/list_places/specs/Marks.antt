@@ -69,12 +69,12 @@ member_places (suc n) text =
     if first start == right_brace then []
     else as_far (member start) (λ m. key_place (first_part m.0) (length start) ∷ member_places n m.1)
 
--- a slot that is an element of an array
+-- a slot that is an element of an array, with the keys of its inline table
+abbrev pub slot_keys : List ℕ → List KeyPlace
+slot_keys text = if first text == left_brace then member_places (length text) (drop 1 text) else []
+
 abbrev pub slot_place : List ℕ → SlotPlace
-slot_place text = record {
-  left = length text;
-  keys = if first text == left_brace then member_places (length text) (drop 1 text) else [];
-}
+slot_place text = record { left = length text; keys = slot_keys text }
 
 -- the slots of the rest of an array, of fewer than n elements, as far as it can be read
 unfoldable pub element_places : ℕ → List ℕ → List SlotPlace

@@ -37,9 +37,11 @@ fn note(alloc: Global, keys: &mut KeyMarks, key: &str, left: usize) -> Result<()
     ensures { IfOk result (λ _. (places : List spec.KeyPlace) → AreKeys keys.old places
         → AreKeys keys.new (places ++ spec.key_place key.now left ∷ [])) }
 {
-    if keys.get(key).is_none() {
-        keys.insert(String::from_str(alloc, key)?, left)?;
+    if keys.contains_key(key) {
+        return Ok(());
     }
+    let text = String::from_str(alloc, key)?;
+    keys.insert(text, left)?;
     Ok(())
 }
 
@@ -107,18 +109,25 @@ fn note_members(alloc: Global, s: &str, keys: &mut KeyMarks) -> Result<(), Memor
     }
 }
 
-// A slot that is an element of an array.
-fn slot_at(alloc: Global, s: &str) -> Result<SlotMarks, Memory>
-    ensures { IfOk result (λ slot. SlotIs slot (spec.slot_place s.now)) }
+// The keys of a slot that is an element of an array.
+fn keys_at(alloc: Global, s: &str) -> Result<KeyMarks, Memory>
+    ensures { IfOk result (λ keys. AreKeys keys (spec.slot_keys s.now)) }
 {
     let mut keys = BTreeMap::new(alloc);
     if first(s) == b'{' {
         note_members(alloc, skip(s, 1), &mut keys)?;
+        return Ok(keys);
     }
-    Ok(SlotMarks {
-        left: s.len(),
-        keys,
-    })
+    Ok(keys)
+}
+
+// The slot that is the element at the front of a text.
+fn slot_at(alloc: Global, s: &str) -> Result<SlotMarks, Memory>
+    ensures { IfOk result (λ slot. SlotIs slot (spec.slot_place s.now)) }
+{
+    let keys = keys_at(alloc, s)?;
+    let left = s.len();
+    Ok(SlotMarks { left, keys })
 }
 
 // Notes an element of an array, and gives the text behind it, unless the array ends or can't be read.

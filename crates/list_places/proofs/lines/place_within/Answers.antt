@@ -1,4 +1,4 @@
-use Rattle.std.proofs.Common.{◌≡◌, ◌∷◌, leb, length, rules, arith}
+use Rattle.std.proofs.Common.{◌≡◌, ◌∷◌, ◌-◌, get_or, le_refl, leb, length, rules, arith}
 use Rattle.std.proofs.lemmas.List.Sorted.{IsPartitionPoint-from_clause, IsPartitionedBy-leb}
 use Rattle.std.proofs.lemmas.List.Sums.{prefix_len_is}
 use Rattle.std.specs.List.Sorted.{IsNonDecreasingBy}
@@ -17,4 +17,8 @@ returns c =
     let count : up_to c.args.at starts ≡ c.partition_point-line.result =
     prefix_len_is (λ s. leb s c.args.at) starts _ 0 c.partition_point-line.ensures.bound
     (λ k l. point.0 k 0 (omega arith) l) (λ l. point.1 _ 0 (omega arith) l) in
-    place_is text c.args.at c.partition_point-line.result _ c.requires.within (rw lines at count) ?
+    let got = c.get.ensures.lookup.4 (le_refl _) 0 in
+    let read : c.unwrap_or-start.result ≡ get_or starts (c.partition_point-line.result - 1) 0 =
+    rw (c.unwrap_or-start.ensures, c.copied.ensures) (rw c.saturating_sub.ensures at got) in
+    rw c.saturating_sub-2.ensures
+    (place_is text c.args.at c.partition_point-line.result c.unwrap_or-start.result c.requires.within (rw lines at count) (rw lines at read))
