@@ -7,7 +7,6 @@ use Rattle.std.proofs.lemmas.List.{take_more}
 use Rattle.std.specs.List.{prefix_len, suffix_len, count_by}
 use Rattle.std.specs.List.Sorted.{IsNonDecreasingBy}
 use Rattle.toml_parser.specs.Lexical.{line_feed}
-use Rattle.list_places.specs.declared.lines.Place.{Place}
 use Rattle.list_places.specs.Lines.{starts_from}
 use Rattle.list_places.specs.Places.{place_of}
 

@@ -1,6 +1,5 @@
 -- Keys where they are first written, and slots one by one.
-use Rattle.std.proofs.Common.{◌≡◌, ℕ, zero, suc, ◌+◌, ◌-◌, ◌<◌, Bool, true, false, cond, List, [], ◌∷◌, ◌++◌, length, set, Option, Some, None, is_some, Result, Ok, Err, IfOk, refl, sym, ap, ◌∙◌, append_assoc, append-nil, arith}
-use Rattle.std.proofs.lemmas.Grind.{common_steps}
+use Rattle.std.proofs.Common.{◌≡◌, ℕ, zero, suc, ◌+◌, ◌<◌, ◌≤◌, Bool, true, false, cond, List, [], ◌∷◌, ◌++◌, length, set, get_or, Option, Some, None, is_some, Result, Ok, Err, IfOk, refl, sym, ap, ◌∙◌, arith}
 use Rattle.std.proofs.lemmas.Slice.Eq.{bytes_eq-Decides}
 use Rattle.std.specs.BTreeMap.{BTreeMap, get_by_text}
 use Rattle.std.specs.List.{slice_get}
@@ -134,3 +133,19 @@ slots_at (s ∷ slots) (p ∷ places) (suc k) are = slots_at slots places k are.
 -- a map without entries has no key
 pub empty_keys : (m : BTreeMap (String Global) ℕ) → m.entries ≡ [] → AreKeys m []
 empty_keys m none q = rw none
+
+-- a slot that is there, and one that is not
+pub slot_found : (slots : List SlotMarks) (places : List SlotPlace) (k : ℕ) (s : SlotMarks) → SlotsAre slots places
+    → k < length slots → s ≡ get_or slots k s → (p : SlotPlace) × (slice_get places k ≡ Some p) × SlotIs s p
+slot_found [] places k s are low is = absurd (omega arith)
+slot_found (t ∷ slots) [] k s are low is = absurd are
+slot_found (t ∷ slots) (p ∷ places) zero s are low is = (p, refl, rw is are.0)
+slot_found (t ∷ slots) (p ∷ places) (suc k) s are low is = slot_found slots places k s are.1 (omega arith) is
+
+pub slot_missing : (slots : List SlotMarks) (places : List SlotPlace) (k : ℕ) → SlotsAre slots places
+    → length slots ≤ k → slice_get places k ≡ None
+slot_missing [] [] k are past = refl
+slot_missing [] (p ∷ places) k are past = absurd are
+slot_missing (t ∷ slots) [] k are past = absurd are
+slot_missing (t ∷ slots) (p ∷ places) zero are past = absurd (omega arith)
+slot_missing (t ∷ slots) (p ∷ places) (suc k) are past = slot_missing slots places k are.1 (omega arith)

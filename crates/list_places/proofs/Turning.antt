@@ -1,8 +1,7 @@
 -- The loops over a text, a turn at a time.
-use Rattle.std.proofs.Common.{◌≡◌, ℕ, zero, suc, Bool, true, false, ◌==◌, List, [], ◌∷◌, length, drop, Ok, Err, refl}
+use Rattle.std.proofs.Common.{◌≡◌, ℕ, suc, Bool, true, false, ◌==◌, List, [], ◌∷◌, length, drop, Ok}
 use Rattle.toml_parser.specs.Lexical.{first, skip_blank}
 use Rattle.toml_parser.specs.Strings.{Key}
-use Rattle.toml_walk.specs.declared.halt.Halted.{Halted}
 use Rattle.toml_walk.specs.Walk.{Statement, statement, member, element}
 use Rattle.list_places.specs.Marks.{Marked, key_place, first_part, slot_place, slot_keys, member_places, element_places, behind_header, by_header, with_slot, with_slots, with_top, after_header, after_statement, marks_from}
 

@@ -1,11 +1,11 @@
 -- How the marks of the code stand to those of the definitions.
-use Rattle.std.specs.Prelude.{◌≡◌, ℕ, zero, suc, List, [], ◌∷◌, ◌++◌, ⊤, Option, Some, None, String}
+use Rattle.std.specs.Prelude.{◌≡◌, ℕ, suc, List, [], ◌∷◌, ◌++◌, ⊤, Option, Some, None, String}
 use Rattle.std.specs.Borrow.{Bor}
 use Rattle.std.specs.declared.alloc.Global.{Global}
 use Rattle.std.specs.BTreeMap.{BTreeMap, get_by_text}
 use Rattle.list_places.specs.declared.marks.Marks as code
 use Rattle.list_places.specs.declared.marks.SlotMarks.{SlotMarks}
-use Rattle.list_places.specs.Marks.{KeyPlace, SlotPlace, Marked, first_left, member_places, element_places, marks_from, marks_of}
+use Rattle.list_places.specs.Marks.{KeyPlace, SlotPlace, Marked, first_left, member_places, element_places, marks_from}
 
 -- a map has where each key is first written
 abbrev pub AreKeys : BTreeMap (String Global) ℕ → List KeyPlace → Type 0

@@ -1,4 +1,4 @@
-use Rattle.std.proofs.Common.{◌≡◌, ◌∷◌, ◌-◌, get_or, le_refl, leb, length, rules, arith}
+use Rattle.std.proofs.Common.{◌≡◌, ◌∷◌, ◌-◌, get_or, le_refl, leb, rules, arith}
 use Rattle.std.proofs.lemmas.List.Sorted.{IsPartitionPoint-from_clause, IsPartitionedBy-leb}
 use Rattle.std.proofs.lemmas.List.Sums.{prefix_len_is}
 use Rattle.std.specs.List.Sorted.{IsNonDecreasingBy}

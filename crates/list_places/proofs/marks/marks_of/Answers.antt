@@ -1,4 +1,4 @@
-use Rattle.std.proofs.Common.{◌≡◌, suc, ◌-◌, length, refl, ◌∙◌, rules, arith}
+use Rattle.std.proofs.Common.{◌≡◌, suc, ◌-◌, length, ◌∙◌, rules, arith}
 use Rattle.list_places.specs.Marks.{nothing_marked, marks_of}
 use Rattle.list_places.proofs.marks.marks_of.Goals as goal
 

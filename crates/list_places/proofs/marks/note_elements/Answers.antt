@@ -1,4 +1,4 @@
-use Rattle.std.proofs.Common.{◌≡◌, suc, ◌-◌, ◌++◌, length, ap, ◌∙◌, append_assoc, append-nil, rules, arith}
+use Rattle.std.proofs.Common.{◌≡◌, suc, ◌-◌, ◌++◌, ap, ◌∙◌, append_assoc, append-nil, rules, arith}
 use Rattle.list_places.specs.Marks.{element_places}
 use Rattle.list_places.proofs.marks.note_elements.Goals as goal
 
