@@ -8,7 +8,7 @@ use Rattle.std.specs.List.{prefix_len, suffix_len, count_by}
 use Rattle.std.specs.List.Sorted.{IsNonDecreasingBy}
 use Rattle.toml_parser.specs.Lexical.{line_feed}
 use Rattle.list_places.specs.Lines.{starts_from}
-use Rattle.list_places.specs.Places.{place_of}
+use Rattle.list_places.specs.Places.{line_and_column}
 
 -- how many of the first starts are at most this byte
 abbrev pub up_to : ℕ → List ℕ → ℕ
@@ -165,7 +165,7 @@ lines_rise text = rise_cons 0 (starts_from 0 text) (λ j d low. omega arith) (st
 -- the place of a byte by the starts of the lines
 pub place_is : (text : List ℕ) (at line start : ℕ) → at ≤ length text → up_to at (0 ∷ starts_from 0 text) ≡ line
     → start ≡ get_or (0 ∷ starts_from 0 text) (line - 1) 0
-    → record { line = line; column = at - start + 1 } ≡ place_of text at
+    → record { line = line; column = at - start + 1 } ≡ line_and_column text at
 place_is text at line start within is start_is =
     let low : leb 0 at ≡ true = grind (arith, nat_tests) in
     let count : up_to at (starts_from 0 text) ≡ count_by is_feed (take at text) = starts_count at 0 at text (omega arith) in

@@ -34,8 +34,8 @@ abbrev pub key_place : List ℕ → ℕ → KeyPlace
 key_place k at = record { key = k; left = at }
 
 -- a slot none of whose keys came yet
-abbrev pub bare_slot : ℕ → SlotPlace
-bare_slot at = record { left = at; keys = [] }
+abbrev pub begun_slot : ℕ → SlotPlace
+begun_slot at = record { left = at; keys = [] }
 
 -- where a key is first written
 abbrev pub first_left : List ℕ → List KeyPlace → Option ℕ
@@ -52,9 +52,9 @@ second_part ([], last) = None
 second_part (part ∷ [], last) = Some last
 second_part (part ∷ next ∷ parts, last) = Some next
 
-abbrev pub is_slot : Key → Bool
-is_slot ([], last) = bytes_eq last (codes "slot")
-is_slot (part ∷ parts, last) = false
+abbrev pub is_slot_key : Key → Bool
+is_slot_key ([], last) = bytes_eq last (codes "slot")
+is_slot_key (part ∷ parts, last) = false
 
 -- what follows what was read, and nothing where the reading stops
 abbrev pub as_far : {A B : Type 0} → Result A Halted → (A → List B) → List B
@@ -70,11 +70,11 @@ member_places (suc n) text =
     else as_far (member start) (λ m. key_place (first_part m.0) (length start) ∷ member_places n m.1)
 
 -- a slot that is an element of an array, with the keys of its inline table
-abbrev pub slot_keys : List ℕ → List KeyPlace
-slot_keys text = if first text == left_brace then member_places (length text) (drop 1 text) else []
+abbrev pub element_keys : List ℕ → List KeyPlace
+element_keys text = if first text == left_brace then member_places (length text) (drop 1 text) else []
 
-abbrev pub slot_place : List ℕ → SlotPlace
-slot_place text = record { left = length text; keys = slot_keys text }
+abbrev pub element_place : List ℕ → SlotPlace
+element_place text = record { left = length text; keys = element_keys text }
 
 -- the slots of the rest of an array, of fewer than n elements, as far as it can be read
 unfoldable pub element_places : ℕ → List ℕ → List SlotPlace
@@ -82,7 +82,7 @@ element_places zero text = []
 element_places (suc n) text =
     let start = skip_blank text in
     if first start == right_bracket then []
-    else as_far (element start) (λ rest. slot_place start ∷ element_places n rest)
+    else as_far (element start) (λ rest. element_place start ∷ element_places n rest)
 
 -- a key more of the last slot
 abbrev pub in_last : List SlotPlace → List ℕ → ℕ → List SlotPlace
@@ -93,18 +93,18 @@ in_last (slot ∷ next ∷ slots) key left = slot ∷ in_last (next ∷ slots) k
 -- the slots of a pair at the top
 abbrev pub pair_slots : Key → List ℕ → List SlotPlace
 pair_slots key text =
-    if is_slot key && (first text == left_bracket) then element_places (length text) (drop 1 text) else []
+    if is_slot_key key && (first text == left_bracket) then element_places (length text) (drop 1 text) else []
 
 -- other slots, or one more
-abbrev pub with_slots : Marked → List SlotPlace → Marked
-with_slots m places = record { top = m.top; slots = places; has_headers = m.has_headers; is_in_slot = m.is_in_slot }
+abbrev pub with_these_slots : Marked → List SlotPlace → Marked
+with_these_slots m places = record { top = m.top; slots = places; has_headers = m.has_headers; is_in_slot = m.is_in_slot }
 
-abbrev pub with_slot : Marked → ℕ → Marked
-with_slot m at = with_slots m (m.slots ++ bare_slot at ∷ [])
+abbrev pub with_begun_slot : Marked → ℕ → Marked
+with_begun_slot m at = with_these_slots m (m.slots ++ begun_slot at ∷ [])
 
 -- a pair below a header
 abbrev pub pair_below : Marked → ℕ → Key → Marked
-pair_below m left key = if m.is_in_slot then with_slots m (in_last m.slots (first_part key) left) else m
+pair_below m left key = if m.is_in_slot then with_these_slots m (in_last m.slots (first_part key) left) else m
 
 -- a key more at the top
 abbrev pub with_top : Marked → ℕ → Key → Marked
@@ -117,7 +117,7 @@ with_top m left key = record {
 
 -- a pair above all headers
 abbrev pub pair_at_top : Marked → ℕ → Key → List ℕ → Marked
-pair_at_top m left key text = with_slots (with_top m left key) (m.slots ++ pair_slots key text)
+pair_at_top m left key text = with_these_slots (with_top m left key) (m.slots ++ pair_slots key text)
 
 -- a key of the last slot by its header
 abbrev pub part_by_header : List SlotPlace → Key → ℕ → Option (List ℕ) → List SlotPlace
@@ -137,12 +137,12 @@ behind_header m begins_slot =
 abbrev pub after_header : Marked → ℕ → Key → Bool → Marked
 after_header m left key begins_slot =
     let top = with_top (behind_header m begins_slot) left key in
-    if begins_slot then with_slot top left else with_slots top (by_header m.slots key left)
+    if begins_slot then with_begun_slot top left else with_these_slots top (by_header m.slots key left)
 
 abbrev pub after_what : Marked → ℕ → Key → List ℕ → What → Marked
 after_what m left key text whats.Pair = if m.has_headers then pair_below m left key else pair_at_top m left key text
 after_what m left key text whats.Header = after_header m left key false
-after_what m left key text whats.Element = after_header m left key (is_slot key)
+after_what m left key text whats.Element = after_header m left key (is_slot_key key)
 
 -- a statement
 abbrev pub after_statement : Marked → ℕ → Statement → Marked

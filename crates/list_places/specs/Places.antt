@@ -14,8 +14,8 @@ use Rattle.toml_walk.specs.Walk.{stop_of}
 use Rattle.list_places.specs.Marks.{Marked, first_left, marks_of}
 
 -- a byte of a text by its line and its column, both counted from 1
-abbrev pub place_of : List ℕ → ℕ → Place
-place_of text at = record {
+abbrev pub line_and_column : List ℕ → ℕ → Place
+line_and_column text at = record {
   line = 1 + count_by (λ b. b == line_feed) (take at text);
   column = 1 + suffix_len (λ b. not (b == line_feed)) (take at text);
 }
@@ -37,21 +37,21 @@ abbrev pub unknown_left : Marked → Option ℕ → List ℕ → Option ℕ
 unknown_left m slot key = if is_utf8 key then key_left m slot key else None
 
 -- the bytes that are left where an error stands that has a place among the marks
-abbrev pub left_of : Marked → Wrong → Option ℕ
-left_of m wrong.TooLarge = None
-left_of m wrong.Utf16 = None
-left_of m (wrong.IsScript at) = None
-left_of m (wrong.NotUtf8 at byte) = None
-left_of m wrong.NotToml = None
-left_of m (wrong.Missing field) = slot_left m field.slot
-left_of m (wrong.WrongKind field found) = field_left m field
-left_of m (wrong.OutOfRange field value low high) = field_left m field
-left_of m (wrong.SlotCount found) = key_left m None (codes "slot")
-left_of m (wrong.Kinds k letters) = key_left m (Some k) (codes "kinds")
-left_of m (wrong.NoRequestData k) = key_left m (Some k) (codes "requests")
-left_of m (wrong.Live k letters) = key_left m (Some k) (codes "live")
-left_of m (wrong.Unknown slot key) = unknown_left m slot key
-left_of m (wrong.NoSync found) = key_left m None (codes "slot")
+abbrev pub bytes_left : Marked → Wrong → Option ℕ
+bytes_left m wrong.TooLarge = None
+bytes_left m wrong.Utf16 = None
+bytes_left m (wrong.IsScript at) = None
+bytes_left m (wrong.NotUtf8 at byte) = None
+bytes_left m wrong.NotToml = None
+bytes_left m (wrong.Missing field) = slot_left m field.slot
+bytes_left m (wrong.WrongKind field found) = field_left m field
+bytes_left m (wrong.OutOfRange field value low high) = field_left m field
+bytes_left m (wrong.SlotCount found) = key_left m None (codes "slot")
+bytes_left m (wrong.Kinds k letters) = key_left m (Some k) (codes "kinds")
+bytes_left m (wrong.NoRequestData k) = key_left m (Some k) (codes "requests")
+bytes_left m (wrong.Live k letters) = key_left m (Some k) (codes "live")
+bytes_left m (wrong.Unknown slot key) = unknown_left m slot key
+bytes_left m (wrong.NoSync found) = key_left m None (codes "slot")
 
 -- the byte with so many left, and the first one where that is not known
 abbrev pub at_left : ℕ → Option ℕ → ℕ
@@ -62,11 +62,11 @@ at_left size (Some left) = size - left
 abbrev pub at_of : Marked → ℕ → Wrong → ℕ
 at_of m size (wrong.IsScript at) = at
 at_of m size (wrong.NotUtf8 at byte) = at
-at_of m size w = at_left size (left_of m w)
+at_of m size w = at_left size (bytes_left m w)
 
 -- where the marks tell the places of errors
 abbrev pub marked_places : List ℕ → Marked → List Wrong → List Place
-marked_places bytes m wrongs = map (λ w. place_of bytes (at_of m (length bytes) w)) wrongs
+marked_places bytes m wrongs = map (λ w. line_and_column bytes (at_of m (length bytes) w)) wrongs
 
 -- where bytes stop being TOML, if they are text
 abbrev pub bytes_stop : List ℕ → Option Stop
@@ -89,7 +89,7 @@ bytes_marks bytes = marks_of (if is_utf8 bytes then bytes else [])
 -- the place of each error
 unfoldable pub places_of : List ℕ → List Wrong → List Place
 places_of bytes wrongs =
-    if is_no_toml wrongs then place_of bytes (byte_of_stop (bytes_stop bytes)) ∷ []
+    if is_no_toml wrongs then line_and_column bytes (byte_of_stop (bytes_stop bytes)) ∷ []
     else marked_places bytes (bytes_marks bytes) wrongs
 
 -- where the text stops being TOML, if that is what is wrong

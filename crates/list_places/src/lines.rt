@@ -1,5 +1,5 @@
 //! The lines of a text, and the line and the column of a byte.
-ghost use Rattle.std.specs.Prelude.{◌≡◌, ℕ, ◌≤◌, List, ◌∷◌, length, IfOk};
+ghost use Rattle.std.specs.Prelude.{◌≡◌, ◌≤◌, ◌∷◌, length, IfOk};
 ghost use Rattle.list_places.specs.Places as spec;
 ghost use Rattle.list_places.specs.Lines.{starts_from};
 
@@ -31,7 +31,7 @@ pub(crate) fn line_starts(alloc: Global, text: &[u8]) -> Result<Vec<usize>, Memo
 fn place_within(starts: &[usize], text: &[u8], at: usize) -> Place
     requires within { at ≤ length text.now }
     requires lines { starts.now ≡ 0 ∷ starts_from 0 text.now }
-    ensures { result ≡ spec.place_of text.now at }
+    ensures { result ≡ spec.line_and_column text.now at }
 {
     let line = starts.partition_point(|start| *start <= at);
     let start = starts.get(line.saturating_sub(1)).copied().unwrap_or(0);
@@ -44,7 +44,7 @@ fn place_within(starts: &[usize], text: &[u8], at: usize) -> Place
 /// The place of a byte of a text whose lines begin here, or of its end.
 pub(crate) fn place_of(starts: &[usize], text: &[u8], at: usize) -> Place
     requires { starts.now ≡ 0 ∷ starts_from 0 text.now }
-    ensures { result ≡ spec.place_of text.now at }
+    ensures { result ≡ spec.line_and_column text.now at }
 {
     place_within(starts, text, at.min(text.len()))
 }

@@ -1,5 +1,5 @@
 //! Where the keys and the slots of a list stand.
-ghost use Rattle.std.specs.Prelude.{◌≡◌, ℕ, ◌<◌, List, [], ◌∷◌, ◌++◌, length, codes, IsSome, IfSome, IfOk, option_map};
+ghost use Rattle.std.specs.Prelude.{◌≡◌, ℕ, ◌<◌, List, [], ◌∷◌, ◌++◌, length, IfSome, IfOk, option_map};
 ghost use Rattle.toml_parser.specs.Reading.{key_view};
 ghost use Rattle.toml_walk.specs.Walk.{statement_view};
 ghost use Rattle.list_places.specs.Marks as spec;
@@ -64,8 +64,8 @@ fn second_part(key: &Key) -> Option<&str>
     }
 }
 
-fn is_slot(key: &Key) -> bool
-    ensures { result ≡ spec.is_slot (key_view key.now) }
+fn is_slot_key(key: &Key) -> bool
+    ensures { result ≡ spec.is_slot_key (key_view key.now) }
 {
     key.path.is_empty() && key.last.as_str() == "slot"
 }
@@ -111,7 +111,7 @@ fn note_members(alloc: Global, s: &str, keys: &mut KeyMarks) -> Result<(), Memor
 
 // The keys of a slot that is an element of an array.
 fn keys_at(alloc: Global, s: &str) -> Result<KeyMarks, Memory>
-    ensures { IfOk result (λ keys. AreKeys keys (spec.slot_keys s.now)) }
+    ensures { IfOk result (λ keys. AreKeys keys (spec.element_keys s.now)) }
 {
     let mut keys = BTreeMap::new(alloc);
     if first(s) == b'{' {
@@ -123,7 +123,7 @@ fn keys_at(alloc: Global, s: &str) -> Result<KeyMarks, Memory>
 
 // The slot that is the element at the front of a text.
 fn slot_at(alloc: Global, s: &str) -> Result<SlotMarks, Memory>
-    ensures { IfOk result (λ slot. SlotIs slot (spec.slot_place s.now)) }
+    ensures { IfOk result (λ slot. SlotIs slot (spec.element_place s.now)) }
 {
     let keys = keys_at(alloc, s)?;
     let left = s.len();
@@ -188,8 +188,6 @@ fn note_in_slot(
 }
 
 impl Marks {
-    ghost use Rattle.list_places.specs.Standing.{MarksAre as Are, MarksTurn as Turn};
-
     fn new(alloc: Global) -> Marks
         ensures { MarksAre result spec.nothing_marked }
     {
@@ -225,7 +223,7 @@ impl Marks {
             → MarksAre self.new (spec.pair_at_top m left (key_view key.now) value.now)) }
     {
         note(alloc, &mut self.top, first_part(key), left)?;
-        if is_slot(key) && first(value) == b'[' {
+        if is_slot_key(key) && first(value) == b'[' {
             note_elements(alloc, skip(value, 1), &mut self.slots)
         } else {
             Ok(())
@@ -234,7 +232,7 @@ impl Marks {
 
     // A header that begins a slot.
     fn note_slot(&mut self, alloc: Global, left: usize) -> Result<(), Memory>
-        ensures { IfOk result (λ _. (m : spec.Marked) → MarksAre self.old m → MarksAre self.new (spec.with_slot m left)) }
+        ensures { IfOk result (λ _. (m : spec.Marked) → MarksAre self.old m → MarksAre self.new (spec.with_begun_slot m left)) }
     {
         let keys = BTreeMap::new(alloc);
         self.slots.push(SlotMarks { left, keys })?;
@@ -244,7 +242,7 @@ impl Marks {
     // A header that begins no slot.
     fn note_by_header(&mut self, alloc: Global, left: usize, key: &Key) -> Result<(), Memory>
         ensures { IfOk result (λ _. (m : spec.Marked) → MarksAre self.old m
-            → MarksAre self.new (spec.with_slots m (spec.by_header m.slots (key_view key.now) left))) }
+            → MarksAre self.new (spec.with_these_slots m (spec.by_header m.slots (key_view key.now) left))) }
     {
         match second_part(key) {
             Some(part) => {
@@ -299,7 +297,7 @@ impl Marks {
                 }
             }
             What::Header => self.note_header(alloc, left, key, false),
-            What::Element => self.note_header(alloc, left, key, is_slot(key)),
+            What::Element => self.note_header(alloc, left, key, is_slot_key(key)),
         }
     }
 }

@@ -1,5 +1,5 @@
 //! The places of the errors of a list.
-ghost use Rattle.std.specs.Prelude.{◌≡◌, ℕ, List, ◌∷◌, length, codes, IfOk};
+ghost use Rattle.std.specs.Prelude.{◌≡◌, ◌∷◌, IfOk};
 ghost use Rattle.list_places.specs.Lines.{starts_from};
 ghost use Rattle.list_places.specs.Marks.{Marked};
 ghost use Rattle.list_places.specs.Places as spec;
@@ -65,8 +65,8 @@ fn left_at_unknown(marks: &Marks, slot: Option<u8>, key: &[u8]) -> Option<usize>
 }
 
 // How many bytes are left where an error stands that the marks tell.
-fn left_of(marks: &Marks, wrong: &Wrong) -> Option<usize>
-    ensures { (m : Marked) → MarksAre marks.now m → result ≡ spec.left_of m wrong.now }
+fn bytes_left(marks: &Marks, wrong: &Wrong) -> Option<usize>
+    ensures { (m : Marked) → MarksAre marks.now m → result ≡ spec.bytes_left m wrong.now }
 {
     match wrong {
         Wrong::Missing { field } => left_at_slot(marks, field.slot),
@@ -88,7 +88,7 @@ fn at_of(marks: &Marks, size: usize, wrong: &Wrong) -> usize
 {
     match wrong {
         Wrong::IsScript { at } | Wrong::NotUtf8 { at, .. } => *at,
-        _ => match left_of(marks, wrong) {
+        _ => match bytes_left(marks, wrong) {
             Some(left) => size.saturating_sub(left),
             None => 0,
         },
