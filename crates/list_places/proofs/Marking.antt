@@ -116,20 +116,6 @@ last_noted (s ∷ t ∷ slots) (p ∷ q ∷ places) zero old new key at are coun
 last_noted (s ∷ t ∷ slots) (p ∷ q ∷ places) (suc n) old new key at are count is left more =
     (are.0, last_noted (t ∷ slots) (q ∷ places) n old new key at are.1 (omega arith) is left more)
 
-abbrev pub AtSlot : Option SlotMarks → Option SlotPlace → Type 0
-AtSlot None None = Unit {0}
-AtSlot None (Some p) = ⊥
-AtSlot (Some s) None = ⊥
-AtSlot (Some s) (Some p) = SlotIs s p
-
-pub slots_at : (slots : List SlotMarks) (places : List SlotPlace) (k : ℕ) → SlotsAre slots places
-    → AtSlot (slice_get slots k) (slice_get places k)
-slots_at [] [] k are = tt
-slots_at [] (p ∷ places) k are = absurd are
-slots_at (s ∷ slots) [] k are = absurd are
-slots_at (s ∷ slots) (p ∷ places) zero are = are.0
-slots_at (s ∷ slots) (p ∷ places) (suc k) are = slots_at slots places k are.1
-
 -- a map without entries has no key
 pub empty_keys : (m : BTreeMap (String Global) ℕ) → m.entries ≡ [] → AreKeys m []
 empty_keys m none q = rw none

@@ -2,7 +2,7 @@
 use Rattle.std.proofs.Common.{◌≡◌, ℕ, suc, Bool, true, false, ◌==◌, List, [], ◌∷◌, length, drop, Ok}
 use Rattle.toml_parser.specs.Lexical.{first, skip_blank}
 use Rattle.toml_parser.specs.Strings.{Key}
-use Rattle.toml_walk.specs.Walk.{Statement, statement, member, element}
+use Rattle.toml_walk.specs.Walk.{ReadStatement, statement, member, element}
 use Rattle.list_places.specs.Marks.{Marked, key_place, first_part, element_place, element_keys, member_places, element_places, behind_header, by_header, with_begun_slot, with_these_slots, with_top, after_header, after_statement, marks_from}
 
 module _ (n : ℕ) (text : List ℕ) where
@@ -16,7 +16,7 @@ module _ (n : ℕ) (text : List ℕ) where
   unfolding element_places
   element_on rest other read = rw (other, read)
 
-  pub marks_on_statement : (m : Marked) (s : Statement) (rest : List ℕ) → (length (skip_blank text) == 0) ≡ false
+  pub marks_on_statement : (m : Marked) (s : ReadStatement) (rest : List ℕ) → (length (skip_blank text) == 0) ≡ false
       → statement (skip_blank text) ≡ Ok (s, rest)
       → marks_from (suc n) m text ≡ marks_from n (after_statement m (length (skip_blank text)) s) rest
   unfolding marks_from

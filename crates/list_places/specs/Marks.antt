@@ -8,7 +8,7 @@ use Rattle.toml.specs.Parse.{skip_bom}
 use Rattle.toml_walk.specs.declared.halt.Halted.{Halted}
 use Rattle.toml_walk.specs.declared.walk.What.{What}
 use Rattle.toml_walk.specs.declared.walk.What.TheVariants as whats
-use Rattle.toml_walk.specs.Walk.{Statement, statement, member, element}
+use Rattle.toml_walk.specs.Walk.{ReadStatement, statement, member, element}
 
 -- a key, and where it is written
 pub record KeyPlace : Type 0 where
@@ -27,9 +27,11 @@ pub record Marked : Type 0 where
   pub has_headers : Bool
   pub is_in_slot : Bool
 
+-- no statement came yet
 abbrev pub nothing_marked : Marked
 nothing_marked = record { top = []; slots = []; has_headers = false; is_in_slot = false }
 
+-- a key that is written with so many bytes left
 abbrev pub key_place : List ℕ → ℕ → KeyPlace
 key_place k at = record { key = k; left = at }
 
@@ -42,7 +44,7 @@ abbrev pub first_left : List ℕ → List KeyPlace → Option ℕ
 first_left key [] = None
 first_left key (place ∷ places) = if bytes_eq place.key key then Some place.left else first_left key places
 
--- The parts of a key that say what it is of.
+-- the first and the second part of a key with dots, and whether it is `slot` alone
 abbrev pub first_part : Key → List ℕ
 first_part ([], last) = last
 first_part (part ∷ parts, last) = part
@@ -69,7 +71,7 @@ member_places (suc n) text =
     if first start == right_brace then []
     else as_far (member start) (λ m. key_place (first_part m.0) (length start) ∷ member_places n m.1)
 
--- a slot that is an element of an array, with the keys of its inline table
+-- the keys of an element of an array, which are those of its inline table, and the slot that it is
 abbrev pub element_keys : List ℕ → List KeyPlace
 element_keys text = if first text == left_brace then member_places (length text) (drop 1 text) else []
 
@@ -95,7 +97,7 @@ abbrev pub pair_slots : Key → List ℕ → List SlotPlace
 pair_slots key text =
     if is_slot_key key && (first text == left_bracket) then element_places (length text) (drop 1 text) else []
 
--- other slots, or one more
+-- the same with these slots, and with a slot more
 abbrev pub with_these_slots : Marked → List SlotPlace → Marked
 with_these_slots m places = record { top = m.top; slots = places; has_headers = m.has_headers; is_in_slot = m.is_in_slot }
 
@@ -133,23 +135,24 @@ abbrev pub behind_header : Marked → Bool → Marked
 behind_header m begins_slot =
     record { top = m.top; slots = m.slots; has_headers = true; is_in_slot = begins_slot }
 
--- a header
+-- a header, which begins a slot, or names a key of the last one, or neither
 abbrev pub after_header : Marked → ℕ → Key → Bool → Marked
 after_header m left key begins_slot =
     let top = with_top (behind_header m begins_slot) left key in
     if begins_slot then with_begun_slot top left else with_these_slots top (by_header m.slots key left)
 
+-- what a statement of each kind adds
 abbrev pub after_what : Marked → ℕ → Key → List ℕ → What → Marked
 after_what m left key text whats.Pair = if m.has_headers then pair_below m left key else pair_at_top m left key text
 after_what m left key text whats.Header = after_header m left key false
 after_what m left key text whats.Element = after_header m left key (is_slot_key key)
 
--- a statement
-abbrev pub after_statement : Marked → ℕ → Statement → Marked
+-- the marks behind a statement
+abbrev pub after_statement : Marked → ℕ → ReadStatement → Marked
 after_statement m left s = after_what m left s.key s.value s.what
 
--- the marks behind a statement and what follows it, or those so far where the reading stops
-abbrev pub marks_behind : (Marked → List ℕ → Marked) → Marked → ℕ → Result (Statement × List ℕ) Halted → Marked
+-- those behind a statement and what follows it, or those so far where the reading stops
+abbrev pub marks_behind : (Marked → List ℕ → Marked) → Marked → ℕ → Result (ReadStatement × List ℕ) Halted → Marked
 marks_behind more m left (Ok s) = more (after_statement m left s.0) s.1
 marks_behind more m left (Err h) = m
 

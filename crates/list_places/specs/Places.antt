@@ -25,9 +25,11 @@ abbrev pub key_left : Marked → Option ℕ → List ℕ → Option ℕ
 key_left m None key = first_left key m.top
 key_left m (Some k) key = option_and_then (λ slot. first_left key slot.keys) (slice_get m.slots k)
 
+-- where a key of the format is first written
 abbrev pub field_left : Marked → Field → Option ℕ
 field_left m field = key_left m field.slot (key_text field.name)
 
+-- where a slot stands
 abbrev pub slot_left : Marked → Option ℕ → Option ℕ
 slot_left m None = None
 slot_left m (Some k) = option_map (λ slot. slot.left) (slice_get m.slots k)

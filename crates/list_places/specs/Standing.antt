@@ -11,6 +11,7 @@ use Rattle.list_places.specs.Marks.{KeyPlace, SlotPlace, Marked, first_left, mem
 abbrev pub AreKeys : BTreeMap (String Global) ℕ → List KeyPlace → Type 0
 AreKeys keys places = (q : List ℕ) → get_by_text keys q ≡ first_left q places
 
+-- a slot stands there, and its keys
 pub record SlotIs (slot : SlotMarks) (place : SlotPlace) : Type 0 where
   pub left : slot.left ≡ place.left
   pub keys : AreKeys slot.keys place.keys
@@ -22,6 +23,7 @@ SlotsAre [] (place ∷ places) = ⊥
 SlotsAre (slot ∷ slots) [] = ⊥
 SlotsAre (slot ∷ slots) (place ∷ places) = SlotIs slot place × SlotsAre slots places
 
+-- marks have what the definitions mark
 pub record MarksAre (marks : code.Marks) (marked : Marked) : Type 0 where
   pub top : AreKeys marks.top marked.top
   pub slots : SlotsAre marks.slots.items marked.slots

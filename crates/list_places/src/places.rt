@@ -153,8 +153,9 @@ fn marked_places(
 /// The places of the errors of a list, in their order, and where the text stops being TOML, if that is the error.
 ///
 /// A key stands where it is first written, a slot at its header or its element; an error without a place stands at the first
-/// byte. The text is gone over once. Memory is taken for the lines, for the keys with their places, and for the answer; the
-/// only error is that it is refused.
+/// byte. The text is gone over once for its lines and once for its statements, an array of slots twice more, for its elements
+/// and for their keys; a place is found by two binary searches. Memory is taken for the lines, for the keys with their places,
+/// and for the answer; the only error is that it is refused.
 #[tactic(auto, unfolding(crate::specs::Places::places_of, crate::specs::Places::stop_told))]
 pub fn list_places(alloc: Global, text: &[u8], wrongs: &[Wrong]) -> Result<Places, Memory>
     ensures places { IfOk result (λ found. found.places ≡ spec.places_of text.now wrongs.now) }
