@@ -6,7 +6,6 @@ ghost use Rattle.campaign.specs.Cost.{says_yes};
 ghost use Rattle.campaign.specs.ZerosWorld.{zeros_world};
 ghost use Rattle.clock_margins.specs.Outcomes.{outcome_beside, whom_it_costs, is_others};
 
-use lab_laws::campaigns::laws::yes_is_safe;
 use ttp_world::{Medl, Script};
 
 /// Where the test of a script says yes, no node is hurt whichever counts as faulty besides (`hurt`), memberships were never
@@ -22,6 +21,4 @@ pub fn yes_costs_no_others(list: &Medl, script: &Script)
         → (outcome_beside list.now script.now k (zeros_world list.now script.now script.now.slots)).split ≡ false }
     ensures costs { (k : ℕ) → is_others (whom_it_costs k
         (outcome_beside list.now script.now k (zeros_world list.now script.now script.now.slots))) ≡ false }
-{
-    yes_is_safe(list, script);
-}
+{}
