@@ -89,8 +89,8 @@ abbrev pub bytes_marks : List ℕ → Marked
 bytes_marks bytes = marks_of (if is_utf8 bytes then bytes else [])
 
 -- the place of each error
-unfoldable pub places_of : List ℕ → List Wrong → List Place
-places_of bytes wrongs =
+unfoldable pub found_places : List ℕ → List Wrong → List Place
+found_places bytes wrongs =
     if is_no_toml wrongs then line_and_column bytes (byte_of_stop (bytes_stop bytes)) ∷ []
     else marked_places bytes (bytes_marks bytes) wrongs
 

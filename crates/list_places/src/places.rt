@@ -156,9 +156,9 @@ fn marked_places(
 /// byte. The text is gone over once for its lines and once for its statements, an array of slots twice more, for its elements
 /// and for their keys; a place is found by two binary searches. Memory is taken for the lines, for the keys with their places,
 /// and for the answer; the only error is that it is refused.
-#[tactic(auto, unfolding(crate::specs::Places::places_of, crate::specs::Places::stop_told))]
+#[tactic(auto, unfolding(crate::specs::Places::found_places, crate::specs::Places::stop_told))]
 pub fn list_places(alloc: Global, text: &[u8], wrongs: &[Wrong]) -> Result<Places, Memory>
-    ensures places { IfOk result (λ found. found.places ≡ spec.places_of text.now wrongs.now) }
+    ensures places { IfOk result (λ found. found.places ≡ spec.found_places text.now wrongs.now) }
     ensures stop { IfOk result (λ found. found.stop ≡ spec.stop_told text.now wrongs.now) }
 {
     let starts = line_starts(alloc, text)?;

@@ -18,7 +18,7 @@ use Rattle.margin_laws.specs.Behind.{closed_ranges, open_range}
 use Rattle.margin_laws.proofs.Behind.{closed-open, closed-more}
 use Rattle.margin_text.specs.declared.swept.Swept.{Swept}
 use Rattle.margin_text.specs.declared.told.Told.{Told}
-use Rattle.margin_text.specs.Taken.{value_told, IsSweptOf, HasFew, AreFew}
+use Rattle.margin_text.specs.Taken.{value_told, IsSweptOf, HasFew, AreCountsUpTo}
 use Rattle.fault_runs.specs.declared.put.CampaignFault.{CampaignFault}
 use Rattle.fault_runs.specs.declared.put.CampaignFault.TheVariants as fault
 use Rattle.fault_runs.specs.Ends.{LeftBy, LeftFewerBy}
@@ -50,13 +50,13 @@ few-more m n swept less few = record {
 -- what sums them up has no greater counts
 pub margin-few : (most reach : ℕ) (tolds : List ValueTold) (swept : Swept) (margin : Margin) → IsSweptOf tolds swept
     → HasFew (length tolds) swept → length tolds ≤ most → margin ≡ margin_of reach swept.fold.node tolds
-    → AreFew most margin.counts
+    → AreCountsUpTo most margin.counts
 margin-few most reach tolds swept margin is few less same =
     let counts : swept.fold.counts ≡ margin.counts = is.fold.counts ∙ sym (ap (λ (m : Margin). m.counts) same) in
     let fewer = few-more (length tolds) most swept less few in
-    subst (AreFew most) counts fewer.counts
+    subst (AreCountsUpTo most) counts fewer.counts
 
-pub counts-more : (m n : ℕ) (counts : CostCounts) → m ≤ n → AreFew m counts → AreFew n counts
+pub counts-more : (m n : ℕ) (counts : CostCounts) → m ≤ n → AreCountsUpTo m counts → AreCountsUpTo n counts
 counts-more m n counts less few = record {
   nobody = omega (arith, less, few.nobody);
   itself = omega (arith, less, few.itself);

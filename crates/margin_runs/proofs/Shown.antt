@@ -16,18 +16,18 @@ use Rattle.clock_margins.specs.declared.margin.Sweep.{Sweep}
 use Rattle.clock_margins.specs.Sweeps.{jump_sweep}
 use Rattle.run_costs.specs.States.{AreShown, state_at, off_state}
 use Rattle.fault_runs.proofs.Ranges.{shown-row, flat_map-filter}
-use Rattle.margin_runs.specs.Written.{jumps_of, jumps_in, jumps_asked, all_jumps}
+use Rattle.margin_runs.specs.Written.{jump_sweeps_of, jumps_in, jumps_asked, all_jumps}
 use Rattle.margin_runs.proofs.Sweeping.{picked}
 
 -- the sweep of a node's jump in a slot, if there is one
 abbrev pub jumps_at : Medl → Script → ℕ → ℕ → List Sweep
-jumps_at list script slot k = jumps_of slot k (entry_of (row_of (zeros_world list script script.slots) slot) k)
+jumps_at list script slot k = jump_sweeps_of slot k (entry_of (row_of (zeros_world list script script.slots) slot) k)
 
 pub shown-jumps : (list : Medl) (script : Script) (slot : ℕ) (states : List NodeState) → slot < script.slots
     → AreShown list script (zeros_world list script (slot + 1)) states → (k : ℕ) → k < length list.slots
-    → jumps_of slot k (state_at states k).entry ≡ jumps_at list script slot k
+    → jump_sweeps_of slot k (state_at states k).entry ≡ jumps_at list script slot k
 shown-jumps list script slot states within shown k inside =
-    ap (jumps_of slot k)
+    ap (jump_sweeps_of slot k)
     (sym (get_or-map (λ (state : NodeState). state.entry) states k off_state entry.Off (omega (arith, inside, shown.count)))
     ∙ ap (λ (row : List Entry). entry_of row k) (shown-row list script slot states within shown))
 

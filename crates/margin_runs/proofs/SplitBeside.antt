@@ -1,7 +1,6 @@
 -- What was seen of a run where one node counts as faulty besides.
 use Rattle.std.proofs.Common.{◌≡◌, ℕ, ◌+◌, ◌-◌, ◌<◌, ◌≤◌, Bool, true, false, ◌&&◌, ◌||◌, not, List, [], ◌∷◌, length, refl, ap, sym, ◌∙◌, arith}
 use Rattle.std.specs.Prelude.{◌==◌, nat_le}
-use Rattle.std.proofs.lemmas.Bool.{false≢true, and_parts}
 use Rattle.ttp_base.specs.NodeSet.{has_node, without_node}
 use Rattle.ttp_base.proofs.NodeSets.{has_node-without}
 use Rattle.ttp_world.specs.declared.medl.Medl.{Medl}
@@ -44,14 +43,6 @@ split-more list script slot node now before is was =
     ∙ ap (was_split_beside list script node) (sym (zeros-next list script slot))
 
 -- A script with one event more, which comes later.
-
--- that arms no node
-pub plain-later : (slot : ℕ) (e : Event) → comes_later slot e ≡ true → is_arm e ≡ false
-plain-later slot e later = by (is_arm e) (and_parts (nat_le slot (begins_at e)) (not (is_arm e)) later).1
-  where
-    by : (b : Bool) → not b ≡ true → b ≡ false
-    by true is = absurd (false≢true is)
-    by false is = refl
 
 module _ (list : Medl) (script : Script) (more : Event) (plain : is_arm more ≡ false) (node : ℕ) where
   abbrev longer : Script

@@ -11,11 +11,11 @@ use Rattle.clock_margins.specs.Sweeps.{reach}
 use Rattle.fault_runs.specs.declared.put.CampaignFault.{CampaignFault}
 use Rattle.fault_runs.specs.Ends.{LeftBy, LeftFewerBy}
 use Rattle.fault_runs.proofs.Endings.{fewer-after, fewer-more, more-is_fewer}
-use Rattle.margin_runs.specs.Written.{lines_swept, all_sweeps, front_lines}
+use Rattle.margin_runs.specs.Written.{lines_swept, all_sweeps, lines_in_front}
 
 module _ (list : Medl) (script : Script) (asked : Option Span) (far : ℕ) (is : far ≡ reach list asked) where
   abbrev front : Lines
-  front = front_lines list script asked
+  front = lines_in_front list script asked
 
   abbrev lines : Lines
   lines = lines_swept list script far (all_sweeps list script asked)
@@ -25,7 +25,7 @@ module _ (list : Medl) (script : Script) (asked : Option Span) (far : ℕ) (is :
 
   whole : front ++ (lines ++ last_line ∷ []) ≡ margin_lines list script asked
   whole =
-      ap (λ (r : ℕ). front_lines list script asked ++ (lines_swept list script r (all_sweeps list script asked)
+      ap (λ (r : ℕ). lines_in_front list script asked ++ (lines_swept list script r (all_sweeps list script asked)
       ++ all_line asked (map (sweep_margin list script r) (all_sweeps list script asked)) ∷ [])) is
 
   -- where it ends in the first two lines

@@ -89,8 +89,8 @@ abbrev pub all_drifts : Medl → Script → List Sweep
 all_drifts list script = map drift_sweep (filter (is_ever_on script) (nodes_of list))
 
 -- the jump of a node in a slot, by what it did there
-abbrev pub jumps_of : ℕ → ℕ → Entry → List Sweep
-jumps_of slot k entry = if is_timed entry then jump_sweep slot k ∷ [] else []
+abbrev pub jump_sweeps_of : ℕ → ℕ → Entry → List Sweep
+jump_sweeps_of slot k entry = if is_timed entry then jump_sweep slot k ∷ [] else []
 
 -- those of all nodes
 abbrev pub jumps_in : Medl → Script → ℕ → List Sweep
@@ -108,5 +108,5 @@ abbrev pub all_jumps : Medl → Script → Span → List Sweep
 all_jumps list script asked = all_sweeps list script (Some asked)
 
 -- the first two lines
-abbrev pub front_lines : Medl → Script → Option Span → Lines
-front_lines list script asked = margins_head list script asked ∷ own_line list (summary list script) ∷ []
+abbrev pub lines_in_front : Medl → Script → Option Span → Lines
+lines_in_front list script asked = margins_head list script asked ∷ own_line list (summary list script) ∷ []

@@ -16,13 +16,13 @@ ghost use Rattle.clock_margins.specs.Ranges.{ranges_of};
 ghost use Rattle.clock_margins.specs.Sweeps.{reach, value_limit, values_from};
 ghost use Rattle.fault_runs.specs.Ends.{LeftBy, LeftFewerBy};
 ghost use Rattle.margin_laws.specs.Behind.{open_range};
-ghost use Rattle.margin_text.specs.Taken.{value_told, IsSweptOf, HasFew, AreFew, IsFewOf};
+ghost use Rattle.margin_text.specs.Taken.{value_told, IsSweptOf, HasFew, AreCountsUpTo, IsFewOf};
 ghost use Rattle.run_costs.specs.States.{AreShown, state_at};
 ghost use Rattle.run_costs.specs.Standing.{IsRunAfter};
-ghost use Rattle.margin_runs.specs.Tries.{IsBesideAfter, MayTry, IsPastOf, clock_limit, are_told, range_lines};
+ghost use Rattle.margin_runs.specs.Tries.{IsBesideAfter, MayTrySweep, IsPastOfSweep, clock_limit, are_told, range_lines};
 ghost use Rattle.margin_runs.specs.Written.{AreWritable, IsPutOf, closed_lines, tolds_so_far, most_values, most_in_sweep, most_in_slot};
-ghost use Rattle.margin_runs.specs.Written.{AreSwept, MayPut, lines_swept, drifts_of, all_drifts, jumps_of, jumps_in, jumps_asked};
-ghost use Rattle.margin_runs.specs.Written.{all_jumps, all_sweeps, front_lines};
+ghost use Rattle.margin_runs.specs.Written.{AreSwept, MayPut, lines_swept, drifts_of, all_drifts, jump_sweeps_of, jumps_in, jumps_asked};
+ghost use Rattle.margin_runs.specs.Written.{all_jumps, all_sweeps, lines_in_front};
 
 use crate::beside::BesideRun;
 use crate::tried::{Common, try_beside};
@@ -196,8 +196,8 @@ fn put_values<R: Threads + Sync, K: Sink>(
     swept: &mut Swept,
     out: &mut K,
 ) -> Result<(), CampaignFault>
-    requires may { MayTry common.now }
-    requires past { IsPastOf common.now past.now }
+    requires may { MayTrySweep common.now }
+    requires past { IsPastOfSweep common.now past.now }
     requires reach { reach ≤ clock_limit common.now.sweep.slot }
     requires count { done + some ≤ 2 * reach + 1 }
     requires put { (start : Output) × IsPutOf start (K.output out.old) common.now.list.now common.now.sweep
@@ -232,8 +232,8 @@ fn put_ranges<R: Threads + Sync, K: Sink>(
     swept: &mut Swept,
     out: &mut K,
 ) -> Result<(), CampaignFault>
-    requires may { MayTry common.now }
-    requires past { IsPastOf common.now past.now }
+    requires may { MayTrySweep common.now }
+    requires past { IsPastOfSweep common.now past.now }
     requires reach { reach ≤ clock_limit common.now.sweep.slot }
     requires put { (start : Output) × IsPutOf start (K.output out.old) common.now.list.now common.now.sweep [] swept.old }
     ensures ok { (start : Output) → IsPutOf start (K.output out.old) common.now.list.now common.now.sweep [] swept.old
@@ -295,12 +295,12 @@ fn put_sweep<R: Threads + Sync, K: Sink>(
     line: &mut Text<ROOM>,
     out: &mut K,
 ) -> Result<Margin, CampaignFault>
-    requires may { MayTry common.now }
-    requires past { IsPastOf common.now past.now }
+    requires may { MayTrySweep common.now }
+    requires past { IsPastOfSweep common.now past.now }
     requires reach { reach ≤ clock_limit common.now.sweep.slot }
     ensures margin { IfOk result (λ margin. margin
         ≡ sweep_margin common.now.list.now common.now.script.now reach common.now.sweep) }
-    ensures few { IfOk result (λ margin. AreFew most_values margin.counts) }
+    ensures few { IfOk result (λ margin. AreCountsUpTo most_values margin.counts) }
     ensures ok { OnOk result (WroteLines (K.output out.old) (K.output out.new)
         (sweep_lines common.now.list.now common.now.script.now reach common.now.sweep)) }
     ensures err { IfErr result (λ why. LeftBy why (K.output out.old) (K.output out.new)
@@ -336,8 +336,8 @@ fn put_counted<R: Threads + Sync, K: Sink>(
     total: &mut Total,
     out: &mut K,
 ) -> Result<(), CampaignFault>
-    requires may { MayTry common.now }
-    requires past { IsPastOf common.now past.now }
+    requires may { MayTrySweep common.now }
+    requires past { IsPastOfSweep common.now past.now }
     requires reach { reach ≤ clock_limit common.now.sweep.slot }
     requires few { IsFewOf (2 ^ 61) total.old }
     ensures few { (most : ℕ) → IsFewOf most total.old → OnOk result (IsFewOf (most + most_in_sweep) total.new) }
@@ -486,11 +486,11 @@ fn put_jump<R: Threads + Sync, K: Sink>(
     ensures ok { (begin : Output) (swept : List Sweep)
         → AreSwept begin (K.output out.old) list.now script.now reach swept total.old
         → OnOk result (AreSwept begin (K.output out.new) list.now script.now reach
-        (swept ++ jumps_of slot node entry.now) total.new) }
+        (swept ++ jump_sweeps_of slot node entry.now) total.new) }
     ensures err { (begin : Output) (swept : List Sweep)
         → AreSwept begin (K.output out.old) list.now script.now reach swept total.old
         → IfErr result (λ why. LeftBy why begin (K.output out.new)
-        (lines_swept list.now script.now reach (swept ++ jumps_of slot node entry.now))) }
+        (lines_swept list.now script.now reach (swept ++ jump_sweeps_of slot node entry.now))) }
 {
     if !is_timed(entry) {
         return Ok(());
@@ -700,9 +700,9 @@ fn put_front<K: Sink>(
     requires script { IsValidScript list.now script.now }
     requires room { length script.now.events < EVENT_LIMIT }
     requires reach { far ≡ reach list.now asked }
-    ensures ok { OnOk result (WroteLines (K.output out.old) (K.output out.new) (front_lines list.now script.now asked)) }
+    ensures ok { OnOk result (WroteLines (K.output out.old) (K.output out.new) (lines_in_front list.now script.now asked)) }
     ensures err { IfErr result (λ why. LeftFewerBy why (K.output out.old) (K.output out.new)
-        (front_lines list.now script.now asked)) }
+        (lines_in_front list.now script.now asked)) }
 {
     form_head(line, list, script, asked, far);
     if let Err(why) = put_line(line, out) {

@@ -9,7 +9,7 @@ ghost use Rattle.clock_margins.specs.Outcomes.{told_by_script, told_of_value};
 ghost use Rattle.clock_margins.specs.Sweeps.{with_drift};
 ghost use Rattle.margin_text.specs.Taken.{value_told};
 ghost use Rattle.run_costs.specs.Standing.{IsRunOfList};
-ghost use Rattle.margin_runs.specs.Tries.{IsBesideAfter, IsUnbegun, MayTry, IsPastOf, clock_limit, are_told};
+ghost use Rattle.margin_runs.specs.Tries.{IsBesideAfter, IsUnbegun, MayTrySweep, IsPastOfSweep, clock_limit, are_told};
 
 use crate::beside::BesideRun;
 use crate::scripts::{copy_of_script, drift_is_valid, test_of, with_drift};
@@ -68,7 +68,7 @@ fn try_drift(
     more: Script,
     run: &mut BesideRun,
 ) -> Result<(Told, Script), Memory>
-    requires may { MayTry common.now }
+    requires may { MayTrySweep common.now }
     requires start { IsUnbegun start.now common.now.list.now }
     requires value { IsWithinSpan DRIFT_LIMIT value.now }
     requires more { (v : ℤ) × (more ≡ with_drift common.now.script.now common.now.sweep.node v) }
@@ -97,8 +97,8 @@ fn try_jump(
     value: &i64,
     run: &mut BesideRun,
 ) -> Result<Told, Memory>
-    requires may { MayTry common.now }
-    requires past { IsPastOf common.now past.now }
+    requires may { MayTrySweep common.now }
+    requires past { IsPastOfSweep common.now past.now }
     requires slot { common.now.sweep.slot ≡ Some slot }
     requires value { IsWithinSpan JUMP_LIMIT value.now }
     requires own { IsRunOfList run.old.run.run common.now.list.now }
@@ -130,7 +130,7 @@ fn add_drifts(
     run: &mut BesideRun,
     all: &mut Vec<Told>,
 ) -> Result<(), Memory>
-    requires may { MayTry common.now }
+    requires may { MayTrySweep common.now }
     requires start { IsUnbegun start.now common.now.list.now }
     requires drift { common.now.sweep.slot ≡ None }
     requires values { All (IsWithinSpan (clock_limit common.now.sweep.slot)) values.now }
@@ -161,8 +161,8 @@ fn add_jumps(
     run: &mut BesideRun,
     all: &mut Vec<Told>,
 ) -> Result<(), Memory>
-    requires may { MayTry common.now }
-    requires past { IsPastOf common.now past.now }
+    requires may { MayTrySweep common.now }
+    requires past { IsPastOfSweep common.now past.now }
     requires slot { common.now.sweep.slot ≡ Some slot }
     requires values { All (IsWithinSpan (clock_limit common.now.sweep.slot)) values.now }
     requires own { IsRunOfList run.old.run.run common.now.list.now }
@@ -184,8 +184,8 @@ fn try_each(
     past: &BesideRun,
     values: &[i64],
 ) -> Result<Vec<Told>, Memory>
-    requires may { MayTry common.now }
-    requires past { IsPastOf common.now past.now }
+    requires may { MayTrySweep common.now }
+    requires past { IsPastOfSweep common.now past.now }
     requires values { All (IsWithinSpan (clock_limit common.now.sweep.slot)) values.now }
     ensures { IfOk result (λ all. are_told all.items
         ≡ map (told_of_value common.now.list.now common.now.script.now common.now.sweep) values.now) }
@@ -214,8 +214,8 @@ pub(crate) fn try_beside<R: Threads + Sync>(
     values: &[i64],
     threads: usize,
 ) -> Result<Vec<Told>, Memory>
-    requires may { MayTry common.now }
-    requires past { IsPastOf common.now past.now }
+    requires may { MayTrySweep common.now }
+    requires past { IsPastOfSweep common.now past.now }
     requires values { All (IsWithinSpan (clock_limit common.now.sweep.slot)) values.now }
     ensures { IfOk result (λ all. are_told all.items
         ≡ map (told_of_value common.now.list.now common.now.script.now common.now.sweep) values.now) }
@@ -226,13 +226,13 @@ pub(crate) fn try_beside<R: Threads + Sync>(
     let (front, back) = values.split_at(values.len() / 2);
     let half = threads - threads / 2;
     let try_front = || -> Result<Vec<Told>, Memory>
-        requires { IsSync R.row × MayTry common.now × IsPastOf common.now past.now
+        requires { IsSync R.row × MayTrySweep common.now × IsPastOfSweep common.now past.now
             × All (IsWithinSpan (clock_limit common.now.sweep.slot)) front.now }
         ensures { IfOk result (λ all. are_told all.items ≡ map (told_of_value common.entry.now.list.now
             common.entry.now.script.now common.entry.now.sweep) front.entry.now) }
     { try_beside(rt, alloc, common, past, front, half) };
     let try_back = || -> Result<Vec<Told>, Memory>
-        requires { IsSync R.row × MayTry common.now × IsPastOf common.now past.now
+        requires { IsSync R.row × MayTrySweep common.now × IsPastOfSweep common.now past.now
             × All (IsWithinSpan (clock_limit common.now.sweep.slot)) back.now }
         ensures { IfOk result (λ all. are_told all.items ≡ map (told_of_value common.entry.now.list.now
             common.entry.now.script.now common.entry.now.sweep) back.entry.now) }

@@ -55,16 +55,16 @@ ranges_closed range = map range_of (cons_option range [])
 
 -- No count is more than so many.
 
-pub record AreFew (most : ℕ) (counts : CostCounts) : Type 0 where
+pub record AreCountsUpTo (most : ℕ) (counts : CostCounts) : Type 0 where
   pub nobody : counts.nobody ≤ most
   pub itself : counts.itself ≤ most
   pub others : counts.others ≤ most
 
 pub record HasFew (most : ℕ) (swept : Swept) : Type 0 where
-  pub counts : AreFew most swept.fold.counts
+  pub counts : AreCountsUpTo most swept.fold.counts
   pub closed : swept.closed ≤ most
 
 pub record IsFewOf (most : ℕ) (total : Total) : Type 0 where
   pub sweeps : total.sweeps ≤ most
   pub values : total.values ≤ most
-  pub counts : AreFew most total.counts
+  pub counts : AreCountsUpTo most total.counts

@@ -6,7 +6,7 @@ ghost use Rattle.clock_margins.specs.Outcomes.{ValueTold, is_nobody, is_itself, 
 ghost use Rattle.clock_margins.specs.Sums.{between_with, lies_below_0, lies_above_0, behind, before, common, nearer, depth_of, height_of, nearest, count_of_values};
 ghost use Rattle.clock_margins.specs.Sums.{counts_with, free_around, costly, margin_of, no_values, total_of};
 ghost use Rattle.margin_laws.specs.Behind.{noted_if, total_behind};
-ghost use Rattle.margin_text.specs.Taken.{value_told, IsFoldOf, AreFew, IsFewOf};
+ghost use Rattle.margin_text.specs.Taken.{value_told, IsFoldOf, AreCountsUpTo, IsFewOf};
 
 use crate::range::whom_it_costs;
 use crate::told::Told;
@@ -57,7 +57,7 @@ fn noted_if(counts: bool, value: i64, before: Option<Between>) -> Option<Between
 // No values.
 fn no_values() -> CostCounts
     ensures none { result ≡ no_values }
-    ensures few { AreFew 0 result }
+    ensures few { AreCountsUpTo 0 result }
 {
     CostCounts {
         nobody: 0,
@@ -68,8 +68,8 @@ fn no_values() -> CostCounts
 
 // One value more, by whom it costs.
 fn counted(counts: CostCounts, costs: Costs) -> CostCounts
-    requires { AreFew (2 ^ 62) counts }
-    ensures few { (most : ℕ) → AreFew most counts → AreFew (most + 1) result }
+    requires { AreCountsUpTo (2 ^ 62) counts }
+    ensures few { (most : ℕ) → AreCountsUpTo most counts → AreCountsUpTo (most + 1) result }
     ensures counts { result ≡ counts_with counts (record {
       nobody = if is_nobody costs then 1 else 0;
       itself = if is_itself costs then 1 else 0;
@@ -175,7 +175,7 @@ impl SweepFold {
         requires { node < most_nodes }
         ensures fold { IsFoldOf [] result }
         ensures node { result.node ≡ node }
-        ensures few { AreFew 0 result.counts }
+        ensures few { AreCountsUpTo 0 result.counts }
     {
         SweepFold {
             node,
@@ -191,12 +191,12 @@ impl SweepFold {
 
     /// One value more.
     pub(crate) fn with(&self, told: &Told) -> SweepFold
-        requires few { AreFew (2 ^ 62) self.now.counts }
+        requires few { AreCountsUpTo (2 ^ 62) self.now.counts }
         requires node { self.now.node < most_nodes }
         ensures fold { (tolds : List ValueTold) → IsFoldOf tolds self.now
             → IsFoldOf (tolds ++ value_told told.now ∷ []) result }
         ensures node { result.node ≡ self.now.node }
-        ensures few { (most : ℕ) → AreFew most self.now.counts → AreFew (most + 1) result.counts }
+        ensures few { (most : ℕ) → AreCountsUpTo most self.now.counts → AreCountsUpTo (most + 1) result.counts }
     {
         let costs = whom_it_costs(self.node, &told.outcome);
         let is_costly = !is_nobody(costs);
@@ -315,8 +315,8 @@ fn nearest(margin: &Margin) -> Option<u64>
 }
 
 fn counts_with(one: CostCounts, other: CostCounts) -> CostCounts
-    requires one { AreFew (2 ^ 62) one }
-    requires other { AreFew (2 ^ 62) other }
+    requires one { AreCountsUpTo (2 ^ 62) one }
+    requires other { AreCountsUpTo (2 ^ 62) other }
     ensures { result ≡ counts_with one other }
 {
     CostCounts {
@@ -329,9 +329,9 @@ fn counts_with(one: CostCounts, other: CostCounts) -> CostCounts
 /// What some sweeps come to, with one more.
 pub fn with_margin(total: &Total, margin: &Margin) -> Total
     requires total { IsFewOf (2 ^ 61) total.now }
-    requires margin { AreFew (2 ^ 59) margin.now.counts }
+    requires margin { AreCountsUpTo (2 ^ 59) margin.now.counts }
     ensures total { (margins : List Margin) → total.now ≡ total_of margins → result ≡ total_of (margins ++ margin.now ∷ []) }
-    ensures few { (most values : ℕ) → IsFewOf most total.now → AreFew values margin.now.counts
+    ensures few { (most values : ℕ) → IsFewOf most total.now → AreCountsUpTo values margin.now.counts
         → IsFewOf (most + 3 * values + 1) result }
 {
     let counts = margin.counts;

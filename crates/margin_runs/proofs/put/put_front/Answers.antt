@@ -7,7 +7,7 @@ use Rattle.fault_runs.specs.declared.put.CampaignFault.{CampaignFault}
 use Rattle.fault_runs.specs.Ends.{LeftFewerBy}
 use Rattle.fault_runs.proofs.Endings.{fewer-after, fewer-more}
 use Rattle.fault_runs.proofs.Results.{ok-weaker, err-weaker}
-use Rattle.margin_runs.specs.Written.{front_lines}
+use Rattle.margin_runs.specs.Written.{lines_in_front}
 use Rattle.margin_runs.proofs.put.put_front.Goals as goal
 
 pub returns-in-Err-clause-err : goal.returns-in-Err-clause-err
@@ -32,10 +32,10 @@ returns g c =
     subst (λ (text : List ℕ). WroteLines a b (text ∷ [])) c.form_head.ensures c.in_default.ensures.ok in
     record {
       ok =
-          ok-weaker (WroteLines b d (own ∷ [])) (WroteLines a d (front_lines list script c.args.asked)) c.put_own_line.result
+          ok-weaker (WroteLines b d (own ∷ [])) (WroteLines a d (lines_in_front list script c.args.asked)) c.put_own_line.result
           (λ more. Wrote-join a b d (head ∷ []) (own ∷ []) wrote more) c.put_own_line.ensures.ok;
       err =
           err-weaker (λ (why : CampaignFault). LeftFewerBy why b d (own ∷ []))
-          (λ (why : CampaignFault). LeftFewerBy why a d (front_lines list script c.args.asked)) c.put_own_line.result
+          (λ (why : CampaignFault). LeftFewerBy why a d (lines_in_front list script c.args.asked)) c.put_own_line.result
           (λ why few. fewer-after why a b d (head ∷ []) (own ∷ []) wrote few) c.put_own_line.ensures.err;
     }

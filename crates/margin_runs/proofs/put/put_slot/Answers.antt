@@ -6,7 +6,7 @@ use Rattle.ttp_world.proofs.Lists.{nodes-most}
 use Rattle.clock_margins.specs.declared.margin.Sweep.{Sweep}
 use Rattle.fault_runs.specs.Ends.{LeftBy}
 use Rattle.margin_text.specs.Taken.{IsFewOf}
-use Rattle.margin_runs.specs.Written.{AreSwept, lines_swept, jumps_of, jumps_in, most_in_sweep, most_in_slot}
+use Rattle.margin_runs.specs.Written.{AreSwept, lines_swept, jump_sweeps_of, jumps_in, most_in_sweep, most_in_slot}
 use Rattle.margin_runs.proofs.Shown.{jumps_at, shown-jumps, jumps-whole}
 use Rattle.margin_runs.proofs.Sweeping.{total-more, more-left}
 use Rattle.margin_runs.proofs.put.put_slot.Goals as goal
@@ -43,8 +43,8 @@ loop-node-preserved g c =
     let node = c.loop-node.node in
     let before = flat_map (jumps_at list script slot) (below node) in
     let inside : node < length list.slots = omega (arith, c.loop-node-test.true, c.nodes-node-end.ensures) in
-    let here : jumps_of slot node c.entry_in.result.now ≡ jumps_at list script slot node =
-    ap (jumps_of slot node) c.entry_in.ensures
+    let here : jump_sweeps_of slot node c.entry_in.result.now ≡ jumps_at list script slot node =
+    ap (jump_sweeps_of slot node) c.entry_in.ensures
     ∙ shown-jumps list script slot c.args.states.now c.requires.slot c.requires.shown node inside in
     let count : most_in_slot * slot + node * most_in_sweep + most_in_sweep
     ≡ most_in_slot * slot + (node + 1) * most_in_sweep = omega arith in
@@ -56,7 +56,7 @@ loop-node-preserved g c =
           subst
           (λ (xs : List Sweep). AreSwept begin (g.K.Sink.output c.put_jump.new.out) list script c.args.reach xs
           c.put_jump.new.total)
-          (append_assoc swept before (jumps_of slot node c.entry_in.result.now)
+          (append_assoc swept before (jump_sweeps_of slot node c.entry_in.result.now)
           ∙ ap (λ (xs : List Sweep). swept ++ (before ++ xs)) here
           ∙ ap (λ (xs : List Sweep). swept ++ xs) (sym (flat_map-next (jumps_at list script slot) node)))
           (c.in_default.ensures.ok begin (swept ++ before) (c.loop-node.invariant.swept begin swept are));
@@ -73,9 +73,9 @@ returns-in-Err-clause-err g c = λ begin swept are.
     let now = g.K.Sink.output c.put_jump.new.out in
     let before = flat_map (jumps_at list script slot) (below node) in
     let inside : node < length list.slots = omega (arith, c.loop-node-test.true, c.nodes-node-end.ensures) in
-    let done = jumps_of slot node c.entry_in.result.now in
+    let done = jump_sweeps_of slot node c.entry_in.result.now in
     let here : done ≡ jumps_at list script slot node =
-    ap (jumps_of slot node) c.entry_in.ensures
+    ap (jump_sweeps_of slot node) c.entry_in.ensures
     ∙ shown-jumps list script slot c.args.states.now c.requires.slot c.requires.shown node inside in
     let split = flat_map-split (jumps_at list script slot) node (length list.slots) inside in
     let all : ((swept ++ before) ++ done) ++ split.0 ≡ swept ++ jumps_in list script slot =
