@@ -1,7 +1,7 @@
 -- What is told of one value more, behind the others, and of one sweep more.
-use Rattle.std.proofs.Common.{◌≡◌, ℕ, zero, suc, ◌+◌, max, ℤ, pos, ◌+ℤ◌, Bool, true, false, ◌&&◌, ◌||◌, not, cond, List, [], ◌∷◌, ◌++◌}
-use Rattle.std.proofs.Common.{refl, sym, ap, subst, ◌∙◌, append_assoc, append-nil, arith, map, length, Option, Some, None}
-use Rattle.std.specs.Prelude.{filter, count_by}
+use Rattle.std.proofs.Common.{◌≡◌, ℕ, zero, suc, ◌+◌, max, ℤ, pos, ◌+ℤ◌, Bool, true, false, ◌&&◌, ◌||◌, cond, List, [], ◌∷◌, ◌++◌}
+use Rattle.std.proofs.Common.{refl, sym, ap, ◌∙◌, append_assoc, append-nil, arith, map, length, Option, Some, None}
+use Rattle.std.specs.Prelude.{filter}
 use Rattle.std.specs.Int.{int_min, int_max}
 use Rattle.std.specs.List.{list_any, cons_option}
 use Rattle.std.proofs.lemmas.Bool.{false≢true}
@@ -11,11 +11,9 @@ use Rattle.std.proofs.lemmas.List.Folds.{list_any-append}
 use Rattle.std.proofs.lemmas.List.Sums.{sum_by_push}
 use Rattle.std.proofs.lemmas.List.{map-append}
 use Rattle.clock_margins.specs.declared.margin.Between.{Between}
-use Rattle.clock_margins.specs.declared.margin.CostCounts.{CostCounts}
 use Rattle.clock_margins.specs.declared.margin.Margin.{Margin}
-use Rattle.clock_margins.specs.declared.margin.Total.{Total}
 use Rattle.clock_margins.specs.Outcomes.{ValueTold, costs_nobody, costs_itself, costs_others}
-use Rattle.clock_margins.specs.Ranges.{Range, is_same_outcome, is_told_as, range_alone, range_before, ranges_of}
+use Rattle.clock_margins.specs.Ranges.{Range, is_told_as, range_alone, range_before, ranges_of}
 use Rattle.clock_margins.specs.Sums.{swept_value, between_with, least_to_greatest, counts_by_cost, most_hurt, common, nearer, nearest}
 use Rattle.clock_margins.specs.Sums.{count_of_values, counts_with, total_of}
 use Rattle.clock_margins.specs.Sweeps.{values_from}
@@ -117,15 +115,6 @@ joins t last (r ∷ next ∷ ranges) is told = ap (λ (rs : List Range). r ∷ r
 apart-if : (t : ValueTold) (r : Range) → is_told_as t r ≡ false → range_behind t (r ∷ []) ≡ r ∷ range_alone t ∷ []
 apart-if t r other = ap (λ (c : Bool). cond c (record r { to = t.value } ∷ []) (r ∷ range_alone t ∷ [])) other
 
-pub stands_alone : (t : ValueTold) (last : Range) (ranges : List Range) → open_range ranges ≡ Some last
-    → is_told_as t last ≡ false → range_behind t ranges ≡ ranges ++ range_alone t ∷ []
-stands_alone t last [] is other = absurd (cc)
-stands_alone t last (r ∷ []) is other =
-    let same : r ≡ last = cc in
-    apart-if t r (ap (is_told_as t) same ∙ other)
-stands_alone t last (r ∷ next ∷ ranges) is other =
-    ap (λ (rs : List Range). r ∷ rs) (stands_alone t last (next ∷ ranges) is other)
-
 -- of ranges with one at their end
 pub closed-end : (ranges : List Range) (r : Range) → closed_ranges (ranges ++ r ∷ []) ≡ ranges
 closed-end [] r = refl
@@ -153,21 +142,6 @@ closed-kept t (r ∷ next ∷ []) = by (is_told_as t next)
 closed-kept t (r ∷ next ∷ third ∷ ranges) =
     let more = closed-kept t (next ∷ third ∷ ranges) in
     (more.0, ap (λ (rs : List Range). r ∷ rs) more.1)
-
-pub closed-front : (tolds more : List ValueTold)
-    → BeginsWith (closed_ranges (ranges_of tolds)) (ranges_of (tolds ++ more))
-closed-front tolds [] = (
-  cons_option (open_range (ranges_of tolds)) [],
-  ap ranges_of (append-nil tolds) ∙ closed-open (ranges_of tolds),
-)
-closed-front tolds (t ∷ more) =
-    let kept = closed-kept t (ranges_of tolds) in
-    let later = closed-front (tolds ++ t ∷ []) more in (
-      kept.0 ++ later.0,
-      ap ranges_of (sym (append_assoc tolds (t ∷ []) more)) ∙ later.1
-          ∙ ap (λ (rs : List Range). rs ++ later.0) (ap closed_ranges (ranges-behind tolds t) ∙ kept.1)
-          ∙ append_assoc (closed_ranges (ranges_of tolds)) kept.0 later.0,
-    )
 
 pub closed-more : (tolds more : List ValueTold)
     → BeginsWith (closed_ranges (ranges_of tolds)) (closed_ranges (ranges_of (tolds ++ more)))

@@ -1,5 +1,5 @@
 -- Ranges and sums with one value or one sweep more behind the others.
-use Rattle.std.specs.Prelude.{ℕ, ◌+◌, max, ℤ, Bool, List, [], ◌∷◌, Option, Some, None, if◌then◌else◌}
+use Rattle.std.specs.Prelude.{◌+◌, max, ℤ, Bool, List, [], ◌∷◌, Option, Some, None, if◌then◌else◌}
 use Rattle.clock_margins.specs.declared.margin.Between.{Between}
 use Rattle.clock_margins.specs.declared.margin.Margin.{Margin}
 use Rattle.clock_margins.specs.declared.margin.Total.{Total}

@@ -1,7 +1,6 @@
 -- The least and the greatest of values on one side of 0.
-use Rattle.std.proofs.Common.{◌≡◌, ℕ, ℤ, pos, ◌<ℤ◌, Bool, true, false, List, [], ◌∷◌, cond, Option, Some, None, refl, ap, sym, subst, ◌∙◌, arith}
-use Rattle.std.specs.Prelude.{filter, IfSome, int_lt}
-use Rattle.std.specs.Int.{int_min, int_max}
+use Rattle.std.proofs.Common.{◌≡◌, ℤ, pos, ◌<ℤ◌, Bool, true, false, List, [], ◌∷◌, cond, Option, Some, None, refl, arith}
+use Rattle.std.specs.Prelude.{filter, IfSome}
 use Rattle.std.proofs.lemmas.Int.{ints}
 use Rattle.clock_margins.specs.declared.margin.Between.{Between}
 use Rattle.clock_margins.specs.Sums.{between_with, least_to_greatest, lies_below_0, lies_above_0}

@@ -1,5 +1,5 @@
 -- What was taken of the values of a sweep so far.
-use Rattle.std.specs.Prelude.{◌≡◌, ℕ, ◌<◌, ◌≤◌, ℤ, List, [], ◌++◌, map, length, filter, Option, option_map, IfSome}
+use Rattle.std.specs.Prelude.{◌≡◌, ℕ, ◌<◌, ◌≤◌, List, [], map, length, filter, Option, option_map}
 use Rattle.std.specs.List.{list_any, cons_option}
 use Rattle.ttp_base.specs.NodeSet.{most_nodes, below, has_node}
 use Rattle.clock_margins.specs.declared.margin.CostCounts.{CostCounts}

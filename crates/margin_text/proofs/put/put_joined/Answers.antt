@@ -1,6 +1,6 @@
-use Rattle.std.proofs.Common.{◌≡◌, ◌+◌, ◌*◌, ◌≤◌, ◌<◌, ◌++◌, ℕ, List, length, map, get_or, take, ap, sym, subst, ◌∙◌, rules, arith}
-use Rattle.std.proofs.lemmas.List.{get_or-map, length-map, take_all}
-use Rattle.line_form.specs.Kinds.{hexed, spell, joined_by}
+use Rattle.std.proofs.Common.{◌≡◌, ◌<◌, ◌++◌, ℕ, length, map, get_or, ap, sym, ◌∙◌, arith}
+use Rattle.std.proofs.lemmas.List.{get_or-map, length-map}
+use Rattle.line_form.specs.Kinds.{hexed, spell}
 use Rattle.line_form.proofs.Lists.{one_more}
 use Rattle.ttp_base.specs.NodeSet.{set_bits}
 use Rattle.ttp_world.specs.Trace.{member_digits}

@@ -1,4 +1,4 @@
-use Rattle.std.proofs.Common.{◌≡◌, ◌+◌, ap, sym, ◌∙◌, arith}
+use Rattle.std.proofs.Common.{sym, ◌∙◌, arith}
 use Rattle.margin_text.proofs.Counted.{one-closed, none-closed}
 use Rattle.margin_text.proofs.swept.count_with.Goals as goal
 

@@ -1,9 +1,6 @@
-use Rattle.std.proofs.Common.{◌≡◌, ℕ, ◌&&◌, ◌||◌, not, Bool, cond, max, ap, sym, ◌∙◌, rules, w64, to_z, of_z}
+use Rattle.std.proofs.Common.{◌≡◌, ◌&&◌, ◌||◌, not, cond, max, ap, sym, ◌∙◌, rules, w64, to_z, of_z}
 use Rattle.std.proofs.lemmas.Int.{to_z-of_z}
-use Rattle.std.specs.List.{list_any}
-use Rattle.clock_margins.specs.declared.margin.CostCounts.{CostCounts}
-use Rattle.clock_margins.specs.declared.margin.Costs.{Costs}
-use Rattle.clock_margins.specs.Outcomes.{whom_it_costs, is_nobody, is_itself, is_others, costs_nobody, costs_others}
+use Rattle.clock_margins.specs.Outcomes.{is_nobody, is_itself, is_others, costs_nobody, costs_others}
 use Rattle.clock_margins.specs.Sums.{lies_below_0, lies_above_0, lies_from_0_on, lies_at_0, counts_with}
 use Rattle.margin_laws.specs.Behind.{noted_if}
 use Rattle.margin_laws.proofs.Behind.{any-behind, spread-behind, counts-behind, most-behind}

@@ -1,4 +1,4 @@
-use Rattle.std.proofs.Common.{◌≡◌, ℕ, ◌+◌, true, false, length, ap, sym, ◌∙◌}
+use Rattle.std.proofs.Common.{sym, ◌∙◌}
 use Rattle.margin_text.proofs.Counted.{some-count, none-count}
 use Rattle.margin_text.proofs.swept.Swept.ranges.Goals as goal
 
