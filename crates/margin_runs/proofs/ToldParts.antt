@@ -15,6 +15,19 @@ use Rattle.margin_runs.specs.declared.tried.Common.{Common}
 use Rattle.margin_runs.specs.Tries.{tolds_from, are_told}
 use Rattle.margin_runs.specs.Written.{tolds_so_far}
 
+-- that of two parts of them, one after the other, is that of all
+pub halves_told : (list : Medl) (script : Script) (sweep : Sweep) (values front back : List ℤ) (n : ℕ) (one other all : List Told)
+    → front ≡ take n values → back ≡ drop n values → are_told one ≡ map (told_of_value list script sweep) front
+    → are_told other ≡ map (told_of_value list script sweep) back → all ≡ one ++ other
+    → are_told all ≡ map (told_of_value list script sweep) values
+halves_told list script sweep values front back n one other all is_front is_back first second both =
+    let told = told_of_value list script sweep in
+    ap are_told both
+    ∙ map-append value_told one other
+    ∙ (λ i. first i ++ second i)
+    ∙ sym (map-append told front back)
+    ∙ ap (map told) ((λ i. is_front i ++ is_back i) ∙ take-append-drop n values)
+
 -- one more
 pub told-more : (list : Medl) (script : Script) (sweep : Sweep) (values : List ℤ) (i : ℕ) (value : ℤ) (before all : List Told)
     (now : Told) → take i values ++ value ∷ [] ≡ take (i + 1) values → all ≡ before ++ now ∷ []
