@@ -1,10 +1,11 @@
 -- An array that is filled node by node.
-use Rattle.std.proofs.Common.{◌≡◌, ◌≢◌, ℕ, ◌+◌, ◌<◌, ◌≤◌, List, length, get_or, ap, sym, ◌∙◌, arith}
+use Rattle.std.proofs.Common.{◌≡◌, ◌≢◌, ℕ, ◌+◌, ◌<◌, ◌≤◌, List, length, get_or, ap, sym, subst, ◌∙◌, arith, unsigned_abs}
 use Rattle.std.proofs.Common.{below_more, get_or-set_other}
 use Rattle.std.proofs.Math.ListN.{length-set}
 use Rattle.std.proofs.lemmas.List.{get_or-set_same, get_or_default}
 use Rattle.std.specs.Prelude.{slice_set}
 use Rattle.campaign.specs.ZerosWorld.{zeros_world}
+use Rattle.controller.specs.Limits.{most_clock}
 use Rattle.run_costs.proofs.Rows.{next_row}
 use Rattle.run_costs.specs.States.{AreShown, off_state}
 use Rattle.run_rows.proofs.OneMore.{shown-entry}
@@ -45,12 +46,14 @@ kept-more list script slots n at kept one same few are is = record {
 pub begun-more : (list : Medl) (script : Script) (slot n at : ℕ) (begun : List NodeBegun) (one : NodeBegun) → at ≡ n
     → n < 24 → AreBegun list script slot n begun
     → one ≡ begun_shown list (node_after list script (zeros_world list script slot) n)
+    → unsigned_abs one.clock ≤ most_clock
     → AreBegun list script slot (n + 1) (slice_set begun at one)
-begun-more list script slot n at begun one same few are is = record {
+begun-more list script slot n at begun one same few are is near = record {
   room = length-set begun at one ∙ are.room;
   nodes =
       set-more (λ k. begun_shown list (node_after list script (zeros_world list script slot) k)) begun nothing_begun one at
       n same (omega (arith, few, are.room)) is are.nodes;
+  near = below_more _ _ are.near (subst (λ (b : NodeBegun). unsigned_abs b.clock ≤ most_clock) is near);
 }
 
 -- What is read of it.

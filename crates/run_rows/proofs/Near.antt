@@ -7,6 +7,7 @@ use Rattle.std.specs.Prelude.{slice_get}
 use Rattle.campaign.specs.ZerosWorld.{zeros_world}
 use Rattle.controller.proofs.Near.{ended-clock}
 use Rattle.controller.proofs.Parts.{each-of}
+use Rattle.controller.specs.Limits.{most_clock}
 use Rattle.controller.specs.PlantStands.{PlantStandsFor}
 use Rattle.controller.specs.PlantView.{PlantView}
 use Rattle.controller.specs.PlantWithin.{most_ahead, most_jump}
@@ -72,6 +73,17 @@ pub jumped-few : (slot : ℕ) (offset jump : ℤ) → unsigned_abs offset ≤ mo
     → IsWithinSpan most_jump jump
     → unsigned_abs (offset +ℤ jump) < 2 ^ 62
 jumped-few slot offset jump near few within =
+    omega (arith, ints, near, few, span-abs most_jump jump within)
+
+-- and so within what controllers are asked for
+pub kept-near : (slot : ℕ) (offset : ℤ) → unsigned_abs offset ≤ most_ahead slot → slot ≤ SLOT_LIMIT
+    → unsigned_abs offset ≤ most_clock
+kept-near slot offset near few = omega (arith, near, few)
+
+pub jumped-near : (slot : ℕ) (offset jump : ℤ) → unsigned_abs offset ≤ most_ahead slot → slot ≤ SLOT_LIMIT
+    → IsWithinSpan most_jump jump
+    → unsigned_abs (offset +ℤ jump) ≤ most_clock
+jumped-near slot offset jump near few within =
     omega (arith, ints, near, few, span-abs most_jump jump within)
 
 pub jumped-fits : (slot : ℕ) (offset jump : ℤ) → unsigned_abs offset ≤ most_ahead slot → slot ≤ SLOT_LIMIT

@@ -1,13 +1,16 @@
 -- The slots of a run, one after another.
-use Rattle.std.proofs.Common.{◌≡◌, ℕ, zero, suc, ◌+◌, ◌-◌, ◌<◌, [], ◌∷◌, length, ap, sym, ◌∙◌, refl, add-one, arith}
+use Rattle.std.proofs.Common.{◌≡◌, ℕ, zero, suc, ◌+◌, ◌-◌, ◌<◌, ◌≤◌, [], ◌∷◌, length, ap, sym, subst, ◌∙◌, refl, add-one, arith}
+use Rattle.std.proofs.Common.{inl, inr, unsigned_abs}
+use Rattle.std.proofs.Math.Nat.{eq-or-lt_of_le}
+use Rattle.controller.specs.Limits.{most_clock}
 use Rattle.campaign.specs.ZerosWorld.{zeros_world}
 use Rattle.run_costs.proofs.Rows.{length-zeros, next_row}
 use Rattle.run_rows.specs.Begun.{begun_shown}
-use Rattle.run_rows.specs.Rows.{node_row, slot_in, past_slots_in}
+use Rattle.run_rows.specs.Rows.{AreRowsNear, node_row, slot_in, past_slots_in}
 use Rattle.run_rows.specs.declared.row.NodeRow.{NodeRow}
 use Rattle.ttp_world.proofs.Slots.{node_of-slot_after}
 use Rattle.ttp_world.specs.Diary.{entry_of}
-use Rattle.ttp_world.specs.World.{node_after}
+use Rattle.ttp_world.specs.World.{BegunNode, node_after, node_of}
 use Rattle.ttp_world.specs.declared.medl.Medl.{Medl}
 use Rattle.ttp_world.specs.declared.script.Script.{Script}
 
@@ -60,3 +63,19 @@ node_row-slot_in list script slot k row less begun entry = λ i. record {
   begun = (begun ∙ ap (begun_shown list) (sym (node_of-slot_after list script (zeros_world list script slot) k less))) i;
   entry = entry i;
 }
+
+-- Clocks.
+
+pub near-next : (list : Medl) (script : Script) (slot : ℕ) → AreRowsNear list script slot
+    → ((k : ℕ) → k < length list.slots → unsigned_abs (node_after list script (zeros_world list script slot) k).clock ≤ most_clock)
+    → AreRowsNear list script (slot + 1)
+unfolding slot_in
+near-next list script slot before here = λ t k less node.
+    let within : t ≤ slot = omega (arith, less) in
+    elim (eq-or-lt_of_le within) [
+      | inl same ↦
+          subst (λ (m : ℕ). unsigned_abs (node_of (slot_in list script m).begun k).clock ≤ most_clock) (sym same)
+          (subst (λ (n : BegunNode). unsigned_abs n.clock ≤ most_clock)
+          (sym (node_of-slot_after list script (zeros_world list script slot) k node)) (here k node))
+      | inr lower ↦ before t k lower node
+    ]

@@ -1,7 +1,8 @@
 -- What is kept of a node as a slot begins.
-use Rattle.std.specs.Prelude.{◌≡◌, ℕ, ◌<◌, Bool, false, true, get_or, length, List, [], pos}
+use Rattle.std.specs.Prelude.{◌≡◌, ℕ, ◌<◌, ◌≤◌, Bool, false, true, get_or, length, List, [], pos, unsigned_abs}
 use Rattle.run_rows.specs.declared.row.NodeBegun.{NodeBegun}
 use Rattle.campaign.specs.ZerosWorld.{zeros_world}
+use Rattle.controller.specs.Limits.{most_clock}
 use Rattle.ttp_world.specs.Diary.{cstate_at, no_place}
 use Rattle.ttp_world.specs.Messages.{has_averaged}
 use Rattle.ttp_world.specs.World.{BegunNode, node_after}
@@ -45,3 +46,4 @@ pub record AreBegun (list : Medl) (script : Script) (slot n : ℕ) (begun : List
   pub room : length begun ≡ 24
   pub nodes : (k : ℕ) → k < n
       → get_or begun k nothing_begun ≡ begun_shown list (node_after list script (zeros_world list script slot) k)
+  pub near : (k : ℕ) → k < n → unsigned_abs (node_after list script (zeros_world list script slot) k).clock ≤ most_clock

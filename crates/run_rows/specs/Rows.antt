@@ -1,7 +1,8 @@
 -- The rows of a run.
-use Rattle.std.specs.Prelude.{◌≡◌, ℕ, zero, suc, ◌≤◌, List, [], ◌++◌, length, map}
+use Rattle.std.specs.Prelude.{◌≡◌, ℕ, zero, suc, ◌<◌, ◌≤◌, List, [], ◌++◌, length, map, unsigned_abs}
 use Rattle.run_rows.specs.declared.row.NodeRow.{NodeRow}
 use Rattle.campaign.specs.ZerosWorld.{all_zeros, zeros_world}
+use Rattle.controller.specs.Limits.{most_clock}
 use Rattle.causes.specs.RunSlots.{RunSlot, RunSlots, entry_in_slot, slot_of_run, slots_of_run}
 use Rattle.run_rows.specs.Begun.{begun_shown}
 use Rattle.ttp_base.specs.NodeSet.{below}
@@ -48,9 +49,16 @@ abbrev pub rows_in : Medl → Script → ℕ → List NodeRow
 rows_in list script zero = []
 rows_in list script (suc slot) = rows_in list script slot ++ rows_of list (slot_in list script slot)
 
+-- in the first slots, so many, clocks are near 0
+abbrev pub AreRowsNear : Medl → Script → ℕ → Type 0
+AreRowsNear list script slots =
+    (slot k : ℕ) → slot < slots → k < length list.slots
+    → unsigned_abs (node_of (slot_in list script slot).begun k).clock ≤ most_clock
+
 -- the rows of a run of so many slots
 pub record AreRows (list : Medl) (script : Script) (slots : ℕ) (kept : List NodeRow) : Type 0 where
   pub valid : IsValid list
   pub valid_script : IsValidScript list script
   pub within : slots ≤ script.slots
   pub rows : kept ≡ rows_in list script slots
+  pub near : AreRowsNear list script slots

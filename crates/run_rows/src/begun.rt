@@ -6,6 +6,7 @@ ghost use Rattle.ttp_world.specs.Messages.{has_averaged};
 ghost use Rattle.ttp_world.specs.Past.{NodePast, state_of};
 ghost use Rattle.ttp_world.specs.Script.{IsValidScript, is_on};
 ghost use Rattle.ttp_world.specs.World.{begun_node};
+ghost use Rattle.controller.specs.Limits.{most_clock};
 ghost use Rattle.controller.specs.PlantWithin.{most_ahead};
 ghost use Rattle.run_costs.specs.Standing.{IsRunAfter};
 ghost use Rattle.run_costs.specs.States.{off_state};
@@ -38,8 +39,9 @@ fn clock_in(list: &Medl, script: &Script, slot: u32, node: u8, phase: Phase, off
     requires slot { slot ≤ SLOT_LIMIT }
     requires node { node < length list.now.slots }
     requires near { unsigned_abs offset ≤ most_ahead slot }
-    ensures { (past : NodePast) → past.phase ≡ phase → past.offset ≡ offset
+    ensures value { (past : NodePast) → past.phase ≡ phase → past.offset ≡ offset
         → result ≡ (begun_node list.now script.now slot past node).clock }
+    ensures near { unsigned_abs result ≤ most_clock }
 {
     if stays_off(list, script, slot, node, phase) {
         offset
@@ -71,8 +73,9 @@ fn begun_by(
     requires slot { slot ≤ SLOT_LIMIT }
     requires node { node < length list.now.slots }
     requires near { unsigned_abs state.now.offset ≤ most_ahead slot }
-    ensures { (past : NodePast) → state.now ≡ state_of past → kept.now ≡ kept_of past
+    ensures value { (past : NodePast) → state.now ≡ state_of past → kept.now ≡ kept_of past
         → result ≡ begun_shown list.now (begun_node list.now script.now slot past node) }
+    ensures near { unsigned_abs result.clock ≤ most_clock }
 {
     let CState {
         time,

@@ -1,10 +1,12 @@
 //! The rows of a run.
-ghost use Rattle.std.specs.Prelude.{◌≡◌, ◌+◌, ◌<◌, ◌≤◌, ◌++◌, length, IfOk, OnOk};
+ghost use Rattle.std.specs.Prelude.{◌≡◌, ◌+◌, ◌<◌, ◌≤◌, ◌++◌, length, unsigned_abs, IfOk, OnOk};
 ghost use Rattle.ttp_world.specs.Medl.{IsValid};
 ghost use Rattle.ttp_world.specs.Script.{IsValidScript};
+ghost use Rattle.ttp_world.specs.World.{node_of};
+ghost use Rattle.controller.specs.Limits.{most_clock};
 ghost use Rattle.run_costs.specs.Standing.{IsRunAfter};
 ghost use Rattle.run_rows.specs.Begun.{AreBegun};
-ghost use Rattle.run_rows.specs.Rows.{node_row, rows_in, rows_of, run_slot, slot_in};
+ghost use Rattle.run_rows.specs.Rows.{AreRowsNear, node_row, rows_in, rows_of, run_slot, slot_in};
 
 use crate::begun::{all_begun, first_begun};
 use crate::kept::{all_kept_after, first_kept};
@@ -70,7 +72,8 @@ fn rows_of_run(
     requires list { IsValid list.now }
     requires script { IsValidScript list.now script.now }
     requires slots { slots ≤ script.now.slots }
-    ensures { IfOk result (λ rows. rows ≡ rows_in list.now script.now slots) }
+    ensures rows { IfOk result (λ rows. rows ≡ rows_in list.now script.now slots) }
+    ensures near { OnOk result (AreRowsNear list.now script.now slots) }
 {
     let mut rows = List::new(alloc);
     let mut run = Run::new(alloc, list)?;
@@ -149,5 +152,19 @@ impl<'a> RunRows<'a> {
     {
         let nodes = usize::from(self.list.nodes());
         self.rows.get(slot as usize * nodes + usize::from(node))
+    }
+
+    /// How far a node's clock is ahead in a slot, with the slot's jumps, in microticks.
+    pub fn clock(&self, slot: u32, node: u8) -> i64
+        requires slot { slot < self.now.slots }
+        requires node { node < length self.now.list.slots }
+        ensures value { result ≡ (node_of (run_slot self.now slot).begun node).clock }
+        ensures near { unsigned_abs result ≤ most_clock }
+    {
+        let nodes = usize::from(self.list.nodes());
+        self.rows
+            .get(slot as usize * nodes + usize::from(node))
+            .begun
+            .clock
     }
 }

@@ -44,6 +44,7 @@ loop-node-preserved c =
     c.requires.kept few c.from-at.ensures less in
     begun-more list script c.args.slot node c.from-at.result c.loop-node.begun c.begun_by.result c.from-at.ensures
     (omega (arith, less, few)) c.loop-node.invariant
-    (c.begun_by.ensures past (c.index-states-at.is ∙ state) kept
+    (c.begun_by.ensures.value past (c.index-states-at.is ∙ state) kept
     ∙ ap (λ (n : ℕ). begun_shown list (begun_node list script n past node))
     (sym (length-zeros list script c.args.slot)))
+    c.begun_by.ensures.near

@@ -17,5 +17,6 @@ loop-node-preserved c =
     c.requires.kept few c.from-at.ensures less in
     begun-more list script 0 node c.from-at.result c.loop-node.begun c.begun_by.result c.from-at.ensures
     (omega (arith, less, few)) c.loop-node.invariant
-    (c.begun_by.ensures (node_past list script (zeros_world list script 0) node) c.off.ensures
+    (c.begun_by.ensures.value (node_past list script (zeros_world list script 0) node) c.off.ensures
     kept)
+    c.begun_by.ensures.near
