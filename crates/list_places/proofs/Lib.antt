@@ -1,0 +1,3 @@
+pub mod Lining
+pub mod Marking
+pub mod Turning

@@ -8,32 +8,32 @@ use Rattle.toml_walk.specs.declared.names.Origin.{Origin}
 use Rattle.toml_walk.specs.declared.names.Origin.TheVariants as origin
 use Rattle.toml_walk.specs.declared.names.Holds.TheVariants as holds
 use Rattle.toml_walk.specs.Names.{Noted, held_by, noting, pass_header, pass_dot, table_at}
-use Rattle.toml_walk.specs.Names.{Leads, along, put, opened, opened_last}
+use Rattle.toml_walk.specs.Names.{Leads, along, put, header_opened, opened_last}
 use Rattle.toml_walk.specs.Walk.{dotted}
-use Rattle.toml_walk.specs.Reading.{StandsFor, LeadsTo}
+use Rattle.toml_walk.specs.Reading.{NamesStandFor, LeadsTo}
 
 module _ (t : ℕ) (k : List ℕ) (noted : Noted) (names : Names) where
   -- a header
-  pub header_table : (o : Origin) (n : ℕ) → held_by t k noted.names ≡ Some (holds.Table o n) → StandsFor names noted
+  pub header_table : (o : Origin) (n : ℕ) → held_by t k noted.names ≡ Some (holds.Table o n) → NamesStandFor names noted
       → LeadsTo (Some n) names (pass_header t k noted)
   header_table o n held stands = (noted, rw held, stands, stands.within t k (holds.Table o n) held)
 
-  pub header_array : (n : ℕ) → held_by t k noted.names ≡ Some (holds.Array n) → StandsFor names noted
+  pub header_array : (n : ℕ) → held_by t k noted.names ≡ Some (holds.Array n) → NamesStandFor names noted
       → LeadsTo (Some n) names (pass_header t k noted)
   header_array n held stands = (noted, rw held, stands, stands.within t k (holds.Array n) held)
 
   -- a dotted key
   pub dot_implicit : (n : ℕ) → held_by t k noted.names ≡ Some (holds.Table origin.Implicit n) → n < noted.tables
-      → StandsFor names (noting t k (holds.Table origin.Dotted n) noted) → LeadsTo (Some n) names (pass_dot t k noted)
+      → NamesStandFor names (noting t k (holds.Table origin.Dotted n) noted) → LeadsTo (Some n) names (pass_dot t k noted)
   dot_implicit n held low stands = (noting t k (holds.Table origin.Dotted n) noted, rw held, stands, low)
 
-  pub dot_dotted : (n : ℕ) → held_by t k noted.names ≡ Some (holds.Table origin.Dotted n) → StandsFor names noted
+  pub dot_dotted : (n : ℕ) → held_by t k noted.names ≡ Some (holds.Table origin.Dotted n) → NamesStandFor names noted
       → LeadsTo (Some n) names (pass_dot t k noted)
   dot_dotted n held stands = (noted, rw held, stands, stands.within t k (holds.Table origin.Dotted n) held)
 
   -- the last part of a header in single brackets
   pub table_implicit : (n : ℕ) → held_by t k noted.names ≡ Some (holds.Table origin.Implicit n) → n < noted.tables
-      → StandsFor names (noting t k (holds.Table origin.Header n) noted)
+      → NamesStandFor names (noting t k (holds.Table origin.Header n) noted)
       → LeadsTo (Some n) names (table_at t k noted (held_by t k noted.names))
   table_implicit n held low stands = (noting t k (holds.Table origin.Header n) noted, rw held, stands, low)
 
@@ -69,13 +69,13 @@ module _ (t : ℕ) (key : Key) (noted : Noted) where
   put_once at now led free = rw (led, free)
 
 module _ (key : Key) (noted : Noted) where
-  pub opened_stops : (is_element : Bool) → along pass_header key.0 0 noted ≡ None → opened is_element key noted ≡ None
-  unfolding opened
+  pub opened_stops : (is_element : Bool) → along pass_header key.0 0 noted ≡ None → header_opened is_element key noted ≡ None
+  unfolding header_opened
   opened_stops is_element none = rw none
 
   pub opened_at : (is_element : Bool) (at : ℕ) (now : Noted) → along pass_header key.0 0 noted ≡ Some (at, now)
-      → opened is_element key noted ≡ opened_last is_element at key.1 now
-  unfolding opened
+      → header_opened is_element key noted ≡ opened_last is_element at key.1 now
+  unfolding header_opened
   opened_at is_element at now led = rw led
 
 -- what follows from an answer's clause

@@ -9,7 +9,7 @@ use Rattle.std.specs.Str.{bytes_eq}
 use Rattle.toml_walk.specs.declared.names.Names.{Names}
 use Rattle.toml_walk.specs.declared.names.Holds.{Holds}
 use Rattle.toml_walk.specs.Names.{Noted, nothing_noted, with_table, noting, held_by}
-use Rattle.toml_walk.specs.Reading.{StandsFor, kept_by, table_number}
+use Rattle.toml_walk.specs.Reading.{NamesStandFor, kept_by, table_number}
 
 abbrev Table : Type 0
 Table = BTreeMap (String Global) Holds
@@ -25,7 +25,7 @@ kept_more [] m t k none = one_empty m t k none
 kept_more (x ∷ tables) m zero k none = refl
 kept_more (x ∷ tables) m (suc t) k none = kept_more tables m t k none
 
-pub stands_new : (names : Names) (m : Table) → names.tables.items ≡ m ∷ [] → m.entries ≡ [] → StandsFor names nothing_noted
+pub stands_new : (names : Names) (m : Table) → names.tables.items ≡ m ∷ [] → m.entries ≡ [] → NamesStandFor names nothing_noted
 stands_new names m items none = record {
   count = ap length items;
   root = omega arith;
@@ -34,7 +34,7 @@ stands_new names m items none = record {
 }
 
 pub stands_more : (old new : Names) (m : Table) (noted : Noted) → new.tables.items ≡ old.tables.items ++ m ∷ []
-    → m.entries ≡ [] → StandsFor old noted → StandsFor new (with_table noted)
+    → m.entries ≡ [] → NamesStandFor old noted → NamesStandFor new (with_table noted)
 stands_more old new m noted items none stands = record {
   count =
       let longer : length new.tables.items ≡ length old.tables.items + 1 = rw items (length-append old.tables.items (m ∷ [])) in
@@ -78,14 +78,14 @@ kept_set tables m n at key h t k is new =
     (cases_eq at t)
 
 -- what a look-up finds
-pub find_none : (names : Names) (noted : Noted) (t : ℕ) (k : List ℕ) → StandsFor names noted
+pub find_none : (names : Names) (noted : Noted) (t : ℕ) (k : List ℕ) → NamesStandFor names noted
     → length names.tables.items ≤ t → None ≡ held_by t k noted.names
 find_none names noted t k stands past =
     let none : slice_get names.tables.items t ≡ None = slice_get_past names.tables.items t past in
     let kept : None ≡ kept_by names.tables.items t k = rw none in
     kept ∙ stands.held t k
 
-pub find_some : (names : Names) (noted : Noted) (t : ℕ) (k : List ℕ) (m : Table) (r : Option Holds) → StandsFor names noted
+pub find_some : (names : Names) (noted : Noted) (t : ℕ) (k : List ℕ) (m : Table) (r : Option Holds) → NamesStandFor names noted
     → t < length names.tables.items → m ≡ get_or names.tables.items t m → r ≡ get_by_text m k
     → r ≡ held_by t k noted.names
 find_some names noted t k m r stands low is found =
@@ -104,7 +104,7 @@ held_within t k o h noted false old low is = old o is
 pub stands_noting : (old new : Names) (m n : Table) (at : ℕ) (key : List ℕ) (h : Holds) (noted : Noted)
     → new.tables.items ≡ set old.tables.items at n → slice_get old.tables.items at ≡ Some m
     → ((q : List ℕ) → get_by_text n q ≡ cond (bytes_eq key q) (Some h) (get_by_text m q))
-    → table_number h < noted.tables → StandsFor old noted → StandsFor new (noting at key h noted)
+    → table_number h < noted.tables → NamesStandFor old noted → NamesStandFor new (noting at key h noted)
 stands_noting old new m n at key h noted items is written low stands = record {
   count = rw items (length-set old.tables.items at n ∙ stands.count);
   root = stands.root;

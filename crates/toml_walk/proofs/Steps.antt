@@ -11,7 +11,7 @@ use Rattle.toml_walk.specs.declared.walk.Section.{Section}
 use Rattle.toml_walk.specs.declared.walk.What.TheVariants as whats
 use Rattle.toml_walk.specs.declared.stop.Due.TheVariants as due_parts
 use Rattle.toml_walk.specs.Halting.{or_halted}
-use Rattle.toml_walk.specs.Names.{Noted, nothing_noted, put, opened}
+use Rattle.toml_walk.specs.Names.{Noted, nothing_noted, put, header_opened}
 use Rattle.toml_walk.specs.Walk as spec
 use Rattle.toml_walk.specs.Walk.{value, items, members, lines}
 use Rattle.toml_walk.specs.Reading.{StopsAt, Walks, LeadsTo}
@@ -63,11 +63,11 @@ pub put_halts : (t : ℕ) (k : Key) (noted : Noted) (text : List ℕ) (h : Halt)
     → StopsAt h (spec.defined false k text) → Halts h (spec.put_at t k noted text)
 put_halts t k noted text h none stops x is = rw none (ap Err (sym (stops x is)))
 
-pub opened_ok : (b : Bool) (k : Key) (noted more : Noted) (t : ℕ) (text : List ℕ) → opened b k noted ≡ Some (t, more)
+pub opened_ok : (b : Bool) (k : Key) (noted more : Noted) (t : ℕ) (text : List ℕ) → header_opened b k noted ≡ Some (t, more)
     → spec.opened_at b k noted text ≡ Ok (spec.section t more)
 opened_ok b k noted more t text is = rw is
 
-pub opened_halts : (b : Bool) (k : Key) (noted : Noted) (text : List ℕ) (h : Halt) → opened b k noted ≡ None
+pub opened_halts : (b : Bool) (k : Key) (noted : Noted) (text : List ℕ) (h : Halt) → header_opened b k noted ≡ None
     → StopsAt h (spec.defined (not b) k text) → Halts h (spec.opened_at b k noted text)
 opened_halts b k noted text h none stops x is = rw none (ap Err (sym (stops x is)))
 
@@ -102,7 +102,7 @@ pub put_at_within : (t : ℕ) (k : Key) (noted : Noted) (text : List ℕ) → t 
 put_at_within t k noted text low more is = within_more t k noted more text (put t k noted) refl low is
 
 pub opened_opens : (section : Section) (names : Names) (b : Bool) (k : Key) (noted : Noted) (t : ℕ) (text : List ℕ)
-    → section.names ≡ names → section.table ≡ t → LeadsTo (Some t) names (opened b k noted)
+    → section.names ≡ names → section.table ≡ t → LeadsTo (Some t) names (header_opened b k noted)
     → Opens (Ok tt) section (spec.opened_at b k noted text)
 opened_opens section names b k noted t text same table leads =
     let (more, is, stands, within) = leads in (
@@ -162,13 +162,13 @@ module _ (n : ℕ) (sections : spec.Sections) (text : List ℕ) where
   unfolding lines
   lines_no_statement h some bad = rw (some, bad)
 
-  pub lines_twice : (s : spec.Statement) (rest : List ℕ) (h : Halted) → (length (skip_blank text) == 0) ≡ false
+  pub lines_twice : (s : spec.ReadStatement) (rest : List ℕ) (h : Halted) → (length (skip_blank text) == 0) ≡ false
       → spec.statement (skip_blank text) ≡ Ok (s, rest)
       → spec.define sections s.key s.what (skip_blank text) ≡ Err h → lines (suc n) sections text ≡ Err h
   unfolding lines
   lines_twice s rest h some read bad = rw (some, read, bad)
 
-  pub lines_on : (s : spec.Statement) (rest : List ℕ) (more : spec.Sections) → (length (skip_blank text) == 0) ≡ false
+  pub lines_on : (s : spec.ReadStatement) (rest : List ℕ) (more : spec.Sections) → (length (skip_blank text) == 0) ≡ false
       → spec.statement (skip_blank text) ≡ Ok (s, rest)
       → spec.define sections s.key s.what (skip_blank text) ≡ Ok more → lines (suc n) sections text ≡ lines n more rest
   unfolding lines

@@ -52,7 +52,7 @@ reason_of word =
     else reasons.NoDigits
 
 -- no value stands at the front of a text; a word of a value goes on behind one space where a digit follows
-unfoldable pub no_value : List ℕ → Halted
-no_value text =
+unfoldable pub no_value_there : List ℕ → Halted
+no_value_there text =
     if word_length text == 0 then due due_parts.Value text
     else halted text (why.NoValue (word_len text) (reason_of (take (word_len text) text)))

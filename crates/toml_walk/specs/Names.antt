@@ -109,6 +109,6 @@ abbrev pub opened_last : Bool → ℕ → List ℕ → Noted → Leads
 opened_last is_element t k noted =
     if is_element then element_at t k noted (held_by t k noted.names) else table_at t k noted (held_by t k noted.names)
 
-unfoldable pub opened : Bool → Key → Noted → Leads
-opened is_element key noted =
+unfoldable pub header_opened : Bool → Key → Noted → Leads
+header_opened is_element key noted =
     option_and_then (λ p. opened_last is_element p.0 key.1 p.1) (along pass_header key.0 0 noted)

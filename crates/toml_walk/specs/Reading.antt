@@ -34,7 +34,7 @@ abbrev pub kept_by : List (BTreeMap (String Global) Holds) → ℕ → List ℕ 
 kept_by tables t k = option_and_then (λ table. get_by_text table k) (slice_get tables t)
 
 -- names stand for what was noted: for each table, what its keys hold
-pub record StandsFor (names : Names) (noted : Noted) : Type 0 where
+pub record NamesStandFor (names : Names) (noted : Noted) : Type 0 where
   pub count : length names.tables.items ≡ noted.tables
   pub root : 0 < noted.tables
   pub held : (t : ℕ) (k : List ℕ) → kept_by names.tables.items t k ≡ held_by t k noted.names
@@ -44,9 +44,9 @@ pub record StandsFor (names : Names) (noted : Noted) : Type 0 where
 abbrev pub LeadsTo : Option ℕ → Names → Leads → Type 0
 LeadsTo None names leads = leads ≡ None
 LeadsTo (Some t) names leads =
-    (noted : Noted) × (leads ≡ Some (t, noted)) × StandsFor names noted × (t < noted.tables)
+    (noted : Noted) × (leads ≡ Some (t, noted)) × NamesStandFor names noted × (t < noted.tables)
 
 -- a value was noted at a key, or the rules forbid it
 abbrev pub PutsAt : Bool → Names → Option Noted → Type 0
 PutsAt false names expected = expected ≡ None
-PutsAt true names expected = (noted : Noted) × (expected ≡ Some noted) × StandsFor names noted
+PutsAt true names expected = (noted : Noted) × (expected ≡ Some noted) × NamesStandFor names noted

@@ -8,7 +8,7 @@ use Rattle.toml_walk.specs.declared.walk.Turn.{Turn}
 use Rattle.toml_walk.specs.declared.walk.Turn.TheVariants as turns
 use Rattle.toml_walk.specs.declared.walk.Section.{Section}
 use Rattle.toml_walk.specs.Names.{Noted}
-use Rattle.toml_walk.specs.Reading.{StandsFor}
+use Rattle.toml_walk.specs.Reading.{NamesStandFor}
 use Rattle.toml_walk.specs.Walk.{Sections, items, members, lines}
 
 -- less text is left
@@ -28,7 +28,7 @@ Halts h expected = (x : Halted) → h ≡ halts.Stop x → expected ≡ Err x
 -- a value is noted at a key, and the names stand for that
 abbrev pub Notes : Result (Unit {0}) Halt → Names → Result Noted Halted → Type 0
 Notes r names expected =
-    MatchResult r (λ _. (noted : Noted) × (expected ≡ Ok noted) × StandsFor names noted) (λ h. Halts h expected)
+    MatchResult r (λ _. (noted : Noted) × (expected ≡ Ok noted) × NamesStandFor names noted) (λ h. Halts h expected)
 
 module _ (value : List ℕ → Result (List ℕ) Halted) (n : ℕ) where
   -- what a turn leaves of an array
@@ -45,7 +45,7 @@ module _ (value : List ℕ → Result (List ℕ) Halted) (n : ℕ) where
   abbrev pub MembersOn : Result (List ℕ) Halted → Names → Turn → Type 0
   MembersOn whole names (turns.Ends rest) = whole ≡ Ok rest.now
   MembersOn whole names (turns.Goes rest) =
-      (more : Noted) × (whole ≡ members value n more rest.now) × StandsFor names more
+      (more : Noted) × (whole ≡ members value n more rest.now) × NamesStandFor names more
 
   abbrev pub MembersGo : Noted → List ℕ → Result Turn Halt → Names → Type 0
   MembersGo noted text r names =
@@ -54,7 +54,7 @@ module _ (value : List ℕ → Result (List ℕ) Halted) (n : ℕ) where
 
 -- names and the table of the last header stand for those of a text
 pub record SectionIs (section : Section) (sections : Sections) : Type 0 where
-  pub noted : StandsFor section.names sections.noted
+  pub noted : NamesStandFor section.names sections.noted
   pub table : section.table ≡ sections.table
   pub within : sections.table < sections.noted.tables
 

@@ -15,8 +15,8 @@ use Rattle.toml_walk.specs.declared.stop.Stop.{Stop}
 use Rattle.toml_walk.specs.declared.walk.Statement as code
 use Rattle.toml_walk.specs.declared.walk.What.{What}
 use Rattle.toml_walk.specs.declared.walk.What.TheVariants as whats
-use Rattle.toml_walk.specs.Halting.{halted, or_halted, due, no_value}
-use Rattle.toml_walk.specs.Names.{Noted, nothing_noted, put, opened}
+use Rattle.toml_walk.specs.Halting.{halted, or_halted, due, no_value_there}
+use Rattle.toml_walk.specs.Names.{Noted, nothing_noted, put, header_opened}
 
 infixl 10 ◌>>=◌
 abbrev ◌>>=◌ : {A B : Type 0} → Result A Halted → (A → Result B Halted) → Result B Halted
@@ -45,7 +45,7 @@ after_element closing what text =
 unfoldable pub atom : List ℕ → Result (List ℕ) Halted
 atom text =
     if starts_string text then or_halted (option_map (λ p. p.1) (quoted text)) (halted text why.NoString)
-    else or_halted (option_map (λ p. p.1) (unquoted text)) (no_value text)
+    else or_halted (option_map (λ p. p.1) (unquoted text)) (no_value_there text)
 
 -- the parts of a key, with dots between
 abbrev pub dotted : List (List ℕ) → List ℕ → List ℕ
@@ -87,7 +87,7 @@ value (suc depth) text =
     else atom text
 
 -- a statement: its key, what it defines, and the text at the value of a pair, or else behind it
-pub record Statement : Type 0 where
+pub record ReadStatement : Type 0 where
   pub key : Key
   pub what : What
   pub value : List ℕ
@@ -97,21 +97,21 @@ unfoldable pub header_key : List ℕ → Result (Key × List ℕ) Halted
 header_key text =
     key_read (skip_ws text) >>= (λ k. behind_byte right_bracket due_parts.HeaderEnd k.1 >>= (λ rest. Ok (k.0, rest)))
 
-abbrev pub stated : Key → What → List ℕ → Statement
-stated k w text = record { key = k; what = w; value = text }
+abbrev pub as_read : Key → What → List ℕ → ReadStatement
+as_read k w text = record { key = k; what = w; value = text }
 
 -- a statement and the text behind it
-unfoldable pub expression : List ℕ → Result (Statement × List ℕ) Halted
+unfoldable pub expression : List ℕ → Result (ReadStatement × List ℕ) Halted
 expression text =
     if first text == left_bracket && slice_index text 1 == left_bracket
     then header_key (drop 2 text) >>= (λ k. behind_byte right_bracket due_parts.HeaderEnd k.1 >>= (λ rest.
-    Ok (stated k.0 whats.Element rest, rest)))
+    Ok (as_read k.0 whats.Element rest, rest)))
     else if first text == left_bracket
-    then header_key (drop 1 text) >>= (λ k. Ok (stated k.0 whats.Header k.1, k.1))
-    else pair_key text >>= (λ k. value recursion_limit k.1 >>= (λ rest. Ok (stated k.0 whats.Pair k.1, rest)))
+    then header_key (drop 1 text) >>= (λ k. Ok (as_read k.0 whats.Header k.1, k.1))
+    else pair_key text >>= (λ k. value recursion_limit k.1 >>= (λ rest. Ok (as_read k.0 whats.Pair k.1, rest)))
 
 -- one that has its line to itself
-unfoldable pub statement : List ℕ → Result (Statement × List ℕ) Halted
+unfoldable pub statement : List ℕ → Result (ReadStatement × List ℕ) Halted
 statement text =
     expression text >>= (λ s. if ends_line (skip_ws s.1) then Ok s else Err (due due_parts.LineEnd (skip_ws s.1)))
 
@@ -127,7 +127,7 @@ section t more = record { noted = more; table = t }
 -- the table of a header, unless it is defined already
 abbrev pub opened_at : Bool → Key → Noted → List ℕ → Result Sections Halted
 opened_at is_element k noted text =
-    or_halted (option_map (λ p. section p.0 p.1) (opened is_element k noted)) (defined (not is_element) k text)
+    or_halted (option_map (λ p. section p.0 p.1) (header_opened is_element k noted)) (defined (not is_element) k text)
 
 -- what a statement at the front of a text defines
 abbrev pub define : Sections → Key → What → List ℕ → Result Sections Halted
@@ -161,7 +161,7 @@ unfoldable pub stop_of : List ℕ → Option Stop
 stop_of text = stop_at (length text) (read_all text)
 
 -- a statement of the code
-abbrev pub statement_view : code.Statement → Statement
+abbrev pub statement_view : code.Statement → ReadStatement
 statement_view s = record { key = key_view s.key; what = s.what; value = s.value.now }
 
 -- a member of an inline table, and the text behind its comma or at the closing brace

@@ -3,7 +3,7 @@ ghost use Rattle.std.specs.Prelude.{◌≡◌, ◌≤◌, length};
 ghost use Rattle.std.specs.List.{list_all};
 ghost use Rattle.std.specs.Char.{is_ascii_digit};
 ghost use Rattle.toml_parser.specs.Numbers.{word_len};
-ghost use Rattle.toml_walk.specs.Halting.{halted, word_length, token_at, due, reason_of, no_value};
+ghost use Rattle.toml_walk.specs.Halting.{halted, word_length, token_at, due, reason_of, no_value_there};
 
 use crate::stop::{Due, NoValue, Token, Why};
 use std::alloc::{AllocError, AllocFailed};
@@ -155,9 +155,9 @@ fn reason(word: &[u8]) -> NoValue
 }
 
 /// No value stands at the front of a text.
-#[tactic(auto, unfolding(crate::specs::Halting::no_value))]
+#[tactic(auto, unfolding(crate::specs::Halting::no_value_there))]
 pub(crate) fn no_value(text: &str) -> Halt
-    ensures { result ≡ Halt.Stop (no_value text.now) }
+    ensures { result ≡ Halt.Stop (no_value_there text.now) }
 {
     let bytes = text.as_bytes();
     if word_length(bytes) == 0 {

@@ -2,8 +2,8 @@
 ghost use Rattle.std.specs.Prelude.{◌≡◌, ◌<◌, IfOk, OnOk};
 ghost use Rattle.toml_parser.specs.Reading.{key_view};
 ghost use Rattle.toml_walk.specs.Names.{Noted, nothing_noted, held_by, with_table, noting, noting_table, noting_element};
-ghost use Rattle.toml_walk.specs.Names.{pass_header, pass_dot, put, table_at, element_at, opened};
-ghost use Rattle.toml_walk.specs.Reading.{StandsFor, LeadsTo, PutsAt, table_number};
+ghost use Rattle.toml_walk.specs.Names.{pass_header, pass_dot, put, table_at, element_at, header_opened};
+ghost use Rattle.toml_walk.specs.Reading.{NamesStandFor, LeadsTo, PutsAt, table_number};
 
 use std::alloc::Global;
 use std::collections::BTreeMap;
@@ -36,7 +36,7 @@ pub(crate) struct Names {
 impl Names {
     /// The names of an empty text.
     pub(crate) fn new(alloc: Global) -> Result<Names, Memory>
-        ensures { IfOk result (λ names. StandsFor names nothing_noted) }
+        ensures { IfOk result (λ names. NamesStandFor names nothing_noted) }
     {
         let mut tables = Vec::new(alloc);
         tables.push(BTreeMap::new(alloc))?;
@@ -45,8 +45,8 @@ impl Names {
 
     // One more table.
     fn add_table(&mut self, alloc: Global) -> Result<usize, Memory>
-        ensures { IfOk result (λ number. (noted : Noted) → StandsFor self.old noted
-            → (number ≡ noted.tables) × StandsFor self.new (with_table noted)) }
+        ensures { IfOk result (λ number. (noted : Noted) → NamesStandFor self.old noted
+            → (number ≡ noted.tables) × NamesStandFor self.new (with_table noted)) }
     {
         let number = self.tables.len();
         self.tables.push(BTreeMap::new(alloc))?;
@@ -55,7 +55,7 @@ impl Names {
 
     // What a key of a table holds.
     fn find(&self, table: usize, key: &str) -> Option<Holds>
-        ensures { (noted : Noted) → StandsFor self.now noted → result ≡ held_by table key.now noted.names }
+        ensures { (noted : Noted) → NamesStandFor self.now noted → result ≡ held_by table key.now noted.names }
     {
         match self.tables.as_slice().get(table) {
             Some(keys) => keys.get(key).copied(),
@@ -65,8 +65,8 @@ impl Names {
 
     // A key of a table holds something from now on.
     fn note(&mut self, alloc: Global, table: usize, key: &str, holds: Holds) -> Result<(), Memory>
-        ensures { OnOk result ((noted : Noted) → StandsFor self.old noted → table < noted.tables
-            → table_number holds < noted.tables → StandsFor self.new (noting table key.now holds noted)) }
+        ensures { OnOk result ((noted : Noted) → NamesStandFor self.old noted → table < noted.tables
+            → table_number holds < noted.tables → NamesStandFor self.new (noting table key.now holds noted)) }
     {
         if self.tables.len() <= table {
             return Ok(());
@@ -84,8 +84,8 @@ impl Names {
         key: &str,
         origin: Origin,
     ) -> Result<usize, Memory>
-        ensures { IfOk result (λ number. (noted : Noted) → StandsFor self.old noted → table < noted.tables
-            → (number ≡ noted.tables) × StandsFor self.new (noting_table table key.now origin noted)) }
+        ensures { IfOk result (λ number. (noted : Noted) → NamesStandFor self.old noted → table < noted.tables
+            → (number ≡ noted.tables) × NamesStandFor self.new (noting_table table key.now origin noted)) }
     {
         let number = self.add_table(alloc)?;
         self.note(alloc, table, key, Holds::Table { origin, number })?;
@@ -99,7 +99,7 @@ impl Names {
         table: usize,
         key: &str,
     ) -> Result<Option<usize>, Memory>
-        ensures { IfOk result (λ next. (noted : Noted) → StandsFor self.old noted → table < noted.tables
+        ensures { IfOk result (λ next. (noted : Noted) → NamesStandFor self.old noted → table < noted.tables
             → LeadsTo next self.new (pass_header table key.now noted)) }
     {
         let held = self.find(table, key);
@@ -116,7 +116,7 @@ impl Names {
 
     // A dotted key goes through a table that no header defined.
     fn pass_dot(&mut self, alloc: Global, table: usize, key: &str) -> Result<Option<usize>, Memory>
-        ensures { IfOk result (λ next. (noted : Noted) → StandsFor self.old noted → table < noted.tables
+        ensures { IfOk result (λ next. (noted : Noted) → NamesStandFor self.old noted → table < noted.tables
             → LeadsTo next self.new (pass_dot table key.now noted)) }
     {
         let origin = Origin::Dotted;
@@ -147,7 +147,7 @@ impl Names {
 
     /// Defines a value at a key in a table, if nothing forbids it.
     pub(crate) fn put(&mut self, alloc: Global, table: usize, key: &Key) -> Result<bool, Memory>
-        ensures { IfOk result (λ is_put. (noted : Noted) → StandsFor self.old noted → table < noted.tables
+        ensures { IfOk result (λ is_put. (noted : Noted) → NamesStandFor self.old noted → table < noted.tables
             → PutsAt is_put self.new (put table (key_view key.now) noted)) }
     {
         let mut at = table;
@@ -173,7 +173,7 @@ impl Names {
         table: usize,
         key: &str,
     ) -> Result<Option<usize>, Memory>
-        ensures { IfOk result (λ next. (noted : Noted) → StandsFor self.old noted → table < noted.tables
+        ensures { IfOk result (λ next. (noted : Noted) → NamesStandFor self.old noted → table < noted.tables
             → LeadsTo next self.new (table_at table key.now noted (held_by table key.now noted.names))) }
     {
         let origin = Origin::Header;
@@ -198,8 +198,8 @@ impl Names {
 
     // A key holds an array of tables whose last one is new.
     fn add_element(&mut self, alloc: Global, table: usize, key: &str) -> Result<usize, Memory>
-        ensures { IfOk result (λ last. (noted : Noted) → StandsFor self.old noted → table < noted.tables
-            → (last ≡ noted.tables) × StandsFor self.new (noting_element table key.now noted)) }
+        ensures { IfOk result (λ last. (noted : Noted) → NamesStandFor self.old noted → table < noted.tables
+            → (last ≡ noted.tables) × NamesStandFor self.new (noting_element table key.now noted)) }
     {
         let last = self.add_table(alloc)?;
         self.note(alloc, table, key, Holds::Array { last })?;
@@ -213,7 +213,7 @@ impl Names {
         table: usize,
         key: &str,
     ) -> Result<Option<usize>, Memory>
-        ensures { IfOk result (λ next. (noted : Noted) → StandsFor self.old noted → table < noted.tables
+        ensures { IfOk result (λ next. (noted : Noted) → NamesStandFor self.old noted → table < noted.tables
             → LeadsTo next self.new (element_at table key.now noted (held_by table key.now noted.names))) }
     {
         let held = self.find(table, key);
@@ -237,8 +237,8 @@ impl Names {
         key: &Key,
         is_element: bool,
     ) -> Result<Option<usize>, Memory>
-        ensures { IfOk result (λ next. (noted : Noted) → StandsFor self.old noted
-            → LeadsTo next self.new (opened is_element (key_view key.now) noted)) }
+        ensures { IfOk result (λ next. (noted : Noted) → NamesStandFor self.old noted
+            → LeadsTo next self.new (header_opened is_element (key_view key.now) noted)) }
     {
         let mut at = 0;
         for part in key.path.as_slice() {

@@ -4,7 +4,7 @@ ghost use Rattle.toml_parser.specs.Reading.{key_view, path_view};
 ghost use Rattle.toml.specs.Parse as grammar;
 ghost use Rattle.toml_walk.specs.Names.{Noted, nothing_noted};
 ghost use Rattle.toml_walk.specs.Walk as spec;
-ghost use Rattle.toml_walk.specs.Reading.{StopsAt, Walks, Shortens, StandsFor};
+ghost use Rattle.toml_walk.specs.Reading.{StopsAt, Walks, Shortens, NamesStandFor};
 ghost use Rattle.toml_walk.specs.Turns.{TurnShortens, LineShortens, Notes, ItemsGo, MembersGo, SectionIs, Opens, LinesGo};
 
 use crate::halt::{Halt, Halted, due, halt_at, no_value, refused};
@@ -160,7 +160,7 @@ fn member_turn<'a>(
     s: &'a str,
     depth: usize,
 ) -> Result<Turn<'a>, Halt>
-    ensures value { (n : ℕ) (noted : Noted) → StandsFor names.old noted
+    ensures value { (n : ℕ) (noted : Noted) → NamesStandFor names.old noted
         → MembersGo (spec.value depth) n noted s.now result names.new }
     ensures shorter { IfOk result (λ turn. TurnShortens s.now turn) }
 {
@@ -216,7 +216,7 @@ fn defined(alloc: Global, s: &str, key: &Key, in_brackets: bool) -> Halt
 
 // Defines a value at the key of the statement or the member at the front of a text.
 fn put(alloc: Global, names: &mut Names, table: usize, key: &Key, s: &str) -> Result<(), Halt>
-    ensures { (noted : Noted) → StandsFor names.old noted → table < noted.tables
+    ensures { (noted : Noted) → NamesStandFor names.old noted → table < noted.tables
         → Notes result names.new (spec.put_at table (key_view key.now) noted s.now) }
 {
     let is_put = names.put(alloc, table, key)?;

@@ -2,7 +2,7 @@ use Rattle.std.proofs.Common.{◌≡◌, ℕ, ◌+◌, ◌*◌, ◌<◌, ◌≤�
 use denote.Text.{Utf8}
 use denote.Shadow.{shadow}
 use Rattle.toml_walk.specs.Names.{Noted, nothing_noted}
-use Rattle.toml_walk.specs.Reading.{StandsFor}
+use Rattle.toml_walk.specs.Reading.{NamesStandFor}
 use Rattle.toml_walk.specs.Walk.{value, items, members}
 use Rattle.toml_walk.proofs.walk.+value.Given as goal
 
@@ -35,7 +35,7 @@ abbrev pub invariant-inline_table-members : goal.invariant-inline_table-members
 invariant-inline_table-members l =
     shadow (Utf8 l.rest) × (length l.rest ≤ length l.fn.s)
     × ((n : ℕ) → length l.fn.s < n → (m : ℕ) × (length l.rest < m)
-    × (noted : Noted) × (StandsFor l.names noted)
+    × (noted : Noted) × (NamesStandFor l.names noted)
     × (members (value l.fn.depth) n nothing_noted l.fn.s ≡ members (value l.fn.depth) m noted l.rest))
 
 abbrev pub decreases-inline_table-members : goal.decreases-inline_table-members

@@ -1,13 +1,13 @@
 use Rattle.std.proofs.Common.{◌≡◌, ◌<◌, drop}
 use Rattle.toml_parser.specs.Reading.{path_view}
 use Rattle.toml_walk.specs.Names.{Noted, pass_header, along}
-use Rattle.toml_walk.specs.Reading.{StandsFor}
+use Rattle.toml_walk.specs.Reading.{NamesStandFor}
 use Rattle.toml_walk.proofs.names.Names.open.Given as goal
 
 -- the parts so far led to this table, and the others go on from there
 abbrev pub invariant-loop-part : goal.invariant-loop-part
 invariant-loop-part l =
-    (noted : Noted) → StandsFor l.fn.self noted
-    → (now : Noted) × (StandsFor l.self now) × (l.at < now.tables)
+    (noted : Noted) → NamesStandFor l.fn.self noted
+    → (now : Noted) × (NamesStandFor l.self now) × (l.at < now.tables)
     × (along pass_header (path_view l.fn.key.path.items) 0 noted
     ≡ along pass_header (path_view (drop l.part-index l.fn.key.path.items)) l.at now)
