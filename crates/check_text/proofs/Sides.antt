@@ -1,5 +1,5 @@
 -- What is found is what is told.
-use Rattle.std.proofs.Common.{◌≡◌, ◌↔◌, ℕ, ◌+◌, ◌<◌, ◌≤◌, Bool, true, false, not, IsTrue, rules, cond, List, [], ◌∷◌, ◌++◌, length, map, nat_lt, refl, sym, ap, subst, ◌∙◌, arith}
+use Rattle.std.proofs.Common.{◌≡◌, ◌↔◌, ℕ, ◌+◌, ◌<◌, ◌≤◌, Bool, true, false, not, IsTrue, rules, List, [], ◌∷◌, ◌++◌, length, nat_lt, refl, ap, subst, ◌∙◌, arith}
 use Rattle.std.proofs.Common.{Option, Some, None, Result, Ok, Err}
 use Rattle.std.specs.Prelude.{IfSome, IfNone, String, slice_index_or}
 use Rattle.std.specs.BTreeMap.{BTreeMap}
@@ -15,7 +15,6 @@ use Rattle.ttp_world.specs.declared.medl.Medl.{Medl}
 use Rattle.ttp_world.specs.declared.script.Script.{Script}
 use Rattle.medl_text.specs.declared.error.MedlError.{MedlError}
 use Rattle.medl_text.specs.ListFile.{medl_of}
-use Rattle.commands.specs.declared.read.FileFault.TheVariants as refused
 use Rattle.commands.specs.Read.{list_limit, list_read, list_from, script_from}
 use Rattle.toml_walk.specs.declared.stop.Stop.{Stop}
 use Rattle.list_errors.specs.declared.error.Wrong.{Wrong}

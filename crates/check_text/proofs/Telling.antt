@@ -1,5 +1,5 @@
 -- What is told of files, beside the answers of the readers and of the test.
-use Rattle.std.proofs.Common.{◌≡◌, ◌⊎◌, ℕ, ℤ, ◌+◌, ◌≤◌, Bool, true, false, cond, List, [], ◌∷◌, ◌++◌, length, map, nat_lt, refl, sym, ap, subst, ◌∙◌}
+use Rattle.std.proofs.Common.{◌≡◌, ℕ, ℤ, ◌+◌, ◌≤◌, Bool, true, false, cond, List, [], ◌∷◌, ◌++◌, length, map, nat_lt, refl, sym, ap, subst, ◌∙◌}
 use Rattle.std.proofs.Common.{append_assoc, arith, Option, Some, None, option_map, Result, Ok, Err, inl, inr}
 use Rattle.std.specs.Option.{option_or}
 use Rattle.std.specs.List.{AllByRecursion}
@@ -40,12 +40,12 @@ use Rattle.broken_rules.specs.declared.start.NoStart.{NoStart}
 use Rattle.broken_rules.specs.declared.start.NoStart.TheVariants as why
 use Rattle.broken_rules.specs.Clocks.{past_slot}
 use Rattle.broken_rules.specs.Conditions.{window_named}
-use Rattle.broken_rules.specs.Rules.{RuleSlot, rule_in, first_named, first_broken, start_named, broken_rules, test_answer}
+use Rattle.broken_rules.specs.Rules.{RuleSlot, rule_in, first_broken, start_named, broken_rules}
 use Rattle.broken_rules.proofs.Told.{named}
 use Rattle.warning_words.specs.Warnings.{RightFiles, line_if, warning_lines}
 use Rattle.warning_words.specs.Warnings.{clocks_line, window_line, disturbed_line, no_start_line, lost_line, early_line}
 use Rattle.warning_words.specs.Warnings.{few_line, arm_line}
-use Rattle.check_text.specs.Check.{Named, Checked, read_value, files_with, both_checked, checked_by, check_found, check_status}
+use Rattle.check_text.specs.Check.{Named, Checked, read_value, files_with, both_checked, checked_by, check_found}
 use Rattle.check_text.specs.Check.{status_of, status_by_list}
 use Rattle.check_text.specs.Laws.{IsErrorLine, IsFrom, TellsErrorOf, TellsRefusal, IsRuleLine, TellsRule, ListTold, ScriptTold}
 use Rattle.check_text.specs.Laws.{TestTold, AgreesWithReaders}

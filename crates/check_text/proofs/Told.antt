@@ -1,5 +1,5 @@
 -- Where the test says yes, no line is written on a rule.
-use Rattle.std.proofs.Common.{◌≡◌, ℕ, ℤ, true, not, List, [], ◌∷◌, ◌++◌, Option, Some, None, is_some, option_map, refl, ◌∙◌, arith}
+use Rattle.std.proofs.Common.{◌≡◌, ℕ, ℤ, true, not, List, [], Option, Some, None, is_some, option_map, refl, ◌∙◌, arith}
 use Rattle.std.specs.Option.{option_or}
 use Rattle.broken_arms.specs.declared.arms.BrokenArm.{BrokenArm}
 use Rattle.broken_faults.specs.declared.early.EarlyFault.{EarlyFault}

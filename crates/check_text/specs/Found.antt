@@ -1,5 +1,5 @@
 -- What is found stands for what is told.
-use Rattle.std.specs.Prelude.{◌≡◌, List, [], Option, Some, None}
+use Rattle.std.specs.Prelude.{◌≡◌, [], Option, Some, None}
 use Rattle.ttp_base.specs.Text.{Lines}
 use Rattle.check_text.specs.declared.found.Beside.{Beside}
 use Rattle.check_text.specs.declared.found.Found.{Found}

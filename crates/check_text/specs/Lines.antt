@@ -1,5 +1,5 @@
 -- The lines on the faults of a list and of a script.
-use Rattle.std.specs.Prelude.{ℕ, ◌+◌, ◌-◌, ◌==◌, nat_lt, Bool, true, false, List, [], ◌∷◌, ◌++◌, length, map, get_or, codes}
+use Rattle.std.specs.Prelude.{ℕ, ◌+◌, ◌-◌, ◌==◌, nat_lt, Bool, true, false, List, [], ◌∷◌, length, map, get_or, codes}
 use Rattle.std.specs.Prelude.{Option, Some, None, slice_index_or, if◌then◌else◌}
 use Rattle.toml.specs.Data.{Members, no_members, member}
 use Rattle.ttp_base.specs.NodeSet.{below}

@@ -1,6 +1,6 @@
 -- What lines that are written one after another leave of a sink, where each is formed before it is written and either may
 -- be refused.
-use Rattle.std.specs.Prelude.{ℕ, List, ◌++◌, Option, Some, None}
+use Rattle.std.specs.Prelude.{◌++◌, Option, Some, None}
 use Rattle.std.specs.List.{flat_map}
 use Rattle.ttp_base.specs.Outside.{Output, WroteLines}
 use Rattle.ttp_base.specs.Text.{Lines, lines_of}

@@ -1,6 +1,6 @@
 use Rattle.std.specs.Prelude.{option_map}
 use Rattle.check_text.specs.Check.{named_by}
-use Rattle.lab_top.proofs.CheckPromises.{check_shown, check_cut, check_begun}
+use Rattle.lab_top.proofs.CheckPromises.{check_shown}
 use Rattle.lab_top.proofs.check.show_check.Goals as goal
 
 pub returns-in-Ok : goal.returns-in-Ok
