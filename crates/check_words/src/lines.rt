@@ -9,8 +9,8 @@ use ttp_base::Memory;
 /// A byte of a file by its line and its column, both counted from 1.
 #[derive(Clone, Copy, PartialEq, Eq)]
 pub struct Place {
-    pub line: u32,
-    pub column: u32,
+    pub line: usize,
+    pub column: usize,
 }
 
 /// Adds a place of a file of this name.

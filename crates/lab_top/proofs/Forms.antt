@@ -13,6 +13,8 @@ use Rattle.campaign.specs.Lines.{campaign_lines}
 use Rattle.wave_text.proofs.DeclaredLines.{wave_lines-each}
 use Rattle.lab_laws.proofs.LinesAndTitles.{picture_lines-each}
 use Rattle.lab_laws.proofs.CampaignsRead.{campaign-draws}
+use Rattle.check_text.specs.Check.{Named, check_lines}
+use Rattle.check_text.proofs.Written.{check_lines-each, check_status-one}
 use Rattle.script_gen.specs.Generator.{generated}
 use Rattle.script_lines.specs.ScriptLines.{script_lines}
 use Rattle.commands.specs.declared.read.FileFault.{FileFault}
@@ -25,14 +27,14 @@ use Rattle.commands.proofs.Lines.{refused_list-final, refused_script-final}
 use Rattle.commands.proofs.Plans.{Every, list_every, both_every}
 use Rattle.lab_top.specs.declared.refusal.TextFault.{TextFault}
 use Rattle.lab_top.specs.Forms.{lab_usage_line, viewed_ending, view_plan, lines_ending, lines_plan, script_ending}
-use Rattle.lab_top.specs.Forms.{script_form_plan, frames_ending, frames_plan, lab_plan_of}
+use Rattle.lab_top.specs.Forms.{script_form_plan, frames_ending, frames_plan, check_ending, check_plan, lab_plan_of}
 use Rattle.lab_top.specs.Frames.{frames_named}
 use Rattle.lab_top.specs.Help.{help_lines, version_line}
 use Rattle.lab_top.specs.Refusals.{text_fault_line}
 use Rattle.lab_top.specs.Texts.{begun, differences, LabEnding, ttplab}
 use Rattle.lab_top.specs.Views.{View, viewed, wave_view, picture_view, chart_view}
-use Rattle.lab_top.specs.Words.{LabForm, wave, picture, campaign, chart, frames, script_by, help, version}
-use Rattle.lab_top.specs.Words.{may_be_begun, is_frames, reads_list}
+use Rattle.lab_top.specs.Words.{LabForm, wave, picture, campaign, chart, check, frames, script_by, help, version}
+use Rattle.lab_top.specs.Words.{may_be_begun, tells_differences, reads_list}
 use Rattle.lab_top.proofs.CampaignLines.{campaign_lines-each}
 use Rattle.lab_top.proofs.Differences.{differences-each}
 use Rattle.lab_top.proofs.FrameLines.{frame_lines-each}
@@ -44,8 +46,8 @@ pub record IsOfForm (form : Option LabForm) (ending : LabEnding) : Type 0 where
   pub final : IsFinal ttplab ending
   -- the usage line answers words of no form alone
   pub usage : ending.status ≡ 2 → form ≡ None
-  -- and status 1 that of `frames` alone
-  pub differs : ending.status ≡ 1 → is_frames form ≡ true
+  -- and status 1 that of `frames` and of `check` alone
+  pub differs : ending.status ≡ 1 → tells_differences form ≡ true
   -- only forms that read a list refuse one
   pub lists : ending.status ≡ 3 → reads_list form ≡ true
   -- but for a form that writes lines of a list and a script, nothing stands where memory is refused
@@ -125,6 +127,37 @@ of_both form may reads lines each list script =
     both_every (IsOfForm form) SaysLine list script (λ medl right. ends (lines_ending (lines medl right))) refl refl
     (no_list form reads) (no_script form) (λ medl right. lines_ends form may (lines medl right) (each medl right))
 
+-- what is told of a list, or of a list and a script
+
+check_ends : (list : List ℕ) (script : Option (List ℕ)) (file : Named) (beside : Option Named)
+    → IsOfForm (Some (check list script)) (check_ending file beside)
+check_ends list script file beside =
+    let one = check_status-one file beside in
+    let each = check_lines-each file beside in
+    record {
+      final = record {
+        status = one.0;
+        texts = one_text ttplab (check_lines file beside) each;
+        unfinished = begun-each (check_lines file beside) each;
+      };
+      usage = λ two. absurd (one.1 two);
+      differs = λ one. refl;
+      lists = λ three. refl;
+      lets = λ other. absurd (cc);
+    }
+
+of_check : (list : List ℕ) (script : Option (List ℕ))
+    → Every (IsOfForm (Some (check list script))) SaysLine (check_plan list script)
+of_check list None = (refl, λ text. check_ends list None (record { name = list; text = text }) None)
+of_check list (Some script) = (
+  refl,
+  λ text. (
+    refl,
+    λ other.
+        check_ends list (Some script) (record { name = list; text = text }) (Some (record { name = script; text = other })),
+  ),
+)
+
 -- lines that are written whole
 of_lines : (form : Option LabForm) (text : Lines) → AreLines text → IsOfForm form (whole_ending 0 (one text))
 of_lines form text each = record {
@@ -189,7 +222,7 @@ of_script list slots number =
     (script_ends list slots number)
 
 help-each : AreLines help_lines
-help-each = (refl, (refl, (refl, (refl, (refl, (refl, (refl, (refl, (refl, (refl, tt))))))))))
+help-each = (refl, (refl, (refl, (refl, (refl, (refl, (refl, (refl, (refl, (refl, (refl, tt)))))))))))
 
 pub lab_forms : (form : Option LabForm) → Every (IsOfForm form) SaysLine (lab_plan_of form)
 lab_forms None = record {
@@ -210,6 +243,7 @@ lab_forms (Some (campaign list script first last)) =
 lab_forms (Some (chart name asked)) =
     of_view (Some (chart name asked)) (chart_view asked) name
     (record { plain = refl; each = λ text whole is. (campaign-draws text whole asked is).each })
+lab_forms (Some (check list script)) = of_check list script
 lab_forms (Some (frames list script trace)) = of_frames list script trace
 lab_forms (Some (script_by list slots number)) = of_script list slots number
 lab_forms (Some help) = of_lines (Some help) help_lines help-each

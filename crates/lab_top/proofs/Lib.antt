@@ -11,7 +11,7 @@ pub mod Views
 pub mod RefusedFiles
 pub mod LinesPromises
 pub mod CampaignPromises
+pub mod CheckPromises
 pub mod Fronts
 pub mod FramesPromises
 pub mod ScriptPromises
-pub mod ThreeWords

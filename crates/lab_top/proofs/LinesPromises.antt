@@ -23,7 +23,7 @@ use Rattle.lab_top.specs.Texts.{IsProperFront, begun, LabSets, LabEnding, LabPla
 use Rattle.lab_top.proofs.RefusedFiles.{RefusesNone, list_refused, script_refused, list_due, script_due}
 
 -- first lines that were written, as the call that writes them leaves them
-fewer : (text : Lines) (before now : Output) → WroteAmong ttplab (those (begun text)) before now
+pub fewer : (text : Lines) (before now : Output) → WroteAmong ttplab (those (begun text)) before now
     → WroteFewer before now text
 fewer text before now some = record {
   whole = some.lines;
@@ -34,7 +34,7 @@ fewer text before now some = record {
 }
 
 -- and the other way round
-wants : (text : Lines) (before now : Output) → WroteFewer before now text
+pub wants : (text : Lines) (before now : Output) → WroteFewer before now text
     → Refused ttplab (those (begun text)) before now (alone 7)
 wants text before now some = record {
   status = refl;
@@ -63,7 +63,7 @@ pub shows_fewer : (text : Lines) (before now : Output) → WroteFewer before now
 shows_fewer text before now some = inr (wants text before now some)
 
 -- none are first lines too, of a text that has one
-none_of : (text : Lines) (before now : Output) → IsProperFront text [] → Wrote before now []
+pub none_of : (text : Lines) (before now : Output) → IsProperFront text [] → Wrote before now []
     → WroteFewer before now text
 none_of text before now one none =
     record { whole = []; next = one.next; rest = one.rest; text = one.begins; wrote = none }

@@ -5,7 +5,8 @@ use Rattle.ttp_world.specs.declared.medl.Medl.{Medl}
 use Rattle.ttp_world.specs.declared.script.Script.{Script}
 use Rattle.campaign.specs.Lines.{campaign_lines}
 use Rattle.trace_check.specs.Answer.{is_trace}
-use Rattle.commands.specs.Files.{list_plan, both_plan, trace_plan}
+use Rattle.check_text.specs.Check.{Named, check_lines, check_status}
+use Rattle.commands.specs.Files.{list_file, script_file, list_plan, both_plan, trace_plan}
 use Rattle.commands.specs.Plan.{whole_ending, line_ending, said_ending, ends, asks}
 use Rattle.commands.specs.Texts.{one, those}
 use Rattle.script_gen.specs.Generator.{generated}
@@ -16,13 +17,13 @@ use Rattle.lab_top.specs.Help.{help_lines, version_line}
 use Rattle.lab_top.specs.Refusals.{refused_text}
 use Rattle.lab_top.specs.Texts.{begun, differences, LabEnding, LabPlan}
 use Rattle.lab_top.specs.Views.{View, text_file, viewed, wave_view, picture_view, chart_view}
-use Rattle.lab_top.specs.Words.{LabForm, wave, picture, campaign, chart, frames, script_by, help, version}
+use Rattle.lab_top.specs.Words.{LabForm, wave, picture, campaign, chart, check, frames, script_by, help, version}
 
 -- the line that answers words of no form
 abbrev pub lab_usage_line : List ℕ
 lab_usage_line =
     codes "usage: wave TRACE | picture TRACE [FIRST LAST] | campaign LIST SCRIPT FIRST LAST"
-    ++ codes " | chart CAMPAIGN [FIRST LAST] | frames LIST SCRIPT TRACE | script LIST SLOTS NUMBER\n"
+    ++ codes " | chart CAMPAIGN [FIRST LAST] | check LIST [SCRIPT] | frames LIST SCRIPT TRACE | script LIST SLOTS NUMBER\n"
 
 -- a view ends with its lines, or with the line that says why a text is not shown
 abbrev pub viewed_ending : {Value : Type 0} → View Value → Result Value TextFault → LabEnding
@@ -40,6 +41,24 @@ lines_ending lines = record { status = 0; texts = one lines; unfinished = those 
 -- it asks for the list and the script
 abbrev pub lines_plan : (Medl → Script → Lines) → List ℕ → List ℕ → LabPlan
 lines_plan lines list script = both_plan list script (λ medl right. ends (lines_ending (lines medl right)))
+
+-- what is said of a list, or of a list and a script, with memory taken between the lines
+abbrev pub check_ending : Named → Option Named → LabEnding
+check_ending list script =
+    let lines = check_lines list script in
+    record { status = check_status list script; texts = one lines; unfinished = those (begun lines) }
+
+-- it asks for the script beside a list
+abbrev pub beside_plan : Named → List ℕ → LabPlan
+beside_plan file script =
+    asks (script_file script) (λ other. ends (check_ending file (Some (record { name = script; text = other }))))
+
+-- it asks for the list, and for the script where one is named, before it looks at either
+abbrev pub check_plan : List ℕ → Option (List ℕ) → LabPlan
+check_plan list None =
+    asks (list_file list) (λ text. ends (check_ending (record { name = list; text = text }) None))
+check_plan list (Some script) =
+    asks (list_file list) (λ text. beside_plan (record { name = list; text = text }) script)
 
 -- the frames of a text that is a trace of a list and a script; else the line that names the first wrong one
 abbrev pub frames_ending : Medl → Script → List ℕ → LabEnding
@@ -73,6 +92,7 @@ lab_plan_of (Some (picture trace asked)) = view_plan (picture_view asked) trace
 lab_plan_of (Some (campaign list script first last)) =
     lines_plan (λ medl right. campaign_lines medl right first last) list script
 lab_plan_of (Some (chart name asked)) = view_plan (chart_view asked) name
+lab_plan_of (Some (check list script)) = check_plan list script
 lab_plan_of (Some (frames list script trace)) = frames_plan list script trace
 lab_plan_of (Some (script_by list slots number)) = script_form_plan list slots number
 lab_plan_of (Some help) = ends help_ending

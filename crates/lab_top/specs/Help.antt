@@ -11,6 +11,7 @@ help_lines =
     ∷ codes "picture TRACE [FIRST LAST]       a picture of the trace, or of these slots of it, as SVG\n"
     ∷ codes "campaign LIST SCRIPT FIRST LAST  what each single fault in these slots costs, a line for each\n"
     ∷ codes "chart CAMPAIGN [FIRST LAST]      a picture of a campaign, or of these slots of it, as SVG\n"
+    ∷ codes "check LIST [SCRIPT]              each mistake in both files, with its place and the way out\n"
     ∷ codes "frames LIST SCRIPT TRACE         each frame on the bus in the run of a trace, byte by byte\n"
     ∷ codes "script LIST SLOTS NUMBER         the script that ttpbench sample runs, as a text\n"
     ∷ codes "\n"

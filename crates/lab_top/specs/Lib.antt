@@ -9,5 +9,6 @@ pub mod Promise
 pub mod ViewPromise
 pub mod LinesPromise
 pub mod CampaignPromise
+pub mod CheckPromise
 pub mod FramesPromise
 pub mod ScriptPromise

@@ -1,6 +1,6 @@
 -- The forms of the words of `ttplab`.
 use Rattle.std.specs.Prelude.{List, [], ◌∷◌, ℕ, ◌^◌, ◌≤◌, nat_le, codes, Bool, true, false, ◌&&◌, Option, Some, None}
-use Rattle.std.specs.Prelude.{option_and_then, if◌then◌else◌}
+use Rattle.std.specs.Prelude.{option_and_then, option_map, if◌then◌else◌}
 use Rattle.std.specs.Str.{bytes_eq}
 use Rattle.ttp_world.specs.declared.script.TheConstants.{SLOT_LIMIT}
 use Rattle.commands.specs.Words.{number_below, numeral_named}
@@ -18,6 +18,8 @@ pub data LabForm : Type 0 where
   campaign : (list script : List ℕ) (first last : ℕ) → LabForm
   -- the chart of the campaign of this name, of the slots that are asked for, or else of those that are chosen
   chart : (name : List ℕ) (asked : Option Span) → LabForm
+  -- what is wrong with the list of this name, or with it and the script of this name
+  check : (list : List ℕ) (script : Option (List ℕ)) → LabForm
   -- the frames on the bus, for the text of the third name, which is to be a trace of the script of this name for the list
   -- of this name
   frames : (list script trace : List ℕ) → LabForm
@@ -30,15 +32,18 @@ pub data LabForm : Type 0 where
 -- the forms of which want of memory may leave some first lines
 abbrev pub may_be_begun : Option LabForm → Bool
 may_be_begun (Some (campaign list script first last)) = true
+may_be_begun (Some (check list script)) = true
 may_be_begun _ = false
 
--- a form is that of `frames`
-abbrev pub is_frames : Option LabForm → Bool
-is_frames (Some (frames list script trace)) = true
-is_frames _ = false
+-- the forms that may end with status 1
+abbrev pub tells_differences : Option LabForm → Bool
+tells_differences (Some (check list script)) = true
+tells_differences (Some (frames list script trace)) = true
+tells_differences _ = false
 
 -- the forms that read a list
 abbrev pub reads_list : Option LabForm → Bool
+reads_list (Some (check list script)) = true
 reads_list (Some (campaign list script first last)) = true
 reads_list (Some (frames list script trace)) = true
 reads_list (Some (script_by list slots number)) = true
@@ -100,7 +105,10 @@ lab_form_of (verb ∷ []) =
 lab_form_of (verb ∷ text ∷ []) =
     if bytes_eq verb (codes "wave") then Some (wave text)
     else (if bytes_eq verb (codes "picture") then Some (picture text None)
-    else (if bytes_eq verb (codes "chart") then Some (chart text None) else None))
+    else (if bytes_eq verb (codes "chart") then Some (chart text None)
+    else (if bytes_eq verb (codes "check") then Some (check text None) else None)))
+lab_form_of (verb ∷ list ∷ script ∷ []) =
+    if bytes_eq verb (codes "check") then Some (check list (Some script)) else None
 lab_form_of (verb ∷ text ∷ first ∷ last ∷ []) =
     if bytes_eq verb (codes "picture") then form_of_slots (picture text) (slot_named first) (slot_named last)
     else (if bytes_eq verb (codes "chart") then form_of_slots (chart text) (slot_named first) (slot_named last)
@@ -116,6 +124,7 @@ lab_form_asked (command.Wave trace) = Some (wave trace.now)
 lab_form_asked (command.Picture trace asked) = Some (picture trace.now asked)
 lab_form_asked (command.Campaign list script first last) = Some (campaign list.now script.now first last)
 lab_form_asked (command.Chart name asked) = Some (chart name.now asked)
+lab_form_asked (command.Check list script) = Some (check list.now (option_map (λ s. s.now) script))
 lab_form_asked (command.Frames list script trace) = Some (frames list.now script.now trace.now)
 lab_form_asked (command.Script list slots number) = Some (script_by list.now slots number)
 lab_form_asked command.Help = Some help

@@ -6,15 +6,17 @@ ghost use Rattle.commands.specs.Plan.{outside};
 ghost use Rattle.commands.specs.Texts.{alone};
 ghost use Rattle.commands.specs.Words.{texts_of};
 ghost use Rattle.lab_top.specs.CampaignPromise.{CampaignPromise};
+ghost use Rattle.lab_top.specs.CheckPromise.{CheckPromise};
 ghost use Rattle.lab_top.specs.Forms.{lab_plan_of};
 ghost use Rattle.lab_top.specs.FramesPromise.{FramesPromise};
 ghost use Rattle.lab_top.specs.Promise.{LabPromise};
 ghost use Rattle.lab_top.specs.ScriptPromise.{ScriptPromise};
 ghost use Rattle.lab_top.specs.Texts.{ttplab};
 ghost use Rattle.lab_top.specs.ViewPromise.{WavePromise, PicturePromise, ChartPromise};
-ghost use Rattle.lab_top.specs.Words.{wave, picture, campaign, chart, frames, script_by, lab_form_of, lab_form_asked, HasScriptSlots};
+ghost use Rattle.lab_top.specs.Words.{wave, picture, campaign, chart, check, frames, script_by, lab_form_of, lab_form_asked, HasScriptSlots};
 
 use crate::chart::chart;
+use crate::check::check;
 use crate::faults::campaign;
 use crate::frames::frames;
 use crate::generated::script;
@@ -29,7 +31,8 @@ use ttp_base::{Library, Sink};
 
 const USAGE: &str =
     "usage: wave TRACE | picture TRACE [FIRST LAST] | campaign LIST SCRIPT FIRST LAST \
-    | chart CAMPAIGN [FIRST LAST] | frames LIST SCRIPT TRACE | script LIST SLOTS NUMBER\n";
+    | chart CAMPAIGN [FIRST LAST] | check LIST [SCRIPT] \
+    | frames LIST SCRIPT TRACE | script LIST SLOTS NUMBER\n";
 
 const VERSION: &str = "ttplab 1.0.0 (rattle-kit-13f logic dac8208d650f15bf)\n";
 
@@ -57,6 +60,7 @@ fn obey<R: Threads + Sync, L: Library, K: Sink>(
             last,
         } => campaign(rt, alloc, list, script, first, last, library, out),
         Command::Chart { campaign, asked } => chart(alloc, campaign, asked, library, out),
+        Command::Check { list, script } => check(alloc, list, script, library, out),
         Command::Frames {
             list,
             script,
@@ -75,7 +79,7 @@ fn obey<R: Threads + Sync, L: Library, K: Sink>(
 
 /// Does what the words spell, and answers its status. The words are those after the program's name.
 ///
-/// There are six forms. `wave TRACE` writes a waveform, a text in the format VCD that wave viewers read, and
+/// There are eight forms. `wave TRACE` writes a waveform, a text in the format VCD that wave viewers read, and
 /// `picture TRACE [FIRST LAST]` a picture, a text in the format SVG that browsers show, of the slots from FIRST
 /// to LAST, or else of those that are chosen. These FIRST and LAST are 1 to 5 decimal digits. What is taken for
 /// a trace says `whole_in` of whole_trace: its form is asked for, and not whether it is right.
@@ -84,6 +88,9 @@ fn obey<R: Threads + Sync, L: Library, K: Sink>(
 /// digits, and FIRST is not past LAST. `chart CAMPAIGN [FIRST LAST]` writes a picture of what each fault of a
 /// campaign cost, or of several that follow each other, of the slots from FIRST to LAST, or else of those that are
 /// chosen, as for `picture`. What is taken for a campaign says `campaign_in` of whole_campaign.
+/// `check LIST [SCRIPT]` writes what is wrong with the list, and with the script, a line for each fault with its place, and where
+/// nothing is, each rule of the hypothesis that the script does not keep; the last line counts them. Both files are loaded before
+/// anything is looked at.
 /// `frames LIST SCRIPT TRACE` writes the frames on both channels of the bus, byte by byte behind the script's faults, for a
 /// trace of the script for the list; of a text that is none it names the first wrong line, as `verify` of the bench does.
 /// `script LIST SLOTS NUMBER` writes the script that the number gives for the list, in a run of so many slots, as a text
@@ -93,8 +100,9 @@ fn obey<R: Threads + Sync, L: Library, K: Sink>(
 ///
 /// | status | comes | what is written |
 /// |---|---|---|
-/// | 0 | the file is a trace, or for `chart` a campaign, that has the slots; the files are a list and a script for it; they are these and a trace of them; the file is a list | the view; the campaign; the frames; the script |
-/// | 1 | exactly where TRACE is the trace text for no legal message numbers; for `frames` alone | `differs at line N` |
+/// | 0 | the file is a trace, or for `chart` a campaign, that has the slots; the files are a list and a script for it, which for `check` keeps all rules; they are these and a trace of them; the file is a list | the view; the campaign; the counts; the frames; the script |
+/// | 1 | for `frames`, exactly where TRACE is the trace text for no legal message numbers | `differs at line N` |
+/// | 1, 3, 4 | for `check`, exactly where a rule is not kept and nothing is wrong, where the list has a fault, where the script alone has one | a line for each, and the counts |
 /// | 2 | exactly where the words have no form | the usage line |
 /// | 3 | for `campaign`, `frames` and `script`, exactly where the list is longer than 1,048,576 bytes or refused | a line that begins `list: ` |
 /// | 4 | for a view, exactly where the text is longer than 134,217,728 bytes, is no trace, or lacks the slots | `trace: too large`, `trace: line N` with its first line that is not due or is missing, or `trace: slots 0 to L` with its last slot |
@@ -102,7 +110,7 @@ fn obey<R: Threads + Sync, L: Library, K: Sink>(
 /// | 4 | for `campaign` and `frames`, exactly where the script is longer than 1,048,576 bytes or refused | a line that begins `script: ` |
 /// | 5 | only where the count of the file's name rose, and no earlier refusal came | `load: trace`, `load: campaign`, `load: list` or `load: script` |
 /// | 6 | only where the sink's count rose | so many whole lines of a text that was due, and a front of the next |
-/// | 7 | want of memory | nothing, or for `campaign` some whole lines of it, fewer than all |
+/// | 7 | want of memory | nothing, or for `campaign` and `check` some whole lines of it, fewer than all |
 ///
 /// The library is asked for the files of the form, each once, in the order of the words, and for a script only
 /// where the list is not refused; for words of no form it is left alone. The text of a trace is held while it is
@@ -140,6 +148,13 @@ pub fn lab<R: Threads + Sync, L: Library, K: Sink>(
     ensures campaign { (list script : List ℕ) (first last : ℕ)
         → lab_form_of (texts_of words.now) ≡ Some (campaign list script first last)
         → CampaignPromise list script first last (outside (L.files library.old) (K.output out.old))
+        (outside (L.files library.new) (K.output out.new)) result }
+    // For `check`, in its own words: status 0, 1, 3 and 4 say that exactly the lines on the files that were loaded were
+    // written, and the status is theirs: 3 exactly where the list is refused, else 4 exactly where the script is, and else 0
+    // exactly where the test says yes. With status 6 they were cut short, and with status 7 nothing is written, or some first
+    // lines and never all.
+    ensures check { (list : List ℕ) (script : Option (List ℕ)) → lab_form_of (texts_of words.now) ≡ Some (check list script)
+        → CheckPromise list script (outside (L.files library.old) (K.output out.old))
         (outside (L.files library.new) (K.output out.new)) result }
     // For `frames`, in its own words: status 0 is exactly the frames of the third file, which is a trace of the second for the
     // first, and status 1 exactly the line that names the first wrong line of one that is none, however long it is. Right

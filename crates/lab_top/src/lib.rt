@@ -22,6 +22,7 @@
 mod both;
 mod call;
 mod chart;
+mod check;
 mod faults;
 mod frames;
 mod generated;

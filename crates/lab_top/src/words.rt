@@ -34,6 +34,11 @@ pub(crate) enum Command<'a> {
         campaign: &'a str,
         asked: Option<Span>,
     },
+    /// What is wrong with the list of this name, or with it and the script of this name.
+    Check {
+        list: &'a str,
+        script: Option<&'a str>,
+    },
     /// The frames on the bus, for the text of the third name, which is to be a trace of the script of this name for the
     /// list of this name.
     Frames {
@@ -164,6 +169,24 @@ fn text_command<'a>(verb: &str, text: &'a str) -> Command<'a>
             campaign: text,
             asked: None,
         },
+        "check" => Command::Check {
+            list: text,
+            script: None,
+        },
+        _ => Command::NoForm,
+    }
+}
+
+// The command of three words.
+fn pair_command<'a>(verb: &str, list: &'a str, script: &'a str) -> Command<'a>
+    ensures form { lab_form_asked result ≡ lab_form_of (verb.now ∷ list.now ∷ script.now ∷ []) }
+    ensures slots { HasScriptSlots result }
+{
+    match verb {
+        "check" => Command::Check {
+            list,
+            script: Some(script),
+        },
         _ => Command::NoForm,
     }
 }
@@ -239,7 +262,7 @@ pub(crate) fn command_of(words: &[String]) -> Command<'_>
     match words {
         [verb] => word_command(verb.as_str()),
         [verb, text] => text_command(verb.as_str(), text.as_str()),
-        [_, _, _] => Command::NoForm,
+        [verb, list, script] => pair_command(verb.as_str(), list.as_str(), script.as_str()),
         [verb, text, first, last] => {
             slots_command(verb.as_str(), text.as_str(), first.as_str(), last.as_str())
         }

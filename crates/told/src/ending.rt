@@ -51,13 +51,14 @@ fn name_in(words: &[String], loads: usize) -> &str {
     }
 }
 
-// What is wrong with a file, by the line that was written of it: `KIND: WHAT`.
+// What is wrong with a file, by the line that was written of it: `KIND: WHAT`, or a line on an error with its place.
 fn tell_refusal<R: Eprint>(rt: &R, program: &str, name: &str, line: &[u8]) -> io::Result<()> {
     let Ok(line) = str::from_utf8(line) else {
         return Ok(());
     };
     let line = line.trim_end();
     match line.split_once(": ") {
+        Some((_, what)) if what.starts_with("error: ") => eprintln!(rt; "{program}: {line}"),
         Some((kind, what)) if what.starts_with("slots ") || what.starts_with("no slot ") => {
             eprintln!(rt; "{program}: {name}: the {kind} has {what}")
         }

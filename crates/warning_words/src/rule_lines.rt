@@ -86,8 +86,8 @@ fn place_of(said: SaidLine) -> Place
     ensures { result ≡ said_place said }
 {
     Place {
-        line: said.line,
-        column: said.column,
+        line: said.line as usize,
+        column: said.column as usize,
     }
 }
 

@@ -59,6 +59,10 @@ const COMMANDS: &[Row] = &[
         "ttplab 1.0.0 (rattle-kit-13f logic dac8208d650f15bf)\n",
     ),
     (
+        &["check", "list", "script"],
+        "errors 0 warnings 0 keeps yes start 10\n",
+    ),
+    (
         &["frames", "list", "short", "listening"],
         "ttplab frames 1 nodes 5 rounds 1 slots 1 schedule 000000\n",
     ),

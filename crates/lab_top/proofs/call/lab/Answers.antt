@@ -1,8 +1,9 @@
 use Rattle.std.proofs.Common.{Some, refl}
 use Rattle.commands.specs.Texts.{alone}
 use Rattle.lab_top.specs.Views.{wave_view, picture_view, chart_view}
-use Rattle.lab_top.specs.Words.{wave, picture, campaign, chart, frames, script_by}
+use Rattle.lab_top.specs.Words.{wave, picture, campaign, chart, check, frames, script_by}
 use Rattle.lab_top.proofs.CampaignPromises.{campaign_promise}
+use Rattle.lab_top.proofs.CheckPromises.{check_promise}
 use Rattle.lab_top.proofs.FramesPromises.{frames_promise}
 use Rattle.lab_top.proofs.Promises.{lab_promise}
 use Rattle.lab_top.proofs.ScriptPromises.{script_promise}
@@ -41,6 +42,13 @@ returns-clause-chart g c = λ name asked form.
     (rw (c.command_of.ensures.form, form) at c.obey.ensures.follows)
     (rw (c.command_of.ensures.form, form) at c.obey.ensures.no_form) in
     view_promise (chart_view asked) name _ _ (alone c.obey.result) p.call (λ seven. p.empty seven refl)
+
+pub returns-clause-check : goal.returns-clause-check
+returns-clause-check g c = λ list script form.
+    let p = lab_promise (Some (check list script)) _ _ (alone c.obey.result)
+    (rw (c.command_of.ensures.form, form) at c.obey.ensures.follows)
+    (rw (c.command_of.ensures.form, form) at c.obey.ensures.no_form) in
+    check_promise list script _ _ (alone c.obey.result) p.call
 
 pub returns-clause-script : goal.returns-clause-script
 returns-clause-script g c = λ list slots number form.

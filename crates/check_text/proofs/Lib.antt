@@ -1,0 +1,6 @@
+pub mod Pages
+pub mod LinesAt
+pub mod Sides
+pub mod Told
+pub mod Written
+pub mod Telling
