@@ -18,3 +18,6 @@ returns-in-Version-clause-follows g c =
 
 pub returns-in-Campaign-clause-follows : goal.returns-in-Campaign-clause-follows
 returns-in-Campaign-clause-follows g c = rw c.in-Campaign.is c.campaign.ensures
+
+pub returns-in-Margins-clause-follows : goal.returns-in-Margins-clause-follows
+returns-in-Margins-clause-follows g c = rw c.in-Margins.is c.margins.ensures
