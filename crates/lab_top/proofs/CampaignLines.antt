@@ -59,7 +59,7 @@ line_is_long (b ∷ line) is = omega arith
 unended-none : (line : List ℕ) → is_line line ≡ true → HasNone (unended line)
 unended-none line is = front_of_line (length line - 1) line is (line_is_long line is)
 
-test-none : (list : Medl) (script : Script) → HasNone (test_words list script)
+pub test-none : (list : Medl) (script : Script) → HasNone (test_words list script)
 test-none list script = by_arm (has_arm script)
   where
     by_arm : (armed : Bool) → HasNone (test_words_if list script armed)
@@ -183,7 +183,7 @@ counts-by name runs same hurt split torn dead p q r s t u v =
     ended (name ++ runs ++ codes " same " ++ same ++ codes " hurt " ++ hurt ++ codes " split " ++ split ++ codes " torn "
     ++ torn ++ codes " dead " ++ dead) (simp (list_any-append (λ c. c == 10), p, q, r, s, t, u, v))
 
-own-is_line : (list : Medl) (script : Script) → is_line (own_line list (summary list script)) ≡ true
+pub own-is_line : (list : Medl) (script : Script) → is_line (own_line list (summary list script)) ≡ true
 own-is_line list script =
     own-by (test_words list script) (cost_words list (summary list script).cost) (test-none list script)
     (cost-none list (summary list script).cost)

@@ -1,5 +1,6 @@
 pub mod Room
 pub mod CampaignLines
+pub mod MarginLines
 pub mod GeneratedLines
 pub mod Refusals
 pub mod Charts
@@ -12,6 +13,7 @@ pub mod RefusedFiles
 pub mod LinesPromises
 pub mod CampaignPromises
 pub mod CheckPromises
+pub mod MarginPromises
 pub mod Fronts
 pub mod FramesPromises
 pub mod ScriptPromises

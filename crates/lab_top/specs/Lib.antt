@@ -11,4 +11,5 @@ pub mod LinesPromise
 pub mod CampaignPromise
 pub mod CheckPromise
 pub mod FramesPromise
+pub mod MarginPromise
 pub mod ScriptPromise

@@ -4,6 +4,7 @@ use Rattle.std.specs.Prelude.{option_and_then, option_map, if◌then◌else◌}
 use Rattle.std.specs.Str.{bytes_eq}
 use Rattle.ttp_world.specs.declared.script.TheConstants.{SLOT_LIMIT}
 use Rattle.commands.specs.Words.{number_below, numeral_named}
+use Rattle.campaign.specs.declared.cost.Span.{Span as Slots}
 use Rattle.picture_text.specs.declared.window.Span.{Span}
 use Rattle.lab_top.specs.declared.words.Command.{Command}
 use Rattle.lab_top.specs.declared.words.Command.TheVariants as command
@@ -23,6 +24,9 @@ pub data LabForm : Type 0 where
   -- the frames on the bus, for the text of the third name, which is to be a trace of the script of this name for the list
   -- of this name
   frames : (list script trace : List ℕ) → LabForm
+  -- the margins of the script of this name for the list of this name, over the drifts of all nodes, or over the jumps in the
+  -- slots that are asked for
+  margins : (list script : List ℕ) (asked : Option Slots) → LabForm
   -- the script that this number gives for the list of this name, in a run of so many slots
   script_by : (list : List ℕ) (slots number : ℕ) → LabForm
   -- what each form writes, and which version this is
@@ -33,6 +37,7 @@ pub data LabForm : Type 0 where
 abbrev pub may_be_begun : Option LabForm → Bool
 may_be_begun (Some (campaign list script first last)) = true
 may_be_begun (Some (check list script)) = true
+may_be_begun (Some (margins list script asked)) = true
 may_be_begun _ = false
 
 -- the forms that may end with status 1
@@ -46,6 +51,7 @@ abbrev pub reads_list : Option LabForm → Bool
 reads_list (Some (check list script)) = true
 reads_list (Some (campaign list script first last)) = true
 reads_list (Some (frames list script trace)) = true
+reads_list (Some (margins list script asked)) = true
 reads_list (Some (script_by list slots number)) = true
 reads_list _ = false
 
@@ -75,6 +81,12 @@ abbrev pub campaign_of_range : List ℕ → List ℕ → Option ℕ → Option �
 campaign_of_range list script (Some first) (Some last) =
     if nat_le first last then Some (campaign list script first last) else None
 campaign_of_range list script _ _ = None
+
+-- the margins over the jumps in the slots that two words name, likewise
+abbrev pub margins_of_range : List ℕ → List ℕ → Option ℕ → Option ℕ → Option LabForm
+margins_of_range list script (Some first) (Some last) =
+    if nat_le first last then Some (margins list script (Some (record { first = first; last = last }))) else None
+margins_of_range list script _ _ = None
 
 -- the most digits of a number of slots, and of a number to draw by
 abbrev pub number_digits : ℕ
@@ -108,14 +120,16 @@ lab_form_of (verb ∷ text ∷ []) =
     else (if bytes_eq verb (codes "chart") then Some (chart text None)
     else (if bytes_eq verb (codes "check") then Some (check text None) else None)))
 lab_form_of (verb ∷ list ∷ script ∷ []) =
-    if bytes_eq verb (codes "check") then Some (check list (Some script)) else None
+    if bytes_eq verb (codes "check") then Some (check list (Some script))
+    else (if bytes_eq verb (codes "margins") then Some (margins list script None) else None)
 lab_form_of (verb ∷ text ∷ first ∷ last ∷ []) =
     if bytes_eq verb (codes "picture") then form_of_slots (picture text) (slot_named first) (slot_named last)
     else (if bytes_eq verb (codes "chart") then form_of_slots (chart text) (slot_named first) (slot_named last)
     else (if bytes_eq verb (codes "frames") then Some (frames text first last)
     else (if bytes_eq verb (codes "script") then script_of_words text (slots_named first) (draw_named last) else None)))
 lab_form_of (verb ∷ list ∷ script ∷ first ∷ last ∷ []) =
-    if bytes_eq verb (codes "campaign") then campaign_of_range list script (bound_named first) (bound_named last) else None
+    if bytes_eq verb (codes "campaign") then campaign_of_range list script (bound_named first) (bound_named last)
+    else (if bytes_eq verb (codes "margins") then margins_of_range list script (bound_named first) (bound_named last) else None)
 lab_form_of _ = None
 
 -- the form that a command of the code stands for
@@ -126,6 +140,7 @@ lab_form_asked (command.Campaign list script first last) = Some (campaign list.n
 lab_form_asked (command.Chart name asked) = Some (chart name.now asked)
 lab_form_asked (command.Check list script) = Some (check list.now (option_map (λ s. s.now) script))
 lab_form_asked (command.Frames list script trace) = Some (frames list.now script.now trace.now)
+lab_form_asked (command.Margins list script asked) = Some (margins list.now script.now asked)
 lab_form_asked (command.Script list slots number) = Some (script_by list.now slots number)
 lab_form_asked command.Help = Some help
 lab_form_asked command.Version = Some version

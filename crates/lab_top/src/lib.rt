@@ -11,11 +11,11 @@
 //!
 //! A contract sees the call as the plan of its form (`specs/Forms.antt`), which commands carries out, and each form has a promise
 //! in its own words: the views of `specs/Views.antt` in `ViewPromise`, a campaign in `CampaignPromise`, of which `LinesPromise` holds
-//! of each form that writes lines of a list and a script, frames in `FramesPromise`.
+//! of each form that writes lines of a list and a script, margins in `MarginPromise`, frames in `FramesPromise`.
 //!
 //! It shows traces and campaigns, and knows nothing of what is right in one: it takes a text for one by its form. It has the
 //! crates below run campaigns, and say whether a text is the trace of a run, and knows nothing of what a node does. It never opens a file and never prints: that is the
-//! library's and the sink's part. The threads of a campaign are its only ones, and are gone when the call returns. Beside a text
+//! library's and the sink's part. The threads of a campaign and of margins are its only ones, and are gone when the call returns. Beside a text
 //! of at most 134,217,728 bytes it holds what the form needs, which doesn't grow with the text.
 #![tactic(auto)]
 
@@ -27,6 +27,7 @@ mod faults;
 mod frames;
 mod generated;
 mod help;
+mod margins;
 mod picture;
 mod refusal;
 mod wave;

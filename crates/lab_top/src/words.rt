@@ -2,10 +2,11 @@
 ghost use Rattle.std.specs.Prelude.{◌≡◌, ◌≤◌, [], ◌∷◌, IfSome};
 ghost use Rattle.commands.specs.Words.{texts_of};
 ghost use Rattle.ttp_world.specs.declared.script.TheConstants.{SLOT_LIMIT};
-ghost use Rattle.lab_top.specs.Words.{slot_named, form_of_slots, bound_named, campaign_of_range};
+ghost use Rattle.lab_top.specs.Words.{slot_named, form_of_slots, bound_named, campaign_of_range, margins_of_range};
 ghost use Rattle.lab_top.specs.Words.{slots_named, draw_named, script_of_words, HasScriptSlots};
 ghost use Rattle.lab_top.specs.Words.{lab_form_of, lab_form_asked, picture, chart};
 
+use campaign::Span as Slots;
 use commands::numeral_named;
 use picture_text::Span;
 use ttp_world::SLOT_LIMIT;
@@ -45,6 +46,13 @@ pub(crate) enum Command<'a> {
         list: &'a str,
         script: &'a str,
         trace: &'a str,
+    },
+    /// The margins of the script of this name for the list of this name, over the drifts of all nodes, or over the jumps in
+    /// these slots.
+    Margins {
+        list: &'a str,
+        script: &'a str,
+        asked: Option<Slots>,
     },
     /// The script that this number gives for the list of this name, in a run of so many slots.
     Script {
@@ -94,6 +102,22 @@ fn campaign_of_range<'a>(list: &'a str, script: &'a str, first: &str, last: &str
             script,
             first,
             last,
+        },
+        _ => Command::NoForm,
+    }
+}
+
+// The margins that are asked for by words for their first and their last slot.
+fn margins_of_range<'a>(list: &'a str, script: &'a str, first: &str, last: &str) -> Command<'a>
+    ensures form { lab_form_asked result
+        ≡ margins_of_range list.now script.now (bound_named first.now) (bound_named last.now) }
+    ensures slots { HasScriptSlots result }
+{
+    match (bound_named(first.as_bytes()), bound_named(last.as_bytes())) {
+        (Some(first), Some(last)) if first <= last => Command::Margins {
+            list,
+            script,
+            asked: Some(Slots { first, last }),
         },
         _ => Command::NoForm,
     }
@@ -219,6 +243,21 @@ fn chart_of_slots<'a>(campaign: &'a str, first: &str, last: &str) -> Command<'a>
     }
 }
 
+// The command of three words.
+fn pair_command<'a>(verb: &str, list: &'a str, script: &'a str) -> Command<'a>
+    ensures form { lab_form_asked result ≡ lab_form_of (verb.now ∷ list.now ∷ script.now ∷ []) }
+    ensures slots { HasScriptSlots result }
+{
+    match verb {
+        "margins" => Command::Margins {
+            list,
+            script,
+            asked: None,
+        },
+        _ => Command::NoForm,
+    }
+}
+
 // The command of four words.
 fn slots_command<'a>(verb: &str, text: &'a str, first: &'a str, last: &'a str) -> Command<'a>
     ensures form { lab_form_asked result ≡ lab_form_of (verb.now ∷ text.now ∷ first.now ∷ last.now ∷ []) }
@@ -250,6 +289,7 @@ fn range_command<'a>(
 {
     match verb {
         "campaign" => campaign_of_range(list, script, first, last),
+        "margins" => margins_of_range(list, script, first, last),
         _ => Command::NoForm,
     }
 }

@@ -1,6 +1,6 @@
 -- What was seen of a run where one node counts as faulty besides.
-use Rattle.std.proofs.Common.{◌≡◌, ℕ, ◌+◌, ◌-◌, ◌<◌, ◌≤◌, Bool, true, false, ◌&&◌, ◌||◌, not, List, [], ◌∷◌, length, refl, ap, sym, ◌∙◌, arith}
-use Rattle.std.specs.Prelude.{◌==◌, nat_le}
+use Rattle.std.proofs.Common.{◌≡◌, ℕ, ◌+◌, ◌-◌, ◌<◌, ◌≤◌, Bool, false, ◌&&◌, ◌||◌, not, List, [], ◌∷◌, length, refl, ap, sym, ◌∙◌, arith}
+use Rattle.std.specs.Prelude.{◌==◌}
 use Rattle.ttp_base.specs.NodeSet.{has_node, without_node}
 use Rattle.ttp_base.proofs.NodeSets.{has_node-without}
 use Rattle.ttp_world.specs.declared.medl.Medl.{Medl}
@@ -14,7 +14,6 @@ use Rattle.campaign.specs.Cost.{has_two, memberships}
 use Rattle.campaign.specs.Tried.{with_fault}
 use Rattle.campaign.specs.ZerosWorld.{zeros_world}
 use Rattle.clock_margins.specs.Outcomes.{is_sound_beside, is_split_beside, was_split_beside}
-use Rattle.run_costs.specs.Later.{comes_later}
 use Rattle.run_costs.specs.Told.{AreSound}
 use Rattle.run_costs.proofs.Later.{zeros-longer}
 use Rattle.run_costs.proofs.LaterFaults.{faulty_by_test-longer}

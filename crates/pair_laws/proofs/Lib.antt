@@ -1,5 +1,5 @@
 mod Counted
-mod Joined
+pub mod Joined
 mod Distances
 mod Firsts
 mod Kept

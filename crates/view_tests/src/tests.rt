@@ -6,6 +6,7 @@ mod charts;
 mod forms;
 mod laws;
 mod lines;
+mod margins;
 mod pictures;
 mod small;
 mod texts;

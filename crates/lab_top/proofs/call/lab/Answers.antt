@@ -1,10 +1,11 @@
 use Rattle.std.proofs.Common.{Some, refl}
 use Rattle.commands.specs.Texts.{alone}
 use Rattle.lab_top.specs.Views.{wave_view, picture_view, chart_view}
-use Rattle.lab_top.specs.Words.{wave, picture, campaign, chart, check, frames, script_by}
+use Rattle.lab_top.specs.Words.{wave, picture, campaign, chart, check, frames, margins, script_by}
 use Rattle.lab_top.proofs.CampaignPromises.{campaign_promise}
 use Rattle.lab_top.proofs.CheckPromises.{check_promise}
 use Rattle.lab_top.proofs.FramesPromises.{frames_promise}
+use Rattle.lab_top.proofs.MarginPromises.{margin_promise}
 use Rattle.lab_top.proofs.Promises.{lab_promise}
 use Rattle.lab_top.proofs.ScriptPromises.{script_promise}
 use Rattle.lab_top.proofs.Views.{view_promise}
@@ -63,3 +64,10 @@ returns-clause-frames g c = λ list script trace form.
     (rw (c.command_of.ensures.form, form) at c.obey.ensures.follows)
     (rw (c.command_of.ensures.form, form) at c.obey.ensures.no_form) in
     frames_promise list script trace _ _ (alone c.obey.result) p.call (λ seven. p.empty seven refl)
+
+pub returns-clause-margins : goal.returns-clause-margins
+returns-clause-margins g c = λ list script asked form.
+    let p = lab_promise (Some (margins list script asked)) _ _ (alone c.obey.result)
+    (rw (c.command_of.ensures.form, form) at c.obey.ensures.follows)
+    (rw (c.command_of.ensures.form, form) at c.obey.ensures.no_form) in
+    margin_promise list script asked _ _ (alone c.obey.result) p.call

@@ -21,3 +21,6 @@ returns-in-Campaign-clause-follows g c = rw c.in-Campaign.is c.campaign.ensures
 
 pub returns-in-Check-clause-follows : goal.returns-in-Check-clause-follows
 returns-in-Check-clause-follows g c = rw c.in-Check.is c.check.ensures
+
+pub returns-in-Margins-clause-follows : goal.returns-in-Margins-clause-follows
+returns-in-Margins-clause-follows g c = rw c.in-Margins.is c.margins.ensures
