@@ -1,5 +1,5 @@
-mod Counted
-mod Joined
-mod Distances
-mod Firsts
-mod Kept
+pub mod Counted
+pub mod Joined
+pub mod Distances
+pub mod Firsts
+pub mod Kept
