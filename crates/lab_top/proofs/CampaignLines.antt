@@ -59,7 +59,7 @@ line_is_long (b ∷ line) is = omega arith
 unended-none : (line : List ℕ) → is_line line ≡ true → HasNone (unended line)
 unended-none line is = front_of_line (length line - 1) line is (line_is_long line is)
 
-test-none : (list : Medl) (script : Script) → HasNone (test_words list script)
+pub test-none : (list : Medl) (script : Script) → HasNone (test_words list script)
 test-none list script = by_arm (has_arm script)
   where
     by_arm : (armed : Bool) → HasNone (test_words_if list script armed)
@@ -75,7 +75,7 @@ joined-none word each (x ∷ []) = each x
 joined-none word each (x ∷ y ∷ xs) =
     none-append (word x) (44 ∷ join_with_byte 44 (map word (y ∷ xs))) (each x) (joined-none word each (y ∷ xs))
 
-listed-none : {X : Type 0} (word : X → List ℕ) → ((x : X) → HasNone (word x)) → (xs : List X)
+pub listed-none : {X : Type 0} (word : X → List ℕ) → ((x : X) → HasNone (word x)) → (xs : List X)
     → HasNone (listed (map word xs))
 listed-none word each [] = refl
 listed-none word each (x ∷ xs) = joined-none word each (x ∷ xs)
@@ -101,7 +101,7 @@ four-none : (left hurt split end : List ℕ) → HasNone left → HasNone hurt �
     → HasNone (codes "left " ++ left ++ codes " hurt " ++ hurt ++ codes " split " ++ split ++ codes " end " ++ end)
 four-none left hurt split end p q r s = simp (list_any-append (λ c. c == 10), p, q, r, s)
 
-cost-none : (list : Medl) (cost : Cost) → HasNone (cost_words list cost)
+pub cost-none : (list : Medl) (cost : Cost) → HasNone (cost_words list cost)
 cost-none list cost =
     four-none (listed (map leave_word cost.left)) (listed (map decimal cost.hurt)) (span_words cost.split)
     (listed (map (members_word list) cost.end)) (listed-none leave_word leave-none cost.left)
@@ -134,7 +134,7 @@ pub jump-none : (node value slot : List ℕ) → HasNone node → HasNone value 
     → HasNone (codes "jump " ++ node ++ codes " " ++ value ++ codes " " ++ slot)
 jump-none node value slot p q r = simp (list_any-append (λ c. c == 10), p, q, r)
 
-fault-none : (e : Event) → HasNone (fault_words e)
+pub fault-none : (e : Event) → HasNone (fault_words e)
 fault-none (event.Send node channels kind from to) = loss_words-none (codes "send ") node channels kind from to refl
 fault-none (event.Receive node channels kind from to) =
     loss_words-none (codes "receive ") node channels kind from to refl
@@ -183,7 +183,7 @@ counts-by name runs same hurt split torn dead p q r s t u v =
     ended (name ++ runs ++ codes " same " ++ same ++ codes " hurt " ++ hurt ++ codes " split " ++ split ++ codes " torn "
     ++ torn ++ codes " dead " ++ dead) (simp (list_any-append (λ c. c == 10), p, q, r, s, t, u, v))
 
-own-is_line : (list : Medl) (script : Script) → is_line (own_line list (summary list script)) ≡ true
+pub own-is_line : (list : Medl) (script : Script) → is_line (own_line list (summary list script)) ≡ true
 own-is_line list script =
     own-by (test_words list script) (cost_words list (summary list script).cost) (test-none list script)
     (cost-none list (summary list script).cost)

@@ -1,5 +1,6 @@
 pub mod Room
 pub mod CampaignLines
+pub mod PairLines
 pub mod GeneratedLines
 pub mod Refusals
 pub mod Charts
@@ -11,6 +12,7 @@ pub mod Views
 pub mod RefusedFiles
 pub mod LinesPromises
 pub mod CampaignPromises
+pub mod PairPromises
 pub mod Fronts
 pub mod FramesPromises
 pub mod ScriptPromises

@@ -4,6 +4,7 @@ use Rattle.ttp_base.specs.Text.{Lines}
 use Rattle.ttp_world.specs.declared.medl.Medl.{Medl}
 use Rattle.ttp_world.specs.declared.script.Script.{Script}
 use Rattle.campaign.specs.Lines.{campaign_lines}
+use Rattle.fault_pairs.specs.PairText.{pairs_lines}
 use Rattle.trace_check.specs.Answer.{is_trace}
 use Rattle.commands.specs.Files.{list_plan, both_plan, trace_plan}
 use Rattle.commands.specs.Plan.{whole_ending, line_ending, said_ending, ends, asks}
@@ -16,13 +17,13 @@ use Rattle.lab_top.specs.Help.{help_lines, version_line}
 use Rattle.lab_top.specs.Refusals.{refused_text}
 use Rattle.lab_top.specs.Texts.{begun, differences, LabEnding, LabPlan}
 use Rattle.lab_top.specs.Views.{View, text_file, viewed, wave_view, picture_view, chart_view}
-use Rattle.lab_top.specs.Words.{LabForm, wave, picture, campaign, chart, frames, script_by, help, version}
+use Rattle.lab_top.specs.Words.{LabForm, wave, picture, campaign, chart, frames, pairs, script_by, help, version}
 
 -- the line that answers words of no form
 abbrev pub lab_usage_line : List ℕ
 lab_usage_line =
     codes "usage: wave TRACE | picture TRACE [FIRST LAST] | campaign LIST SCRIPT FIRST LAST"
-    ++ codes " | chart CAMPAIGN [FIRST LAST] | frames LIST SCRIPT TRACE | script LIST SLOTS NUMBER\n"
+    ++ codes " | chart CAMPAIGN [FIRST LAST] | frames LIST SCRIPT TRACE | pairs LIST SCRIPT FIRST LAST WITHIN | script LIST SLOTS NUMBER\n"
 
 -- a view ends with its lines, or with the line that says why a text is not shown
 abbrev pub viewed_ending : {Value : Type 0} → View Value → Result Value TextFault → LabEnding
@@ -74,6 +75,8 @@ lab_plan_of (Some (campaign list script first last)) =
     lines_plan (λ medl right. campaign_lines medl right first last) list script
 lab_plan_of (Some (chart name asked)) = view_plan (chart_view asked) name
 lab_plan_of (Some (frames list script trace)) = frames_plan list script trace
+lab_plan_of (Some (pairs list script first last within)) =
+    lines_plan (λ medl right. pairs_lines medl right first last within) list script
 lab_plan_of (Some (script_by list slots number)) = script_form_plan list slots number
 lab_plan_of (Some help) = ends help_ending
 lab_plan_of (Some version) = ends (line_ending 0 version_line)

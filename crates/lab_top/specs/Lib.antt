@@ -10,4 +10,5 @@ pub mod ViewPromise
 pub mod LinesPromise
 pub mod CampaignPromise
 pub mod FramesPromise
+pub mod PairPromise
 pub mod ScriptPromise

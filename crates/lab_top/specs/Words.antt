@@ -21,6 +21,9 @@ pub data LabForm : Type 0 where
   -- the frames on the bus, for the text of the third name, which is to be a trace of the script of this name for the list
   -- of this name
   frames : (list script trace : List ℕ) → LabForm
+  -- the pairs of the script of this name for the list of this name, of which the first fault begins in the slots from the first
+  -- to the last, and the second up to so many slots later
+  pairs : (list script : List ℕ) (first last within : ℕ) → LabForm
   -- the script that this number gives for the list of this name, in a run of so many slots
   script_by : (list : List ℕ) (slots number : ℕ) → LabForm
   -- what each form writes, and which version this is
@@ -30,6 +33,7 @@ pub data LabForm : Type 0 where
 -- the forms of which want of memory may leave some first lines
 abbrev pub may_be_begun : Option LabForm → Bool
 may_be_begun (Some (campaign list script first last)) = true
+may_be_begun (Some (pairs list script first last within)) = true
 may_be_begun _ = false
 
 -- a form is that of `frames`
@@ -41,6 +45,7 @@ is_frames _ = false
 abbrev pub reads_list : Option LabForm → Bool
 reads_list (Some (campaign list script first last)) = true
 reads_list (Some (frames list script trace)) = true
+reads_list (Some (pairs list script first last within)) = true
 reads_list (Some (script_by list slots number)) = true
 reads_list _ = false
 
@@ -70,6 +75,12 @@ abbrev pub campaign_of_range : List ℕ → List ℕ → Option ℕ → Option �
 campaign_of_range list script (Some first) (Some last) =
     if nat_le first last then Some (campaign list script first last) else None
 campaign_of_range list script _ _ = None
+
+-- the pairs of a range and of a distance that three words name, if each names one and the first slot is not past the last
+abbrev pub pairs_asked : List ℕ → List ℕ → Option ℕ → Option ℕ → Option ℕ → Option LabForm
+pairs_asked list script (Some first) (Some last) (Some within) =
+    if nat_le first last then Some (pairs list script first last within) else None
+pairs_asked list script _ _ _ = None
 
 -- the most digits of a number of slots, and of a number to draw by
 abbrev pub number_digits : ℕ
@@ -108,6 +119,9 @@ lab_form_of (verb ∷ text ∷ first ∷ last ∷ []) =
     else (if bytes_eq verb (codes "script") then script_of_words text (slots_named first) (draw_named last) else None)))
 lab_form_of (verb ∷ list ∷ script ∷ first ∷ last ∷ []) =
     if bytes_eq verb (codes "campaign") then campaign_of_range list script (bound_named first) (bound_named last) else None
+lab_form_of (verb ∷ list ∷ script ∷ first ∷ last ∷ within ∷ []) =
+    if bytes_eq verb (codes "pairs")
+    then pairs_asked list script (bound_named first) (bound_named last) (bound_named within) else None
 lab_form_of _ = None
 
 -- the form that a command of the code stands for
@@ -117,6 +131,7 @@ lab_form_asked (command.Picture trace asked) = Some (picture trace.now asked)
 lab_form_asked (command.Campaign list script first last) = Some (campaign list.now script.now first last)
 lab_form_asked (command.Chart name asked) = Some (chart name.now asked)
 lab_form_asked (command.Frames list script trace) = Some (frames list.now script.now trace.now)
+lab_form_asked (command.Pairs list script first last within) = Some (pairs list.now script.now first last within)
 lab_form_asked (command.Script list slots number) = Some (script_by list.now slots number)
 lab_form_asked command.Help = Some help
 lab_form_asked command.Version = Some version

@@ -8,17 +8,19 @@ ghost use Rattle.commands.specs.Words.{texts_of};
 ghost use Rattle.lab_top.specs.CampaignPromise.{CampaignPromise};
 ghost use Rattle.lab_top.specs.Forms.{lab_plan_of};
 ghost use Rattle.lab_top.specs.FramesPromise.{FramesPromise};
+ghost use Rattle.lab_top.specs.PairPromise.{PairPromise};
 ghost use Rattle.lab_top.specs.Promise.{LabPromise};
 ghost use Rattle.lab_top.specs.ScriptPromise.{ScriptPromise};
 ghost use Rattle.lab_top.specs.Texts.{ttplab};
 ghost use Rattle.lab_top.specs.ViewPromise.{WavePromise, PicturePromise, ChartPromise};
-ghost use Rattle.lab_top.specs.Words.{wave, picture, campaign, chart, frames, script_by, lab_form_of, lab_form_asked, HasScriptSlots};
+ghost use Rattle.lab_top.specs.Words.{wave, picture, campaign, chart, frames, pairs, script_by, lab_form_of, lab_form_asked, HasScriptSlots};
 
 use crate::chart::chart;
 use crate::faults::campaign;
 use crate::frames::frames;
 use crate::generated::script;
 use crate::help::help;
+use crate::pairs::pairs;
 use crate::picture::picture;
 use crate::wave::wave;
 use crate::words::{Command, command_of};
@@ -29,7 +31,8 @@ use ttp_base::{Library, Sink};
 
 const USAGE: &str =
     "usage: wave TRACE | picture TRACE [FIRST LAST] | campaign LIST SCRIPT FIRST LAST \
-    | chart CAMPAIGN [FIRST LAST] | frames LIST SCRIPT TRACE | script LIST SLOTS NUMBER\n";
+    | chart CAMPAIGN [FIRST LAST] | frames LIST SCRIPT TRACE \
+    | pairs LIST SCRIPT FIRST LAST WITHIN | script LIST SLOTS NUMBER\n";
 
 const VERSION: &str = "ttplab 1.0.0 (rattle-kit-13f logic dac8208d650f15bf)\n";
 
@@ -62,6 +65,13 @@ fn obey<R: Threads + Sync, L: Library, K: Sink>(
             script,
             trace,
         } => frames(alloc, list, script, trace, library, out),
+        Command::Pairs {
+            list,
+            script,
+            first,
+            last,
+            within,
+        } => pairs(rt, alloc, list, script, first, last, within, library, out),
         Command::Script {
             list,
             slots,
@@ -75,7 +85,7 @@ fn obey<R: Threads + Sync, L: Library, K: Sink>(
 
 /// Does what the words spell, and answers its status. The words are those after the program's name.
 ///
-/// There are six forms. `wave TRACE` writes a waveform, a text in the format VCD that wave viewers read, and
+/// There are seven forms. `wave TRACE` writes a waveform, a text in the format VCD that wave viewers read, and
 /// `picture TRACE [FIRST LAST]` a picture, a text in the format SVG that browsers show, of the slots from FIRST
 /// to LAST, or else of those that are chosen. These FIRST and LAST are 1 to 5 decimal digits. What is taken for
 /// a trace says `whole_in` of whole_trace: its form is asked for, and not whether it is right.
@@ -86,6 +96,9 @@ fn obey<R: Threads + Sync, L: Library, K: Sink>(
 /// chosen, as for `picture`. What is taken for a campaign says `campaign_in` of whole_campaign.
 /// `frames LIST SCRIPT TRACE` writes the frames on both channels of the bus, byte by byte behind the script's faults, for a
 /// trace of the script for the list; of a text that is none it names the first wrong line, as `verify` of the bench does.
+/// `pairs LIST SCRIPT FIRST LAST WITHIN` runs the list with the script and each two faults more, of which the first is one of
+/// `campaign LIST SCRIPT FIRST LAST` and the second begins in the same slot or up to WITHIN slots later, and writes which pairs cost
+/// more than their faults do alone; WITHIN is 1 to 9 decimal digits, too.
 /// `script LIST SLOTS NUMBER` writes the script that the number gives for the list, in a run of so many slots, as a text
 /// that is read as this script; it is the one that `sample` of the bench runs. SLOTS is 1 to 20 decimal digits of a number
 /// from 1 to 20,000, and NUMBER of one of 64 bits. `--help` and `--version`, each alone, say what each form writes and which
@@ -96,13 +109,13 @@ fn obey<R: Threads + Sync, L: Library, K: Sink>(
 /// | 0 | the file is a trace, or for `chart` a campaign, that has the slots; the files are a list and a script for it; they are these and a trace of them; the file is a list | the view; the campaign; the frames; the script |
 /// | 1 | exactly where TRACE is the trace text for no legal message numbers; for `frames` alone | `differs at line N` |
 /// | 2 | exactly where the words have no form | the usage line |
-/// | 3 | for `campaign`, `frames` and `script`, exactly where the list is longer than 1,048,576 bytes or refused | a line that begins `list: ` |
+/// | 3 | for `campaign`, `frames`, `pairs` and `script`, exactly where the list is longer than 1,048,576 bytes or refused | a line that begins `list: ` |
 /// | 4 | for a view, exactly where the text is longer than 134,217,728 bytes, is no trace, or lacks the slots | `trace: too large`, `trace: line N` with its first line that is not due or is missing, or `trace: slots 0 to L` with its last slot |
 /// | 4 | for `chart`, exactly where the text is longer than that, is no campaign, or no slot is to be shown | `campaign: too large`, `campaign: line N`, or `campaign: no slot to show` |
-/// | 4 | for `campaign` and `frames`, exactly where the script is longer than 1,048,576 bytes or refused | a line that begins `script: ` |
+/// | 4 | for `campaign`, `frames` and `pairs`, exactly where the script is longer than 1,048,576 bytes or refused | a line that begins `script: ` |
 /// | 5 | only where the count of the file's name rose, and no earlier refusal came | `load: trace`, `load: campaign`, `load: list` or `load: script` |
 /// | 6 | only where the sink's count rose | so many whole lines of a text that was due, and a front of the next |
-/// | 7 | want of memory | nothing, or for `campaign` some whole lines of it, fewer than all |
+/// | 7 | want of memory; for `pairs` also a script of 131,071 events, which has no room for two more | nothing, or for `campaign` and `pairs` some whole lines of it, fewer than all |
 ///
 /// The library is asked for the files of the form, each once, in the order of the words, and for a script only
 /// where the list is not refused; for words of no form it is left alone. The text of a trace is held while it is
@@ -147,6 +160,13 @@ pub fn lab<R: Threads + Sync, L: Library, K: Sink>(
     // status 7 nothing is written.
     ensures frames { (list script trace : List ℕ) → lab_form_of (texts_of words.now) ≡ Some (frames list script trace)
         → FramesPromise list script trace (outside (L.files library.old) (K.output out.old))
+        (outside (L.files library.new) (K.output out.new)) result }
+    // For `pairs`, in its own words: status 0 is exactly the pairs of the list and the script that the files hold, and status 3
+    // or 4 the line on a file that is refused, as for `campaign`. Of the text of status 0 it says what its lines are read of, that
+    // its counts add up, and what a yes is worth; and pieces of a range are the whole.
+    ensures pairs { (list script : List ℕ) (first last within : ℕ)
+        → lab_form_of (texts_of words.now) ≡ Some (pairs list script first last within)
+        → PairPromise list script first last within (outside (L.files library.old) (K.output out.old))
         (outside (L.files library.new) (K.output out.new)) result }
     // For `script`, in its own words: status 0 is exactly the text of the script that the number gives for the list that the
     // file holds, and status 3 the line on a file that is none. A right list gives the text, any other its line; with status 6

@@ -18,3 +18,6 @@ returns-in-Version-clause-follows g c =
 
 pub returns-in-Campaign-clause-follows : goal.returns-in-Campaign-clause-follows
 returns-in-Campaign-clause-follows g c = rw c.in-Campaign.is c.campaign.ensures
+
+pub returns-in-Pairs-clause-follows : goal.returns-in-Pairs-clause-follows
+returns-in-Pairs-clause-follows g c = rw c.in-Pairs.is c.pairs.ensures
