@@ -75,7 +75,7 @@ joined-none word each (x ∷ []) = each x
 joined-none word each (x ∷ y ∷ xs) =
     none-append (word x) (44 ∷ join_with_byte 44 (map word (y ∷ xs))) (each x) (joined-none word each (y ∷ xs))
 
-listed-none : {X : Type 0} (word : X → List ℕ) → ((x : X) → HasNone (word x)) → (xs : List X)
+pub listed-none : {X : Type 0} (word : X → List ℕ) → ((x : X) → HasNone (word x)) → (xs : List X)
     → HasNone (listed (map word xs))
 listed-none word each [] = refl
 listed-none word each (x ∷ xs) = joined-none word each (x ∷ xs)
@@ -101,7 +101,7 @@ four-none : (left hurt split end : List ℕ) → HasNone left → HasNone hurt �
     → HasNone (codes "left " ++ left ++ codes " hurt " ++ hurt ++ codes " split " ++ split ++ codes " end " ++ end)
 four-none left hurt split end p q r s = simp (list_any-append (λ c. c == 10), p, q, r, s)
 
-cost-none : (list : Medl) (cost : Cost) → HasNone (cost_words list cost)
+pub cost-none : (list : Medl) (cost : Cost) → HasNone (cost_words list cost)
 cost-none list cost =
     four-none (listed (map leave_word cost.left)) (listed (map decimal cost.hurt)) (span_words cost.split)
     (listed (map (members_word list) cost.end)) (listed-none leave_word leave-none cost.left)
@@ -134,7 +134,7 @@ pub jump-none : (node value slot : List ℕ) → HasNone node → HasNone value 
     → HasNone (codes "jump " ++ node ++ codes " " ++ value ++ codes " " ++ slot)
 jump-none node value slot p q r = simp (list_any-append (λ c. c == 10), p, q, r)
 
-fault-none : (e : Event) → HasNone (fault_words e)
+pub fault-none : (e : Event) → HasNone (fault_words e)
 fault-none (event.Send node channels kind from to) = loss_words-none (codes "send ") node channels kind from to refl
 fault-none (event.Receive node channels kind from to) =
     loss_words-none (codes "receive ") node channels kind from to refl

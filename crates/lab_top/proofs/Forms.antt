@@ -11,6 +11,7 @@ use Rattle.ttp_world.specs.TraceNumbers.{numbers_in}
 use Rattle.trace_check.specs.Answer.{is_trace}
 use Rattle.campaign.specs.Lines.{campaign_lines}
 use Rattle.clock_margins.specs.MarginText.{margin_lines}
+use Rattle.fault_pairs.specs.PairText.{pairs_lines}
 use Rattle.wave_text.proofs.DeclaredLines.{wave_lines-each}
 use Rattle.lab_laws.proofs.LinesAndTitles.{picture_lines-each}
 use Rattle.lab_laws.proofs.CampaignsRead.{campaign-draws}
@@ -34,13 +35,14 @@ use Rattle.lab_top.specs.Help.{help_lines, version_line}
 use Rattle.lab_top.specs.Refusals.{text_fault_line}
 use Rattle.lab_top.specs.Texts.{begun, differences, LabEnding, ttplab}
 use Rattle.lab_top.specs.Views.{View, viewed, wave_view, picture_view, chart_view}
-use Rattle.lab_top.specs.Words.{LabForm, wave, picture, campaign, chart, check, frames, margins, script_by, help, version}
+use Rattle.lab_top.specs.Words.{LabForm, wave, picture, campaign, chart, check, frames, margins, pairs, script_by, help, version}
 use Rattle.lab_top.specs.Words.{may_be_begun, tells_differences, reads_list}
 use Rattle.lab_top.proofs.CampaignLines.{campaign_lines-each}
 use Rattle.lab_top.proofs.Differences.{differences-each}
 use Rattle.lab_top.proofs.FrameLines.{frame_lines-each}
 use Rattle.lab_top.proofs.GeneratedLines.{script_lines-each}
 use Rattle.lab_top.proofs.MarginLines.{margin_lines-each}
+use Rattle.lab_top.proofs.PairLines.{pairs_lines-each}
 use Rattle.lab_top.proofs.Refusals.{text_fault_line-is_line, viewed-taken}
 
 -- an ending that a form may come to
@@ -224,7 +226,7 @@ of_script list slots number =
     (script_ends list slots number)
 
 help-each : AreLines help_lines
-help-each = (refl, (refl, (refl, (refl, (refl, (refl, (refl, (refl, (refl, (refl, (refl, tt)))))))))))
+help-each = (refl, (refl, (refl, (refl, (refl, (refl, (refl, (refl, (refl, (refl, (refl, (refl, (refl, tt)))))))))))))
 
 pub lab_forms : (form : Option LabForm) → Every (IsOfForm form) SaysLine (lab_plan_of form)
 lab_forms None = record {
@@ -250,6 +252,9 @@ lab_forms (Some (frames list script trace)) = of_frames list script trace
 lab_forms (Some (margins list script asked)) =
     of_both (Some (margins list script asked)) refl refl (λ medl right. margin_lines medl right asked)
     (λ medl right. margin_lines-each medl right asked) list script
+lab_forms (Some (pairs list script first last within)) =
+    of_both (Some (pairs list script first last within)) refl refl (λ medl right. pairs_lines medl right first last within)
+    (λ medl right. pairs_lines-each medl right first last within) list script
 lab_forms (Some (script_by list slots number)) = of_script list slots number
 lab_forms (Some help) = of_lines (Some help) help_lines help-each
 lab_forms (Some version) = of_lines (Some version) (version_line ∷ []) (refl, tt)

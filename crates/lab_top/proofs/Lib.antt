@@ -1,6 +1,7 @@
 pub mod Room
 pub mod CampaignLines
 pub mod MarginLines
+pub mod PairLines
 pub mod GeneratedLines
 pub mod Refusals
 pub mod Charts
@@ -14,6 +15,7 @@ pub mod LinesPromises
 pub mod CampaignPromises
 pub mod CheckPromises
 pub mod MarginPromises
+pub mod PairPromises
 pub mod Fronts
 pub mod FramesPromises
 pub mod ScriptPromises

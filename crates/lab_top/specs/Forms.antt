@@ -5,6 +5,7 @@ use Rattle.ttp_world.specs.declared.medl.Medl.{Medl}
 use Rattle.ttp_world.specs.declared.script.Script.{Script}
 use Rattle.campaign.specs.Lines.{campaign_lines}
 use Rattle.clock_margins.specs.MarginText.{margin_lines}
+use Rattle.fault_pairs.specs.PairText.{pairs_lines}
 use Rattle.trace_check.specs.Answer.{is_trace}
 use Rattle.check_text.specs.Check.{Named, check_lines, check_status}
 use Rattle.commands.specs.Files.{list_file, script_file, list_plan, both_plan, trace_plan}
@@ -18,14 +19,14 @@ use Rattle.lab_top.specs.Help.{help_lines, version_line}
 use Rattle.lab_top.specs.Refusals.{refused_text}
 use Rattle.lab_top.specs.Texts.{begun, differences, LabEnding, LabPlan}
 use Rattle.lab_top.specs.Views.{View, text_file, viewed, wave_view, picture_view, chart_view}
-use Rattle.lab_top.specs.Words.{LabForm, wave, picture, campaign, chart, check, frames, margins, script_by, help, version}
+use Rattle.lab_top.specs.Words.{LabForm, wave, picture, campaign, chart, check, frames, margins, pairs, script_by, help, version}
 
 -- the line that answers words of no form
 abbrev pub lab_usage_line : List ℕ
 lab_usage_line =
     codes "usage: wave TRACE | picture TRACE [FIRST LAST] | campaign LIST SCRIPT FIRST LAST"
     ++ codes " | chart CAMPAIGN [FIRST LAST] | check LIST [SCRIPT] | frames LIST SCRIPT TRACE"
-    ++ codes " | margins LIST SCRIPT [FIRST LAST] | script LIST SLOTS NUMBER\n"
+    ++ codes " | margins LIST SCRIPT [FIRST LAST] | pairs LIST SCRIPT FIRST LAST WITHIN | script LIST SLOTS NUMBER\n"
 
 -- a view ends with its lines, or with the line that says why a text is not shown
 abbrev pub viewed_ending : {Value : Type 0} → View Value → Result Value TextFault → LabEnding
@@ -97,6 +98,8 @@ lab_plan_of (Some (chart name asked)) = view_plan (chart_view asked) name
 lab_plan_of (Some (check list script)) = check_plan list script
 lab_plan_of (Some (frames list script trace)) = frames_plan list script trace
 lab_plan_of (Some (margins list script asked)) = lines_plan (λ medl right. margin_lines medl right asked) list script
+lab_plan_of (Some (pairs list script first last within)) =
+    lines_plan (λ medl right. pairs_lines medl right first last within) list script
 lab_plan_of (Some (script_by list slots number)) = script_form_plan list slots number
 lab_plan_of (Some help) = ends help_ending
 lab_plan_of (Some version) = ends (line_ending 0 version_line)

@@ -7,16 +7,17 @@ abbrev pub help_lines : Lines
 help_lines =
     codes "ttplab 1.0.0: pictures of traces, and campaigns of single faults, of clusters of TTP/C controllers\n"
     ∷ codes "\n"
-    ∷ codes "wave TRACE                        a waveform of the trace, for a viewer of VCD files\n"
-    ∷ codes "picture TRACE [FIRST LAST]        a picture of the trace, or of these slots of it, as SVG\n"
-    ∷ codes "campaign LIST SCRIPT FIRST LAST   what each single fault in these slots costs, a line for each\n"
-    ∷ codes "chart CAMPAIGN [FIRST LAST]       a picture of a campaign, or of these slots of it, as SVG\n"
-    ∷ codes "check LIST [SCRIPT]               each mistake in both files, with its place and the way out\n"
-    ∷ codes "frames LIST SCRIPT TRACE          each frame on the bus in the run of a trace, byte by byte\n"
-    ∷ codes "margins LIST SCRIPT [FIRST LAST]  from which drift on, or jump in these slots, a clock costs others\n"
-    ∷ codes "script LIST SLOTS NUMBER          the script that ttpbench sample runs, as a text\n"
+    ∷ codes "wave TRACE                           a waveform of the trace, for a viewer of VCD files\n"
+    ∷ codes "picture TRACE [FIRST LAST]           a picture of the trace, or of these slots of it, as SVG\n"
+    ∷ codes "campaign LIST SCRIPT FIRST LAST      what each single fault in these slots costs, a line for each\n"
+    ∷ codes "chart CAMPAIGN [FIRST LAST]          a picture of a campaign, or of these slots of it, as SVG\n"
+    ∷ codes "check LIST [SCRIPT]                  each mistake in both files, with its place and the way out\n"
+    ∷ codes "frames LIST SCRIPT TRACE             each frame on the bus in the run of a trace, byte by byte\n"
+    ∷ codes "margins LIST SCRIPT [FIRST LAST]     from which drift on, or jump in these slots, a clock costs others\n"
+    ∷ codes "pairs LIST SCRIPT FIRST LAST WITHIN  what every two faults cost more than each alone, those that cost others by name\n"
+    ∷ codes "script LIST SLOTS NUMBER             the script that ttpbench sample runs, as a text\n"
     ∷ codes "\n"
-    ∷ codes "docs/FIRST.md is the page to begin with; docs/VIEWS.md, docs/CAMPAIGNS.md, docs/CHARTS.md, docs/FRAMES.md and docs/MARGINS.md have the forms.\n"
+    ∷ codes "docs/FIRST.md is the page to begin with; docs/VIEWS.md, docs/CAMPAIGNS.md, docs/CHARTS.md, docs/FRAMES.md, docs/CHECK.md, docs/MARGINS.md and docs/PAIRS.md have the forms.\n"
     ∷ []
 
 -- the program's version, and that of the kit by which it was proved

@@ -12,4 +12,5 @@ pub mod CampaignPromise
 pub mod CheckPromise
 pub mod FramesPromise
 pub mod MarginPromise
+pub mod PairPromise
 pub mod ScriptPromise

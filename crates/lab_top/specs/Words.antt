@@ -27,6 +27,9 @@ pub data LabForm : Type 0 where
   -- the margins of the script of this name for the list of this name, over the drifts of all nodes, or over the jumps in the
   -- slots that are asked for
   margins : (list script : List ℕ) (asked : Option Slots) → LabForm
+  -- the pairs of the script of this name for the list of this name, of which the first fault begins in the slots from the first
+  -- to the last, and the second up to so many slots later
+  pairs : (list script : List ℕ) (first last within : ℕ) → LabForm
   -- the script that this number gives for the list of this name, in a run of so many slots
   script_by : (list : List ℕ) (slots number : ℕ) → LabForm
   -- what each form writes, and which version this is
@@ -38,6 +41,7 @@ abbrev pub may_be_begun : Option LabForm → Bool
 may_be_begun (Some (campaign list script first last)) = true
 may_be_begun (Some (check list script)) = true
 may_be_begun (Some (margins list script asked)) = true
+may_be_begun (Some (pairs list script first last within)) = true
 may_be_begun _ = false
 
 -- the forms that may end with status 1
@@ -52,6 +56,7 @@ reads_list (Some (check list script)) = true
 reads_list (Some (campaign list script first last)) = true
 reads_list (Some (frames list script trace)) = true
 reads_list (Some (margins list script asked)) = true
+reads_list (Some (pairs list script first last within)) = true
 reads_list (Some (script_by list slots number)) = true
 reads_list _ = false
 
@@ -87,6 +92,12 @@ abbrev pub margins_of_range : List ℕ → List ℕ → Option ℕ → Option �
 margins_of_range list script (Some first) (Some last) =
     if nat_le first last then Some (margins list script (Some (record { first = first; last = last }))) else None
 margins_of_range list script _ _ = None
+
+-- the pairs of a range and of a distance that three words name, if each names one and the first slot is not past the last
+abbrev pub pairs_asked : List ℕ → List ℕ → Option ℕ → Option ℕ → Option ℕ → Option LabForm
+pairs_asked list script (Some first) (Some last) (Some within) =
+    if nat_le first last then Some (pairs list script first last within) else None
+pairs_asked list script _ _ _ = None
 
 -- the most digits of a number of slots, and of a number to draw by
 abbrev pub number_digits : ℕ
@@ -130,6 +141,9 @@ lab_form_of (verb ∷ text ∷ first ∷ last ∷ []) =
 lab_form_of (verb ∷ list ∷ script ∷ first ∷ last ∷ []) =
     if bytes_eq verb (codes "campaign") then campaign_of_range list script (bound_named first) (bound_named last)
     else (if bytes_eq verb (codes "margins") then margins_of_range list script (bound_named first) (bound_named last) else None)
+lab_form_of (verb ∷ list ∷ script ∷ first ∷ last ∷ within ∷ []) =
+    if bytes_eq verb (codes "pairs")
+    then pairs_asked list script (bound_named first) (bound_named last) (bound_named within) else None
 lab_form_of _ = None
 
 -- the form that a command of the code stands for
@@ -141,6 +155,7 @@ lab_form_asked (command.Chart name asked) = Some (chart name.now asked)
 lab_form_asked (command.Check list script) = Some (check list.now (option_map (λ s. s.now) script))
 lab_form_asked (command.Frames list script trace) = Some (frames list.now script.now trace.now)
 lab_form_asked (command.Margins list script asked) = Some (margins list.now script.now asked)
+lab_form_asked (command.Pairs list script first last within) = Some (pairs list.now script.now first last within)
 lab_form_asked (command.Script list slots number) = Some (script_by list.now slots number)
 lab_form_asked command.Help = Some help
 lab_form_asked command.Version = Some version

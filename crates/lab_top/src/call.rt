@@ -11,11 +11,12 @@ ghost use Rattle.lab_top.specs.CheckPromise.{CheckPromise};
 ghost use Rattle.lab_top.specs.Forms.{lab_plan_of};
 ghost use Rattle.lab_top.specs.FramesPromise.{FramesPromise};
 ghost use Rattle.lab_top.specs.MarginPromise.{MarginPromise};
+ghost use Rattle.lab_top.specs.PairPromise.{PairPromise};
 ghost use Rattle.lab_top.specs.Promise.{LabPromise};
 ghost use Rattle.lab_top.specs.ScriptPromise.{ScriptPromise};
 ghost use Rattle.lab_top.specs.Texts.{ttplab};
 ghost use Rattle.lab_top.specs.ViewPromise.{WavePromise, PicturePromise, ChartPromise};
-ghost use Rattle.lab_top.specs.Words.{wave, picture, campaign, chart, check, frames, margins, script_by, lab_form_of, lab_form_asked, HasScriptSlots};
+ghost use Rattle.lab_top.specs.Words.{wave, picture, campaign, chart, check, frames, margins, pairs, script_by, lab_form_of, lab_form_asked, HasScriptSlots};
 
 use crate::chart::chart;
 use crate::check::check;
@@ -24,6 +25,7 @@ use crate::frames::frames;
 use crate::generated::script;
 use crate::help::help;
 use crate::margins::margins;
+use crate::pairs::pairs;
 use crate::picture::picture;
 use crate::wave::wave;
 use crate::words::{Command, command_of};
@@ -35,7 +37,8 @@ use ttp_base::{Library, Sink};
 const USAGE: &str =
     "usage: wave TRACE | picture TRACE [FIRST LAST] | campaign LIST SCRIPT FIRST LAST \
     | chart CAMPAIGN [FIRST LAST] | check LIST [SCRIPT] | frames LIST SCRIPT TRACE \
-    | margins LIST SCRIPT [FIRST LAST] | script LIST SLOTS NUMBER\n";
+    | margins LIST SCRIPT [FIRST LAST] | pairs LIST SCRIPT FIRST LAST WITHIN \
+    | script LIST SLOTS NUMBER\n";
 
 const VERSION: &str = "ttplab 1.0.0 (rattle-kit-13f logic dac8208d650f15bf)\n";
 
@@ -74,6 +77,13 @@ fn obey<R: Threads + Sync, L: Library, K: Sink>(
             script,
             asked,
         } => margins(rt, alloc, list, script, asked, library, out),
+        Command::Pairs {
+            list,
+            script,
+            first,
+            last,
+            within,
+        } => pairs(rt, alloc, list, script, first, last, within, library, out),
         Command::Script {
             list,
             slots,
@@ -87,7 +97,7 @@ fn obey<R: Threads + Sync, L: Library, K: Sink>(
 
 /// Does what the words spell, and answers its status. The words are those after the program's name.
 ///
-/// There are nine forms. `wave TRACE` writes a waveform, a text in the format VCD that wave viewers read, and
+/// There are ten forms. `wave TRACE` writes a waveform, a text in the format VCD that wave viewers read, and
 /// `picture TRACE [FIRST LAST]` a picture, a text in the format SVG that browsers show, of the slots from FIRST
 /// to LAST, or else of those that are chosen. These FIRST and LAST are 1 to 5 decimal digits. What is taken for
 /// a trace says `whole_in` of whole_trace: its form is asked for, and not whether it is right.
@@ -103,6 +113,9 @@ fn obey<R: Threads + Sync, L: Library, K: Sink>(
 /// trace of the script for the list; of a text that is none it names the first wrong line, as `verify` of the bench does.
 /// `margins LIST SCRIPT [FIRST LAST]` runs the list with the script once for each whole value of a node's drift, or of its jump in
 /// each slot from FIRST to LAST, and writes the ranges of values that cost the same, and from which value on one costs others.
+/// `pairs LIST SCRIPT FIRST LAST WITHIN` runs the list with the script and each two faults more, of which the first is one of
+/// `campaign LIST SCRIPT FIRST LAST` and the second begins in the same slot or up to WITHIN slots later, and writes which pairs cost
+/// more than their faults do alone; WITHIN is 1 to 9 decimal digits, too.
 /// `script LIST SLOTS NUMBER` writes the script that the number gives for the list, in a run of so many slots, as a text
 /// that is read as this script; it is the one that `sample` of the bench runs. SLOTS is 1 to 20 decimal digits of a number
 /// from 1 to 20,000, and NUMBER of one of 64 bits. `--help` and `--version`, each alone, say what each form writes and which
@@ -114,13 +127,13 @@ fn obey<R: Threads + Sync, L: Library, K: Sink>(
 /// | 1 | for `frames`, exactly where TRACE is the trace text for no legal message numbers | `differs at line N` |
 /// | 1, 3, 4 | for `check`, exactly where a rule is not kept and nothing is wrong, where the list has a fault, where the script alone has one | a line for each, and the counts |
 /// | 2 | exactly where the words have no form | the usage line |
-/// | 3 | for `campaign`, `frames`, `margins` and `script`, exactly where the list is longer than 1,048,576 bytes or refused | a line that begins `list: ` |
+/// | 3 | for `campaign`, `frames`, `margins`, `pairs` and `script`, exactly where the list is longer than 1,048,576 bytes or refused | a line that begins `list: ` |
 /// | 4 | for a view, exactly where the text is longer than 134,217,728 bytes, is no trace, or lacks the slots | `trace: too large`, `trace: line N` with its first line that is not due or is missing, or `trace: slots 0 to L` with its last slot |
 /// | 4 | for `chart`, exactly where the text is longer than that, is no campaign, or no slot is to be shown | `campaign: too large`, `campaign: line N`, or `campaign: no slot to show` |
-/// | 4 | for `campaign`, `frames` and `margins`, exactly where the script is longer than 1,048,576 bytes or refused | a line that begins `script: ` |
+/// | 4 | for `campaign`, `frames`, `margins` and `pairs`, exactly where the script is longer than 1,048,576 bytes or refused | a line that begins `script: ` |
 /// | 5 | only where the count of the file's name rose, and no earlier refusal came | `load: trace`, `load: campaign`, `load: list` or `load: script` |
 /// | 6 | only where the sink's count rose | so many whole lines of a text that was due, and a front of the next |
-/// | 7 | want of memory | nothing, or for `campaign`, `check` and `margins` some whole lines of it, fewer than all |
+/// | 7 | want of memory; for `pairs` also a script of 131,071 events, which has no room for two more | nothing, or for `campaign`, `check`, `margins` and `pairs` some whole lines of it, fewer than all |
 ///
 /// The library is asked for the files of the form, each once, in the order of the words, and for a script only
 /// where the list is not refused; for words of no form it is left alone. The text of a trace is held while it is
@@ -181,6 +194,13 @@ pub fn lab<R: Threads + Sync, L: Library, K: Sink>(
     ensures margins { (list script : List ℕ) (asked : Option Slots)
         → lab_form_of (texts_of words.now) ≡ Some (margins list script asked)
         → MarginPromise list script asked (outside (L.files library.old) (K.output out.old))
+        (outside (L.files library.new) (K.output out.new)) result }
+    // For `pairs`, in its own words: status 0 is exactly the pairs of the list and the script that the files hold, and status 3
+    // or 4 the line on a file that is refused, as for `campaign`. Of the text of status 0 it says what its lines are read of, that
+    // its counts add up, and what a yes is worth; and pieces of a range are the whole.
+    ensures pairs { (list script : List ℕ) (first last within : ℕ)
+        → lab_form_of (texts_of words.now) ≡ Some (pairs list script first last within)
+        → PairPromise list script first last within (outside (L.files library.old) (K.output out.old))
         (outside (L.files library.new) (K.output out.new)) result }
     // For `script`, in its own words: status 0 is exactly the text of the script that the number gives for the list that the
     // file holds, and status 3 the line on a file that is none. A right list gives the text, any other its line; with status 6

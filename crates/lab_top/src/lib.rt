@@ -11,7 +11,7 @@
 //!
 //! A contract sees the call as the plan of its form (`specs/Forms.antt`), which commands carries out, and each form has a promise
 //! in its own words: the views of `specs/Views.antt` in `ViewPromise`, a campaign in `CampaignPromise`, of which `LinesPromise` holds
-//! of each form that writes lines of a list and a script, margins in `MarginPromise`, frames in `FramesPromise`.
+//! of each form that writes lines of a list and a script, margins in `MarginPromise`, pairs in `PairPromise`, frames in `FramesPromise`.
 //!
 //! It shows traces and campaigns, and knows nothing of what is right in one: it takes a text for one by its form. It has the
 //! crates below run campaigns, and say whether a text is the trace of a run, and knows nothing of what a node does. It never opens a file and never prints: that is the
@@ -28,6 +28,7 @@ mod frames;
 mod generated;
 mod help;
 mod margins;
+mod pairs;
 mod picture;
 mod refusal;
 mod wave;

@@ -2,7 +2,7 @@
 ghost use Rattle.std.specs.Prelude.{◌≡◌, ◌≤◌, [], ◌∷◌, IfSome};
 ghost use Rattle.commands.specs.Words.{texts_of};
 ghost use Rattle.ttp_world.specs.declared.script.TheConstants.{SLOT_LIMIT};
-ghost use Rattle.lab_top.specs.Words.{slot_named, form_of_slots, bound_named, campaign_of_range, margins_of_range};
+ghost use Rattle.lab_top.specs.Words.{slot_named, form_of_slots, bound_named, campaign_of_range, margins_of_range, pairs_asked};
 ghost use Rattle.lab_top.specs.Words.{slots_named, draw_named, script_of_words, HasScriptSlots};
 ghost use Rattle.lab_top.specs.Words.{lab_form_of, lab_form_asked, picture, chart};
 
@@ -53,6 +53,14 @@ pub(crate) enum Command<'a> {
         list: &'a str,
         script: &'a str,
         asked: Option<Slots>,
+    },
+    /// The pairs of the script of this name for the list of this name, over these slots, and up to so many slots apart.
+    Pairs {
+        list: &'a str,
+        script: &'a str,
+        first: u32,
+        last: u32,
+        within: u32,
     },
     /// The script that this number gives for the list of this name, in a run of so many slots.
     Script {
@@ -118,6 +126,35 @@ fn margins_of_range<'a>(list: &'a str, script: &'a str, first: &str, last: &str)
             list,
             script,
             asked: Some(Slots { first, last }),
+        },
+        _ => Command::NoForm,
+    }
+}
+
+// The pairs that are asked for by words for the first and the last slot, and for how many slots apart they are at most.
+fn pairs_asked<'a>(
+    list: &'a str,
+    script: &'a str,
+    first: &str,
+    last: &str,
+    within: &str,
+) -> Command<'a>
+    ensures form { lab_form_asked result
+        ≡ pairs_asked list.now script.now (bound_named first.now) (bound_named last.now) (bound_named within.now) }
+    ensures slots { HasScriptSlots result }
+{
+    let bounds = (
+        bound_named(first.as_bytes()),
+        bound_named(last.as_bytes()),
+        bound_named(within.as_bytes()),
+    );
+    match bounds {
+        (Some(first), Some(last), Some(within)) if first <= last => Command::Pairs {
+            list,
+            script,
+            first,
+            last,
+            within,
         },
         _ => Command::NoForm,
     }
@@ -294,6 +331,25 @@ fn range_command<'a>(
     }
 }
 
+// The command of six words.
+fn distance_command<'a>(
+    verb: &str,
+    list: &'a str,
+    script: &'a str,
+    first: &str,
+    last: &str,
+    within: &str,
+) -> Command<'a>
+    ensures form { lab_form_asked result
+        ≡ lab_form_of (verb.now ∷ list.now ∷ script.now ∷ first.now ∷ last.now ∷ within.now ∷ []) }
+    ensures slots { HasScriptSlots result }
+{
+    match verb {
+        "pairs" => pairs_asked(list, script, first, last, within),
+        _ => Command::NoForm,
+    }
+}
+
 /// The command that words spell.
 pub(crate) fn command_of(words: &[String]) -> Command<'_>
     ensures form { lab_form_asked result ≡ lab_form_of (texts_of words.now) }
@@ -312,6 +368,14 @@ pub(crate) fn command_of(words: &[String]) -> Command<'_>
             script.as_str(),
             first.as_str(),
             last.as_str(),
+        ),
+        [verb, list, script, first, last, within] => distance_command(
+            verb.as_str(),
+            list.as_str(),
+            script.as_str(),
+            first.as_str(),
+            last.as_str(),
+            within.as_str(),
         ),
         _ => Command::NoForm,
     }

@@ -1,5 +1,5 @@
-mod Counted
+pub mod Counted
 pub mod Joined
-mod Distances
-mod Firsts
-mod Kept
+pub mod Distances
+pub mod Firsts
+pub mod Kept

@@ -1,11 +1,12 @@
 use Rattle.std.proofs.Common.{Some, refl}
 use Rattle.commands.specs.Texts.{alone}
 use Rattle.lab_top.specs.Views.{wave_view, picture_view, chart_view}
-use Rattle.lab_top.specs.Words.{wave, picture, campaign, chart, check, frames, margins, script_by}
+use Rattle.lab_top.specs.Words.{wave, picture, campaign, chart, check, frames, margins, pairs, script_by}
 use Rattle.lab_top.proofs.CampaignPromises.{campaign_promise}
 use Rattle.lab_top.proofs.CheckPromises.{check_promise}
 use Rattle.lab_top.proofs.FramesPromises.{frames_promise}
 use Rattle.lab_top.proofs.MarginPromises.{margin_promise}
+use Rattle.lab_top.proofs.PairPromises.{pair_promise}
 use Rattle.lab_top.proofs.Promises.{lab_promise}
 use Rattle.lab_top.proofs.ScriptPromises.{script_promise}
 use Rattle.lab_top.proofs.Views.{view_promise}
@@ -71,3 +72,10 @@ returns-clause-margins g c = λ list script asked form.
     (rw (c.command_of.ensures.form, form) at c.obey.ensures.follows)
     (rw (c.command_of.ensures.form, form) at c.obey.ensures.no_form) in
     margin_promise list script asked _ _ (alone c.obey.result) p.call
+
+pub returns-clause-pairs : goal.returns-clause-pairs
+returns-clause-pairs g c = λ list script first last within form.
+    let p = lab_promise (Some (pairs list script first last within)) _ _ (alone c.obey.result)
+    (rw (c.command_of.ensures.form, form) at c.obey.ensures.follows)
+    (rw (c.command_of.ensures.form, form) at c.obey.ensures.no_form) in
+    pair_promise list script first last within _ _ (alone c.obey.result) p.call

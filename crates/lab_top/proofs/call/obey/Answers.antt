@@ -24,3 +24,6 @@ returns-in-Check-clause-follows g c = rw c.in-Check.is c.check.ensures
 
 pub returns-in-Margins-clause-follows : goal.returns-in-Margins-clause-follows
 returns-in-Margins-clause-follows g c = rw c.in-Margins.is c.margins.ensures
+
+pub returns-in-Pairs-clause-follows : goal.returns-in-Pairs-clause-follows
+returns-in-Pairs-clause-follows g c = rw c.in-Pairs.is c.pairs.ensures

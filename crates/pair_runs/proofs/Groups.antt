@@ -1,0 +1,166 @@
+-- First faults of a slot, one after another, and the texts of first faults.
+use Rattle.std.proofs.Common.{◌≡◌, ℕ, zero, suc, ◌+◌, ◌-◌, ◌<◌, ◌≤◌, Bool, true, false, cond, List, [], ◌∷◌, ◌++◌, length, get_or}
+use Rattle.std.proofs.Common.{take, drop, refl, sym, ap, subst, ◌∙◌, arith, append-nil, length-append, add-one, not, ◌||◌, ◌*◌}
+use Rattle.std.specs.Prelude.{map, flat_map, filter, ◌==◌, min}
+use Rattle.std.specs.List.{list_any, range_with_len}
+use Rattle.std.proofs.lemmas.Bool.{ne_eqb}
+use Rattle.std.proofs.lemmas.List.{length-map, map-append}
+use Rattle.std.proofs.lemmas.List.FromFn.{length-range_with_len}
+use Rattle.std.proofs.lemmas.List.Concat.{flat_map-append}
+use Rattle.std.proofs.lemmas.Simd.{map-map}
+use Rattle.ttp_base.specs.NodeSet.{below}
+use Rattle.ttp_world.specs.declared.script.Event.{Event}
+use Rattle.ttp_world.specs.Medl.{IsValid}
+use Rattle.campaign.specs.ZerosWorld.{zeros_world}
+use Rattle.fault_pairs.specs.Pairs.{FirstFault, SecondFault, second_apart, firsts_among, firsts_from, seconds_in, seconds_behind}
+use Rattle.fault_pairs.specs.PairText.{lines_of_told, apart_line, sum_lines}
+use Rattle.fault_pairs.specs.Sums.{PairTold, pair_counts, told_apart, are_so_far_apart, distances}
+use Rattle.pair_runs.specs.declared.tried.Common.{Common}
+use Rattle.pair_runs.specs.declared.tried.Course.{Course}
+use Rattle.pair_runs.specs.Counted.{distances_of}
+use Rattle.pair_runs.specs.Tries.{told_pair}
+use Rattle.pair_runs.specs.Written.{first_with, told_second, tolds_behind, faults_at, firsts_of, firsts_between, all_firsts}
+use Rattle.pair_runs.specs.Written.{lines_at, distance_lines}
+use Rattle.pair_runs.proofs.Begins.{at-few}
+use Rattle.pair_runs.proofs.Ranges.{slots-range, from-first}
+
+-- the first faults of a slot from one of them on
+among-drop : (slot : ℕ) (faults : List Event) (i : ℕ) (d : Event) → i < length faults
+    → firsts_among slot (drop i faults) ≡ first_with slot (get_or faults i d) (drop (suc i) faults) ∷ firsts_among slot (drop (suc i) faults)
+among-drop slot [] i d inside = absurd (omega (arith, inside))
+among-drop slot (fault ∷ faults) zero d inside = refl
+among-drop slot (fault ∷ faults) (suc i) d inside = among-drop slot faults i d (omega (arith, inside))
+
+-- those before one of them, and the others
+abbrev pub firsts_before : ℕ → List Event → ℕ → List FirstFault
+firsts_before slot faults i = take i (firsts_among slot faults)
+
+among-split : (slot : ℕ) (faults : List Event) (i : ℕ)
+    → firsts_before slot faults i ++ firsts_among slot (drop i faults) ≡ firsts_among slot faults
+among-split slot [] zero = refl
+among-split slot [] (suc i) = refl
+among-split slot (fault ∷ faults) zero = refl
+among-split slot (fault ∷ faults) (suc i) = ap (λ more. first_with slot fault faults ∷ more) (among-split slot faults i)
+
+among-next : (slot : ℕ) (faults : List Event) (i : ℕ) (d : Event) → i < length faults
+    → firsts_before slot faults i ++ first_with slot (get_or faults i d) (drop (suc i) faults) ∷ [] ≡ firsts_before slot faults (suc i)
+among-next slot [] i d inside = absurd (omega (arith, inside))
+among-next slot (fault ∷ faults) zero d inside = refl
+among-next slot (fault ∷ faults) (suc i) d inside =
+    ap (λ more. first_with slot fault faults ∷ more) (among-next slot faults i d (omega (arith, inside)))
+
+pub among-all : (slot : ℕ) (faults : List Event) (i : ℕ) → length faults ≤ i → firsts_before slot faults i ≡ firsts_among slot faults
+among-all slot [] zero all = refl
+among-all slot [] (suc i) all = refl
+among-all slot (fault ∷ faults) zero all = absurd (omega (arith, all))
+among-all slot (fault ∷ faults) (suc i) all =
+    ap (λ more. first_with slot fault faults ∷ more) (among-all slot faults i (omega (arith, all)))
+
+-- what a text of first faults is of some, of one and of those behind
+pub texts-split : {Y : Type 0} (f : FirstFault → List Y) (slot : ℕ) (faults : List Event) (i : ℕ) (d : Event) → i < length faults
+    → flat_map f (firsts_before slot faults i) ++ (flat_map f (first_with slot (get_or faults i d) (drop (i + 1) faults) ∷ [])
+    ++ flat_map f (firsts_among slot (drop (i + 1) faults)))
+    ≡ flat_map f (firsts_among slot faults)
+texts-split f slot faults i d inside =
+    let one = first_with slot (get_or faults i d) (drop (suc i) faults) in
+    let rest = firsts_among slot (drop (suc i) faults) in
+    let front = firsts_before slot faults i in
+    ap (λ n. flat_map f front ++ (flat_map f (first_with slot (get_or faults i d) (drop n faults) ∷ [])
+    ++ flat_map f (firsts_among slot (drop n faults)))) (add-one i)
+    ∙ ap (λ ys. flat_map f front ++ ys) (sym (flat_map-append f (one ∷ []) rest))
+    ∙ sym (flat_map-append f front (one ∷ rest))
+    ∙ ap (flat_map f) (ap (λ more. front ++ more) (sym (among-drop slot faults i d inside)) ∙ among-split slot faults i)
+
+pub texts-next : {Y : Type 0} (f : FirstFault → List Y) (slot : ℕ) (faults : List Event) (i : ℕ) (d : Event) → i < length faults
+    → flat_map f (firsts_before slot faults i) ++ flat_map f (first_with slot (get_or faults i d) (drop (i + 1) faults) ∷ [])
+    ≡ flat_map f (firsts_before slot faults (i + 1))
+texts-next f slot faults i d inside =
+    let one = first_with slot (get_or faults i d) (drop (suc i) faults) in
+    ap (λ n. flat_map f (firsts_before slot faults i) ++ flat_map f (first_with slot (get_or faults i d) (drop n faults) ∷ [])) (add-one i)
+    ∙ sym (flat_map-append f (firsts_before slot faults i) (one ∷ []))
+    ∙ ap (flat_map f) (among-next slot faults i d inside ∙ ap (firsts_before slot faults) (sym (add-one i)))
+
+-- The pairs of which the second fault comes in a later slot.
+
+abbrev pub tolds_later : Course → ℕ → List PairTold
+tolds_later course later =
+    map (told_pair course (later - course.slot)) (faults_at course.common.list.now course.more.now later)
+
+later-each : (course : Course) (slots : List ℕ)
+    → map (told_second course) (flat_map (seconds_in course.common.list.now course.more.now
+    (zeros_world course.common.list.now course.more.now course.more.now.slots) course.slot) slots)
+    ≡ flat_map (tolds_later course) slots
+later-each course [] = refl
+later-each course (later ∷ slots) =
+    let list = course.common.list.now in
+    let more = course.more.now in
+    let history = zeros_world list more more.slots in
+    map-append (told_second course) (seconds_in list more history course.slot later)
+    (flat_map (seconds_in list more history course.slot) slots)
+    ∙ (λ i. map-map (told_second course) (second_apart (later - course.slot)) (faults_at list more later) i ++ later-each course slots i)
+
+-- there are not many
+flat-few : {X : Type 0} (f : ℕ → List X) (ks : List ℕ) → ((k : ℕ) → length (f k) ≤ 384) → length (flat_map f ks) ≤ 384 * length ks
+flat-few f [] few = omega arith
+flat-few f (k ∷ ks) few = omega (arith, length-append (f k) (flat_map f ks), flat-few f ks few, few k)
+
+pub later-few : (course : Course) → IsValid course.common.list.now → (a n : ℕ)
+    → length (flat_map (tolds_later course) (range_with_len a n)) ≤ 384 * n
+later-few course valid a n =
+    let each : (later : ℕ) → length (tolds_later course later) ≤ 384 =
+    λ later. subst (λ (m : ℕ). m ≤ 384)
+    (sym (length-map (faults_at course.common.list.now course.more.now later) (told_pair course (later - course.slot))))
+    (at-few course.common.list.now course.more.now later valid) in
+    omega (arith, flat-few (tolds_later course) (range_with_len a n) each, length-range_with_len a n)
+
+-- they are those of the slots up to an end
+pub behind-range : (course : Course) (end : ℕ) → end ≡ min (suc (course.slot + course.common.within)) course.more.now.slots
+    → flat_map (tolds_later course) (range_with_len (course.slot + 1) (end - (course.slot + 1))) ≡ tolds_behind course
+behind-range course end is =
+    let next : course.slot + 1 ≡ suc course.slot = omega arith in
+    (λ i. flat_map (tolds_later course) (range_with_len (next i) (is i - next i)))
+    ∙ ap (flat_map (tolds_later course)) (sym (slots-range course.more.now (suc course.slot) (course.slot + course.common.within)))
+    ∙ sym (later-each course _)
+
+-- First faults of a range.
+
+pub firsts-range : (common : Common) (end : ℕ) → end ≡ min (suc common.last) common.script.now.slots
+    → firsts_between common (min common.first end) (end - min common.first end) ≡ all_firsts common
+firsts-range common end is =
+    ap (flat_map (firsts_of common)) (from-first common.first end
+    ∙ ap (λ e. range_with_len common.first (e - common.first)) is
+    ∙ sym (slots-range common.script.now common.first common.last))
+
+pub flat_map-twice : {X Y : Type 0} (g : X → List Y) (f : ℕ → List X) (ks : List ℕ)
+    → flat_map g (flat_map f ks) ≡ flat_map (λ k. flat_map g (f k)) ks
+flat_map-twice g f [] = refl
+flat_map-twice g f (k ∷ ks) = flat_map-append g (f k) (flat_map f ks) ∙ ap (λ ys. flat_map g (f k) ++ ys) (flat_map-twice g f ks)
+
+-- Sums.
+
+pub some-apart : (d : ℕ) (tolds : List PairTold) → not (length (told_apart d tolds) == 0) ≡ list_any (are_so_far_apart d) tolds
+some-apart d [] = refl
+some-apart d (told ∷ tolds) = by (are_so_far_apart d told) (some-apart d tolds)
+  where
+    by : (b : Bool) → not (length (told_apart d tolds) == 0) ≡ list_any (are_so_far_apart d) tolds
+        → not (length (cond b (told ∷ told_apart d tolds) (told_apart d tolds)) == 0) ≡ (b || list_any (are_so_far_apart d) tolds)
+    by true rest = ap not (ne_eqb (suc (length (told_apart d tolds))) 0 (λ same. omega (arith, same)))
+    by false rest = rest
+
+lines-each : (tolds : List PairTold) (ds : List ℕ)
+    → flat_map (lines_at tolds) ds ≡ map (apart_line tolds) (filter (λ d. list_any (are_so_far_apart d) tolds) ds)
+lines-each tolds [] = refl
+lines-each tolds (d ∷ ds) = by (list_any (are_so_far_apart d) tolds) (lines-each tolds ds)
+  where
+    by : (b : Bool)
+        → flat_map (lines_at tolds) ds ≡ map (apart_line tolds) (filter (λ e. list_any (are_so_far_apart e) tolds) ds)
+        → cond b (apart_line tolds d ∷ []) [] ++ flat_map (lines_at tolds) ds
+        ≡ map (apart_line tolds) (cond b (d ∷ filter (λ e. list_any (are_so_far_apart e) tolds) ds)
+        (filter (λ e. list_any (are_so_far_apart e) tolds) ds))
+    by true rest = ap (λ ls. apart_line tolds d ∷ ls) rest
+    by false rest = rest
+
+-- the lines of all distances are those of the distances that some pair has
+pub lines-distances : (common : Common) (tolds : List PairTold)
+    → distance_lines tolds (distances_of common) ≡ map (apart_line tolds) (distances common.script.now common.within tolds)
+lines-distances common tolds = lines-each tolds (below (distances_of common))

@@ -1,0 +1,10 @@
+pub mod Begins
+pub mod Counted
+pub mod Firsts
+pub mod Groups
+pub mod Harms
+pub mod Owns
+pub mod Ranges
+pub mod Told
+pub mod Tries
+pub mod Wholes

@@ -1,0 +1,59 @@
+-- What is kept of a pair, and its line.
+use Rattle.std.proofs.Common.{◌≡◌, ◌+◌, ◌<◌, ℕ, Bool, true, false, cond, List, [], ◌∷◌, ◌++◌, length, get_or, take, drop}
+use Rattle.std.proofs.Common.{refl, sym, ap, ◌∙◌, arith, append_assoc}
+use Rattle.std.specs.Prelude.{map}
+use Rattle.std.proofs.lemmas.List.{take_more, take-append-drop, map-append}
+use Rattle.std.proofs.lemmas.Simd.{map-map}
+use Rattle.campaign.specs.Tried.{with_fault}
+use Rattle.campaign.specs.ZerosWorld.{zeros_world}
+use Rattle.ttp_world.specs.declared.script.Script.{Script}
+use Rattle.fault_pairs.specs.declared.pair.PairClass.TheVariants as class
+use Rattle.fault_pairs.specs.Classes.{has_line}
+use Rattle.fault_pairs.specs.Pairs.{second_apart, seconds_beside, seconds_behind, seconds_of}
+use Rattle.fault_pairs.specs.PairText.{lines_of_told}
+use Rattle.fault_pairs.specs.Sums.{PairTold}
+use Rattle.pair_runs.specs.declared.tried.Course.{Course}
+use Rattle.pair_runs.specs.declared.tried.Told.{Told}
+use Rattle.pair_runs.specs.Tries.{shortened, told_pair, first_of}
+use Rattle.pair_runs.specs.Written.{told_second, tolds_behind}
+use Rattle.pair_runs.proofs.Counted.{lines-append}
+
+pub line-told : (told : Told) (pair : PairTold) → told ≡ shortened pair → has_line told.class ≡ true
+    → told.line ∷ [] ≡ lines_of_told (pair ∷ [])
+line-told told pair is has =
+    let here : has_line pair.class ≡ true = sym (ap (λ (t : Told). has_line t.class) is) ∙ has in
+    ap (λ (t : Told). t.line ∷ []) is ∙ ap (λ (b : Bool). cond b pair.line [] ∷ []) here
+    ∙ ap (λ (b : Bool). map (λ (t : PairTold). t.line) (cond b (pair ∷ []) [])) (sym here)
+
+pub no-line : (told : Told) (pair : PairTold) → told ≡ shortened pair → has_line told.class ≡ false
+    → [] ≡ lines_of_told (pair ∷ [])
+no-line told pair is has =
+    let here : has_line pair.class ≡ false = sym (ap (λ (t : Told). has_line t.class) is) ∙ has in
+    ap (λ (b : Bool). map (λ (t : PairTold). t.line) (cond b (pair ∷ []) [])) (sym here)
+
+-- a pair that stands for none
+abbrev pub no_told : PairTold
+no_told = record { apart = 0; yes = false; class = class.Sum; line = [] }
+
+-- the lines of some pairs, of one and of those behind
+pub lines-split : (pairs : List PairTold) (i : ℕ) → i < length pairs
+    → lines_of_told (take i pairs) ++ (lines_of_told (get_or pairs i no_told ∷ []) ++ lines_of_told (drop (i + 1) pairs))
+    ≡ lines_of_told pairs
+lines-split pairs i inside =
+    let front = take i pairs in
+    let one = get_or pairs i no_told in
+    let rest = drop (i + 1) pairs in
+    sym (append_assoc (lines_of_told front) (lines_of_told (one ∷ [])) (lines_of_told rest))
+    ∙ ap (λ ls. ls ++ lines_of_told rest) (sym (lines-append front (one ∷ [])) ∙ ap lines_of_told (sym (take_more pairs i no_told inside)))
+    ∙ sym (lines-append (take (i + 1) pairs) rest) ∙ ap lines_of_told (take-append-drop (i + 1) pairs)
+
+-- all pairs of a first fault are those of its slot and those behind
+pub seconds-told : (course : Course) → course.more.now ≡ with_fault course.common.script.now course.one.now
+    → map (told_pair course 0) course.behind.now ++ tolds_behind course
+    ≡ map (told_second course) (seconds_of course.common.list.now course.common.script.now course.common.within (first_of course))
+seconds-told course is =
+    let list = course.common.list.now in
+    let later = λ (s : Script). seconds_behind list s (zeros_world list s s.slots) course.slot course.common.within in
+    (λ i. sym (map-map (told_second course) (second_apart 0) course.behind.now) i ++ map (told_second course) (later (is i)))
+    ∙ sym (map-append (told_second course) (seconds_beside (first_of course))
+    (later (with_fault course.common.script.now course.one.now)))

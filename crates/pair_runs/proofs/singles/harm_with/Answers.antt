@@ -1,0 +1,15 @@
+use Rattle.std.proofs.Common.{◌∙◌, ap}
+use Rattle.ttp_world.specs.declared.script.Script.{Script}
+use Rattle.campaign.specs.declared.cost.Cost.{Cost}
+use Rattle.campaign.specs.Lines.{summary}
+use Rattle.fault_pairs.specs.Classes.{harm_of}
+use Rattle.pair_runs.proofs.Harms.{cost-ordered}
+use Rattle.pair_runs.proofs.singles.harm_with.Goals as goal
+
+pub harm_of-requires : goal.harm_of-requires
+harm_of-requires c = cost-ordered c.args.list.now c.in_ok-more.more c.in_ok-cost.cost c.requires.valid c.in_ok-cost.ensures.cost
+
+pub returns-clause-harm : goal.returns-clause-harm
+returns-clause-harm c =
+    c.harm_of.ensures
+    ∙ ap harm_of (c.in_ok-cost.ensures.cost ∙ ap (λ (s : Script). (summary c.args.list.now s).cost) c.in_ok-more.ensures)

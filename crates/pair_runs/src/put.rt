@@ -1,0 +1,838 @@
+//! The text of all pairs, written.
+ghost use Rattle.std.specs.Prelude.{◌≡◌, ◌+◌, ◌-◌, ◌<◌, ◌≤◌, ◌^◌, ◌==◌, suc, min, not, [], ◌∷◌, ◌++◌, ℕ, List as Items, map};
+ghost use Rattle.std.specs.Prelude.{length, All, Err, OnOk, IfOk, IfErr};
+ghost use Rattle.ttp_base.specs.Outside.{WroteLines, CutShort};
+ghost use Rattle.ttp_world.specs.declared.script.TheConstants.{EVENT_LIMIT};
+ghost use Rattle.ttp_world.specs.Medl.{IsValid};
+ghost use Rattle.ttp_world.specs.Script.{IsValidScript};
+ghost use Rattle.campaign.specs.CostText.{cost_words};
+ghost use Rattle.campaign.specs.Lines.{summary, summary_with};
+ghost use Rattle.campaign.specs.Tried.{with_fault};
+ghost use Rattle.single_faults.specs.Tried.{MayStand};
+ghost use Rattle.run_costs.specs.Standing.{IsSeenAfter, IsRunOfList};
+ghost use Rattle.fault_runs.specs.declared.put.CampaignFault.TheVariants as fault;
+ghost use Rattle.fault_runs.specs.Ends.{LeftBy, LeftFewerBy, WroteFewer};
+ghost use Rattle.fault_runs.specs.Tries.{IsOwnAfter, IsOwnOf};
+ghost use Rattle.fault_pairs.specs.Classes.{harm_of};
+ghost use Rattle.fault_pairs.specs.Pairs.{FirstFault, seconds_of, firsts_among};
+ghost use Rattle.fault_pairs.specs.PairText.{lines_of_told, pair_tolds, first_fault_lines, first_fault_line, pair_counts_line};
+ghost use Rattle.fault_pairs.specs.PairText.{apart_line, sum_lines, pairs_lines};
+ghost use Rattle.fault_pairs.specs.Sums.{PairTold, pair_counts, distances};
+ghost use Rattle.pair_classes.specs.Summed.{AreSumsOf};
+ghost use Rattle.pair_runs.specs.Counted.{most_tried, most_of_first, most_of_slot, distances_of, HasFewPairs, HasFewSums, AddsTo};
+ghost use Rattle.pair_runs.specs.Counted.{PutPairs, PutFirsts};
+ghost use Rattle.pair_runs.specs.Tries.{IsSingle, MayPair, IsPastRun, MayBegin, MayTryPairs, first_of, told_pair, shortened};
+ghost use Rattle.pair_runs.specs.Written.{AreSingles, IsAhead, IsWork, faults_at, told_second, tolds_behind, first_with};
+ghost use Rattle.pair_runs.specs.Written.{tolds_of_firsts, text_of_firsts, firsts_of, firsts_between, all_firsts};
+ghost use Rattle.pair_runs.specs.Written.{opening_lines, ending_lines, lines_at, distance_lines};
+
+use crate::ahead::{Ahead, faults_at, place_of};
+use crate::harm::harm_of;
+use crate::singles::{Single, Singles};
+use crate::tally::Tally;
+use crate::tried::{Common, Course, Told, try_beside};
+use campaign::Cost;
+use fault_pairs::PairCounts;
+use fault_runs::campaign_text::{Text, put_cost, put_own};
+use fault_runs::{CampaignFault, OwnRun};
+use pair_classes::{Sums, has_line};
+use pair_text::{put_apart, put_first, put_head, put_sum};
+use run_costs::{SeenRun, cost_from, cost_of};
+use single_faults::laws::more_is_valid;
+use single_faults::with_fault;
+use std::alloc::Global;
+use std::thread::Threads;
+use ttp_base::{Memory, Sink};
+use ttp_world::{Event, Medl, Script};
+
+/// Where runs and lines are made.
+#[derive(Drop)]
+pub(crate) struct Work {
+    // A run that is made for one fault, and forgotten.
+    run: SeenRun,
+    // That of the script with the first fault.
+    past: OwnRun,
+    line: Text,
+}
+
+// Writes a line.
+fn write<K: Sink>(line: &[u8], out: &mut K) -> Result<(), CampaignFault>
+    ensures ok { OnOk result (WroteLines (K.output out.old) (K.output out.new) (line.now ∷ [])) }
+    ensures err { IfErr result (λ why. LeftFewerBy why (K.output out.old) (K.output out.new) (line.now ∷ [])) }
+    ensures left { IfErr result (λ why. LeftBy why (K.output out.old) (K.output out.new) (line.now ∷ [])) }
+{
+    match out.write(line) {
+        Ok(()) => Ok(()),
+        Err(_) => Err(CampaignFault::Failed),
+    }
+}
+
+// Writes the line that was to be formed, if it was.
+fn put_formed<K: Sink>(
+    formed: Result<(), Memory>,
+    line: &Text,
+    out: &mut K,
+) -> Result<(), CampaignFault>
+    ensures ok { (due : Items ℕ) → OnOk formed (line.now ≡ due)
+        → OnOk result (WroteLines (K.output out.old) (K.output out.new) (due ∷ [])) }
+    ensures err { (due : Items ℕ) → OnOk formed (line.now ≡ due)
+        → IfErr result (λ why. LeftFewerBy why (K.output out.old) (K.output out.new) (due ∷ [])) }
+{
+    match formed {
+        Ok(()) => write(line.bytes(), out),
+        Err(_) => Err(CampaignFault::Memory),
+    }
+}
+
+// How many distances are counted.
+fn distances_of(common: &Common) -> u32
+    requires { MayPair common.now }
+    ensures { result ≡ distances_of common.now }
+{
+    if common.within < common.script.slots {
+        common.within + 1
+    } else {
+        common.script.slots
+    }
+}
+
+// The slot behind the last one that pairs of a slot reach to.
+fn end_behind(common: &Common, slot: u32) -> u32
+    requires may { MayPair common.now }
+    requires slot { slot < common.now.script.now.slots }
+    ensures { result ≡ min (suc (slot + common.now.within)) common.now.script.now.slots }
+{
+    if common.within < common.script.slots - slot {
+        slot + common.within + 1
+    } else {
+        common.script.slots
+    }
+}
+
+// The slot behind the last one of the range.
+fn end_of(common: &Common) -> u32
+    requires { MayPair common.now }
+    ensures { result ≡ min (suc common.now.last) common.now.script.now.slots }
+{
+    if common.last < common.script.slots {
+        common.last + 1
+    } else {
+        common.script.slots
+    }
+}
+
+// Counts a pair, and writes its line where it has one.
+fn put_told<K: Sink>(
+    told: &Told,
+    apart: u32,
+    tally: &mut Tally,
+    out: &mut K,
+) -> Result<(), CampaignFault>
+    requires few { (distances : ℕ) × (most : ℕ) × HasFewPairs distances most tally.old × (apart < distances) × (most < 2 ^ 62) }
+    ensures few { (distances most : ℕ) → HasFewPairs distances most tally.old → HasFewPairs distances (most + 1) tally.new }
+    ensures ok { (pair : PairTold) → told.now ≡ shortened pair → pair.apart ≡ apart
+        → OnOk result (PutPairs (K.output out.old) (K.output out.new) tally.old tally.new (pair ∷ [])) }
+    ensures err { (pair : PairTold) → told.now ≡ shortened pair
+        → IfErr result (λ why. LeftBy why (K.output out.old) (K.output out.new) (lines_of_told (pair ∷ []))) }
+{
+    tally.count(apart, told.yes, told.class);
+    if has_line(told.class) {
+        return write(told.line.bytes(), out);
+    }
+    Ok(())
+}
+
+// The same of those of a slot.
+fn put_tolds<K: Sink>(
+    all: &[Told],
+    apart: u32,
+    tally: &mut Tally,
+    out: &mut K,
+) -> Result<(), CampaignFault>
+    requires count { length all.now ≤ most_tried }
+    requires few { (distances : ℕ) × (most : ℕ) × HasFewPairs distances most tally.old × (apart < distances)
+        × (most + most_tried < 2 ^ 62) }
+    ensures ok { (pairs : Items PairTold) → all.now ≡ map shortened pairs → All (λ (pair : PairTold). pair.apart ≡ apart) pairs
+        → OnOk result (PutPairs (K.output out.old) (K.output out.new) tally.old tally.new pairs) }
+    ensures err { (pairs : Items PairTold) → all.now ≡ map shortened pairs → All (λ (pair : PairTold). pair.apart ≡ apart) pairs
+        → IfErr result (λ why. LeftBy why (K.output out.old) (K.output out.new) (lines_of_told pairs)) }
+{
+    for told in all {
+        if let Err(why) = put_told(told, apart, tally, out) {
+            return Err(why);
+        }
+    }
+    Ok(())
+}
+
+// The pairs of a first fault and some second ones, so many slots behind it.
+fn put_seconds<R: Threads + Sync, K: Sink>(
+    rt: &R,
+    alloc: Global,
+    course: &Course,
+    apart: u32,
+    past: &SeenRun,
+    singles: &[Single],
+    faults: &[Event],
+    tally: &mut Tally,
+    out: &mut K,
+) -> Result<(), CampaignFault>
+    requires may { MayTryPairs course.now }
+    requires past { IsPastRun course.now.common.list.now course.now.more.now past.now }
+    requires singles { All (IsSingle course.now.common.list.now course.now.common.script.now) singles.now }
+    requires faults { All (MayStand course.now.common.list.now course.now.common.script.now) faults.now }
+    requires count { length faults.now ≤ most_tried }
+    requires apart { apart < distances_of course.now.common }
+    requires few { (most : ℕ) × HasFewPairs (distances_of course.now.common) most tally.old × (most + most_tried < 2 ^ 62) }
+    ensures ok { OnOk result (PutPairs (K.output out.old) (K.output out.new) tally.old tally.new
+        (map (told_pair course.now apart) faults.now)) }
+    ensures err { IfErr result (λ why. LeftBy why (K.output out.old) (K.output out.new)
+        (lines_of_told (map (told_pair course.now apart) faults.now))) }
+{
+    let threads = course.common.threads;
+    let Ok(all) = try_beside(rt, alloc, course, apart, past, singles, faults, threads) else {
+        return Err(CampaignFault::Memory);
+    };
+    put_tolds(all.as_slice(), apart, tally, out)
+}
+
+// Those of a later slot, which is the next one of the run with the first fault.
+fn put_later<R: Threads + Sync, K: Sink>(
+    rt: &R,
+    alloc: Global,
+    course: &Course,
+    rows: &[Singles],
+    later: u32,
+    past: &mut OwnRun,
+    tally: &mut Tally,
+    out: &mut K,
+) -> Result<(), CampaignFault>
+    requires may { MayTryPairs course.now }
+    requires rows { AreSingles course.now.common.list.now course.now.common.script.now rows.now }
+    requires behind { course.now.slot ≤ later }
+    requires later { later < course.now.common.script.now.slots }
+    requires near { later - course.now.slot < distances_of course.now.common }
+    requires past { IsOwnAfter past.old course.now.common.list.now course.now.more.now later }
+    requires few { (most : ℕ) × HasFewPairs (distances_of course.now.common) most tally.old × (most + most_tried < 2 ^ 62) }
+    ensures past { IsOwnAfter past.new course.now.common.list.now course.now.more.now (later + 1) }
+    ensures ok { OnOk result (PutPairs (K.output out.old) (K.output out.new) tally.old tally.new
+        (map (told_pair course.now (later - course.now.slot)) (faults_at course.now.common.list.now course.now.more.now later))) }
+    ensures err { IfErr result (λ why. LeftBy why (K.output out.old) (K.output out.new) (lines_of_told
+        (map (told_pair course.now (later - course.now.slot)) (faults_at course.now.common.list.now course.now.more.now later)))) }
+{
+    let (list, more) = (course.common.list, course.more);
+    past.step(list, more, later);
+    let Ok(faults) = faults_at(alloc, list, more, past, later) else {
+        return Err(CampaignFault::Memory);
+    };
+    let row = &rows[place_of(later)];
+    let apart = later - course.slot;
+    put_seconds(
+        rt,
+        alloc,
+        course,
+        apart,
+        &past.before,
+        row.kept(),
+        faults.as_slice(),
+        tally,
+        out,
+    )
+}
+
+// Those of all later slots.
+fn put_behind<R: Threads + Sync, K: Sink>(
+    rt: &R,
+    alloc: Global,
+    course: &Course,
+    rows: &[Singles],
+    past: &mut OwnRun,
+    tally: &mut Tally,
+    out: &mut K,
+) -> Result<(), CampaignFault>
+    requires may { MayTryPairs course.now }
+    requires rows { AreSingles course.now.common.list.now course.now.common.script.now rows.now }
+    requires past { IsOwnAfter past.old course.now.common.list.now course.now.more.now (course.now.slot + 1) }
+    requires few { (most : ℕ) × HasFewPairs (distances_of course.now.common) most tally.old × (most + most_of_first < 2 ^ 62) }
+    ensures past { OnOk result (IsOwnOf past.new course.now.common.list.now) }
+    ensures ok { OnOk result (PutPairs (K.output out.old) (K.output out.new) tally.old tally.new (tolds_behind course.now)) }
+    ensures err { IfErr result (λ why. LeftBy why (K.output out.old) (K.output out.new)
+        (lines_of_told (tolds_behind course.now))) }
+{
+    for later in course.slot + 1..end_behind(&course.common, course.slot) {
+        if let Err(why) = put_later(rt, alloc, course, rows, later, past, tally, out) {
+            return Err(why);
+        }
+    }
+    Ok(())
+}
+
+// All pairs of a first fault, by the run with it before its slot.
+fn put_pairs_of<R: Threads + Sync, K: Sink>(
+    rt: &R,
+    alloc: Global,
+    course: &Course,
+    rows: &[Singles],
+    past: &mut OwnRun,
+    tally: &mut Tally,
+    out: &mut K,
+) -> Result<(), CampaignFault>
+    requires may { MayTryPairs course.now }
+    requires rows { AreSingles course.now.common.list.now course.now.common.script.now rows.now }
+    requires behind { length course.now.behind.now ≤ most_tried }
+    requires past { IsOwnAfter past.old course.now.common.list.now course.now.more.now course.now.slot }
+    requires few { (most : ℕ) × HasFewPairs (distances_of course.now.common) most tally.old × (most + most_of_first < 2 ^ 61) }
+    ensures past { OnOk result (IsOwnOf past.new course.now.common.list.now) }
+    ensures ok { OnOk result (PutPairs (K.output out.old) (K.output out.new) tally.old tally.new
+        (map (told_second course.now) (seconds_of course.now.common.list.now course.now.common.script.now
+        course.now.common.within (first_of course.now)))) }
+    ensures err { IfErr result (λ why. LeftBy why (K.output out.old) (K.output out.new) (lines_of_told
+        (map (told_second course.now) (seconds_of course.now.common.list.now course.now.common.script.now
+        course.now.common.within (first_of course.now))))) }
+{
+    past.step(course.common.list, course.more, course.slot);
+    let row = &rows[place_of(course.slot)];
+    let (before, behind) = (&past.before, course.behind);
+    if let Err(why) = put_seconds(rt, alloc, course, 0, before, row.kept(), behind, tally, out) {
+        return Err(why);
+    }
+    put_behind(rt, alloc, course, rows, past, tally, out)
+}
+
+// The line of a first fault, whose script this is.
+fn put_first_line<K: Sink>(
+    list: &Medl,
+    one: &Event,
+    more: &Script,
+    cost: &Cost,
+    counts: &PairCounts,
+    line: &mut Text,
+    out: &mut K,
+) -> Result<(), CampaignFault>
+    requires valid { IsValid list.now }
+    requires script { IsValidScript list.now more.now }
+    requires cost { cost.now ≡ (summary list.now more.now).cost }
+    ensures ok { (first : FirstFault) → first.fault ≡ one.now → OnOk result (WroteLines (K.output out.old) (K.output out.new)
+        (first_fault_line list.now first (summary list.now more.now) counts.now ∷ [])) }
+    ensures err { (first : FirstFault) → first.fault ≡ one.now
+        → IfErr result (λ why. LeftFewerBy why (K.output out.old) (K.output out.new)
+        (first_fault_line list.now first (summary list.now more.now) counts.now ∷ [])) }
+{
+    line.clear();
+    let formed = put_first(line, list, one, more, cost, counts);
+    put_formed(formed, line, out)
+}
+
+// A first fault, whose cost this is: the lines of its pairs, and its own.
+fn put_course<R: Threads + Sync, K: Sink>(
+    rt: &R,
+    alloc: Global,
+    course: &Course,
+    cost: &Cost,
+    before: &SeenRun,
+    rows: &[Singles],
+    work: &mut Work,
+    tally: &mut Tally,
+    out: &mut K,
+) -> Result<(), CampaignFault>
+    requires may { MayTryPairs course.now }
+    requires cost { cost.now ≡ (summary course.now.common.list.now course.now.more.now).cost }
+    requires before { IsSeenAfter before.now course.now.common.list.now course.now.common.script.now course.now.slot }
+    requires rows { AreSingles course.now.common.list.now course.now.common.script.now rows.now }
+    requires behind { length course.now.behind.now ≤ most_tried }
+    requires work { IsWork course.now.common.list.now work.old }
+    requires few { (most : ℕ) × HasFewSums (distances_of course.now.common) most tally.old.sums × (most + most_of_first < 2 ^ 61) }
+    ensures work { OnOk result (IsWork course.now.common.list.now work.new) }
+    ensures few { (most : ℕ) → HasFewSums (distances_of course.now.common) most tally.old.sums
+        → OnOk result (HasFewSums (distances_of course.now.common) (most + most_of_first) tally.new.sums) }
+    ensures ok { OnOk result (PutFirsts (K.output out.old) (K.output out.new) tally.old tally.new
+        (tolds_of_firsts course.now.common (first_of course.now ∷ [])) (text_of_firsts course.now.common (first_of course.now ∷ []))) }
+    ensures err { IfErr result (λ why. LeftBy why (K.output out.old) (K.output out.new)
+        (text_of_firsts course.now.common (first_of course.now ∷ []))) }
+{
+    let (list, more) = (course.common.list, course.more);
+    tally.begin();
+    work.past.go_on_from(before, list, more, course.one);
+    if let Err(why) = put_pairs_of(rt, alloc, course, rows, &mut work.past, tally, out) {
+        return Err(why);
+    }
+    put_first_line(
+        list,
+        course.one,
+        more,
+        cost,
+        &tally.counts,
+        &mut work.line,
+        out,
+    )
+}
+
+// A first fault, and those that are tried behind it in its slot.
+fn put_group<R: Threads + Sync, K: Sink>(
+    rt: &R,
+    alloc: Global,
+    common: &Common,
+    before: &SeenRun,
+    rows: &[Singles],
+    slot: u32,
+    one: &Event,
+    behind: &[Event],
+    work: &mut Work,
+    tally: &mut Tally,
+    out: &mut K,
+) -> Result<(), CampaignFault>
+    requires may { MayPair common.now }
+    requires slot { slot < common.now.script.now.slots }
+    requires before { IsSeenAfter before.now common.now.list.now common.now.script.now slot }
+    requires rows { AreSingles common.now.list.now common.now.script.now rows.now }
+    requires one { MayBegin common.now.list.now common.now.script.now slot one.now }
+    requires behind { All (MayStand common.now.list.now common.now.script.now) behind.now }
+    requires count { length behind.now ≤ most_tried }
+    requires work { IsWork common.now.list.now work.old }
+    requires few { (most : ℕ) × HasFewSums (distances_of common.now) most tally.old.sums × (most + most_of_first < 2 ^ 61) }
+    ensures work { OnOk result (IsWork common.now.list.now work.new) }
+    ensures few { (most : ℕ) → HasFewSums (distances_of common.now) most tally.old.sums
+        → OnOk result (HasFewSums (distances_of common.now) (most + most_of_first) tally.new.sums) }
+    ensures ok { OnOk result (PutFirsts (K.output out.old) (K.output out.new) tally.old tally.new
+        (tolds_of_firsts common.now (first_with slot one.now behind.now ∷ []))
+        (text_of_firsts common.now (first_with slot one.now behind.now ∷ []))) }
+    ensures err { IfErr result (λ why. LeftBy why (K.output out.old) (K.output out.new)
+        (text_of_firsts common.now (first_with slot one.now behind.now ∷ []))) }
+{
+    let (list, script) = (common.list, common.script);
+    more_is_valid(list, script, one);
+    let Ok(more) = with_fault(alloc, script, one) else {
+        return Err(CampaignFault::Memory);
+    };
+    let Ok(cost) = cost_from(alloc, list, script, one, &more, before, &mut work.run) else {
+        return Err(CampaignFault::Memory);
+    };
+    let course = Course {
+        common: Common {
+            list: &*list,
+            script: &*script,
+            first: common.first,
+            last: common.last,
+            within: common.within,
+            own: common.own,
+            threads: common.threads,
+        },
+        slot,
+        one: &*one,
+        behind: &*behind,
+        first: harm_of(&cost),
+        more: &more,
+    };
+    put_course(rt, alloc, &course, &cost, before, rows, work, tally, out)
+}
+
+// All first faults of a slot.
+fn put_groups<R: Threads + Sync, K: Sink>(
+    rt: &R,
+    alloc: Global,
+    common: &Common,
+    before: &SeenRun,
+    rows: &[Singles],
+    slot: u32,
+    faults: &[Event],
+    work: &mut Work,
+    tally: &mut Tally,
+    out: &mut K,
+) -> Result<(), CampaignFault>
+    requires may { MayPair common.now }
+    requires slot { slot < common.now.script.now.slots }
+    requires before { IsSeenAfter before.now common.now.list.now common.now.script.now slot }
+    requires rows { AreSingles common.now.list.now common.now.script.now rows.now }
+    requires faults { All (MayBegin common.now.list.now common.now.script.now slot) faults.now }
+    requires count { length faults.now ≤ most_tried }
+    requires work { IsWork common.now.list.now work.old }
+    requires few { (most : ℕ) × HasFewSums (distances_of common.now) most tally.old.sums × (most + most_of_slot < 2 ^ 60) }
+    ensures work { OnOk result (IsWork common.now.list.now work.new) }
+    ensures ok { OnOk result (PutFirsts (K.output out.old) (K.output out.new) tally.old tally.new
+        (tolds_of_firsts common.now (firsts_among slot faults.now)) (text_of_firsts common.now (firsts_among slot faults.now))) }
+    ensures few { (most : ℕ) → HasFewSums (distances_of common.now) most tally.old.sums
+        → OnOk result (HasFewSums (distances_of common.now) (most + most_of_slot) tally.new.sums) }
+    ensures err { IfErr result (λ why. LeftBy why (K.output out.old) (K.output out.new)
+        (text_of_firsts common.now (firsts_among slot faults.now))) }
+{
+    for i in 0..faults.len() {
+        let (one, behind) = (&faults[i], &faults[i + 1..]);
+        if let Err(why) = put_group(
+            rt, alloc, common, before, rows, slot, one, behind, work, tally, out,
+        ) {
+            return Err(why);
+        }
+    }
+    Ok(())
+}
+
+// The next slot of the script's own run, and its first faults.
+fn put_slot<R: Threads + Sync, K: Sink>(
+    rt: &R,
+    alloc: Global,
+    common: &Common,
+    slot: u32,
+    own: &mut OwnRun,
+    ahead: &mut Ahead,
+    work: &mut Work,
+    tally: &mut Tally,
+    out: &mut K,
+) -> Result<(), CampaignFault>
+    requires may { MayPair common.now }
+    requires slot { slot < common.now.script.now.slots }
+    requires own { IsOwnAfter own.old common.now.list.now common.now.script.now slot }
+    requires ahead { IsAhead common.now.list.now common.now.script.now ahead.old }
+    requires work { IsWork common.now.list.now work.old }
+    requires few { (most : ℕ) × HasFewSums (distances_of common.now) most tally.old.sums × (most + most_of_slot < 2 ^ 60) }
+    ensures own { IsOwnAfter own.new common.now.list.now common.now.script.now (slot + 1) }
+    ensures ahead { OnOk result (IsAhead common.now.list.now common.now.script.now ahead.new) }
+    ensures work { OnOk result (IsWork common.now.list.now work.new) }
+    ensures few { (most : ℕ) → HasFewSums (distances_of common.now) most tally.old.sums
+        → OnOk result (HasFewSums (distances_of common.now) (most + most_of_slot) tally.new.sums) }
+    ensures ok { OnOk result (PutFirsts (K.output out.old) (K.output out.new) tally.old tally.new
+        (tolds_of_firsts common.now (firsts_of common.now slot)) (text_of_firsts common.now (firsts_of common.now slot))) }
+    ensures err { IfErr result (λ why. LeftBy why (K.output out.old) (K.output out.new)
+        (text_of_firsts common.now (firsts_of common.now slot))) }
+{
+    let (list, script) = (common.list, common.script);
+    own.step(list, script, slot);
+    let Ok(()) = ahead.look_to(alloc, common, end_behind(common, slot), &mut work.run) else {
+        return Err(CampaignFault::Memory);
+    };
+    let Ok(faults) = faults_at(alloc, list, script, own, slot) else {
+        return Err(CampaignFault::Memory);
+    };
+    let (before, rows) = (&own.before, ahead.rows.as_slice());
+    put_groups(
+        rt,
+        alloc,
+        common,
+        before,
+        rows,
+        slot,
+        faults.as_slice(),
+        work,
+        tally,
+        out,
+    )
+}
+
+// Runs the slots before the range.
+fn skip(list: &Medl, script: &Script, end: u32, own: &mut OwnRun)
+    requires valid { IsValid list.now }
+    requires script { IsValidScript list.now script.now }
+    requires end { end ≤ script.now.slots }
+    requires own { IsOwnAfter own.old list.now script.now 0 }
+    ensures { IsOwnAfter own.new list.now script.now end }
+{
+    for slot in 0..end {
+        own.step(list, script, slot);
+    }
+}
+
+// All first faults of a range of slots, from one on, by the script's own run before it.
+fn put_range<R: Threads + Sync, K: Sink>(
+    rt: &R,
+    alloc: Global,
+    common: &Common,
+    from: u32,
+    end: u32,
+    own: &mut OwnRun,
+    ahead: &mut Ahead,
+    work: &mut Work,
+    tally: &mut Tally,
+    out: &mut K,
+) -> Result<(), CampaignFault>
+    requires may { MayPair common.now }
+    requires end { end ≤ common.now.script.now.slots }
+    requires from { from ≤ end }
+    requires own { IsOwnAfter own.old common.now.list.now common.now.script.now from }
+    requires ahead { IsAhead common.now.list.now common.now.script.now ahead.old }
+    requires work { IsWork common.now.list.now work.old }
+    requires few { HasFewSums (distances_of common.now) 0 tally.old.sums }
+    ensures ok { OnOk result (PutFirsts (K.output out.old) (K.output out.new) tally.old tally.new
+        (tolds_of_firsts common.now (firsts_between common.now from (end - from)))
+        (text_of_firsts common.now (firsts_between common.now from (end - from)))) }
+    ensures err { IfErr result (λ why. LeftBy why (K.output out.old) (K.output out.new)
+        (text_of_firsts common.now (firsts_between common.now from (end - from)))) }
+{
+    for slot in from..end {
+        if let Err(why) = put_slot(rt, alloc, common, slot, own, ahead, work, tally, out) {
+            return Err(why);
+        }
+    }
+    Ok(())
+}
+
+// The line of counts of a distance, where some pair has it.
+fn put_distance<K: Sink>(
+    sums: &Sums,
+    distance: u32,
+    line: &mut Text,
+    out: &mut K,
+) -> Result<(), CampaignFault>
+    requires { distance < length sums.now.apart.items }
+    ensures ok { (distances : ℕ) (tolds : Items PairTold) → AreSumsOf distances tolds sums.now
+        → OnOk result (WroteLines (K.output out.old) (K.output out.new) (lines_at tolds distance)) }
+    ensures err { (distances : ℕ) (tolds : Items PairTold) → AreSumsOf distances tolds sums.now
+        → IfErr result (λ why. LeftBy why (K.output out.old) (K.output out.new) (lines_at tolds distance)) }
+{
+    let counts = sums.apart[distance as usize];
+    if counts.pairs == 0 {
+        return Ok(());
+    }
+    line.clear();
+    let formed = put_apart(line, distance, &counts);
+    put_formed(formed, line, out)
+}
+
+// Those of all distances.
+fn put_distances<K: Sink>(
+    sums: &Sums,
+    distances: u32,
+    line: &mut Text,
+    out: &mut K,
+) -> Result<(), CampaignFault>
+    requires { (tolds : Items PairTold) × AreSumsOf distances tolds sums.now }
+    ensures ok { (tolds : Items PairTold) → AreSumsOf distances tolds sums.now
+        → OnOk result (WroteLines (K.output out.old) (K.output out.new) (distance_lines tolds distances)) }
+    ensures err { (tolds : Items PairTold) → AreSumsOf distances tolds sums.now
+        → IfErr result (λ why. LeftBy why (K.output out.old) (K.output out.new) (distance_lines tolds distances)) }
+{
+    for distance in 0..distances {
+        if let Err(why) = put_distance(sums, distance, line, out) {
+            return Err(why);
+        }
+    }
+    Ok(())
+}
+
+// A line of counts under a name.
+fn put_counts_line<K: Sink>(
+    name: &str,
+    counts: &PairCounts,
+    line: &mut Text,
+    out: &mut K,
+) -> Result<(), CampaignFault>
+    ensures ok { OnOk result (WroteLines (K.output out.old) (K.output out.new) (pair_counts_line name.now counts.now ∷ [])) }
+    ensures err { IfErr result (λ why. LeftFewerBy why (K.output out.old) (K.output out.new)
+        (pair_counts_line name.now counts.now ∷ [])) }
+{
+    line.clear();
+    let formed = put_sum(line, name, counts);
+    put_formed(formed, line, out)
+}
+
+// The sums of all pairs.
+fn put_sums<K: Sink>(
+    sums: &Sums,
+    distances: u32,
+    line: &mut Text,
+    out: &mut K,
+) -> Result<(), CampaignFault>
+    requires { (tolds : Items PairTold) × AreSumsOf distances tolds sums.now }
+    ensures ok { (tolds : Items PairTold) → AreSumsOf distances tolds sums.now
+        → OnOk result (WroteLines (K.output out.old) (K.output out.new) (ending_lines distances tolds)) }
+    ensures err { (tolds : Items PairTold) → AreSumsOf distances tolds sums.now
+        → IfErr result (λ why. LeftFewerBy why (K.output out.old) (K.output out.new) (ending_lines distances tolds)) }
+{
+    if let Err(why) = put_distances(sums, distances, line, out) {
+        return Err(why);
+    }
+    if let Err(why) = put_counts_line("kept ", &sums.kept, line, out) {
+        return Err(why);
+    }
+    put_counts_line("broken ", &sums.broken, line, out)
+}
+
+// The head, and the line of the script's own run, with these words of what it cost.
+fn put_front<K: Sink>(
+    common: &Common,
+    words: &[u8],
+    line: &mut Text,
+    out: &mut K,
+) -> Result<(), CampaignFault>
+    requires may { MayPair common.now }
+    requires words { words.now ≡ cost_words common.now.list.now (summary common.now.list.now common.now.script.now).cost }
+    ensures ok { OnOk result (WroteLines (K.output out.old) (K.output out.new) (opening_lines common.now)) }
+    ensures err { IfErr result (λ why. LeftFewerBy why (K.output out.old) (K.output out.new) (opening_lines common.now)) }
+{
+    let (list, script) = (common.list, common.script);
+    line.clear();
+    let formed = put_head(line, list, script, common.first, common.last, common.within);
+    if let Err(why) = put_formed(formed, line, out) {
+        return Err(why);
+    }
+    line.clear();
+    let formed = put_own(line, list, script, words);
+    put_formed(formed, line, out)
+}
+
+// All first faults, by the script's own run, which has not begun.
+fn put_slots<R: Threads + Sync, K: Sink>(
+    rt: &R,
+    alloc: Global,
+    common: &Common,
+    own: &mut OwnRun,
+    ahead: &mut Ahead,
+    work: &mut Work,
+    tally: &mut Tally,
+    out: &mut K,
+) -> Result<(), CampaignFault>
+    requires may { MayPair common.now }
+    requires own { IsOwnAfter own.old common.now.list.now common.now.script.now 0 }
+    requires ahead { IsAhead common.now.list.now common.now.script.now ahead.old }
+    requires work { IsWork common.now.list.now work.old }
+    requires few { HasFewSums (distances_of common.now) 0 tally.old.sums }
+    ensures ok { OnOk result (PutFirsts (K.output out.old) (K.output out.new) tally.old tally.new
+        (tolds_of_firsts common.now (all_firsts common.now)) (text_of_firsts common.now (all_firsts common.now))) }
+    ensures err { IfErr result (λ why. LeftBy why (K.output out.old) (K.output out.new)
+        (text_of_firsts common.now (all_firsts common.now))) }
+{
+    let end = end_of(common);
+    let from = common.first.min(end);
+    skip(common.list, common.script, from, own);
+    put_range(rt, alloc, common, from, end, own, ahead, work, tally, out)
+}
+
+// All lines, by runs that have not begun.
+fn put_lines<R: Threads + Sync, K: Sink>(
+    rt: &R,
+    alloc: Global,
+    common: &Common,
+    words: &[u8],
+    own: &mut OwnRun,
+    ahead: &mut Ahead,
+    work: &mut Work,
+    tally: &mut Tally,
+    out: &mut K,
+) -> Result<(), CampaignFault>
+    requires may { MayPair common.now }
+    requires words { words.now ≡ cost_words common.now.list.now (summary common.now.list.now common.now.script.now).cost }
+    requires own { IsOwnAfter own.old common.now.list.now common.now.script.now 0 }
+    requires ahead { IsAhead common.now.list.now common.now.script.now ahead.old }
+    requires work { IsWork common.now.list.now work.old }
+    requires few { HasFewSums (distances_of common.now) 0 tally.old.sums }
+    requires none { AreSumsOf (distances_of common.now) [] tally.old.sums }
+    ensures ok { OnOk result (WroteLines (K.output out.old) (K.output out.new)
+        (pairs_lines common.now.list.now common.now.script.now common.now.first common.now.last common.now.within)) }
+    ensures err { IfErr result (λ why. LeftFewerBy why (K.output out.old) (K.output out.new)
+        (pairs_lines common.now.list.now common.now.script.now common.now.first common.now.last common.now.within)) }
+{
+    if let Err(why) = put_front(common, words, &mut work.line, out) {
+        return Err(why);
+    }
+    if let Err(why) = put_slots(rt, alloc, common, own, ahead, work, tally, out) {
+        return Err(why);
+    }
+    put_sums(&tally.sums, distances_of(common), &mut work.line, out)
+}
+
+// The words of what a run cost.
+fn words_of(alloc: Global, list: &Medl, cost: &Cost) -> Result<Text, Memory>
+    requires valid { IsValid list.now }
+    requires cost { (script : Script) × (cost.now ≡ (summary list.now script).cost) }
+    ensures { IfOk result (λ words. words ≡ cost_words list.now cost.now) }
+{
+    let mut words = Text::new(alloc);
+    put_cost(&mut words, list, cost)?;
+    Ok(words)
+}
+
+// Runs that have not begun.
+fn new_work(alloc: Global, list: &Medl, script: &Script) -> Result<Work, Memory>
+    requires valid { IsValid list.now }
+    requires script { IsValidScript list.now script.now }
+    ensures { IfOk result (λ work. IsWork list.now work) }
+{
+    Ok(Work {
+        run: SeenRun::new(alloc, list, script)?,
+        past: OwnRun::new(alloc, list, script)?,
+        line: Text::new(alloc),
+    })
+}
+
+// All lines, by the words of what the script's own run cost.
+fn put_all<R: Threads + Sync, K: Sink>(
+    rt: &R,
+    alloc: Global,
+    common: &Common,
+    words: &[u8],
+    out: &mut K,
+) -> Result<(), CampaignFault>
+    requires may { MayPair common.now }
+    requires words { words.now ≡ cost_words common.now.list.now (summary common.now.list.now common.now.script.now).cost }
+    ensures ok { OnOk result (WroteLines (K.output out.old) (K.output out.new)
+        (pairs_lines common.now.list.now common.now.script.now common.now.first common.now.last common.now.within)) }
+    ensures err { IfErr result (λ why. LeftFewerBy why (K.output out.old) (K.output out.new)
+        (pairs_lines common.now.list.now common.now.script.now common.now.first common.now.last common.now.within)) }
+{
+    let (list, script) = (common.list, common.script);
+    let Ok(mut own) = OwnRun::new(alloc, list, script) else {
+        return Err(CampaignFault::Memory);
+    };
+    let Ok(mut ahead) = Ahead::new(alloc, list, script) else {
+        return Err(CampaignFault::Memory);
+    };
+    let Ok(mut work) = new_work(alloc, list, script) else {
+        return Err(CampaignFault::Memory);
+    };
+    let Ok(mut tally) = Tally::new(alloc, distances_of(common)) else {
+        return Err(CampaignFault::Memory);
+    };
+    put_lines(
+        rt, alloc, common, words, &mut own, &mut ahead, &mut work, &mut tally, out,
+    )
+}
+
+/// Writes what every two faults cost of which the first begins in the slots of a range and the second in the same slot or up to so
+/// many slots later, each line as one piece. Slots that the script does not have are passed over.
+///
+/// A pair costs a run from the slot of its second fault to the script's last one, and the test of the script with both. The slots
+/// before a first fault are run once, those between the two once for each first fault. What a fault costs alone is asked once for
+/// each of 256 slots at a time, and again, from its first slot on, for each pair that reaches further or whose second fault the script's
+/// own run does not have. The runs of a slot are made in as many threads as are asked for, rounded up to a power of two; with 0 or 1 they are made
+/// in this one. What is written is the same. The lines of a slot are held until all of its runs were made.
+///
+/// # Errors
+///
+/// `Failed` where the sink's count of faults rose: then the text is cut short. `Memory` where memory was refused: then some of
+/// its first lines were written, and never all.
+pub fn put_pairs<R: Threads + Sync, K: Sink>(
+    rt: &R,
+    alloc: Global,
+    list: &Medl,
+    script: &Script,
+    first: u32,
+    last: u32,
+    within: u32,
+    threads: usize,
+    out: &mut K,
+) -> Result<(), CampaignFault>
+    requires valid { IsValid list.now }
+    requires script { IsValidScript list.now script.now }
+    requires room { length script.now.events + 1 < EVENT_LIMIT }
+    ensures ok { OnOk result
+        (WroteLines (K.output out.old) (K.output out.new) (pairs_lines list.now script.now first last within)) }
+    ensures failed { result ≡ Err fault.Failed
+        → CutShort (K.output out.old) (K.output out.new) (pairs_lines list.now script.now first last within) }
+    ensures memory { result ≡ Err fault.Memory
+        → WroteFewer (K.output out.old) (K.output out.new) (pairs_lines list.now script.now first last within) }
+{
+    let Ok(cost) = cost_of(alloc, list, script) else {
+        return Err(CampaignFault::Memory);
+    };
+    let Ok(words) = words_of(alloc, list, &cost) else {
+        return Err(CampaignFault::Memory);
+    };
+    let common = Common {
+        list,
+        script,
+        first,
+        last,
+        within,
+        own: harm_of(&cost),
+        threads,
+    };
+    put_all(rt, alloc, &common, words.bytes(), out)
+}
