@@ -21,7 +21,7 @@ use Rattle.list_errors.specs.declared.error.Wrong.{Wrong}
 use Rattle.list_errors.specs.Agrees.{ListAgrees}
 use Rattle.list_errors.specs.Errors.{list_wrongs, rounds_said, modes_said}
 use Rattle.list_places.specs.declared.lines.Place.{Place}
-use Rattle.list_places.specs.Places.{places_of, stop_told}
+use Rattle.list_places.specs.Places.{found_places, stop_told}
 use Rattle.stop_words.specs.Stops.{stop_words}
 use Rattle.broken_rules.specs.Rules.{broken_rules}
 use Rattle.warning_words.specs.Warnings.{warning_lines}
@@ -64,7 +64,7 @@ right_wrongs text wrongs None agrees some = tt
 -- the lines on a list
 pub side_is : (name text : List ℕ) (wrongs : List Wrong) (rounds modes : Option ℕ) (places : List Place)
     (stop : Option Stop) (words : List ℕ) → wrongs ≡ list_wrongs text → rounds ≡ rounds_said text
-    → modes ≡ modes_said text → places ≡ places_of text wrongs → stop ≡ stop_told text wrongs
+    → modes ≡ modes_said text → places ≡ found_places text wrongs → stop ≡ stop_told text wrongs
     → words ≡ stop_words text stop
     → list_fault_lines_at name rounds modes words wrongs places ≡ list_fault_lines name text
 unfolding list_fault_lines

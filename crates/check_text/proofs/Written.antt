@@ -21,7 +21,7 @@ use Rattle.fault_runs.specs.Ends.{WroteFewer}
 use Rattle.fault_runs.proofs.Endings.{fewer-none}
 use Rattle.list_errors.specs.declared.error.Wrong.TheVariants as wrong
 use Rattle.list_errors.specs.Errors.{list_wrongs, rounds_said, modes_said}
-use Rattle.list_places.specs.Places.{places_of, stop_told}
+use Rattle.list_places.specs.Places.{found_places, stop_told}
 use Rattle.stop_words.specs.Stops.{stop_words}
 use Rattle.broken_arms.specs.declared.arms.BrokenArm.{BrokenArm}
 use Rattle.broken_faults.specs.declared.early.EarlyFault.{EarlyFault}
@@ -113,7 +113,7 @@ unfolding list_fault_lines
 list_ends name text =
     let wrongs = list_wrongs text in
     all_map (λ i. list_line name (rounds_said text) (modes_said text) (stop_words text (stop_told text wrongs))
-    (nth_place (places_of text wrongs) i) (get_or wrongs i wrong.NotToml)) (λ i. (_, refl)) (below (length wrongs))
+    (nth_place (found_places text wrongs) i) (get_or wrongs i wrong.NotToml)) (λ i. (_, refl)) (below (length wrongs))
 
 script_ends : (list : Option Medl) (name text : List ℕ) → AllEnd (script_fault_lines list name text)
 unfolding script_fault_lines

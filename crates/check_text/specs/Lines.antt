@@ -18,7 +18,7 @@ use Rattle.list_errors.specs.declared.error.Wrong.{Wrong}
 use Rattle.list_errors.specs.declared.error.Wrong.TheVariants as wrong
 use Rattle.list_errors.specs.Errors.{list_wrongs, rounds_said, modes_said}
 use Rattle.list_places.specs.declared.lines.Place.{Place as ListPlace}
-use Rattle.list_places.specs.Places.{places_of, stop_told}
+use Rattle.list_places.specs.Places.{found_places, stop_told}
 use Rattle.stop_words.specs.Stops.{stop_words}
 use Rattle.list_words.specs.Words.{list_fault_name, list_said}
 use Rattle.check_words.specs.declared.lines.Place.{Place}
@@ -56,14 +56,14 @@ unfoldable pub list_fault_lines : List ℕ → List ℕ → Lines
 list_fault_lines name text =
     let wrongs = list_wrongs text in
     list_fault_lines_at name (rounds_said text) (modes_said text) (stop_words text (stop_told text wrongs)) wrongs
-    (places_of text wrongs)
+    (found_places text wrongs)
 
 -- the places of the keys at the top of a list of which rules speak: those of faults of their values
 abbrev pub key_wrong : FieldName → Wrong
 key_wrong name = wrong.WrongKind (at_top name) value_type.Integer
 
 abbrev pub key_places : List ℕ → List ListPlace
-key_places text = places_of text (key_wrong names.Window ∷ key_wrong names.Slot ∷ [])
+key_places text = found_places text (key_wrong names.Window ∷ key_wrong names.Slot ∷ [])
 
 abbrev pub window_place : List ℕ → Place
 window_place text = nth_place (key_places text) 0

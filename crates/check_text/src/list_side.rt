@@ -41,9 +41,9 @@ pub(crate) struct KeyPlaces {
 }
 
 // Where the errors of a list stand. A text without one is not gone over.
-#[tactic(auto, unfolding(list_places::specs::Places::places_of, list_places::specs::Places::stop_told))]
+#[tactic(auto, unfolding(list_places::specs::Places::found_places, list_places::specs::Places::stop_told))]
 fn places_of(alloc: Global, text: &[u8], wrongs: &[Wrong]) -> Result<Places, Memory>
-    ensures places { IfOk result (λ found. found.places ≡ marks.places_of text.now wrongs.now) }
+    ensures places { IfOk result (λ found. found.places ≡ marks.found_places text.now wrongs.now) }
     ensures stop { IfOk result (λ found. found.stop ≡ marks.stop_told text.now wrongs.now) }
 {
     if wrongs.is_empty() {

@@ -1,6 +1,6 @@
 use Rattle.std.proofs.Common.{ap, ◌∙◌, arith}
 use Rattle.std.proofs.lemmas.Grind.{common_steps}
-use Rattle.list_places.specs.Places.{places_of, stop_told}
+use Rattle.list_places.specs.Places.{found_places, stop_told}
 use Rattle.check_text.proofs.Sides.{side_is}
 use Rattle.check_text.proofs.list_side.list_side.Goals as goal
 
@@ -10,6 +10,6 @@ returns-clause-lines c = λ name.
     let found = c.in_ok-list.field-0 in
     side_is name text found.wrongs found.rounds found.modes c.in_ok-places.field-0.places c.in_ok-places.field-0.stop
     c.put_stop.new.line c.in_ok-list.ensures.exact c.in_ok-list.ensures.rounds c.in_ok-list.ensures.modes
-    (c.in_ok-places.ensures.places ∙ ap (places_of text) c.as_slice.ensures)
+    (c.in_ok-places.ensures.places ∙ ap (found_places text) c.as_slice.ensures)
     (c.in_ok-places.ensures.stop ∙ ap (stop_told text) c.as_slice.ensures)
     (grind (arith, common_steps))
