@@ -1,5 +1,5 @@
 -- A first fault: the lines of its pairs, and its own.
-use Rattle.std.proofs.Common.{◌≡◌, ◌≤◌, ◌+◌, ◌-◌, ℕ, suc, List, [], ◌∷◌, ◌++◌, length, refl, sym, ap, subst, ◌∙◌, append-nil, arith}
+use Rattle.std.proofs.Common.{◌≡◌, ◌≤◌, ◌+◌, ◌-◌, suc, List, [], ◌∷◌, ◌++◌, length, refl, sym, ap, ◌∙◌, append-nil, arith}
 use Rattle.std.proofs.Common.{length-append}
 use Rattle.std.specs.Prelude.{map, flat_map, min}
 use Rattle.std.specs.List.{range_with_len}
@@ -11,7 +11,7 @@ use Rattle.ttp_world.specs.declared.script.Script.{Script}
 use Rattle.campaign.specs.Tried.{with_fault}
 use Rattle.fault_runs.specs.declared.put.CampaignFault.{CampaignFault}
 use Rattle.fault_runs.specs.declared.put.CampaignFault.TheVariants as fault
-use Rattle.fault_runs.specs.Ends.{WroteFront, WroteFewer, LeftBy, LeftFewerBy}
+use Rattle.fault_runs.specs.Ends.{LeftBy, LeftFewerBy}
 use Rattle.fault_pairs.specs.declared.pair.Harm.{Harm}
 use Rattle.fault_pairs.specs.Classes.{harm_of}
 use Rattle.fault_pairs.specs.Pairs.{seconds_of}

@@ -1,6 +1,6 @@
 -- First faults of a slot, one after another, and the texts of first faults.
 use Rattle.std.proofs.Common.{◌≡◌, ℕ, zero, suc, ◌+◌, ◌-◌, ◌<◌, ◌≤◌, Bool, true, false, cond, List, [], ◌∷◌, ◌++◌, length, get_or}
-use Rattle.std.proofs.Common.{take, drop, refl, sym, ap, subst, ◌∙◌, arith, append-nil, length-append, add-one, not, ◌||◌, ◌*◌}
+use Rattle.std.proofs.Common.{take, drop, refl, sym, ap, subst, ◌∙◌, arith, length-append, add-one, not, ◌||◌, ◌*◌}
 use Rattle.std.specs.Prelude.{map, flat_map, filter, ◌==◌, min}
 use Rattle.std.specs.List.{list_any, range_with_len}
 use Rattle.std.proofs.lemmas.Bool.{ne_eqb}
@@ -12,9 +12,9 @@ use Rattle.ttp_base.specs.NodeSet.{below}
 use Rattle.ttp_world.specs.declared.script.Event.{Event}
 use Rattle.ttp_world.specs.Medl.{IsValid}
 use Rattle.campaign.specs.ZerosWorld.{zeros_world}
-use Rattle.fault_pairs.specs.Pairs.{FirstFault, SecondFault, second_apart, firsts_among, firsts_from, seconds_in, seconds_behind}
-use Rattle.fault_pairs.specs.PairText.{lines_of_told, apart_line, sum_lines}
-use Rattle.fault_pairs.specs.Sums.{PairTold, pair_counts, told_apart, are_so_far_apart, distances}
+use Rattle.fault_pairs.specs.Pairs.{FirstFault, second_apart, firsts_among, seconds_in}
+use Rattle.fault_pairs.specs.PairText.{apart_line}
+use Rattle.fault_pairs.specs.Sums.{PairTold, told_apart, are_so_far_apart, distances}
 use Rattle.pair_runs.specs.declared.tried.Common.{Common}
 use Rattle.pair_runs.specs.declared.tried.Course.{Course}
 use Rattle.pair_runs.specs.Counted.{distances_of}

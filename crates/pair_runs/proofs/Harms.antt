@@ -1,7 +1,7 @@
 -- Nodes that left, as a set of them.
 use Rattle.std.proofs.Common.{◌≡◌, ℕ, ◌+◌, ◌<◌, Bool, true, false, ◌||◌, List, [], ◌∷◌, ◌++◌, length, get_or, take}
 use Rattle.std.proofs.Common.{refl, sym, ap, subst, ◌∙◌, arith}
-use Rattle.std.specs.Prelude.{◌==◌, All, map, filter, is_some}
+use Rattle.std.specs.Prelude.{◌==◌, All, filter, is_some}
 use Rattle.std.proofs.lemmas.List.{map-append, take_more, length-map, get_or-map}
 use Rattle.std.proofs.lemmas.List.Elements.{All-filter, All-from_recursion}
 use Rattle.ttp_base.specs.NodeSet.{most_nodes, below, has_node, with_node}

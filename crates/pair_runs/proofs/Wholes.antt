@@ -1,5 +1,5 @@
 -- The parts of the text, one after another.
-use Rattle.std.proofs.Common.{◌≡◌, ℕ, List, [], ◌∷◌, ◌++◌, refl, sym, ap, subst, ◌∙◌, append_assoc}
+use Rattle.std.proofs.Common.{◌≡◌, ℕ, List, [], ◌∷◌, ◌++◌, ap, subst, ◌∙◌, append_assoc}
 use Rattle.std.specs.Prelude.{flat_map, codes}
 use Rattle.ttp_base.specs.Outside.{Output, WroteLines}
 use Rattle.ttp_base.specs.Text.{Lines}

@@ -1,9 +1,9 @@
 //! The pairs so far, counted: those of the first fault, and all.
-ghost use Rattle.std.specs.Prelude.{◌≡◌, ◌+◌, ◌<◌, ◌^◌, [], ◌∷◌, ◌++◌, ℕ, List as Items, length, IfOk};
+ghost use Rattle.std.specs.Prelude.{◌≡◌, ◌+◌, ◌<◌, ◌^◌, [], ◌∷◌, ◌++◌, ℕ, List as Items, IfOk};
 ghost use Rattle.fault_pairs.specs.Sums.{PairTold, pair_counts};
 ghost use Rattle.pair_classes.specs.Ordered.{AreFewPairs};
 ghost use Rattle.pair_classes.specs.Summed.{AreSumsOf};
-ghost use Rattle.pair_runs.specs.Counted.{HasFewPairs, HasFewSums, AddsTo};
+ghost use Rattle.pair_runs.specs.Counted.{HasFewPairs, AddsTo};
 
 use fault_pairs::{PairClass, PairCounts};
 use pair_classes::{Sums, no_pairs, with_pair};

@@ -1,6 +1,6 @@
 //! `ttplab`: runs one command over real files and standard output, and ends with its status.
 //!
-//! How far a campaign has come is told on standard error, and what it has written of whole slots is handed on before.
+//! How far a campaign has come, or pairs, is told on standard error, and what was written of whole slots is handed on before.
 //!
 //! Standard output is buffered, and what the buffer holds in the end is handed on before the program
 //! ends; where that fails, the status is 6. Where the system gives no words, it ends with status 8 and

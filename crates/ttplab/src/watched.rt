@@ -1,13 +1,14 @@
-//! Output of a campaign: whole slots are handed on, and how far it has come is told on standard error.
+//! Output of a campaign, or of pairs of faults: whole slots, or first faults, are handed on, and how far it has come is told on
+//! standard error.
 use std::io::{self, Eprint, Write};
 use std::time::{Clock, Instant};
 
 // For so many seconds nothing is told.
 const QUIET_SECONDS: u64 = 5;
 
-/// A writer that hands each write on to another. It reads off the lines of a campaign how far that has come. Once the lines
-/// of a slot are written, it has the other writer hand on what it holds, and then says on standard error how many slots are
-/// done, each time that another hundredth of them is. Nothing of what is written depends on it.
+/// A writer that hands each write on to another. It reads off the lines of a campaign, or of pairs, how far that has come. Once the
+/// lines of a slot are written, or those of a first fault with its pairs, it has the other writer hand on what it holds, and says on
+/// standard error how many slots are done, each time that another hundredth of them is. Nothing of what is written depends on it.
 #[derive(Drop)]
 pub(crate) struct WatchedOutput<'a, R, W> {
     rt: &'a R,
@@ -20,8 +21,9 @@ pub(crate) struct WatchedOutput<'a, R, W> {
 struct Progress {
     // When the program began, if the system has a clock.
     began: Option<Instant>,
-    // How many slots the script has, once a campaign has begun.
+    // How many slots the script has, once a campaign has begun, and whether it is one of pairs.
     slots: Option<u32>,
+    has_pairs: bool,
     // The first slot of which faults are tried, and how many slots these are.
     first: u32,
     count: u32,
@@ -39,6 +41,7 @@ impl<'a, R: Clock, W> WatchedOutput<'a, R, W> {
             progress: Progress {
                 began: Instant::now(rt).ok(),
                 slots: None,
+                has_pairs: false,
                 first: 0,
                 count: 0,
                 slot: None,
@@ -67,7 +70,11 @@ impl<R: Eprint + Clock, W: Write> Write for WatchedOutput<'_, R, W> {
             self.progress.tell(self.rt);
         }
         self.progress.take(piece);
-        self.out.write(piece)
+        let written = self.out.write(piece)?;
+        if self.progress.ends_pairs(piece) {
+            self.out.flush()?;
+        }
+        Ok(written)
     }
 
     fn flush(&mut self) -> io::Result<()> {
@@ -108,10 +115,15 @@ impl Progress {
         match (self.slots, self.slot) {
             (Some(_), Some(slot)) => match slot_of(piece) {
                 Some(next) => next != slot,
-                None => piece.starts_with(b"kept "),
+                None => piece.starts_with(b"kept ") || piece.starts_with(b"apart "),
             },
             _ => false,
         }
+    }
+
+    // Whether this is the line of a first fault, behind those of its pairs.
+    fn ends_pairs(&self, piece: &[u8]) -> bool {
+        self.has_pairs && slot_of(piece).is_some()
     }
 
     // Reads a line.
@@ -120,14 +132,15 @@ impl Progress {
             if let Some(slot) = slot_of(piece) {
                 self.slot = Some(slot);
             }
-        } else if piece.starts_with(b"ttplab campaign ") {
+        } else if piece.starts_with(b"ttplab campaign ") || piece.starts_with(b"ttplab pairs ") {
+            self.has_pairs = piece.starts_with(b"ttplab pairs ");
             if let Ok(line) = str::from_utf8(piece) {
                 self.begin(line);
             }
         }
     }
 
-    // Takes the range from the first line: `ttplab campaign 1 nodes N slots T from FIRST to LAST`.
+    // Takes the range from the first line: `ttplab campaign 1 nodes N slots T from FIRST to LAST`, and `pairs` likewise.
     fn begin(&mut self, line: &str) {
         let slots = number_in(line.split(' ').nth(6));
         let first = number_in(line.split(' ').nth(8));

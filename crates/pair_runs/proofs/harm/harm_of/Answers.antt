@@ -1,4 +1,4 @@
-use Rattle.std.proofs.Common.{◌≡◌, ◌∙◌, List, ℕ, ap, sym, subst, not, length}
+use Rattle.std.proofs.Common.{◌∙◌, List, ℕ, ap, sym, subst, not, length}
 use Rattle.std.specs.Prelude.{nat_le}
 use Rattle.std.specs.List.{list_any}
 use Rattle.campaign.specs.declared.cost.Leave.{Leave}

@@ -1,4 +1,4 @@
-use Rattle.std.proofs.Common.{◌≡◌, ◌∙◌, List, ℕ, ap, arith, take_all}
+use Rattle.std.proofs.Common.{◌∙◌, List, ap, arith, take_all}
 use Rattle.std.specs.Prelude.{filter}
 use Rattle.ttp_base.specs.NodeSet.{most_nodes, below, has_node}
 use Rattle.campaign.specs.declared.cost.Leave.{Leave}

@@ -1,4 +1,4 @@
-use Rattle.std.proofs.Common.{◌≡◌, [], sym, subst, ℕ}
+use Rattle.std.proofs.Common.{[], subst, ℕ}
 use Rattle.pair_classes.specs.Summed.{AreSumsOf}
 use Rattle.pair_runs.specs.Counted.{HasFewPairs}
 use Rattle.pair_runs.proofs.Wholes.{none-written}

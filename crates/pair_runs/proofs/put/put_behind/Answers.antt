@@ -1,4 +1,4 @@
-use Rattle.std.proofs.Common.{◌≡◌, ◌<◌, ◌≤◌, ◌+◌, ◌-◌, ◌*◌, ◌^◌, ℕ, suc, List, ◌++◌, [], length, ap, sym, subst, ◌∙◌, arith}
+use Rattle.std.proofs.Common.{◌≡◌, ◌≤◌, ◌+◌, ◌-◌, ℕ, suc, List, ◌++◌, length, ap, sym, subst, ◌∙◌, arith}
 use Rattle.std.specs.Prelude.{flat_map, min}
 use Rattle.std.specs.List.{range_with_len}
 use Rattle.ttp_world.specs.declared.script.Script.{Script}
@@ -7,7 +7,7 @@ use Rattle.fault_pairs.specs.Sums.{PairTold}
 use Rattle.pair_runs.specs.declared.tried.Course.{Course}
 use Rattle.pair_runs.specs.Counted.{distances_of, PutPairs}
 use Rattle.pair_runs.specs.Written.{tolds_behind}
-use Rattle.pair_runs.proofs.Counted.{few-weaker, few-after, pairs-none, pairs-join, left-in, lines-append}
+use Rattle.pair_runs.proofs.Counted.{few-after, pairs-none, pairs-join, left-in, lines-append}
 use Rattle.pair_runs.proofs.Groups.{tolds_later, later-few, behind-range}
 use Rattle.pair_runs.proofs.Owns.{own-of}
 use Rattle.pair_runs.proofs.Ranges.{range-next, range-rest}

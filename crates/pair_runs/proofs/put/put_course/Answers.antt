@@ -1,4 +1,4 @@
-use Rattle.std.proofs.Common.{◌≡◌, ◌<◌, ◌≤◌, ◌+◌, ◌^◌, ℕ, List, ◌++◌, ◌∷◌, [], length, ap, sym, subst, ◌∙◌, refl, arith, append-nil}
+use Rattle.std.proofs.Common.{◌≡◌, ◌+◌, ℕ, List, ◌++◌, ◌∷◌, [], length, ap, sym, subst, ◌∙◌, refl, arith}
 use Rattle.std.specs.Prelude.{map, true}
 use Rattle.run_costs.specs.Later.{comes_later}
 use Rattle.run_costs.specs.Standing.{IsSeenAfter}
@@ -6,8 +6,7 @@ use Rattle.ttp_base.specs.Outside.{WroteLines}
 use Rattle.ttp_base.specs.Text.{Lines}
 use Rattle.ttp_base.proofs.Outputs.{Wrote-join}
 use Rattle.ttp_world.specs.declared.script.Script.{Script}
-use Rattle.campaign.specs.Lines.{summary, summary_with}
-use Rattle.campaign.specs.Tried.{with_fault}
+use Rattle.campaign.specs.Lines.{summary}
 use Rattle.fault_runs.specs.declared.put.CampaignFault.{CampaignFault}
 use Rattle.fault_runs.specs.Ends.{LeftBy, LeftFewerBy}
 use Rattle.fault_runs.specs.Tries.{IsOwnAfter}
@@ -16,7 +15,7 @@ use Rattle.fault_runs.proofs.Results.{ok-weaker, err-weaker, ok-always}
 use Rattle.fault_pairs.specs.declared.pair.PairCounts.{PairCounts}
 use Rattle.fault_pairs.specs.Pairs.{seconds_of}
 use Rattle.fault_pairs.specs.PairText.{lines_of_told, first_fault_line}
-use Rattle.fault_pairs.specs.Sums.{PairTold, pair_counts}
+use Rattle.fault_pairs.specs.Sums.{PairTold}
 use Rattle.pair_classes.specs.declared.sums.Sums.{Sums}
 use Rattle.pair_runs.specs.Counted.{most_of_first, distances_of, HasFewSums, AddsTo, PutFirsts}
 use Rattle.pair_runs.specs.Tries.{first_of}

@@ -1,6 +1,5 @@
 use Rattle.std.proofs.Common.{◌≡◌, ◌<◌, ◌++◌, ◌∷◌, [], ℕ, Bool, true, false, cond, List, length, get_or, ap, sym, subst, ◌∙◌, arith, not}
-use Rattle.std.specs.Prelude.{OnOk, IfErr, codes, decimal, ◌==◌}
-use Rattle.std.specs.List.{list_any}
+use Rattle.std.specs.Prelude.{OnOk, IfErr, codes, decimal}
 use Rattle.std.proofs.lemmas.Bool.{eq-eqb, ne_eqb}
 use Rattle.std.proofs.lemmas.List.{get_or_read}
 use Rattle.ttp_base.specs.Outside.{WroteLines}
@@ -11,7 +10,7 @@ use Rattle.fault_runs.specs.Ends.{LeftBy, LeftFewerBy}
 use Rattle.fault_runs.proofs.Results.{err-weaker}
 use Rattle.fault_pairs.specs.declared.pair.PairCounts.{PairCounts}
 use Rattle.fault_pairs.specs.PairText.{apart_line, pair_counts_line}
-use Rattle.fault_pairs.specs.Sums.{PairTold, pair_counts, told_apart, are_so_far_apart}
+use Rattle.fault_pairs.specs.Sums.{PairTold, pair_counts, told_apart}
 use Rattle.pair_classes.specs.declared.sums.Sums.{Sums}
 use Rattle.pair_classes.specs.Summed.{AreSumsOf}
 use Rattle.pair_runs.specs.Written.{lines_at}

@@ -1,4 +1,4 @@
-use Rattle.std.proofs.Common.{◌≡◌, ◌<◌, ◌+◌, ℕ, List, ◌++◌, ap, sym, subst, ◌∙◌, arith}
+use Rattle.std.proofs.Common.{sym, subst, arith}
 use Rattle.ttp_base.specs.Outside.{WroteLines}
 use Rattle.ttp_base.specs.Text.{Lines}
 use Rattle.ttp_base.proofs.Below.{flat_map-next, flat_map-split}

@@ -1,4 +1,4 @@
-use Rattle.std.proofs.Common.{◌≡◌, ◌++◌, ◌∷◌, [], List, ℕ, ap, sym, subst}
+use Rattle.std.proofs.Common.{◌≡◌, ◌++◌, ◌∷◌, [], List, ℕ, subst}
 use Rattle.std.specs.Prelude.{OnOk}
 use Rattle.ttp_base.specs.Outside.{WroteLines}
 use Rattle.ttp_base.proofs.Outputs.{Wrote-join}

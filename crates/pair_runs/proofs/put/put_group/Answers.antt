@@ -1,8 +1,7 @@
-use Rattle.std.proofs.Common.{◌≡◌, ◌<◌, ◌+◌, ap, subst, sym, ◌∙◌, arith, ℕ}
+use Rattle.std.proofs.Common.{ap, subst, sym, ◌∙◌, ℕ}
 use Rattle.ttp_world.specs.declared.script.Script.{Script}
 use Rattle.ttp_world.specs.Script.{IsValidScript}
 use Rattle.campaign.specs.Lines.{summary}
-use Rattle.run_costs.specs.declared.seen_run.SeenRun.{SeenRun}
 use Rattle.run_costs.specs.Standing.{IsSeenAfter}
 use Rattle.fault_runs.proofs.Endings.{front-none}
 use Rattle.fault_pairs.specs.Classes.{harm_of}

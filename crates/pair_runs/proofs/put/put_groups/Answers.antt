@@ -1,4 +1,4 @@
-use Rattle.std.proofs.Common.{◌≡◌, ◌<◌, ◌≤◌, ◌+◌, ◌*◌, ◌^◌, ℕ, List, ◌++◌, ◌∷◌, [], length, get_or, take, take_all, drop, ◌-◌, ap, sym, subst, ◌∙◌, arith}
+use Rattle.std.proofs.Common.{◌≡◌, ◌+◌, ◌*◌, ℕ, List, ◌∷◌, [], length, take, take_all, drop, ◌-◌, sym, subst, arith}
 use Rattle.std.specs.Prelude.{All}
 use Rattle.std.proofs.lemmas.List.Elements.{All-weaker, All-drop}
 use Rattle.std.proofs.lemmas.List.{length-drop}
@@ -10,11 +10,11 @@ use Rattle.fault_runs.specs.Ends.{LeftBy}
 use Rattle.fault_pairs.specs.Pairs.{FirstFault, firsts_among}
 use Rattle.fault_pairs.specs.PairText.{pair_tolds, first_fault_lines}
 use Rattle.fault_pairs.specs.Sums.{PairTold}
-use Rattle.pair_runs.specs.Counted.{most_of_first, most_of_slot, distances_of, HasFewSums, AddsTo, PutFirsts}
+use Rattle.pair_runs.specs.Counted.{most_of_first, most_of_slot, distances_of, AddsTo, PutFirsts}
 use Rattle.pair_runs.specs.Tries.{MayBegin}
 use Rattle.pair_runs.specs.Written.{first_with, tolds_of_firsts, text_of_firsts}
 use Rattle.pair_runs.proofs.Counted.{sums-weaker, firsts-none, firsts-join, left-in}
-use Rattle.pair_runs.proofs.Groups.{firsts_before, among-all, texts-split, texts-next}
+use Rattle.pair_runs.proofs.Groups.{among-all, texts-split, texts-next}
 use Rattle.pair_runs.proofs.put.put_groups.Goals as goal
 
 -- what stands behind a place is all that is left

@@ -1,8 +1,7 @@
-use Rattle.std.proofs.Common.{◌≡◌, ◌<◌, ◌≤◌, ◌-◌, ℕ, List, length, get_or, ap, sym, subst, ◌∙◌, arith}
+use Rattle.std.proofs.Common.{◌<◌, ◌-◌, List, sym, subst, ◌∙◌, arith}
 use Rattle.std.specs.Prelude.{All, map, OnOk, IfErr}
 use Rattle.ttp_world.specs.declared.script.Event.{Event}
 use Rattle.ttp_world.specs.declared.script.Script.{Script}
-use Rattle.single_faults.specs.Tried.{MayStand}
 use Rattle.fault_runs.specs.declared.put.CampaignFault.{CampaignFault}
 use Rattle.fault_runs.specs.Ends.{LeftBy}
 use Rattle.fault_pairs.specs.PairText.{lines_of_told}
@@ -10,7 +9,6 @@ use Rattle.pair_runs.specs.declared.singles.Single.{Single}
 use Rattle.pair_runs.specs.declared.singles.Singles.{Singles}
 use Rattle.pair_runs.specs.Counted.{PutPairs}
 use Rattle.pair_runs.specs.Tries.{IsSingle, told_pair}
-use Rattle.pair_runs.specs.Written.{faults_at}
 use Rattle.pair_runs.proofs.Begins.{at-stand, at-few}
 use Rattle.pair_runs.proofs.put.put_later.Goals as goal
 

@@ -1,6 +1,5 @@
-use Rattle.std.proofs.Common.{◌≡◌, ap, ◌∙◌}
+use Rattle.std.proofs.Common.{ap, ◌∙◌}
 use Rattle.campaign.specs.CostText.{cost_words}
-use Rattle.campaign.specs.Lines.{summary}
 use Rattle.fault_runs.proofs.Endings.{err-cut, err-fewer}
 use Rattle.fault_pairs.specs.Classes.{harm_of}
 use Rattle.fault_pairs.specs.PairText.{pairs_lines}

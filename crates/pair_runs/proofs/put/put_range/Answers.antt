@@ -1,4 +1,4 @@
-use Rattle.std.proofs.Common.{◌≡◌, ◌<◌, ◌≤◌, ◌+◌, ◌-◌, ◌*◌, ◌^◌, ℕ, suc, List, ◌++◌, [], ap, sym, subst, ◌∙◌, arith}
+use Rattle.std.proofs.Common.{◌≡◌, ◌≤◌, ◌+◌, ◌-◌, ◌*◌, ℕ, suc, List, ◌++◌, ap, sym, subst, ◌∙◌, arith}
 use Rattle.std.specs.Prelude.{flat_map}
 use Rattle.std.specs.List.{range_with_len}
 use Rattle.std.proofs.lemmas.List.Concat.{flat_map-append}
@@ -6,7 +6,7 @@ use Rattle.ttp_base.specs.Outside.{WroteLines}
 use Rattle.ttp_base.specs.Text.{Lines}
 use Rattle.fault_pairs.specs.PairText.{pair_tolds, first_fault_lines}
 use Rattle.fault_pairs.specs.Sums.{PairTold}
-use Rattle.pair_runs.specs.Counted.{most_of_slot, distances_of, HasFewSums, AddsTo, PutFirsts}
+use Rattle.pair_runs.specs.Counted.{most_of_slot, distances_of, AddsTo, PutFirsts}
 use Rattle.pair_runs.specs.Written.{firsts_of, firsts_between, tolds_of_firsts, text_of_firsts}
 use Rattle.pair_runs.proofs.Counted.{sums-weaker, firsts-none, firsts-join, left-in}
 use Rattle.pair_runs.proofs.Ranges.{range-next, range-rest}

@@ -1,4 +1,4 @@
-use Rattle.std.proofs.Common.{◌+◌, ◌-◌, ◌*◌}
+use Rattle.std.proofs.Common.{◌-◌, ◌*◌}
 use Rattle.fault_runs.specs.Tries.{IsOwnAfter}
 use Rattle.pair_runs.specs.Counted.{most_of_slot, distances_of, HasFewSums, PutFirsts}
 use Rattle.pair_runs.specs.Written.{IsAhead, IsWork, firsts_between, tolds_of_firsts, text_of_firsts}

@@ -1,11 +1,11 @@
-use Rattle.std.proofs.Common.{◌≡◌, ◌<◌, ◌≤◌, ◌+◌, ℕ, List, length, ap, sym, subst, ◌∙◌, arith}
-use Rattle.std.specs.Prelude.{All, OnOk, IfErr}
+use Rattle.std.proofs.Common.{List, subst, ◌∙◌, arith}
+use Rattle.std.specs.Prelude.{OnOk, IfErr}
 use Rattle.ttp_world.specs.declared.script.Event.{Event}
 use Rattle.fault_runs.specs.declared.put.CampaignFault.{CampaignFault}
 use Rattle.fault_runs.specs.Ends.{LeftBy}
 use Rattle.fault_pairs.specs.Pairs.{firsts_among}
 use Rattle.pair_runs.specs.Counted.{PutFirsts}
-use Rattle.pair_runs.specs.Written.{AreSingles, tolds_of_firsts, text_of_firsts}
+use Rattle.pair_runs.specs.Written.{tolds_of_firsts, text_of_firsts}
 use Rattle.pair_runs.proofs.Begins.{at-begin, at-few}
 use Rattle.pair_runs.proofs.put.put_slot.Goals as goal
 

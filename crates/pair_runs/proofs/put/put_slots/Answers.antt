@@ -1,10 +1,10 @@
-use Rattle.std.proofs.Common.{◌≡◌, ◌-◌, ◌≤◌, ℕ, List, ap, subst, sym, ◌∙◌, arith}
-use Rattle.std.specs.Prelude.{OnOk, IfErr, min}
+use Rattle.std.proofs.Common.{◌-◌, ℕ, List, ap, subst, ◌∙◌, arith}
+use Rattle.std.specs.Prelude.{OnOk, IfErr}
 use Rattle.fault_runs.specs.declared.put.CampaignFault.{CampaignFault}
 use Rattle.fault_runs.specs.Ends.{LeftBy}
 use Rattle.fault_pairs.specs.Pairs.{FirstFault}
 use Rattle.pair_runs.specs.Counted.{PutFirsts}
-use Rattle.pair_runs.specs.Written.{firsts_between, all_firsts, tolds_of_firsts, text_of_firsts}
+use Rattle.pair_runs.specs.Written.{firsts_between, tolds_of_firsts, text_of_firsts}
 use Rattle.pair_runs.proofs.Groups.{firsts-range}
 use Rattle.pair_runs.proofs.put.put_slots.Goals as goal
 

@@ -1,7 +1,6 @@
-use Rattle.std.proofs.Common.{◌≡◌, ◌++◌, ◌∷◌, [], List, ℕ, ap, subst}
+use Rattle.std.proofs.Common.{◌∷◌, [], List, ℕ, subst}
 use Rattle.std.specs.Prelude.{codes}
 use Rattle.ttp_base.specs.Outside.{WroteLines}
-use Rattle.ttp_base.specs.Text.{Lines}
 use Rattle.ttp_base.proofs.Outputs.{Wrote-join}
 use Rattle.fault_runs.specs.declared.put.CampaignFault.{CampaignFault}
 use Rattle.fault_runs.specs.Ends.{LeftFewerBy}
@@ -10,7 +9,7 @@ use Rattle.fault_runs.proofs.Results.{ok-weaker, err-weaker}
 use Rattle.fault_pairs.specs.declared.pair.PairCounts.{PairCounts}
 use Rattle.fault_pairs.specs.PairText.{pair_counts_line}
 use Rattle.fault_pairs.specs.Sums.{PairTold, pair_counts, told_kept, told_broken}
-use Rattle.pair_runs.specs.Written.{distance_lines, ending_lines}
+use Rattle.pair_runs.specs.Written.{distance_lines}
 use Rattle.pair_runs.proofs.put.put_sums.Goals as goal
 
 abbrev kept_line : List PairTold → List ℕ

@@ -1,16 +1,14 @@
-use Rattle.std.proofs.Common.{◌≡◌, ◌∙◌, Bool, cond, List, ℕ, [], ◌∷◌, ap, sym, subst, refl, false, true, Ok}
-use Rattle.std.specs.Prelude.{OnOk, IfErr}
+use Rattle.std.proofs.Common.{◌≡◌, ◌∙◌, List, ℕ, [], ◌∷◌, ap, sym, subst, refl, false, true}
+use Rattle.std.specs.Prelude.{IfErr}
 use Rattle.ttp_base.specs.Outside.{WroteLines}
 use Rattle.ttp_base.specs.Text.{Lines}
 use Rattle.ttp_base.proofs.Outputs.{Wrote-none}
 use Rattle.fault_runs.specs.declared.put.CampaignFault.{CampaignFault}
 use Rattle.fault_runs.specs.Ends.{LeftBy}
-use Rattle.fault_runs.proofs.Results.{ok-weaker, err-weaker}
-use Rattle.fault_pairs.specs.PairText.{lines_of_told}
+use Rattle.fault_runs.proofs.Results.{ok-weaker}
 use Rattle.fault_pairs.specs.Sums.{PairTold}
 use Rattle.pair_runs.specs.declared.tried.Told.{Told}
 use Rattle.pair_runs.specs.Counted.{PutPairs}
-use Rattle.pair_runs.specs.Tries.{shortened}
 use Rattle.pair_runs.proofs.Told.{line-told, no-line}
 use Rattle.pair_runs.proofs.put.put_told.Goals as goal
 

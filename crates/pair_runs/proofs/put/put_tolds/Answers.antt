@@ -1,12 +1,10 @@
-use Rattle.std.proofs.Common.{◌≡◌, ◌+◌, ◌<◌, ◌≤◌, ◌^◌, ℕ, List, ◌∷◌, [], length, get_or, take, ap, sym, subst, ◌∙◌, arith, take_all}
-use Rattle.std.specs.Prelude.{All, map}
+use Rattle.std.proofs.Common.{◌≡◌, ◌+◌, ◌<◌, ℕ, List, ◌∷◌, [], length, get_or, take, ap, sym, subst, ◌∙◌, arith, take_all}
+use Rattle.std.specs.Prelude.{map}
 use Rattle.std.proofs.lemmas.List.{length-map, get_or-map, take_more}
-use Rattle.ttp_base.specs.Text.{Lines}
-use Rattle.fault_runs.specs.Ends.{LeftBy}
 use Rattle.fault_pairs.specs.PairText.{lines_of_told}
 use Rattle.fault_pairs.specs.Sums.{PairTold}
 use Rattle.pair_runs.specs.declared.tried.Told.{Told}
-use Rattle.pair_runs.specs.Counted.{HasFewPairs, PutPairs}
+use Rattle.pair_runs.specs.Counted.{PutPairs}
 use Rattle.pair_runs.specs.Tries.{shortened}
 use Rattle.pair_runs.proofs.Counted.{few-weaker, pairs-none, pairs-join, left-in}
 use Rattle.pair_runs.proofs.Told.{no_told, lines-split}

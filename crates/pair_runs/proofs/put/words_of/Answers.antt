@@ -1,4 +1,4 @@
-use Rattle.std.proofs.Common.{◌≡◌, ◌++◌, List, ℕ, ap, subst, ◌∙◌}
+use Rattle.std.proofs.Common.{◌++◌, List, ℕ, ap, ◌∙◌}
 use Rattle.campaign.specs.CostText.{cost_words}
 use Rattle.fault_runs.proofs.Orders.{cost-ordered}
 use Rattle.pair_runs.proofs.put.words_of.Goals as goal

@@ -1,8 +1,7 @@
-use Rattle.std.proofs.Common.{◌≡◌, ◌∙◌, ap, sym, subst}
+use Rattle.std.proofs.Common.{◌∙◌, ap, sym, subst}
 use Rattle.ttp_world.specs.declared.script.Event.{Event}
 use Rattle.campaign.specs.Lines.{summary_with}
 use Rattle.fault_pairs.specs.Classes.{harm_of}
-use Rattle.pair_runs.specs.declared.singles.Single.{Single}
 use Rattle.pair_runs.specs.Tries.{IsSingle}
 use Rattle.pair_runs.proofs.singles.find.Goals as goal
 

@@ -1,6 +1,5 @@
 use Rattle.std.proofs.Common.{◌∙◌, ap}
 use Rattle.ttp_world.specs.declared.script.Script.{Script}
-use Rattle.campaign.specs.declared.cost.Cost.{Cost}
 use Rattle.campaign.specs.Lines.{summary}
 use Rattle.fault_pairs.specs.Classes.{harm_of}
 use Rattle.pair_runs.proofs.Harms.{cost-ordered}

@@ -1,4 +1,4 @@
-use Rattle.std.proofs.Common.{◌≡◌, ◌<◌, ◌∙◌, Bool, cond, List, ℕ, [], ap, sym, subst, refl}
+use Rattle.std.proofs.Common.{◌≡◌, ◌<◌, ◌∙◌, cond, ℕ, [], ap, sym, subst}
 use Rattle.ttp_world.specs.declared.script.Script.{Script}
 use Rattle.campaign.specs.Cost.{says_yes}
 use Rattle.campaign.specs.Lines.{summary, fault_node}

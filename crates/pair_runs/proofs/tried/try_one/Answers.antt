@@ -1,4 +1,4 @@
-use Rattle.std.proofs.Common.{◌≡◌, ◌<◌, ◌+◌, ◌++◌, ◌∷◌, [], List, length, ap, sym, subst, ◌∙◌, arith, length-append}
+use Rattle.std.proofs.Common.{◌∷◌, [], length, ap, sym, subst, arith, length-append}
 use Rattle.ttp_world.specs.declared.script.Script.{Script}
 use Rattle.single_faults.specs.Tried.{MayStand}
 use Rattle.pair_runs.proofs.Begins.{may-stand_also}

@@ -1,4 +1,4 @@
-use Rattle.std.proofs.Common.{◌≡◌, ◌≤◌}
+use Rattle.std.proofs.Common.{◌≡◌}
 use Rattle.run_costs.specs.Standing.{IsRunOfList}
 use Rattle.pair_runs.specs.Written.{IsAhead}
 use Rattle.pair_runs.proofs.ahead.Ahead.look_to.Given as goal

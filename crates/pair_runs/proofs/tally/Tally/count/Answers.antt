@@ -1,4 +1,4 @@
-use Rattle.std.proofs.Common.{◌≡◌, ◌<◌, ◌≤◌, ◌^◌, ℕ, ◌∷◌, [], ◌++◌, sym, subst, arith}
+use Rattle.std.proofs.Common.{◌^◌, ◌∷◌, [], ◌++◌, arith}
 use Rattle.pair_runs.proofs.Counted.{pairs-weaker, sums-weaker}
 use Rattle.pair_runs.proofs.tally.Tally.count.Goals as goal
 
