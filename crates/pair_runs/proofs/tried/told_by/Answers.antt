@@ -1,6 +1,5 @@
 use Rattle.std.proofs.Common.{◌≡◌, ◌<◌, ◌∙◌, cond, ℕ, [], ap, sym, subst}
 use Rattle.ttp_world.specs.declared.script.Script.{Script}
-use Rattle.campaign.specs.Cost.{says_yes}
 use Rattle.campaign.specs.Lines.{summary, fault_node}
 use Rattle.campaign.specs.Tried.{with_fault}
 use Rattle.fault_pairs.specs.declared.pair.Harm.{Harm}
