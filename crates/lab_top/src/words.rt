@@ -248,6 +248,11 @@ fn pair_command<'a>(verb: &str, list: &'a str, script: &'a str) -> Command<'a>
             list,
             script: Some(script),
         },
+        "margins" => Command::Margins {
+            list,
+            script,
+            asked: None,
+        },
         _ => Command::NoForm,
     }
 }
@@ -275,21 +280,6 @@ fn chart_of_slots<'a>(campaign: &'a str, first: &str, last: &str) -> Command<'a>
         (Some(first), Some(last)) => Command::Chart {
             campaign,
             asked: Some(Span { first, last }),
-        },
-        _ => Command::NoForm,
-    }
-}
-
-// The command of three words.
-fn pair_command<'a>(verb: &str, list: &'a str, script: &'a str) -> Command<'a>
-    ensures form { lab_form_asked result ≡ lab_form_of (verb.now ∷ list.now ∷ script.now ∷ []) }
-    ensures slots { HasScriptSlots result }
-{
-    match verb {
-        "margins" => Command::Margins {
-            list,
-            script,
-            asked: None,
         },
         _ => Command::NoForm,
     }
