@@ -7,6 +7,7 @@ mod forms;
 mod laws;
 mod lines;
 mod margins;
+mod pairs;
 mod pictures;
 mod small;
 mod texts;
