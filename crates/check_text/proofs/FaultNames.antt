@@ -225,18 +225,18 @@ pub record BeginsAs (ws : List Wrong) (fault : FileFault) : Type 0 where
   pub first : Wrong
   pub rest : List Wrong
   pub wrongs_are : ws ≡ first ∷ rest
-  pub named : list_fault_name first ≡ fault_text fault
+  pub called : list_fault_name first ≡ fault_text fault
 
 too_large : BeginsAs (wrong.TooLarge ∷ []) refused.TooLarge
 unfolding list_fault_name
-too_large = record { first = wrong.TooLarge; rest = []; wrongs_are = refl; named = refl }
+too_large = record { first = wrong.TooLarge; rest = []; wrongs_are = refl; called = refl }
 
 by_first : (ws : List Wrong) (why : MedlError) → AllCalled ws → first_fault (map list_fault ws) ≡ Some why
     → BeginsAs ws (refused.List why)
 by_first [] why all is = absurd (cc)
 by_first (w ∷ ws) why all is =
     let same : list_fault w ≡ why = cc in
-    record { first = w; rest = ws; wrongs_are = refl; named = all.0 ∙ (λ i. list_fault_text (same i)) }
+    record { first = w; rest = ws; wrongs_are = refl; called = all.0 ∙ (λ i. list_fault_text (same i)) }
 
 pub begins_as : (text : List ℕ) (fault : FileFault) → list_from text ≡ Err fault → BeginsAs (list_wrongs text) fault
 unfolding list_from

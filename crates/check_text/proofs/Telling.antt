@@ -66,12 +66,12 @@ no_errors r list file (Some other) is = rw is (by (read_value (script_from list 
 first_line : (name : List ℕ) (rounds modes : Option ℕ) (stop : List ℕ) (w : Wrong) (ws : List Wrong) (places : List ListPlace)
     (fault : List ℕ) → list_fault_name w ≡ fault
     → TellsFaultFirst name fault (list_fault_lines_at name rounds modes stop (w ∷ ws) places)
-first_line name rounds modes stop w ws places fault named = record {
+first_line name rounds modes stop w ws places fault called = record {
   first = _;
   rest = _;
   lines_are = refl;
   error = record { place = _; fault = list_fault_name w; said = _; is = refl };
-  is = named;
+  is = called;
 }
 
 first_told : (name text : List ℕ) (fault : FileFault) → list_from text ≡ Err fault
@@ -85,7 +85,7 @@ first_told name text fault read =
     (list_fault_lines_at name (rounds_said text) (modes_said text) (stop_words text (stop_told text ws)) ws (found_places text ws)))
     (sym begins.wrongs_are)
     (first_line name (rounds_said text) (modes_said text) (stop_words text (stop_told text wrongs)) begins.first begins.rest
-    (found_places text wrongs) (fault_text fault) begins.named)
+    (found_places text wrongs) (fault_text fault) begins.called)
 
 three_of : (name fault : List ℕ) (lines script warnings : Lines) → TellsFaultFirst name fault lines
     → status_by_list lines script warnings ≡ 3
