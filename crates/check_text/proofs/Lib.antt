@@ -3,4 +3,5 @@ pub mod LinesAt
 pub mod Sides
 pub mod Told
 pub mod Written
+pub mod FaultNames
 pub mod Telling

@@ -1,18 +1,13 @@
 -- What is told of files, beside the answers of the readers and of the test.
-use Rattle.std.proofs.Common.{◌≡◌, ℕ, ℤ, ◌+◌, ◌≤◌, Bool, true, false, cond, List, [], ◌∷◌, ◌++◌, length, map, nat_lt, refl, sym, ap, subst, ◌∙◌}
-use Rattle.std.proofs.Common.{append_assoc, arith, Option, Some, None, option_map, Result, Ok, Err, inl, inr}
+use Rattle.std.proofs.Common.{◌≡◌, ℕ, ℤ, ◌≤◌, Bool, true, false, cond, List, [], ◌∷◌, ◌++◌, length, map, nat_lt, refl, sym, ap, subst, ◌∙◌}
+use Rattle.std.proofs.Common.{append_assoc, Option, Some, None, option_map, Result, Ok, Err, inl, inr}
 use Rattle.std.specs.Option.{option_or}
 use Rattle.std.specs.List.{AllByRecursion}
-use Rattle.std.proofs.lemmas.Bool.{ltb-false, ltb-true}
-use Rattle.std.proofs.lemmas.List.{length-map}
-use Rattle.std.proofs.lemmas.List.FromFn.{length-range_with_len}
-use Rattle.ttp_base.specs.NodeSet.{below}
 use Rattle.ttp_base.specs.Text.{Lines}
 use Rattle.ttp_world.specs.declared.medl.Medl.{Medl}
 use Rattle.ttp_world.specs.declared.script.Script.{Script}
 use Rattle.ttp_world.specs.Returning.{has_arm}
-use Rattle.medl_text.specs.declared.error.MedlError.{MedlError}
-use Rattle.medl_text.specs.ListFile.{medl_of, document_of}
+use Rattle.medl_text.specs.ListFile.{document_of}
 use Rattle.script_text.specs.declared.error.LineFault.{LineFault}
 use Rattle.script_text.specs.declared.error.ScriptError.{ScriptError as Refusal}
 use Rattle.script_text.specs.declared.error.ScriptError.TheVariants as script_error
@@ -20,11 +15,14 @@ use Rattle.script_text.specs.Lines.{lines_of_file}
 use Rattle.script_text.specs.ScriptFile.{script_of}
 use Rattle.commands.specs.declared.read.FileFault.{FileFault}
 use Rattle.commands.specs.declared.read.FileFault.TheVariants as refused
-use Rattle.commands.specs.Faults.{line_fault_text}
-use Rattle.commands.specs.Read.{list_limit, list_read, list_from, script_limit, script_read, script_from}
+use Rattle.commands.specs.Faults.{line_fault_text, fault_text}
+use Rattle.commands.specs.Read.{list_from, script_limit, script_read, script_from}
 use Rattle.list_errors.specs.declared.error.Wrong.{Wrong}
-use Rattle.list_errors.specs.Errors.{list_wrongs}
-use Rattle.list_errors.proofs.TableAgree.{large_wrongs, refused_wrongs}
+use Rattle.list_errors.specs.Errors.{rounds_said, modes_said}
+use Rattle.list_places.specs.declared.lines.Place.{Place as ListPlace}
+use Rattle.list_places.specs.Places.{found_places, stop_told}
+use Rattle.list_words.specs.Words.{list_fault_name}
+use Rattle.stop_words.specs.Stops.{stop_words}
 use Rattle.script_errors.specs.declared.error.ScriptError.{ScriptError}
 use Rattle.script_errors.specs.Agrees.{Agrees, TellsFault}
 use Rattle.script_errors.proofs.WholeAgree.{agrees}
@@ -47,9 +45,10 @@ use Rattle.warning_words.specs.Warnings.{clocks_line, window_line, disturbed_lin
 use Rattle.warning_words.specs.Warnings.{few_line, arm_line}
 use Rattle.check_text.specs.Check.{Named, Checked, read_value, files_with, both_checked, checked_by, check_found}
 use Rattle.check_text.specs.Check.{status_of, status_by_list}
-use Rattle.check_text.specs.Laws.{IsErrorLine, IsFrom, TellsErrorOf, TellsRefusal, IsRuleLine, TellsRule, ListTold, ScriptTold}
+use Rattle.check_text.specs.Laws.{TellsFaultFirst, IsErrorLine, IsFrom, TellsErrorOf, TellsRefusal, IsRuleLine, TellsRule, ListTold, ScriptTold}
 use Rattle.check_text.specs.Laws.{TestTold, AgreesWithReaders}
-use Rattle.check_text.specs.Lines.{has_member, list_fault_lines, script_fault_lines, script_found, script_line, too_large_line}
+use Rattle.check_text.specs.Lines.{has_member, list_fault_lines_at, list_fault_lines, script_fault_lines, script_found, script_line, too_large_line}
+use Rattle.check_text.proofs.FaultNames.{begins_as}
 use Rattle.check_text.proofs.Told.{none_broken}
 
 -- The list.
@@ -63,36 +62,35 @@ no_errors r list file (Some other) is = rw is (by (read_value (script_from list 
     by None = refl
     by (Some script) = refl
 
-some_wrong : (text : List ℕ) (fault : FileFault) → list_from text ≡ Err fault → list_wrongs text ≡ [] → ⊥
-unfolding list_from
-some_wrong text fault read none = by (nat_lt list_limit (length text)) refl read
-  where
-    small : (m : Result Medl MedlError) → length text ≤ list_limit → medl_of text ≡ m → list_read m ≡ Err fault → ⊥
-    small (Ok list) size same taken = absurd (cc)
-    small (Err why) size same taken = refused_wrongs text why size same none
+-- the first line on some faults is on the first of them
+first_line : (name : List ℕ) (rounds modes : Option ℕ) (stop : List ℕ) (w : Wrong) (ws : List Wrong) (places : List ListPlace)
+    (fault : List ℕ) → list_fault_name w ≡ fault
+    → TellsFaultFirst name fault (list_fault_lines_at name rounds modes stop (w ∷ ws) places)
+first_line name rounds modes stop w ws places fault called = record {
+  first = _;
+  rest = _;
+  lines_are = refl;
+  error = record { place = _; fault = list_fault_name w; said = _; is = refl };
+  is = called;
+}
 
-    by : (large : Bool) → nat_lt list_limit (length text) ≡ large
-        → cond large (Err refused.TooLarge) (list_read (medl_of text)) ≡ Err fault → ⊥
-    by true is taken =
-        let size = ap length (sym (large_wrongs text (ltb-true list_limit (length text) is)) ∙ none) in
-        absurd (omega (arith, size))
-    by false is taken = small (medl_of text) (ltb-false list_limit (length text) is) refl taken
-
-line_count : (name text : List ℕ) → length (list_fault_lines name text) ≡ length (list_wrongs text)
+first_told : (name text : List ℕ) (fault : FileFault) → list_from text ≡ Err fault
+    → TellsFaultFirst name (fault_text fault) (list_fault_lines name text)
 unfolding list_fault_lines
-line_count name text =
-    length-map (below (length (list_wrongs text))) _ ∙ length-range_with_len 0 (length (list_wrongs text))
+first_told name text fault read =
+    let begins = begins_as text fault read in
+    let wrongs = begins.first ∷ begins.rest in
+    subst
+    (λ (ws : List Wrong). TellsFaultFirst name (fault_text fault)
+    (list_fault_lines_at name (rounds_said text) (modes_said text) (stop_words text (stop_told text ws)) ws (found_places text ws)))
+    (sym begins.wrongs_are)
+    (first_line name (rounds_said text) (modes_said text) (stop_words text (stop_told text wrongs)) begins.first begins.rest
+    (found_places text wrongs) (fault_text fault) begins.called)
 
-no_wrong : (ws : List Wrong) → length ws ≡ 0 → ws ≡ []
-no_wrong [] none = refl
-no_wrong (w ∷ ws) none = absurd (omega (arith, none))
-
-some_line : (name text : List ℕ) → (list_wrongs text ≡ [] → ⊥) → list_fault_lines name text ≡ [] → ⊥
-some_line name text some none = some (no_wrong (list_wrongs text) (sym (line_count name text) ∙ ap length none))
-
-three_of : (lines script warnings : Lines) → (lines ≡ [] → ⊥) → status_by_list lines script warnings ≡ 3
-three_of [] script warnings some = absurd (some refl)
-three_of (e ∷ lines) script warnings some = refl
+three_of : (name fault : List ℕ) (lines script warnings : Lines) → TellsFaultFirst name fault lines
+    → status_by_list lines script warnings ≡ 3
+three_of name fault [] script warnings tells = let none = tells.lines_are in absurd (cc)
+three_of name fault (e ∷ lines) script warnings tells = refl
 
 told_list : (file : Named) (beside : Option Named) → ListTold file beside
 unfolding check_found
@@ -100,7 +98,11 @@ told_list file beside = record {
   right = λ list is. no_errors (list_from file.text) list file beside is;
   wrong = λ fault is.
       subst (λ (r : Result Medl FileFault). status_of (checked_by file beside (read_value r)) ≡ 3) (sym is)
-      (three_of _ _ _ (some_line file.name file.text (some_wrong file.text fault is)));
+      (three_of file.name (fault_text fault) _ _ _ (first_told file.name file.text fault is));
+  first = λ fault is.
+      subst
+      (λ (r : Result Medl FileFault). TellsFaultFirst file.name (fault_text fault) (checked_by file beside (read_value r)).list)
+      (sym is) (first_told file.name file.text fault is);
 }
 
 -- The script.

@@ -8,7 +8,7 @@ use Rattle.ttp_world.specs.Returning.{has_arm}
 use Rattle.script_text.specs.declared.error.ScriptError.TheVariants as script_error
 use Rattle.commands.specs.declared.read.FileFault.{FileFault}
 use Rattle.commands.specs.declared.read.FileFault.TheVariants as refused
-use Rattle.commands.specs.Faults.{line_fault_text}
+use Rattle.commands.specs.Faults.{line_fault_text, fault_text}
 use Rattle.commands.specs.Read.{list_from, script_from}
 use Rattle.check_words.specs.declared.lines.Place.{Place}
 use Rattle.check_words.specs.Lines.{error_line}
@@ -16,14 +16,24 @@ use Rattle.broken_rules.specs.Rules.{RuleSlot, first_named, test_answer}
 use Rattle.warning_words.specs.Warnings.{warning_at}
 use Rattle.check_text.specs.Check.{Named, check_found, check_status, test_line}
 
--- The script.
-
 -- a line on an error of a file of this name, in a line of the file
 pub record IsErrorLine (name : List ℕ) (line : List ℕ) : Type 0 where
   pub place : Place
   pub fault : List ℕ
   pub said : List ℕ
   pub is : line ≡ error_line name place fault said
+
+-- The list.
+
+-- the first of some lines is on this fault
+pub record TellsFaultFirst (name : List ℕ) (fault : List ℕ) (lines : Lines) : Type 0 where
+  pub first : List ℕ
+  pub rest : Lines
+  pub lines_are : lines ≡ first ∷ rest
+  pub error : IsErrorLine name first
+  pub is : error.fault ≡ fault
+
+-- The script.
 
 -- it is in no line before this one
 pub record IsFrom (name : List ℕ) (number : ℕ) (line : List ℕ) : Type 0 where
@@ -63,10 +73,12 @@ pub record TellsRule (armed : Bool) (r : RuleSlot) (lines : Lines) : Type 0 wher
 
 -- What is told.
 
--- a list has an error exactly where the reader refuses it
+-- a list has an error exactly where the reader refuses it, and the first is called by the words that refuse the list
 pub record ListTold (file : Named) (beside : Option Named) : Type 0 where
   pub right : (list : Medl) → list_from file.text ≡ Ok list → (check_found file beside).list ≡ []
   pub wrong : (fault : FileFault) → list_from file.text ≡ Err fault → check_status file beside ≡ 3
+  pub first : (fault : FileFault) → list_from file.text ≡ Err fault
+      → TellsFaultFirst file.name (fault_text fault) (check_found file beside).list
 
 -- beside a right list a script has one exactly where the reader refuses it
 pub record ScriptTold (file beside : Named) (list : Medl) : Type 0 where

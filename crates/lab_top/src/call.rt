@@ -174,9 +174,9 @@ pub fn lab<R: Threads + Sync, L: Library, K: Sink>(
         → CampaignPromise list script first last (outside (L.files library.old) (K.output out.old))
         (outside (L.files library.new) (K.output out.new)) result }
     // For `check`, in its own words: status 0, 1, 3 and 4 say that exactly the lines on the files that were loaded were
-    // written, and the status is theirs: 3 exactly where the list is refused, else 4 exactly where the script is, and else 0
-    // exactly where the test says yes. With status 6 they were cut short, and with status 7 nothing is written, or some first
-    // lines and never all.
+    // written, and the status is theirs: 3 exactly where the list is refused, by the words of its first error, else 4 exactly
+    // where the script is, and else 0 exactly where the test says yes. With status 6 they were cut short, and with status 7
+    // nothing is written, or some first lines and never all.
     ensures check { (list : List ℕ) (script : Option (List ℕ)) → lab_form_of (texts_of words.now) ≡ Some (check list script)
         → CheckPromise list script (outside (L.files library.old) (K.output out.old))
         (outside (L.files library.new) (K.output out.new)) result }
