@@ -51,7 +51,8 @@ fn name_in(words: &[String], loads: usize) -> &str {
     }
 }
 
-// What is wrong with a file, by the line that was written of it: `KIND: WHAT`, or a line on an error with its place.
+// What is wrong with a file, by the line that was written of it: `KIND: WHAT`, or a line on an error with its place. Of a list
+// and a script another command says more.
 fn tell_refusal<R: Eprint>(rt: &R, program: &str, name: &str, line: &[u8]) -> io::Result<()> {
     let Ok(line) = str::from_utf8(line) else {
         return Ok(());
@@ -61,6 +62,11 @@ fn tell_refusal<R: Eprint>(rt: &R, program: &str, name: &str, line: &[u8]) -> io
         Some((_, what)) if what.starts_with("error: ") => eprintln!(rt; "{program}: {line}"),
         Some((kind, what)) if what.starts_with("slots ") || what.starts_with("no slot ") => {
             eprintln!(rt; "{program}: {name}: the {kind} has {what}")
+        }
+        Some((kind, what)) if kind == "list" || kind == "script" => {
+            eprintln!(rt;
+                "{program}: {name}: the {kind} is refused: {what} (ttplab check says where)"
+            )
         }
         Some((kind, what)) => eprintln!(rt; "{program}: {name}: the {kind} is refused: {what}"),
         None => eprintln!(rt; "{program}: {name}: {line}"),
