@@ -281,9 +281,10 @@ class Rules:
 
 
 def rules_of(list_name, script_name):
-    with open(list_name, encoding="utf-8") as file:
+    with open(list_name, encoding="utf-8-sig") as file:
         list_text = file.read()
-    with open(script_name, encoding="utf-8", newline="") as file:
+    # A comment may have any bytes.
+    with open(script_name, encoding="latin-1", newline="") as file:
         script_text = file.read()
     return Rules(os.path.basename(list_name), list_text, os.path.basename(script_name), script_text)
 

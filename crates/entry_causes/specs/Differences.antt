@@ -6,6 +6,7 @@ use Rattle.entry_causes.specs.declared.members.Difference.{Difference}
 use Rattle.ttp_world.specs.declared.node.Ack.{Ack}
 use Rattle.ttp_world.specs.declared.node.Ack.TheVariants as ack
 
+-- what a node's membership lacks or has too much, as a row of causes says it
 abbrev pub difference_shown : Difference → members.Difference
 difference_shown d = record { member = d.member; holds = d.holds; lacks = d.lacks; said = d.said }
 

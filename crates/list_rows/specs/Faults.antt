@@ -6,6 +6,7 @@ use Rattle.list_errors.specs.declared.error.Wrong.{Wrong}
 use Rattle.list_errors.specs.declared.error.Wrong.TheVariants as wrong
 use Rattle.list_places.specs.declared.lines.Place.{Place}
 
+-- a line and a column
 abbrev pub at_line : ℕ → ℕ → Place
 at_line l c = record { line = l; column = c }
 
