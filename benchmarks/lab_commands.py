@@ -17,6 +17,7 @@ import tempfile
 import time
 
 from campaigns import lab
+from peak import memory_of
 from programs import TOP
 from runs import list_text, program, script_text, written
 
@@ -25,7 +26,7 @@ FAULTY = "send 9 AB noise 0 0\n"
 
 
 def timed(command):
-    """The text of a command, how long it took by the clock, how long processors were at work, and the most KiB that it held."""
+    """The text of a command, how long it took by the clock, and how long processors were at work."""
     with tempfile.TemporaryFile() as out:
         began = time.monotonic()
         running = subprocess.Popen(command, stdout=out)
@@ -34,15 +35,15 @@ def timed(command):
         if running.returncode not in (0, 1, 4):
             sys.exit(f"status {running.returncode} from {command}")
         out.seek(0)
-        return out.read().decode("ascii"), clock, used.ru_utime + used.ru_stime, used.ru_maxrss
+        return out.read().decode("ascii"), clock, used.ru_utime + used.ru_stime
 
 
 def said(what, command, runs_of=None):
     """Prints what a command takes; the answer is its runs a second of a processor at work, or else how long one was."""
-    text, clock, work, held = timed(command)
+    text, clock, work = timed(command)
     runs = runs_of(text) if runs_of else 0
     told = f"  {runs} runs, {runs / clock:.0f} a second, {work / runs * 1e6:.1f} us each" if runs else ""
-    print(f"{what:44} {clock:7.2f} s {work:7.2f} s at work {held:7} KiB{told}")
+    print(f"{what:44} {clock:7.2f} s {work:7.2f} s at work {memory_of(command):7} KiB{told}")
     return runs / work if runs else work
 
 
