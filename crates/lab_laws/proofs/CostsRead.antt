@@ -25,8 +25,8 @@ use Rattle.ttp_world.specs.TraceNumbers.{is_digit, append_digit}
 use Rattle.ttp_world.proofs.NumberWords.{number_named-decimal}
 use Rattle.ttp_world.proofs.TraceWords.{has-entry_word}
 use Rattle.line_text.proofs.Options.{guarded}
-use Rattle.line_reader.specs.Reading.{hex_in}
-use Rattle.line_reader.proofs.WrittenWords.{hex-again}
+use Rattle.line_form.specs.Kinds.{read, hexed_or}
+use Rattle.line_form.proofs.KindLaws.{again}
 use Rattle.campaign.specs.CostText.{span_words}
 use Rattle.whole_campaign.specs.declared.listed.Kind.TheVariants as kind
 use Rattle.whole_campaign.specs.Words.{is_reason, leaving_in, split_in}
@@ -127,12 +127,12 @@ node-is_word k node = record {
 
 -- The word of a membership.
 
-members-tell : (n : ℕ) (members word : List ℕ) → hex_in word ≡ Some (set_bits members) → set_bits members < 2 ^ n
-    → length (members_in (set_bits members)) ≡ length members → ((length word == 6) || (length word == 4)) ≡ true
+members-tell : (n : ℕ) (wide : Bool) (members word : List ℕ) → read (hexed_or 4 6) word ≡ Some (wide, set_bits members)
+    → set_bits members < 2 ^ n → length (members_in (set_bits members)) ≡ length members
     → members_listed n word ≡ Some (length members)
 unfolding members_listed
-members-tell n members word read small same long =
-    rw (long, read, lt-ltb (set_bits members) (2 ^ n) small) (ap (λ (m : ℕ). Some m) same)
+members-tell n wide members word is small same =
+    rw (is, lt-ltb (set_bits members) (2 ^ n) small) (ap (λ (m : ℕ). Some m) same)
 
 hex-no_dash : (wide : Bool) (v : ℕ) → is_dash (hex (2 * member_bytes wide) v) ≡ false
 hex-no_dash wide v =
@@ -150,14 +150,14 @@ members-by true n members fits few has_word =
     let small = set_bits-small n members has_word few in
     let same = ap length (members_in-set_bits n members has_word few) in
     let wider : 2 ^ n ≤ 2 ^ 24 = pow-le-pow_right {n = 2} (lit< tt) {i = n} {j = 24} fits in
-    members-tell n members (hex 6 (set_bits members)) (hex-again 6 (set_bits members) (omega (arith, small, wider))) small
-    same refl
+    members-tell n true members (hex 6 (set_bits members))
+    (again (hexed_or 4 6) (true, set_bits members) refl (lt-ltb (set_bits members) (16 ^ 6) (omega (arith, small, wider)))) small same
 members-by false n members fits few has_word =
     let small = set_bits-small n members has_word few in
     let same = ap length (members_in-set_bits n members has_word few) in
     let wider : 2 ^ n ≤ 2 ^ 16 = pow-le-pow_right {n = 2} (lit< tt) {i = n} {j = 16} fits in
-    members-tell n members (hex 4 (set_bits members)) (hex-again 4 (set_bits members) (omega (arith, small, wider))) small
-    same refl
+    members-tell n false members (hex 4 (set_bits members))
+    (again (hexed_or 4 6) (false, set_bits members) refl (lt-ltb (set_bits members) (16 ^ 4) (omega (arith, small, wider)))) small same
 
 pub members-are_word : (list : Medl) (n : ℕ) (members : List ℕ) → n ≤ 8 * member_bytes (is_wide list) → n ≤ most_nodes
     → HasWord n members → IsSetWord n (members_word list members) (length members)

@@ -17,11 +17,13 @@ use Rattle.line_text.proofs.LabelTexts.{label-takes}
 use Rattle.line_text.proofs.Options.{guarded, chosen, some_same}
 use Rattle.line_reader.specs.declared.trace_line.TraceLine.{TraceLine}
 use Rattle.line_reader.specs.declared.trace_line.TraceLine.TheVariants as line
-use Rattle.line_reader.specs.Reading.{◌>>=◌, line_in, hex_in}
+use Rattle.line_reader.specs.Reading.{◌>>=◌, line_in}
+use Rattle.line_form.specs.Kinds.{read, spell, hexed_or, count_of_digits}
+use Rattle.line_form.proofs.ReadLaws.{takes}
 use Rattle.line_reader.specs.TraceLines.{slot_digits, text_of}
 use Rattle.line_reader.proofs.Options.{bound}
 use Rattle.line_reader.proofs.ReadLines.{line-takes}
-use Rattle.line_reader.proofs.ReadWords.{numeral-takes, hex-takes}
+use Rattle.line_reader.proofs.ReadWords.{numeral-takes}
 use Rattle.campaign.specs.CostText.{on_channels, channels_word, kind_word, loss_words}
 use Rattle.whole_campaign.specs.declared.cost.CostShown.{CostShown}
 use Rattle.whole_campaign.specs.declared.listed.Kind.{Kind}
@@ -185,9 +187,9 @@ plain-nodes kind n list count e =
 plain-members : (n : ℕ) (word : List ℕ) (members : ℕ) → members_listed n word ≡ Some members → Plain word
 unfolding members_listed
 plain-members n word members e =
-    let g = guarded ((length word == 6) || (length word == 4)) _ members e in
-    let bits = bound (hex_in word) _ members g.1 in
-    plain-is word (hex (length word) bits.value) (hex-takes word bits.value bits.read).0 (plain-hex (length word) bits.value)
+    let w = bound (read (hexed_or 4 6) word) _ members e in
+    plain-is word (spell (hexed_or 4 6) w.value) (takes (hexed_or 4 6) word w.value w.read).text
+    (plain-hex (count_of_digits 4 6 w.value.0) w.value.1)
 
 set-nothing : (n : ℕ) (word : List ℕ) → with_set_word n None word ≡ None
 unfolding with_set_word

@@ -2,7 +2,7 @@
 use Rattle.std.proofs.Common.{◌≡◌, ◌≢◌, ℕ, zero, suc, ◌+◌, ◌-◌, ◌*◌, ◌<◌, ◌≤◌, ◌^◌, Bool, true, false, cond, ◌||◌, min, map, nat_le}
 use Rattle.std.proofs.Common.{List, [], ◌∷◌, ◌++◌, length, filter, refl, sym, ap, ◌∙◌, arith, codes, decimal, Option, Some, None, inl, inr}
 use Rattle.std.specs.Prelude.{◌==◌}
-use Rattle.std.specs.List.{flat_map, range_with_len}
+use Rattle.std.specs.List.{concat, flat_map, range_with_len}
 use Rattle.std.specs.Fmt.{signed_decimal}
 use Rattle.std.proofs.lemmas.Bool.{and_parts, and_from, leb-true, le-leb, cases_eq}
 use Rattle.std.proofs.lemmas.List.{append_assoc, append-nil}
@@ -11,8 +11,8 @@ use Rattle.ttp_base.specs.NodeSet.{below, set_bits}
 use Rattle.ttp_base.specs.Text.{Lines, hex, hex_bytes}
 use Rattle.ttp_world.specs.Medl.{member_bytes}
 use Rattle.ttp_world.specs.Trace.{number_or_dash, ack_word, source_word}
+use Rattle.line_form.proofs.Gathered.{gathered}
 use Rattle.line_reader.specs.TraceLines.{word_text}
-use Rattle.line_reader.proofs.ReadLines.{ten_nested}
 use Rattle.whole_trace.specs.declared.shown.Head.{Head}
 use Rattle.whole_trace.specs.declared.shown.HostLine.{HostLine}
 use Rattle.whole_trace.specs.declared.shown.HostLine.TheVariants as by_host
@@ -98,44 +98,35 @@ one-passes p f n k within is others =
 -- Lines, by the words that they begin with.
 
 -- what stands behind the number of a node in its line
+abbrev node_pieces : Head → NodeShown → Lines
+node_pieces head node =
+    word_text node.word ∷ codes " peer " ∷ number_or_dash node.peer ∷ codes " msg " ∷ number_or_dash node.message
+    ∷ codes " mem " ∷ hex (2 * member_bytes (head.version == 2)) (set_bits node.members) ∷ codes " acc "
+    ∷ decimal node.accepted ∷ codes " rej " ∷ decimal node.rejected ∷ codes " ack " ∷ ack_word node.ack ∷ codes " clock "
+    ∷ signed_decimal node.offset ∷ []
+
 abbrev node_rest : Head → NodeShown → List ℕ
-node_rest head node =
-    word_text node.word ++ (codes " peer " ++ (number_or_dash node.peer
-    ++ (codes " msg " ++ (number_or_dash node.message
-    ++ (codes " mem " ++ (hex (2 * member_bytes (head.version == 2)) (set_bits node.members)
-    ++ (codes " acc " ++ (decimal node.accepted ++ (codes " rej " ++ (decimal node.rejected
-    ++ (codes " ack " ++ (ack_word node.ack ++ (codes " clock " ++ (signed_decimal node.offset ++ []))))))))))))))
+node_rest head node = concat (node_pieces head node)
 
 node-begins : (head : Head) (t k : ℕ) (node : NodeShown)
     → node_text head t k node ≡ codes "slot " ++ (decimal t ++ (codes " node " ++ (decimal k ++ 32 ∷ node_rest head node)))
 node-begins head t k node =
-    sym (ten_nested (codes "slot ") (decimal t) (codes " node ") (decimal k) (codes " ") (word_text node.word)
-    (codes " peer ") (number_or_dash node.peer) (codes " msg ") (number_or_dash node.message) (codes " mem ")
-    (hex (2 * member_bytes (head.version == 2)) (set_bits node.members)) (codes " acc ") (decimal node.accepted)
-    (codes " rej ") (decimal node.rejected) (codes " ack ") (ack_word node.ack) (codes " clock ")
-    (signed_decimal node.offset))
+    gathered [] (codes "slot " ∷ decimal t ∷ codes " node " ∷ decimal k ∷ codes " " ∷ node_pieces head node)
 
 -- and behind the word host
+abbrev host_pieces : HostLine → Lines
+host_pieces (by_host.Write host number) = decimal host ∷ codes " write " ∷ decimal number ∷ []
+host_pieces (by_host.Read host from number payload) =
+    decimal host ∷ codes " read " ∷ source_word from ∷ codes " " ∷ decimal number ∷ codes " " ∷ hex_bytes payload ∷ []
+
 abbrev host_rest : HostLine → List ℕ
-host_rest (by_host.Write host number) = decimal host ++ (codes " write " ++ decimal number)
-host_rest (by_host.Read host from number payload) =
-    decimal host
-    ++ (codes " read " ++ (source_word from ++ (codes " " ++ (decimal number ++ (codes " " ++ hex_bytes payload)))))
+host_rest by = concat (host_pieces by)
 
 host-begins : (t : ℕ) (by : HostLine) → host_text t by ≡ codes "slot " ++ (decimal t ++ (codes " host " ++ host_rest by))
 host-begins t (by_host.Write host number) =
-    cut (codes "slot ") (decimal t) (codes " host ") (decimal host) (codes " write ") (decimal number)
-  where
-    cut : (a b c d e f : List ℕ) → (a ++ b ++ c ++ d) ++ e ++ f ≡ a ++ (b ++ (c ++ (d ++ (e ++ f))))
-    cut a b c d e f = simp append_assoc
+    gathered [] (codes "slot " ∷ decimal t ∷ codes " host " ∷ host_pieces (by_host.Write host number))
 host-begins t (by_host.Read host from number payload) =
-    cut (codes "slot ") (decimal t) (codes " host ") (decimal host) (codes " read ") (source_word from) (codes " ")
-    (decimal number) (codes " ") (hex_bytes payload)
-  where
-    cut : (a b c d e f g h i j : List ℕ)
-        → (a ++ b ++ c ++ d) ++ e ++ f ++ g ++ h ++ i ++ j
-        ≡ a ++ (b ++ (c ++ (d ++ (e ++ (f ++ (g ++ (h ++ (i ++ j))))))))
-    cut a b c d e f g h i j = simp append_assoc
+    gathered [] (codes "slot " ∷ decimal t ∷ codes " host " ∷ host_pieces (by_host.Read host from number payload))
 
 -- and behind the number of the slot in the titles under those of the nodes
 abbrev said_rest : Head → SlotLines → List ℕ → List ℕ

@@ -1,12 +1,11 @@
 -- Bytes cut before the first of some bytes.
 use Rattle.std.proofs.Common.{◌≡◌, ℕ, suc, ◌+◌, ◌≤◌, Bool, true, false, cond, List, [], ◌∷◌, ◌++◌, length, take, drop, not}
-use Rattle.std.proofs.Common.{Option, Some, None, refl, ap, sym, ◌∙◌, arith}
+use Rattle.std.proofs.Common.{Some, None, refl, ap, arith}
 use Rattle.std.specs.Prelude.{◌==◌, position}
 use Rattle.std.specs.List.{position_or_len}
 use Rattle.std.proofs.lemmas.List.Sums.{prefix_len-le-length}
 use Rattle.std.proofs.lemmas.Bool.Decides.{nat_tests}
 use Rattle.line_form.specs.Kinds.{front, back}
-use Rattle.line_form.specs.Forms.{next_word, left_behind}
 
 -- both parts make the whole
 pub front-back : (b : ℕ) (bytes : List ℕ) → front b bytes ++ back b bytes ≡ bytes
@@ -73,13 +72,3 @@ no_position-back b bytes e = (no_position b bytes e).1
 pub ruleset cuts = (front-length, drop-front)
 
 pub ruleset ends = (at_position, no_position, at_position-back, no_position-back)
-
--- behind the word, where there is something left
-pub skips : (good read : Bool) (rest word : List ℕ) (left : Option (List ℕ)) → good ≡ true → read ≡ true
-    → cond good (Some rest) None ≡ left → word ≡ next_word false left
-    → cond good (Some (drop (length word) rest)) None ≡ left_behind false read left
-unfolding next_word left_behind
-skips good read rest word left is was view e =
-    let stands : left ≡ Some rest = sym view ∙ rw is refl in
-    rw (is, was, stands) (ap (λ (l : List ℕ). Some l)
-    (ap (λ (w : List ℕ). drop (length w) rest) (rw stands at e) ∙ drop-front 32 rest))

@@ -13,6 +13,7 @@ pub mod PlaceLaws
 pub mod KindLaws
 pub mod ReadLaws
 pub mod FormLaws
+pub mod Gathered
 pub mod Lengths
 pub mod Lists
 pub mod Parts

@@ -45,11 +45,6 @@ one_more k values i d start line middle new within so_far comma word =
     ∙ ap (λ (l : List ℕ). start ++ l) (sym (push words (spell k v)))
     ∙ ap (λ (ws : List (List ℕ)). start ++ joined_by 44 ws) (sym all)
 
--- some words, and none
-pub listed_some : (words : List (List ℕ)) → 0 < length words → joined_by 44 words ≡ listed_words words
-listed_some [] some = absurd (omega (arith, some))
-listed_some (word ∷ words) some = refl
-
 pub listed_none : (k : Kind) (values : List (Value k)) → length values ≡ 0 → listed_words (map (spell k) values) ≡ 45 ∷ []
 listed_none k [] none = refl
 listed_none k (v ∷ values) none = absurd (omega (arith, none))

@@ -1,13 +1,13 @@
 -- A line that begins otherwise is not read.
 use Rattle.std.proofs.Common.{◌≡◌, ℕ, Bool, true, false, cond, ◌&&◌, ◌||◌, List, [], ◌∷◌, ◌++◌, length, get_or, take, drop}
-use Rattle.std.proofs.Common.{Option, Some, None, refl, sym, ap, ◌∙◌, arith, bytes_eq}
+use Rattle.std.proofs.Common.{Option, Some, None, refl, ap, ◌∙◌, arith, bytes_eq}
 use Rattle.std.specs.Prelude.{◌==◌, is_some}
 use Rattle.std.proofs.lemmas.Bool.{and_parts, eqb-true, false_from_ne_true}
 use Rattle.std.proofs.lemmas.Bool.Decides.{nat_tests}
 use Rattle.line_form.specs.Kinds.{Kind, number, signed, hexed, hexed_or, one_of, payload, or_dash, commas, named, joined, free}
-use Rattle.line_form.specs.Kinds.{read, spell, fits_kind, sound, avoids, has_byte, behind_prefix}
-use Rattle.line_form.specs.Forms.{LineForm, Values, spelled, fit, well, goes_on, is_free, field_word, past, left_of, left_behind}
-use Rattle.line_form.specs.Forms.{labelled, next_word, closed_line, line_values, values_in, same_number, labels_part, lines_part}
+use Rattle.line_form.specs.Kinds.{read, spell, fits_kind, sound, avoids, behind_prefix}
+use Rattle.line_form.specs.Forms.{LineForm, Values, spelled, fit, well, goes_on, is_free, past, left_of, left_behind}
+use Rattle.line_form.specs.Forms.{labelled, next_word, closed_line, line_values, same_number, labels_part, lines_part}
 use Rattle.line_form.specs.Forms.{EachFits}
 use Rattle.line_form.proofs.FormLaws.{none_left, taken}
 use Rattle.line_form.proofs.NumberWords.{same_text}

@@ -1,7 +1,7 @@
 -- Readings under a test, and labels.
 use Rattle.std.proofs.Common.{◌≡◌, ℕ, ◌<◌, ◌≤◌, Bool, true, false, cond, ◌&&◌, not, List, ◌++◌, length}
 use Rattle.std.proofs.Common.{take, drop, Option, Some, None, refl, sym, ap, ◌∙◌, arith, bytes_eq}
-use Rattle.std.specs.Prelude.{◌==◌, nat_le, nat_lt, is_none}
+use Rattle.std.specs.Prelude.{nat_le, nat_lt, is_none}
 use Rattle.std.proofs.lemmas.Bool.Decides.{nat_tests}
 use Rattle.std.proofs.lemmas.List.{take-append-drop, take_at, drop_at}
 use Rattle.line_form.proofs.NumberWords.{bytes_eq-same}
@@ -43,9 +43,6 @@ not_some (Some y) x none e = cc
 pub is_not : (b : Bool) → not b ≡ true → b ≡ false
 is_not true e = cc
 is_not false e = refl
-
-pub other_byte : (a b : ℕ) → not (a == b) ≡ true → (a == b) ≡ false
-other_byte a b e = is_not (a == b) e
 
 pub both_true : (a b : Bool) → a ≡ true → b ≡ true → (a && b) ≡ true
 both_true a b p q = rw (p, q) refl

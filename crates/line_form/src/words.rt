@@ -79,9 +79,9 @@ pub(crate) fn number_in(word: &[u8], limit: u64) -> Option<u64>
     if number < limit { Some(number) } else { None }
 }
 
-/// A number with a `-` before a negative one.
+/// A number with a `-` before a negative one. Takes no memory.
 #[tactic(auto, unfolding(crate::specs::Kinds::signed_numeral))]
-pub(crate) fn signed_in(word: &[u8], limit: u64) -> Option<i64>
+pub fn signed_in(word: &[u8], limit: u64) -> Option<i64>
     requires { limit ≤ 10 ^ 18 }
     ensures { result ≡ signed_numeral limit word.now }
 {
@@ -135,8 +135,8 @@ pub(crate) fn hex_in(word: &[u8], digits: u8) -> Option<u64>
     Some(number)
 }
 
-/// The number of as many hexadecimal digits as one count or another, and whether it is the other.
-pub(crate) fn hex_or_in(word: &[u8], few: u8, many: u8) -> Option<(bool, u64)>
+/// The number of as many hexadecimal digits as one count or another, and whether it is the other. Takes no memory.
+pub fn hex_or_in(word: &[u8], few: u8, many: u8) -> Option<(bool, u64)>
     requires { (few ≤ many) × (many ≤ 15) }
     ensures value { result ≡ read (hexed_or few many) word.now }
     ensures small { IfSome result (λ v. v.1 < 16 ^ many) }

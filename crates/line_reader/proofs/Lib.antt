@@ -1,8 +1,6 @@
 pub mod ValueLaws
-pub mod HexDigits
 pub mod LineValues
 pub mod Options
 pub mod ReadLines
 pub mod ReadWords
 pub mod WrittenLines
-pub mod WrittenWords

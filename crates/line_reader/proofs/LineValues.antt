@@ -30,21 +30,9 @@ use Rattle.line_text.proofs.PayloadWords.{eight_bytes}
 
 word_of-text : (e : Entry) → entry_word e ≡ word_text (word_of e)
 word_of-text entry.Off = refl
-word_of-text entry.Waited = refl
-word_of-text entry.Retried = refl
-word_of-text entry.Gone = refl
-word_of-text entry.Started = refl
-word_of-text (entry.Sent message) = refl
-word_of-text (entry.Joined sender cstate deviation) = refl
 word_of-text (entry.Judged sender verdict.Null deviation) = refl
-word_of-text (entry.Judged sender verdict.Invalid deviation) = refl
-word_of-text (entry.Judged sender verdict.Incorrect deviation) = refl
-word_of-text (entry.Judged sender verdict.Correct deviation) = refl
-word_of-text (entry.Judged sender verdict.Tentative deviation) = refl
-word_of-text (entry.Judged sender verdict.Denied deviation) = refl
 word_of-text (entry.Left reason.Denied peer) = refl
-word_of-text (entry.Left reason.Unacknowledged peer) = refl
-word_of-text (entry.Left reason.Clique peer) = refl
+word_of-text e = refl
 
 pub node-value : (list : Medl) (slot k : ℕ) (state : NodeState) (message : Option ℕ)
     → listed_line list slot k state message ≡ text_of (line_of_node list slot k state message) ++ newline

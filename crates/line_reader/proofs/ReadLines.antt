@@ -1,16 +1,16 @@
 -- What is read of a line is what the line says, and it fits.
-use Rattle.std.proofs.Common.{◌≡◌, ℕ, ◌^◌, true, List, [], ◌++◌, length, get_or, Option, Some, None}
-use Rattle.std.proofs.Common.{IfSome, sym, ap, subst, ◌∙◌, arith, codes, decimal}
+use Rattle.std.proofs.Common.{◌≡◌, ℕ, ◌^◌, true, List, [], ◌∷◌, ◌++◌, length, Option, Some, None}
+use Rattle.std.proofs.Common.{IfSome, sym, ap, subst, ◌∙◌, arith, codes, decimal, refl}
 use Rattle.std.specs.Prelude.{nat_le}
 use Rattle.std.specs.Fmt.{signed_decimal}
 use Rattle.std.specs.List.{list_all}
 use Rattle.std.proofs.lemmas.Bool.{and_parts, ltb-true, leb-true}
-use Rattle.std.proofs.lemmas.List.{append_assoc, append-nil}
-use Rattle.ttp_base.specs.Text.{hex, hex_bytes}
+use Rattle.ttp_base.specs.Text.{hex_bytes}
 use Rattle.line_text.proofs.Options.{guarded, some_same}
-use Rattle.line_form.specs.Kinds.{spell, is_byte, number, or_dash, hexed_or, ◌>>=◌}
-use Rattle.line_form.specs.Forms.{LineForm, Values, spelled, fit, line_values}
+use Rattle.line_form.specs.Kinds.{numeral, numeral_in, hex_number, is_byte, ◌>>=◌}
+use Rattle.line_form.specs.Forms.{LineForm, Values, spelled, fit, well, line_values}
 use Rattle.line_form.proofs.FormLaws.{reads-found}
+use Rattle.line_form.proofs.Gathered.{spelled-gathered}
 use Rattle.line_form.proofs.Parts.{each_fits}
 use Rattle.line_form.proofs.Tests.{bound}
 use Rattle.line_reader.specs.declared.trace_line.TraceLine.{TraceLine}
@@ -18,8 +18,7 @@ use Rattle.line_reader.specs.Reading.{head_in, node_in, write_line_in, read_line
 use Rattle.line_reader.specs.Reading.{or_else, line_in}
 use Rattle.line_reader.specs.TraceForms.{head_form, node_form, write_form, read_form, kept_form, broken_form, owed_form}
 use Rattle.line_reader.specs.TraceForms.{refused_form, head_meaning, node_meaning, write_meaning, read_meaning, kept_meaning}
-use Rattle.line_reader.specs.TraceForms.{broken_meaning, owed_meaning, refused_meaning, node_words, word_at_place, ack_kind}
-use Rattle.line_reader.specs.TraceForms.{source_kind, source_of_named}
+use Rattle.line_reader.specs.TraceForms.{broken_meaning, owed_meaning, refused_meaning, word_at_place, source_of_named}
 use Rattle.line_reader.specs.TraceLines.{fits_word, has_size, text_of, Fits}
 use Rattle.line_reader.proofs.ValueLaws.{place-text, dash-text, dash-small, ack-text, ack-small, source-text, source-small}
 use Rattle.line_reader.proofs.ValueLaws.{bytes-small, offset-small, members-text, members-small}
@@ -27,46 +26,11 @@ use Rattle.line_reader.proofs.ValueLaws.{bytes-small, offset-small, members-text
 abbrev pub IsRead : List ℕ → TraceLine → Type 0
 IsRead bytes v = Fits v × (bytes ≡ text_of v)
 
-pub one_nested : (a v : List ℕ) → a ++ (v ++ []) ≡ a ++ v
-one_nested a v = simp append-nil
-
-pub two_nested : (a v b w : List ℕ) → a ++ (v ++ (b ++ (w ++ []))) ≡ a ++ v ++ b ++ w
-two_nested a v b w = simp (append_assoc, append-nil)
-
-pub host_nested : (a v b w c x : List ℕ) → a ++ (v ++ (b ++ (w ++ (c ++ (x ++ []))))) ≡ (a ++ v ++ b ++ w) ++ c ++ x
-host_nested a v b w c x = simp (append_assoc, append-nil)
-
-pub five_nested : (a v b w c x d y e z : List ℕ)
-    → a ++ (v ++ (b ++ (w ++ (c ++ (x ++ (d ++ (y ++ (e ++ (z ++ [])))))))))
-    ≡ a ++ v ++ b ++ w ++ c ++ x ++ d ++ y ++ e ++ z
-five_nested a v b w c x d y e z = simp (append_assoc, append-nil)
-
-pub ten_nested : (a v b w c x d y e z f p g q h r k s l t : List ℕ)
-    → a ++ (v ++ (b ++ (w ++ (c ++ (x ++ (d ++ (y ++ (e ++ (z ++ (f ++ (p ++ (g ++ (q ++ (h ++ (r ++ (k ++ (s ++ (l
-    ++ (t ++ []))))))))))))))))))) ≡ a ++ v ++ b ++ w ++ c ++ x ++ d ++ y ++ e ++ z ++ f ++ p ++ g ++ q ++ h ++ r
-    ++ k ++ s ++ l ++ t
-ten_nested a v b w c x d y e z f p g q h r k s l t = simp (append_assoc, append-nil)
-
-pub read_nested : (a v b w c x d y e z : List ℕ)
-    → a ++ (v ++ (b ++ (w ++ (c ++ (x ++ (d ++ (y ++ (e ++ (z ++ [])))))))))
-    ≡ (a ++ v ++ b ++ w) ++ c ++ x ++ d ++ y ++ e ++ z
-read_nested a v b w c x d y e z = simp (append_assoc, append-nil)
-
 -- What the values of a form say is read of their text.
-Says : (form : LineForm) → (Values form → Option TraceLine) → Type 0
+abbrev Says : (form : LineForm) → (Values form → Option TraceLine) → Type 0
 Says form f = (vs : Values form) (v : TraceLine) → fit form vs ≡ true → f vs ≡ Some v → IsRead (spelled form vs) v
 
-took : (form : LineForm) (f : Values form → Option TraceLine) (bytes : List ℕ) (v : TraceLine) → Says form f
-    → (line_values form bytes >>= f) ≡ Some v → IsRead bytes v
-unfolding Says
-took form f bytes v says e =
-    let b = bound (line_values form bytes) f v e in
-    let r = subst (λ (o : Option (Values form)). IfSome o (λ vs. (fit form vs ≡ true) × (bytes ≡ spelled form vs))) b.read
-    (reads-found form bytes) in
-    subst (λ (t : List ℕ). IsRead t v) (sym r.1) (says b.value v r.0 b.gives)
-
-head-says : Says head_form head_meaning
-unfolding Says
+pub head-says : Says head_form head_meaning
 head-says (version, (nodes, (rounds, (slots, (schedule, end))))) v fits e =
     let f = each_fits head_form (version, (nodes, (rounds, (slots, (schedule, end))))) fits in
     subst (IsRead (spelled head_form (version, (nodes, (rounds, (slots, (schedule, end))))))) (some_same _ v e) (
@@ -77,12 +41,10 @@ head-says (version, (nodes, (rounds, (slots, (schedule, end))))) v fits e =
         slots = ltb-true slots 100000 f.1.1.1.0;
         schedule = omega (arith, ltb-true schedule (16 ^ 6) f.1.1.1.1.0);
       },
-      five_nested (codes "ttpbench trace ") (decimal version) (codes " nodes ") (decimal nodes) (codes " rounds ")
-          (decimal rounds) (codes " slots ") (decimal slots) (codes " schedule ") (hex 6 schedule),
+      spelled-gathered head_form (version, (nodes, (rounds, (slots, (schedule, end))))),
     )
 
-write-says : Says write_form write_meaning
-unfolding Says
+pub write-says : Says write_form write_meaning
 write-says (slot, (host, (n, end))) v fits e =
     let f = each_fits write_form (slot, (host, (n, end))) fits in
     subst (IsRead (spelled write_form (slot, (host, (n, end))))) (some_same _ v e) (
@@ -91,11 +53,10 @@ write-says (slot, (host, (n, end))) v fits e =
         host = ltb-true host 256 f.1.0;
         number = ltb-true n 1000000 f.1.1.0;
       },
-      host_nested (codes "slot ") (decimal slot) (codes " host ") (decimal host) (codes " write ") (decimal n),
+      spelled-gathered write_form (slot, (host, (n, end))),
     )
 
-read-says : Says read_form read_meaning
-unfolding Says
+pub read-says : Says read_form read_meaning
 read-says (slot, (host, (from, (n, (bytes, end))))) v fits e =
     let f = each_fits read_form (slot, (host, (from, (n, (bytes, end))))) fits in
     let p = and_parts (nat_le (length bytes) 240) (list_all is_byte bytes) f.1.1.1.1.0 in
@@ -108,42 +69,36 @@ read-says (slot, (host, (from, (n, (bytes, end))))) v fits e =
         source = source-small from (length bytes) f.1.1.0 g.0 (leb-true (length bytes) 240 p.0);
         payload = bytes-small bytes p.1;
       },
-      read_nested (codes "slot ") (decimal slot) (codes " host ") (decimal host) (codes " read ") (spell source_kind from)
-          (codes " ") (decimal n) (codes " ") (hex_bytes bytes)
+      spelled-gathered read_form (slot, (host, (from, (n, (bytes, end)))))
           ∙ ap (λ (s : List ℕ). (codes "slot " ++ decimal slot ++ codes " host " ++ decimal host) ++ codes " read " ++ s
           ++ codes " " ++ decimal n ++ codes " " ++ hex_bytes bytes) (source-text from f.1.1.0),
     )
 
-kept-says : Says kept_form kept_meaning
-unfolding Says
+pub kept-says : Says kept_form kept_meaning
 kept-says (start, end) v fits e =
     let f = each_fits kept_form (start, end) fits in
     subst (IsRead (spelled kept_form (start, end))) (some_same _ v e)
-    (ltb-true start 100000 f.0, one_nested (codes "keeps yes start ") (decimal start))
+    (ltb-true start 100000 f.0, spelled-gathered kept_form (start, end))
 
-broken-says : Says broken_form broken_meaning
-unfolding Says
+pub broken-says : Says broken_form broken_meaning
 broken-says (rule, (slot, end)) v fits e =
     let f = each_fits broken_form (rule, (slot, end)) fits in
     subst (IsRead (spelled broken_form (rule, (slot, end)))) (some_same _ v e)
-    ((ltb-true rule 256 f.0, ltb-true slot 100000 f.1.0), two_nested (codes "keeps no H") (decimal rule) (codes " ") (decimal slot))
+    ((ltb-true rule 256 f.0, ltb-true slot 100000 f.1.0), spelled-gathered broken_form (rule, (slot, end)))
 
-owed-says : Says owed_form owed_meaning
-unfolding Says
+pub owed-says : Says owed_form owed_meaning
 owed-says (start, end) v fits e =
     let f = each_fits owed_form (start, end) fits in
     subst (IsRead (spelled owed_form (start, end))) (some_same _ v e)
-    (ltb-true start 100000 f.0, one_nested (codes "returns yes start ") (decimal start))
+    (ltb-true start 100000 f.0, spelled-gathered owed_form (start, end))
 
-refused-says : Says refused_form refused_meaning
-unfolding Says
+pub refused-says : Says refused_form refused_meaning
 refused-says (rule, (slot, end)) v fits e =
     let f = each_fits refused_form (rule, (slot, end)) fits in
     subst (IsRead (spelled refused_form (rule, (slot, end)))) (some_same _ v e)
-    ((ltb-true rule 256 f.0, ltb-true slot 100000 f.1.0), two_nested (codes "returns no Q") (decimal rule) (codes " ") (decimal slot))
+    ((ltb-true rule 256 f.0, ltb-true slot 100000 f.1.0), spelled-gathered refused_form (rule, (slot, end)))
 
-node-says : Says node_form node_meaning
-unfolding Says
+pub node-says : Says node_form node_meaning
 node-says (slot, (k, (w, (peer, (message, (members, (accepted, (rejected, (a, (offset, end)))))))))) v fits e =
     let vs : Values node_form = (slot, (k, (w, (peer, (message, (members, (accepted, (rejected, (a, (offset, end)))))))))) in
     let f = each_fits node_form vs fits in
@@ -163,10 +118,7 @@ node-says (slot, (k, (w, (peer, (message, (members, (accepted, (rejected, (a, (o
         ack = ack-small a rest.1.1.1.0;
         offset = offset-small offset rest.1.1.1.1.0;
       },
-      ten_nested (codes "slot ") (decimal slot) (codes " node ") (decimal k) (codes " ") (get_or node_words w [])
-          (codes " peer ") (spell (or_dash (number 256)) peer) (codes " msg ") (spell (or_dash (number 1000000)) message)
-          (codes " mem ") (spell (hexed_or 4 6) members) (codes " acc ") (decimal accepted) (codes " rej ") (decimal rejected)
-          (codes " ack ") (spell ack_kind a) (codes " clock ") (signed_decimal offset)
+      spelled-gathered node_form vs
           ∙ (λ i. codes "slot " ++ decimal slot ++ codes " node " ++ decimal k
           ++ codes " " ++ place-text w (ltb-true w 15 words.0) i ++ codes " peer " ++ dash-text 256 peer i
           ++ codes " msg " ++ dash-text 1000000 message i ++ codes " mem " ++ members-text members rest.0 i
@@ -174,54 +126,80 @@ node-says (slot, (k, (w, (peer, (message, (members, (accepted, (rejected, (a, (o
           ++ codes " ack " ++ ack-text a rest.1.1.1.0 i ++ codes " clock " ++ signed_decimal offset),
     )
 
-node-takes : (bytes : List ℕ) (v : TraceLine) → node_in bytes ≡ Some v → IsRead bytes v
-unfolding node_in
-node-takes bytes v e = took node_form node_meaning bytes v node-says e
+-- A form that is sound, and what its values say.
+pub record LineReading : Type 0 where
+  pub form : LineForm
+  pub meaning : Values form → Option TraceLine
+  pub says : Says form meaning
+  pub is : well form ≡ true
 
-read-takes : (bytes : List ℕ) (v : TraceLine) → read_line_in bytes ≡ Some v → IsRead bytes v
-unfolding read_line_in
-read-takes bytes v e = took read_form read_meaning bytes v read-says e
+pub node_well : well node_form ≡ true
+unfolding numeral numeral_in hex_number
+node_well = refl
 
-write-takes : (bytes : List ℕ) (v : TraceLine) → write_line_in bytes ≡ Some v → IsRead bytes v
-unfolding write_line_in
-write-takes bytes v e = took write_form write_meaning bytes v write-says e
+pub read_well : well read_form ≡ true
+unfolding numeral numeral_in
+read_well = refl
 
-head-takes : (bytes : List ℕ) (v : TraceLine) → head_in bytes ≡ Some v → IsRead bytes v
-unfolding head_in
-head-takes bytes v e = took head_form head_meaning bytes v head-says e
+abbrev pub node_reading : LineReading
+node_reading = record { form = node_form; meaning = node_meaning; says = node-says; is = node_well }
 
-kept-takes : (bytes : List ℕ) (v : TraceLine) → kept_in bytes ≡ Some v → IsRead bytes v
-unfolding kept_in
-kept-takes bytes v e = took kept_form kept_meaning bytes v kept-says e
+abbrev pub read_reading : LineReading
+read_reading = record { form = read_form; meaning = read_meaning; says = read-says; is = read_well }
 
-broken-takes : (bytes : List ℕ) (v : TraceLine) → broken_in bytes ≡ Some v → IsRead bytes v
-unfolding broken_in
-broken-takes bytes v e = took broken_form broken_meaning bytes v broken-says e
+abbrev pub write_reading : LineReading
+write_reading = record { form = write_form; meaning = write_meaning; says = write-says; is = refl }
 
-owed-takes : (bytes : List ℕ) (v : TraceLine) → owed_in bytes ≡ Some v → IsRead bytes v
-unfolding owed_in
-owed-takes bytes v e = took owed_form owed_meaning bytes v owed-says e
+abbrev pub head_reading : LineReading
+head_reading = record { form = head_form; meaning = head_meaning; says = head-says; is = refl }
 
-refused-takes : (bytes : List ℕ) (v : TraceLine) → refused_in bytes ≡ Some v → IsRead bytes v
-unfolding refused_in
-refused-takes bytes v e = took refused_form refused_meaning bytes v refused-says e
+abbrev pub kept_reading : LineReading
+kept_reading = record { form = kept_form; meaning = kept_meaning; says = kept-says; is = refl }
+
+abbrev pub broken_reading : LineReading
+broken_reading = record { form = broken_form; meaning = broken_meaning; says = broken-says; is = refl }
+
+abbrev pub owed_reading : LineReading
+owed_reading = record { form = owed_form; meaning = owed_meaning; says = owed-says; is = refl }
+
+abbrev pub refused_reading : LineReading
+refused_reading = record { form = refused_form; meaning = refused_meaning; says = refused-says; is = refl }
+
+-- in the order in which they are tried
+abbrev pub readings : List LineReading
+readings =
+    node_reading ∷ read_reading ∷ write_reading ∷ head_reading ∷ kept_reading ∷ broken_reading ∷ owed_reading
+    ∷ refused_reading ∷ []
+
+abbrev pub read_by : LineReading → List ℕ → Option TraceLine
+read_by r bytes = line_values r.form bytes >>= r.meaning
+
+abbrev pub first_of : List LineReading → List ℕ → Option TraceLine
+first_of [] bytes = None
+first_of (r ∷ []) bytes = read_by r bytes
+first_of (r ∷ s ∷ others) bytes = or_else (read_by r bytes) (first_of (s ∷ others) bytes)
+
+took : (r : LineReading) (bytes : List ℕ) (v : TraceLine) → read_by r bytes ≡ Some v → IsRead bytes v
+took r bytes v e =
+    let b = bound (line_values r.form bytes) r.meaning v e in
+    let found = subst (λ (o : Option (Values r.form)). IfSome o (λ vs. (fit r.form vs ≡ true) × (bytes ≡ spelled r.form vs)))
+    b.read (reads-found r.form bytes) in
+    subst (λ (t : List ℕ). IsRead t v) (sym found.1) (r.says b.value v found.0 b.gives)
 
 one_or : (P : Type 0) (a b : Option TraceLine) (v : TraceLine) → (a ≡ Some v → P) → (b ≡ Some v → P)
     → or_else a b ≡ Some v → P
 one_or P None b v one other e = other e
 one_or P (Some u) b v one other e = one e
 
+takes : (rs : List LineReading) (bytes : List ℕ) (v : TraceLine) → first_of rs bytes ≡ Some v → IsRead bytes v
+takes [] bytes v e = cc
+takes (r ∷ []) bytes v e = took r bytes v e
+takes (r ∷ s ∷ others) bytes v e =
+    one_or (IsRead bytes v) (read_by r bytes) (first_of (s ∷ others) bytes) v (took r bytes v) (takes (s ∷ others) bytes v) e
+
 pub line-takes : (bytes : List ℕ) (v : TraceLine) → line_in bytes ≡ Some v → IsRead bytes v
-unfolding line_in
-line-takes bytes v =
-    let P : Type 0 = IsRead bytes v in
-    one_or P (node_in bytes) _ v (node-takes bytes v)
-    (one_or P (read_line_in bytes) _ v (read-takes bytes v)
-    (one_or P (write_line_in bytes) _ v (write-takes bytes v)
-    (one_or P (head_in bytes) _ v (head-takes bytes v)
-    (one_or P (kept_in bytes) _ v (kept-takes bytes v)
-    (one_or P (broken_in bytes) _ v (broken-takes bytes v)
-    (one_or P (owed_in bytes) _ v (owed-takes bytes v) (refused-takes bytes v)))))))
+unfolding line_in node_in read_line_in write_line_in head_in kept_in broken_in owed_in refused_in
+line-takes bytes v e = takes readings bytes v e
 
 pub read_is_line : (bytes : List ℕ) (result : Option TraceLine) → result ≡ line_in bytes
     → IfSome result (λ v. Fits v × (bytes ≡ text_of v))

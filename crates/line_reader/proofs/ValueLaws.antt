@@ -44,40 +44,11 @@ place-text w less = get_or-map word_text all_words w word.Clique [] less
 
 pub word-back : (w : Word) → word_at_place (word_place w) ≡ w
 word-back word.Off = refl
-word-back word.Wait = refl
-word-back word.Retry = refl
-word-back word.Gone = refl
-word-back word.Start = refl
-word-back word.Join = refl
-word-back word.Send = refl
-word-back word.Correct = refl
-word-back word.Tentative = refl
-word-back word.Incorrect = refl
-word-back word.Invalid = refl
-word-back word.Null = refl
-word-back word.Denied = refl
-word-back word.Unacknowledged = refl
-word-back word.Clique = refl
+word-back w = refl
 
 pub place-fits : (w : Word) → nat_lt (word_place w) 15 ≡ true
 place-fits word.Off = refl
-place-fits word.Wait = refl
-place-fits word.Retry = refl
-place-fits word.Gone = refl
-place-fits word.Start = refl
-place-fits word.Join = refl
-place-fits word.Send = refl
-place-fits word.Correct = refl
-place-fits word.Tentative = refl
-place-fits word.Incorrect = refl
-place-fits word.Invalid = refl
-place-fits word.Null = refl
-place-fits word.Denied = refl
-place-fits word.Unacknowledged = refl
-place-fits word.Clique = refl
-
-pub word-place : (w : Word) → get_or node_words (word_place w) [] ≡ word_text w
-word-place w = place-text (word_place w) (ltb-true (word_place w) 15 (place-fits w)) ∙ ap word_text (word-back w)
+place-fits w = refl
 
 -- Numbers or none.
 
@@ -96,10 +67,8 @@ dash-fits limit (Some n) small = is_lt n limit small
 -- Acknowledgements.
 
 pub ack-text : (a : Named ℕ) → fits_kind ack_kind a ≡ true → spell ack_kind a ≡ ack_word (ack_of_named a)
-ack-text (choice.Told zero) fits = refl
-ack-text (choice.Told (suc zero)) fits = refl
 ack-text (choice.Told (suc (suc i))) fits = absurd (omega (arith, ltb-true (suc (suc i)) 2 fits))
-ack-text (choice.Other x) fits = refl
+ack-text a fits = refl
 
 pub ack-small : (a : Named ℕ) → fits_kind ack_kind a ≡ true → FitsAck (ack_of_named a)
 ack-small (choice.Told zero) fits = tt
@@ -108,8 +77,7 @@ ack-small (choice.Other x) fits = ltb-true x 256 fits
 
 pub ack-back : (a : Ack) → ack_of_named (ack_told a) ≡ a
 ack-back ack.Closed = refl
-ack-back ack.First = refl
-ack-back (ack.Doubt x) = refl
+ack-back a = refl
 
 pub ack-fits : (a : Ack) → FitsAck a → fits_kind ack_kind (ack_told a) ≡ true
 ack-fits ack.Closed fits = refl

@@ -1,28 +1,11 @@
 -- How a line of a trace is read: by its form, and then as the value of its words.
-use Rattle.std.specs.Prelude.{ℕ, ◌==◌, ℤ, pos, neg_ℤ, Bool}
-use Rattle.std.specs.Prelude.{List, drop, slice_index, fold, Option, Some, None, if◌then◌else◌}
-use Rattle.std.specs.List.{list_all}
-use Rattle.line_text.specs.Numerals.{numeral_in}
+use Rattle.std.specs.Prelude.{ℕ, ◌==◌, Bool, List, Option, Some, None}
 use Rattle.line_form.specs.Forms.{line_values}
-pub use Rattle.line_form.specs.Kinds.{◌>>=◌, is_hex, hex_value, append_hex}
+pub use Rattle.line_form.specs.Kinds.{◌>>=◌}
 use Rattle.line_reader.specs.declared.trace_line.TraceLine.{TraceLine}
 use Rattle.line_reader.specs.TraceForms.{head_form, node_form, write_form, read_form, kept_form, broken_form, owed_form}
 use Rattle.line_reader.specs.TraceForms.{refused_form, head_meaning, node_meaning, write_meaning, read_meaning, kept_meaning}
 use Rattle.line_reader.specs.TraceForms.{broken_meaning, owed_meaning, refused_meaning}
-use Rattle.line_reader.specs.TraceLines.{offset_digits}
-
--- a number with a `-` before a negative one
-unfoldable pub offset_in : List ℕ → Option ℤ
-offset_in word =
-    if slice_index word 0 == 45
-    then (numeral_in offset_digits (drop 1 word) >>= λ n. if n == 0 then None else Some (neg_ℤ (pos n)))
-    else (numeral_in offset_digits word >>= λ n. Some (pos n))
-
--- Hexadecimal digits.
-
--- the number that a word of hexadecimal digits is
-unfoldable pub hex_in : List ℕ → Option ℕ
-hex_in word = if list_all is_hex word then Some (fold append_hex 0 word) else None
 
 -- a byte is a space
 abbrev pub is_space : ℕ → Bool

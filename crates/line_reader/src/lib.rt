@@ -18,7 +18,6 @@
 //! Each line has a form of line_form (`specs/TraceForms.antt`), by which it is read, label by label; `specs/Reading.antt`
 //! has the value that its words make. `proofs/ReadLines.antt` shows that what is read is what the line says, and
 //! `proofs/WrittenLines.antt` that the line of each value that fits is read as that value, both by the laws of all forms.
-//! whole_campaign has the digits of memberships read too, by [`hex_in`].
 //!
 //! The bytes of a line are gone over once for each form that they begin as. Threads share nothing here. The crate
 //! asks of a line what its form does, and not whether it belongs into a trace. It takes no memory, forms no line, and
@@ -31,6 +30,5 @@ mod line_words;
 mod read;
 mod trace_line;
 
-pub use digits::hex_in;
 pub use read::{read_line, read_node_line};
 pub use trace_line::{NodeLine, TraceLine, Word};

@@ -8,7 +8,8 @@ use Rattle.ttp_base.specs.Text.{newline}
 use Rattle.line_text.specs.Labels.{after_label}
 use Rattle.line_text.specs.Numerals.{numeral_in}
 use Rattle.line_reader.specs.TraceLines.{slot_digits}
-use Rattle.line_reader.specs.Reading.{◌>>=◌, is_space, hex_in}
+use Rattle.line_form.specs.Kinds.{read, hexed_or}
+use Rattle.line_reader.specs.Reading.{◌>>=◌, is_space}
 use Rattle.whole_campaign.specs.declared.listed.Kind.{Kind}
 use Rattle.whole_campaign.specs.declared.listed.Kind.TheVariants as kind
 use Rattle.whole_campaign.specs.declared.listed.NodesSoFar.{NodesSoFar}
@@ -114,9 +115,7 @@ nodes_listed kind n word =
 -- how many members a set has that is written in four digits or six, all of them below n
 unfoldable pub members_listed : ℕ → List ℕ → Option ℕ
 members_listed n word =
-    if (length word == 6) || (length word == 4)
-    then (hex_in word >>= λ bits. if nat_lt bits (2 ^ n) then Some (length (members_in bits)) else None)
-    else None
+    read (hexed_or 4 6) word >>= λ w. if nat_lt w.1 (2 ^ n) then Some (length (members_in w.1)) else None
 
 -- one membership more
 unfoldable pub with_set_word : ℕ → Option SetsSoFar → List ℕ → Option SetsSoFar

@@ -7,7 +7,7 @@ ghost use Rattle.whole_campaign.specs.Words.{no_nodes_yet, nodes_listed, with_se
 ghost use Rattle.whole_campaign.specs.Words.{members_listed, words_listed};
 
 use crate::cut::{first_listed, word_behind};
-use line_reader::hex_in;
+use line_form::hex_or_in;
 use line_text::{after_label, numeral_in};
 
 // The most digits of a node, and of a slot.
@@ -153,10 +153,7 @@ fn members_listed(nodes: u8, word: &[u8]) -> Option<u32>
     requires { nodes ≤ 24 }
     ensures { result ≡ members_listed nodes word.now }
 {
-    if word.len() != 6 && word.len() != 4 {
-        return None;
-    }
-    let bits = hex_in(word)?;
+    let bits = hex_or_in(word, 4, 6)?.1 as u32;
     if bits < 1 << nodes {
         Some(bits.count_ones())
     } else {

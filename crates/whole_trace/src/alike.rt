@@ -6,19 +6,19 @@ ghost use Rattle.ttp_base.specs.Text.{newline, hex};
 ghost use Rattle.ttp_world.specs.Medl.{member_bytes};
 ghost use Rattle.ttp_world.specs.Trace.{number_or_dash, ack_word};
 ghost use Rattle.line_text.specs.LineParts.{head_text, ack_text};
-ghost use Rattle.line_reader.specs.Reading.{offset_in};
 ghost use Rattle.line_reader.specs.TraceLines.{Fits, FitsMembers, FitsOffset};
 ghost use Rattle.whole_trace.specs.Alike.{said_by, judged_text, IsNodeFront};
 
 use crate::word::word_text;
+use line_form::signed_in;
 use line_reader::{NodeLine, Word};
-use line_text::{after_label, cut_line, numeral_in};
+use line_text::{after_label, cut_line};
 use std::marker::Model;
 use ttp_base::{Line, NodeSet};
 use ttp_world::Ack;
 
-// The most digits of an offset.
-const OFFSET_DIGITS: usize = 18;
+// Offsets are nearer to 0.
+const OFFSETS: u64 = 1_000_000_000_000_000_000;
 
 /// The newest line of a node that was read word by word, if there is one, and the pieces of it that the lines of other
 /// nodes mostly share: in a slot they say the same but for their numbers, the frames that they accepted, and their clocks.
@@ -164,23 +164,6 @@ fn number_in_front(bytes: &[u8]) -> Option<(u8, &[u8])>
     }
 }
 
-// A number with a `-` before a negative one.
-#[tactic(auto, unfolding(line_reader::specs::Reading::offset_in))]
-fn offset_in(word: &[u8]) -> Option<i64>
-    ensures { result ≡ offset_in word.now }
-{
-    if let Some(b'-') = word.first() {
-        let number = numeral_in(&word[1..], OFFSET_DIGITS)?;
-        return if number == 0 {
-            None
-        } else {
-            Some(-(number as i64))
-        };
-    }
-    let number = numeral_in(word, OFFSET_DIGITS)?;
-    Some(number as i64)
-}
-
 // A clock, with the line feed behind it.
 fn clock_in(bytes: &[u8]) -> Option<i64>
     ensures { IfSome result (λ z. (bytes.now ≡ signed_decimal z ++ newline) × FitsOffset z) }
@@ -190,7 +173,7 @@ fn clock_in(bytes: &[u8]) -> Option<i64>
     }
     let (word, end) = bytes.split_at(bytes.len() - 1);
     if end[0] == b'\n' {
-        offset_in(word)
+        signed_in(word, OFFSETS)
     } else {
         None
     }

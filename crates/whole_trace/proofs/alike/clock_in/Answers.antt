@@ -1,6 +1,6 @@
-use Rattle.std.proofs.Common.{◌≡◌, ◌-◌, ◌≤◌, ℕ, List, [], ◌∷◌, length, get_or, drop, sym, ap, ◌∙◌, arith}
+use Rattle.std.proofs.Common.{◌≡◌, ◌-◌, ◌^◌, ◌≤◌, ℕ, List, [], ◌∷◌, length, get_or, drop, sym, ap, ◌∙◌, arith}
 use Rattle.ttp_base.specs.Text.{newline}
-use Rattle.line_reader.specs.Reading.{offset_in}
+use Rattle.line_form.specs.Kinds.{signed_numeral}
 use Rattle.whole_trace.proofs.Pieces.{clock-takes}
 use Rattle.whole_trace.proofs.alike.clock_in.Goals as goal
 
@@ -16,4 +16,4 @@ returns-then-end-eq10 c =
     let back = c.split_at.result.1.now in
     let few : length back ≤ 1 = omega (arith, c.split_at.ensures.back_len) in
     let end : drop (length bytes - 1) bytes ≡ newline = sym c.split_at.ensures.back ∙ one-byte back few c.if-end-eq10.true in
-    clock-takes bytes c.offset_in.result end (c.offset_in.ensures ∙ ap offset_in c.split_at.ensures.front)
+    clock-takes bytes c.signed_in.result end (c.signed_in.ensures ∙ ap (signed_numeral (10 ^ 18)) c.split_at.ensures.front)
