@@ -65,12 +65,7 @@ armed-fails list script start k slot place (event.Arm node at) armed fails =
     (why_not_owed list script start node slot) ∙ reason-none list script start node slot
     ∙ ap not (ap (λ j. may_return list script start j slot) same ∙ fails))
 armed-fails list script start k slot place (event.Flip node channels bit at) armed fails = absurd (grind arith)
-armed-fails list script start k slot place (event.Jump node value at) armed fails = absurd (grind arith)
-armed-fails list script start k slot place (event.Send node channels f from to) armed fails = absurd (grind arith)
-armed-fails list script start k slot place (event.Receive node channels f from to) armed fails = absurd (grind arith)
-armed-fails list script start k slot place (event.Error node value from to) armed fails = absurd (grind arith)
-armed-fails list script start k slot place (event.Write node at payload) armed fails = absurd (grind arith)
-armed-fails list script start k slot place (event.Read node at from) armed fails = absurd (grind arith)
+armed-fails list script start k slot place e armed fails = absurd (grind arith)
 
 one-step : (list : Medl) (script : Script) (start : ClusterStart) (k slot place : ℕ) (e : Event) (events : List Event)
     (here : Bool) (found : Option BrokenArm) → arms k slot e ≡ here → arm_fails list script start slot place e ≡ found
@@ -134,12 +129,7 @@ one-slot : (list : Medl) (script : Script) (start : ClusterStart) (slot place : 
 one-slot list script start slot place (event.Arm node at) =
     stands-in slot place node (at == slot) (why_not_owed list script start node slot)
 one-slot list script start slot place (event.Flip node channels bit at) = refl
-one-slot list script start slot place (event.Jump node value at) = refl
-one-slot list script start slot place (event.Send node channels f from to) = refl
-one-slot list script start slot place (event.Receive node channels f from to) = refl
-one-slot list script start slot place (event.Error node value from to) = refl
-one-slot list script start slot place (event.Write node at payload) = refl
-one-slot list script start slot place (event.Read node at from) = refl
+one-slot list script start slot place e = refl
 
 or-slot : (slot : ℕ) (found other : Option BrokenArm)
     → option_map (λ (arm : BrokenArm). arm.slot) found ≡ option_map (λ (arm : BrokenArm). slot) found

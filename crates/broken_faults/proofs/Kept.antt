@@ -18,13 +18,7 @@ use Rattle.ttp_world.specs.Script.{arms, is_armed}
 
 unarmed-one : (k slot : ℕ) (e : Event) → is_arm e ≡ false → arms k slot e ≡ false
 unarmed-one k slot (event.Arm node at) none = absurd (grind arith)
-unarmed-one k slot (event.Flip node channels bit at) none = refl
-unarmed-one k slot (event.Jump node value at) none = refl
-unarmed-one k slot (event.Send node channels f from to) none = refl
-unarmed-one k slot (event.Receive node channels f from to) none = refl
-unarmed-one k slot (event.Error node value from to) none = refl
-unarmed-one k slot (event.Write node at payload) none = refl
-unarmed-one k slot (event.Read node at from) none = refl
+unarmed-one k slot e none = refl
 
 unarmed : (k slot : ℕ) (events : List Event) → list_any is_arm events ≡ false → list_any (arms k slot) events ≡ false
 unarmed k slot [] none = refl

@@ -154,11 +154,7 @@ slot-at list script place (event.Jump node value slot) =
     ∙ ap (λ b. cond (is_far_jump list (jump_of script node slot) && not b) None (Some slot))
     (sym (jumped node slot script.events))
 slot-at list script place (event.Send node channels f from to) = refl
-slot-at list script place (event.Receive node channels f from to) = refl
-slot-at list script place (event.Error node value from to) = refl
-slot-at list script place (event.Arm node slot) = refl
-slot-at list script place (event.Write node slot payload) = refl
-slot-at list script place (event.Read node slot from) = refl
+slot-at list script place e = refl
 
 earlier-slot : (d : Disturbed) (later : Option Disturbed)
     → Some (earlier d later).slot ≡ lesser d.slot (option_map (λ (d : Disturbed). d.slot) later)
@@ -196,13 +192,7 @@ disturbed list script = slots-from list script 0 script.events
 outside-by : (list : Medl) (script : Script) (e : Event) (armed : Bool) → is_arm e ≡ armed → armed ≡ false
     → outside_slot list script e ≡ disturbed_slot list script e
 outside-by list script (event.Arm node slot) armed is none = absurd (grind arith)
-outside-by list script (event.Flip node channels bit slot) armed is none = refl
-outside-by list script (event.Jump node value slot) armed is none = refl
-outside-by list script (event.Send node channels f from to) armed is none = refl
-outside-by list script (event.Receive node channels f from to) armed is none = refl
-outside-by list script (event.Error node value from to) armed is none = refl
-outside-by list script (event.Write node slot payload) armed is none = refl
-outside-by list script (event.Read node slot from) armed is none = refl
+outside-by list script e armed is none = refl
 
 outside-step : (list : Medl) (script : Script) (e : Event) (events : List Event) (armed : Bool) → is_arm e ≡ armed
     → (list_any is_arm events ≡ false

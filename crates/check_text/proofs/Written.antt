@@ -140,10 +140,7 @@ disturbed_ends f d = (_, refl)
 start_ends : (f : RightFiles) (x : NoStart) → EndsLine (no_start_line f x)
 unfolding no_start_line
 start_ends f why.NoStarter = (_, refl)
-start_ends f why.NobodyOn = (_, refl)
-start_ends f (why.NoStarterOn starters) = (_, refl)
-start_ends f (why.Rivals slot first second) = (_, refl)
-start_ends f (why.Late slot nodes) = (_, refl)
+start_ends f x = (_, refl)
 
 lost_ends : (f : RightFiles) (lost : LostFrame) → EndsLine (lost_line f lost)
 unfolding lost_line

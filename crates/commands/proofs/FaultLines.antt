@@ -23,20 +23,7 @@ use Rattle.ttp_world.proofs.TraceLines.{feed_is_low as low}
 
 key_lines : (name : FieldName) → has 10 (key_text name) ≡ false
 key_lines names.Version = refl
-key_lines names.Rounds = refl
-key_lines names.Schedule = refl
-key_lines names.Buffers = refl
-key_lines names.Drift = refl
-key_lines names.Error = refl
-key_lines names.Window = refl
-key_lines names.Slot = refl
-key_lines names.Modes = refl
-key_lines names.Kinds = refl
-key_lines names.DataSize = refl
-key_lines names.Sync = refl
-key_lines names.Start = refl
-key_lines names.Requests = refl
-key_lines names.Live = refl
+key_lines name = refl
 
 place_lines : (slot : Option ℕ) → has 10 (place_text slot) ≡ false
 place_lines None = refl
@@ -73,15 +60,7 @@ list_lines errors.Memory = refl
 
 line_lines : (fault : LineFault) → has 10 (line_fault_text fault) ≡ false
 line_lines faults.Word = refl
-line_lines faults.NoSlots = refl
-line_lines faults.NotBuilt = refl
-line_lines faults.Number = refl
-line_lines faults.NoNode = refl
-line_lines faults.NoData = refl
-line_lines faults.Range = refl
-line_lines faults.Repeat = refl
-line_lines faults.NoBuffer = refl
-line_lines faults.TooMany = refl
+line_lines fault = refl
 
 script_lines : (fault : ScriptError) → has 10 (script_fault_text fault) ≡ false
 script_lines (script_errors.Line number fault) =

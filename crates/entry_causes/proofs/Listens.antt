@@ -39,14 +39,7 @@ listening-down list script before from k is some =
 named-by : (k : ℕ) (run : RunSlots) (s : RunSlot) (e : Entry)
     → not (length (listening_by k run s e).entries == 0) ≡ is_named e
 named-by k run s entry.Retried = refl
-named-by k run s (entry.Left why peer) = refl
-named-by k run s entry.Gone = refl
-named-by k run s entry.Off = refl
-named-by k run s entry.Waited = refl
-named-by k run s entry.Started = refl
-named-by k run s (entry.Sent message) = refl
-named-by k run s (entry.Joined sender cstate deviation) = refl
-named-by k run s (entry.Judged sender v deviation) = refl
+named-by k run s e = refl
 
 pub named-none : (list : Medl) (script : Script) (before from k : ℕ)
     → back_to_listening k (past_slots_in list script before) ≡ past_slots_in list script from → from ≡ 0

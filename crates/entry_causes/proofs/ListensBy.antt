@@ -21,26 +21,13 @@ use Rattle.ttp_world.specs.declared.script.Script.{Script}
 by-retried : (k : ℕ) (run : RunSlots) (s : RunSlot) (e : Entry) → is_retried e ≡ true
     → listening_by k run s e ≡ only_entries (node_spot k s ∷ [])
 by-retried k run s entry.Retried is = refl
-by-retried k run s entry.Off is = absurd (false≢true is)
-by-retried k run s entry.Waited is = absurd (false≢true is)
-by-retried k run s entry.Gone is = absurd (false≢true is)
-by-retried k run s entry.Started is = absurd (false≢true is)
-by-retried k run s (entry.Sent message) is = absurd (false≢true is)
-by-retried k run s (entry.Joined sender cstate deviation) is = absurd (false≢true is)
-by-retried k run s (entry.Judged sender v deviation) is = absurd (false≢true is)
-by-retried k run s (entry.Left why peer) is = absurd (false≢true is)
+by-retried k run s e is = absurd (false≢true is)
 
 by-out : (k : ℕ) (run : RunSlots) (s : RunSlot) (e : Entry) → (is_left e || is_gone_entry e) ≡ true
     → listening_by k run s e ≡ left_and_armed k run s
 by-out k run s entry.Gone is = refl
 by-out k run s (entry.Left why peer) is = refl
-by-out k run s entry.Retried is = absurd (false≢true is)
-by-out k run s entry.Off is = absurd (false≢true is)
-by-out k run s entry.Waited is = absurd (false≢true is)
-by-out k run s entry.Started is = absurd (false≢true is)
-by-out k run s (entry.Sent message) is = absurd (false≢true is)
-by-out k run s (entry.Joined sender cstate deviation) is = absurd (false≢true is)
-by-out k run s (entry.Judged sender v deviation) is = absurd (false≢true is)
+by-out k run s e is = absurd (false≢true is)
 
 by-other : (k : ℕ) (run : RunSlots) (s : RunSlot) (e : Entry) → is_retried e ≡ false
     → (is_left e || is_gone_entry e) ≡ false

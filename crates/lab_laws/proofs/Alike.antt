@@ -36,26 +36,12 @@ use Rattle.campaign.specs.ZerosWorld.{all_zeros, zeros_world}
 leave_after-unnumbered : (k slot : ℕ) (e : Entry) (before : Option Leave)
     → leave_after k slot (unnumbered e) before ≡ leave_after k slot e before
 leave_after-unnumbered k slot entry.Off before = refl
-leave_after-unnumbered k slot entry.Waited before = refl
-leave_after-unnumbered k slot entry.Retried before = refl
-leave_after-unnumbered k slot entry.Gone before = refl
-leave_after-unnumbered k slot entry.Started before = refl
-leave_after-unnumbered k slot (entry.Sent message) before = refl
-leave_after-unnumbered k slot (entry.Joined sender cstate deviation) before = refl
-leave_after-unnumbered k slot (entry.Judged sender verdict deviation) before = refl
-leave_after-unnumbered k slot (entry.Left reason peer) before = refl
+leave_after-unnumbered k slot e before = refl
 
 is_hurt_in-unnumbered : (list : Medl) (script : Script) (slot k : ℕ) (e : Entry)
     → is_hurt_in list script slot k (unnumbered e) ≡ is_hurt_in list script slot k e
 is_hurt_in-unnumbered list script slot k entry.Off = refl
-is_hurt_in-unnumbered list script slot k entry.Waited = refl
-is_hurt_in-unnumbered list script slot k entry.Retried = refl
-is_hurt_in-unnumbered list script slot k entry.Gone = refl
-is_hurt_in-unnumbered list script slot k entry.Started = refl
-is_hurt_in-unnumbered list script slot k (entry.Sent message) = refl
-is_hurt_in-unnumbered list script slot k (entry.Joined sender cstate deviation) = refl
-is_hurt_in-unnumbered list script slot k (entry.Judged sender verdict deviation) = refl
-is_hurt_in-unnumbered list script slot k (entry.Left reason peer) = refl
+is_hurt_in-unnumbered list script slot k e = refl
 
 newest_leave-unnumbered : (history : History) (k : ℕ)
     → newest_leave (unnumbered_history history) k ≡ newest_leave history k

@@ -90,14 +90,7 @@ pole-draws class x y height c =
 
 look-mark : (l : Look) (x y : ℕ) (name : List ℕ) → is_mark (mark (look_text l) fault_shape x y name) ≡ true
 look-mark look.Same x y name = refl
-look-mark look.SameOut x y name = refl
-look-mark look.Cost x y name = refl
-look-mark look.CostOut x y name = refl
-look-mark look.Late x y name = refl
-look-mark look.Hurt x y name = refl
-look-mark look.Split x y name = refl
-look-mark look.Torn x y name = refl
-look-mark look.Dead x y name = refl
+look-mark l x y name = refl
 
 mark-draws : (n c : ℕ) (l : Look) (fault : FaultTold) → Plain fault.text
     → Draws (mark_of n c l fault ∷ []) (fault.text ∷ [])

@@ -72,15 +72,8 @@ later-leave k slot (Some leave) is = (is.0, omega (arith, is.1))
 
 leave-in : (k slot : ℕ) (e : Entry) (before : Option Leave) → IfSome before (IsLeaveIn k slot)
     → IfSome (leave_after k slot e before) (IsLeaveIn k (suc slot))
-leave-in k slot entry.Off before is = later-leave k slot before is
-leave-in k slot entry.Waited before is = later-leave k slot before is
-leave-in k slot entry.Retried before is = later-leave k slot before is
-leave-in k slot entry.Gone before is = later-leave k slot before is
-leave-in k slot entry.Started before is = later-leave k slot before is
-leave-in k slot (entry.Sent message) before is = later-leave k slot before is
-leave-in k slot (entry.Joined sender cstate deviation) before is = later-leave k slot before is
-leave-in k slot (entry.Judged sender verdict deviation) before is = later-leave k slot before is
 leave-in k slot (entry.Left why peer) before is = (refl, omega arith)
+leave-in k slot e before is = later-leave k slot before is
 
 newest-in : (history : History) (k : ℕ) → IfSome (newest_leave history k) (IsLeaveIn k (length history))
 newest-in [] k = tt

@@ -63,8 +63,7 @@ leave-nested leave =
 reason-again : (why : Reason) → is_reason (reason_word why) ≡ true
 unfolding is_reason
 reason-again reason.Denied = refl
-reason-again reason.Unacknowledged = refl
-reason-again reason.Clique = refl
+reason-again why = refl
 
 pub has-leave : (b : ℕ) (leave : Leave) → b < 45 → has b (leave_word leave) ≡ false
 has-leave b leave low =

@@ -84,10 +84,8 @@ module _ (list : Medl) (script : Script) (k : ℕ) (node : k < length list.slots
 -- A node that is active after the end is none of the faulty ones.
 
 apart : (p : Phase) → is_left_phase p ≡ true → is_active_phase p ≡ false
-apart phase.Off left = absurd (false≢true left)
 apart phase.Left left = refl
-apart phase.Listening left = absurd (false≢true left)
-apart phase.Active left = absurd (false≢true left)
+apart p left = absurd (false≢true left)
 
 -- each of some nodes is another, where each of them that is this one would have gone
 none-is : (P : FaultyNode → Type 0) (gone : FaultyNode → Bool) (k : ℕ) (faulty : List FaultyNode)

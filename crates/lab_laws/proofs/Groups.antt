@@ -67,8 +67,7 @@ stands-first slot k place d (Some b) is = rw (is.0, later-spot b (spot_at slot k
 
 same-doing : (d : Doing) → is_same_doing d d ≡ true
 same-doing doing.Send = refl
-same-doing doing.Receive = refl
-same-doing doing.Jump = refl
+same-doing d = refl
 
 -- the jumps of a node in a slot may come next, or those who are later
 record IsReady (slot k : ℕ) (before : Option Spot) : Type 0 where

@@ -110,12 +110,7 @@ write_bytes slot (event.Write node at payload) bytes =
     cond_both (at == slot) (Some (record { host = node; payload = payload })) None
     (λ (o : Option HostWrite). IfSome o (λ w. AreBytes w.payload)) (λ now. bytes) (λ other. tt)
 write_bytes slot (event.Send node channels f from to) bytes = tt
-write_bytes slot (event.Receive node channels f from to) bytes = tt
-write_bytes slot (event.Flip node channels bit at) bytes = tt
-write_bytes slot (event.Error node value from to) bytes = tt
-write_bytes slot (event.Jump node value at) bytes = tt
-write_bytes slot (event.Arm node at) bytes = tt
-write_bytes slot (event.Read node at from) bytes = tt
+write_bytes slot e bytes = tt
 
 host_bytes : (k : ℕ) (w : HostWrite) → AreBytes w.payload → IfSome (payload_of_host k w) AreBytes
 host_bytes k w bytes =

@@ -119,8 +119,7 @@ listed-yless word each (x ∷ xs) = joined-yless word each (x ∷ xs)
 
 reason-yless : (r : Reason) → Yless (reason_word r)
 reason-yless reason.Denied = refl
-reason-yless reason.Unacknowledged = refl
-reason-yless reason.Clique = refl
+reason-yless r = refl
 
 left-by : (node slot why : List ℕ) → Yless node → Yless slot → Yless why
     → Yless (node ++ codes ":" ++ slot ++ codes ":" ++ why)
@@ -182,10 +181,7 @@ fault-yless (event.Receive node channels kind from to) = loss-yless (codes "rece
 fault-yless (event.Jump node value slot) =
     jump-by (decimal node) (signed_decimal value) (decimal slot) (decimal-yless node) (signed-yless value) (decimal-yless slot)
 fault-yless (event.Flip node channels bit slot) = refl
-fault-yless (event.Error node value from to) = refl
-fault-yless (event.Arm node slot) = refl
-fault-yless (event.Write node slot payload) = refl
-fault-yless (event.Read node slot from) = refl
+fault-yless e = refl
 
 place-by : (slot node : List ℕ) → Yless slot → Yless node → Yless (codes "slot " ++ slot ++ codes " node " ++ node ++ codes " ")
 place-by slot node p q = simp (list_any-append (λ c. c == 121), p, q)

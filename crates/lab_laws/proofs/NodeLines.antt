@@ -63,13 +63,7 @@ delivers : (list : Medl) (k : ℕ) (past : NodePast) (h : Hearing) (e : Entry)
 delivers list k past h (entry.Judged sender v deviation) =
     none_where (is_correct v) (carries_payload list (coming_place list past)) _
 delivers list k past h entry.Off = tt
-delivers list k past h entry.Waited = tt
-delivers list k past h entry.Retried = tt
-delivers list k past h entry.Gone = tt
-delivers list k past h entry.Started = tt
-delivers list k past h (entry.Sent message) = tt
-delivers list k past h (entry.Joined sender cstate deviation) = tt
-delivers list k past h (entry.Left why peer) = tt
+delivers list k past h e = tt
 
 module _ (list : Medl) (script : Script) (row : List Entry) (before : History) (k : ℕ) where
   abbrev came : Option Delivered
@@ -107,13 +101,7 @@ module _ (list : Medl) (script : Script) (row : List Entry) (before : History) (
       → IfSome (message_shown list script row before k e) (λ i. i < 10 ^ message_digits)
   number-named (entry.Sent message) early sent = sent
   number-named (entry.Judged sender v deviation) early sent = came_few came early
-  number-named entry.Off early sent = tt
-  number-named entry.Waited early sent = tt
-  number-named entry.Retried early sent = tt
-  number-named entry.Gone early sent = tt
-  number-named entry.Started early sent = tt
-  number-named (entry.Joined sender cstate deviation) early sent = tt
-  number-named (entry.Left why peer) early sent = tt
+  number-named e early sent = tt
 
 sent_few : (list : Medl) (script : Script) (slot k : ℕ) (message : Option ℕ) → IsValid list
     → IsValidScript list script → slot < SLOT_LIMIT → is_legal_message list script slot k message ≡ true

@@ -252,10 +252,7 @@ plain-cost n slots words cost e =
 plain-answer : (v : TraceLine) (t : Test) → test_of v ≡ Some t → Plain (text_of v)
 plain-answer (line.Keep k) t e = plain-keep k
 plain-answer (line.Back b) t e = plain-back b
-plain-answer (line.Header version nodes rounds slots schedule) t e = cc
-plain-answer (line.Node slot k w peer message wide members accepted rejected a offset) t e = cc
-plain-answer (line.Write slot host number) t e = cc
-plain-answer (line.Read slot host from number payload) t e = cc
+plain-answer v t e = cc
 
 pub plain-tested : (words : List ℕ) (t : Test) → test_in words ≡ Some t → Plain words
 unfolding test_in
@@ -291,8 +288,7 @@ plain-lost fault.Noise = refl
 
 plain-label : (d : Doing) → Plain (doing_label d)
 plain-label doing.Send = refl
-plain-label doing.Receive = refl
-plain-label doing.Jump = refl
+plain-label d = refl
 
 six-plain : (word node channels kind from to : List ℕ) → Plain word → Plain node → Plain channels → Plain kind → Plain from
     → Plain to

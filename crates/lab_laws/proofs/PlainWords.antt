@@ -45,43 +45,21 @@ plain-texts f (x ∷ xs) each = plain-append (f x) (flat_map f xs) (each x) (pla
 
 pub plain-look : (l : Look) → Plain (look_text l)
 plain-look look.Same = refl
-plain-look look.SameOut = refl
-plain-look look.Cost = refl
-plain-look look.CostOut = refl
-plain-look look.Late = refl
-plain-look look.Hurt = refl
-plain-look look.Split = refl
-plain-look look.Torn = refl
-plain-look look.Dead = refl
+plain-look l = refl
 
 pub plain-look_letter : (l : Look) → Plain (look_letter l)
 plain-look_letter look.Same = refl
-plain-look_letter look.SameOut = refl
-plain-look_letter look.Cost = refl
-plain-look_letter look.CostOut = refl
-plain-look_letter look.Late = refl
-plain-look_letter look.Hurt = refl
-plain-look_letter look.Split = refl
-plain-look_letter look.Torn = refl
-plain-look_letter look.Dead = refl
+plain-look_letter l = refl
 
 pub plain-look_meaning : (l : Look) → Plain (look_meaning l)
 plain-look_meaning look.Same = refl
-plain-look_meaning look.SameOut = refl
-plain-look_meaning look.Cost = refl
-plain-look_meaning look.CostOut = refl
-plain-look_meaning look.Late = refl
-plain-look_meaning look.Hurt = refl
-plain-look_meaning look.Split = refl
-plain-look_meaning look.Torn = refl
-plain-look_meaning look.Dead = refl
+plain-look_meaning l = refl
 
 -- Kinds of faults.
 
 pub plain-doing : (d : Doing) → Plain (doing_word d)
 plain-doing doing.Send = refl
-plain-doing doing.Receive = refl
-plain-doing doing.Jump = refl
+plain-doing d = refl
 
 plain-loss : (p : ℕ) → Plain (loss_said p)
 plain-loss p = cond_both (p % 2 == 0) (codes "silence") (codes "noise") Plain (λ yes. refl) (λ no. refl)
@@ -132,8 +110,7 @@ plain-sends (Some doing.Jump) = refl
 
 plain-summed : (name : Summed) → Plain (summed_name name)
 plain-summed (summed.OfCell slot node) = simp parts
-plain-summed (summed.OfSlot slot) = simp parts
-plain-summed (summed.OfNode node) = simp parts
+plain-summed name = simp parts
 
 plain-told : (counts : List ℕ) (i : ℕ) → Plain (look_told counts i)
 plain-told counts i =

@@ -26,13 +26,7 @@ use Rattle.lab_laws.proofs.LinesRead.{fault-ended, fault-words-read, in-read, sp
 valid-among : (list : Medl) (script : Script) (events : List Event) (e : Event) → IsValidEvent list script e
     → IsValidEvent list (record script { events = events }) e
 valid-among list script events (event.Send node channels f from to) valid = valid
-valid-among list script events (event.Receive node channels f from to) valid = valid
-valid-among list script events (event.Flip node channels bit slot) valid = valid
-valid-among list script events (event.Error node value from to) valid = valid
-valid-among list script events (event.Jump node value slot) valid = valid
-valid-among list script events (event.Arm node slot) valid = valid
-valid-among list script events (event.Write node slot payload) valid = valid
-valid-among list script events (event.Read node slot from) valid = valid
+valid-among list script events e valid = valid
 
 all-among : (list : Medl) (script : Script) (events es : List Event) → All (IsValidEvent list script) es
     → All (IsValidEvent list (record script { events = events })) es

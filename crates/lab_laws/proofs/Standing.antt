@@ -93,11 +93,7 @@ sound-verdict : (list : Medl) (k : ℕ) (past : NodePast) (v : Verdict) (deviati
     → (coming_place list past).slot < length list.slots → (coming_place list past).slot ≢ k
     → IsSound list k past (verdict_entry (coming_place list past).slot v deviation)
 sound-verdict list k past verdict.Denied deviation inside other = inside
-sound-verdict list k past verdict.Null deviation inside other = (refl, other)
-sound-verdict list k past verdict.Invalid deviation inside other = (refl, other)
-sound-verdict list k past verdict.Incorrect deviation inside other = (refl, other)
-sound-verdict list k past verdict.Correct deviation inside other = (refl, other)
-sound-verdict list k past verdict.Tentative deviation inside other = (refl, other)
+sound-verdict list k past v deviation inside other = (refl, other)
 
 sound-joined : (list : Medl) (k : ℕ) (past : NodePast) (c : Option CState)
     → IfSome c (λ c. (deviation : ℤ) → IsSound list k past (entry.Joined c.slot c deviation))

@@ -175,10 +175,7 @@ module _ (list : Medl) (script : Script) (valid : IsValid list) (valid_script : 
   outside_in (event.Jump node value slot) is =
       cond_both (is_allowed_jump list script node slot) None (Some slot) (IsIn script.slots) (λ allowed. tt) (λ other. is.2)
   outside_in (event.Send node channels f from to) is = tt
-  outside_in (event.Receive node channels f from to) is = tt
-  outside_in (event.Error node value from to) is = tt
-  outside_in (event.Write node slot payload) is = tt
-  outside_in (event.Read node slot from) is = tt
+  outside_in e is = tt
 
   -- the least slot that valid events name
   of_events : (named : Event → Option ℕ) → ((e : Event) → IsValidEvent list script e → IsIn script.slots (named e))
@@ -194,11 +191,7 @@ module _ (list : Medl) (script : Script) (valid : IsValid list) (valid_script : 
   disturbed_in (event.Jump node value slot) is =
       cond_both (is_allowed_jump list script node slot) None (Some slot) (IsIn script.slots) (λ allowed. tt) (λ other. is.2)
   disturbed_in (event.Arm node slot) is = tt
-  disturbed_in (event.Send node channels f from to) is = tt
-  disturbed_in (event.Receive node channels f from to) is = tt
-  disturbed_in (event.Error node value from to) is = tt
-  disturbed_in (event.Write node slot payload) is = tt
-  disturbed_in (event.Read node slot from) is = tt
+  disturbed_in e is = tt
 
   -- The start comes at most three rounds after the last slot in which a node can come on.
 

@@ -122,15 +122,8 @@ gives list history among k set is = by (is_firm (diary_of history k) && among k)
 
 not_left : (list : Medl) (script : Script) (slot k : ℕ) (e : Entry) → is_left_phase (phase_after e) ≡ false
     → is_hurt_in list script slot k e ≡ false
-not_left list script slot k entry.Off stays = refl
-not_left list script slot k entry.Waited stays = refl
-not_left list script slot k entry.Retried stays = refl
-not_left list script slot k entry.Gone stays = refl
-not_left list script slot k entry.Started stays = refl
-not_left list script slot k (entry.Sent message) stays = refl
-not_left list script slot k (entry.Joined sender cstate deviation) stays = refl
-not_left list script slot k (entry.Judged sender verdict deviation) stays = refl
 not_left list script slot k (entry.Left reason peer) stays = absurd (false≢true (sym stays))
+not_left list script slot k e stays = refl
 
 -- a node that leaves is not correct, where none of the correct ones has left
 unhurt : (list : Medl) (script : Script) (slot k : ℕ) (e : Entry)
@@ -140,15 +133,8 @@ unhurt list script slot k e stays = by (is_sound script (faulty_by_test list scr
   where
     unsound : (e : Entry) → is_sound script (faulty_by_test list script slot) slot k ≡ false
         → is_hurt_in list script slot k e ≡ false
-    unsound entry.Off is = refl
-    unsound entry.Waited is = refl
-    unsound entry.Retried is = refl
-    unsound entry.Gone is = refl
-    unsound entry.Started is = refl
-    unsound (entry.Sent message) is = refl
-    unsound (entry.Joined sender cstate deviation) is = refl
-    unsound (entry.Judged sender verdict deviation) is = refl
     unsound (entry.Left reason peer) is = is
+    unsound e is = refl
 
     by : (b : Bool) → is_sound script (faulty_by_test list script slot) slot k ≡ b
         → is_hurt_in list script slot k e ≡ false

@@ -141,10 +141,7 @@ fault-none (event.Receive node channels kind from to) =
 fault-none (event.Jump node value slot) =
     jump-none (decimal node) (signed_decimal value) (decimal slot) (none-decimal node) (has-signed 10 value (omega arith)) (none-decimal slot)
 fault-none (event.Flip node channels bit slot) = refl
-fault-none (event.Error node value from to) = refl
-fault-none (event.Arm node slot) = refl
-fault-none (event.Write node slot payload) = refl
-fault-none (event.Read node slot from) = refl
+fault-none e = refl
 
 -- The lines.
 

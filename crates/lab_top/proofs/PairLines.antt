@@ -30,12 +30,7 @@ use Rattle.lab_top.proofs.CampaignLines.{ended, test-none, cost-none, fault-none
 
 class-none : (k : PairClass) → HasNone (class_word k)
 class-none class.Sum = refl
-class-none class.Less = refl
-class-none class.Own = refl
-class-none class.Divided = refl
-class-none class.Third = refl
-class-none class.Torn = refl
-class-none class.Dead = refl
+class-none k = refl
 
 counts-by : (a b c d e f g h : List ℕ) → HasNone a → HasNone b → HasNone c → HasNone d → HasNone e → HasNone f → HasNone g
     → HasNone h

@@ -24,8 +24,7 @@ use Rattle.margin_laws.specs.Sums.{totals_together}
 
 one_of_three : (whom : Costs) → cond (is_nobody whom) 1 0 + cond (is_itself whom) 1 0 + cond (is_others whom) 1 0 ≡ 1
 one_of_three costs.Nobody = refl
-one_of_three costs.Itself = refl
-one_of_three costs.Others = refl
+one_of_three whom = refl
 
 counted : (k : ℕ) (tolds : List ValueTold) → count_of_values (counts_by_cost k tolds) ≡ length tolds
 counted k [] = refl

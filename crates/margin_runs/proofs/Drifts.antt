@@ -17,13 +17,7 @@ use Rattle.clock_margins.specs.Sweeps.{with_drift}
 same-valid : (list : Medl) (script : Script) (node : ℕ) (value : ℤ) (e : Event) → IsValidEvent list script e
     → IsValidEvent list (with_drift script node value) e
 same-valid list script node value (event.Send k channels f from to) valid = valid
-same-valid list script node value (event.Receive k channels f from to) valid = valid
-same-valid list script node value (event.Flip k channels bit slot) valid = valid
-same-valid list script node value (event.Error k v from to) valid = valid
-same-valid list script node value (event.Jump k v slot) valid = valid
-same-valid list script node value (event.Arm k slot) valid = valid
-same-valid list script node value (event.Write k slot payload) valid = valid
-same-valid list script node value (event.Read k slot from) valid = valid
+same-valid list script node value e valid = valid
 
 all-valid : (list : Medl) (script : Script) (node : ℕ) (value : ℤ) (events : List Event)
     → All (IsValidEvent list script) events → All (IsValidEvent list (with_drift script node value)) events

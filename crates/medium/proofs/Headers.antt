@@ -27,12 +27,7 @@ flipped_bit-behind : (list : Medl) (script : Script) (k t : ℕ) (c : Channel) (
 flipped_bit-behind list script k t c (event.Flip node channels bit at) valid =
     cond_both _ (Some bit) None (λ o. IfSome o IsBehind) (λ _. valid.1) (λ _. tt)
 flipped_bit-behind list script k t c (event.Send node channels fault from to) valid = tt
-flipped_bit-behind list script k t c (event.Receive node channels fault from to) valid = tt
-flipped_bit-behind list script k t c (event.Error node value from to) valid = tt
-flipped_bit-behind list script k t c (event.Jump node value at) valid = tt
-flipped_bit-behind list script k t c (event.Arm node at) valid = tt
-flipped_bit-behind list script k t c (event.Write node at payload) valid = tt
-flipped_bit-behind list script k t c (event.Read node at source) valid = tt
+flipped_bit-behind list script k t c e valid = tt
 
 one_more : (flip : Option ℕ) (bits bytes : List ℕ) → IfSome flip IsBehind
     → ((there : List ℕ) → header_in (flip_bits there bits) ≡ header_in there)

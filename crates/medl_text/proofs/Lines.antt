@@ -22,8 +22,7 @@ IsLine line = is_line line ≡ true
 
 letter_none : (k : Kind) → has 10 (letter_of k) ≡ false
 letter_none kind.I = refl
-letter_none kind.N = refl
-letter_none kind.X = refl
+letter_none k = refl
 
 answer_none : (answer : Bool) → has 10 (yes_or_no answer) ≡ false
 answer_none true = refl

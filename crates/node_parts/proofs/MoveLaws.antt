@@ -107,11 +107,8 @@ moved_members-move_of ack.Closed verdict.Correct sender members stays elsewhere 
 moved_members-move_of ack.First verdict.Correct sender members stays elsewhere = refl
 moved_members-move_of (ack.Doubt x) verdict.Correct sender members stays elsewhere =
     without_node-with members sender x elsewhere
-moved_members-move_of a verdict.Tentative sender members stays elsewhere = refl
 moved_members-move_of a verdict.Denied sender members stays elsewhere = absurd (stays refl)
-moved_members-move_of a verdict.Null sender members stays elsewhere = refl
-moved_members-move_of a verdict.Incorrect sender members stays elsewhere = refl
-moved_members-move_of a verdict.Invalid sender members stays elsewhere = refl
+moved_members-move_of a v sender members stays elsewhere = refl
 
 pub IsMoveOf-move_of : (a : Ack) (v : Verdict) (sender : ℕ) → IsMoveOf (move_of a v) a v sender
 IsMoveOf-move_of a v sender = record {

@@ -18,12 +18,7 @@ one_class : (c : PairClass)
     → one_if (is_sum c) + (one_if (is_less c) + (one_if (is_own c) + (one_if (is_divided c)
     + (one_if (is_third c) + (one_if (is_torn_pair c) + one_if (is_dead_pair c)))))) ≡ 1
 one_class class.Sum = refl
-one_class class.Less = refl
-one_class class.Own = refl
-one_class class.Divided = refl
-one_class class.Third = refl
-one_class class.Torn = refl
-one_class class.Dead = refl
+one_class c = refl
 
 pub classes-counted : (tolds : List PairTold) → classes_sum (pair_counts tolds) ≡ length tolds
 classes-counted [] = refl

@@ -96,13 +96,7 @@ faults_in-begin list script row slot valid inside =
 -- what may stand in a script may stand in one with an event more
 stands-also : (list : Medl) (script : Script) (one e : Event) → IsValidEvent list script e → IsValidEvent list (with_fault script one) e
 stands-also list script one (event.Send node channels f from to) valid = valid
-stands-also list script one (event.Receive node channels f from to) valid = valid
-stands-also list script one (event.Flip node channels bit slot) valid = valid
-stands-also list script one (event.Error node value from to) valid = valid
-stands-also list script one (event.Jump node value slot) valid = valid
-stands-also list script one (event.Arm node slot) valid = valid
-stands-also list script one (event.Write node slot payload) valid = valid
-stands-also list script one (event.Read node slot from) valid = valid
+stands-also list script one e valid = valid
 
 pub may-stand_also : (list : Medl) (script : Script) (one two : Event) → MayStand list script two
     → MayStand list (with_fault script one) two
@@ -113,11 +107,7 @@ node-small : (list : Medl) (script : Script) (e : Event) → IsValid list → Is
 node-small list script (event.Send node channels f from to) valid may = omega (arith, may.0, nodes-most list valid)
 node-small list script (event.Receive node channels f from to) valid may = omega (arith, may.0, nodes-most list valid)
 node-small list script (event.Jump node value slot) valid may = omega (arith, may.0, nodes-most list valid)
-node-small list script (event.Flip node channels bit slot) valid may = omega arith
-node-small list script (event.Error node value from to) valid may = omega arith
-node-small list script (event.Arm node slot) valid may = omega arith
-node-small list script (event.Write node slot payload) valid may = omega arith
-node-small list script (event.Read node slot from) valid may = omega arith
+node-small list script e valid may = omega arith
 
 pub may-node : (list : Medl) (script : Script) (e : Event) → IsValid list → MayStand list script e → fault_node e < 24
 may-node list script e valid may = node-small list script e valid may.valid

@@ -19,13 +19,7 @@ use Rattle.causes.specs.Reduced.{events_kept, with_faults_at}
 same-valid : (list : Medl) (script : Script) (places : List ℕ) (e : Event) → IsValidEvent list script e
     → IsValidEvent list (with_faults_at places script) e
 same-valid list script places (event.Send node channels f from to) valid = valid
-same-valid list script places (event.Receive node channels f from to) valid = valid
-same-valid list script places (event.Flip node channels bit slot) valid = valid
-same-valid list script places (event.Error node value from to) valid = valid
-same-valid list script places (event.Jump node value slot) valid = valid
-same-valid list script places (event.Arm node slot) valid = valid
-same-valid list script places (event.Write node slot payload) valid = valid
-same-valid list script places (event.Read node slot from) valid = valid
+same-valid list script places e valid = valid
 
 -- all of them have what all events have
 all-of : (P : Event → Type 0) (e : Event) (all kept : List Event) (b : Bool) → P e → All P kept
@@ -73,14 +67,8 @@ none-of f e all kept false none same = same ∙ sym (none refl)
 
 unwritten : (slot : ℕ) (e : Event) (b : Bool) → not (is_fault_event e) || b ≡ false → (writes : List HostWrite)
     → cons_option (write_in slot e) writes ≡ writes
-unwritten slot (event.Send node channels f from to) b dropped writes = refl
-unwritten slot (event.Receive node channels f from to) b dropped writes = refl
-unwritten slot (event.Flip node channels bit at) b dropped writes = refl
-unwritten slot (event.Jump node value at) b dropped writes = refl
-unwritten slot (event.Error node value from to) b dropped writes = refl
-unwritten slot (event.Arm node at) b dropped writes = refl
-unwritten slot (event.Read node at from) b dropped writes = refl
 unwritten slot (event.Write node at payload) b dropped writes = absurd (false≢true (sym dropped))
+unwritten slot e b dropped writes = refl
 
 same-writes : (slot : ℕ) (places : List ℕ) (place : ℕ) (events : List Event)
     → filter_map (write_in slot) (events_kept places place events) ≡ filter_map (write_in slot) events

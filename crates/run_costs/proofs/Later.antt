@@ -167,11 +167,7 @@ loss-still list script (event.Send node channels f from to) is =
 loss-still list script (event.Receive node channels f from to) is =
     disturbance-longer list script (event.Receive node channels f from to) (λ k slot. refl) (λ k slot. refl) refl
 loss-still list script (event.Flip node channels bit slot) is = absurd (false≢true is)
-loss-still list script (event.Error node value from to) is = absurd (false≢true is)
-loss-still list script (event.Jump node value slot) is = absurd (false≢true is)
-loss-still list script (event.Arm node slot) is = absurd (false≢true is)
-loss-still list script (event.Write node slot payload) is = absurd (false≢true is)
-loss-still list script (event.Read node slot from) is = absurd (false≢true is)
+loss-still list script more is = absurd (false≢true is)
 
 pub walk-now : (list : Medl) (script now : Script) (more : Event) (slots : ℕ) (walk : Faulty)
     → now ≡ with_fault script more → comes_later slots more ≡ true → is_loss more ≡ true

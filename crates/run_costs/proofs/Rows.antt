@@ -55,14 +55,7 @@ left-next list script row history states slot old new long shown before noted k 
 is_hurt_in-by : (list : Medl) (script : Script) (slot k : ℕ) (e : Entry)
     → is_hurt_in list script slot k e ≡ is_hurt_by e (is_sound script (faulty_by_test list script slot) slot k)
 is_hurt_in-by list script slot k entry.Off = refl
-is_hurt_in-by list script slot k entry.Waited = refl
-is_hurt_in-by list script slot k entry.Retried = refl
-is_hurt_in-by list script slot k entry.Gone = refl
-is_hurt_in-by list script slot k entry.Started = refl
-is_hurt_in-by list script slot k (entry.Sent message) = refl
-is_hurt_in-by list script slot k (entry.Joined sender cstate deviation) = refl
-is_hurt_in-by list script slot k (entry.Judged sender verdict deviation) = refl
-is_hurt_in-by list script slot k (entry.Left reason peer) = refl
+is_hurt_in-by list script slot k e = refl
 
 -- a set of correct nodes, by the faulty ones in whatever order
 pub correct-sound : (list : Medl) (script : Script) (slot : ℕ) (faulty correct : List ℕ) → IsValid list

@@ -18,12 +18,7 @@ arm-is k slot (event.Arm node at) is =
     let parts = and_parts (node == k) (at == slot) is in
     λ i. event.Arm (eqb-true node k parts.0 i) (eqb-true at slot parts.1 i)
 arm-is k slot (event.Send node channels f from to) is = absurd (both_ways _ refl is)
-arm-is k slot (event.Receive node channels f from to) is = absurd (both_ways _ refl is)
-arm-is k slot (event.Flip node channels bit at) is = absurd (both_ways _ refl is)
-arm-is k slot (event.Error node value from to) is = absurd (both_ways _ refl is)
-arm-is k slot (event.Jump node value at) is = absurd (both_ways _ refl is)
-arm-is k slot (event.Write node at payload) is = absurd (both_ways _ refl is)
-arm-is k slot (event.Read node at from) is = absurd (both_ways _ refl is)
+arm-is k slot e is = absurd (both_ways _ refl is)
 
 -- one that is armed has its line
 pub arm-line : (script : Script) (k slot : ℕ) → is_armed script k slot ≡ true
@@ -70,12 +65,7 @@ send-line list kind k slot at c after near (event.Send node channels f from to) 
     let last = and_parts _ _ rest.1 in
     and_from _ _ parts.0 (touched list slot from to at after near last.1)
 send-line list kind k slot at c after near (event.Receive node channels f from to) is = absurd (both_ways _ refl is)
-send-line list kind k slot at c after near (event.Flip node channels bit t) is = absurd (both_ways _ refl is)
-send-line list kind k slot at c after near (event.Error node value from to) is = absurd (both_ways _ refl is)
-send-line list kind k slot at c after near (event.Jump node value t) is = absurd (both_ways _ refl is)
-send-line list kind k slot at c after near (event.Arm node t) is = absurd (both_ways _ refl is)
-send-line list kind k slot at c after near (event.Write node t payload) is = absurd (both_ways _ refl is)
-send-line list kind k slot at c after near (event.Read node t from) is = absurd (both_ways _ refl is)
+send-line list kind k slot at c after near w is = absurd (both_ways _ refl is)
 
 receive-line : (list : Medl) (kind : Fault) (k slot at : ℕ) (c : Channel) → slot ≤ at → at < slot + four_rounds list
     → (e : Event) → is_receive_fault kind k c at e ≡ true → is_line_of list k slot e ≡ true
@@ -85,12 +75,7 @@ receive-line list kind k slot at c after near (event.Receive node channels f fro
     let last = and_parts _ _ rest.1 in
     and_from _ _ parts.0 (touched list slot from to at after near last.1)
 receive-line list kind k slot at c after near (event.Send node channels f from to) is = absurd (both_ways _ refl is)
-receive-line list kind k slot at c after near (event.Flip node channels bit t) is = absurd (both_ways _ refl is)
-receive-line list kind k slot at c after near (event.Error node value from to) is = absurd (both_ways _ refl is)
-receive-line list kind k slot at c after near (event.Jump node value t) is = absurd (both_ways _ refl is)
-receive-line list kind k slot at c after near (event.Arm node t) is = absurd (both_ways _ refl is)
-receive-line list kind k slot at c after near (event.Write node t payload) is = absurd (both_ways _ refl is)
-receive-line list kind k slot at c after near (event.Read node t from) is = absurd (both_ways _ refl is)
+receive-line list kind k slot at c after near w is = absurd (both_ways _ refl is)
 
 jumped : (b : Bool) (value : ℤ) → is_some (cond b (Some value) None) ≡ true → b ≡ true
 jumped true value is = refl
@@ -104,12 +89,7 @@ jump-line list k slot at after near (event.Jump node value t) is =
     and_from _ _ parts.0 (touched list slot t t at after near
     (and_from _ _ (le-leb t at (omega (arith, same))) (le-leb at t (omega (arith, same)))))
 jump-line list k slot at after near (event.Send node channels f from to) is = absurd (both_ways _ refl is)
-jump-line list k slot at after near (event.Receive node channels f from to) is = absurd (both_ways _ refl is)
-jump-line list k slot at after near (event.Flip node channels bit t) is = absurd (both_ways _ refl is)
-jump-line list k slot at after near (event.Error node value from to) is = absurd (both_ways _ refl is)
-jump-line list k slot at after near (event.Arm node t) is = absurd (both_ways _ refl is)
-jump-line list k slot at after near (event.Write node t payload) is = absurd (both_ways _ refl is)
-jump-line list k slot at after near (event.Read node t from) is = absurd (both_ways _ refl is)
+jump-line list k slot at after near w is = absurd (both_ways _ refl is)
 
 -- so no such line speaks of it there
 pub alone-sends : (list : Medl) (script : Script) (kind : Fault) (k slot at : ℕ) (c : Channel) → slot ≤ at

@@ -29,8 +29,7 @@ use Rattle.safety_laws.proofs.Groups.{holds-by}
 -- a frame carries its place where its header says so
 explicit-kind : (k : Kind) → is_explicit (header_of k) ≡ carries_place k
 explicit-kind kind.I = refl
-explicit-kind kind.N = refl
-explicit-kind kind.X = refl
+explicit-kind k = refl
 
 -- a node that has just joined counts the frame on which it did
 counted-joined : (slot : ℕ) (past : NodePast) → past.accepted ≡ 1 → past.rejected ≡ 0 → past.ack ≡ ack.Closed

@@ -93,8 +93,7 @@ view_of_bits-outside list expected bytes deviation outside =
 
 cold_start≢ : (k : Kind) → cold_start_header ≢ header_of k
 cold_start≢ kind.N = λ same. absurd (omega (arith, same))
-cold_start≢ kind.I = λ same. absurd (omega (arith, same))
-cold_start≢ kind.X = λ same. absurd (omega (arith, same))
+cold_start≢ k = λ same. absurd (omega (arith, same))
 
 bad_form : (within form : Bool) (v : ChannelView) → form ≡ false → cond (within && form) v view.Bad ≡ view.Bad
 bad_form true form v not_formed = ap (λ b. cond b v view.Bad) not_formed

@@ -49,26 +49,17 @@ on_full list before number line f first words false is = tt
 on_slots : (before : Before) (number : ℕ) (f : Form) (first : Spot) (named : Bool) → before.named ≡ named
     → AllOn number (slots_errors before number f first)
 on_slots before number form.Slots first named is = tt
-on_slots before number form.On first true is = rw is tt
 on_slots before number form.On first false is = rw is (refl, tt)
-on_slots before number form.Drift first true is = rw is tt
 on_slots before number form.Drift first false is = rw is (refl, tt)
-on_slots before number form.Send first true is = rw is tt
 on_slots before number form.Send first false is = rw is (refl, tt)
-on_slots before number form.Receive first true is = rw is tt
 on_slots before number form.Receive first false is = rw is (refl, tt)
-on_slots before number form.Flip first true is = rw is tt
 on_slots before number form.Flip first false is = rw is (refl, tt)
-on_slots before number form.Error first true is = rw is tt
 on_slots before number form.Error first false is = rw is (refl, tt)
-on_slots before number form.Jump first true is = rw is tt
 on_slots before number form.Jump first false is = rw is (refl, tt)
-on_slots before number form.Arm first true is = rw is tt
 on_slots before number form.Arm first false is = rw is (refl, tt)
-on_slots before number form.Write first true is = rw is tt
 on_slots before number form.Write first false is = rw is (refl, tt)
-on_slots before number form.Read first true is = rw is tt
 on_slots before number form.Read first false is = rw is (refl, tt)
+on_slots before number f first true is = rw is tt
 
 on_count : (number : ℕ) (f : Form) (first : Spot) (words : List Spot) (comment : Option Spot)
     → AllOn number (count_errors number f first words comment)

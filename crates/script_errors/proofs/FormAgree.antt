@@ -134,30 +134,12 @@ slots_told : (before : Before) (number : ℕ) (f : Form) (first : Spot) → Foll
     → is_after_slots (key f) (slots_of (stated before)) ≡ false
     → TellsFault number faults.NoSlots (slots_errors before number f first)
 slots_told before number form.Slots first follows after = cc
-slots_told before number form.On first follows after = rw (follows.named, after) (inl (refl, refl))
-slots_told before number form.Drift first follows after = rw (follows.named, after) (inl (refl, refl))
-slots_told before number form.Send first follows after = rw (follows.named, after) (inl (refl, refl))
-slots_told before number form.Receive first follows after = rw (follows.named, after) (inl (refl, refl))
-slots_told before number form.Flip first follows after = rw (follows.named, after) (inl (refl, refl))
-slots_told before number form.Error first follows after = rw (follows.named, after) (inl (refl, refl))
-slots_told before number form.Jump first follows after = rw (follows.named, after) (inl (refl, refl))
-slots_told before number form.Arm first follows after = rw (follows.named, after) (inl (refl, refl))
-slots_told before number form.Write first follows after = rw (follows.named, after) (inl (refl, refl))
-slots_told before number form.Read first follows after = rw (follows.named, after) (inl (refl, refl))
+slots_told before number f first follows after = rw (follows.named, after) (inl (refl, refl))
 
 slots_none : (before : Before) (number : ℕ) (f : Form) (first : Spot) → Follows before
     → is_after_slots (key f) (slots_of (stated before)) ≡ true → slots_errors before number f first ≡ []
 slots_none before number form.Slots first follows after = refl
-slots_none before number form.On first follows after = rw (follows.named, after) refl
-slots_none before number form.Drift first follows after = rw (follows.named, after) refl
-slots_none before number form.Send first follows after = rw (follows.named, after) refl
-slots_none before number form.Receive first follows after = rw (follows.named, after) refl
-slots_none before number form.Flip first follows after = rw (follows.named, after) refl
-slots_none before number form.Error first follows after = rw (follows.named, after) refl
-slots_none before number form.Jump first follows after = rw (follows.named, after) refl
-slots_none before number form.Arm first follows after = rw (follows.named, after) refl
-slots_none before number form.Write first follows after = rw (follows.named, after) refl
-slots_none before number form.Read first follows after = rw (follows.named, after) refl
+slots_none before number f first follows after = rw (follows.named, after) refl
 
 count_told : (number : ℕ) (f : Form) (first : Spot) (words : List Spot) (comment : Option Spot)
     → TellsFault number faults.Word (count_errors number f first words comment)

@@ -34,45 +34,18 @@ some_of None h = cc
 
 pub known : (f : Form) → is_some (keyword_of (form_word f)) ≡ true
 known form.Slots = refl
-known form.On = refl
-known form.Drift = refl
-known form.Send = refl
-known form.Receive = refl
-known form.Flip = refl
-known form.Error = refl
-known form.Jump = refl
-known form.Arm = refl
-known form.Write = refl
-known form.Read = refl
+known f = refl
 
 abbrev pub key : (f : Form) → Key
 key f = some_of (keyword_of (form_word f)) (known f)
 
 pub key_is : (f : Form) → keyword_of (form_word f) ≡ Some (key f)
 key_is form.Slots = refl
-key_is form.On = refl
-key_is form.Drift = refl
-key_is form.Send = refl
-key_is form.Receive = refl
-key_is form.Flip = refl
-key_is form.Error = refl
-key_is form.Jump = refl
-key_is form.Arm = refl
-key_is form.Write = refl
-key_is form.Read = refl
+key_is f = refl
 
 pub count_is : (f : Form) → form_word_count (key f) ≡ length (parts_of f) + 1
 count_is form.Slots = refl
-count_is form.On = refl
-count_is form.Drift = refl
-count_is form.Send = refl
-count_is form.Receive = refl
-count_is form.Flip = refl
-count_is form.Error = refl
-count_is form.Jump = refl
-count_is form.Arm = refl
-count_is form.Write = refl
-count_is form.Read = refl
+count_is f = refl
 
 -- The flags of the words of a line, from the one at this place on, in the order of the parts.
 
@@ -115,17 +88,11 @@ source_range list k word false = refl
 
 pub spelled_agree : (list : Medl) (slots : ℕ) (owner : Option ℕ) (f : Form) (texts : List (List ℕ))
     → has_channels (key f) texts ≡ list_all (λ g. g.spelled) (form_flags list slots owner f texts)
-spelled_agree list slots owner form.Slots texts = refl
-spelled_agree list slots owner form.On texts = refl
-spelled_agree list slots owner form.Drift texts = refl
 spelled_agree list slots owner form.Send texts = simp and-true refl
 spelled_agree list slots owner form.Receive texts = simp and-true refl
 spelled_agree list slots owner form.Flip texts = simp and-true refl
-spelled_agree list slots owner form.Error texts = refl
-spelled_agree list slots owner form.Jump texts = refl
-spelled_agree list slots owner form.Arm texts = refl
-spelled_agree list slots owner form.Write texts = refl
 spelled_agree list slots owner form.Read texts = rw (source_spelled list owner (word_at texts 3) (is_text (codes "status") (word_at texts 3))) refl
+spelled_agree list slots owner f texts = refl
 
 pub numbers_agree : (list : Medl) (slots : ℕ) (owner : Option ℕ) (f : Form) (texts : List (List ℕ))
     → has_numbers (key f) texts ≡ list_all (λ g. g.number) (form_flags list slots owner f texts)

@@ -177,9 +177,7 @@ span_tells list slots number owner line form.Error words texts full are n r orde
     (text_here line words texts 1 2 are (omega (arith, full))) (text_here line words texts 1 3 are (omega (arith, full)))
     both_words.0 both_words.1 order)
 span_tells list slots number owner line form.Jump words texts full are n r order = cc
-span_tells list slots number owner line form.Arm words texts full are n r order = cc
-span_tells list slots number owner line form.Write words texts full are n r order = cc
-span_tells list slots number owner line form.Read words texts full are n r order = cc
+span_tells list slots number owner line f words texts full are n r order = cc
 
 span_right : (slots number : ℕ) (line : List ℕ) (f : Form) (words : List Spot)
     (texts : List (List ℕ)) → length words ≡ length (parts_of f) → AreTexts line words texts 1

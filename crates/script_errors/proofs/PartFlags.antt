@@ -149,14 +149,8 @@ told_of_word list slots owner part.Writer word =
     let v = decimal_value word in
     rw (some_payload (payload_size list v))
     (of_writer (is_number word) (is_node list v) (payload_size list v == 0) (payload_size list v) _ _ _ _ _ _ refl)
-told_of_word list slots owner part.Slot word = of_number _ _ _ _ _ _ _ _
-told_of_word list slots owner part.From word = of_number _ _ _ _ _ _ _ _
-told_of_word list slots owner part.To word = of_number _ _ _ _ _ _ _ _
 told_of_word list slots owner part.Channels word = of_spelling _ _
 told_of_word list slots owner part.Fault word = of_spelling _ _
-told_of_word list slots owner part.Bit word = of_number _ _ _ _ _ _ _ _
-told_of_word list slots owner part.Drift word = of_number _ _ _ _ _ _ _ _
-told_of_word list slots owner part.Reading word = of_number _ _ _ _ _ _ _ _
-told_of_word list slots owner part.Jump word = of_number _ _ _ _ _ _ _ _
 told_of_word list slots owner part.Message word = of_message (is_hex_word word) list owner (length word)
 told_of_word list slots owner part.Source word = of_source_word list owner word (is_text (codes "status") word) refl
+told_of_word list slots owner p word = of_number _ _ _ _ _ _ _ _

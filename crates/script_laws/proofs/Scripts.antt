@@ -95,8 +95,7 @@ module _ (list : Medl) (script : Script) where
   one-read before (event.Read node slot (source.Node k)) events stands valid made few =
       node_read list script before stands node slot k valid
   one-read before (event.Flip node channels bit slot) events stands valid made few = absurd made
-  one-read before (event.Jump node value slot) events stands valid made few = absurd made
-  one-read before (event.Arm node slot) events stands valid made few = absurd made
+  one-read before e events stands valid made few = absurd made
 
   events-read : (before : List Statement) (events : List Event) → Stands list script before
       → AllByRecursion (IsValidEvent list script) events → AreMade events → AreFew list before events

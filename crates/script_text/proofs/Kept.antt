@@ -51,29 +51,13 @@ pub event_stated : (form : Keyword) (words : List (List ℕ)) → is_event_form 
 event_stated keyword.Slots words of_event = cc
 event_stated keyword.On words of_event = cc
 event_stated keyword.Drift words of_event = cc
-event_stated keyword.Send words of_event = record { event = _; says = refl }
-event_stated keyword.Receive words of_event = record { event = _; says = refl }
-event_stated keyword.Flip words of_event = record { event = _; says = refl }
-event_stated keyword.Error words of_event = record { event = _; says = refl }
-event_stated keyword.Jump words of_event = record { event = _; says = refl }
-event_stated keyword.Arm words of_event = record { event = _; says = refl }
-event_stated keyword.Write words of_event = record { event = _; says = refl }
-event_stated keyword.Read words of_event = record { event = _; says = refl }
+event_stated form words of_event = record { event = _; says = refl }
 
 -- no line of a form that is not counted is a write
 pub not_write : (form : Keyword) (words : List (List ℕ)) (k t : ℕ) → is_uncounted form ≡ true
     → is_write_at k t (statement_of form words) ≡ false
-not_write keyword.Slots words k t of_event = refl
-not_write keyword.On words k t of_event = refl
-not_write keyword.Drift words k t of_event = refl
-not_write keyword.Send words k t of_event = refl
-not_write keyword.Receive words k t of_event = refl
-not_write keyword.Flip words k t of_event = refl
-not_write keyword.Error words k t of_event = refl
-not_write keyword.Jump words k t of_event = refl
-not_write keyword.Arm words k t of_event = refl
 not_write keyword.Write words k t of_event = cc
-not_write keyword.Read words k t of_event = refl
+not_write form words k t of_event = refl
 
 pub event_form : (form : Keyword) → is_uncounted form ≡ true → is_event_form form ≡ true
 event_form form of_event = grind (arith, common_steps)
@@ -186,14 +170,8 @@ further_none : (list : Medl) (before : List Statement) (words : List (List ℕ))
 further_none list before words keyword.Slots of_event = cc
 further_none list before words keyword.On of_event = cc
 further_none list before words keyword.Drift of_event = cc
-further_none list before words keyword.Send of_event = refl
-further_none list before words keyword.Receive of_event = refl
-further_none list before words keyword.Flip of_event = refl
-further_none list before words keyword.Error of_event = refl
-further_none list before words keyword.Jump of_event = refl
-further_none list before words keyword.Arm of_event = refl
 further_none list before words keyword.Write of_event = cc
-further_none list before words keyword.Read of_event = refl
+further_none list before words form of_event = refl
 
 pub takes_event : (list : Medl) (words : List (List ℕ)) (old new : SoFar) (form : Keyword) (e : Event)
     → is_uncounted form ≡ true → ReadsEvent list (unwrap_or old.slots 0) words form (Ok e)
@@ -345,16 +323,7 @@ pub ruleset refused = (refuses_own, refuses_on, refuses_drift, refuses_buffer, r
 -- no form has more words than six
 word_count-le : (form : Keyword) → form_word_count form ≤ 6
 word_count-le keyword.Slots = lit≤ tt
-word_count-le keyword.On = lit≤ tt
-word_count-le keyword.Drift = lit≤ tt
-word_count-le keyword.Send = lit≤ tt
-word_count-le keyword.Receive = lit≤ tt
-word_count-le keyword.Flip = lit≤ tt
-word_count-le keyword.Error = lit≤ tt
-word_count-le keyword.Jump = lit≤ tt
-word_count-le keyword.Arm = lit≤ tt
-word_count-le keyword.Write = lit≤ tt
-word_count-le keyword.Read = lit≤ tt
+word_count-le form = lit≤ tt
 
 not_spelled : (form : Keyword) (words : List (List ℕ)) → 6 < length words → is_spelled form words ≡ false
 not_spelled form words long = grind (arith, common_steps, nat_tests, word_count-le form)

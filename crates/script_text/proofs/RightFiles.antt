@@ -62,14 +62,7 @@ same_events : (form : Keyword) (words : List (List ℕ)) (said : List Statement)
 same_events keyword.Slots words said other = append-nil _
 same_events keyword.On words said other = append-nil _
 same_events keyword.Drift words said other = append-nil _
-same_events keyword.Send words said other = cc
-same_events keyword.Receive words said other = cc
-same_events keyword.Flip words said other = cc
-same_events keyword.Error words said other = cc
-same_events keyword.Jump words said other = cc
-same_events keyword.Arm words said other = cc
-same_events keyword.Write words said other = cc
-same_events keyword.Read words said other = cc
+same_events form words said other = cc
 
 at_most_one : {X : Type 0} (o : Option X) → length (option_to_list o) ≤ 1
 at_most_one None = lit≤ tt
@@ -113,16 +106,7 @@ host_event_more : (form : Keyword) (words : List (List ℕ))
     → count_by is_host_event (option_to_list (event_said (statement_of form words)))
     ≤ (if is_host_form form then 1 else 0)
 host_event_more keyword.Slots words = lit≤ tt
-host_event_more keyword.On words = lit≤ tt
-host_event_more keyword.Drift words = lit≤ tt
-host_event_more keyword.Send words = lit≤ tt
-host_event_more keyword.Receive words = lit≤ tt
-host_event_more keyword.Flip words = lit≤ tt
-host_event_more keyword.Error words = lit≤ tt
-host_event_more keyword.Jump words = lit≤ tt
-host_event_more keyword.Arm words = lit≤ tt
-host_event_more keyword.Write words = lit≤ tt
-host_event_more keyword.Read words = lit≤ tt
+host_event_more form words = lit≤ tt
 
 host_events_more : (form : Keyword) (words : List (List ℕ)) (said : List Statement)
     → count_by is_host_event (events_of (statement_of form words ∷ said))

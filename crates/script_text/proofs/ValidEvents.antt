@@ -38,16 +38,7 @@ source_valid list host (source.Node k) node sends other =
 bytes_stated : (form : Keyword) (words : List (List ℕ)) (node slot : ℕ) (bytes : List ℕ)
     → statement_of form words ≡ says_event (event.Write node slot bytes) → bytes ≡ digit_bytes_in (word_at words 3)
 bytes_stated keyword.Slots words node slot bytes says = cc
-bytes_stated keyword.On words node slot bytes says = cc
-bytes_stated keyword.Drift words node slot bytes says = cc
-bytes_stated keyword.Send words node slot bytes says = cc
-bytes_stated keyword.Receive words node slot bytes says = cc
-bytes_stated keyword.Flip words node slot bytes says = cc
-bytes_stated keyword.Error words node slot bytes says = cc
-bytes_stated keyword.Jump words node slot bytes says = cc
-bytes_stated keyword.Arm words node slot bytes says = cc
-bytes_stated keyword.Write words node slot bytes says = cc
-bytes_stated keyword.Read words node slot bytes says = cc
+bytes_stated form words node slot bytes says = cc
 
 -- an event that a line says with its nodes, payload and numbers right is valid
 pub stated_valid : (list : Medl) (script : Script) (slots : ℕ) (words : List (List ℕ)) (form : Keyword) (e : Event)

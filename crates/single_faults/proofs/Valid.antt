@@ -21,13 +21,7 @@ use Rattle.ttp_world.proofs.WorldFacts.{event-bounded as bounded}
 same-valid : (list : Medl) (script : Script) (fault e : Event) → IsValidEvent list script e
     → IsValidEvent list (with_fault script fault) e
 same-valid list script fault (event.Send node channels f from to) valid = valid
-same-valid list script fault (event.Receive node channels f from to) valid = valid
-same-valid list script fault (event.Flip node channels bit slot) valid = valid
-same-valid list script fault (event.Error node value from to) valid = valid
-same-valid list script fault (event.Jump node value slot) valid = valid
-same-valid list script fault (event.Arm node slot) valid = valid
-same-valid list script fault (event.Write node slot payload) valid = valid
-same-valid list script fault (event.Read node slot from) valid = valid
+same-valid list script fault e valid = valid
 
 all-valid : (list : Medl) (script : Script) (fault : Event) (events : List Event) → All (IsValidEvent list script) events
     → All (IsValidEvent list (with_fault script fault)) events

@@ -25,14 +25,7 @@ numbered message (entry.Left why peer) = entry.Left why peer
 numbered-again : (e : Entry) → numbered (message_of e) (unnumbered e) ≡ e
 unfolding numbered
 numbered-again (entry.Sent message) = refl
-numbered-again entry.Off = refl
-numbered-again entry.Waited = refl
-numbered-again entry.Retried = refl
-numbered-again entry.Gone = refl
-numbered-again entry.Started = refl
-numbered-again (entry.Joined sender c deviation) = refl
-numbered-again (entry.Judged sender v deviation) = refl
-numbered-again (entry.Left why peer) = refl
+numbered-again e = refl
 
 same-numbered : (e f : Entry) → unnumbered e ≡ unnumbered f → message_of e ≡ message_of f → e ≡ f
 same-numbered e f alike same = sym (numbered-again e) ∙ (λ i. numbered (same i) (alike i)) ∙ numbered-again f

@@ -53,14 +53,7 @@ slot-lines list script other numbers =
 shown_sent : (list : Medl) (script : Script) (row : List Entry) (history : History) (k i : ℕ) (e : Entry)
     → message_of e ≡ Some i → message_shown list script row history k e ≡ Some i
 shown_sent list script row history k i (entry.Sent message) is = is
-shown_sent list script row history k i entry.Off is = absurd (none-some i is)
-shown_sent list script row history k i entry.Waited is = absurd (none-some i is)
-shown_sent list script row history k i entry.Retried is = absurd (none-some i is)
-shown_sent list script row history k i entry.Gone is = absurd (none-some i is)
-shown_sent list script row history k i entry.Started is = absurd (none-some i is)
-shown_sent list script row history k i (entry.Joined sender c deviation) is = absurd (none-some i is)
-shown_sent list script row history k i (entry.Judged sender v deviation) is = absurd (none-some i is)
-shown_sent list script row history k i (entry.Left why peer) is = absurd (none-some i is)
+shown_sent list script row history k i e is = absurd (none-some i is)
 
 pub line-names : (list : Medl) (script : Script) (row : List Entry) (history : History) (k i : ℕ)
     → message_of (entry_of row k) ≡ Some i → i < 10 ^ 6

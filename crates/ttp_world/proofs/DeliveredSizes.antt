@@ -73,10 +73,7 @@ heard_size list expected deviation (Bits sender bytes) first =
 
 first_is : (v : ChannelView) → is_first_view v ≡ true → v ≡ view.First
 first_is view.First is = refl
-first_is view.Second is = absurd cc
-first_is view.Other is = absurd cc
-first_is view.Bad is = absurd cc
-first_is view.Silent is = absurd cc
+first_is v is = absurd cc
 
 better_first : (from_a : Bool) (a b : ChannelView) → cond from_a a b ≡ view.First → is_first_view a ≡ false
     → b ≡ view.First

@@ -84,8 +84,7 @@ frame-bytes width header c payload start small bytes =
 
 header_of-small : (k : Kind) → header_of k < 256
 header_of-small kind.N = omega arith
-header_of-small kind.I = omega arith
-header_of-small kind.X = omega arith
+header_of-small k = omega arith
 
 abbrev HoldsBytes : SentFrame → Type 0
 HoldsBytes sent = AreBytes sent.bytes

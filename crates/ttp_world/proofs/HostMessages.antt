@@ -24,12 +24,7 @@ valid_write_of : (list : Medl) (script : Script) (e : Event) → IsValidEvent li
 valid_write_of list script (event.Write node at payload) valid =
     record { node = valid.0; some = valid.2; size = valid.3 }
 valid_write_of list script (event.Send node channels f from to) valid = tt
-valid_write_of list script (event.Receive node channels f from to) valid = tt
-valid_write_of list script (event.Flip node channels bit at) valid = tt
-valid_write_of list script (event.Error node value from to) valid = tt
-valid_write_of list script (event.Jump node value at) valid = tt
-valid_write_of list script (event.Arm node at) valid = tt
-valid_write_of list script (event.Read node at from) valid = tt
+valid_write_of list script e valid = tt
 
 valid_write_found : (list : Medl) (script : Script) (found : Option Event) (w : HostWrite)
     → ((e : Event) → found ≡ Some e → IsValidEvent list script e) → option_and_then write_of found ≡ Some w
@@ -57,12 +52,7 @@ valid_write_in list script slot (event.Write node at payload) valid =
     cond_both (at == slot) (Some (record { host = node; payload = payload })) None (λ o. IfSome o (IsValidWrite list))
     (λ now. record { node = valid.0; some = valid.2; size = valid.3 }) (λ other. tt)
 valid_write_in list script slot (event.Send node channels f from to) valid = tt
-valid_write_in list script slot (event.Receive node channels f from to) valid = tt
-valid_write_in list script slot (event.Flip node channels bit at) valid = tt
-valid_write_in list script slot (event.Error node value from to) valid = tt
-valid_write_in list script slot (event.Jump node value at) valid = tt
-valid_write_in list script slot (event.Arm node at) valid = tt
-valid_write_in list script slot (event.Read node at from) valid = tt
+valid_write_in list script slot e valid = tt
 
 -- What each of some makes has what follows of it.
 

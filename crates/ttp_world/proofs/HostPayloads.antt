@@ -143,12 +143,7 @@ valid_read list script slot (event.Read node at from) valid =
     cond_both (at == slot) (Some (record { host = node; source = from })) None
     (λ (o : Option HostRead). IfSome o (IsValidRead list)) (λ now. (valid.0, valid.2)) (λ other. tt)
 valid_read list script slot (event.Send node channels f from to) valid = tt
-valid_read list script slot (event.Receive node channels f from to) valid = tt
-valid_read list script slot (event.Flip node channels bit at) valid = tt
-valid_read list script slot (event.Error node value from to) valid = tt
-valid_read list script slot (event.Jump node value at) valid = tt
-valid_read list script slot (event.Arm node at) valid = tt
-valid_read list script slot (event.Write node at payload) valid = tt
+valid_read list script slot e valid = tt
 
 pub reads_of_valid : (list : Medl) (script : Script) (slot : ℕ) → IsValidScript list script
     → AllByRecursion (λ (r : HostRead). IsReadOf list r.host r.source) (reads_in script slot)

@@ -79,10 +79,7 @@ place_of-cons list k diary (entry.Sent message) follows =
 place_of-cons list k diary (entry.Judged sender v deviation) follows =
     ap (next_place list) (sym (place_of-active list k diary follows))
 place_of-cons list k diary (entry.Left why peer) follows = refl
-place_of-cons list k diary entry.Off follows = refl
-place_of-cons list k diary entry.Waited follows = refl
-place_of-cons list k diary entry.Retried follows = refl
-place_of-cons list k diary entry.Gone follows = refl
+place_of-cons list k diary e follows = refl
 
 -- Members.
 
@@ -118,10 +115,7 @@ members_of-cons list k diary (entry.Sent message) follows =
 members_of-cons list k diary (entry.Judged sender v deviation) follows =
     sym (opined_members-cons list k diary (entry.Judged sender v deviation) follows)
 members_of-cons list k diary (entry.Left why peer) follows = refl
-members_of-cons list k diary entry.Off follows = refl
-members_of-cons list k diary entry.Waited follows = refl
-members_of-cons list k diary entry.Retried follows = refl
-members_of-cons list k diary entry.Gone follows = refl
+members_of-cons list k diary e follows = refl
 
 -- Counts.
 
@@ -141,10 +135,7 @@ accepted_of-cons diary (entry.Judged sender v deviation) follows =
     accepted_of-judged sender v deviation (since_sent_or_joined diary)
     ∙ ap (λ n. cond (is_correct v) 1 0 + n) (sym (accepted_of-active diary follows))
 accepted_of-cons diary (entry.Left why peer) follows = refl
-accepted_of-cons diary entry.Off follows = refl
-accepted_of-cons diary entry.Waited follows = refl
-accepted_of-cons diary entry.Retried follows = refl
-accepted_of-cons diary entry.Gone follows = refl
+accepted_of-cons diary e follows = refl
 
 pub rejected_of-cons : (diary : Diary) (e : Entry) → may_follow diary e ≡ true
     → rejected_of (e ∷ diary) ≡ rejected_after (rejected_of diary) (ack_of diary) e
@@ -154,10 +145,7 @@ rejected_of-cons diary (entry.Sent message) follows = refl
 rejected_of-cons diary (entry.Judged sender v deviation) follows =
     ap (λ n. cond (is_rejection (ack_of diary) v) 1 0 + n) (sym (rejected_of-active diary follows))
 rejected_of-cons diary (entry.Left why peer) follows = refl
-rejected_of-cons diary entry.Off follows = refl
-rejected_of-cons diary entry.Waited follows = refl
-rejected_of-cons diary entry.Retried follows = refl
-rejected_of-cons diary entry.Gone follows = refl
+rejected_of-cons diary e follows = refl
 
 -- The acknowledgement.
 
@@ -193,11 +181,7 @@ newest_doubted-judged : (sender : ℕ) (v : Verdict) (deviation : ℤ) (since : 
     → newest_doubted (entry.Judged sender v deviation ∷ since) ≡ doubted_with v sender (newest_doubted since)
 unfolding doubted_with
 newest_doubted-judged sender verdict.Null deviation since = refl
-newest_doubted-judged sender verdict.Invalid deviation since = refl
-newest_doubted-judged sender verdict.Incorrect deviation since = refl
-newest_doubted-judged sender verdict.Correct deviation since = refl
-newest_doubted-judged sender verdict.Tentative deviation since = refl
-newest_doubted-judged sender verdict.Denied deviation since = refl
+newest_doubted-judged sender v deviation since = refl
 
 ack_answered-told : (join correct : Bool) (doubted : Option ℕ) (v : Verdict) (sender : ℕ)
     → ack_answered (ack_told join correct doubted) v sender
@@ -241,36 +225,19 @@ ack_of-cons diary (entry.Judged sender v deviation) follows =
     ack_since-judged (newest_sent_or_joined diary) (since_sent_or_joined diary) sender v deviation
     ∙ ap (λ a. ack_answered a v sender) (sym (ack_of-active diary follows))
 ack_of-cons diary (entry.Left why peer) follows = refl
-ack_of-cons diary entry.Off follows = refl
-ack_of-cons diary entry.Waited follows = refl
-ack_of-cons diary entry.Retried follows = refl
-ack_of-cons diary entry.Gone follows = refl
+ack_of-cons diary e follows = refl
 
 pub cold_start_of-cons : (diary : Diary) (e : Entry) → may_follow diary e ≡ true
     → cold_start_of (e ∷ diary) ≡ cold_start_after (cold_start_of diary) e
-cold_start_of-cons diary entry.Started follows = refl
-cold_start_of-cons diary (entry.Joined sender cstate deviation) follows = refl
-cold_start_of-cons diary (entry.Sent message) follows = refl
 cold_start_of-cons diary (entry.Judged sender v deviation) follows = sym (cold_start_of-active diary follows)
-cold_start_of-cons diary (entry.Left why peer) follows = refl
-cold_start_of-cons diary entry.Off follows = refl
-cold_start_of-cons diary entry.Waited follows = refl
-cold_start_of-cons diary entry.Retried follows = refl
-cold_start_of-cons diary entry.Gone follows = refl
+cold_start_of-cons diary e follows = refl
 
 -- Listening.
 
 pub limit_of-cons : (list : Medl) (k : ℕ) (diary : Diary) (e : Entry)
     → limit_of list k (e ∷ diary) ≡ limit_after list k (limit_of list k diary) e
 limit_of-cons list k diary entry.Started = refl
-limit_of-cons list k diary (entry.Joined sender cstate deviation) = refl
-limit_of-cons list k diary (entry.Sent message) = refl
-limit_of-cons list k diary (entry.Judged sender v deviation) = refl
-limit_of-cons list k diary (entry.Left why peer) = refl
-limit_of-cons list k diary entry.Off = refl
-limit_of-cons list k diary entry.Waited = refl
-limit_of-cons list k diary entry.Retried = refl
-limit_of-cons list k diary entry.Gone = refl
+limit_of-cons list k diary e = refl
 
 pub silent_slots_of-cons : (diary : Diary) (surroundings : Surroundings) (e : Entry) (s : SlotSurroundings)
     → silent_slots_of (e ∷ diary) (s ∷ surroundings)
@@ -328,10 +295,7 @@ notes_of-cons list k diary (entry.Judged sender v deviation) follows =
     ∙ ap (λ notes. noted list notes (stint_place list k ((entry.Judged sender v deviation) ∷ diary))
     (entry.Judged sender v deviation)) (sym (notes_of-active list k diary follows))
 notes_of-cons list k diary (entry.Left why peer) follows = refl
-notes_of-cons list k diary entry.Off follows = refl
-notes_of-cons list k diary entry.Waited follows = refl
-notes_of-cons list k diary entry.Retried follows = refl
-notes_of-cons list k diary entry.Gone follows = refl
+notes_of-cons list k diary e follows = refl
 
 pub offset_of-cons : (list : Medl) (k : ℕ) (diary : Diary) (surroundings : Surroundings) (e : Entry)
     (s : SlotSurroundings)

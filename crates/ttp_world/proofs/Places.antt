@@ -138,13 +138,7 @@ delivery-sender list k past h (entry.Judged sender v deviation) of_list =
     cond_both (is_correct v && carries_payload list (coming_place list past)) (Some _) None (IsSentInList list)
     (λ is. of_list) (λ other. tt)
 delivery-sender list k past h entry.Off of_list = tt
-delivery-sender list k past h entry.Waited of_list = tt
-delivery-sender list k past h entry.Retried of_list = tt
-delivery-sender list k past h entry.Gone of_list = tt
-delivery-sender list k past h entry.Started of_list = tt
-delivery-sender list k past h (entry.Sent message) of_list = tt
-delivery-sender list k past h (entry.Joined sender c d) of_list = tt
-delivery-sender list k past h (entry.Left why peer) of_list = tt
+delivery-sender list k past h e of_list = tt
 
 pub delivered_of-sender : (list : Medl) (script : Script) (history : History) (row : List Entry) (r : ℕ)
     → IsOfList list (entry_of row r)

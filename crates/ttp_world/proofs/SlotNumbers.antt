@@ -61,13 +61,7 @@ number_of-entry : (list : Medl) (script : Script) (row : List Entry) (before : H
 number_of-entry list script row before k (entry.Sent message) words small line =
     named-node (length before) k _ message words small line
 number_of-entry list script row before k entry.Off words small line = refl
-number_of-entry list script row before k entry.Waited words small line = refl
-number_of-entry list script row before k entry.Retried words small line = refl
-number_of-entry list script row before k entry.Gone words small line = refl
-number_of-entry list script row before k entry.Started words small line = refl
-number_of-entry list script row before k (entry.Joined sender cstate deviation) words small line = refl
-number_of-entry list script row before k (entry.Judged sender v deviation) words small line = refl
-number_of-entry list script row before k (entry.Left why peer) words small line = refl
+number_of-entry list script row before k e words small line = refl
 
 nodes-sent : (list : Medl) (script : Script) (row : List Entry) (before : History) (n k : ℕ) → n < 2 ^ 64 → k < n
     → IfSome (message_of (entry_of row k)) (λ i. i < 2 ^ 64)

@@ -22,23 +22,11 @@ filter_map-none p f (x ∷ xs) agree none =
 
 pub write_in-none : (slot : ℕ) (e : Event) → is_host_event e ≡ false → write_in slot e ≡ None
 write_in-none slot (event.Write node at payload) other = absurd (false≢true (sym other))
-write_in-none slot (event.Read node at from) other = refl
-write_in-none slot (event.Send node channels f from to) other = refl
-write_in-none slot (event.Receive node channels f from to) other = refl
-write_in-none slot (event.Flip node channels bit at) other = refl
-write_in-none slot (event.Error node value from to) other = refl
-write_in-none slot (event.Jump node value at) other = refl
-write_in-none slot (event.Arm node at) other = refl
+write_in-none slot e other = refl
 
 read_in-none : (slot : ℕ) (e : Event) → is_host_event e ≡ false → read_in slot e ≡ None
 read_in-none slot (event.Read node at from) other = absurd (false≢true (sym other))
-read_in-none slot (event.Write node at payload) other = refl
-read_in-none slot (event.Send node channels f from to) other = refl
-read_in-none slot (event.Receive node channels f from to) other = refl
-read_in-none slot (event.Flip node channels bit at) other = refl
-read_in-none slot (event.Error node value from to) other = refl
-read_in-none slot (event.Jump node value at) other = refl
-read_in-none slot (event.Arm node at) other = refl
+read_in-none slot e other = refl
 
 pub writes_in-none : (script : Script) (slot : ℕ) → count_by is_host_event script.events ≡ 0
     → writes_in script slot ≡ []

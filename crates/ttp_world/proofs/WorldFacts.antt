@@ -15,12 +15,7 @@ use Rattle.ttp_world.specs.declared.script.Event.TheVariants as event
 pub event-bounded : (list : Medl) (script : Script) (e : Event) → IsValidEvent list script e → IsBounded e
 event-bounded list script (event.Error node value from to) valid = valid.1
 event-bounded list script (event.Jump node value slot) valid = valid.1
-event-bounded list script (event.Send node channels kind from to) valid = tt
-event-bounded list script (event.Receive node channels kind from to) valid = tt
-event-bounded list script (event.Flip node channels bit slot) valid = tt
-event-bounded list script (event.Arm node slot) valid = tt
-event-bounded list script (event.Write node slot payload) valid = tt
-event-bounded list script (event.Read node slot from) valid = tt
+event-bounded list script e valid = tt
 
 pub get-none : (list : Medl) (script : Script) (start : ClusterStart) (slot i : ℕ) → slot ≤ i
     → get_or (slots_before list script start slot) i no_slot ≡ no_slot

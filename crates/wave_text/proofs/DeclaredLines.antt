@@ -28,22 +28,11 @@ use Rattle.wave_text.proofs.WaveLines.{all_slots-each}
 
 none-cluster_name : (v : ClusterVariable) → HasNone (cluster_name v)
 none-cluster_name of_cluster.Agree = refl
-none-cluster_name of_cluster.Sender = refl
-none-cluster_name of_cluster.Active = refl
-none-cluster_name of_cluster.Leaving = refl
-none-cluster_name of_cluster.Spread = refl
+none-cluster_name v = refl
 
 none-node_name : (v : NodeVariable) → HasNone (node_name v)
 none-node_name of_node.Sends = refl
-none-node_name of_node.Phase = refl
-none-node_name of_node.Word = refl
-none-node_name of_node.Peer = refl
-none-node_name of_node.Message = refl
-none-node_name of_node.Members = refl
-none-node_name of_node.Accepted = refl
-none-node_name of_node.Rejected = refl
-none-node_name of_node.Ack = refl
-none-node_name of_node.Clock = refl
+none-node_name v = refl
 
 none-port_name : (does : What) (v : PortVariable) → HasNone (port_name does v)
 none-port_name what.Write v = refl
@@ -62,15 +51,8 @@ none-cluster_type width of_cluster.Spread = refl
 
 none-node_type : (width : ℕ) (v : NodeVariable) → HasNone (node_type width v)
 none-node_type width of_node.Sends = none-wire 1
-none-node_type width of_node.Phase = refl
-none-node_type width of_node.Word = refl
-none-node_type width of_node.Peer = refl
-none-node_type width of_node.Message = refl
 none-node_type width of_node.Members = none-wire width
-none-node_type width of_node.Accepted = refl
-none-node_type width of_node.Rejected = refl
-none-node_type width of_node.Ack = refl
-none-node_type width of_node.Clock = refl
+none-node_type width v = refl
 
 none-port_type : (port : Port) (v : PortVariable) → HasNone (port_type port v)
 none-port_type port of_port.Number = refl
@@ -82,23 +64,13 @@ none-range size =
     (none-append (codes " [") (decimal (size - 1)) refl (none-decimal (size - 1))) refl
 
 none-cluster_range : (width : ℕ) (v : ClusterVariable) → HasNone (cluster_range width v)
-none-cluster_range width of_cluster.Agree = refl
-none-cluster_range width of_cluster.Sender = refl
 none-cluster_range width of_cluster.Active = none-range width
 none-cluster_range width of_cluster.Leaving = none-range width
-none-cluster_range width of_cluster.Spread = refl
+none-cluster_range width v = refl
 
 none-node_range : (width : ℕ) (v : NodeVariable) → HasNone (node_range width v)
-none-node_range width of_node.Sends = refl
-none-node_range width of_node.Phase = refl
-none-node_range width of_node.Word = refl
-none-node_range width of_node.Peer = refl
-none-node_range width of_node.Message = refl
 none-node_range width of_node.Members = none-range width
-none-node_range width of_node.Accepted = refl
-none-node_range width of_node.Rejected = refl
-none-node_range width of_node.Ack = refl
-none-node_range width of_node.Clock = refl
+none-node_range width v = refl
 
 none-port_range : (port : Port) (v : PortVariable) → HasNone (port_range port v)
 none-port_range port of_port.Number = refl

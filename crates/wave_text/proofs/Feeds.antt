@@ -93,71 +93,25 @@ none-cluster_value width of_cluster.Spread nodes = none-spread (clock_range node
 
 none-phase : (w : Word) → HasNone (codes "s" ++ phase_text w)
 none-phase word.Off = refl
-none-phase word.Wait = refl
-none-phase word.Retry = refl
-none-phase word.Gone = refl
-none-phase word.Start = refl
-none-phase word.Join = refl
-none-phase word.Send = refl
-none-phase word.Correct = refl
-none-phase word.Tentative = refl
-none-phase word.Incorrect = refl
-none-phase word.Invalid = refl
-none-phase word.Null = refl
-none-phase word.Denied = refl
-none-phase word.Unacknowledged = refl
-none-phase word.Clique = refl
+none-phase w = refl
 
 none-word : (w : Word) → HasNone (codes "s" ++ word_text w)
 none-word word.Off = refl
-none-word word.Wait = refl
-none-word word.Retry = refl
-none-word word.Gone = refl
-none-word word.Start = refl
-none-word word.Join = refl
-none-word word.Send = refl
-none-word word.Correct = refl
-none-word word.Tentative = refl
-none-word word.Incorrect = refl
-none-word word.Invalid = refl
-none-word word.Null = refl
-none-word word.Denied = refl
-none-word word.Unacknowledged = refl
-none-word word.Clique = refl
+none-word w = refl
 
 none-unless_off : (w : Word) (text : List ℕ) → HasNone text → HasNone (unless_off w text)
 none-unless_off word.Off text none = refl
-none-unless_off word.Wait text none = none
-none-unless_off word.Retry text none = none
-none-unless_off word.Gone text none = none
-none-unless_off word.Start text none = none
-none-unless_off word.Join text none = none
-none-unless_off word.Send text none = none
-none-unless_off word.Correct text none = none
-none-unless_off word.Tentative text none = none
-none-unless_off word.Incorrect text none = none
-none-unless_off word.Invalid text none = none
-none-unless_off word.Null text none = none
-none-unless_off word.Denied text none = none
-none-unless_off word.Unacknowledged text none = none
-none-unless_off word.Clique text none = none
+none-unless_off w text none = none
 
 none-held : (w : Word) (text : List ℕ) → HasNone text → HasNone (held_text w text)
 none-held word.Off text none = refl
 none-held word.Wait text none = refl
 none-held word.Retry text none = refl
 none-held word.Gone text none = refl
-none-held word.Start text none = none
-none-held word.Join text none = none
-none-held word.Send text none = none
-none-held word.Correct text none = none
-none-held word.Tentative text none = none
-none-held word.Incorrect text none = none
-none-held word.Invalid text none = none
-none-held word.Null text none = none
 none-held word.Denied text none = refl
 none-held word.Unacknowledged text none = refl
 none-held word.Clique text none = refl
+none-held w text none = none
 
 pub none-node_value : (width : ℕ) (v : NodeVariable) (node : NodeShown) → HasNone (node_value width v node)
 none-node_value width of_node.Sends node = none-bit (sends node.word)

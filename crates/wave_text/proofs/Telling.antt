@@ -100,20 +100,7 @@ or_nothing-again (Some v) fits = number-again v fits
 pub unless_off-told : (w : Word) (number : Option ℕ) → (w ≡ word.Off → number ≡ None) → IfSome number (λ n. n < 2 ^ 64)
     → number_shown (unless_off w (number_or_nothing number)) ≡ number
 unless_off-told word.Off number off fits = sym (off refl)
-unless_off-told word.Wait number off fits = or_nothing-again number fits
-unless_off-told word.Retry number off fits = or_nothing-again number fits
-unless_off-told word.Gone number off fits = or_nothing-again number fits
-unless_off-told word.Start number off fits = or_nothing-again number fits
-unless_off-told word.Join number off fits = or_nothing-again number fits
-unless_off-told word.Send number off fits = or_nothing-again number fits
-unless_off-told word.Correct number off fits = or_nothing-again number fits
-unless_off-told word.Tentative number off fits = or_nothing-again number fits
-unless_off-told word.Incorrect number off fits = or_nothing-again number fits
-unless_off-told word.Invalid number off fits = or_nothing-again number fits
-unless_off-told word.Null number off fits = or_nothing-again number fits
-unless_off-told word.Denied number off fits = or_nothing-again number fits
-unless_off-told word.Unacknowledged number off fits = or_nothing-again number fits
-unless_off-told word.Clique number off fits = or_nothing-again number fits
+unless_off-told w number off fits = or_nothing-again number fits
 
 -- a value that tells this number where it is shown
 pub held-told : (w : Word) (text : List ℕ) (v : ℕ) → (is_active_word w ≡ false → v ≡ 0) → number_shown text ≡ Some v
@@ -122,17 +109,10 @@ held-told word.Off text v none is = sym (none refl)
 held-told word.Wait text v none is = sym (none refl)
 held-told word.Retry text v none is = sym (none refl)
 held-told word.Gone text v none is = sym (none refl)
-held-told word.Start text v none is = ap (λ n. unwrap_or n 0) is
-held-told word.Join text v none is = ap (λ n. unwrap_or n 0) is
-held-told word.Send text v none is = ap (λ n. unwrap_or n 0) is
-held-told word.Correct text v none is = ap (λ n. unwrap_or n 0) is
-held-told word.Tentative text v none is = ap (λ n. unwrap_or n 0) is
-held-told word.Incorrect text v none is = ap (λ n. unwrap_or n 0) is
-held-told word.Invalid text v none is = ap (λ n. unwrap_or n 0) is
-held-told word.Null text v none is = ap (λ n. unwrap_or n 0) is
 held-told word.Denied text v none is = sym (none refl)
 held-told word.Unacknowledged text v none is = sym (none refl)
 held-told word.Clique text v none is = sym (none refl)
+held-told w text v none is = ap (λ n. unwrap_or n 0) is
 
 pub held_number-told : (w : Word) (v : ℕ) → (is_active_word w ≡ false → v ≡ 0) → v < 2 ^ 64
     → count_told (held_text w (number_text v)) ≡ v

@@ -37,22 +37,11 @@ none-letter_of k = none-byte (65 + k) (omega arith)
 
 pub none-cluster_letter : (v : ClusterVariable) → HasNone (cluster_letter v)
 none-cluster_letter of_cluster.Agree = refl
-none-cluster_letter of_cluster.Sender = refl
-none-cluster_letter of_cluster.Active = refl
-none-cluster_letter of_cluster.Leaving = refl
-none-cluster_letter of_cluster.Spread = refl
+none-cluster_letter v = refl
 
 none-node_letter : (v : NodeVariable) → HasNone (node_letter v)
 none-node_letter of_node.Sends = refl
-none-node_letter of_node.Phase = refl
-none-node_letter of_node.Word = refl
-none-node_letter of_node.Peer = refl
-none-node_letter of_node.Message = refl
-none-node_letter of_node.Members = refl
-none-node_letter of_node.Accepted = refl
-none-node_letter of_node.Rejected = refl
-none-node_letter of_node.Ack = refl
-none-node_letter of_node.Clock = refl
+none-node_letter v = refl
 
 pub none-node_code : (v : NodeVariable) (k : ℕ) → HasNone (node_code v k)
 none-node_code v k = none-append (node_letter v) (letter_of_node k) (none-node_letter v) (none-letter_of k)

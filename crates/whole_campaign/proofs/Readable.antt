@@ -294,10 +294,8 @@ module _ (c : Counter) where
       omega (arith, head-held frame first last line (behind_head frame first last line) refl)
 
   onto-sum : (d : Due) (pieces : List Piece) → sum_by c.of (onto (piece_ended d) pieces) ≡ ended d + sum_by c.of pieces
-  onto-sum (due.Fault piece before) pieces = omega arith
   onto-sum (due.Broken piece) pieces = sum_by-cons c.of piece pieces
-  onto-sum (due.Piece last) pieces = omega arith
-  onto-sum (due.Own first last) pieces = omega arith
+  onto-sum d pieces = omega arith
 
   few-next : (frame : Common) (lines : Lines) (next : Option Due)
       → ((d : Due) → sum_by c.of (pieces_from frame d lines) ≤ held d + length lines)

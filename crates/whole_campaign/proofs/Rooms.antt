@@ -61,8 +61,7 @@ pub less_due : (m n : ℕ) (d : Due) → m ≤ n → HasRoomBehind n d → HasRo
 less_due m n (due.Fault piece before) fewer is =
     (is.0, less_room m n piece.kept fewer is.1, less_room m n piece.broken fewer is.2)
 less_due m n (due.Broken piece) fewer is = omega (arith, fewer, is)
-less_due m n (due.Piece last) fewer is = omega (arith, fewer, is)
-less_due m n (due.Own first last) fewer is = omega (arith, fewer, is)
+less_due m n d fewer is = omega (arith, fewer, is)
 
 pub begun_due : (n first last : ℕ) → n < 2 ^ 64 → HasRoomBehind n (piece_begun first last)
 begun_due n first last small = (tt, none_room n small, none_room n small)

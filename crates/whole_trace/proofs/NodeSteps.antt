@@ -217,11 +217,9 @@ host-nodes head slot has_read (first ∷ lines) on = by_value (value_of first) o
 pub nodes-ended : (at : Due) (count : ℕ) (lines : Lines)
     → ((head : Head) (slot k : ℕ) → at ≡ due.Node head slot k → ⊥)
     → IsInSlot count at lines → (slots_from lines).front.nodes ≡ []
-nodes-ended due.First count lines other in_slot = let no : false ≡ true = in_slot.in_slot in cc
 nodes-ended (due.Node head slot k) count lines other in_slot = absurd (other head slot k refl)
 nodes-ended (due.Host head slot has_read) count lines other in_slot = host-nodes head slot has_read lines in_slot.goes_on
-nodes-ended (due.Back head k) count lines other in_slot = let no : false ≡ true = in_slot.in_slot in cc
-nodes-ended (due.Nothing head k b) count lines other in_slot = let no : false ≡ true = in_slot.in_slot in cc
+nodes-ended at count lines other in_slot = let no : false ≡ true = in_slot.in_slot in cc
 
 pub same-slot : (s t : SlotLines) → s.nodes ≡ t.nodes → s.hosts ≡ t.hosts → s ≡ t
 same-slot s t nodes hosts = λ i. record { nodes = nodes i; hosts = hosts i }
@@ -242,11 +240,9 @@ hosts-follow (due.Nothing head k b) count lines other in_slot = let no : false �
 pub are-hosts : (at : Due) (count : ℕ) (lines : Lines)
     → ((head : Head) (slot k : ℕ) → at ≡ due.Node head slot k → ⊥)
     → IsInSlot count at lines → IsHostPlace at lines
-are-hosts due.First count lines other in_slot = let no : false ≡ true = in_slot.in_slot in cc
 are-hosts (due.Node head slot k) count lines other in_slot = absurd (other head slot k refl)
 are-hosts (due.Host head slot has_read) count lines other in_slot = record { goes_on = in_slot.goes_on; host = refl }
-are-hosts (due.Back head k) count lines other in_slot = let no : false ≡ true = in_slot.in_slot in cc
-are-hosts (due.Nothing head k b) count lines other in_slot = let no : false ≡ true = in_slot.in_slot in cc
+are-hosts at count lines other in_slot = let no : false ≡ true = in_slot.in_slot in cc
 
 -- the next node is due, or hosts are
 next-in_slot : (head : Head) (slot k count : ℕ) → k ≡ count → nat_lt k head.nodes ≡ true → are_few head ≡ true
@@ -307,8 +303,7 @@ is-host (due.Host head slot has_read) then (line.Read t h source n payload) is e
     (Some (due.Host head slot true)) then e in
     subst (λ (d : Due). IsTrue (is_due_between d)) (some_same (due.Host head slot true) then g.1) between
 is-host (due.Host head slot has_read) then v is e between = cc
-is-host (due.Back head k) then v is e between = cc
-is-host (due.Nothing head k b) then v is e between = cc
+is-host at then v is e between = cc
 
 with-host : (v : TraceLine) (from : SlotsFrom) → IsTrue (is_host_line v) → (with_line v from).slots ≡ from.slots
 with-host (line.Write t h n) from is = refl

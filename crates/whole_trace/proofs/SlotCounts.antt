@@ -92,10 +92,7 @@ step-total (due.Nothing head k b) then v from s e is = cc
 -- all lines
 end-total : (at : Due) (o : Outline) → or_missing (ending at) ≡ Ok o → Totals at 0 o.head.slots
 end-total due.First o e = tt
-end-total (due.Node head slot k) o e = cc
-end-total (due.Host head slot r) o e = cc
-end-total (due.Back head k) o e = cc
-end-total (due.Nothing head k b) o e = cc
+end-total at o e = cc
 
 later-ok : (r : Result Outline ℕ) (o : Outline) → one_line_later r ≡ Ok o → r ≡ Ok o
 later-ok (Ok outline) o e = e

@@ -8,6 +8,4 @@ use Rattle.ttp_top.specs.Calls.Words.{form_told}
 pub plan_of-told : (list script : List ℕ) (asked : Question)
     → plan_of (Some (form_told list script asked)) ≡ both_plan list script (plan_told asked)
 plan_of-told list script question.Keeps = refl
-plan_of-told list script (question.Verify trace) = refl
-plan_of-told list script (question.Precision node) = refl
-plan_of-told list script (question.Modes trace) = refl
+plan_of-told list script asked = refl

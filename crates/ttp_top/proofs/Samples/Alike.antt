@@ -17,14 +17,7 @@ use Rattle.ttp_top.specs.Samples.Totals.{is_leaving}
 
 is_leaving-unnumbered : (e : Entry) → is_leaving (unnumbered e) ≡ is_leaving e
 is_leaving-unnumbered entry.Off = refl
-is_leaving-unnumbered entry.Waited = refl
-is_leaving-unnumbered entry.Retried = refl
-is_leaving-unnumbered entry.Gone = refl
-is_leaving-unnumbered entry.Started = refl
-is_leaving-unnumbered (entry.Sent message) = refl
-is_leaving-unnumbered (entry.Joined sender cstate deviation) = refl
-is_leaving-unnumbered (entry.Judged sender v deviation) = refl
-is_leaving-unnumbered (entry.Left why peer) = refl
+is_leaving-unnumbered e = refl
 
 -- States of nodes below a number, which agree node by node in what is counted.
 

@@ -28,13 +28,7 @@ use Rattle.entry_causes.proofs.frames.frame_sent.Goals.{After-cstate_in-cstate}
 starts : (e : Entry) → is_sending e ≡ true → is_sent e ≡ false → is_started e ≡ true
 starts entry.Started sends other = refl
 starts (entry.Sent message) sends other = absurd (false≢true (sym other))
-starts entry.Off sends other = absurd (false≢true sends)
-starts entry.Gone sends other = absurd (false≢true sends)
-starts entry.Waited sends other = absurd (false≢true sends)
-starts entry.Retried sends other = absurd (false≢true sends)
-starts (entry.Joined sender cstate deviation) sends other = absurd (false≢true sends)
-starts (entry.Judged sender v deviation) sends other = absurd (false≢true sends)
-starts (entry.Left why peer) sends other = absurd (false≢true sends)
+starts e sends other = absurd (false≢true sends)
 
 own_cstate_is : (c : After-cstate_in-cstate)
     → c.cstate_in-cstate.result
