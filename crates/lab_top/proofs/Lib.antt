@@ -2,6 +2,7 @@ pub mod Room
 pub mod CampaignLines
 pub mod MarginLines
 pub mod PairLines
+pub mod WhyLines
 pub mod GeneratedLines
 pub mod Refusals
 pub mod Charts

@@ -12,6 +12,7 @@ help_lines =
     ∷ codes "campaign LIST SCRIPT FIRST LAST      what each single fault in these slots costs, a line for each\n"
     ∷ codes "chart CAMPAIGN [FIRST LAST]          a picture of a campaign, or of these slots of it, as SVG\n"
     ∷ codes "check LIST [SCRIPT]                  each mistake in both files, with its place and the way out\n"
+    ∷ codes "why LIST SCRIPT NODE [SLOT]          why the node left, or why this entry of it is what it is, line by line\n"
     ∷ codes "frames LIST SCRIPT TRACE             each frame on the bus in the run of a trace, byte by byte\n"
     ∷ codes "margins LIST SCRIPT [FIRST LAST]     from which drift on, or jump in these slots, a clock costs others\n"
     ∷ codes "pairs LIST SCRIPT FIRST LAST WITHIN  what every two faults cost more than each alone, those that cost others by name\n"

@@ -79,3 +79,6 @@ returns-clause-pairs g c = λ list script first last within form.
     (rw (c.command_of.ensures.form, form) at c.obey.ensures.follows)
     (rw (c.command_of.ensures.form, form) at c.obey.ensures.no_form) in
     pair_promise list script first last within _ _ (alone c.obey.result) p.call
+
+pub returns-clause-why : goal.returns-clause-why
+returns-clause-why g c = ?
