@@ -20,13 +20,14 @@ use Rattle.check_text.proofs.Written.{check_lines-each, check_status-one}
 use Rattle.script_gen.specs.Generator.{generated}
 use Rattle.script_lines.specs.ScriptLines.{script_lines}
 use Rattle.commands.specs.declared.read.FileFault.{FileFault}
-use Rattle.commands.specs.Files.{refused_list, refused_script, script_file, trace_plan}
+use Rattle.commands.specs.Files.{refused_list, refused_script, trace_plan}
 use Rattle.commands.specs.Lines.{AreLines}
 use Rattle.commands.specs.Plan.{ends, said_ending, whole_ending}
+use Rattle.commands.specs.Read.{script_from}
 use Rattle.commands.specs.Texts.{one, those, no_texts}
 use Rattle.commands.proofs.Lines.{AreOfLines, IsFinal, SaysLine, one_text, lines_front, text_final, line_final}
 use Rattle.commands.proofs.Lines.{refused_list-final, refused_script-final}
-use Rattle.commands.proofs.Plans.{Every, list_every, both_every, read_every}
+use Rattle.commands.proofs.Plans.{Every, after_every, list_every, both_every}
 use Rattle.lab_top.specs.declared.refusal.TextFault.{TextFault}
 use Rattle.lab_top.specs.Forms.{lab_usage_line, viewed_ending, view_plan, lines_ending, lines_plan, script_ending}
 use Rattle.lab_top.specs.Forms.{script_form_plan, frames_ending, frames_plan, check_ending, check_plan, lab_plan_of}
@@ -45,7 +46,7 @@ use Rattle.lab_top.proofs.MarginLines.{margin_lines-each}
 use Rattle.lab_top.proofs.PairLines.{pairs_lines-each}
 use Rattle.lab_top.proofs.Refusals.{text_fault_line-is_line, viewed-taken}
 use Rattle.lab_top.proofs.WhyLines.{why-answer}
-use Rattle.lab_top.specs.Why.{read_ending, script_read_from, script_why_plan, why_ending, why_plan}
+use Rattle.lab_top.specs.Why.{ends_why, why_ending, why_plan}
 use Rattle.why_answers.specs.Answer.{why_answer}
 
 -- an ending that a form may come to
@@ -230,9 +231,9 @@ of_script list slots number =
 
 -- why an entry came about, or why there is nothing to tell
 
-why_ends : (list script : List ℕ) (k : ℕ) (slot : Option ℕ) (medl : Medl) (right : Script) (bytes : List ℕ)
+why_ends : (list script : List ℕ) (k : ℕ) (slot : Option ℕ) (medl : Medl) (bytes : List ℕ) (right : Script)
     → IsOfForm (Some (why list script k slot)) (why_ending (why_answer medl right bytes k slot))
-why_ends list script k slot medl right bytes =
+why_ends list script k slot medl bytes right =
     let is = why-answer medl right bytes k slot in
     let answer = why_answer medl right bytes k slot in
     record {
@@ -247,10 +248,13 @@ of_why : (list script : List ℕ) (k : ℕ) (slot : Option ℕ)
     → Every (IsOfForm (Some (why list script k slot))) SaysLine (why_plan list script k slot)
 of_why list script k slot =
     let form = Some (why list script k slot) in
-    list_every (IsOfForm form) SaysLine list (script_why_plan script k slot) refl (no_list form refl)
-    (λ medl. read_every (IsOfForm form) SaysLine (script_file script) (script_read_from medl) refused_script
-    (λ read. ends (read_ending k slot medl read)) refl (no_script form)
-    (λ read. why_ends list script k slot medl read.script read.bytes))
+    list_every (IsOfForm form) SaysLine list _ refl (no_list form refl)
+    (λ medl. (
+      refl,
+      λ bytes.
+          after_every (IsOfForm form) SaysLine refused_script (ends_why k slot medl bytes) (no_script form)
+          (why_ends list script k slot medl bytes) (script_from medl bytes),
+    ))
 
 help-each : AreLines help_lines
 help-each = (refl, (refl, (refl, (refl, (refl, (refl, (refl, (refl, (refl, (refl, (refl, (refl, (refl, (refl, tt))))))))))))))

@@ -18,7 +18,7 @@ help_lines =
     ∷ codes "pairs LIST SCRIPT FIRST LAST WITHIN  what every two faults cost more than each alone, those that cost others by name\n"
     ∷ codes "script LIST SLOTS NUMBER             the script that ttpbench sample runs, as a text\n"
     ∷ codes "\n"
-    ∷ codes "docs/FIRST.md is the page to begin with; docs/VIEWS.md, docs/CAMPAIGNS.md, docs/CHARTS.md, docs/FRAMES.md, docs/CHECK.md, docs/MARGINS.md and docs/PAIRS.md have the forms.\n"
+    ∷ codes "docs/FIRST.md is the page to begin with; docs/VIEWS.md, docs/CAMPAIGNS.md, docs/CHARTS.md, docs/FRAMES.md, docs/CHECK.md, docs/WHY.md, docs/MARGINS.md and docs/PAIRS.md have the forms.\n"
     ∷ []
 
 -- the program's version, and that of the kit by which it was proved

@@ -1,7 +1,7 @@
 -- What `why LIST SCRIPT NODE [SLOT]` asks for, and how it ends.
 use Rattle.std.specs.Prelude.{Err, List, Ok, Option, Result, ℕ, ◌≡◌}
 use Rattle.commands.specs.Files.{list_plan, refused_script, script_file}
-use Rattle.commands.specs.Plan.{ends, read_plan, whole_ending}
+use Rattle.commands.specs.Plan.{after, asks, ends, whole_ending}
 use Rattle.commands.specs.Read.{script_from}
 use Rattle.commands.specs.Texts.{one}
 use Rattle.commands.specs.declared.read.FileFault.{FileFault}
@@ -22,30 +22,18 @@ IsUnread read unread.Memory = Unit {0}
 abbrev pub why_ending : WhyAnswer → LabEnding
 why_ending answer = whole_ending answer.status (one answer.lines)
 
--- a script with the bytes that it is read from
-pub record ReadScript : Type 0 where
-  pub script : Script
-  pub bytes : List ℕ
+-- a list, and then a script for it, beside the bytes that it is read from
 
-abbrev pub read_script : Script → List ℕ → ReadScript
-read_script script bytes = record { script = script; bytes = bytes }
+abbrev pub read_script_plan : List ℕ → (List ℕ → Script → LabPlan) → Medl → LabPlan
+read_script_plan script next list = asks (script_file script) (λ bytes. after refused_script (next bytes) (script_from list bytes))
 
-abbrev pub with_bytes : List ℕ → Result Script FileFault → Result ReadScript FileFault
-with_bytes bytes (Ok script) = Ok (read_script script bytes)
-with_bytes bytes (Err fault) = Err fault
+abbrev pub read_both_plan : List ℕ → List ℕ → (Medl → List ℕ → Script → LabPlan) → LabPlan
+read_both_plan list script next = list_plan list (λ medl. read_script_plan script (next medl) medl)
 
-abbrev pub script_read_from : Medl → List ℕ → Result ReadScript FileFault
-script_read_from list bytes = with_bytes bytes (script_from list bytes)
+-- how it ends by them
+abbrev pub ends_why : ℕ → Option ℕ → Medl → List ℕ → Script → LabPlan
+ends_why k slot list bytes script = ends (why_ending (why_answer list script bytes k slot))
 
--- how it ends by the list and the script
-abbrev pub read_ending : ℕ → Option ℕ → Medl → ReadScript → LabEnding
-read_ending k slot list read = why_ending (why_answer list read.script read.bytes k slot)
-
--- it asks for the script
-abbrev pub script_why_plan : List ℕ → ℕ → Option ℕ → Medl → LabPlan
-script_why_plan script k slot list =
-    read_plan (script_file script) (script_read_from list) refused_script (λ read. ends (read_ending k slot list read))
-
--- and for the list before it
+-- it asks for the list and the script
 abbrev pub why_plan : List ℕ → List ℕ → ℕ → Option ℕ → LabPlan
-why_plan list script k slot = list_plan list (script_why_plan script k slot)
+why_plan list script k slot = read_both_plan list script (ends_why k slot)

@@ -25,7 +25,7 @@ const HELP_LINES: [&str; 14] = [
     "pairs LIST SCRIPT FIRST LAST WITHIN  what every two faults cost more than each alone, those that cost others by name\n",
     "script LIST SLOTS NUMBER             the script that ttpbench sample runs, as a text\n",
     "\n",
-    "docs/FIRST.md is the page to begin with; docs/VIEWS.md, docs/CAMPAIGNS.md, docs/CHARTS.md, docs/FRAMES.md, docs/CHECK.md, docs/MARGINS.md and docs/PAIRS.md have the forms.\n",
+    "docs/FIRST.md is the page to begin with; docs/VIEWS.md, docs/CAMPAIGNS.md, docs/CHARTS.md, docs/FRAMES.md, docs/CHECK.md, docs/WHY.md, docs/MARGINS.md and docs/PAIRS.md have the forms.\n",
 ];
 
 // Writes them.

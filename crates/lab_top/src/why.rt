@@ -5,14 +5,14 @@ ghost use Rattle.ttp_base.specs.Sheet.{Puts};
 ghost use Rattle.ttp_world.specs.Medl.{IsValid};
 ghost use Rattle.ttp_world.specs.Script.{IsValidScript};
 ghost use Rattle.commands.specs.Files.{refused_script, script_file};
-ghost use Rattle.commands.specs.Loads.{Took, TookNone};
+ghost use Rattle.commands.specs.Loads.{Loaded, TookNone};
 ghost use Rattle.commands.specs.Outcome.{Follows, ShowsEnding};
-ghost use Rattle.commands.specs.Plan.{ends, outside, read_plan};
+ghost use Rattle.commands.specs.Plan.{outside};
 ghost use Rattle.commands.specs.Read.{script_from};
 ghost use Rattle.commands.specs.Texts.{alone};
 ghost use Rattle.lab_top.specs.Forms.{lab_plan_of};
 ghost use Rattle.lab_top.specs.Texts.{ttplab};
-ghost use Rattle.lab_top.specs.Why.{read_script, script_read_from, why_ending, script_why_plan, IsUnread};
+ghost use Rattle.lab_top.specs.Why.{ends_why, read_script_plan, why_ending, IsUnread};
 ghost use Rattle.lab_top.specs.Words.{why};
 ghost use Rattle.why_answers.specs.Answer.{why_answer};
 
@@ -67,10 +67,10 @@ fn load_read<L: Library, K: Sink>(
     requires { IsValid list.now }
     ensures valid { IfOk result (λ read. IsValidScript list.now read.0) }
     ensures size { IfOk result (λ read. length read.1.items ≤ 1048576) }
-    ensures ok { IfOk result (λ read. Took (script_file name.now) (script_read_from list.now)
-        (outside (L.files library.old) (K.output out.old)) (outside (L.files library.new) (K.output out.new))
-        (read_script read.0 read.1.items)) }
-    ensures err { IfErr result (TookNone (script_file name.now) (script_read_from list.now) refused_script
+    ensures loaded { IfOk result (λ read. Loaded (script_file name.now)
+        (outside (L.files library.old) (K.output out.old)) (outside (L.files library.new) (K.output out.new)) read.1.items) }
+    ensures read { IfOk result (λ read. script_from list.now read.1.items ≡ Ok read.0) }
+    ensures err { IfErr result (TookNone (script_file name.now) (script_from list.now) refused_script
         (outside (L.files library.old) (K.output out.old)) (outside (L.files library.new) (K.output out.new))) }
 {
     match load_script_text(alloc, name, library, out) {
@@ -145,8 +145,9 @@ fn show_read<L: Library, K: Sink>(
     out: &mut K,
 ) -> u8
     requires { IsValid list.now }
-    ensures { Follows ttplab (script_why_plan script.now node slot list.now) (outside (L.files library.old) (K.output out.old))
-        (outside (L.files library.new) (K.output out.new)) (alone result) }
+    ensures { Follows ttplab (read_script_plan script.now (ends_why node slot list.now) list.now)
+        (outside (L.files library.old) (K.output out.old)) (outside (L.files library.new) (K.output out.new))
+        (alone result) }
 {
     match load_read(alloc, list, script, library, out) {
         Ok((right, bytes)) => show(alloc, list, &right, bytes.as_slice(), node, slot, out),

@@ -1,11 +1,10 @@
-use Rattle.std.proofs.Common.{◌∙◌, ap, inr, subst}
+use Rattle.std.proofs.Common.{◌∙◌, inr, subst}
 use Rattle.std.specs.Prelude.{codes}
 use Rattle.ttp_base.specs.Outside.{Output}
 use Rattle.commands.specs.Faults.{file_fault_line}
 use Rattle.commands.specs.Files.{refused_script}
 use Rattle.commands.specs.Lines.{HasSaid}
 use Rattle.commands.proofs.Loads.{same_said}
-use Rattle.lab_top.specs.Why.{with_bytes}
 use Rattle.lab_top.proofs.why.load_read.Goals as goal
 
 pub returns-in-Err-Told-clause-err : goal.returns-in-Err-Told-clause-err
@@ -17,7 +16,7 @@ returns-in-Err-Told-clause-err g c =
       asked = c.in-Ok.ensures.ok.asked;
       gives = c.in-Ok.ensures.ok.gives;
       fault = fault;
-      wrong = ap (with_bytes c.in-Ok.bytes.items) unread;
+      wrong = unread;
       said =
           subst (λ (o : Output). HasSaid (refused_script fault) o (g.K.Sink.output c.say.new.out) c.say.result)
           c.in-Ok.ensures.ok.silent
