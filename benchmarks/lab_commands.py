@@ -1,9 +1,11 @@
 #!/usr/bin/env python3
-"""Times `ttplab check`, `margins` and `pairs`, beside `keeps` and `campaign`.
+"""Times `ttplab check`, `margins`, `pairs` and `why`, beside `keeps`, `campaign` and `run`.
 
 `check` takes scripts of half a MiB and of a whole one with a fault in each line, and right files of 24 nodes and 20,000 slots
 beside `keeps` of them. `margins` takes all drifts of ten nodes, and their jumps in one slot, and those of 24 nodes. `pairs` takes
-the faults of one slot of 8 nodes, with and without drift, and of 24, beside a campaign of the same script.
+the faults of one slot of 8 nodes, with and without drift, and of 24, beside a campaign of the same script. `why` takes
+departures near the end of 2,000 slots of 24 nodes, beside `run`: one by a lost frame, whose story is short, and the newest one
+beside a starter that is deaf from its start on, whose story is long.
 
 It prints what each takes by the clock and of all processors, runs a second where it runs clusters, and the most memory that it
 held. It needs the programs that `./prove` builds, and prints figures alone; nothing passes or fails here.
@@ -82,6 +84,13 @@ def main():
             alone = said(f"campaign of {kind}", [lab(), "campaign", *files, first, str(4 * nodes + 7)], faults_of)
             paired = said(f"pairs of {kind}, one slot, {within} apart", [lab(), "pairs", *files, first, first, str(within)], pairs_of)
             print(f"  a run of pairs costs {alone / paired:.2f} of one of the campaign")
+        medl = written(folder, "why.toml", list_text(["I"] * 24, [0] * 24))
+        for story, fault, node in (("a short story", "send 2 AB silence 1970 1970", "2"), ("a long story", "receive 0 AB silence 49 1999", "23")):
+            files = [medl, written(folder, "why.script", script_text(24, 2_000, [fault]))]
+            ran = said("run of 24 nodes, 2,000 slots", [program(), "run", *files])
+            told = said(f"why with {story}", [lab(), "why", *files, node])
+            lines = timed([lab(), "why", *files, node])[0].count("\n")
+            print(f"  {told / ran:.2f} times run, {lines} lines")
 
 
 if __name__ == "__main__":
