@@ -198,6 +198,17 @@ told_script file other list is =
 
 -- The rules.
 
+on_rule : {X : Type 0} (armed : Bool) (rule : ℕ) (of : X → ℕ) (line : X → List ℕ) (found : Option X)
+    (other : Option RuleSlot) (rest : Lines) (r : RuleSlot) → ((x : X) → IsRuleLine armed rule (of x) (line x))
+    → (other ≡ Some r → TellsRule armed r rest) → option_or (rule_in rule (option_map of found)) other ≡ Some r
+    → TellsRule armed r (line_if line found ++ rest)
+on_rule armed rule of line None other rest r each later is = later is
+on_rule armed rule of line (Some x) other rest r each later is =
+    let here : RuleSlot = record { rule = rule; slot = of x } in
+    let same : here ≡ r = cc in
+    subst (λ (s : RuleSlot). TellsRule armed s (line x ∷ rest)) same
+    (record { first = line x; rest = rest; lines_are = refl; is = each x })
+
 last_rule : {X : Type 0} (armed : Bool) (rule : ℕ) (of : X → ℕ) (line : X → List ℕ) (found : Option X) (r : RuleSlot)
     → ((x : X) → IsRuleLine armed rule (of x) (line x)) → rule_in rule (option_map of found) ≡ Some r
     → TellsRule armed r (line_if line found)

@@ -91,6 +91,9 @@ told_next held absent limit given next ending told gives = absurd gives
 told_next held (holds bytes) limit given next ending told gives =
     subst (λ (b : List ℕ). told_ending held (next b) ≡ Some ending) (sym gives) told
 
+same_ending : {Sets : Type 0} (one other : Ending Sets) → Some one ≡ Some other → one ≡ other
+same_ending one other same = cc
+
 pub told_comes : {Sets : Type 0} (held : List ℕ → Held) (plan : Plan Sets) (loads : List Load) (ending told : Ending Sets)
     → Comes held plan loads (ends ending) → told_ending held plan ≡ Some told → ending ≡ told
 told_comes {Sets = Sets} held plan [] ending told comes is =

@@ -1,9 +1,19 @@
 -- The parts of a campaign, one after another: the lines before those of faults, those of faults, and those of counts.
-use Rattle.fault_runs.proofs.Words.{ℕ, [], ◌∷◌, ◌++◌, map, codes, Output, WroteLines, Lines, Wrote-join}
-use Rattle.fault_runs.proofs.Words.{Medl, Script, summary, summary_with, campaign_lines, head_line, own_line}
+use Rattle.fault_runs.proofs.Words.{ℕ, List, [], ◌∷◌, ◌++◌, subst, map, codes, Output, WroteLines, Lines, Wrote-join}
+use Rattle.fault_runs.proofs.Words.{Medl, Event, Script, summary, summary_with, campaign_lines, head_line, own_line}
 use Rattle.fault_runs.proofs.Words.{counts_line, kept_counts, broken_counts, CampaignFault, WroteFewer, LeftBy}
 use Rattle.fault_runs.proofs.Words.{LeftFewerBy, front_lines, fault_lines, end_lines, tried_before}
+use Rattle.campaign.specs.Lines.{lines_with}
 use Rattle.fault_runs.proofs.Endings.{fewer-none, fewer-after, fewer-more, more-is_fewer}
+use Rattle.fault_runs.proofs.Ranges.{tried-whole}
+
+-- what holds of the parts holds of the whole
+of-parts : (list : Medl) (script : Script) (first last : ℕ) (P : Lines → Type 0)
+    → P (lines_with list script first last (summary list script) (tried_before list script first last script.slots))
+    → P (campaign_lines list script first last)
+of-parts list script first last P holds =
+    subst (λ (faults : List Event). P (lines_with list script first last (summary list script) faults))
+    (tried-whole list script first last) holds
 
 -- where nothing is written yet
 pub none-written : (list : Medl) (script : Script) (first last : ℕ) (a : Output)

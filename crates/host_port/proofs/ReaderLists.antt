@@ -11,7 +11,7 @@ use Rattle.std.specs.Prelude.{if◌then◌else◌}
 use Rattle.std.proofs.lemmas.Bool.{lt-ltb}
 use Rattle.std.proofs.lemmas.Bool.Decides.{nat_tests}
 use Rattle.std.proofs.lemmas.Grind.{common_steps}
-use Rattle.std.proofs.lemmas.List.Sums.{sum_by-set}
+use Rattle.std.proofs.lemmas.List.Sums.{sum_by-set, get_or-le-sum_by}
 use Rattle.nbw_ring.specs.Attempts.{Gets, GetsNothing}
 use Rattle.host_port.specs.Reading.{got_one, calls_after}
 use Rattle.std.proofs.lemmas.List.{map-set, set-get_or, get_or-set_same, get_or-set_other, get_or_read, get_or-map}
@@ -167,6 +167,10 @@ step_none buffers (Some old) (Some new) reads is =
     ]
 step_none buffers old new reads is = absurd reads
 
+left_spare : (r : Option ReaderState) → IsLeft r → 1 ≤ spare_of r
+left_spare (Some r) left = left
+left_spare None left = absurd left
+
 one_call : (from : Source) (calls : List Source) (place : ℕ) → place ≡ source_place from
     → calls_at place (calls ++ from ∷ []) ≡ calls_at place calls + 1
 one_call from calls place placed = grind (arith, common_steps, nat_tests)
@@ -188,10 +192,32 @@ module _ {shown readers : List (Option ReaderState)} (from : Source) {place : �
   after : at_source (set readers place new) from ≡ new
   after = (λ k. get_or (set readers place new) (sym placed k) None) ∙ get_or-set_same readers place new None within
 
+  pub reads_there : Reads (buffers_of old) old new
+      → Reads (buffers_of (at_source shown from)) (at_source shown from) (at_source (set readers place new) from)
+  reads_there reads = rw (← before, after) reads
+
+  pub others_there : (other : Source) → source_place other ≢ source_place from
+      → at_source (set readers place new) other ≡ at_source shown other
+  others_there other apart =
+      get_or-set_other readers place (source_place other) new None (λ is. apart (is ∙ placed))
+      ∙ ap (λ rs. at_source rs other) same
+
   pub calls_there : {was told : List Source} (got : Bool) → was ≡ told → got_one new ≡ got
       → (if got then was ++ from ∷ [] else was) ≡ calls_after told from (at_source (set readers place new) from)
   calls_there got calls is =
       λ k. if (sym is ∙ ap got_one (sym after)) k then calls k ++ from ∷ [] else calls k
+
+  -- there is room for what is read
+  pub room_there : (len room : ℕ) → len + sum_by spare_of readers ≤ room → len < room
+  room_there len room so =
+      omega (
+        arith,
+        so,
+        left_spare (at_source shown from) left,
+        ap spare_of before,
+        ap spare_of (get_or_read readers place old within here None),
+        get_or-le-sum_by spare_of readers place None within,
+      )
 
   -- and it is counted
   pub room_after : {many : ℕ} (len room : ℕ) → IsStep many old new → len + sum_by spare_of readers ≤ room

@@ -1,11 +1,14 @@
 -- Campaigns over ranges that join are alike the one over the whole.
 use Rattle.std.proofs.Common.{◌≡◌, ℕ, zero, suc, ◌+◌, ◌^◌, ◌<◌, ◌≤◌, Bool, true, false, cond, ◌&&◌, ◌||◌, not, List, [], ◌∷◌}
-use Rattle.std.proofs.Common.{◌++◌, refl, sym, ap, subst, ◌∙◌, arith, append-nil, inl, inr}
-use Rattle.std.specs.Prelude.{Ok, Result, nat_le, map, filter, flat_map}
+use Rattle.std.proofs.Common.{◌++◌, refl, sym, ap, subst, ◌∙◌, arith, append-nil, length-append, inl, inr}
+use Rattle.std.specs.Prelude.{Ok, Result, is_some, nat_le, map, filter, flat_map, count_by}
 use Rattle.std.specs.List.{concat, range_with_len}
 use Rattle.std.proofs.Math.Bool.{and-false, or-false}
 use Rattle.std.proofs.lemmas.Bool.{cases_lt, le-leb, lt-leb}
+use Rattle.std.proofs.lemmas.List.{map-append}
 use Rattle.std.proofs.lemmas.List.Concat.{flat_map-append}
+use Rattle.std.proofs.lemmas.List.Elements.{filter-append}
+use Rattle.std.proofs.lemmas.List.Sums.{sum_by-append}
 use Rattle.ttp_base.specs.Text.{Lines}
 use Rattle.ttp_base.proofs.NodeLists.{filter-none}
 use Rattle.ttp_world.specs.declared.medl.Medl.{Medl}
@@ -14,9 +17,10 @@ use Rattle.ttp_world.specs.declared.script.Script.{Script}
 use Rattle.ttp_world.specs.Diary.{History}
 use Rattle.ttp_world.specs.Medl.{IsValid}
 use Rattle.ttp_world.specs.Script.{IsValidScript}
+use Rattle.campaign.specs.declared.cost.Cost.{Cost}
 use Rattle.campaign.specs.declared.cost.Counts.{Counts}
 use Rattle.campaign.specs.declared.cost.Span.{Span}
-use Rattle.campaign.specs.Lines.{Summary, summary, summary_with}
+use Rattle.campaign.specs.Lines.{Summary, summary, is_same_cost, has_hurt, is_torn, is_dead, counts_of, costs_of, summary_with}
 use Rattle.campaign.specs.Lines.{kept_counts, broken_counts, campaign_lines}
 use Rattle.campaign.specs.Tried.{faults_in, row_of, slots_between, faults_from}
 use Rattle.campaign.specs.ZerosWorld.{zeros_world}
@@ -154,6 +158,31 @@ lies-joined first last end slot order more =
     ]
 
 -- Counts of two lists.
+
+counts-joined : (list : Medl) (own : Cost) (xs ys : List Cost)
+    → counts_together (counts_of list own xs) (counts_of list own ys) ≡ counts_of list own (xs ++ ys)
+counts-joined list own xs ys = λ i. record {
+  runs = sym (length-append xs ys) i;
+  same = counted (is_same_cost list own) i;
+  hurt = counted has_hurt i;
+  split = counted (λ (c : Cost). is_some c.split) i;
+  torn = counted is_torn i;
+  dead = counted is_dead i;
+}
+  where
+    counted : (p : Cost → Bool) → count_by p xs + count_by p ys ≡ count_by p (xs ++ ys)
+    counted p = sym (sum_by-append (λ c. cond (p c) 1 0) xs ys)
+
+of-both : (list : Medl) (own : Cost) (p : Summary → Bool) (runs : Event → Summary) (xs ys : List Event)
+    → counts_together (counts_of list own (costs_of (filter p (map runs xs))))
+    (counts_of list own (costs_of (filter p (map runs ys))))
+    ≡ counts_of list own (costs_of (filter p (map runs (xs ++ ys))))
+of-both list own p runs xs ys =
+    counts-joined list own (costs_of (filter p (map runs xs))) (costs_of (filter p (map runs ys)))
+    ∙ ap (counts_of list own)
+    (sym (ap (λ (ss : List Summary). costs_of (filter p ss)) (map-append runs xs ys)
+    ∙ ap costs_of (filter-append p (map runs xs) (map runs ys))
+    ∙ map-append (λ (s : Summary). s.cost) (filter p (map runs xs)) (filter p (map runs ys))))
 
 none-added : (c : Counts) → counts_together c no_runs ≡ c
 none-added c = λ i. record {

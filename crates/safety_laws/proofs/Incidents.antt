@@ -61,6 +61,11 @@ spaced-late : (gap earliest : ℕ) (faulty : List FaultyNode) → IsSpaced gap e
 spaced-late gap earliest [] spaced = tt
 spaced-late gap earliest (f ∷ faulty) spaced = (spaced.0, spaced-late gap earliest faulty spaced.2)
 
+both-each : {X : Type 0} (P Q : X → Type 0) (xs : List X) → AllByRecursion P xs → AllByRecursion Q xs
+    → AllByRecursion (λ x. P x × Q x) xs
+both-each P Q [] all some = tt
+both-each P Q (x ∷ xs) all some = ((all.0, some.0), both-each P Q xs all.1 some.1)
+
 pub late-found : (list : Medl) (script : Script) (start : ClusterStart) (gap slot : ℕ) (incident : Incident)
     (faulty : List FaultyNode) → IsSpaced gap (start.slot + gap) faulty
     → incident_among list script start slot faulty ≡ Some incident

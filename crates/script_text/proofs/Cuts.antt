@@ -6,7 +6,7 @@ use Rattle.script_text.proofs.Terms.{AllPass-from_list_all, is_line_feed, is_bla
 use Rattle.script_text.proofs.Terms.{without_empty_end, lines_of_file, words_of_line}
 use Rattle.std.specs.List.{position, position_or_len}
 use Rattle.std.proofs.lemmas.List.{length-map, take_all}
-use Rattle.std.proofs.lemmas.List.Splits.{slice_split_first, length-slice_split}
+use Rattle.std.proofs.lemmas.List.Splits.{slice_split_first, length-slice_split, slice_split-cons_yes}
 use Rattle.std.proofs.lemmas.List.Quantifiers.{position-Some}
 use Rattle.std.proofs.lemmas.List.Sums.{position_or_len_is}
 use Rattle.std.proofs.Math.ListN.{drop_of_length-le}
@@ -85,6 +85,10 @@ unfolding lines_of_file
 lines_of-empty = refl
 
 -- Words.
+
+words_of-blank : (x : ℕ) (xs : List ℕ) → is_blank x ≡ true → words_of_line (x ∷ xs) ≡ words_of_line xs
+unfolding words_of_line
+words_of-blank x xs blank = ap (filter has_bytes) (slice_split-cons_yes is_blank x xs blank)
 
 -- how many blanks stand before the first word of a line that begins with this byte
 blanks-cons : (x : ℕ) (xs : List ℕ) → is_blank x ≡ true

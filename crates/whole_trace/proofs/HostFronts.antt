@@ -1,10 +1,14 @@
 -- What the line of a host begins with, and the line of node 0 where no line of a host comes before it.
-use Rattle.std.proofs.Common.{◌≡◌, ℕ, ◌+◌, Bool, true, List, [], ◌++◌}
-use Rattle.std.proofs.Common.{Some, ap, ◌∙◌}
-use Rattle.std.specs.Prelude.{◌==◌, nat_lt, is_some}
-use Rattle.std.proofs.lemmas.Bool.{eqb-true}
-use Rattle.ttp_base.specs.Text.{Lines}
+use Rattle.std.proofs.Common.{◌≡◌, ℕ, ◌+◌, Bool, true, false, cond, ◌&&◌, not, List, [], ◌∷◌, ◌++◌}
+use Rattle.std.proofs.Common.{Option, Some, None, IsTrue, refl, sym, ap, ◌∙◌, append_assoc, codes}
+use Rattle.std.specs.Prelude.{◌==◌, nat_lt, is_some, option_and_then}
+use Rattle.std.specs.Fmt.{decimal}
+use Rattle.std.specs.List.{concat}
+use Rattle.std.proofs.lemmas.Bool.{and_parts, eqb-true}
+use Rattle.ttp_base.specs.Text.{Lines, newline, hex_bytes, lines_of}
+use Rattle.ttp_world.specs.Trace.{source_word}
 use Rattle.line_text.specs.Labels.{after_label}
+use Rattle.line_text.proofs.Cuts.{first_line}
 use Rattle.line_text.proofs.LabelTexts.{label-again}
 use Rattle.line_reader.specs.declared.trace_line.TraceLine.{TraceLine}
 use Rattle.line_reader.specs.declared.trace_line.TraceLine.TheVariants as line
@@ -12,17 +16,84 @@ use Rattle.whole_trace.specs.declared.due.Due.{Due}
 use Rattle.whole_trace.specs.declared.due.Due.TheVariants as due
 use Rattle.whole_trace.specs.declared.shown.Head.{Head}
 use Rattle.whole_trace.specs.declared.shown.NodeShown.{NodeShown}
-use Rattle.whole_trace.specs.Due.{due_after, after_node}
-use Rattle.whole_trace.specs.Steps.{IsLineStep, IsNodeStep, host_front}
-use Rattle.whole_trace.proofs.NodeSteps.{goes-on}
+use Rattle.whole_trace.specs.Due.{is_below, source_node, due_after, after_node}
+use Rattle.whole_trace.specs.Steps.{IsLineStep, is_taken, GoesOn, IsNodeStep, host_front}
+use Rattle.whole_trace.specs.Whole.{judged, judged_behind, value_of, slots_from, with_line, with_value}
+use Rattle.whole_trace.proofs.Pieces.{value-text}
+use Rattle.whole_trace.proofs.NodeSteps.{goes-on, is_next}
 
 -- Lines of hosts.
+
+write-front : (a b c d e f g more : List ℕ)
+    → (((a ++ b ++ c ++ d) ++ e ++ f) ++ g) ++ more ≡ (a ++ b ++ c) ++ (d ++ e ++ f ++ g ++ more)
+write-front a b c d e f g more = simp (append_assoc {A = ℕ}) refl
+
+read-front : (a b c d e f p q r s g more : List ℕ)
+    → (((a ++ b ++ c ++ d) ++ e ++ f ++ p ++ q ++ r ++ s) ++ g) ++ more
+    ≡ (a ++ b ++ c) ++ (d ++ e ++ f ++ p ++ q ++ r ++ s ++ g ++ more)
+read-front a b c d e f p q r s g more = simp (append_assoc {A = ℕ}) refl
 
 begins : (slot t : ℕ) (behind text : List ℕ) → (t == slot) ≡ true → text ≡ host_front t ++ behind
     → is_some (after_label (host_front slot) text) ≡ true
 begins slot t behind text same is =
     let whole : text ≡ host_front slot ++ behind = is ∙ ap (λ (n : ℕ). host_front n ++ behind) (eqb-true t slot same) in
     ap (λ (x : List ℕ). is_some (after_label (host_front slot) x)) whole ∙ ap is_some (label-again (host_front slot) behind)
+
+-- where a text does not begin as the line of a host in a slot, none comes next
+pub no_hosts : (head : Head) (slot : ℕ) (has_read : Bool) (text : List ℕ)
+    → GoesOn (due.Host head slot has_read) (lines_of text) → is_some (after_label (host_front slot) text) ≡ false
+    → (slots_from (lines_of text)).front.hosts ≡ []
+no_hosts head slot has_read text on other = by_lines (lines_of text) refl on
+  where
+    at : Due
+    at = due.Host head slot has_read
+
+    never : (P : Type 0) (t : ℕ) (behind : List ℕ) → (t == slot) ≡ true → text ≡ host_front t ++ behind → P
+    never P t behind same is = let no : true ≡ false = sym (begins slot t behind text same is) ∙ other in cc
+
+    by_lines : (lines : Lines) → lines_of text ≡ lines → GoesOn at lines → (slots_from lines).front.hosts ≡ []
+    by_lines [] cut on = refl
+    by_lines (first ∷ lines) cut on = by_value (value_of first) refl on
+      where
+        Goes : Option Due → Type 0
+        Goes o = IsTrue (is_taken (judged_behind (λ d. judged d lines) o))
+
+        due_here : (b : Bool) (d : Due) → Goes (cond b (Some d) None) → b ≡ true
+        due_here true d on = refl
+        due_here false d on = cc
+
+        by_value : (o : Option TraceLine) → value_of first ≡ o → Goes (option_and_then (due_after at) o)
+            → (with_value o (slots_from lines)).front.hosts ≡ []
+        by_value None is on = refl
+        by_value (Some (line.Header version nodes rounds slots schedule)) is on = refl
+        by_value (Some (line.Keep k)) is on = refl
+        by_value (Some (line.Back b)) is on = refl
+        by_value (Some (line.Write t h n)) is on =
+            let tests = due_here ((t == slot) && nat_lt h head.nodes && not has_read) _ on in
+            never _ t _
+            (and_parts (t == slot) (nat_lt h head.nodes) (and_parts ((t == slot) && nat_lt h head.nodes) (not has_read) tests).0).0
+            (first_line text first lines cut
+            ∙ ap (λ (x : List ℕ). x ++ concat lines) (value-text first (line.Write t h n) is)
+            ∙ write-front (codes "slot ") (decimal t) (codes " host ") (decimal h) (codes " write ") (decimal n) newline
+            (concat lines))
+        by_value (Some (line.Read t h source n payload)) is on =
+            let tests = due_here ((t == slot) && nat_lt h head.nodes && is_below head.nodes (source_node source)) _ on in
+            never _ t _
+            (and_parts (t == slot) (nat_lt h head.nodes)
+            (and_parts ((t == slot) && nat_lt h head.nodes) (is_below head.nodes (source_node source)) tests).0).0
+            (first_line text first lines cut
+            ∙ ap (λ (x : List ℕ). x ++ concat lines) (value-text first (line.Read t h source n payload) is)
+            ∙ read-front (codes "slot ") (decimal t) (codes " host ") (decimal h) (codes " read ") (source_word source)
+            (codes " ") (decimal n) (codes " ") (hex_bytes payload) newline (concat lines))
+        by_value (Some (line.Node t j w peer message wide members accepted rejected a z)) is on =
+            by_due (due_after at (line.Node t j w peer message wide members accepted rejected a z)) refl on
+          where
+            by_due : (o : Option Due)
+                → due_after at (line.Node t j w peer message wide members accepted rejected a z) ≡ o → Goes o
+                → (with_line (line.Node t j w peer message wide members accepted rejected a z) (slots_from lines)).front.hosts ≡ []
+            by_due None e on = cc
+            by_due (Some then) e on =
+                let n = is_next at then t j w peer message wide members accepted rejected a z e in rw n.node refl
 
 -- The first line of the next slot.
 
