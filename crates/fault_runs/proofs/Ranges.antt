@@ -2,7 +2,7 @@
 use Rattle.fault_runs.proofs.Words.{◌≡◌, ℕ, ◌+◌, ◌*◌, ◌<◌, ◌≤◌, Bool, true, false, cond, ◌&&◌, List, [], ◌∷◌, ◌++◌}
 use Rattle.fault_runs.proofs.Words.{length, get_or, refl, ap, sym, subst, ◌∙◌, arith, map, filter, nat_le, IsValid}
 use Rattle.fault_runs.proofs.Words.{list_any, length-append, inl, inr, get_or-map, length-map, below, Medl, Entry}
-use Rattle.fault_runs.proofs.Words.{Script, History, faults_in, row_of, zeros_world, tried_in, entries_of}
+use Rattle.fault_runs.proofs.Words.{Script, History, faults_in, row_of, zeros_world, tried_in, tried_before, entries_of}
 use Rattle.std.proofs.Common.{zero, suc, ◌-◌}
 use Rattle.std.specs.Prelude.{All, flat_map}
 use Rattle.std.proofs.lemmas.List.Elements.{All-nil}
@@ -17,7 +17,7 @@ use Rattle.ttp_world.specs.declared.script.Event.TheVariants as event
 use Rattle.ttp_world.specs.Diary.{entry_of}
 use Rattle.ttp_world.specs.Medium.{is_sending}
 use Rattle.campaign.specs.Tried.{losses_from, losses_of, jump_sizes, jumps_of, faults_of}
-use Rattle.campaign.specs.Tried.{is_hearing, is_timed}
+use Rattle.campaign.specs.Tried.{is_hearing, is_timed, faults_from}
 use Rattle.run_costs.specs.States.{off_state, AreShown}
 use Rattle.run_costs.proofs.Rows.{length-zeros, next_row, zeros-next}
 
@@ -32,6 +32,14 @@ pub flat_map-filter : {X : Type 0} (p : ℕ → Bool) (f : ℕ → List X) (ks :
     → flat_map f (filter p ks) ≡ flat_map (λ k. cond (p k) (f k) []) ks
 flat_map-filter p f [] = refl
 flat_map-filter p f (k ∷ ks) = flat_map-filter-if p f k ks (p k) (flat_map-filter p f ks)
+
+-- the faults of a range are those that are tried in the slots of the script
+pub tried-whole : (list : Medl) (script : Script) (first last : ℕ)
+    → tried_before list script first last script.slots
+    ≡ faults_from list script (zeros_world list script script.slots) first last
+tried-whole list script first last =
+    sym (flat_map-filter (λ slot. nat_le first slot && nat_le slot last)
+    (λ slot. faults_in list script (row_of (zeros_world list script script.slots) slot) slot) (below script.slots))
 
 -- How many there are.
 

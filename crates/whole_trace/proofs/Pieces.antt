@@ -4,6 +4,7 @@ use Rattle.std.proofs.Common.{append_assoc, codes, length-append}
 use Rattle.std.specs.Fmt.{decimal, signed_decimal}
 use Rattle.std.specs.Str.{bytes_eq}
 use Rattle.std.proofs.lemmas.List.{append-nil, take-append-drop}
+use Rattle.std.proofs.lemmas.Slice.Eq.{bytes_eq-Decides}
 use Rattle.std.proofs.Math.Seq.{take-append_seam, drop-append_seam}
 use Rattle.std.proofs.lemmas.Fmt.{decimal_digit, decimal_step}
 use Rattle.ttp_base.specs.NodeSet.{set_bits}
@@ -37,6 +38,14 @@ value-fed x =
 
 pub value-again : (v : TraceLine) → Fits v → value_of (text_of v ++ newline) ≡ Some v
 value-again v fits = value-fed (text_of v) ∙ line-again v fits
+
+-- a line that is read is what it says
+pub value-text : (text : List ℕ) (v : TraceLine) → value_of text ≡ Some v → text ≡ text_of v ++ newline
+value-text text v e =
+    let n = length text - 1 in
+    let g = guarded (bytes_eq (drop n text) newline) (line_in (take n text)) v e in
+    let end : drop n text ≡ newline = (bytes_eq-Decides (drop n text) newline).0 g.0 in
+    sym (take-append-drop n text) ∙ (λ i. (line-takes (take n text) v g.1).1 i ++ end i)
 
 -- what is read of a line fits into it
 pub value_fits : (text : List ℕ) (v : TraceLine) → value_of text ≡ Some v → Fits v
