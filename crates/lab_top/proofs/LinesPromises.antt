@@ -184,8 +184,9 @@ pub lines_promise : (lines : Medl → Script → Lines)
     → (before now : Outside) (answer : LabAnswer) → Promise ttplab (lines_plan lines list script) before now answer
     → LinesPromise lines list script before now answer.status
 lines_promise lines one list script before now answer call =
-    let next : Medl → Script → LabPlan = λ medl right. ends (lines_ending (lines medl right)) in
-    let none : (medl : Medl) (right : Script) → RefusesNone (next medl right) = λ medl right. omega arith in
+    let next : Medl → List ℕ → Script → LabPlan = λ medl bytes right. ends (lines_ending (lines medl right)) in
+    let none : (medl : Medl) (bytes : List ℕ) (right : Script) → RefusesNone (next medl bytes right) =
+    λ medl bytes right. omega arith in
     record {
       shown = wrote_all lines list script before now answer call;
       no_list = list_refused list script next before now answer call none;
