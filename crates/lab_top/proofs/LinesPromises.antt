@@ -58,10 +58,6 @@ pub shows_cut : (text : Lines) (before now : Output) → CutShort before now tex
 shows_cut text before now cut =
     inl (inr (record { status = refl; text = record { lines = text; among = refl; cut = cut }; none = refl }))
 
-pub shows_fewer : (text : Lines) (before now : Output) → WroteFewer before now text
-    → ShowsEnding ttplab (lines_ending text) before now (alone 7)
-shows_fewer text before now some = inr (wants text before now some)
-
 -- none are first lines too, of a text that has one
 pub none_of : (text : Lines) (before now : Output) → IsProperFront text [] → Wrote before now []
     → WroteFewer before now text
