@@ -18,7 +18,7 @@ pub fn tell<R: Eprint + AllocGlobal, S, L, W: Write>(
     let name = name_in(words, files.loads);
     let _ = match status {
         2 => eprintln!(rt; "{program}: these words have no form ({forms})"),
-        3 | 4 => tell_refusal(rt, program, name, out.first()),
+        3 | 4 => tell_refusal(rt, program, name_in(words, 1), name, out.first()),
         5 => tell_why(rt, program, name, "cannot be read", &files.why),
         6 => tell_why(
             rt,
@@ -52,14 +52,23 @@ fn name_in(words: &[String], loads: usize) -> &str {
 }
 
 // What is wrong with a file, by the line that was written of it: `KIND: WHAT`, or a line on an error with its place. Of a list
-// and a script another command says more.
-fn tell_refusal<R: Eprint>(rt: &R, program: &str, name: &str, line: &[u8]) -> io::Result<()> {
+// and a script another command says more. `first` is the name of the file that was asked for first, which alone has nodes.
+fn tell_refusal<R: Eprint>(
+    rt: &R,
+    program: &str,
+    first: &str,
+    name: &str,
+    line: &[u8],
+) -> io::Result<()> {
     let Ok(line) = str::from_utf8(line) else {
         return Ok(());
     };
     let line = line.trim_end();
     match line.split_once(": ") {
         Some((_, what)) if what.starts_with("error: ") => eprintln!(rt; "{program}: {line}"),
+        Some((kind, what)) if what.starts_with("nodes ") => {
+            eprintln!(rt; "{program}: {first}: the {kind} has {what}")
+        }
         Some((kind, what)) if what.starts_with("slots ") || what.starts_with("no slot ") => {
             eprintln!(rt; "{program}: {name}: the {kind} has {what}")
         }
