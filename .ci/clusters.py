@@ -1,11 +1,11 @@
 """Lists and scripts of any size, for the scripts that try limits and count costs."""
 
 
-def list_text(nodes, *, kinds="NX", data=16, buffers=4, modes=1, comment=0, requests=False):
+def list_text(nodes, *, kinds="NX", data=16, buffers=4, modes=1, drift=1, error=1, window=None, comment=0, requests=False):
     """A list in which all nodes are alike, but that node 0 alone may start."""
     version = 1 if nodes <= 16 else 2
     head = f"version = {version}\nrounds = {len(kinds)}\nschedule = 77\nbuffers = {buffers}\n"
-    clocks = f"drift = 1\nerror = 1\nwindow = {12 * nodes + 10}\nmodes = {modes}\n"
+    clocks = f"drift = {drift}\nerror = {error}\nwindow = {12 * nodes + 10 if window is None else window}\nmodes = {modes}\n"
     slots = "".join(
         f'[[slot]]\nkinds = "{kinds}"\ndata = {data}\nsync = true\nstart = {"true" if k == 0 else "false"}\n'
         f'requests = {"true" if requests and data else "false"}\n'

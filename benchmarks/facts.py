@@ -3,8 +3,10 @@
 
 `benchmarks/facts.py` makes lists and scripts, has `ttplab campaign` run them, and prints for each fact what was looked
 for, what was found, and where that is not the fact, what the page says. The last line counts the facts that were found
-and the runs; the status is 0 exactly where all were. `benchmarks/facts.py NUMBER..` looks for some of them, and
-`benchmarks/facts.py --write FOLDER` writes the lists and scripts that the page's commands name.
+and the runs; the status is 0 exactly where all were. `benchmarks/facts.py NAME..` looks for some of them: 1 to 11, and m1 to m10
+of docs/MARGINS.md (margin_facts.py) and p1 to p11 of docs/PAIRS.md (pair_facts.py), which take longer and are looked for where
+they are named alone; `margins` and `pairs` name all of these. `benchmarks/facts.py --write FOLDER` writes the lists and scripts
+that the pages' commands name, those of margins and pairs into folders of these names.
 
 Node 0 starts each cluster, all nodes are on from slot 0, and each frame is an I-frame without payload, unless a fact says
 otherwise. n is the number of nodes, S the slot of the start, which is 2 n here, and W the list's `window`. It needs the
@@ -19,6 +21,8 @@ import subprocess
 import sys
 import tempfile
 
+import margin_facts
+import pair_facts
 from programs import TOP
 from runs import list_text, script_text, written
 
@@ -91,14 +95,20 @@ class Lab:
         self.folder = folder
         self.runs = self.kept = self.unsafe = 0
         self.found = {}
+        # What margins and pairs were asked for already.
+        self.texts = {}
+
+    def text_of(self, *words):
+        """What the program writes for these words."""
+        ran = subprocess.run([program("ttplab"), *words], capture_output=True, text=True)
+        if ran.returncode != 0:
+            sys.exit(f"status {ran.returncode} for {' '.join(words)}: {ran.stdout[-1000:]}{ran.stderr}")
+        return ran.stdout
 
     def read(self, listed, script, first, last):
         """The line of the script's own run, and those of the faults in slots from first to last."""
         files = written(self.folder, "list", listed), written(self.folder, "script", script)
-        ran = subprocess.run([program("ttplab"), "campaign", *files, str(first), str(last)], capture_output=True, text=True)
-        if ran.returncode != 0:
-            sys.exit(f"status {ran.returncode}: {ran.stdout}{ran.stderr}\n{listed}\n{script}")
-        own, *lines = [Line(text) for text in ran.stdout.splitlines()[1:-2]]
+        own, *lines = [Line(text) for text in self.text_of("campaign", *files, str(first), str(last)).splitlines()[1:-2]]
         for line in (own, *lines):
             self.runs += 1
             self.kept += line.says_yes
@@ -517,6 +527,8 @@ def write(folder):
         for more, script in some.items():
             written(folder, f"{name}{more}.script", cluster.script(script))
     written(folder, "eight_two.script", Cluster(8, 80, on=2).script())
+    margin_facts.write(os.path.join(folder, "margins"))
+    pair_facts.write(os.path.join(folder, "pairs"))
 
 
 def main():
@@ -524,19 +536,22 @@ def main():
     if len(words) == 2 and words[0] == "--write":
         write(words[1])
         return 0
-    if any(not word.isdigit() or int(word) not in FACTS for word in words):
-        sys.exit("usage: benchmarks/facts.py [NUMBER..] | --write FOLDER, where numbers are 1 to 11")
-    chosen = [int(word) for word in words] or list(FACTS)
+    facts = {str(number): look for number, look in FACTS.items()}
+    facts.update(margin_facts.FACTS, **pair_facts.FACTS)
+    groups = {"margins": margin_facts.FACTS, "pairs": pair_facts.FACTS}
+    chosen = [name for word in words for name in groups.get(word, [word])] or [str(number) for number in FACTS]
+    if not set(chosen) <= set(facts):
+        sys.exit("usage: benchmarks/facts.py [NAME..] | --write FOLDER, where names are 1 to 11, m1 to m10, p1 to p11, margins, pairs")
     with tempfile.TemporaryDirectory() as folder:
         lab = Lab(folder)
         for number in chosen:
             before = lab.runs
             try:
-                FACTS[number](lab)
+                facts[number](lab)
             except Missing as fault:
                 lab.look(number, f"a line on the fault {fault}", "none", "one")
             print(f"fact {number}: {lab.runs - before} runs", flush=True)
-    print(f"{lab.kept} lines of all campaigns say yes, and {lab.unsafe} of them show a node hurt or memberships split")
+    print(f"{lab.kept} runs say yes, and {lab.unsafe} of them show a node hurt or memberships split")
     found = sum(lab.found.values())
     is_all = found == len(chosen) and lab.unsafe == 0
     print(f"facts: {found} of {len(chosen)} found, in {lab.runs} runs")

@@ -1,6 +1,7 @@
 //! The line on a command that was not done.
 use crate::files::NotedFiles;
 use crate::output::NotedOutput;
+use crate::shown::Shown;
 use std::io::{self, Eprint, ErrorKind, Write};
 
 /// Says on standard error, in one line, why a command ended with status 2 to 7; with any other status it says nothing. The
@@ -18,7 +19,8 @@ pub fn tell<R: Eprint + AllocGlobal, S, L, W: Write>(
     let name = name_in(words, files.loads);
     let _ = match status {
         2 => eprintln!(rt; "{program}: these words have no form ({forms})"),
-        3 | 4 => tell_refusal(rt, program, name_in(words, 1), name, out.first()),
+        3 => tell_refusal(rt, program, name_in(words, 1), out.first()),
+        4 => tell_refusal(rt, program, name, out.first()),
         5 => tell_why(rt, program, name, "cannot be read", &files.why),
         6 => tell_why(
             rt,
@@ -51,34 +53,52 @@ fn name_in(words: &[String], loads: usize) -> &str {
     }
 }
 
-// What is wrong with a file, by the line that was written of it: `KIND: WHAT`, or a line on an error with its place. Of a list
-// and a script another command says more. `first` is the name of the file that was asked for first, which alone has nodes.
-fn tell_refusal<R: Eprint>(
-    rt: &R,
-    program: &str,
-    first: &str,
-    name: &str,
-    line: &[u8],
-) -> io::Result<()> {
-    let Ok(line) = str::from_utf8(line) else {
-        return Ok(());
-    };
-    let line = line.trim_end();
-    match line.split_once(": ") {
-        Some((_, what)) if what.starts_with("error: ") => eprintln!(rt; "{program}: {line}"),
-        Some((kind, what)) if what.starts_with("nodes ") => {
-            eprintln!(rt; "{program}: {first}: the {kind} has {what}")
+// What is wrong with a file, by the line that was written of it: `KIND: WHAT`, or a line on an error, which begins with the
+// file's name. Of a list and a script another command says more.
+fn tell_refusal<R: Eprint>(rt: &R, program: &str, name: &str, text: &[u8]) -> io::Result<()> {
+    let text = front_of(text);
+    let shown = Shown(name);
+    if let Some(behind) = text.strip_prefix(name) {
+        let line = first_line(behind);
+        if line.contains(": error: ") {
+            return eprintln!(rt; "{program}: {shown}{line}");
         }
-        Some((kind, what)) if what.starts_with("slots ") || what.starts_with("no slot ") => {
-            eprintln!(rt; "{program}: {name}: the {kind} has {what}")
+    }
+    let line = first_line(text);
+    match line.split_once(": ") {
+        Some((kind, what))
+            if what.starts_with("nodes ")
+                || what.starts_with("slots ")
+                || what.starts_with("no slot ") =>
+        {
+            eprintln!(rt; "{program}: {shown}: the {kind} has {what}")
         }
         Some((kind, what)) if kind == "list" || kind == "script" => {
             eprintln!(rt;
-                "{program}: {name}: the {kind} is refused: {what} (ttplab check says where)"
+                "{program}: {shown}: the {kind} is refused: {what} (ttplab check says where)"
             )
         }
-        Some((kind, what)) => eprintln!(rt; "{program}: {name}: the {kind} is refused: {what}"),
-        None => eprintln!(rt; "{program}: {name}: {line}"),
+        Some((kind, what)) => eprintln!(rt; "{program}: {shown}: the {kind} is refused: {what}"),
+        None => eprintln!(rt; "{program}: {shown}: {line}"),
+    }
+}
+
+// As much of some bytes as is a text: a name may be cut within a character.
+fn front_of(bytes: &[u8]) -> &str {
+    match str::from_utf8(bytes) {
+        Ok(text) => text,
+        Err(error) => match bytes.get(..error.valid_up_to()) {
+            Some(front) => str::from_utf8(front).unwrap_or(""),
+            None => "",
+        },
+    }
+}
+
+// The first line of a text, without its line feed.
+fn first_line(text: &str) -> &str {
+    match text.split_once('\n') {
+        Some((line, _)) => line,
+        None => text,
     }
 }
 
@@ -98,6 +118,7 @@ fn tell_why<R: Eprint + AllocGlobal>(
     otherwise: &str,
     why: &Option<io::Error>,
 ) -> io::Result<()> {
+    let name = Shown(name);
     let Some(error) = why else {
         return eprintln!(rt; "{program}: {name}: {otherwise}");
     };

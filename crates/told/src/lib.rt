@@ -11,14 +11,17 @@
 //! let status = bench(rt, rt.alloc(), words, &mut library, &mut StreamSink::new(&mut out), &gate, &mut kept);
 //! ```
 //!
-//! Nothing is promised of what is told, and nothing that a command writes or answers depends on it. The crate knows no
-//! command but by its status and the word before the first `: ` of the line that refuses a file.
+//! What is told is one line: a control character in a name stands there as `\xHH`, as [`Shown`] promises. Nothing else is
+//! promised of it, and nothing that a command writes or answers depends on it. The crate knows no command but by its status
+//! and the word before the first `: ` of the line that refuses a file.
 #![tactic(auto)]
 
 mod ending;
 mod files;
 mod output;
+mod shown;
 
 pub use ending::{tell, tell_no_words};
 pub use files::NotedFiles;
 pub use output::NotedOutput;
+pub use shown::Shown;

@@ -4,7 +4,7 @@ use std::io::{self, Write};
 // How many of the first bytes are kept, which are those of the longest line.
 const KEPT: usize = 640;
 
-/// A writer that hands each write on to another. It keeps the first piece that was written, and why a write failed.
+/// A writer that hands each write on to another. It keeps the first bytes that were written, and why a write failed.
 #[derive(Drop)]
 pub struct NotedOutput<W> {
     writer: W,
@@ -25,7 +25,7 @@ impl<W: Write> NotedOutput<W> {
         }
     }
 
-    /// The first piece that was written, and at most 640 bytes of it.
+    /// The first bytes that were written, at most 640.
     pub(crate) fn first(&self) -> &[u8] {
         match self.first.get(..self.count) {
             Some(first) => first,
@@ -33,12 +33,14 @@ impl<W: Write> NotedOutput<W> {
         }
     }
 
-    // Keeps the first bytes of a piece.
+    // Keeps a piece behind what is kept, as far as there is room.
     fn keep_first(&mut self, piece: &[u8]) {
-        for (kept, byte) in self.first.iter_mut().zip(piece) {
-            *kept = *byte;
+        if let Some(room) = self.first.get_mut(self.count..) {
+            for (kept, byte) in room.iter_mut().zip(piece) {
+                *kept = *byte;
+            }
         }
-        self.count = KEPT.min(piece.len());
+        self.count = KEPT.min(self.count.saturating_add(piece.len()));
     }
 }
 
@@ -53,7 +55,7 @@ fn copy_of(error: &io::Error) -> io::Error {
 impl<W: Write> Write for NotedOutput<W> {
     #[inline]
     fn write(&mut self, piece: &[u8]) -> io::Result<usize> {
-        if self.count == 0 {
+        if self.count < KEPT {
             self.keep_first(piece);
         }
         match self.writer.write(piece) {
