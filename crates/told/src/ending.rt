@@ -69,8 +69,7 @@ fn tell_refusal<R: Eprint>(rt: &R, program: &str, name: &str, text: &[u8]) -> io
         Some((kind, what))
             if what.starts_with("nodes ")
                 || what.starts_with("slots ")
-                || what.starts_with("no slot ") =>
-        {
+                || what.starts_with("no slot ") => {
             eprintln!(rt; "{program}: {shown}: the {kind} has {what}")
         }
         Some((kind, what)) if kind == "list" || kind == "script" => {
