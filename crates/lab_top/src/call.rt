@@ -152,8 +152,8 @@ fn obey<R: Threads + Sync, L: Library, K: Sink>(
 /// where the list is not refused; for words of no form it is left alone. The text of a trace is held while it is
 /// shown, and gone over a few times; a picture takes no other memory, and a waveform a few bytes for each source
 /// that a host reads. For `frames` the trace is gone over twice, with a plant of the list: once to judge it, and once to write
-/// its frames; all memory is taken before the first line of them. A campaign of n lines runs the cluster n times, each from the slot of its fault to the
-/// script's last one; the runs of a slot's faults are made side by side in as many threads as there are
+/// its frames; all memory is taken before the first line of them. A campaign of n lines runs the cluster n times at most, each from the slot of its
+/// fault to the script's last one; the runs of a slot's faults are made side by side in as many threads as there are
 /// processors, and their lines are held until all of them were made. It takes memory for the runs of a slot, and
 /// keeps none of it. Margins run the cluster once for each value, a drift from slot 0 and a jump from its slot on, 512 values side by
 /// side, and hold one range of a sweep at a time. Each line is one piece, so the cost is one write for each line.
