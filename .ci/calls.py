@@ -26,7 +26,7 @@ FOLDER = os.path.join(TOP, ".ci", "calls")
 # The texts that all tables use come first.
 TABLES = ("texts", "lists", "scripts", "keeps", "runs", "hosts", "verify", "others", "ttplab")
 FILES = ("LIST", "SCRIPT", "TRACE", "CAMPAIGN")
-STATUSES = {"differs ": 1, "usage: ": 2, "list: ": 3, "script: ": 4, "trace: ": 4, "campaign: ": 4, "load: ": 5}
+STATUSES = {"differs ": 1, "node ": 1, "usage: ": 2, "list: ": 3, "script: ": 4, "trace: ": 4, "campaign: ": 4, "load: ": 5}
 LARGEST = 1_048_576
 # A program that is not proved takes long for the largest files where others run beside it.
 SECONDS = 600

@@ -3,7 +3,7 @@
 `story_of` writes what `ttplab why` does, for a list and a script that are taken for right ones.
 """
 
-from functools import cached_property
+from functools import cached_property, lru_cache
 
 from rules import (
     BAD, COLD_START, NOISE, OTHER, SILENCE, Cluster, List, Script, flipped, frame, heard_by, joinable, on_channel,
@@ -592,19 +592,26 @@ def entry_line(causes, entry, named):
     )
 
 
+@lru_cache(maxsize=8)
+def run_of(list_text, script_text):
+    """A right list and script, the lines of the script, and the rows of its run."""
+    medl, script = List(list_text), Script(script_text)
+    return medl, script, script_lines(script_text), rows_of(medl, script, script.slots)
+
+
 def story_of(list_text, script_text, node, slot=None):
     """The status and the lines of `ttplab why` on a right list and script."""
-    medl, script, lines = List(list_text), Script(script_text), script_lines(script_text)
+    medl, script, lines, rows = run_of(list_text, script_text)
     if node >= medl.nodes:
         return 3, [f"list: nodes 0 to {medl.nodes - 1}"]
     if slot is not None and slot >= script.slots:
         return 4, [f"script: slots 0 to {script.slots - 1}"]
-    rows = rows_of(medl, script, script.slots if slot is None else slot + 1)
-    causes = Causes(medl, script, lines, rows)
     if slot is None:
-        slot = causes.newest_departure(node, script.slots - 1)[0]
+        slot = Causes(medl, script, lines, rows).newest_departure(node, script.slots - 1)[0]
         if slot is None:
             return 1, [f"node {node} does not leave"]
+    # Nothing is looked at that comes later.
+    causes = Causes(medl, script, lines, rows[:slot + 1])
     asked = (slot, node)
     word, told = causes.word(asked), causes.story(asked)
     named = set().union(*(causes.of(entry).lines for entry, _ in told))

@@ -1,11 +1,13 @@
 #!/usr/bin/env python3
-"""Times `ttplab check`, `margins` and `pairs`, beside `keeps` and `campaign`.
+"""Times `ttplab check`, `margins`, `pairs` and `why`, beside `keeps`, `campaign` and `run`.
 
 `benchmarks/lab_commands.py` takes all figures, and `benchmarks/lab_commands.py NAME..` some; a name that is none lists them.
 `check` takes scripts of half a MiB and of a whole one with a fault in each line, and right files of 24 nodes and 20,000 slots
 beside `keeps` of them. `margins` takes ten nodes whose window is 1,301, all drifts and the jumps of a round, and 24 nodes, all
 drifts and the jumps of one slot. `pairs` takes a round of 8 nodes, with and without drift, and one slot of 24. Beside each of
-these stands a campaign of the same script over the same slots.
+these stands a campaign of the same script over the same slots. `why` takes departures near the end of 2,000 slots of 24 nodes,
+beside `run`: one by a lost frame, whose story is short, and the newest one beside a starter that is deaf from its start on,
+whose story is long.
 
 It prints what each takes by the clock and of all processors, runs a second where it runs clusters, and the most memory that it
 held; `taskset` before it chooses processors. It needs the programs that `./prove` builds, and prints figures alone; nothing
@@ -104,6 +106,17 @@ def pairs(name, *asked):
     return runs_of_cluster("pairs", name, pair_facts.CLUSTERS[name], asked, (first, last + within), pairs_of)
 
 
+def why(fault, node):
+    def take(folder):
+        files = written(folder, "list", list_text(["I"] * 24, [0] * 24)), written(folder, "script", script_text(24, 2_000, [fault]))
+        ran = said("run of 24 nodes, 2,000 slots", [program(), "run", *files])
+        told = said(f"why node {node}, with {fault}", [lab(), "why", *files, node])
+        lines = timed([lab(), "why", *files, node])[0].count("\n")
+        print(f"  {told / ran:.2f} times run, {lines} lines")
+
+    return take
+
+
 # A campaign beside drifts begins with the start, since a drift's run does so.
 FIGURES = {
     "half_faulty": check_faulty(524_288), "whole_faulty": check_faulty(1_048_576), "right": check_right,
@@ -111,6 +124,7 @@ FIGURES = {
     "drifts_24": margins("twentyfour", (), (0, 99)), "jumps_24": margins("twentyfour", (96, 96), (96, 96)),
     "pairs_of_a_slot": pairs("n8", 32, 32, 16), "pairs": pairs("n8", 32, 39, 16), "pairs_drift": pairs("r8", 32, 39, 16),
     "pairs_24_near": pairs("n24", 96, 96, 1), "pairs_24": pairs("n24", 96, 96, 48),
+    "why_short": why("send 2 AB silence 1970 1970", "2"), "why_long": why("receive 0 AB silence 49 1999", "23"),
 }
 
 

@@ -1,7 +1,7 @@
 -- The faults of a slot one after the other, up to one that comes too early.
-use Rattle.std.proofs.Common.{◌≡◌, ℕ, zero, suc, ◌+◌, ◌-◌, ◌*◌, ◌<◌, ◌≤◌, true, false, List, [], ◌∷◌, ◌++◌, length, drop}
+use Rattle.std.proofs.Common.{◌≡◌, ℕ, zero, suc, ◌+◌, ◌-◌, ◌*◌, ◌<◌, true, false, List, [], ◌∷◌, ◌++◌, length, drop}
 use Rattle.std.proofs.Common.{Option, Some, None, is_some, refl, ap, sym, subst, ◌∙◌, arith, append_assoc}
-use Rattle.std.proofs.lemmas.Bool.{lt-ltb, le-ltb}
+use Rattle.std.proofs.lemmas.Bool.{lt-ltb}
 use Rattle.std.proofs.lemmas.List.{append-nil}
 use Rattle.std.specs.Option.{option_or}
 use Rattle.std.specs.Prelude.{slice_get}
@@ -40,12 +40,6 @@ pub over-early : (list : Medl) (script : Script) (start : ClusterStart) (before 
     (Some (early_by (cause_of list script start) (2 * length list.slots) before f)) next
 over-early list script start before next f soon =
     λ rest. rw (lt-ltb f.slot (slot_since before + 2 * length list.slots) soon) refl
-
-pub over-late : (list : Medl) (script : Script) (start : ClusterStart) (before : Since) (f : FaultyNode)
-    → slot_since before + 2 * length list.slots ≤ f.slot
-    → LooksOver list script start before (f ∷ []) None (since.Fault f.slot f.node)
-over-late list script start before f late =
-    λ rest. rw (le-ltb f.slot (slot_since before + 2 * length list.slots) late) refl
 
 -- once one came too early, those behind it are not looked at
 pub over-found : (list : Medl) (script : Script) (start : ClusterStart) (before next : Since) (faults others : List FaultyNode)

@@ -1,5 +1,5 @@
 -- The clocks of nodes, one after another.
-use Rattle.std.proofs.Common.{◌≡◌, ℕ, zero, suc, ◌+◌, ◌<◌, ◌≤◌, ◌^◌, List, [], ◌∷◌, ◌++◌, length, get_or, set, refl, ap, sym, subst, ◌∙◌}
+use Rattle.std.proofs.Common.{◌≡◌, ℕ, ◌+◌, ◌<◌, ◌≤◌, ◌^◌, List, [], length, get_or, set, ap, sym, subst, ◌∙◌}
 use Rattle.std.proofs.Common.{inl, inr, to_z, of_z, w64, arith}
 use Rattle.std.specs.Prelude.{ℤ, pos, unsigned_abs}
 use Rattle.std.proofs.lemmas.Bool.{cases_eq}
@@ -51,14 +51,6 @@ noted-next offsets plant list i j state z noted inside same shows z_is near =
             (noted.near k (omega (arith, less, other)))
       ];
     }
-
--- zeros, and one more
-pub one-more-zero : (xs : List ℤ) → ((k : ℕ) → get_or xs k (pos 0) ≡ pos 0) → (k : ℕ)
-    → get_or (xs ++ pos 0 ∷ []) k (pos 0) ≡ pos 0
-one-more-zero [] all zero = refl
-one-more-zero [] all (suc k) = refl
-one-more-zero (x ∷ xs) all zero = all zero
-one-more-zero (x ∷ xs) all (suc k) = one-more-zero xs (λ j. all (suc j)) k
 
 -- a number of microticks in 64 bits is itself
 pub signed-same : (z : ℤ) → unsigned_abs z ≤ 2 ^ 61 → to_z w64 (of_z w64 z) ≡ z

@@ -23,15 +23,12 @@ use Rattle.list_errors.specs.Errors.{list_wrongs, rounds_said, modes_said}
 use Rattle.list_places.specs.declared.lines.Place.{Place}
 use Rattle.list_places.specs.Places.{found_places, stop_told}
 use Rattle.stop_words.specs.Stops.{stop_words}
-use Rattle.broken_rules.specs.Rules.{broken_rules}
-use Rattle.warning_words.specs.Warnings.{warning_lines}
 use Rattle.check_words.specs.Lines.{last_line}
 use Rattle.check_text.specs.declared.found.Beside.{Beside}
 use Rattle.check_text.specs.declared.list_side.ListSide.{ListSide}
-use Rattle.check_text.specs.Check.{Named, Checked, read_value, files_with, both_checked, checked_by, check_found, lines_with_last}
-use Rattle.check_text.specs.Found.{IsFoundBeside, side_lines}
+use Rattle.check_text.specs.Check.{Named, Checked, read_value, both_checked, checked_by, check_found, lines_with_last}
+use Rattle.check_text.specs.Found.{IsFoundBeside}
 use Rattle.check_text.specs.Lines.{has_member, list_fault_lines, list_fault_lines_at, no_list_place, nth_place, place_at}
-use Rattle.check_text.specs.Lines.{script_fault_lines}
 use Rattle.check_text.specs.Sides.{list_side_lines}
 
 -- A list.
@@ -108,33 +105,6 @@ pub found_beside : (file : Named) (script : Option Named) (found : Option Medl) 
 unfolding check_found
 found_beside file script found beside is has =
     subst (λ (f : Option Medl). IsFoundBeside (checked_by file script f) script beside) is has
-
--- A script.
-
-pub beside_rules : (file script : Named) (list : Medl) (right : Script) (beside : Beside)
-    → Some right ≡ read_value (script_from list script.text) → beside.script ≡ None
-    → beside.rules.lines ≡ warning_lines (files_with file script list right) (broken_rules list right)
-    → beside.rules.answer ≡ Some (broken_rules list right).answer
-    → IsFoundBeside (checked_by file (Some script) (Some list)) (Some script) beside
-beside_rules file script list right beside is none lines answer =
-    subst (λ (r : Option Script). IsFoundBeside (both_checked file script list r) (Some script) beside) is
-    (record { lines = rw none refl; warnings = lines; answer = rw answer refl })
-
-pub beside_faults : (file script : Named) (list : Medl) (beside : Beside)
-    → None ≡ read_value (script_from list script.text)
-    → side_lines (Some script) beside.script ≡ script_fault_lines (Some list) script.name script.text
-    → beside.rules.lines ≡ [] → beside.rules.answer ≡ None
-    → IsFoundBeside (checked_by file (Some script) (Some list)) (Some script) beside
-beside_faults file script list beside is faults lines answer =
-    subst (λ (r : Option Script). IsFoundBeside (both_checked file script list r) (Some script) beside) is
-    (record { lines = faults; warnings = lines; answer = rw answer refl })
-
-pub beside_no_list : (file script : Named) (beside : Beside)
-    → side_lines (Some script) beside.script ≡ script_fault_lines None script.name script.text
-    → beside.rules.lines ≡ [] → beside.rules.answer ≡ None
-    → IsFoundBeside (checked_by file (Some script) None) (Some script) beside
-beside_no_list file script beside faults lines answer =
-    record { lines = faults; warnings = lines; answer = rw answer refl }
 
 -- A place.
 

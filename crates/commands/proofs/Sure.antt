@@ -1,6 +1,6 @@
 -- What a call comes to whose library is sure of its files and whose sink is sure to take what is written: no count stands
 -- between right files and what is due for them. For a caller, who has the promise of a call and knows what it gave it.
-use Rattle.std.proofs.Common.{◌≡◌, ◌≢◌, ◌⊎◌, ℕ, ◌+◌, ◌<◌, ◌≤◌, true, List, [], length}
+use Rattle.std.proofs.Common.{◌≡◌, ◌≢◌, ◌⊎◌, ℕ, ◌<◌, ◌≤◌, true, List, [], length}
 use Rattle.std.proofs.Common.{Option, Some, Ok, refl, ap, sym, subst, ◌∙◌, inl, inr, arith}
 use Rattle.std.specs.List.{concat}
 use Rattle.std.specs.Io.KnownBytes.{Appends}
@@ -8,9 +8,7 @@ use Rattle.std.specs.Result.{result_ok}
 use Rattle.std.proofs.lemmas.Bool.{cases_lt}
 use Rattle.std.proofs.lemmas.Option.{same_Some}
 use Rattle.ttp_base.specs.declared.memory_library.MemoryLibrary.{MemoryLibrary}
-use Rattle.ttp_base.specs.declared.memory_sink.MemorySink.{MemorySink}
 use Rattle.ttp_base.specs.MemoryLibrary.{library_held, library_fail, library_sure, library_files}
-use Rattle.ttp_base.specs.MemorySink.{sink_bytes, sink_room, sink_fail, sink_output}
 use Rattle.ttp_base.specs.Outside.{Held, holds, Files, HasRisen, NoneRose, NoneCounted, count_end, Output, Wrote}
 use Rattle.ttp_world.specs.declared.medl.Medl.{Medl}
 use Rattle.ttp_world.specs.declared.script.Script.{Script}
@@ -19,7 +17,6 @@ use Rattle.commands.specs.Plan.{Outside, Plan}
 use Rattle.commands.specs.Promise.{IsUnfinished, Promise}
 use Rattle.commands.specs.Right.{MayBe, AreRight, AreTold}
 use Rattle.commands.specs.Texts.{Program, Answer}
-use Rattle.commands.proofs.Plans.{AllAsk, file_comes}
 
 -- ---- what is held
 
@@ -72,11 +69,6 @@ all_written {now = now} {lines = lines} empty full wrote =
     subst (λ (n : Option (List ℕ)). Appends (Some []) n (concat lines)) full
     (subst (λ (b : Option (List ℕ)). Appends b now.written (concat lines)) empty wrote.bytes)
 
--- an empty sink in memory, no write to which is to fail, is sure to take what its room has place for
-pub takes_room : (sink : MemorySink) → sink_fail sink ≡ [] → sink_bytes sink ≡ []
-    → (sink_output sink).takes ≡ sink_room sink + 1
-takes_room sink never empty = rw (never, empty) (omega arith)
-
 -- ---- counts
 
 -- a count that can rise and stood still has not risen
@@ -103,17 +95,6 @@ module _ {p : Program} {plan : Plan p.Sets} {before now : Outside} {answer : Ans
     list_quiet = none_rose list l.sure l.counts;
     script_quiet = none_rose script s.sure s.counts;
   }
-
-  -- no file is missed, with status 5, where the library is sure of each that may be asked for
-  pub none_missed : AllAsk (λ name. (before.files.sure name ≡ true) × (before.files.faults name < count_end)) plan
-      → answer.status ≢ 5
-  none_missed all five =
-      let u = (call.failed five).1 in
-      let sure =
-      file_comes (λ ending. Unit {0})
-      (λ file. (before.files.sure file.name ≡ true) × (before.files.faults file.name < count_end))
-      before.files.held plan u.earlier u.file u.next all u.comes in
-      none_rose u.file.name sure.0 sure.1 u.risen
 
   unfinished_quiet : IsUnfinished p plan before now call.loads → now.output.faults ≡ before.output.faults
   unfinished_quiet (inl none) = none.quiet

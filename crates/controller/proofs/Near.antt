@@ -5,7 +5,7 @@ use Rattle.controller.proofs.Words.{Channel, Script, SLOT_LIMIT, Signal, Bits, h
 use Rattle.controller.proofs.Words.{Carried, Shows, ArrivalFits, IsBegun, offset_of_arrival, view_clock, IsPlannedFrom}
 use Rattle.controller.proofs.Words.{most_ahead, most_ahead_in, IsEnded, IsControllerOf, IsFromWithin, IsIncidentsOf}
 use Rattle.controller.proofs.Words.{Ended, ControllerView, fits_signed_from_abs, get_or_from_slice_get, DRIFT_LIMIT}
-use Rattle.controller.proofs.Words.{AreBounded, IsWithinSpan, drift_of, IsPlanned, JumpFits, StaysNear, most_error}
+use Rattle.controller.proofs.Words.{AreBounded, IsWithinSpan, drift_of, IsPlanned, StaysNear, most_error}
 use Rattle.controller.proofs.Words.{most_jump, max, most_clock, lit≤, add-le-add, le_trans, span-abs}
 use Rattle.ttp_world.specs.declared.events.Incidents.{Incidents}
 use Rattle.controller.specs.StandsFor.{IsSameNode, ControllerStandsFor}
@@ -33,9 +33,6 @@ module _ {list : Medl} {k : ℕ} {old : ControllerView} {incidents : Incidents} 
   jumped : unsigned_abs old.past.offset + unsigned_abs (to_z w64 (of_z w64 incidents.jump)) ≤ most_ahead_in slot
   jumped = rw (jump_same bounds, ← ended-clock old of.turn)
       (add-le-add of.clock (span-abs most_jump incidents.jump bounds.jump))
-
-  pub jump_fits : slot ≤ SLOT_LIMIT → JumpFits old.past.offset (to_z w64 (of_z w64 incidents.jump))
-  jump_fits few = omega (arith, jumped)
 
   pub begun-controller : {new : ControllerView} → IsSameNode old new
       → unsigned_abs (view_clock new)

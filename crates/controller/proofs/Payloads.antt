@@ -128,15 +128,3 @@ chosen-step {plant = plant} {script = script} {history = history} chosen valid s
       ∙ ap is_loading loaded in
       are k node sends ∙ (λ i. (plan_at (sym of.list i) (sym of.node i)).payload);
 }
-
--- or by as much payload for each node as the list gives it
-pub sized-step : {plant : PlantView} {script : Script} {history : History} (chosen : List Chosen)
-    → PlantStandsFor plant script history
-    → ((k : ℕ) → k < length plant.list.slots → length (chosen_of chosen k).payload ≡ (plan_at plant.list k).payload)
-    → MayStep plant script chosen
-sized-step {plant = plant} chosen stands sizes = record {
-  each = λ j seat here loaded.
-      let of = stands.are.each j seat here in
-      sizes (0 + j) (omega (arith, stands.count, slice_get_within plant.seats j seat here))
-      ∙ (λ i. (plan_at (sym of.list i) (sym of.node i)).payload);
-}

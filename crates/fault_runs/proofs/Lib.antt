@@ -2,9 +2,13 @@ pub mod Counts
 pub mod Endings
 pub mod LineWords
 pub mod Listing
+pub mod Losses
+pub mod OneMembership
 pub mod Orders
 pub mod Ranges
 pub mod Results
+pub mod SamePasts
+pub mod SameRuns
 pub mod Tries
 pub mod Wholes
 pub mod Words

@@ -1,15 +1,16 @@
 -- The faults of a range of slots, slot by slot.
 use Rattle.fault_runs.proofs.Words.{◌≡◌, ℕ, ◌+◌, ◌*◌, ◌<◌, ◌≤◌, Bool, true, false, cond, ◌&&◌, List, [], ◌∷◌, ◌++◌}
 use Rattle.fault_runs.proofs.Words.{length, get_or, refl, ap, sym, subst, ◌∙◌, arith, map, filter, nat_le, IsValid}
-use Rattle.fault_runs.proofs.Words.{list_any, length-append, inl, inr, get_or-map, length-map, below, Medl, Entry}
+use Rattle.fault_runs.proofs.Words.{append-nil, list_any, length-append, inl, inr, get_or-map, length-map, below, Medl, Entry}
 use Rattle.fault_runs.proofs.Words.{Script, History, faults_in, row_of, zeros_world, tried_in, tried_before, entries_of}
 use Rattle.std.proofs.Common.{zero, suc, ◌-◌}
-use Rattle.std.specs.Prelude.{All, flat_map}
+use Rattle.std.specs.Prelude.{All, flat_map, min}
 use Rattle.std.proofs.lemmas.List.Elements.{All-nil}
 use Rattle.single_faults.specs.Tried.{MayStand}
 use Rattle.single_faults.proofs.Stand.{faults_in-stand}
 use Rattle.std.proofs.lemmas.List.FromFn.{length-map-range_with_len, length-range_with_len}
-use Rattle.std.proofs.lemmas.Bool.{cases_eq}
+use Rattle.std.proofs.lemmas.Bool.{cases_eq, cases_lt, lt-leb, and_right}
+use Rattle.ttp_base.proofs.Below.{flat_map-next}
 use Rattle.std.proofs.lemmas.List.{ext_get_or}
 use Rattle.ttp_world.specs.declared.node.Entry.TheVariants as entry
 use Rattle.ttp_world.specs.declared.node.NodeState.{NodeState}
@@ -102,7 +103,7 @@ row-older row history slot older =
     ap (λ n. get_or (row ∷ history) n []) place
 
 -- in the whole run it is the newest one of the run up to it
-zeros-row : (list : Medl) (script : Script) (slot slots : ℕ) → slot < slots
+pub zeros-row : (list : Medl) (script : Script) (slot slots : ℕ) → slot < slots
     → row_of (zeros_world list script slots) slot ≡ next_row list script slot
 zeros-row list script slot zero none = absurd (omega (arith, none))
 zeros-row list script slot (suc slots) within = elim (cases_eq slot slots) [
@@ -118,7 +119,7 @@ zeros-row list script slot (suc slots) within = elim (cases_eq slot slots) [
       ∙ zeros-row list script slot slots less
 ]
 
-length-next_row : (list : Medl) (script : Script) (slot : ℕ) → length (next_row list script slot) ≡ length list.slots
+pub length-next_row : (list : Medl) (script : Script) (slot : ℕ) → length (next_row list script slot) ≡ length list.slots
 length-next_row list script slot = length-map-range_with_len _ 0 (length list.slots)
 
 -- what is shown of the nodes after a slot says what they did in it
@@ -148,3 +149,39 @@ tried-stand list script first last slot valid inside = stand (nat_le first slot 
         (cond b (faults_in list script (row_of (zeros_world list script script.slots) slot) slot) [])
     stand true = faults_in-stand list script (row_of (zeros_world list script script.slots) slot) slot valid inside
     stand false = All-nil (MayStand list script)
+
+-- No slot behind the range has any.
+
+tried-past : (list : Medl) (script : Script) (first last slot : ℕ) → last < slot → tried_in list script first last slot ≡ []
+tried-past list script first last slot past =
+    let faults = faults_in list script (row_of (zeros_world list script script.slots) slot) slot in
+    ap (λ b. cond b faults []) (and_right (nat_le first slot) (nat_le slot last) (lt-leb slot last past))
+
+tried-more : (list : Medl) (script : Script) (first last n m : ℕ) → last < n
+    → tried_before list script first last (n + m) ≡ tried_before list script first last n
+tried-more list script first last n zero past =
+    ap (tried_before list script first last) (let same : n + 0 ≡ n = omega arith in same)
+tried-more list script first last n (suc m) past =
+    let next : n + suc m ≡ n + m + 1 = omega arith in
+    ap (tried_before list script first last) next
+    ∙ flat_map-next (tried_in list script first last) (n + m)
+    ∙ ap (λ faults. tried_before list script first last (n + m) ++ faults)
+    (tried-past list script first last (n + m) (omega (arith, past)))
+    ∙ append-nil (tried_before list script first last (n + m))
+    ∙ tried-more list script first last n m past
+
+-- those of so many slots are all, where the range ends before
+pub tried-to : (list : Medl) (script : Script) (first last end n : ℕ) → end ≡ min (suc last) script.slots → end ≤ n
+    → n ≤ script.slots → tried_before list script first last n ≡ tried_before list script first last script.slots
+tried-to list script first last end n is past few = elim (cases_lt last script.slots) [
+  | inl inside ↦
+      let here : suc last + (n - suc last) ≡ n = omega (arith, is, inside, past) in
+      let all : suc last + (script.slots - suc last) ≡ script.slots = omega (arith, inside) in
+      ap (tried_before list script first last) (sym here)
+      ∙ tried-more list script first last (suc last) (n - suc last) (omega arith)
+      ∙ sym (tried-more list script first last (suc last) (script.slots - suc last) (omega arith))
+      ∙ ap (tried_before list script first last) all
+  | inr behind ↦
+      let here : n ≡ script.slots = omega (arith, is, behind, past, few) in
+      ap (tried_before list script first last) here
+]

@@ -9,8 +9,8 @@ use Rattle.ttp_world.specs.Medl.{IsValid}
 use Rattle.ttp_world.specs.Script.{IsValidScript}
 use Rattle.campaign.specs.CostText.{cost_words}
 use Rattle.campaign.specs.Lines.{summary, summary_with, run_line, is_same_cost}
-use Rattle.run_costs.specs.declared.seen_run.SeenRun.{SeenRun}
 use Rattle.run_costs.specs.Standing.{IsRunOfList, IsSeenAfter}
+use Rattle.fault_runs.specs.Merging.{IsSettledFrom}
 use Rattle.fault_runs.specs.declared.own.OwnRun.{OwnRun}
 use Rattle.fault_runs.specs.declared.tried.Common.{Common}
 use Rattle.fault_runs.specs.declared.tried.Tried.{Tried}
@@ -25,16 +25,15 @@ pub record IsOwnOf (own : OwnRun) (list : Medl) : Type 0 where
   pub run : IsRunOfList own.run.run list
   pub before : IsRunOfList own.before.run list
 
--- the script may be run with one fault more, and the words of what its own run costs are there
+-- the script may be run with one fault more; there are the words of what its own run costs, from which slot on that is
+-- settled, and the memberships that are left in it
 pub record MayTry (common : Common) : Type 0 where
   pub valid : IsValid common.list.now
   pub script : IsValidScript common.list.now common.script.now
   pub room : length common.script.now.events < EVENT_LIMIT
   pub own : common.own.now ≡ cost_words common.list.now (summary common.list.now common.script.now).cost
-
--- a run by that script, as far as it has come
-abbrev pub IsPastOf : Common → SeenRun → Type 0
-IsPastOf common run = IsSeenAfter run common.list.now common.script.now run.slots
+  pub settled : IsSettledFrom common.list.now common.script.now common.settled
+  pub end : common.end.now ≡ (summary common.list.now common.script.now).cost.end
 
 -- what is told of the run with a fault
 abbrev pub tried_of : Medl → Script → Event → Tried

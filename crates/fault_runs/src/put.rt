@@ -1,5 +1,5 @@
 //! A campaign, written.
-ghost use Rattle.std.specs.Prelude.{◌≡◌, ◌+◌, ◌<◌, ◌≤◌, ◌^◌, ◌*◌, ℕ, nat_le, ◌&&◌, [], ◌∷◌, ◌++◌, List as Items};
+ghost use Rattle.std.specs.Prelude.{◌≡◌, ◌+◌, ◌<◌, ◌≤◌, ◌^◌, ◌*◌, ℕ, suc, min, nat_le, ◌&&◌, [], ◌∷◌, ◌++◌, List as Items};
 ghost use Rattle.std.specs.Prelude.{length, map, Err, IsOk, OnOk, IfOk, IfErr};
 ghost use Rattle.ttp_base.specs.Outside.{WroteLines, CutShort};
 ghost use Rattle.ttp_world.specs.declared.medl.Medl.{Medl};
@@ -11,19 +11,21 @@ ghost use Rattle.ttp_world.specs.Script.{IsValidScript};
 ghost use Rattle.campaign.specs.CostText.{cost_words};
 ghost use Rattle.campaign.specs.Lines.{Summary, summary, own_line, campaign_lines};
 ghost use Rattle.campaign.specs.declared.cost.Cost.{Cost};
+ghost use Rattle.campaign.specs.Tried.{row_of};
 ghost use Rattle.campaign.specs.ZerosWorld.{zeros_world};
-ghost use Rattle.run_costs.specs.States.{AreShown};
 ghost use Rattle.fault_runs.specs.declared.put.CampaignFault.TheVariants as fault;
 ghost use Rattle.fault_runs.specs.Ends.{LeftBy, LeftFewerBy, WroteFewer};
 ghost use Rattle.fault_runs.specs.Runs.{tried_in, tried_before, entries_of, fault_lines, front_lines, end_lines};
 ghost use Rattle.fault_runs.specs.Runs.{most_tried, HasAtMost, AreCountsOf, IsTallyOf};
+ghost use Rattle.fault_runs.specs.Merging.{IsWhole};
 ghost use Rattle.fault_runs.specs.Tries.{MayTry, IsOwnAfter, tried_of, tried_lines};
 
 use crate::campaign_text::Text;
 use crate::own::OwnRun;
 use crate::tally::Tally;
 use crate::tried::{Common, Tried, form_words, try_beside};
-use run_costs::cost_of;
+use crate::whole::{WholeRun, whole_of};
+use campaign::Cost;
 use single_faults::faults_in;
 use std::alloc::Global;
 use std::thread::Threads;
@@ -125,26 +127,24 @@ fn is_in_range(first: u32, last: u32, slot: u32) -> bool
     first <= slot && slot <= last
 }
 
-// The faults that are tried in a slot, by what is shown of the nodes after it: none where it is not in the
-// range.
+// The faults that are tried in a slot, by what each node does in it: none where it is not in the range.
 fn tried_in(
     alloc: Global,
     list: &Medl,
     script: &Script,
     first: u32,
     last: u32,
-    states: &[NodeState],
+    row: &[Entry],
     slot: u32,
 ) -> Result<List<Event>, Memory>
     requires valid { IsValid list.now }
     requires script { IsValidScript list.now script.now }
     requires slot { slot < script.now.slots }
-    requires shown { AreShown list.now script.now (zeros_world list.now script.now (slot + 1)) states.now }
+    requires row { row.now ≡ row_of (zeros_world list.now script.now script.now.slots) slot }
     ensures { IfOk result (λ faults. faults ≡ tried_in list.now script.now first last slot) }
 {
     if is_in_range(first, last, slot) {
-        let row = row_of(alloc, states)?;
-        return faults_in(alloc, list, script, row.as_slice(), slot);
+        return faults_in(alloc, list, script, row, slot);
     }
     Ok(List::new(alloc))
 }
@@ -180,16 +180,33 @@ fn put_slot<R: Threads + Sync, K: Sink>(
 {
     let (list, script) = (common.list, common.script);
     own.step(list, script, slot);
-    let Ok(faults) = tried_in(alloc, list, script, first, last, own.states(list), slot) else {
+    let Ok(row) = row_of(alloc, own.states(list)) else {
         return Err(CampaignFault::Memory);
     };
-    let Ok(all) = try_beside(rt, alloc, common, &own.before, faults.as_slice(), threads) else {
+    let row = row.as_slice();
+    let Ok(faults) = tried_in(alloc, list, script, first, last, row, slot) else {
+        return Err(CampaignFault::Memory);
+    };
+    let past = &own.before;
+    let faults = faults.as_slice();
+    let Ok(all) = try_beside(rt, alloc, common, past, row, slot, faults, threads) else {
         return Err(CampaignFault::Memory);
     };
     put_all(all.as_slice(), slot, tally, out)
 }
 
-// The runs of all faults, by the script's own run, which has not begun.
+// The slot behind the last one of the range that the script has.
+fn end_of(script: &Script, last: u32) -> u32
+    ensures { result ≡ min (suc last) script.now.slots }
+{
+    if last < script.slots {
+        last + 1
+    } else {
+        script.slots
+    }
+}
+
+// The runs of all faults, by the script's own run, which has not begun, and goes no further than the range.
 fn put_slots<R: Threads + Sync, K: Sink>(
     rt: &R,
     alloc: Global,
@@ -214,7 +231,7 @@ fn put_slots<R: Threads + Sync, K: Sink>(
         (fault_lines common.now.list.now common.now.script.now
         (tried_before common.now.list.now common.now.script.now first last common.now.script.now.slots))) }
 {
-    for slot in 0..common.script.slots {
+    for slot in 0..end_of(common.script, last) {
         if let Err(why) = put_slot(
             rt, alloc, common, first, last, threads, own, slot, tally, out,
         ) {
@@ -295,16 +312,27 @@ fn put_lines<R: Threads + Sync, K: Sink>(
     put_end(&mut tally, out)
 }
 
-// The words of what the script's own run costs.
-fn own_words(alloc: Global, list: &Medl, script: &Script) -> Result<Text, Memory>
+// The words of what a run costs.
+fn words_of(alloc: Global, list: &Medl, cost: &Cost) -> Result<Text, Memory>
     requires valid { IsValid list.now }
-    requires script { IsValidScript list.now script.now }
-    ensures { IfOk result (λ words. words ≡ cost_words list.now (summary list.now script.now).cost) }
+    requires cost { (script : Script) × (cost.now ≡ (summary list.now script).cost) }
+    ensures { IfOk result (λ words. words ≡ cost_words list.now cost.now) }
 {
     let mut words = Text::new(alloc);
-    let cost = cost_of(alloc, list, script)?;
-    form_words(list, &cost, &mut words)?;
+    form_words(list, cost, &mut words)?;
     Ok(words)
+}
+
+// What the script's own run came to, and the words of what it costs.
+fn own_whole(alloc: Global, list: &Medl, script: &Script) -> Result<(WholeRun, Text), Memory>
+    requires valid { IsValid list.now }
+    requires script { IsValidScript list.now script.now }
+    ensures whole { IfOk result (λ own. IsWhole list.now script.now own.0) }
+    ensures words { IfOk result (λ own. own.1 ≡ cost_words list.now (summary list.now script.now).cost) }
+{
+    let whole = whole_of(alloc, list, script)?;
+    let words = words_of(alloc, list, &whole.cost)?;
+    Ok((whole, words))
 }
 
 /// Writes the line of the script's own run alone, as a campaign has it. It runs the cluster once.
@@ -326,13 +354,16 @@ pub fn put_own_line<K: Sink>(
     ensures err { IfErr result (λ why. LeftFewerBy why (K.output out.old) (K.output out.new)
         (own_line list.now (summary list.now script.now) ∷ [])) }
 {
-    let Ok(words) = own_words(alloc, list, script) else {
+    let Ok(own) = own_whole(alloc, list, script) else {
         return Err(CampaignFault::Memory);
     };
+    let (whole, words) = own;
     let common = Common {
         list,
         script,
         own: words.bytes(),
+        settled: whole.settled,
+        end: whole.cost.end.as_slice(),
     };
     let mut tally = Tally::new(alloc);
     let formed = tally.form_own(&common);
@@ -342,11 +373,12 @@ pub fn put_own_line<K: Sink>(
 /// Writes the campaign of a script over the slots of a range, each line as one piece. Slots that the script
 /// does not have are passed over.
 ///
-/// A campaign of n lines runs the cluster n times, each time from the slot of the fault to the script's last one;
-/// the slots before are run once. The test of each script goes over all slots. The runs of a slot are made in as
-/// many threads as are asked for, rounded up to a power of two; with 0 or 1 they are made in this one, and
-/// [`crate::processors`] says how many are of use. What is written is the same. Between two slots it keeps the
-/// script's own run; the lines of a slot are held until all of its runs were made.
+/// A campaign of n lines runs the cluster n times, each time from the slot of the fault to the script's last one, or that
+/// one slot alone where a loss in it changes nothing that a node does and the own run is settled behind it. The own run
+/// is made once to its end, for its line, and once to the end of the range. The test of each script goes over all slots.
+/// The runs of a slot are made in as many threads as are asked for, rounded up to a power of two; with 0 or 1 they are
+/// made in this one, and [`crate::processors`] says how many are of use. What is written is the same. Between two slots it
+/// keeps the script's own run; the lines of a slot are held until all of its runs were made.
 ///
 /// # Errors
 ///
@@ -373,9 +405,10 @@ pub fn put_campaign<R: Threads + Sync, K: Sink>(
     ensures memory { result ≡ Err fault.Memory
         → WroteFewer (K.output out.old) (K.output out.new) (campaign_lines list.now script.now first last) }
 {
-    let Ok(words) = own_words(alloc, list, script) else {
+    let Ok(own) = own_whole(alloc, list, script) else {
         return Err(CampaignFault::Memory);
     };
+    let (whole, words) = own;
     let Ok(mut own) = OwnRun::new(alloc, list, script) else {
         return Err(CampaignFault::Memory);
     };
@@ -383,6 +416,8 @@ pub fn put_campaign<R: Threads + Sync, K: Sink>(
         list,
         script,
         own: words.bytes(),
+        settled: whole.settled,
+        end: whole.cost.end.as_slice(),
     };
     put_lines(rt, alloc, &common, first, last, threads, &mut own, out)
 }

@@ -12,17 +12,19 @@ ghost use Rattle.fault_runs.specs.Listing.{in_order};
 ghost use Rattle.fault_runs.specs.Told.{told_summary};
 ghost use Rattle.single_faults.specs.Tried.{MayStand};
 ghost use Rattle.run_costs.specs.Standing.{IsRunOfList};
-ghost use Rattle.fault_runs.specs.Tries.{MayTry, IsPastOf, tried_of};
+ghost use Rattle.fault_runs.specs.Merging.{IsOwnIn};
+ghost use Rattle.fault_runs.specs.Tries.{MayTry, tried_of};
 
 use crate::campaign_text::{Text, put_cost, put_run};
+use crate::merged::cost_beside;
 use campaign::Cost;
-use run_costs::{SeenRun, cost_from};
+use run_costs::SeenRun;
 use single_faults::laws::more_is_valid;
 use single_faults::with_fault;
 use std::alloc::Global;
 use std::thread::{Threads, available_parallelism, join};
-use ttp_base::Memory;
-use ttp_world::{Event, Medl, Script};
+use ttp_base::{Memory, NodeSet};
+use ttp_world::{Entry, Event, Medl, Script};
 
 /// What all runs of a campaign read.
 #[derive(Clone, Copy)]
@@ -31,6 +33,10 @@ pub(crate) struct Common<'a> {
     pub(crate) script: &'a Script,
     /// The words of what the script's own run costs.
     pub(crate) own: &'a [u8],
+    /// From which slot on that run is settled.
+    pub(crate) settled: u32,
+    /// The memberships that are left in it.
+    pub(crate) end: &'a [NodeSet],
 }
 
 /// The run of a script with one fault more: its line, and what is counted of it.
@@ -77,21 +83,23 @@ fn try_more(
     alloc: Global,
     common: &Common,
     past: &SeenRun,
+    row: &[Entry],
+    slot: u32,
     fault: &Event,
     more: &Script,
     words: &mut Text,
     run: &mut SeenRun,
 ) -> Result<Tried, Memory>
     requires may { MayTry common.now }
-    requires past { IsPastOf common.now past.now }
+    requires own { IsOwnIn common.now.list.now common.now.script.now slot past.now row.now }
     requires more { more.now ≡ with_fault common.now.script.now fault.now }
     requires script { IsValidScript common.now.list.now more.now }
     requires run { IsRunOfList run.old.run common.now.list.now }
     ensures tried { IfOk result (λ tried. tried ≡ tried_of common.now.list.now common.now.script.now fault.now) }
     ensures run { OnOk result (IsRunOfList run.new.run common.now.list.now) }
 {
-    let (list, script) = (common.list, common.script);
-    let cost = cost_from(alloc, list, script, fault, more, past, run)?;
+    let list = common.list;
+    let cost = cost_beside(alloc, common, fault, more, past, row, slot, run)?;
     form_words(list, &cost, words)?;
     let shown = line_of(alloc, list, more, fault, words.bytes())?;
     let is_same = common.own == words.bytes();
@@ -104,18 +112,20 @@ fn try_more(
     })
 }
 
-// The run of a fault, by the script's own run as far as it has come. Its cost is formed in `words`, and it is made
-// in `run`.
+// The run of a fault, by the script's own run before its slot and what each node does in that slot. Its cost is formed in
+// `words`, and it is made in `run`.
 fn try_one(
     alloc: Global,
     common: &Common,
     past: &SeenRun,
+    row: &[Entry],
+    slot: u32,
     fault: &Event,
     words: &mut Text,
     run: &mut SeenRun,
 ) -> Result<Tried, Memory>
     requires may { MayTry common.now }
-    requires past { IsPastOf common.now past.now }
+    requires own { IsOwnIn common.now.list.now common.now.script.now slot past.now row.now }
     requires fault { MayStand common.now.list.now common.now.script.now fault.now }
     requires run { IsRunOfList run.old.run common.now.list.now }
     ensures tried { IfOk result (λ tried. tried ≡ tried_of common.now.list.now common.now.script.now fault.now) }
@@ -123,7 +133,7 @@ fn try_one(
 {
     more_is_valid(common.list, common.script, fault);
     let more = with_fault(alloc, common.script, fault)?;
-    try_more(alloc, common, past, fault, &more, words, run)
+    try_more(alloc, common, past, row, slot, fault, &more, words, run)
 }
 
 // Adds those of some faults, one after another.
@@ -131,20 +141,22 @@ fn add_each(
     alloc: Global,
     common: &Common,
     past: &SeenRun,
+    row: &[Entry],
+    slot: u32,
     faults: &[Event],
     words: &mut Text,
     run: &mut SeenRun,
     all: &mut Vec<Tried>,
 ) -> Result<(), Memory>
     requires may { MayTry common.now }
-    requires past { IsPastOf common.now past.now }
+    requires own { IsOwnIn common.now.list.now common.now.script.now slot past.now row.now }
     requires faults { All (MayStand common.now.list.now common.now.script.now) faults.now }
     requires run { IsRunOfList run.old.run common.now.list.now }
     requires none { all.old.items ≡ [] }
     ensures { OnOk result (all.new.items ≡ map (tried_of common.now.list.now common.now.script.now) faults.now) }
 {
     for fault in faults {
-        all.push(try_one(alloc, common, past, fault, words, run)?)?;
+        all.push(try_one(alloc, common, past, row, slot, fault, words, run)?)?;
     }
     Ok(())
 }
@@ -154,18 +166,22 @@ fn add_all(
     alloc: Global,
     common: &Common,
     past: &SeenRun,
+    row: &[Entry],
+    slot: u32,
     faults: &[Event],
     all: &mut Vec<Tried>,
 ) -> Result<(), Memory>
     requires may { MayTry common.now }
-    requires past { IsPastOf common.now past.now }
+    requires own { IsOwnIn common.now.list.now common.now.script.now slot past.now row.now }
     requires faults { All (MayStand common.now.list.now common.now.script.now) faults.now }
     requires none { all.old.items ≡ [] }
     ensures { OnOk result (all.new.items ≡ map (tried_of common.now.list.now common.now.script.now) faults.now) }
 {
     let mut words = Text::new(alloc);
     let mut run = SeenRun::new(alloc, common.list, common.script)?;
-    add_each(alloc, common, past, faults, &mut words, &mut run, all)
+    add_each(
+        alloc, common, past, row, slot, faults, &mut words, &mut run, all,
+    )
 }
 
 // Those of some faults. A run is made where there are any.
@@ -173,10 +189,12 @@ fn try_each(
     alloc: Global,
     common: &Common,
     past: &SeenRun,
+    row: &[Entry],
+    slot: u32,
     faults: &[Event],
 ) -> Result<Vec<Tried>, Memory>
     requires may { MayTry common.now }
-    requires past { IsPastOf common.now past.now }
+    requires own { IsOwnIn common.now.list.now common.now.script.now slot past.now row.now }
     requires faults { All (MayStand common.now.list.now common.now.script.now) faults.now }
     ensures { IfOk result (λ all. all.items ≡ map (tried_of common.now.list.now common.now.script.now) faults.now) }
 {
@@ -184,13 +202,13 @@ fn try_each(
     if faults.is_empty() {
         return Ok(all);
     }
-    add_all(alloc, common, past, faults, &mut all)?;
+    add_all(alloc, common, past, row, slot, faults, &mut all)?;
     Ok(all)
 }
 
-/// Those of some faults, in their order, by the script's own run as far as it has come. They are halved until
-/// there is a part for each of so many threads, and each part is run in a thread of its own, or in this one where
-/// the system gives none.
+/// Those of some faults of a slot, in their order, by the script's own run before it and what each node does in it. They
+/// are halved until there is a part for each of so many threads, and each part is run in a thread of its own, or in this
+/// one where the system gives none.
 #[cycle(halves)]
 #[tactic(auto, using(crate::proofs::Tries::halves_tried))]
 pub(crate) fn try_beside<R: Threads + Sync>(
@@ -198,31 +216,33 @@ pub(crate) fn try_beside<R: Threads + Sync>(
     alloc: Global,
     common: &Common,
     past: &SeenRun,
+    row: &[Entry],
+    slot: u32,
     faults: &[Event],
     threads: usize,
 ) -> Result<Vec<Tried>, Memory>
     requires may { MayTry common.now }
-    requires past { IsPastOf common.now past.now }
+    requires own { IsOwnIn common.now.list.now common.now.script.now slot past.now row.now }
     requires faults { All (MayStand common.now.list.now common.now.script.now) faults.now }
     ensures { IfOk result (λ all. all.items ≡ map (tried_of common.now.list.now common.now.script.now) faults.now) }
 {
     if threads < 2 || faults.len() < 2 {
-        return try_each(alloc, common, past, faults);
+        return try_each(alloc, common, past, row, slot, faults);
     }
     let (front, back) = faults.split_at(faults.len() / 2);
     let half = threads - threads / 2;
     let try_front = || -> Result<Vec<Tried>, Memory>
-        requires { IsSync R.row × MayTry common.now × IsPastOf common.now past.now
+        requires { IsSync R.row × MayTry common.now × IsOwnIn common.now.list.now common.now.script.now slot past.now row.now
             × All (MayStand common.now.list.now common.now.script.now) front.now }
         ensures { IfOk result (λ all. all.items
             ≡ map (tried_of common.entry.now.list.now common.entry.now.script.now) front.entry.now) }
-    { try_beside(rt, alloc, common, past, front, half) };
+    { try_beside(rt, alloc, common, past, row, slot, front, half) };
     let try_back = || -> Result<Vec<Tried>, Memory>
-        requires { IsSync R.row × MayTry common.now × IsPastOf common.now past.now
+        requires { IsSync R.row × MayTry common.now × IsOwnIn common.now.list.now common.now.script.now slot past.now row.now
             × All (MayStand common.now.list.now common.now.script.now) back.now }
         ensures { IfOk result (λ all. all.items
             ≡ map (tried_of common.entry.now.list.now common.entry.now.script.now) back.entry.now) }
-    { try_beside(rt, alloc, common, past, back, half) };
+    { try_beside(rt, alloc, common, past, row, slot, back, half) };
     let (first, second) = join(rt, try_front, try_back);
     let mut all = first?;
     let mut rest = second?;

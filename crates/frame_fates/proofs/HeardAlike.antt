@@ -106,11 +106,6 @@ heard-alike list script slot r c ones others alike =
 
 -- What a node makes of it.
 
-pub record AreHeardAlike (list : Medl) (one other : Hearing) : Type 0 where
-  pub a : AreSignalsAlike list one.a other.a
-  pub b : AreSignalsAlike list one.b other.b
-  pub deviation : one.deviation ≡ other.deviation
-
 join-alike : (list : Medl) (deviation : ℕ → ℤ) (one other : Signal) → AreSignalsAlike list one other
     → channel_join list deviation one ≡ channel_join list deviation other
 join-alike list deviation Silence Silence alike = refl

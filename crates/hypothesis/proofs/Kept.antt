@@ -1,7 +1,7 @@
 -- What is kept of what happens to the nodes.
 use Rattle.hypothesis.proofs.Words.{◌≡◌, ℕ, ◌+◌, ◌<◌, ◌≤◌, max, pos, Bool, true, false, not, ◌&&◌, ◌||◌, List, [], ◌∷◌}
-use Rattle.hypothesis.proofs.Words.{None, refl, ap, sym, ◌∙◌, inl, inr, arith, is_some, cond, length, ◌++◌, ◌==◌}
-use Rattle.hypothesis.proofs.Words.{nat_lt, and-false, list_any, cases_lt, ne_eqb, lt-ltb, below, has_node, same_sieve}
+use Rattle.hypothesis.proofs.Words.{None, refl, ap, sym, ◌∙◌, arith, is_some, cond, length, ◌++◌, ◌==◌}
+use Rattle.hypothesis.proofs.Words.{nat_lt, and-false, list_any, ne_eqb, lt-ltb, below, has_node, same_sieve}
 use Rattle.hypothesis.proofs.Words.{filter-filter, Medl, Event, Script, ClusterStart, FaultyNode, Harmless, numbers_of}
 use Rattle.hypothesis.proofs.Words.{loss_in, jumpers_in, loses, expected_sender, is_other, others_in, is_breaking}
 use Rattle.hypothesis.proofs.Words.{jumps_now, IsValid, disturbance_broken, has_jump, jump_of, jump_in, is_on}
@@ -14,14 +14,6 @@ use Rattle.ttp_world.specs.declared.script.Event.TheVariants as event
 use Rattle.ttp_world.specs.Hypothesis.{loss_among}
 use Rattle.hypothesis.specs.declared.incidents.Kinds.{Kinds}
 use Rattle.hypothesis.proofs.FarJumps.{far_jump-sum}
-
--- what stands from a slot on, and so in it, is so in each later slot before another
-pub stands-at : {X : Type 0} (of : ℕ → X) (slot until t : ℕ) → ((u : ℕ) → slot ≤ u → u < until → of u ≡ of slot)
-    → slot ≤ t → t < max until (slot + 1) → of slot ≡ of t
-stands-at of slot until t stands from before = elim (cases_lt t until) [
-  | inl less ↦ sym (stands t from less)
-  | inr other ↦ let same : slot ≡ t = omega (arith, from, before, other) in ap of same
-]
 
 pub not_false : (b : Bool) → not b ≡ false → b ≡ true
 not_false true none = refl

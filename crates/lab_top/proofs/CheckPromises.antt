@@ -16,7 +16,7 @@ use Rattle.commands.proofs.Told.{Quiet, told_shows, told_cut, told_leaves}
 use Rattle.lab_top.specs.CheckPromise.{GaveFile, GaveBeside, WroteCheck, BeganCheck, HoldsFile, HoldsBeside, CheckPromise}
 use Rattle.lab_top.specs.Forms.{check_ending, check_plan}
 use Rattle.lab_top.specs.Texts.{IsProperFront, LabEnding, LabAnswer, ttplab}
-use Rattle.lab_top.proofs.LinesPromises.{fewer, wants, none_of}
+use Rattle.lab_top.proofs.LinesPromises.{fewer, none_of}
 
 -- What the call that writes leaves, as the ending of the form has it.
 
@@ -29,20 +29,6 @@ check_shown file beside before now status is wrote =
       text = record { lines = check_lines file beside; among = refl; wrote = wrote };
       kept = refl;
     }))
-
-pub check_cut : (file : Named) (beside : Option Named) (before now : Output) → CutShort before now (check_lines file beside)
-    → ShowsEnding ttplab (check_ending file beside) before now (alone 6)
-check_cut file beside before now cut =
-    inl (inr (record {
-      status = refl;
-      text = record { lines = check_lines file beside; among = refl; cut = cut };
-      none = refl;
-    }))
-
-pub check_begun : (file : Named) (beside : Option Named) (before now : Output)
-    → WroteFewer before now (check_lines file beside)
-    → ShowsEnding ttplab (check_ending file beside) before now (alone 7)
-check_begun file beside before now some = inr (wants (check_lines file beside) before now some)
 
 -- the files that were loaded, and the ending that they come to
 record Came (list : List ℕ) (script : Option (List ℕ)) (before : Outside) (ending : LabEnding) : Type 0 where

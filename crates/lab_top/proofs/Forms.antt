@@ -23,10 +23,11 @@ use Rattle.commands.specs.declared.read.FileFault.{FileFault}
 use Rattle.commands.specs.Files.{refused_list, refused_script, trace_plan}
 use Rattle.commands.specs.Lines.{AreLines}
 use Rattle.commands.specs.Plan.{ends, said_ending, whole_ending}
+use Rattle.commands.specs.Read.{script_from}
 use Rattle.commands.specs.Texts.{one, those, no_texts}
 use Rattle.commands.proofs.Lines.{AreOfLines, IsFinal, SaysLine, one_text, lines_front, text_final, line_final}
 use Rattle.commands.proofs.Lines.{refused_list-final, refused_script-final}
-use Rattle.commands.proofs.Plans.{Every, list_every, both_every}
+use Rattle.commands.proofs.Plans.{Every, after_every, list_every, both_every}
 use Rattle.lab_top.specs.declared.refusal.TextFault.{TextFault}
 use Rattle.lab_top.specs.Forms.{lab_usage_line, viewed_ending, view_plan, lines_ending, lines_plan, script_ending}
 use Rattle.lab_top.specs.Forms.{script_form_plan, frames_ending, frames_plan, check_ending, check_plan, lab_plan_of}
@@ -35,7 +36,7 @@ use Rattle.lab_top.specs.Help.{help_lines, version_line}
 use Rattle.lab_top.specs.Refusals.{text_fault_line}
 use Rattle.lab_top.specs.Texts.{begun, differences, LabEnding, ttplab}
 use Rattle.lab_top.specs.Views.{View, viewed, wave_view, picture_view, chart_view}
-use Rattle.lab_top.specs.Words.{LabForm, wave, picture, campaign, chart, check, frames, margins, pairs, script_by, help, version}
+use Rattle.lab_top.specs.Words.{LabForm, wave, picture, campaign, chart, check, frames, margins, pairs, script_by, help, version, why}
 use Rattle.lab_top.specs.Words.{may_be_begun, tells_differences, reads_list}
 use Rattle.lab_top.proofs.CampaignLines.{campaign_lines-each}
 use Rattle.lab_top.proofs.Differences.{differences-each}
@@ -44,13 +45,16 @@ use Rattle.lab_top.proofs.GeneratedLines.{script_lines-each}
 use Rattle.lab_top.proofs.MarginLines.{margin_lines-each}
 use Rattle.lab_top.proofs.PairLines.{pairs_lines-each}
 use Rattle.lab_top.proofs.Refusals.{text_fault_line-is_line, viewed-taken}
+use Rattle.lab_top.proofs.WhyLines.{why-answer}
+use Rattle.lab_top.specs.Why.{ends_why, why_ending, why_plan}
+use Rattle.why_answers.specs.Answer.{why_answer}
 
 -- an ending that a form may come to
 pub record IsOfForm (form : Option LabForm) (ending : LabEnding) : Type 0 where
   pub final : IsFinal ttplab ending
   -- the usage line answers words of no form alone
   pub usage : ending.status ≡ 2 → form ≡ None
-  -- and status 1 that of `frames` and of `check` alone
+  -- and status 1 that of `frames`, `check` and `why` alone
   pub differs : ending.status ≡ 1 → tells_differences form ≡ true
   -- only forms that read a list refuse one
   pub lists : ending.status ≡ 3 → reads_list form ≡ true
@@ -225,8 +229,35 @@ of_script list slots number =
     list_every (IsOfForm form) SaysLine list (λ medl. ends (script_ending slots number medl)) refl (no_list form refl)
     (script_ends list slots number)
 
+-- why an entry came about, or why there is nothing to tell
+
+why_ends : (list script : List ℕ) (k : ℕ) (slot : Option ℕ) (medl : Medl) (bytes : List ℕ) (right : Script)
+    → IsOfForm (Some (why list script k slot)) (why_ending (why_answer medl right bytes k slot))
+why_ends list script k slot medl bytes right =
+    let is = why-answer medl right bytes k slot in
+    let answer = why_answer medl right bytes k slot in
+    record {
+      final = text_final ttplab answer.status answer.lines is.few is.each;
+      usage = λ two. absurd (is.not_usage two);
+      differs = λ one. refl;
+      lists = λ three. refl;
+      lets = λ other. refl;
+    }
+
+of_why : (list script : List ℕ) (k : ℕ) (slot : Option ℕ)
+    → Every (IsOfForm (Some (why list script k slot))) SaysLine (why_plan list script k slot)
+of_why list script k slot =
+    let form = Some (why list script k slot) in
+    list_every (IsOfForm form) SaysLine list _ refl (no_list form refl)
+    (λ medl. (
+      refl,
+      λ bytes.
+          after_every (IsOfForm form) SaysLine refused_script (ends_why k slot medl bytes) (no_script form)
+          (why_ends list script k slot medl bytes) (script_from medl bytes),
+    ))
+
 help-each : AreLines help_lines
-help-each = (refl, (refl, (refl, (refl, (refl, (refl, (refl, (refl, (refl, (refl, (refl, (refl, (refl, tt)))))))))))))
+help-each = (refl, (refl, (refl, (refl, (refl, (refl, (refl, (refl, (refl, (refl, (refl, (refl, (refl, (refl, tt))))))))))))))
 
 pub lab_forms : (form : Option LabForm) → Every (IsOfForm form) SaysLine (lab_plan_of form)
 lab_forms None = record {
@@ -256,5 +287,6 @@ lab_forms (Some (pairs list script first last within)) =
     of_both (Some (pairs list script first last within)) refl refl (λ medl right. pairs_lines medl right first last within)
     (λ medl right. pairs_lines-each medl right first last within) list script
 lab_forms (Some (script_by list slots number)) = of_script list slots number
+lab_forms (Some (why list script k slot)) = of_why list script k slot
 lab_forms (Some help) = of_lines (Some help) help_lines help-each
 lab_forms (Some version) = of_lines (Some version) (version_line ∷ []) (refl, tt)

@@ -317,8 +317,9 @@ pub frames_promise : (list script trace : List ℕ) (before now : Outside) (answ
     → (answer.status ≡ 7 → Wrote before.output now.output [])
     → FramesPromise list script trace before now answer.status
 frames_promise list script trace before now answer call empty =
-    let next = from_script trace in
-    let none = behind-none trace in
+    let next : Medl → List ℕ → Script → LabPlan = λ medl bytes. from_script trace medl in
+    let none : (medl : Medl) (bytes : List ℕ) (right : Script) → RefusesNone (next medl bytes right) =
+    λ medl bytes. behind-none trace medl in
     record {
       shown = λ zero.
           let j = judged list script trace before now answer call empty (omega (arith, zero)) in

@@ -2,6 +2,7 @@ pub mod Room
 pub mod CampaignLines
 pub mod MarginLines
 pub mod PairLines
+pub mod WhyLines
 pub mod GeneratedLines
 pub mod Refusals
 pub mod Charts
@@ -11,6 +12,7 @@ pub mod Forms
 pub mod Promises
 pub mod Views
 pub mod RefusedFiles
+pub mod ReadScripts
 pub mod LinesPromises
 pub mod CampaignPromises
 pub mod CheckPromises
@@ -19,3 +21,4 @@ pub mod PairPromises
 pub mod Fronts
 pub mod FramesPromises
 pub mod ScriptPromises
+pub mod WhyPromises

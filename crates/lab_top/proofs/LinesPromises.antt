@@ -58,10 +58,6 @@ pub shows_cut : (text : Lines) (before now : Output) → CutShort before now tex
 shows_cut text before now cut =
     inl (inr (record { status = refl; text = record { lines = text; among = refl; cut = cut }; none = refl }))
 
-pub shows_fewer : (text : Lines) (before now : Output) → WroteFewer before now text
-    → ShowsEnding ttplab (lines_ending text) before now (alone 7)
-shows_fewer text before now some = inr (wants text before now some)
-
 -- none are first lines too, of a text that has one
 pub none_of : (text : Lines) (before now : Output) → IsProperFront text [] → Wrote before now []
     → WroteFewer before now text
@@ -188,8 +184,9 @@ pub lines_promise : (lines : Medl → Script → Lines)
     → (before now : Outside) (answer : LabAnswer) → Promise ttplab (lines_plan lines list script) before now answer
     → LinesPromise lines list script before now answer.status
 lines_promise lines one list script before now answer call =
-    let next : Medl → Script → LabPlan = λ medl right. ends (lines_ending (lines medl right)) in
-    let none : (medl : Medl) (right : Script) → RefusesNone (next medl right) = λ medl right. omega arith in
+    let next : Medl → List ℕ → Script → LabPlan = λ medl bytes right. ends (lines_ending (lines medl right)) in
+    let none : (medl : Medl) (bytes : List ℕ) (right : Script) → RefusesNone (next medl bytes right) =
+    λ medl bytes right. omega arith in
     record {
       shown = wrote_all lines list script before now answer call;
       no_list = list_refused list script next before now answer call none;

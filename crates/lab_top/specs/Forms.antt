@@ -19,14 +19,16 @@ use Rattle.lab_top.specs.Help.{help_lines, version_line}
 use Rattle.lab_top.specs.Refusals.{refused_text}
 use Rattle.lab_top.specs.Texts.{begun, differences, LabEnding, LabPlan}
 use Rattle.lab_top.specs.Views.{View, text_file, viewed, wave_view, picture_view, chart_view}
-use Rattle.lab_top.specs.Words.{LabForm, wave, picture, campaign, chart, check, frames, margins, pairs, script_by, help, version}
+use Rattle.lab_top.specs.Words.{LabForm, wave, picture, campaign, chart, check, frames, margins, pairs, script_by, help, version, why}
+use Rattle.lab_top.specs.Why.{why_plan}
 
 -- the line that answers words of no form
 abbrev pub lab_usage_line : List ℕ
 lab_usage_line =
     codes "usage: wave TRACE | picture TRACE [FIRST LAST] | campaign LIST SCRIPT FIRST LAST"
-    ++ codes " | chart CAMPAIGN [FIRST LAST] | check LIST [SCRIPT] | frames LIST SCRIPT TRACE"
-    ++ codes " | margins LIST SCRIPT [FIRST LAST] | pairs LIST SCRIPT FIRST LAST WITHIN | script LIST SLOTS NUMBER\n"
+    ++ codes " | chart CAMPAIGN [FIRST LAST] | check LIST [SCRIPT] | why LIST SCRIPT NODE [SLOT]"
+    ++ codes " | frames LIST SCRIPT TRACE | margins LIST SCRIPT [FIRST LAST]"
+    ++ codes " | pairs LIST SCRIPT FIRST LAST WITHIN | script LIST SLOTS NUMBER\n"
 
 -- a view ends with its lines, or with the line that says why a text is not shown
 abbrev pub viewed_ending : {Value : Type 0} → View Value → Result Value TextFault → LabEnding
@@ -94,6 +96,7 @@ lab_plan_of (Some (wave trace)) = view_plan wave_view trace
 lab_plan_of (Some (picture trace asked)) = view_plan (picture_view asked) trace
 lab_plan_of (Some (campaign list script first last)) =
     lines_plan (λ medl right. campaign_lines medl right first last) list script
+lab_plan_of (Some (why list script node slot)) = why_plan list script node slot
 lab_plan_of (Some (chart name asked)) = view_plan (chart_view asked) name
 lab_plan_of (Some (check list script)) = check_plan list script
 lab_plan_of (Some (frames list script trace)) = frames_plan list script trace

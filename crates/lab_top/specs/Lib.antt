@@ -4,6 +4,7 @@ pub mod Refusals
 pub mod Views
 pub mod Frames
 pub mod Texts
+pub mod Why
 pub mod Forms
 pub mod Promise
 pub mod ViewPromise
@@ -14,3 +15,4 @@ pub mod FramesPromise
 pub mod MarginPromise
 pub mod PairPromise
 pub mod ScriptPromise
+pub mod WhyPromise

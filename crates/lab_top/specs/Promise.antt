@@ -18,7 +18,7 @@ pub record LabPromise (form : Option LabForm) (before now : Outside) (answer : L
   -- Words of no form take no memory, and only they are answered by the usage line.
   pub usage : answer.status ≡ 2 → form ≡ None
   pub no_form : form ≡ None → answer.status ≢ 7
-  -- Status 1 is an answer of `frames` and of `check` alone, and status 3, of a list that is refused, one of the forms that
+  -- Status 1 is an answer of `frames`, `check` and `why` alone, and status 3, of a list that is refused, one of the forms that
   -- read a list.
   pub differs : answer.status ≡ 1 → tells_differences form ≡ true
   pub lists : answer.status ≡ 3 → reads_list form ≡ true

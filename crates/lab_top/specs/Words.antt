@@ -17,6 +17,9 @@ pub data LabForm : Type 0 where
   picture : (trace : List ℕ) (asked : Option Span) → LabForm
   -- the campaign of the script of this name for the list of this name, over the slots from the first to the last
   campaign : (list script : List ℕ) (first last : ℕ) → LabForm
+  -- why the node's entry of a slot, or its newest departure, is what it is, in the run of the script of this name for the
+  -- list of this name
+  why : (list script : List ℕ) (node : ℕ) (slot : Option ℕ) → LabForm
   -- the chart of the campaign of this name, of the slots that are asked for, or else of those that are chosen
   chart : (name : List ℕ) (asked : Option Span) → LabForm
   -- what is wrong with the list of this name, or with it and the script of this name
@@ -48,6 +51,7 @@ may_be_begun _ = false
 abbrev pub tells_differences : Option LabForm → Bool
 tells_differences (Some (check list script)) = true
 tells_differences (Some (frames list script trace)) = true
+tells_differences (Some (why list script node slot)) = true
 tells_differences _ = false
 
 -- the forms that read a list
@@ -57,6 +61,7 @@ reads_list (Some (campaign list script first last)) = true
 reads_list (Some (frames list script trace)) = true
 reads_list (Some (margins list script asked)) = true
 reads_list (Some (pairs list script first last within)) = true
+reads_list (Some (why list script node slot)) = true
 reads_list (Some (script_by list slots number)) = true
 reads_list _ = false
 
@@ -99,6 +104,15 @@ pairs_asked list script (Some first) (Some last) (Some within) =
     if nat_le first last then Some (pairs list script first last within) else None
 pairs_asked list script _ _ _ = None
 
+-- the form of `why`, of a node and of a slot where both words are right
+abbrev pub why_of_node : List ℕ → List ℕ → Option ℕ → Option LabForm
+why_of_node list script (Some node) = Some (why list script node None)
+why_of_node list script None = None
+
+abbrev pub why_of_slot : List ℕ → List ℕ → Option ℕ → Option ℕ → Option LabForm
+why_of_slot list script (Some node) (Some slot) = Some (why list script node (Some slot))
+why_of_slot list script _ _ = None
+
 -- the most digits of a number of slots, and of a number to draw by
 abbrev pub number_digits : ℕ
 number_digits = 20
@@ -137,10 +151,12 @@ lab_form_of (verb ∷ text ∷ first ∷ last ∷ []) =
     if bytes_eq verb (codes "picture") then form_of_slots (picture text) (slot_named first) (slot_named last)
     else (if bytes_eq verb (codes "chart") then form_of_slots (chart text) (slot_named first) (slot_named last)
     else (if bytes_eq verb (codes "frames") then Some (frames text first last)
-    else (if bytes_eq verb (codes "script") then script_of_words text (slots_named first) (draw_named last) else None)))
+    else (if bytes_eq verb (codes "script") then script_of_words text (slots_named first) (draw_named last)
+    else (if bytes_eq verb (codes "why") then why_of_node text first (bound_named last) else None))))
 lab_form_of (verb ∷ list ∷ script ∷ first ∷ last ∷ []) =
     if bytes_eq verb (codes "campaign") then campaign_of_range list script (bound_named first) (bound_named last)
-    else (if bytes_eq verb (codes "margins") then margins_of_range list script (bound_named first) (bound_named last) else None)
+    else (if bytes_eq verb (codes "margins") then margins_of_range list script (bound_named first) (bound_named last) else (
+    if bytes_eq verb (codes "why") then why_of_slot list script (bound_named first) (bound_named last) else None))
 lab_form_of (verb ∷ list ∷ script ∷ first ∷ last ∷ within ∷ []) =
     if bytes_eq verb (codes "pairs")
     then pairs_asked list script (bound_named first) (bound_named last) (bound_named within) else None
@@ -151,6 +167,7 @@ abbrev pub lab_form_asked : Command → Option LabForm
 lab_form_asked (command.Wave trace) = Some (wave trace.now)
 lab_form_asked (command.Picture trace asked) = Some (picture trace.now asked)
 lab_form_asked (command.Campaign list script first last) = Some (campaign list.now script.now first last)
+lab_form_asked (command.Why list script node slot) = Some (why list.now script.now node slot)
 lab_form_asked (command.Chart name asked) = Some (chart name.now asked)
 lab_form_asked (command.Check list script) = Some (check list.now (option_map (λ s. s.now) script))
 lab_form_asked (command.Frames list script trace) = Some (frames list.now script.now trace.now)

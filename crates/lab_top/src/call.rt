@@ -16,7 +16,8 @@ ghost use Rattle.lab_top.specs.Promise.{LabPromise};
 ghost use Rattle.lab_top.specs.ScriptPromise.{ScriptPromise};
 ghost use Rattle.lab_top.specs.Texts.{ttplab};
 ghost use Rattle.lab_top.specs.ViewPromise.{WavePromise, PicturePromise, ChartPromise};
-ghost use Rattle.lab_top.specs.Words.{wave, picture, campaign, chart, check, frames, margins, pairs, script_by, lab_form_of, lab_form_asked, HasScriptSlots};
+ghost use Rattle.lab_top.specs.Words.{wave, picture, campaign, chart, check, frames, margins, pairs, script_by, why, lab_form_of, lab_form_asked, HasScriptSlots};
+ghost use Rattle.lab_top.specs.WhyPromise.{WhyPromise};
 
 use crate::chart::chart;
 use crate::check::check;
@@ -28,6 +29,7 @@ use crate::margins::margins;
 use crate::pairs::pairs;
 use crate::picture::picture;
 use crate::wave::wave;
+use crate::why::why;
 use crate::words::{Command, command_of};
 use commands::say;
 use std::alloc::Global;
@@ -36,9 +38,9 @@ use ttp_base::{Library, Sink};
 
 const USAGE: &str =
     "usage: wave TRACE | picture TRACE [FIRST LAST] | campaign LIST SCRIPT FIRST LAST \
-    | chart CAMPAIGN [FIRST LAST] | check LIST [SCRIPT] | frames LIST SCRIPT TRACE \
-    | margins LIST SCRIPT [FIRST LAST] | pairs LIST SCRIPT FIRST LAST WITHIN \
-    | script LIST SLOTS NUMBER\n";
+    | chart CAMPAIGN [FIRST LAST] | check LIST [SCRIPT] | why LIST SCRIPT NODE [SLOT] \
+    | frames LIST SCRIPT TRACE | margins LIST SCRIPT [FIRST LAST] \
+    | pairs LIST SCRIPT FIRST LAST WITHIN | script LIST SLOTS NUMBER\n";
 
 const VERSION: &str = "ttplab 1.0.0 (rattle-kit-13f logic dac8208d650f15bf)\n";
 
@@ -65,6 +67,12 @@ fn obey<R: Threads + Sync, L: Library, K: Sink>(
             first,
             last,
         } => campaign(rt, alloc, list, script, first, last, library, out),
+        Command::Why {
+            list,
+            script,
+            node,
+            slot,
+        } => why(alloc, list, script, node, slot, library, out),
         Command::Chart { campaign, asked } => chart(alloc, campaign, asked, library, out),
         Command::Check { list, script } => check(alloc, list, script, library, out),
         Command::Frames {
@@ -97,7 +105,7 @@ fn obey<R: Threads + Sync, L: Library, K: Sink>(
 
 /// Does what the words spell, and answers its status. The words are those after the program's name.
 ///
-/// There are ten forms. `wave TRACE` writes a waveform, a text in the format VCD that wave viewers read, and
+/// There are eleven forms. `wave TRACE` writes a waveform, a text in the format VCD that wave viewers read, and
 /// `picture TRACE [FIRST LAST]` a picture, a text in the format SVG that browsers show, of the slots from FIRST
 /// to LAST, or else of those that are chosen. These FIRST and LAST are 1 to 5 decimal digits. What is taken for
 /// a trace says `whole_in` of whole_trace: its form is asked for, and not whether it is right.
@@ -109,6 +117,9 @@ fn obey<R: Threads + Sync, L: Library, K: Sink>(
 /// `check LIST [SCRIPT]` writes what is wrong with the list, and with the script, a line for each fault with its place, and where
 /// nothing is, each rule of the hypothesis that the script does not keep; the last line counts them. Both files are loaded before
 /// anything is looked at.
+/// `why LIST SCRIPT NODE [SLOT]` writes how what the node did in the slot came about, or its newest departure: the lines of the
+/// script and the entries that had a part in it, and whether these lines alone bring it about. NODE and SLOT are 1 to 9 decimal
+/// digits.
 /// `frames LIST SCRIPT TRACE` writes the frames on both channels of the bus, byte by byte behind the script's faults, for a
 /// trace of the script for the list; of a text that is none it names the first wrong line, as `verify` of the bench does.
 /// `margins LIST SCRIPT [FIRST LAST]` runs the list with the script once for each whole value of a node's drift, or of its jump in
@@ -125,12 +136,14 @@ fn obey<R: Threads + Sync, L: Library, K: Sink>(
 /// |---|---|---|
 /// | 0 | the file is a trace, or for `chart` a campaign, that has the slots; the files are a list and a script for it, which for `check` keeps all rules; they are these and a trace of them; the file is a list | the view; the campaign or the margins; the counts; the frames; the script |
 /// | 1 | for `frames`, exactly where TRACE is the trace text for no legal message numbers | `differs at line N` |
+/// | 1 | for `why`, exactly where no slot is asked for and the node never leaves | `node K does not leave` |
+/// | 3, 4 | for `why`, also where the list has no such node, and where the run has no such slot | `list: nodes 0 to M`, `script: slots 0 to L` |
 /// | 1, 3, 4 | for `check`, exactly where a rule is not kept and nothing is wrong, where the list has a fault, where the script alone has one | a line for each, and the counts |
 /// | 2 | exactly where the words have no form | the usage line |
-/// | 3 | for `campaign`, `frames`, `margins`, `pairs` and `script`, exactly where the list is longer than 1,048,576 bytes or refused | a line that begins `list: ` |
+/// | 3 | for `campaign`, `frames`, `margins`, `pairs`, `script` and `why`, exactly where the list is longer than 1,048,576 bytes or refused | a line that begins `list: ` |
 /// | 4 | for a view, exactly where the text is longer than 134,217,728 bytes, is no trace, or lacks the slots | `trace: too large`, `trace: line N` with its first line that is not due or is missing, or `trace: slots 0 to L` with its last slot |
 /// | 4 | for `chart`, exactly where the text is longer than that, is no campaign, or no slot is to be shown | `campaign: too large`, `campaign: line N`, or `campaign: no slot to show` |
-/// | 4 | for `campaign`, `frames`, `margins` and `pairs`, exactly where the script is longer than 1,048,576 bytes or refused | a line that begins `script: ` |
+/// | 4 | for `campaign`, `frames`, `margins`, `pairs` and `why`, exactly where the script is longer than 1,048,576 bytes or refused | a line that begins `script: ` |
 /// | 5 | only where the count of the file's name rose, and no earlier refusal came | `load: trace`, `load: campaign`, `load: list` or `load: script` |
 /// | 6 | only where the sink's count rose | so many whole lines of a text that was due, and a front of the next |
 /// | 7 | want of memory; for `pairs` also a script of 131,071 events, which has no room for two more | nothing, or for `campaign`, `check`, `margins` and `pairs` some whole lines of it, fewer than all |
@@ -139,8 +152,8 @@ fn obey<R: Threads + Sync, L: Library, K: Sink>(
 /// where the list is not refused; for words of no form it is left alone. The text of a trace is held while it is
 /// shown, and gone over a few times; a picture takes no other memory, and a waveform a few bytes for each source
 /// that a host reads. For `frames` the trace is gone over twice, with a plant of the list: once to judge it, and once to write
-/// its frames; all memory is taken before the first line of them. A campaign of n lines runs the cluster n times, each from the slot of its fault to the
-/// script's last one; the runs of a slot's faults are made side by side in as many threads as there are
+/// its frames; all memory is taken before the first line of them. A campaign of n lines runs the cluster n times at most, each from the slot of its
+/// fault to the script's last one; the runs of a slot's faults are made side by side in as many threads as there are
 /// processors, and their lines are held until all of them were made. It takes memory for the runs of a slot, and
 /// keeps none of it. Margins run the cluster once for each value, a drift from slot 0 and a jump from its slot on, 512 values side by
 /// side, and hold one range of a sweep at a time. Each line is one piece, so the cost is one write for each line.
@@ -207,6 +220,13 @@ pub fn lab<R: Threads + Sync, L: Library, K: Sink>(
     // it was cut short, and with status 7 nothing is written.
     ensures script { (list : List ℕ) (slots number : ℕ) → lab_form_of (texts_of words.now) ≡ Some (script_by list slots number)
         → ScriptPromise list slots number (outside (L.files library.old) (K.output out.old))
+        (outside (L.files library.new) (K.output out.new)) result }
+    // For `why`, in its own words: status 0 is exactly the lines of the story of the entry that is asked for, by the list and the
+    // script that the files hold, and status 1 the line on a node that never leaves. Status 3 or 4 is the line on a file that is
+    // refused, or on a node or a slot that they have not. With status 6 it was cut short, and with status 7 nothing is written.
+    ensures why { (list script : List ℕ) (node : ℕ) (slot : Option ℕ)
+        → lab_form_of (texts_of words.now) ≡ Some (why list script node slot)
+        → WhyPromise list script node slot (outside (L.files library.old) (K.output out.old))
         (outside (L.files library.new) (K.output out.new)) result }
     // For `chart`, in its own words, as for `picture`, of a campaign: status 0 is exactly the chart of the campaign that the
     // file holds, of the slots that are asked for, or else of those that are chosen.

@@ -41,7 +41,7 @@ fn load_list_text<L: Library, K: Sink>(
 }
 
 // The same of the script.
-fn load_script_text<L: Library, K: Sink>(
+pub(crate) fn load_script_text<L: Library, K: Sink>(
     alloc: Global,
     name: &str,
     library: &mut L,

@@ -11,7 +11,7 @@ ghost use Rattle.lab_top.specs.Texts.{ttplab};
 use ttp_base::{Failed, Sheet, Sink};
 
 // What the program is for, a line for each form, and where the pages are.
-const HELP_LINES: [&str; 13] = [
+const HELP_LINES: [&str; 14] = [
     "ttplab 1.0.0: pictures of traces, and campaigns of single faults, of clusters of TTP/C controllers\n",
     "\n",
     "wave TRACE                           a waveform of the trace, for a viewer of VCD files\n",
@@ -19,12 +19,13 @@ const HELP_LINES: [&str; 13] = [
     "campaign LIST SCRIPT FIRST LAST      what each single fault in these slots costs, a line for each\n",
     "chart CAMPAIGN [FIRST LAST]          a picture of a campaign, or of these slots of it, as SVG\n",
     "check LIST [SCRIPT]                  each mistake in both files, with its place and the way out\n",
+    "why LIST SCRIPT NODE [SLOT]          why the node left, or why this entry of it is what it is, line by line\n",
     "frames LIST SCRIPT TRACE             each frame on the bus in the run of a trace, byte by byte\n",
     "margins LIST SCRIPT [FIRST LAST]     from which drift on, or jump in these slots, a clock costs others\n",
     "pairs LIST SCRIPT FIRST LAST WITHIN  what every two faults cost more than each alone, those that cost others by name\n",
     "script LIST SLOTS NUMBER             the script that ttpbench sample runs, as a text\n",
     "\n",
-    "docs/FIRST.md is the page to begin with; docs/VIEWS.md, docs/CAMPAIGNS.md, docs/CHARTS.md, docs/FRAMES.md, docs/CHECK.md, docs/MARGINS.md and docs/PAIRS.md have the forms.\n",
+    "docs/FIRST.md is the page to begin with; docs/VIEWS.md, docs/CAMPAIGNS.md, docs/CHARTS.md, docs/FRAMES.md, docs/CHECK.md, docs/WHY.md, docs/MARGINS.md and docs/PAIRS.md have the forms.\n",
 ];
 
 // Writes them.

@@ -32,6 +32,7 @@ mod pairs;
 mod picture;
 mod refusal;
 mod wave;
+mod why;
 mod words;
 
 pub use call::lab;

@@ -3,6 +3,7 @@ ghost use Rattle.std.specs.Prelude.{◌≡◌, ◌≤◌, [], ◌∷◌, IfSome}
 ghost use Rattle.commands.specs.Words.{texts_of};
 ghost use Rattle.ttp_world.specs.declared.script.TheConstants.{SLOT_LIMIT};
 ghost use Rattle.lab_top.specs.Words.{slot_named, form_of_slots, bound_named, campaign_of_range, margins_of_range, pairs_asked};
+ghost use Rattle.lab_top.specs.Words.{why_of_node, why_of_slot};
 ghost use Rattle.lab_top.specs.Words.{slots_named, draw_named, script_of_words, HasScriptSlots};
 ghost use Rattle.lab_top.specs.Words.{lab_form_of, lab_form_asked, picture, chart};
 
@@ -29,6 +30,14 @@ pub(crate) enum Command<'a> {
         script: &'a str,
         first: u32,
         last: u32,
+    },
+    /// Why the node's entry of a slot, or its newest departure, is what it is, in the run of the script of this name for
+    /// the list of this name.
+    Why {
+        list: &'a str,
+        script: &'a str,
+        node: u32,
+        slot: Option<u32>,
     },
     /// The chart of the campaign of this name, of these slots, or of those that are chosen.
     Chart {
@@ -155,6 +164,38 @@ fn pairs_asked<'a>(
             first,
             last,
             within,
+        },
+        _ => Command::NoForm,
+    }
+}
+
+// Why the newest departure of the node that a word names.
+fn why_of_node<'a>(list: &'a str, script: &'a str, node: &str) -> Command<'a>
+    ensures form { lab_form_asked result ≡ why_of_node list.now script.now (bound_named node.now) }
+    ensures slots { HasScriptSlots result }
+{
+    match bound_named(node.as_bytes()) {
+        Some(node) => Command::Why {
+            list,
+            script,
+            node,
+            slot: None,
+        },
+        None => Command::NoForm,
+    }
+}
+
+// Why the entry of the node and the slot that words name.
+fn why_of_slot<'a>(list: &'a str, script: &'a str, node: &str, slot: &str) -> Command<'a>
+    ensures form { lab_form_asked result ≡ why_of_slot list.now script.now (bound_named node.now) (bound_named slot.now) }
+    ensures slots { HasScriptSlots result }
+{
+    match (bound_named(node.as_bytes()), bound_named(slot.as_bytes())) {
+        (Some(node), Some(slot)) => Command::Why {
+            list,
+            script,
+            node,
+            slot: Some(slot),
         },
         _ => Command::NoForm,
     }
@@ -299,6 +340,7 @@ fn slots_command<'a>(verb: &str, text: &'a str, first: &'a str, last: &'a str) -
             trace: last,
         },
         "script" => script_of_words(text, first, last),
+        "why" => why_of_node(text, first, last),
         _ => Command::NoForm,
     }
 }
@@ -317,6 +359,7 @@ fn range_command<'a>(
     match verb {
         "campaign" => campaign_of_range(list, script, first, last),
         "margins" => margins_of_range(list, script, first, last),
+        "why" => why_of_slot(list, script, first, last),
         _ => Command::NoForm,
     }
 }

@@ -2,152 +2,19 @@
 use Rattle.std.proofs.Common.{◌≡◌, ℕ, suc, ◌+◌, ◌<◌, ◌≤◌, ◌&&◌, ◌==◌, Bool, true, false, List, [], ◌∷◌, ◌++◌, length, get_or}
 use Rattle.std.proofs.Common.{ap, sym, ◌∙◌, refl, arith, add-one, append_assoc, map}
 use Rattle.std.specs.Prelude.{vec_len, slice_index, if◌then◌else◌}
-use Rattle.std.proofs.Common.{set, get_or-set_other}
 use Rattle.std.proofs.lemmas.Bool.Decides.{nat_tests}
-use Rattle.std.proofs.lemmas.Grind.{get_or-set_at}
 use Rattle.std.proofs.lemmas.List.{append-nil, ext_get_or}
 use Rattle.std.proofs.lemmas.List.FromFn.{get_or-map-range_with_len, length-map-range_with_len}
 use Rattle.ttp_base.specs.NodeSet.{below}
 use Rattle.causes.specs.declared.cause.LineNumbers.{LineNumbers}
 unfoldable use Rattle.script_text.specs.Lines.{lines_of_file, words_of_line}
-use Rattle.script_text.specs.Lines.{word_at, has_bytes}
-use Rattle.script_text.specs.Numbers.{is_number, decimal_value}
-use Rattle.script_text.specs.Words.{CutsWord}
 use Rattle.line_numbers.specs.declared.numbers.SoFar.{SoFar}
-use Rattle.line_numbers.specs.declared.words.LineKind.{LineKind}
-use Rattle.line_numbers.specs.declared.words.LineKind.TheVariants as kind
-use Rattle.line_numbers.specs.Numbers.{line_kind, is_on_kind, is_drift_kind, is_event_kind, is_of_node, switches_on, sets_drift}
+use Rattle.line_numbers.specs.Numbers.{switches_on, sets_drift}
 use Rattle.line_numbers.specs.Numbers.{states_event, last_line_saying, lines_saying}
 unfoldable use Rattle.line_numbers.specs.Numbers.{line_numbers_in}
 use Rattle.line_numbers.specs.SoFar.{KeepsLine, IsEmpty}
 
--- The first words of a line that is cut at them.
-
-pub first-cut : (line word rest : List ℕ) → CutsWord line word rest → word_at (words_of_line line) 0 ≡ word
-first-cut line [] rest cut = ap (λ (ws : List (List ℕ)). word_at ws 0) cut.words
-first-cut line (b ∷ bs) rest cut = ap (λ (ws : List (List ℕ)). word_at ws 0) cut.words
-
-pub second-cut : (line word rest second end : List ℕ) → CutsWord line word rest → CutsWord rest second end
-    → has_bytes word ≡ true → word_at (words_of_line line) 1 ≡ second
-second-cut line [] rest second end cut next some = absurd (cc some)
-second-cut line (b ∷ bs) rest second end cut next some =
-    ap (λ (ws : List (List ℕ)). word_at ws 1) cut.words ∙ first-cut rest second end next
-
--- What a line says by its first word.
-
-kind-bytes : (word : List ℕ) (k : LineKind) → line_kind word ≡ k → (k ≡ kind.Other → ⊥) → has_bytes word ≡ true
-kind-bytes [] k is other = absurd (other (sym is))
-kind-bytes (b ∷ bs) k is other = refl
-
-kind-at : (line word rest : List ℕ) (k : LineKind) → CutsWord line word rest → line_kind word ≡ k
-    → line_kind (word_at (words_of_line line) 0) ≡ k
-kind-at line word rest k cut is = ap line_kind (first-cut line word rest cut) ∙ is
-
--- it is none that switches node k on, or sets its drift
-no-on : (words : List (List ℕ)) (k : ℕ) (kd : LineKind) → line_kind (word_at words 0) ≡ kd → is_on_kind kd ≡ false
-    → switches_on k words ≡ false
-no-on words k kd is none =
-    ap (λ (x : LineKind). is_on_kind x && is_of_node k (word_at words 1)) is
-    ∙ ap (λ (b : Bool). b && is_of_node k (word_at words 1)) none
-
-no-drift : (words : List (List ℕ)) (k : ℕ) (kd : LineKind) → line_kind (word_at words 0) ≡ kd → is_drift_kind kd ≡ false
-    → sets_drift k words ≡ false
-no-drift words k kd is none =
-    ap (λ (x : LineKind). is_drift_kind x && is_of_node k (word_at words 1)) is
-    ∙ ap (λ (b : Bool). b && is_of_node k (word_at words 1)) none
-
-same-number : (number old now : ℕ) (b : Bool) → b ≡ false → now ≡ old → now ≡ (if b then number else old)
-same-number number old now b none same = same ∙ ap (λ (x : Bool). if x then number else old) (sym none)
-
-kept-events : (number : ℕ) (old now : List ℕ) (b : Bool) → b ≡ false → now ≡ old
-    → now ≡ old ++ (if b then number ∷ [] else [])
-kept-events number old now b none same =
-    same ∙ (sym (append-nil old) ∙ ap (λ (x : Bool). old ++ (if x then number ∷ [] else [])) (sym none))
-
-pub takes-on : (line word rest second end : List ℕ) (number : ℕ) (old new : SoFar) → CutsWord line word rest
-    → CutsWord rest second end → line_kind word ≡ kind.On → vec_len new.on ≡ vec_len old.on
-    → ((k : ℕ) → k < vec_len old.on
-    → slice_index new.on.items k ≡ (if is_of_node k second then number else slice_index old.on.items k))
-    → new.drift ≡ old.drift → new.events ≡ old.events → KeepsLine number (words_of_line line) old new
-takes-on line word rest second end number old new cut next is len kept drift events =
-    let words = words_of_line line in
-    let here = kind-at line word rest kind.On cut is in
-    let some = kind-bytes word kind.On is (λ other. absurd (cc other)) in record {
-      on_count = len;
-      drift_count = ap (λ v. vec_len v) drift;
-      on = λ k within.
-          kept k within
-          ∙ ap (λ (b : Bool). if b then number else slice_index old.on.items k)
-          (sym (ap (λ (x : LineKind). is_on_kind x && is_of_node k (word_at words 1)) here
-          ∙ ap (is_of_node k) (second-cut line word rest second end cut next some)));
-      drift = λ k within.
-          same-number number (slice_index old.drift.items k) (slice_index new.drift.items k) (sets_drift k words)
-          (no-drift words k kind.On here refl) (ap (λ v. slice_index v.items k) drift);
-      events = kept-events number old.events new.events (states_event words) (ap is_event_kind here) events;
-    }
-
-pub takes-drift : (line word rest second end : List ℕ) (number : ℕ) (old new : SoFar) → CutsWord line word rest
-    → CutsWord rest second end → line_kind word ≡ kind.Drift → vec_len new.drift ≡ vec_len old.drift
-    → ((k : ℕ) → k < vec_len old.drift
-    → slice_index new.drift.items k ≡ (if is_of_node k second then number else slice_index old.drift.items k))
-    → new.on ≡ old.on → new.events ≡ old.events → KeepsLine number (words_of_line line) old new
-takes-drift line word rest second end number old new cut next is len kept on events =
-    let words = words_of_line line in
-    let here = kind-at line word rest kind.Drift cut is in
-    let some = kind-bytes word kind.Drift is (λ other. absurd (cc other)) in record {
-      on_count = ap (λ v. vec_len v) on;
-      drift_count = len;
-      on = λ k within.
-          same-number number (slice_index old.on.items k) (slice_index new.on.items k) (switches_on k words)
-          (no-on words k kind.Drift here refl) (ap (λ v. slice_index v.items k) on);
-      drift = λ k within.
-          kept k within
-          ∙ ap (λ (b : Bool). if b then number else slice_index old.drift.items k)
-          (sym (ap (λ (x : LineKind). is_drift_kind x && is_of_node k (word_at words 1)) here
-          ∙ ap (is_of_node k) (second-cut line word rest second end cut next some)));
-      events = kept-events number old.events new.events (states_event words) (ap is_event_kind here) events;
-    }
-
-pub takes-event : (line word rest : List ℕ) (number : ℕ) (old new : SoFar) → CutsWord line word rest
-    → line_kind word ≡ kind.Event → new.on ≡ old.on → new.drift ≡ old.drift → new.events ≡ old.events ++ number ∷ []
-    → KeepsLine number (words_of_line line) old new
-takes-event line word rest number old new cut is on drift events =
-    let words = words_of_line line in
-    let here = kind-at line word rest kind.Event cut is in record {
-      on_count = ap (λ v. vec_len v) on;
-      drift_count = ap (λ v. vec_len v) drift;
-      on = λ k within.
-          same-number number (slice_index old.on.items k) (slice_index new.on.items k) (switches_on k words)
-          (no-on words k kind.Event here refl) (ap (λ v. slice_index v.items k) on);
-      drift = λ k within.
-          same-number number (slice_index old.drift.items k) (slice_index new.drift.items k) (sets_drift k words)
-          (no-drift words k kind.Event here refl) (ap (λ v. slice_index v.items k) drift);
-      events = events ∙ ap (λ (b : Bool). old.events ++ (if b then number ∷ [] else [])) (sym (ap is_event_kind here));
-    }
-
-pub takes-other : (line word rest : List ℕ) (number : ℕ) (old new : SoFar) → CutsWord line word rest
-    → line_kind word ≡ kind.Other → new.on ≡ old.on → new.drift ≡ old.drift → new.events ≡ old.events
-    → KeepsLine number (words_of_line line) old new
-takes-other line word rest number old new cut is on drift events =
-    let words = words_of_line line in
-    let here = kind-at line word rest kind.Other cut is in record {
-      on_count = ap (λ v. vec_len v) on;
-      drift_count = ap (λ v. vec_len v) drift;
-      on = λ k within.
-          same-number number (slice_index old.on.items k) (slice_index new.on.items k) (switches_on k words)
-          (no-on words k kind.Other here refl) (ap (λ v. slice_index v.items k) on);
-      drift = λ k within.
-          same-number number (slice_index old.drift.items k) (slice_index new.drift.items k) (sets_drift k words)
-          (no-drift words k kind.Other here refl) (ap (λ v. slice_index v.items k) drift);
-      events = kept-events number old.events new.events (states_event words) (ap is_event_kind here) events;
-    }
-
 -- The number of a line is kept for a node.
-
-keep-by : (xs : List ℕ) (node number k : ℕ) (b : Bool) → (node == k) ≡ b → node < length xs
-    → get_or (set xs node number) k 0 ≡ (if b then number else get_or xs k 0)
-keep-by xs node number k true is within = get_or-set_at xs node k number 0 (grind (arith, nat_tests)) within
-keep-by xs node number k false is within = get_or-set_other xs node k number 0 (grind (arith, nat_tests))
 
 past-node : (a : Bool) (node k count : ℕ) (b : Bool) → (node == k) ≡ b → (node < count → ⊥) → k < count → (a && b) ≡ false
 past-node true node k count true is past within =
@@ -155,25 +22,6 @@ past-node true node k count true is past within =
     absurd (past (omega (arith, same, within)))
 past-node true node k count false is past within = refl
 past-node false node k count b is past within = refl
-
-pub keep-node : (word xs : List ℕ) (node number k : ℕ) → is_number word ≡ true → node ≡ decimal_value word
-    → node < length xs → get_or (set xs node number) k 0 ≡ (if is_of_node k word then number else get_or xs k 0)
-keep-node word xs node number k digits is within =
-    keep-by xs node number k (node == k) refl within
-    ∙ ap (λ (b : Bool). if b then number else get_or xs k 0)
-    (ap (λ (n : ℕ). n == k) is ∙ ap (λ (b : Bool). b && (decimal_value word == k)) (sym digits))
-
-pub keep-none : (word xs : List ℕ) (number k : ℕ) → is_number word ≡ false
-    → get_or xs k 0 ≡ (if is_of_node k word then number else get_or xs k 0)
-keep-none word xs number k none =
-    ap (λ (b : Bool). if b && (decimal_value word == k) then number else get_or xs k 0) (sym none)
-
-pub keep-past : (word xs : List ℕ) (node number k : ℕ) → node ≡ decimal_value word → (node < length xs → ⊥) → k < length xs
-    → get_or xs k 0 ≡ (if is_of_node k word then number else get_or xs k 0)
-keep-past word xs node number k is past within =
-    same-number number (get_or xs k 0) (get_or xs k 0) (is_of_node k word)
-    (past-node (is_number word) (decimal_value word) k (length xs) (decimal_value word == k) refl
-    (λ near. past (omega (arith, is, near))) within) refl
 
 -- A loop over lines: what is kept of those so far, and what follows, is what all lines say.
 pub record IsReading (nodes : ℕ) (text : List ℕ) (so_far : SoFar) (number : ℕ) (rest : List ℕ) : Type 0 where

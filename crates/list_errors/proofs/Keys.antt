@@ -3,7 +3,6 @@ use Rattle.std.proofs.Common.{◌≡◌, ℕ, Bool, true, false, Option, List, [
 use Rattle.std.specs.Prelude.{filter, if◌then◌else◌}
 use Rattle.std.specs.Borrow.{Bor}
 use Rattle.std.specs.Map.{keys_of}
-use Rattle.std.proofs.lemmas.List.{map-append}
 use Rattle.toml.specs.View.{members_view}
 use Rattle.toml.specs.declared.value.Value.{Value}
 use Rattle.medl_text.specs.declared.error.FieldName.{FieldName}
@@ -23,23 +22,9 @@ chosen_more : {X : Type 0} (chosen : Bool) (y : X) (front last : List X)
 chosen_more true y front last = refl
 chosen_more false y front last = refl
 
-pub filter_end : {X : Type 0} (p : X → Bool) (xs : List X) (x : X)
-    → filter p (xs ++ x ∷ []) ≡ filter p xs ++ (if p x then x ∷ [] else [])
-filter_end p [] x = refl
-filter_end p (y ∷ ys) x =
-    rw (filter_end p ys x) (chosen_more (p y) y (filter p ys) (if p x then x ∷ [] else []))
-
 -- what is told of some keys
 abbrev pub told_of : Option ℕ → List FieldName → List (List ℕ) → List Wrong
 told_of slot known keys = map (λ k. wrong.Unknown slot k) (filter (is_unknown_key known) keys)
-
-pub told_end : (slot : Option ℕ) (known : List FieldName) (keys : List (List ℕ)) (key : List ℕ)
-    → told_of slot known (keys ++ key ∷ [])
-    ≡ told_of slot known keys
-    ++ map (λ k. wrong.Unknown slot k) (if is_unknown_key known key then key ∷ [] else [])
-told_end slot known keys key =
-    ap (map (λ k. wrong.Unknown slot k)) (filter_end (is_unknown_key known) keys key)
-    ∙ map-append (λ k. wrong.Unknown slot k) (filter (is_unknown_key known) keys) (if is_unknown_key known key then key ∷ [] else [])
 
 texts_of : (ks : List (Bor (String Global)))
     → map (λ k. string_bytes k.now) ks ≡ map string_bytes (map (λ k. k.now) ks)

@@ -1,5 +1,5 @@
 -- What is told, one part behind another.
-use Rattle.std.proofs.Common.{◌≡◌, ℕ, List, [], ◌++◌, Option, Some, None, refl, ap, ◌∙◌, length, take, append_assoc}
+use Rattle.std.proofs.Common.{◌≡◌, ℕ, List, [], ◌++◌, Option, Some, refl, ap, ◌∙◌, length, take, append_assoc}
 use Rattle.std.proofs.Common.{false}
 use Rattle.std.specs.Prelude.{◌&&◌, nat_le}
 use Rattle.toml.specs.Data.{Members}
@@ -62,11 +62,3 @@ table_told file version rounds modes slots seen n old top count keys unknown oth
     (unknown_keys_in_slots 0 seen) (sync_wrongs slots)
     ∙ ap (λ (w : List Wrong). top_wrongs file ++ w)
     (rw (v, r, m, e, l) refl ∙ ap (below_wrongs file) s))
-
--- of one without slots
-pub table_told_none : (file : Members) (old top sync : List Wrong) → None ≡ elements_of file → top ≡ old ++ top_wrongs file
-    → sync ≡ top ++ unknown_keys_at_top file → sync ≡ old ++ table_wrongs file
-unfolding table_wrongs
-table_told_none file old top sync s a b =
-    more old top sync (top_wrongs file) (unknown_keys_at_top file) a b
-    ∙ ap (λ (w : Option (List Members)). old ++ (top_wrongs file ++ below_wrongs file w)) s

@@ -19,7 +19,7 @@ use Rattle.node_parts.specs.ClockStandsFor.{ClockStandsFor}
 use Rattle.controller.specs.PlantStands.{outcome_at, ShowsNode}
 use Rattle.controller.specs.PlantView.{PlantView}
 use Rattle.mode_change.specs.declared.node.NodeModes.{NodeModes}
-use Rattle.mode_change.specs.Knowing.{AreSmall, IsFromList, mode_by, KnowsModes, KnowAll, IsPastRow}
+use Rattle.mode_change.specs.Knowing.{AreSmall, mode_by, KnowsModes, KnowAll, IsPastRow}
 use Rattle.mode_change.specs.ModeText.{mode_line, mode_line_of}
 use Rattle.mode_change.specs.Modes.{no_modes, modes_of, modes_with, with_request, ends_cycle, switched_at}
 use Rattle.mode_change.specs.Modes.{is_delivery_live}
@@ -88,10 +88,6 @@ module _ (plant : PlantView) (chosen : List Chosen) (list : Medl) (script : Scri
     chosen-is j c is =
         let nodes = past.nodes in
         ap (λ i. get_or chosen i c) is ∙ get_or_default chosen k c nothing_chosen (omega (arith, node, nodes))
-
-    pub delivered-is : (delivered : Option Delivered) → delivered ≡ (outcome_at plant k).delivered
-        → IsFromList list delivered
-    delivered-is delivered is = subst (IsFromList list) (sym is) (past.from k node)
 
     -- one node after the slot
     pub knows-next : (old new : NodeModes) (e : Entry) (c : Chosen) (delivered : Option Delivered)

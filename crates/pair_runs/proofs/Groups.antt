@@ -131,11 +131,6 @@ firsts-range common end is =
     ∙ ap (λ e. range_with_len common.first (e - common.first)) is
     ∙ sym (slots-range common.script.now common.first common.last))
 
-pub flat_map-twice : {X Y : Type 0} (g : X → List Y) (f : ℕ → List X) (ks : List ℕ)
-    → flat_map g (flat_map f ks) ≡ flat_map (λ k. flat_map g (f k)) ks
-flat_map-twice g f [] = refl
-flat_map-twice g f (k ∷ ks) = flat_map-append g (f k) (flat_map f ks) ∙ ap (λ ys. flat_map g (f k) ++ ys) (flat_map-twice g f ks)
-
 -- Sums.
 
 pub some-apart : (d : ℕ) (tolds : List PairTold) → not (length (told_apart d tolds) == 0) ≡ list_any (are_so_far_apart d) tolds

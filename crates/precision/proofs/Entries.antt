@@ -39,13 +39,19 @@ continued_active _ h = absurd (false≢true h)
 
 pub place_of-active : (list : Medl) (k : ℕ) (diary : Diary) (e : Entry) → is_active_entry e ≡ true
     → place_of list k (e ∷ diary) ≡ stint_place list k (e ∷ diary)
+place_of-active list k diary entry.Started h = refl
+place_of-active list k diary (entry.Joined sender cstate deviation) h = refl
+place_of-active list k diary (entry.Sent message) h = refl
+place_of-active list k diary (entry.Judged sender v deviation) h = refl
 place_of-active list k diary _ h = absurd (false≢true h)
-place_of-active list k diary e h = refl
 
 pub notes_of-active : (list : Medl) (k : ℕ) (diary : Diary) (e : Entry) → is_active_entry e ≡ true
     → notes_of list k (e ∷ diary) ≡ stint_notes list k (e ∷ diary)
+notes_of-active list k diary entry.Started h = refl
+notes_of-active list k diary (entry.Joined sender cstate deviation) h = refl
+notes_of-active list k diary (entry.Sent message) h = refl
+notes_of-active list k diary (entry.Judged sender v deviation) h = refl
 notes_of-active list k diary _ h = absurd (false≢true h)
-notes_of-active list k diary e h = refl
 
 -- Places and notes.
 
@@ -118,8 +124,11 @@ correction_of-active list k diary _ h = absurd (false≢true h)
 
 slot_change-active : (e : Entry) (s : SlotSurroundings) (c : ℤ) → is_active_entry e ≡ true
     → slot_change e s c ≡ s.jump +ℤ (s.drift +ℤ (join_deviation e +ℤ c))
+slot_change-active entry.Started s c h = refl
+slot_change-active (entry.Joined sender cstate deviation) s c h = refl
+slot_change-active (entry.Sent message) s c h = refl
+slot_change-active (entry.Judged sender v deviation) s c h = refl
 slot_change-active _ s c h = absurd (false≢true h)
-slot_change-active e s c h = refl
 
 pub offset_corrected : (list : Medl) (k : ℕ) (diary : Diary) (surroundings : Surroundings) (e : Entry)
     (s : SlotSurroundings) (place : Place)

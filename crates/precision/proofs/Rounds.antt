@@ -124,13 +124,6 @@ pub record Held (list : Medl) (may_grow : Bool) (group : ℕ → Type 0) (l t q 
 
 -- A group that is left, by other names.
 
--- clocks that are these are as far apart
-pub same_apart : (b c x y : ℤ) (bound : ℤ) → x ≡ b → y ≡ c → (b -ℤ c) ≤ℤ bound → (x -ℤ y) ≤ℤ bound
-same_apart b c x y bound is was h = omega (arith, ints, is, was, h)
-
-pub add_drift : (e p q d : ℤ) → q ≡ p +ℤ d → e +ℤ q ≡ (e +ℤ p) +ℤ d
-add_drift e p q d is = omega (arith, ints, is)
-
 -- a node of the group before, with the same clock and notes
 pub record IsSame (before : ℕ → Type 0) (clock seen : ℕ → ℤ) (notes carried : ℕ → List ℤ) (k : ℕ) : Type 0 where
   pub member : before k

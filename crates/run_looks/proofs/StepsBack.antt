@@ -100,12 +100,6 @@ judged_in-true p k list script slot judged =
     (λ i. record { slot = sym (slot_in-number list script slot) i; node = k } ∷ [])
     ∙ sym (ap (λ (b : Bool). cond b (node_spot k (slot_in list script slot) ∷ []) []) judged)
 
-pub judged_in-false : (p : Verdict → Bool) (k : ℕ) (list : Medl) (script : Script) (slot : ℕ)
-    → is_judged_so p (entry_in_slot k (slot_in list script slot)) ≡ false
-    → judged_in p k (slot_in list script slot) ≡ []
-judged_in-false p k list script slot other =
-    ap (λ (b : Bool). cond b (node_spot k (slot_in list script slot) ∷ []) []) other
-
 -- How many there are.
 
 pub count-in : (p : Verdict → Bool) (k : ℕ) (list : Medl) (script : Script) (slot : ℕ) → 0 < slot

@@ -1,9 +1,8 @@
 -- What a node is as a slot begins.
-use Rattle.std.proofs.Common.{◌≡◌, ℕ, ℤ, pos, ◌+ℤ◌, Bool, true, false, cond, ◌&&◌, not, ◌==◌, min, nat_le, refl, ap, sym, ◌∙◌}
+use Rattle.std.proofs.Common.{◌≡◌, ℕ, ℤ, pos, ◌+ℤ◌, Bool, true, false, cond, ◌&&◌, not, ◌==◌, nat_le, refl, ap, sym, ◌∙◌}
 use Rattle.std.proofs.Common.{arith}
 use Rattle.std.proofs.lemmas.Int.{ints}
 use Rattle.std.proofs.lemmas.Bool.{cond_both}
-use Rattle.std.proofs.lemmas.Bool.Decides.{nat_tests}
 use Rattle.run_rows.specs.Begun.{is_off_phase}
 use Rattle.ttp_world.specs.Act.{act, is_start_due, own_act, phase_act, unacknowledged_act}
 use Rattle.ttp_world.specs.Acknowledgement.{is_open}
@@ -49,10 +48,6 @@ pub clock-begun : (list : Medl) (k : ℕ) (on armed : Bool) (past : NodePast) (j
     ≡ past.offset +ℤ cond (is_off_phase past.phase && not on) (pos 0) jump
 clock-begun list k on armed past jump =
     ap (λ (z : ℤ). past.offset +ℤ z) (jump_taken-phase past.phase list k on armed past jump)
-
--- four of at most four are four or more
-pub are-four : (m : ℕ) → (min m 4 == 4) ≡ nat_le 4 m
-are-four m = grind (arith, nat_tests)
 
 pub clock-stays : (list : Medl) (k : ℕ) (on armed : Bool) (past : NodePast) (jump offset : ℤ) → past.offset ≡ offset
     → (is_off_phase past.phase && not on) ≡ true

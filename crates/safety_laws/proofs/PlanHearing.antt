@@ -113,9 +113,6 @@ module _ {list : Medl} {script : Script} {start : ClusterStart} {at : ℕ → Li
   abbrev IsClearNow : ℕ → Type 0
   IsClearNow k = IsClear list script start (at slot) slot k
 
-  abbrev HasOrigin : ℕ → Type 0
-  HasOrigin k = Origin list script start (at slot) slot k
-
   pub sender-less : expected_sender list start slot < length list.slots
   sender-less = mod-lt (start.node + (slot - start.slot)) (omega (arith, course.valid.count))
 

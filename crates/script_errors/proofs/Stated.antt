@@ -88,8 +88,11 @@ counted_wrong (Some list) before so_far node slot k t stands within node_is slot
 -- Forms whose lines say nothing that is kept.
 
 abbrev pub is_other : Form → Bool
+is_other form.Slots = false
+is_other form.On = false
+is_other form.Drift = false
+is_other form.Write = false
 is_other _ = true
-is_other w = false
 
 pub other_form : (f : Form) → ¬ (f ≡ form.Slots) → ¬ (f ≡ form.On) → ¬ (f ≡ form.Drift) → ¬ (f ≡ form.Write)
     → is_other f ≡ true

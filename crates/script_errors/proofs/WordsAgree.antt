@@ -100,8 +100,10 @@ map_none (e ∷ es) none = cc
 -- The first and the last slot.
 
 abbrev pub no_span : (f : Form) → Bool
+no_span form.Send = false
+no_span form.Receive = false
+no_span form.Error = false
 no_span _ = true
-no_span f = false
 
 pub span_none : (slots number : ℕ) (line : List ℕ) (f : Form) (words : List Spot) → no_span f ≡ true
     → span_errors slots number line (parts_of f) words ≡ []

@@ -22,10 +22,6 @@ pub generated-is : (list : Medl) (slots number : ℕ) → IsGenerated list numbe
 unfolding generated
 generated-is list slots number = record { on = refl; drift = refl; events = refl }
 
-pub generated-slots : (list : Medl) (slots number : ℕ) → (generated list slots number).slots ≡ slots
-unfolding generated
-generated-slots list slots number = refl
-
 -- whose slot the slot of a fault is, and the node after it
 abbrev pub sender_at : Medl → ℕ → ℕ
 sender_at list j = (starter_of list + 2 * j) % length list.slots

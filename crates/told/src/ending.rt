@@ -66,7 +66,10 @@ fn tell_refusal<R: Eprint>(rt: &R, program: &str, name: &str, text: &[u8]) -> io
     }
     let line = first_line(text);
     match line.split_once(": ") {
-        Some((kind, what)) if what.starts_with("slots ") || what.starts_with("no slot ") => {
+        Some((kind, what))
+            if what.starts_with("nodes ")
+                || what.starts_with("slots ")
+                || what.starts_with("no slot ") => {
             eprintln!(rt; "{program}: {shown}: the {kind} has {what}")
         }
         Some((kind, what)) if kind == "list" || kind == "script" => {

@@ -24,10 +24,6 @@ newest-added xs message =
     ap (λ (n : ℕ). get_or (xs ++ message ∷ []) n []) last ∙ get_or-append_seam xs message [] []
 
 module _ (list : Medl) (script : Script) (row : List Entry) (history : History) where
-  -- what is known of node k's rings once the first nodes, so many, have theirs
-  abbrev pub history_of : ℕ → ℕ → History
-  history_of nodes k = if nat_lt k nodes then row ∷ history else history
-
   pub record TellsPayloads (incoming : Incoming) (nodes : ℕ) : Type 0 where
     pub payloads : (k p : ℕ) → k < length list.slots → p < length list.slots → (message : Chosen)
         → slice_get incoming.payloads.items (k * incoming.nodes + p) ≡ Some message

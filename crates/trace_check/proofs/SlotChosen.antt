@@ -102,13 +102,6 @@ module _ (list : Medl) (script : Script) (valid : IsValid list) (valid_script : 
     rings = rings;
   }
 
-  -- the slot's numbers, with these of its reads
-  abbrev pub numbers_chosen : List ℕ → SlotNumbers
-  numbers_chosen read = record {
-    sent = map message_of (row_after list script (world list script numbers) chosen);
-    read = read;
-  }
-
   pub row-chosen : (read : List ℕ)
       → row_of_world list script
       (record { sent = map message_of (row_after list script (world list script numbers) chosen); read = read })

@@ -6,7 +6,7 @@ use Rattle.trace_check.proofs.Words.{and_parts, cond_both, cases_eq, cases_order
 use Rattle.trace_check.proofs.Words.{le-ltb, lt-ltb, get_or-set_other, get_or-set_same, length-set, none-some}
 use Rattle.trace_check.proofs.Words.{get_or_from_slice_get, slice_get_within, Lines, lines_of, Medl, Chosen, Script}
 use Rattle.trace_check.proofs.Words.{newest_number, messages_before, out_messages, message_chosen, nothing_chosen}
-use Rattle.trace_check.proofs.Words.{messages_written, chosen_of, some_message, Outgoing, Chooses, HoldsNewest}
+use Rattle.trace_check.proofs.Words.{messages_written, chosen_of, some_message, Outgoing, Chooses}
 use Rattle.trace_check.proofs.Words.{oldest_number, number_taken, number_by_text}
 use Rattle.std.proofs.lemmas.Bool.{true≢false}
 use Rattle.std.proofs.lemmas.List.{drop-drop, get_or-append_right, get_or-drop, get_or_read}
@@ -51,9 +51,6 @@ module _ (list : Medl) (script : Script) (slot k : ℕ) where
       let parts = and_parts (nat_le oldest i) (nat_le i newest) legal in
       only (leb-true oldest i parts.0) (leb-true i newest parts.1))
       (λ other. refl)
-
-  pub taken-old : (i : ℕ) → i ≤ oldest → number_taken list script slot k (Some i) ≡ oldest
-  taken-old i old = only_oldest i (λ low high. omega (arith, low, old))
 
   -- a number behind what the host writes
   pub taken-none : (i : ℕ) → oldest < i → slice_get (messages_written script k slot) (i - oldest - 1) ≡ None
@@ -196,13 +193,6 @@ module _ (list : Medl) (script : Script) (slot : ℕ) (text : List ℕ) where
       ap (λ (b : Bool). if b then number_by_text list script slot text k else oldest_number list script slot k)
       (lt-ltb k nodes before)
 
-  pub looked-first : (o : Outgoing) → HoldsNewest o list script slot → HasLookedAt o list script slot text text 0
-  looked-first o holds = record {
-    chooses = Chooses-same o list script slot (oldest_number list script slot)
-        (number_so_far list script slot text 0) (λ k node. sym (so_far-behind 0 k (omega arith))) holds;
-    lines = refl;
-  }
-
   unchanged : (nodes k : ℕ) → (k ≡ nodes → ⊥)
       → number_so_far list script slot text nodes k ≡ number_so_far list script slot text (nodes + 1) k
   unchanged nodes k other =
@@ -288,9 +278,3 @@ module _ (list : Medl) (script : Script) (slot : ℕ) (text : List ℕ) where
       → number_taken list script slot node named ≡ number_by_text list script slot text node
   named-in node line named at is =
       ap (number_taken list script slot node) (is ∙ ap number_by_line (sym at))
-
-  pub looked-all : (o : Outgoing) (rest : List ℕ) → HasLookedAt o list script slot text rest (length list.slots)
-      → Chooses o list script slot (number_by_text list script slot text)
-  looked-all o rest has =
-      Chooses-same o list script slot (number_so_far list script slot text (length list.slots))
-      (number_by_text list script slot text) (λ k node. so_far-before (length list.slots) k node) has.chooses

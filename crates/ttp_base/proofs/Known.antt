@@ -1,10 +1,8 @@
 -- What is known of the bytes of a reader and of a writer, from one call to the next.
-use Rattle.std.proofs.Common.{◌≡◌, ◌⊎◌, ℕ, ◌+◌, ◌≤◌, List, [], ◌++◌, length, take, drop, Option, Some, None}
-use Rattle.std.proofs.Common.{ap, sym, ◌∙◌, append_assoc, arith, inl, inr, subst}
-use Rattle.std.specs.Option.{IfSome}
-use Rattle.std.proofs.lemmas.List.{take_all, append-nil}
-use Rattle.std.proofs.Math.Seq.{take-add, take-append_seam}
-use Rattle.std.specs.Io.KnownBytes.{Appends, Keeps, Consumes, IsAtEnd}
+use Rattle.std.proofs.Common.{ℕ, ◌+◌, List, [], ◌++◌, take, drop, Option, Some, None}
+use Rattle.std.proofs.Common.{ap, sym, ◌∙◌, subst}
+use Rattle.std.proofs.Math.Seq.{take-add}
+use Rattle.std.specs.Io.KnownBytes.{Appends, Keeps, Consumes}
 use Rattle.ttp_base.specs.Outside.{AppendsFront}
 use Rattle.ttp_base.proofs.Written.{Appends-join}
 
@@ -29,33 +27,6 @@ Keeps-Appends None b c x p q = tt
 Keeps-Appends (Some xs) None c x p q = absurd p
 Keeps-Appends (Some xs) (Some ys) None x p q = absurd q
 Keeps-Appends (Some xs) (Some ys) (Some zs) x p q = q ∙ ap (λ (l : List ℕ). l ++ x) p
-
--- what nothing is appended to is as it was
-pub Appends-nothing : (a b : Option (List ℕ)) → Appends a b [] → Keeps a b
-Appends-nothing None b p = tt
-Appends-nothing (Some xs) None p = absurd p
-Appends-nothing (Some xs) (Some ys) p = p ∙ append-nil xs
-
-pub Consumes-none : (a : Option (List ℕ)) → Consumes a a []
-Consumes-none None = tt
-Consumes-none (Some xs) = λ i. xs
-
-pub Consumes-join : (a b c : Option (List ℕ)) (x y : List ℕ) → Consumes a b x → Consumes b c y → Consumes a c (x ++ y)
-Consumes-join None b c x y p q = tt
-Consumes-join (Some xs) None c x y p q = absurd p
-Consumes-join (Some xs) (Some ys) None x y p q = absurd q
-Consumes-join (Some xs) (Some ys) (Some zs) x y p q = p ∙ ap (λ (l : List ℕ). x ++ l) q ∙ sym (append_assoc x y zs)
-
--- the bytes that were taken are the first ones, where they are enough or the reader is at its end
-pub front_taken : (a b : Option (List ℕ)) (bytes : List ℕ) (count : ℕ) → Consumes a b bytes → length bytes ≤ count
-    → (count ≤ length bytes) ⊎ IsAtEnd b → IfSome a (λ all. bytes ≡ take count all)
-front_taken None b bytes count taken within enough = tt
-front_taken (Some xs) None bytes count taken within enough = absurd taken
-front_taken (Some xs) (Some ys) bytes count taken within (inl full) =
-    let same : count ≡ length bytes = omega arith in
-    rw (same, taken) (sym (take-append_seam bytes ys))
-front_taken (Some xs) (Some ys) bytes count taken within (inr end) =
-    rw (taken, end, append-nil) (sym (take_all count bytes within))
 
 -- the first bytes of a piece were written, and then the first ones of its rest
 pub front_of_rest : (a b c : Option (List ℕ)) (piece : List ℕ) (done n : ℕ)

@@ -36,14 +36,6 @@ pub list_all-without : (p : ℕ → Bool) (s : List ℕ) (k : ℕ) → slice_get
 list_all-without p [] k is passes = absurd (none-some k is)
 list_all-without p (x ∷ xs) k is passes = list_all-without_passing p k (x ∷ xs) passes
 
--- it fails: so does the list
-pub list_all-first_fails : (p : ℕ → Bool) (s : List ℕ) (k : ℕ) → slice_get s 0 ≡ Some k → p k ≡ false
-    → list_all p s ≡ false
-list_all-first_fails p [] k is fails = absurd (none-some k is)
-list_all-first_fails p (x ∷ xs) k is fails =
-    let here : p x ≡ false = ap p (same_Some x k is) ∙ fails in
-    ap (λ b. b && list_all p xs) here
-
 -- without its first number a list is shorter
 pub length-without_first : (s : List ℕ) (k : ℕ) → slice_get s 0 ≡ Some k → length (without_node s k) < length s
 length-without_first [] k is = absurd (none-some k is)

@@ -10,13 +10,13 @@ use Rattle.ttp_base.proofs.SetWords.{HasWord, HasWord-filter, set_bits-small, me
 use Rattle.ttp_world.specs.declared.medl.Medl.{Medl}
 use Rattle.ttp_world.specs.declared.node.CState.{CState}
 use Rattle.ttp_world.specs.Diary.{joined_place}
-use Rattle.ttp_world.specs.Fitting.{carried_length, payload_in, number_in, carried, fits, is_formed}
+use Rattle.ttp_world.specs.Fitting.{payload_in, number_in, carried, fits, is_formed}
 use Rattle.ttp_world.specs.Frame.{big_endian, is_explicit, cstate_bytes, word_bytes, frame}
 use Rattle.ttp_world.specs.Medl.{is_wide, member_bytes, IsValid}
 use Rattle.ttp_world.specs.Membership.{AreNodes}
 use Rattle.ttp_world.proofs.Lists.{nodes-most, limit_of_bytes as bits_of_members-most}
 use Rattle.ttp_frame.specs.Shape.{HavePlaces, sent, unsent}
-use Rattle.ttp_frame.proofs.FrameLaws.{parts_of, is_formed-fits, members_told, number_in-members}
+use Rattle.ttp_frame.proofs.FrameLaws.{is_formed-fits, members_told, number_in-members}
 use Rattle.ttp_frame.proofs.Frames.{front, frame-pieces, length-sent}
 
 -- Members with places.
@@ -129,40 +129,6 @@ pub is_formed-other : (width header : ℕ) (c : CState) (payload : List ℕ) (st
     → is_formed width (frame width header c payload start) expected size start ≡ false
 is_formed-other width header c payload start expected size other =
     and_right _ _ (and_left _ _ (ne_eqb header expected other))
-
--- An explicit frame fits the C-state that it carries, and no other.
-pub fits-explicit : (wide : Bool) (header : ℕ) (c d : CState) (payload : List ℕ) (start : ℕ) → is_explicit header ≡ true
-    → FitsBytes wide c → FitsBytes wide d
-    → Decides (fits (member_bytes wide) (frame (member_bytes wide) header c payload start) header
-    (length payload) start d) (c ≡ d)
-fits-explicit wide header c d payload start explicit fit fit_too = (there, back)
-  where
-    width : ℕ
-    width = member_bytes wide
-
-    bytes : List ℕ
-    bytes = frame width header c payload start
-
-    state : (e : CState) → fits width bytes header (length payload) start e ≡ true
-        → take (carried_length width header) (drop 1 bytes) ≡ cstate_bytes width e
-    state e told =
-        ap (λ n. take n (drop 1 bytes)) (sym (length-sent width header e))
-        ∙ (bytes_eq-Decides (take (length (sent width header e)) (drop 1 bytes)) (sent width header e)).0
-        (parts_of width bytes header (length payload) start e told).carried
-        ∙ sent-explicit width header e explicit
-
-    alone : (e : CState) → FitsBytes wide e → carried width (0 ∷ (cstate_bytes width e ++ [])) ≡ e
-    alone e fits_too = carried-cstate_bytes wide 0 e [] fits_too
-
-    there : fits width bytes header (length payload) start d ≡ true → c ≡ d
-    there told =
-        sym (alone c fit)
-        ∙ ap (λ bs. carried width (0 ∷ (bs ++ [])))
-        (sym (state c (fits-frame width header c payload start)) ∙ state d told)
-        ∙ alone d fit_too
-
-    back : c ≡ d → fits width bytes header (length payload) start d ≡ true
-    back same = ap (fits width bytes header (length payload) start) (sym same) ∙ fits-frame width header c payload start
 
 -- A frame of any kind fits the C-state that it was made of, and no other of the same place.
 pub fits-same_place : (wide : Bool) (header : ℕ) (c d : CState) (payload : List ℕ) (start : ℕ)

@@ -1,6 +1,6 @@
 -- Lists that a place splits by a test.
 use Rattle.ttp_world.proofs.Words.{◌≡◌, ℕ, zero, suc, ◌-◌, ◌<◌, ◌≤◌, Bool, true, false, List, [], ◌∷◌, length, get_or}
-use Rattle.ttp_world.proofs.Words.{ap, arith, nat_le, nat_lt, IsNonDecreasingBy, leb-true, leb-false, le-leb, Step}
+use Rattle.ttp_world.proofs.Words.{ap, arith, IsNonDecreasingBy, leb-true, le-leb, Step}
 use Rattle.ttp_world.proofs.Words.{first_step, step_is_by, SplitsAt}
 use Rattle.std.proofs.lemmas.Bool.{lt-leb}
 use Rattle.std.proofs.lemmas.List.{get_or_default}
@@ -23,22 +23,6 @@ splits-tail_in p x xs place splits = (
 pub splits-tail_out : {X : Type 0} (p : X → Bool) (x : X) (xs : List X) → SplitsAt p (x ∷ xs) zero → SplitsAt p xs zero
 splits-tail_out p x xs splits =
     (λ k d low high. absurd (omega arith), λ k d low high. splits.1 (suc k) d (omega arith) (omega arith))
-
--- the keys below another one end no later than those that are not above it
-pub below-first : (key : ℕ) (keys : List ℕ) (from to : ℕ) → from ≤ length keys
-    → SplitsAt (λ other. nat_lt other key) keys from → SplitsAt (λ other. nat_le other key) keys to → from ≤ to
-below-first key keys zero to within below up_to = omega arith
-below-first key [] (suc from) to within below up_to = absurd (omega arith)
-below-first key (other ∷ keys) (suc from) zero within below up_to =
-    let low : other < key =
-    leb-true (suc other) key (splits-head_in (λ other. nat_lt other key) other keys from below) in
-    let high : key < other = leb-false other key (splits-head_out (λ other. nat_le other key) other keys up_to) in
-    absurd (omega arith)
-below-first key (other ∷ keys) (suc from) (suc to) within below up_to =
-    let rest =
-    below-first key keys from to (omega arith) (splits-tail_in (λ other. nat_lt other key) other keys from below)
-    (splits-tail_in (λ other. nat_le other key) other keys to up_to) in
-    omega (arith, rest)
 
 -- sorted steps are split by a key where the step before is not above it, and the one behind is
 pub splits-step : (steps : List Step) (place key : ℕ) → IsNonDecreasingBy (λ step. step.key) steps

@@ -1,13 +1,11 @@
 -- The world that numbers make: how long it is, how wide its rows are, and that its entries speak of the list.
-use Rattle.ttp_world.proofs.Words.{◌≡◌, ℕ, zero, suc, ◌<◌, List, [], ◌∷◌, length, drop, refl, ap, sym, ◌∙◌, map}
-use Rattle.ttp_world.proofs.Words.{AllByRecursion, Medl, Chosen, Entry, Script, coming_place, IsValid, message_of}
-use Rattle.ttp_world.proofs.Words.{delivered_of, SlotNumbers, Numbers, node_past, slot_after, messages_chosen, row_in}
+use Rattle.ttp_world.proofs.Words.{◌≡◌, ℕ, suc, ◌<◌, List, [], ◌∷◌, length, refl, ap, sym, ◌∙◌, map}
+use Rattle.ttp_world.proofs.Words.{Medl, Chosen, Entry, Script, coming_place, IsValid, message_of}
+use Rattle.ttp_world.proofs.Words.{SlotNumbers, Numbers, node_past, slot_after, messages_chosen, row_in}
 use Rattle.ttp_world.proofs.Words.{world}
 use Rattle.ttp_world.proofs.Carried.{AreOfHosts, row_in-told}
 use Rattle.ttp_world.proofs.Lists.{IsPlaceOf}
-use Rattle.ttp_world.proofs.Places.{AreOfList, coming_place-of_list, row_after-of_list, entry_of-of_list}
-use Rattle.ttp_world.proofs.Places.{IsSentInList, delivered_of-sender}
-use Rattle.ttp_world.proofs.Slots.{length-row_in}
+use Rattle.ttp_world.proofs.Places.{AreOfList, coming_place-of_list, row_after-of_list}
 
 -- the row of the slot after the world of some numbers, by the numbers of that slot
 abbrev pub row_of_world : Medl → Script → SlotNumbers → Numbers → List Entry
@@ -18,16 +16,6 @@ pub length-world : (list : Medl) (script : Script) (numbers : Numbers)
     → length (world list script numbers) ≡ length numbers
 length-world list script [] = refl
 length-world list script (new ∷ numbers) = ap suc (length-world list script numbers)
-
--- each row has one entry for each node of the list
-pub rows-world : (list : Medl) (script : Script) (numbers : Numbers)
-    → AllByRecursion (λ row. length row ≡ length list.slots) (world list script numbers)
-rows-world list script [] = tt
-rows-world list script (new ∷ numbers) = (
-  length-row_in (slot_after list script (world list script numbers))
-      (messages_chosen list script (length numbers) new.sent),
-  rows-world list script numbers,
-)
 
 -- the numbers that the row of some messages tells make that row, where hosts have written the messages
 pub row_of_world-told : (list : Medl) (script : Script) (numbers : Numbers) (chosen : List Chosen) (read : List ℕ)
@@ -41,13 +29,6 @@ row_of_world-told list script numbers chosen read of_hosts =
     ap (λ slot. row_in s (messages_chosen list script slot (map message_of (row_in s chosen))))
     (sym (length-world list script numbers))
     ∙ row_in-told s chosen of_hosts
-
--- the world some slots before
-pub world-older : (list : Medl) (script : Script) (m : ℕ) (numbers : Numbers)
-    → drop m (world list script numbers) ≡ world list script (drop m numbers)
-world-older list script zero numbers = refl
-world-older list script (suc m) [] = refl
-world-older list script (suc m) (new ∷ numbers) = world-older list script m numbers
 
 -- Where the list is valid, each entry speaks of a slot of the list.
 
@@ -67,12 +48,3 @@ pub coming_place-world : (list : Medl) (script : Script) (numbers : Numbers) (k 
     → IsPlaceOf list (coming_place list (node_past list script (world list script numbers) k))
 coming_place-world list script numbers k valid node =
     coming_place-of_list list script (world list script numbers) k valid node (world-of_list list script numbers valid)
-
--- and what a node delivers came from a node of the list
-pub delivered_of-world : (list : Medl) (script : Script) (new : SlotNumbers) (numbers : Numbers) (r : ℕ) → IsValid list
-    → IsSentInList list
-    (delivered_of list script (world list script numbers) (row_of_world list script new numbers) r)
-delivered_of-world list script new numbers r valid =
-    let row = row_of_world list script new numbers in
-    delivered_of-sender list script (world list script numbers) row r
-    (entry_of-of_list list row r (world-of_list list script (new ∷ numbers) valid).0)

@@ -22,15 +22,6 @@ use Rattle.why_story.specs.declared.marks.Marks.{Marks}
 get_or-nothing : (n t : ℕ) → get_or {A = List ℕ} (replicate n []) t [] ≡ []
 get_or-nothing n t = grind (arith, common_steps)
 
-pub AreMarked-none : (count : ℕ) (marks : Marks) → marks.sets.items ≡ replicate count [] → vec_len marks.sets ≡ count
-    → AreMarked count [] marks
-AreMarked-none count marks sets len = record {
-  slots = len;
-  each = λ t k slot node.
-      ap (λ (all : List (List ℕ)). has_node (get_or all t []) k) sets
-      ∙ ap (λ (s : List ℕ). has_node s k) (get_or-nothing count t);
-}
-
 -- One mark more.
 
 -- the set of a slot in which a node was marked
@@ -65,28 +56,8 @@ AreMarked-more count spots old new s marked within len sets = record {
       ∙ ap (λ (b : Bool). ((t == s.slot) && (k == s.node)) || b) (marked.each t k slot node));
 }
 
--- one that lies outside marks nothing
-outside_by : (t k slot node count : ℕ) (b c : Bool) → (t == slot) ≡ b → (k == node) ≡ c → t < count → k < most_nodes
-    → ((slot < count) → (node < most_nodes) → ⊥) → (b && c) ≡ false
-outside_by t k slot node count false c is also within small outside = refl
-outside_by t k slot node count true false is also within small outside = refl
-outside_by t k slot node count true true is also within small outside =
-    let same : t ≡ slot = grind (arith, nat_tests) in
-    let one : k ≡ node = grind (arith, nat_tests) in
-    absurd (outside (omega (arith, same, within)) (omega (arith, one, small)))
-
 or-false : (b c : Bool) → b ≡ false → (b || c) ≡ c
 or-false b c is = ap (λ (x : Bool). x || c) is
-
-pub AreMarked-outside : (count : ℕ) (spots : List Spot) (marks : Marks) (s : Spot) → AreMarked count spots marks
-    → ((s.slot < count) → (s.node < most_nodes) → ⊥) → AreMarked count (s ∷ spots) marks
-AreMarked-outside count spots marks s marked outside = record {
-  slots = marked.slots;
-  each = λ t k slot node.
-      marked.each t k slot node
-      ∙ sym (or-false ((t == s.slot) && (k == s.node)) (has_spot spots (spot_at t k))
-      (outside_by t k s.slot s.node count (t == s.slot) (k == s.node) refl refl slot node outside));
-}
 
 -- Marks in another order.
 

@@ -7,7 +7,6 @@ use Rattle.std.proofs.lemmas.List.Elements.{All-nil, All-cons, All-head, All-tai
 use Rattle.std.specs.List.{list_any}
 use Rattle.std.specs.Prelude.{All}
 use Rattle.causes.specs.Causes.{cause_at, newest_cause}
-use Rattle.causes.specs.Members.{entry_at_spot, newest_entry_of}
 use Rattle.causes.specs.RunSlots.{RunSlots, slots_to}
 use Rattle.causes.specs.Said.{root}
 use Rattle.causes.specs.Story.{added_root, has_fault_line, has_spot, kept_of_told, leading, leads_to_fault, reached}
@@ -16,11 +15,10 @@ use Rattle.causes.specs.declared.cause.Cause.{Cause}
 use Rattle.causes.specs.declared.cause.Spot.{Spot}
 use Rattle.causes.specs.declared.cause.Story.{Story}
 use Rattle.causes.specs.declared.cause.Told.{Told}
-use Rattle.ttp_world.specs.After.{is_active_entry}
 use Rattle.ttp_world.specs.declared.script.Script.{Script}
 use Rattle.why_story.specs.RunSource.{RunSource, source_slots, slots_up_to, spot_at}
 use Rattle.why_story.proofs.Steps.{reached-no, reached-yes, root-by}
-use Rattle.why_story.proofs.Slots.{length-run, slots_up_to-all, slots_up_to-none}
+use Rattle.why_story.proofs.Slots.{length-run, slots_up_to-all}
 use Rattle.why_story.proofs.Within.{IsWithin, spots-within}
 
 -- A run up to a slot shows of the slots before what the whole run does.
@@ -86,23 +84,6 @@ leads-before source script nodes slot from within same few =
     (spots-within source nodes slot 24 slot within (omega arith) same few))
     (from ∷ []))
 
--- A node was active before a slot.
-
-active-newest : (k : ℕ) (run : RunSlots) → was_active k run ≡ is_active_entry (newest_entry_of k run)
-active-newest k [] = refl
-active-newest k (s ∷ before) = refl
-
-pub active-before : (run : RunSlots) (slot t k : ℕ) → slot ≡ t + 1
-    → is_active_entry (entry_at_spot run (spot_at t k)) ≡ was_active k (slots_up_to run slot)
-active-before run slot t k is =
-    ap (λ (n : ℕ). is_active_entry (newest_entry_of k (drop (length run - n) run))) (omega (arith, is))
-    ∙ sym (active-newest k (slots_up_to run slot))
-
-pub active-first : (run : RunSlots) (slot k : ℕ) → slot ≡ 0 → was_active k (slots_up_to run slot) ≡ false
-active-first run slot k none =
-    ap (λ (part : RunSlots). was_active k part)
-    (ap (slots_up_to run) none ∙ slots_up_to-none run)
-
 -- The root that is added.
 
 pub root-none : (script : Script) (k : ℕ) (before : RunSlots) (entries : List Spot) → was_active k before ≡ false
@@ -110,23 +91,6 @@ pub root-none : (script : Script) (k : ℕ) (before : RunSlots) (entries : List 
 root-none script k before entries is =
     sym (root-by script k before entries false (has_spot entries (root k before))
     (leads_to_fault script before (root k before)) is refl refl)
-
-pub root-named : (script : Script) (k : ℕ) (before : RunSlots) (entries : List Spot) → was_active k before ≡ true
-    → has_spot entries (root k before) ≡ true → [] ≡ added_root script k before entries
-root-named script k before entries active has =
-    sym (root-by script k before entries true true (leads_to_fault script before (root k before)) active has refl)
-
-pub root-harmless : (script : Script) (k : ℕ) (before : RunSlots) (entries : List Spot) → was_active k before ≡ true
-    → has_spot entries (root k before) ≡ false → leads_to_fault script before (root k before) ≡ false
-    → [] ≡ added_root script k before entries
-root-harmless script k before entries active has fault =
-    sym (root-by script k before entries true false false active has fault)
-
-pub root-added : (script : Script) (k : ℕ) (before : RunSlots) (entries : List Spot) → was_active k before ≡ true
-    → has_spot entries (root k before) ≡ false → leads_to_fault script before (root k before) ≡ true
-    → root k before ∷ [] ≡ added_root script k before entries
-root-added script k before entries active has fault =
-    sym (root-by script k before entries true false true active has fault)
 
 -- The story.
 

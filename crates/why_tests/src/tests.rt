@@ -11,6 +11,7 @@ use script_text::read_script;
 use std::alloc::Global;
 use std::rt::HostRuntime;
 use ttp_world::{Medl, Script};
+use why_answers::why_answer;
 
 // Five nodes in one round, of which node 0 alone may start the cluster.
 const LIST: &[u8] =
@@ -69,4 +70,27 @@ fn is_right(alloc: Global) -> bool {
 #[test]
 fn a_latent_fault_takes_its_node_out(rt: HostRuntime) {
     assert!(rt; is_right(rt.alloc()));
+}
+
+// The whole text on the newest departure of the node: eight lines and whether the lines of the script suffice.
+fn is_answered(alloc: Global) -> bool {
+    let Ok(list) = read_medl(alloc, LIST) else {
+        return false;
+    };
+    let Ok(script) = read_script(alloc, &list, SCRIPT) else {
+        return false;
+    };
+    let Ok(answer) = why_answer(alloc, &list, &script, SCRIPT, 2, None) else {
+        return false;
+    };
+    let lines = answer.lines.as_slice();
+    answer.status == 0
+        && lines.len() == 9
+        && lines[1].bytes() == b"line 7 needed yes receive 3 A silence 0 44\n".as_slice()
+        && lines[8].bytes() == b"alone yes\n".as_slice()
+}
+
+#[test]
+fn a_departure_is_told_whole(rt: HostRuntime) {
+    assert!(rt; is_answered(rt.alloc()));
 }

@@ -19,4 +19,5 @@ mod miss;
 pub use because::put_because;
 pub use entries::{put_alone, put_entry_head, put_named_line, put_root, put_why_head};
 pub use lines::put_event;
+pub use lists::number_of;
 pub use miss::put_miss;

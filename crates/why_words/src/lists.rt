@@ -32,8 +32,8 @@ fn at_or_none(numbers: &[u32], place: usize) -> u32
     }
 }
 
-/// The number of a line.
-pub(crate) fn number_of(numbers: &LineNumbers, line: ScriptLine) -> u32
+/// The number of a line in the file of its script, 0 where it has none.
+pub fn number_of(numbers: &LineNumbers, line: ScriptLine) -> u32
     ensures { result ≡ number_of_line numbers.now line }
 {
     match line {

@@ -1,7 +1,7 @@
 -- What a slot adds to what a run has counted.
-use Rattle.ttp_top.proofs.Terms.{◌≡◌, ℕ, suc, ◌+◌, ◌*◌, ◌<◌, ◌≤◌, List, [], ◌∷◌, length, cond, Bool, true, false, refl}
-use Rattle.ttp_top.proofs.Terms.{ap, sym, ◌∙◌, subst, arith, map, count_by, AllByRecursion, length-map}
-use Rattle.ttp_top.proofs.Terms.{length-range_with_len, sum_by-cons, below, set_bits, Medl, Entry, NodeState, Script}
+use Rattle.ttp_top.proofs.Terms.{◌≡◌, ℕ, suc, ◌*◌, ◌<◌, ◌≤◌, List, [], ◌∷◌, length, cond, Bool, true, false, refl}
+use Rattle.ttp_top.proofs.Terms.{ap, sym, ◌∙◌, subst, arith, map, AllByRecursion, length-map}
+use Rattle.ttp_top.proofs.Terms.{length-range_with_len, below, set_bits, Medl, Entry, NodeState, Script}
 use Rattle.ttp_top.proofs.Terms.{History, is_active_phase, IsLegal, state_of, write_in, read_in, writes_in, reads_in}
 use Rattle.ttp_top.proofs.Terms.{SlotNumbers, Numbers, node_past, world, legal-none, legal-shapes, length-world}
 use Rattle.ttp_top.proofs.Terms.{next_row, ClusterView, ClusterStandsFor, Totals, states_in, HasCounted, states_after}
@@ -23,14 +23,6 @@ use Rattle.ttp_top.proofs.Scripts.Slots.{after, tells}
 use Rattle.trace_check.proofs.Counts.{length-read_messages}
 
 -- What a report shows is what the slot adds.
-
-pub counted-states : (p : NodeState → Bool) (nodes : List NodeLine)
-    → count_by (λ (line : NodeLine). p line.state) nodes ≡ count_by p (states_in nodes)
-counted-states p [] = refl
-counted-states p (line ∷ nodes) =
-    sum_by-cons (λ (l : NodeLine). cond (p l.state) 1 0) line nodes
-    ∙ ap (λ n. cond (p line.state) 1 0 + n) (counted-states p nodes)
-    ∙ sym (sum_by-cons (λ state. cond (p state) 1 0) line.state (states_in nodes))
 
 states-shown : (list : Medl) (script : Script) (row : List Entry) (before : History) (ks : List ℕ)
     → states_in (map (node_shown list script row before) ks)

@@ -1,6 +1,6 @@
 -- The lines on a generated run, once all of its slots are counted.
 use Rattle.ttp_top.proofs.Terms.{◌≡◌, ℕ, [], Some, refl, ap, sym, subst, ◌∙◌, inl, inr, Output, WroteLines, CutShort}
-use Rattle.ttp_top.proofs.Terms.{Lines, Wrote-none, Medl, Script, IsLegal, IsValid, IsValidScript, world, generated}
+use Rattle.ttp_top.proofs.Terms.{Lines, Medl, Script, IsLegal, IsValid, IsValidScript, world, generated}
 use Rattle.ttp_top.proofs.Terms.{ClusterView, ShowsEnding, answer, alone, Totals, ttpbench, sample_ending, IsSample}
 use Rattle.ttp_top.proofs.Terms.{HasCounted, summary_lines, totals_of}
 use Rattle.ttp_top.specs.Calls.Answer.{HasRunLegally}
@@ -81,12 +81,3 @@ sample_stopped list slots number before now c totals w cut =
       };
       none = refl;
     }))
-
--- memory was refused before the first one
-pub sample_refused : (list : Medl) (slots number : ℕ) (o : Output)
-    → ShowsEnding ttpbench (sample_ending slots number list) o o (alone 7)
-sample_refused list slots number o = inr (record {
-  status = refl;
-  text = record { lines = []; among = refl; wrote = Wrote-none o };
-  none = refl;
-})

@@ -1,56 +1,13 @@
 -- The lines of the tests: that of the hypothesis, and the one on armed nodes where a node is armed.
-use Rattle.ttp_top.proofs.Terms.{◌≡◌, ℕ, true, false, [], ◌∷◌, refl, subst, ap, sym, inl, inr, Output, WroteLines}
-use Rattle.ttp_top.proofs.Terms.{CutShort, Wrote-none, Wrote-join, CutShort-after, CutShort-more, Medl, Script}
+use Rattle.ttp_top.proofs.Terms.{ℕ, [], ◌∷◌, refl, subst, inl, inr, Output, WroteLines}
+use Rattle.ttp_top.proofs.Terms.{CutShort, Wrote-join, CutShort-after, CutShort-more, Medl, Script}
 use Rattle.ttp_top.proofs.Terms.{keep_line, back_lines, test_lines, Says, whole_ending, alone, one, BenchEnding}
 use Rattle.ttp_top.proofs.Terms.{ttpbench, keep_ending}
 use Rattle.ttp_world.specs.Hypothesis.{keeps}
-use Rattle.ttp_world.specs.Returning.{has_arm, returns}
-use Rattle.ttp_world.specs.Trace.{back_line, back_lines_if}
 
 -- the ending with the line on armed nodes alone, where a node is armed
 abbrev pub back_ending : Medl → Script → BenchEnding
 back_ending list script = whole_ending 0 (one (back_lines list script))
-
--- no node is armed
-pub none_armed : (list : Medl) (script : Script) (o : Output) → has_arm script ≡ false
-    → Says ttpbench (back_ending list script) o o (alone 0)
-none_armed list script o none =
-    inl (record {
-      status = refl;
-      text = record {
-        lines = [];
-        among = sym (ap (back_lines_if list script) none);
-        wrote = Wrote-none o;
-      };
-      kept = refl;
-    })
-
--- one is, and its line was written, or it was cut short
-pub armed_said : (list : Medl) (script : Script) (a b : Output) → has_arm script ≡ true
-    → WroteLines a b (back_line (returns list script) ∷ []) → Says ttpbench (back_ending list script) a b (alone 0)
-armed_said list script a b some wrote =
-    inl (record {
-      status = refl;
-      text = record {
-        lines = back_line (returns list script) ∷ [];
-        among = sym (ap (back_lines_if list script) some);
-        wrote = wrote;
-      };
-      kept = refl;
-    })
-
-pub armed_cut : (list : Medl) (script : Script) (a b : Output) → has_arm script ≡ true
-    → CutShort a b (back_line (returns list script) ∷ []) → Says ttpbench (back_ending list script) a b (alone 6)
-armed_cut list script a b some cut =
-    inr (record {
-      status = refl;
-      text = record {
-        lines = back_line (returns list script) ∷ [];
-        among = sym (ap (back_lines_if list script) some);
-        cut = cut;
-      };
-      none = refl;
-    })
 
 -- the line of the hypothesis test was written, and then this was said
 pub keep_said : (list : Medl) (script : Script) (a b c : Output) (status : ℕ)

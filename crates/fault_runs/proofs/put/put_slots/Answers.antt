@@ -1,8 +1,9 @@
-use Rattle.fault_runs.proofs.Words.{◌≡◌, ◌+◌, ◌++◌, List, ap, sym, subst, ◌∙◌, append_assoc, map-append, WroteLines}
+use Rattle.fault_runs.proofs.Words.{◌≡◌, ◌<◌, ◌≤◌, ◌+◌, ◌++◌, List, arith, ap, sym, subst, ◌∙◌, append_assoc, map-append, WroteLines}
 use Rattle.fault_runs.proofs.Words.{Lines, LeftBy, Wrote-none, Wrote-join, Event, run_line, fault_lines, tried_in}
 use Rattle.fault_runs.proofs.Words.{tried_before, IsTallyOf}
 use Rattle.ttp_base.proofs.Below.{flat_map-next, flat_map-split}
 use Rattle.fault_runs.proofs.Endings.{leaves-after, leaves-more}
+use Rattle.fault_runs.proofs.Ranges.{tried-to}
 use Rattle.fault_runs.proofs.put.put_slots.Goals as goal
 
 pub loop-slot-init : goal.loop-slot-init
@@ -39,7 +40,8 @@ returns-in-Err-clause-err g c =
     let line = run_line list script in
     let tried = tried_in list script c.args.first c.args.last in
     let before = tried_before list script c.args.first c.args.last slot in
-    let split = flat_map-split tried slot script.slots c.loop-slot-test.true in
+    let split = flat_map-split tried slot script.slots
+    (let within : slot < script.slots = omega (arith, c.loop-slot-test.true, c.end_of-slot-end.ensures) in within) in
     let all : (fault_lines list script before ++ fault_lines list script (tried slot))
     ++ fault_lines list script split.0
     ≡ fault_lines list script (tried_before list script c.args.first c.args.last script.slots) =
@@ -53,3 +55,25 @@ returns-in-Err-clause-err g c =
     (fault_lines list script split.0)
     (leaves-after why a b d (fault_lines list script before) (fault_lines list script (tried slot))
     c.loop-slot.invariant.3 c.in-Err.ensures.err))
+
+pub returns-clause-told : goal.returns-clause-told
+returns-clause-told g c =
+    let list = c.args.common.now.list.now in
+    let script = c.args.common.now.script.now in
+    let past : c.end_of-slot-end.result ≤ c.loop-slot.slot = omega (arith, c.loop-slot-test.false) in
+    let same =
+    tried-to list script c.args.first c.args.last c.end_of-slot-end.result c.loop-slot.slot c.end_of-slot-end.ensures past
+    c.loop-slot.invariant.0.run.within in
+    subst (λ (fs : List Event). IsTallyOf list script fs c.loop-slot.tally) same c.loop-slot.invariant.1
+
+pub returns-clause-ok : goal.returns-clause-ok
+returns-clause-ok g c =
+    let list = c.args.common.now.list.now in
+    let script = c.args.common.now.script.now in
+    let past : c.end_of-slot-end.result ≤ c.loop-slot.slot = omega (arith, c.loop-slot-test.false) in
+    let same =
+    tried-to list script c.args.first c.args.last c.end_of-slot-end.result c.loop-slot.slot c.end_of-slot-end.ensures past
+    c.loop-slot.invariant.0.run.within in
+    subst
+    (λ (fs : List Event). WroteLines (g.K.Sink.output c.args.out.now) (g.K.Sink.output c.loop-slot.out) (fault_lines list script fs))
+    same c.loop-slot.invariant.3

@@ -1,8 +1,15 @@
-use Rattle.fault_runs.proofs.Words.{◌≡◌, Bool, cond, List, [], ap, sym, subst, ◌∙◌, Entry, Event, faults_in, row_of}
+use Rattle.fault_runs.proofs.Words.{◌≡◌, length, Bool, cond, List, [], ap, sym, subst, ◌∙◌, Entry, Event, faults_in, row_of}
 use Rattle.fault_runs.proofs.Words.{zeros_world, tried_in}
 use Rattle.std.specs.Prelude.{IfOk}
-use Rattle.fault_runs.proofs.Ranges.{shown-row}
+use Rattle.fault_runs.proofs.Ranges.{length-next_row, zeros-row}
 use Rattle.fault_runs.proofs.put.tried_in.Goals as goal
+
+pub faults_in-requires-clause-row : goal.faults_in-requires-clause-row
+faults_in-requires-clause-row c =
+    let list = c.args.list.now in
+    let script = c.args.script.now in
+    ap length (c.requires.row ∙ zeros-row list script c.args.slot script.slots c.requires.slot)
+    ∙ length-next_row list script c.args.slot
 
 pub returns-then-is_in_range : goal.returns-then-is_in_range
 returns-then-is_in_range c =
@@ -12,10 +19,8 @@ returns-then-is_in_range c =
     let last = c.args.last in
     let slot = c.args.slot in
     let row = row_of (zeros_world list script script.slots) slot in
-    let told : faults_in list script c.as_slice.result.now slot ≡ tried_in list script first last slot =
-    ap (λ (entries : List Entry). faults_in list script entries slot)
-    (c.as_slice.ensures ∙ c.in_ok-row.ensures
-    ∙ shown-row list script slot c.args.states.now c.requires.slot c.requires.shown)
+    let told : faults_in list script c.args.row.now slot ≡ tried_in list script first last slot =
+    ap (λ (entries : List Entry). faults_in list script entries slot) c.requires.row
     ∙ ap (λ (b : Bool). cond b (faults_in list script row slot) [])
     (sym c.if-is_in_range.true ∙ c.is_in_range.ensures) in
     subst (λ (fs : List Event). IfOk c.faults_in.result (λ (faults : List Event). faults ≡ fs)) told c.faults_in.ensures

@@ -1,7 +1,7 @@
 use Rattle.std.proofs.Common.{Some, refl}
 use Rattle.commands.specs.Texts.{alone}
 use Rattle.lab_top.specs.Views.{wave_view, picture_view, chart_view}
-use Rattle.lab_top.specs.Words.{wave, picture, campaign, chart, check, frames, margins, pairs, script_by}
+use Rattle.lab_top.specs.Words.{wave, picture, campaign, chart, check, frames, margins, pairs, script_by, why}
 use Rattle.lab_top.proofs.CampaignPromises.{campaign_promise}
 use Rattle.lab_top.proofs.CheckPromises.{check_promise}
 use Rattle.lab_top.proofs.FramesPromises.{frames_promise}
@@ -10,6 +10,7 @@ use Rattle.lab_top.proofs.PairPromises.{pair_promise}
 use Rattle.lab_top.proofs.Promises.{lab_promise}
 use Rattle.lab_top.proofs.ScriptPromises.{script_promise}
 use Rattle.lab_top.proofs.Views.{view_promise}
+use Rattle.lab_top.proofs.WhyPromises.{why_promise}
 use Rattle.lab_top.proofs.call.lab.Goals as goal
 
 pub returns-clause-promise : goal.returns-clause-promise
@@ -79,3 +80,10 @@ returns-clause-pairs g c = λ list script first last within form.
     (rw (c.command_of.ensures.form, form) at c.obey.ensures.follows)
     (rw (c.command_of.ensures.form, form) at c.obey.ensures.no_form) in
     pair_promise list script first last within _ _ (alone c.obey.result) p.call
+
+pub returns-clause-why : goal.returns-clause-why
+returns-clause-why g c = λ list script node slot form.
+    let p = lab_promise (Some (why list script node slot)) _ _ (alone c.obey.result)
+    (rw (c.command_of.ensures.form, form) at c.obey.ensures.follows)
+    (rw (c.command_of.ensures.form, form) at c.obey.ensures.no_form) in
+    why_promise list script node slot _ _ (alone c.obey.result) p.call (λ seven. p.empty seven refl)

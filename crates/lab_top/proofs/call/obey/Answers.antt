@@ -27,3 +27,6 @@ returns-in-Margins-clause-follows g c = rw c.in-Margins.is c.margins.ensures
 
 pub returns-in-Pairs-clause-follows : goal.returns-in-Pairs-clause-follows
 returns-in-Pairs-clause-follows g c = rw c.in-Pairs.is c.pairs.ensures
+
+pub returns-in-Why-clause-follows : goal.returns-in-Why-clause-follows
+returns-in-Why-clause-follows g c = rw c.in-Why.is c.why.ensures
