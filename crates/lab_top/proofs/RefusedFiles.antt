@@ -1,5 +1,5 @@
 -- A call of a form that reads a list and a script, of which one is refused.
-use Rattle.std.proofs.Common.{◌≡◌, ℕ, ◌+◌, ◌≤◌, List, [], ◌∷◌, take, Some, Result, Ok, Err, refl, ap, sym, subst, ◌∙◌}
+use Rattle.std.proofs.Common.{◌≡◌, ◌⊎◌, ℕ, ◌+◌, ◌≤◌, List, [], ◌∷◌, take, Some, Result, Ok, Err, refl, ap, sym, subst, ◌∙◌}
 use Rattle.std.proofs.Common.{codes, inl, inr, arith}
 use Rattle.ttp_base.specs.Outside.{Held, holds, Load, Gives, HasRisen, Wrote, WroteLines}
 use Rattle.ttp_base.specs.Text.{Lines}

@@ -1,5 +1,5 @@
 -- The promise of `why` in its own words, from the promise of every form.
-use Rattle.std.proofs.Common.{◌≡◌, ◌⊎◌, ℕ, ◌+◌, ◌≤◌, List, [], take, Option, Some, refl, sym, subst}
+use Rattle.std.proofs.Common.{◌≡◌, ◌⊎◌, ℕ, ◌+◌, ◌≤◌, List, [], take, Option, Some, ap, sym, subst}
 use Rattle.std.proofs.Common.{◌∙◌, inl, inr, arith}
 use Rattle.std.proofs.lemmas.List.{take_all}
 use Rattle.ttp_base.specs.Outside.{HasRisen, Wrote, WroteLines, CutShort}
@@ -8,12 +8,12 @@ use Rattle.ttp_world.specs.declared.medl.Medl.{Medl}
 use Rattle.ttp_world.specs.declared.script.Script.{Script}
 use Rattle.medl_text.proofs.Valid.{medl_of-valid}
 use Rattle.script_text.proofs.RightFiles.{script_of-valid}
-use Rattle.commands.specs.Files.{refused_script, script_file}
+use Rattle.commands.specs.Files.{refused_script}
 use Rattle.commands.specs.Outcome.{Showed}
 use Rattle.commands.specs.Plan.{Outside, told_ending}
 use Rattle.commands.specs.Promise.{Promise}
 use Rattle.commands.specs.Read.{list_limit, script_limit, script_from}
-use Rattle.commands.proofs.Fronts.{list_from-front}
+use Rattle.commands.proofs.Fronts.{list_from-front, script_from-front}
 use Rattle.commands.proofs.Plans.{AllAsk, after_every, end_comes, list_every}
 use Rattle.commands.proofs.Right.{right_list, right_script, may_be, list_from-right, script_from-right}
 use Rattle.commands.proofs.Told.{Quiet, told_shows, told_cut}
@@ -105,7 +105,14 @@ module _ (list script : List ℕ) (node : ℕ) (slot : Option ℕ) (before now :
         let script_taken = script_from-right medl script_bytes right files.are.script_size files.are.script in
         let whole : take (script_limit + 1) script_bytes ≡ script_bytes =
         take_all (script_limit + 1) script_bytes (omega (arith, files.are.script_size)) in
-        rw (files.list_file, list_from-front files.bytes, taken, files.script_file, whole, script_taken) refl
+        rw (
+          files.list_file,
+          list_from-front files.bytes,
+          taken,
+          files.script_file,
+          script_from-front medl script_bytes,
+          script_taken,
+        ) (ap (λ (b : List ℕ). Some (ending_of medl b right)) whole)
 
     quiet : AllAsk (Quiet before now) (why_plan list script node slot)
     quiet =
