@@ -4,11 +4,11 @@ use Rattle.std.proofs.Common.{subst, ◌∙◌}
 use Rattle.std.specs.List.{filter_map, cons_option, list_any}
 use Rattle.std.specs.Str.{bytes_eq}
 use Rattle.std.proofs.lemmas.Bool.{false≢true}
-use Rattle.std.proofs.lemmas.Slice.Eq.{bytes_eq-Decides}
 use Rattle.ttp_world.specs.declared.medl.Medl.{Medl}
 use Rattle.ttp_world.specs.Diary.{History, diary_of}
 use Rattle.ttp_world.specs.Hypothesis.{nodes_of}
 use Rattle.ttp_world.specs.Safety.{members_of_node}
+use Rattle.ttp_world.proofs.NumberWords.{bytes_eq-same}
 use Rattle.ttp_world.proofs.SmallTests.{spelled as same_bytes}
 use Rattle.campaign.specs.Cost.{each_once, firm_members, has_two, is_firm, memberships}
 use Rattle.run_costs.proofs.Distinct.{two-others}
@@ -18,14 +18,11 @@ abbrev AreAll : List ℕ → List (List ℕ) → Type 0
 AreAll m [] = Unit {0}
 AreAll m (x ∷ xs) = (x ≡ m) × AreAll m xs
 
-same_self : (m : List ℕ) → bytes_eq m m ≡ true
-same_self m = (bytes_eq-Decides m m).1 refl
-
 others-none : (m x : List ℕ) (xs : List (List ℕ)) → x ≡ m → AreAll m xs → list_any (λ y. not (bytes_eq x y)) xs ≡ false
 others-none m x [] is all = refl
 others-none m x (y ∷ ys) is all =
     (λ i. not (bytes_eq (is i) (all.0 i)) || list_any (λ z. not (bytes_eq x z)) ys)
-    ∙ ap (λ b. not b || list_any (λ z. not (bytes_eq x z)) ys) (same_self m) ∙ others-none m x ys is all.1
+    ∙ ap (λ b. not b || list_any (λ z. not (bytes_eq x z)) ys) (bytes_eq-same m) ∙ others-none m x ys is all.1
 
 not-two : (m : List ℕ) (xs : List (List ℕ)) → AreAll m xs → has_two (each_once xs) ≡ false
 not-two m [] all = refl

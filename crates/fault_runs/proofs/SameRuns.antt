@@ -24,7 +24,7 @@ use Rattle.run_costs.specs.States.{off_state, state_at, AreShown}
 use Rattle.run_costs.proofs.Later.{zeros-longer}
 use Rattle.run_costs.proofs.Nodes.{filter_map_agree-below}
 use Rattle.run_costs.proofs.Rows.{length-zeros, next_row, zeros-next}
-use Rattle.fault_runs.specs.Merging.{has_left, is_waiting, is_leaving, is_loss_in, IsSameDeed, IsSettled, IsSettledFrom}
+use Rattle.fault_runs.specs.Merging.{has_just_left, is_waiting, is_left_entry, is_loss_in, IsSameDeed, HasSettledAt, IsSettledFrom}
 use Rattle.fault_runs.proofs.Losses.{jumps-alike, alike-other}
 use Rattle.fault_runs.proofs.OneMembership.{still-one}
 use Rattle.fault_runs.proofs.Ranges.{length-next_row}
@@ -80,16 +80,16 @@ module _ (list : Medl) (script : Script) (e : Event) (slot : ℕ) (is : is_loss_
 
 -- A settled slot adds nothing to what a run costs, whoever is faulty.
 
-leave-still : (k slot : ℕ) (e : Entry) (before : Option Leave) → is_leaving e ≡ false → leave_after k slot e before ≡ before
+leave-still : (k slot : ℕ) (e : Entry) (before : Option Leave) → is_left_entry e ≡ false → leave_after k slot e before ≡ before
 leave-still k slot (entry.Left reason peer) before stays = absurd (false≢true (sym stays))
 leave-still k slot _ before stays = refl
 
-hurt-still : (list : Medl) (script : Script) (slot k : ℕ) (e : Entry) → is_leaving e ≡ false
+hurt-still : (list : Medl) (script : Script) (slot k : ℕ) (e : Entry) → is_left_entry e ≡ false
     → is_hurt_in list script slot k e ≡ false
 hurt-still list script slot k (entry.Left reason peer) stays = absurd (false≢true (sym stays))
 hurt-still list script slot k _ stays = refl
 
-module _ (list : Medl) (script : Script) (row : List Entry) (history : History) (settled : IsSettled list (row ∷ history)) where
+module _ (list : Medl) (script : Script) (row : List Entry) (history : History) (settled : HasSettledAt list (row ∷ history)) where
   leaves-still : leaves list (row ∷ history) ≡ leaves list history
   leaves-still =
       filter_map_agree-below (newest_leave (row ∷ history)) (newest_leave history) (length list.slots)
@@ -112,7 +112,7 @@ abbrev pub cost_up_to : Medl → Script → History → List (List ℕ) → Cost
 cost_up_to list script history end = record (cost_of list script history) { end = end }
 
 module _ (list : Medl) (script : Script) (n : ℕ) (end : List (List ℕ)) where
-  pub rest-still : (m : ℕ) → ((t : ℕ) → n ≤ t → t < n + m → IsSettled list (zeros_world list script (t + 1)))
+  pub rest-still : (m : ℕ) → ((t : ℕ) → n ≤ t → t < n + m → HasSettledAt list (zeros_world list script (t + 1)))
       → cost_up_to list script (zeros_world list script (n + m)) end
       ≡ cost_up_to list script (zeros_world list script n) end
   rest-still zero settled =
@@ -121,8 +121,8 @@ module _ (list : Medl) (script : Script) (n : ℕ) (end : List (List ℕ)) where
       let older = rest-still m (λ t from to. settled t from (omega (arith, to))) in
       let row = next_row list script (n + m) in
       let history = zeros_world list script (n + m) in
-      let last : IsSettled list (row ∷ history) =
-      subst (IsSettled list) (zeros-next list script (n + m)) (settled (n + m) (omega arith) (omega arith)) in
+      let last : HasSettledAt list (row ∷ history) =
+      subst (HasSettledAt list) (zeros-next list script (n + m)) (settled (n + m) (omega arith) (omega arith)) in
       let next : n + suc m ≡ suc (n + m) = omega arith in
       ap (λ j. cost_up_to list script (zeros_world list script j) end) next
       ∙ (λ i. record {
@@ -134,10 +134,6 @@ module _ (list : Medl) (script : Script) (n : ℕ) (end : List (List ℕ)) where
       ∙ older
 
 -- What is shown after a slot.
-
-pub not-true : (b : Bool) → not b ≡ true → b ≡ false
-not-true true is = absurd (false≢true is)
-not-true false is = refl
 
 none-at : {X : Type 0} (p : X → Bool) (xs : List X) (k : ℕ) (d : X) → list_any p xs ≡ false → k < length xs
     → p (get_or xs k d) ≡ false
@@ -152,29 +148,29 @@ module _ (list : Medl) (script : Script) (slot : ℕ) (states : List NodeState)
   after-next : AreShown list script (next_row list script slot ∷ zeros_world list script slot) states
   after-next = subst (λ (h : History). AreShown list script h states) (zeros-next list script slot) shown
 
-  pub settled-shown : list_any has_left states ≡ false
+  pub settled-shown : list_any has_just_left states ≡ false
       → has_two (memberships list (zeros_world list script (slot + 1)) (λ k. true)) ≡ false
-      → IsSettled list (zeros_world list script (slot + 1))
+      → HasSettledAt list (zeros_world list script (slot + 1))
   settled-shown none one = record {
     stay = λ k node.
-        ap (λ (h : History). is_leaving (newest_entry (diary_of h k))) (zeros-next list script slot)
-        ∙ ap (λ (state : NodeState). is_leaving state.entry) (sym (after-next.nodes k node))
-        ∙ none-at has_left states k off_state none (omega (arith, node, shown.count));
+        ap (λ (h : History). is_left_entry (newest_entry (diary_of h k))) (zeros-next list script slot)
+        ∙ ap (λ (state : NodeState). is_left_entry state.entry) (sym (after-next.nodes k node))
+        ∙ none-at has_just_left states k off_state none (omega (arith, node, shown.count));
     one = one;
   }
 
 -- from which slot on a run is settled, with one slot more
 pub settled-next : (list : Medl) (script : Script) (n old new : ℕ) (b : Bool) → new ≡ cond b old (n + 1)
-    → (b ≡ true → IsSettled list (zeros_world list script (n + 1)))
-    → ((t : ℕ) → old ≤ t → t < n → IsSettled list (zeros_world list script (t + 1)))
-    → (t : ℕ) → new ≤ t → t < n + 1 → IsSettled list (zeros_world list script (t + 1))
+    → (b ≡ true → HasSettledAt list (zeros_world list script (n + 1)))
+    → ((t : ℕ) → old ≤ t → t < n → HasSettledAt list (zeros_world list script (t + 1)))
+    → (t : ℕ) → new ≤ t → t < n + 1 → HasSettledAt list (zeros_world list script (t + 1))
 settled-next list script n old new true is here before t from to =
     let same : new ≡ old = is in
     elim (cases_lt t n) [
       | inl less ↦ before t (omega (arith, same, from)) less
       | inr last ↦
           let now : n ≡ t = omega (arith, last, to) in
-          subst (λ j. IsSettled list (zeros_world list script (j + 1))) now (here refl)
+          subst (λ j. HasSettledAt list (zeros_world list script (j + 1))) now (here refl)
     ]
 settled-next list script n old new false is here before t from to =
     let same : new ≡ n + 1 = is in
@@ -232,10 +228,10 @@ merged-cost list script e slot settled row now end cost is begins within early r
     let after = after-same list script e slot begins row now own told deeds in
     let busy = busy-all list script e slot begins row now own told deeds in
     let worlds = worlds-same list script e slot is after busy in
-    let still : (t : ℕ) → slot + 1 ≤ t → t < slot + 1 + m → IsSettled list (zeros_world list more (t + 1)) =
+    let still : (t : ℕ) → slot + 1 ≤ t → t < slot + 1 + m → HasSettledAt list (zeros_world list more (t + 1)) =
     λ t from to.
     let same : slot + 1 + (t - slot) ≡ t + 1 = omega (arith, from) in
-    subst (IsSettled list)
+    subst (HasSettledAt list)
     (sym (ap (zeros_world list script) same) ∙ worlds (t - slot) ∙ ap (zeros_world list more) same)
     (rests t (omega (arith, early, from)) (omega (arith, to, all))) in
     let left : end ≡ memberships list (zeros_world list more (slot + 1 + m)) (λ k. true) =

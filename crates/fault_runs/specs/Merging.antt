@@ -22,12 +22,12 @@ is_waiting entry.Waited = true
 is_waiting _ = false
 
 -- a node left in a slot
-abbrev pub is_leaving : Entry → Bool
-is_leaving (entry.Left reason peer) = true
-is_leaving _ = false
+abbrev pub is_left_entry : Entry → Bool
+is_left_entry (entry.Left reason peer) = true
+is_left_entry _ = false
 
-abbrev pub has_left : NodeState → Bool
-has_left state = is_leaving state.entry
+abbrev pub has_just_left : NodeState → Bool
+has_just_left state = is_left_entry state.entry
 
 -- an event loses frames in this slot alone
 abbrev pub is_loss_in : ℕ → Event → Bool
@@ -42,17 +42,17 @@ pub record IsSameDeed (one other : Entry) : Type 0 where
 
 -- nobody leaves in the newest slot of a history, and the nodes that are active and not in doubt after it hold one
 -- membership, or there are none
-pub record IsSettled (list : Medl) (history : History) : Type 0 where
-  pub stay : (k : ℕ) → k < length list.slots → is_leaving (newest_entry (diary_of history k)) ≡ false
+pub record HasSettledAt (list : Medl) (history : History) : Type 0 where
+  pub stay : (k : ℕ) → k < length list.slots → is_left_entry (newest_entry (diary_of history k)) ≡ false
   pub one : has_two (memberships list history (λ k. true)) ≡ false
 
 -- the script's own run is settled from this slot on
 abbrev pub IsSettledFrom : Medl → Script → ℕ → Type 0
 IsSettledFrom list script settled =
-    (t : ℕ) → settled ≤ t → t < script.slots → IsSettled list (zeros_world list script (t + 1))
+    (t : ℕ) → settled ≤ t → t < script.slots → HasSettledAt list (zeros_world list script (t + 1))
 
 -- what a whole run cost, and from which slot on it is settled
-pub record IsWhole (list : Medl) (script : Script) (whole : WholeRun) : Type 0 where
+pub record IsWholeRun (list : Medl) (script : Script) (whole : WholeRun) : Type 0 where
   pub cost : whole.cost ≡ (summary list script).cost
   pub settled : IsSettledFrom list script whole.settled
 

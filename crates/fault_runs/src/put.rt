@@ -17,7 +17,7 @@ ghost use Rattle.fault_runs.specs.declared.put.CampaignFault.TheVariants as faul
 ghost use Rattle.fault_runs.specs.Ends.{LeftBy, LeftFewerBy, WroteFewer};
 ghost use Rattle.fault_runs.specs.Runs.{tried_in, tried_before, entries_of, fault_lines, front_lines, end_lines};
 ghost use Rattle.fault_runs.specs.Runs.{most_tried, HasAtMost, AreCountsOf, IsTallyOf};
-ghost use Rattle.fault_runs.specs.Merging.{IsWhole};
+ghost use Rattle.fault_runs.specs.Merging.{IsWholeRun};
 ghost use Rattle.fault_runs.specs.Tries.{MayTry, IsOwnAfter, tried_of, tried_lines};
 
 use crate::campaign_text::Text;
@@ -327,7 +327,7 @@ fn words_of(alloc: Global, list: &Medl, cost: &Cost) -> Result<Text, Memory>
 fn own_whole(alloc: Global, list: &Medl, script: &Script) -> Result<(WholeRun, Text), Memory>
     requires valid { IsValid list.now }
     requires script { IsValidScript list.now script.now }
-    ensures whole { IfOk result (λ own. IsWhole list.now script.now own.0) }
+    ensures whole { IfOk result (λ own. IsWholeRun list.now script.now own.0) }
     ensures words { IfOk result (λ own. own.1 ≡ cost_words list.now (summary list.now script.now).cost) }
 {
     let whole = whole_of(alloc, list, script)?;

@@ -7,7 +7,7 @@ ghost use Rattle.ttp_world.specs.Medl.{IsValid};
 ghost use Rattle.ttp_world.specs.Script.{IsValidScript};
 ghost use Rattle.campaign.specs.ZerosWorld.{zeros_world};
 ghost use Rattle.run_costs.specs.Standing.{IsSeenAfter};
-ghost use Rattle.fault_runs.specs.Merging.{has_left, IsSettled, IsWhole};
+ghost use Rattle.fault_runs.specs.Merging.{has_just_left, HasSettledAt, IsWholeRun};
 
 use campaign::Cost;
 use run_costs::SeenRun;
@@ -37,18 +37,18 @@ fn everyone(list: &Medl) -> NodeSet
 }
 
 // Whether a node left in the newest slot.
-fn has_left(state: &NodeState) -> bool
-    ensures { result ≡ has_left state.now }
+fn has_just_left(state: &NodeState) -> bool
+    ensures { result ≡ has_just_left state.now }
 {
     matches!(state.entry, Entry::Left { .. })
 }
 
 // Whether some node left in the newest slot.
 fn has_leave(states: &[NodeState]) -> bool
-    ensures { result ≡ list_any has_left states.now }
+    ensures { result ≡ list_any has_just_left states.now }
 {
     for state in states {
-        if has_left(state) {
+        if has_just_left(state) {
             return true;
         }
     }
@@ -60,7 +60,7 @@ fn is_settled(list: &Medl, run: &SeenRun) -> bool
     requires valid { IsValid list.now }
     requires run { (script : Script) × (slot : ℕ) × IsSeenAfter run.now list.now script (slot + 1) }
     ensures { (script : Script) (slot : ℕ) → IsSeenAfter run.now list.now script (slot + 1) → result ≡ true
-        → IsSettled list.now (zeros_world list.now script (slot + 1)) }
+        → HasSettledAt list.now (zeros_world list.now script (slot + 1)) }
 {
     if has_leave(run.states(list)) {
         return false;
@@ -84,7 +84,7 @@ fn settled_after(before: u32, slot: u32, is_settled: bool) -> u32
 pub(crate) fn whole_of(alloc: Global, list: &Medl, script: &Script) -> Result<WholeRun, Memory>
     requires valid { IsValid list.now }
     requires script { IsValidScript list.now script.now }
-    ensures { IfOk result (λ whole. IsWhole list.now script.now whole) }
+    ensures { IfOk result (λ whole. IsWholeRun list.now script.now whole) }
 {
     let mut run = SeenRun::new(alloc, list, script)?;
     let mut settled = 0;

@@ -59,7 +59,7 @@ mod tests {
     #[test]
     fn control_characters_are_numbers(rt: HostRuntime) {
         let text = Shown("a b\n\u{1b}[0m\u{7f}\u{9b}\u{a0}ö~\\");
-        let shown = format!(in rt.alloc(); "{text}").unwrap();
+        let shown = format!(in rt.alloc(); "{text}").expect(&rt, "there is memory");
         let right = "a b\\x0a\\x1b[0m\\x7f\\x9b\u{a0}ö~\\";
         assert_eq!(rt; shown.as_str(), right);
     }

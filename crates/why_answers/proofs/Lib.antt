@@ -1,2 +1,13 @@
+pub mod AboveInRun
+pub mod AloneYes
+pub mod CausesAbove
 pub mod Departed
+pub mod ListedLines
+pub mod PastSpots
+pub mod RunOrder
 pub mod RunSpots
+pub mod RunStory
+pub mod ShownEntries
+pub mod SpotOrder
+pub mod StoryOrder
+pub mod TraceHeads

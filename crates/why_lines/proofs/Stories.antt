@@ -18,11 +18,6 @@ use Rattle.why_story.specs.RunSource.{AreRunSpots, IsRunSpot, RunSource}
 pub turned : {X : Type 0} (x : X) (xs : List X) → reverse (x ∷ xs) ≡ reverse xs ++ x ∷ []
 turned x xs = reverse-append (x ∷ []) xs
 
-pub turned-step : {X Y : Type 0} (f : X → Y) (xs : List X) (i : ℕ) (d : X) → i < length xs
-    → reverse (map f (drop i xs)) ≡ reverse (map f (drop (i + 1) xs)) ++ f (get_or xs i d) ∷ []
-turned-step f xs i d within =
-    ap (λ (ys : List _). reverse (map f ys)) (drop_more xs i d within) ∙ turned (f (get_or xs i d)) (map f (drop (i + 1) xs))
-
 -- an entry that is told is one of the run
 pub told-within : (source : RunSource) (told : List Told) (i : ℕ) (d : Told) → i < length told → d ≡ get_or told i d
     → AreRunSpots source (map (λ t. t.spot) told) → IsRunSpot source d.spot

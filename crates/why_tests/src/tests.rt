@@ -3,15 +3,16 @@
 ghost use Rattle.ttp_world.specs.Medl.{IsValid};
 ghost use Rattle.ttp_world.specs.Script.{IsValidScript};
 
-use causes::{Because, Cause, Spot};
+use causes::{Because, Cause, LineNumbers, ScriptLine, Spot};
 use entry_causes::{cause, root};
 use medl_text::read_medl;
 use run_rows::RunRows;
 use script_text::read_script;
 use std::alloc::Global;
 use std::rt::HostRuntime;
+use ttp_base::List;
 use ttp_world::{Medl, Script};
-use why_answers::why_answer;
+use why_answers::{laws, why_answer};
 
 // Five nodes in one round, of which node 0 alone may start the cluster.
 const LIST: &[u8] =
@@ -93,4 +94,34 @@ fn is_answered(alloc: Global) -> bool {
 #[test]
 fn a_departure_is_told_whole(rt: HostRuntime) {
     assert!(rt; is_answered(rt.alloc()));
+}
+
+// Each law of the text, called once.
+fn call_laws(alloc: Global, list: &Medl, script: &Script)
+    requires { IsValidScript list.now script.now }
+{
+    let numbers = LineNumbers {
+        on: List::new(alloc),
+        drift: List::new(alloc),
+        events: List::new(alloc),
+    };
+    laws::lines_are_listed(list, script, &numbers);
+    laws::stories_hold_together(list, script);
+    laws::causes_stand_above(list, script);
+    laws::lines_begin_as_in_the_trace(list, script, &numbers);
+    laws::all_lines_suffice(list, script, &numbers);
+    laws::entries_alone_are_of_a_trace(list, script, &[ScriptLine::Event(0)]);
+}
+
+#[test]
+fn laws_of_the_text(rt: HostRuntime) {
+    let Ok(list) = read_medl(rt.alloc(), LIST) else {
+        assert!(rt; false);
+        return;
+    };
+    let Ok(script) = read_script(rt.alloc(), &list, SCRIPT) else {
+        assert!(rt; false);
+        return;
+    };
+    call_laws(rt.alloc(), &list, &script);
 }

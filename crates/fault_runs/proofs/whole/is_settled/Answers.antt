@@ -1,7 +1,8 @@
 use Rattle.fault_runs.proofs.Words.{◌+◌, true, ap, sym, ◌∙◌, arith, length}
 use Rattle.ttp_base.proofs.NodeSets.{has_node-sieve}
 use Rattle.ttp_base.specs.NodeSet.{has_node}
-use Rattle.fault_runs.proofs.SameRuns.{not-true, settled-shown}
+use Rattle.std.proofs.lemmas.Bool.{not-true}
+use Rattle.fault_runs.proofs.SameRuns.{settled-shown}
 use Rattle.fault_runs.proofs.whole.is_settled.Goals as goal
 
 pub returns : goal.returns
