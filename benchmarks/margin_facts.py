@@ -235,7 +235,7 @@ def m10(lab):
     for kind in "NX":
         lab.look("m10", f"whether frames {kind} give the text of ten", margins(lab, f"ten_{kind}").text == ten.text, True)
     found = {margins(lab, f"ten_errors{turn}").free.split(" ")[1] for turn in (1, 2)}
-    lab.look("m10", "the margins of ten with reading errors at their limits, by turns of one and of two", found, {"71", "75"})
+    lab.look("m10", "the margins of ten with reading errors at their limits, by turns of one and of two", found, {"75"})
     lab.look("m10", "the least of ten where node 9 is lost in slot 39", margins(lab, "ten_lost").least, "80")
     for name in ("eight", "five_1"):
         window = CLUSTERS[name].window
