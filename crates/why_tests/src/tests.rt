@@ -113,15 +113,18 @@ fn call_laws(alloc: Global, list: &Medl, script: &Script)
     laws::entries_alone_are_of_a_trace(list, script, &[ScriptLine::Event(0)]);
 }
 
+fn are_called(alloc: Global) -> bool {
+    let Ok(list) = read_medl(alloc, LIST) else {
+        return false;
+    };
+    let Ok(script) = read_script(alloc, &list, SCRIPT) else {
+        return false;
+    };
+    call_laws(alloc, &list, &script);
+    true
+}
+
 #[test]
 fn laws_of_the_text(rt: HostRuntime) {
-    let Ok(list) = read_medl(rt.alloc(), LIST) else {
-        assert!(rt; false);
-        return;
-    };
-    let Ok(script) = read_script(rt.alloc(), &list, SCRIPT) else {
-        assert!(rt; false);
-        return;
-    };
-    call_laws(rt.alloc(), &list, &script);
+    assert!(rt; are_called(rt.alloc()));
 }
