@@ -5,7 +5,7 @@ use Rattle.std.specs.Prelude.{filter, flat_map, if◌then◌else◌, nat_lt, opt
 use Rattle.std.specs.Fmt.{signed_decimal}
 use Rattle.std.specs.Str.{bytes_eq}
 use Rattle.std.proofs.lemmas.List.{reverse-append}
-use Rattle.ttp_base.specs.Text.{newline, is_line}
+use Rattle.ttp_base.specs.Text.{is_line}
 use Rattle.ttp_base.proofs.Lines.{is_line-append}
 use Rattle.ttp_base.proofs.Numerals.{has-signed}
 use Rattle.ttp_world.specs.declared.medl.Medl.{Medl}
@@ -17,15 +17,15 @@ use Rattle.ttp_world.specs.Script.{drift_of, on_slot}
 use Rattle.ttp_world.specs.Trace.{entry_word, number_or_dash, peer_of}
 use Rattle.ttp_world.proofs.LineLists.{each-append}
 use Rattle.ttp_world.proofs.TraceWords.{has-entry_word}
-use Rattle.campaign.specs.CostText.{channels_word, fault_words, listed}
+use Rattle.campaign.specs.CostText.{channels_word, listed}
 use Rattle.campaign.specs.ZerosWorld.{zeros_world}
 use Rattle.causes.specs.Members.{entry_at_spot, newest_entry_of}
 use Rattle.causes.specs.Reduced.{entry_alone, is_needed, is_same_word}
 use Rattle.causes.specs.RunSlots.{RunSlots, slots_of_run}
 use Rattle.causes.specs.Story.{has_spot, lines_told, states_fault, story}
-use Rattle.causes.specs.WhyText.{alone_line, because_words, each_words, entry_head, in_file_order, joined_words, lacked_words}
+use Rattle.causes.specs.WhyText.{alone_line, because_words, entry_head, in_file_order, joined_words, lacked_words}
 use Rattle.causes.specs.WhyText.{line_number_words, line_words, miss_words, named_event_words, named_line, needed_if, needed_word}
-use Rattle.causes.specs.WhyText.{node_word, note_words, number_of_line, number_word, number_words, root_part, root_words}
+use Rattle.causes.specs.WhyText.{node_word, note_words, number_of_line, number_word, number_words, root_words}
 use Rattle.causes.specs.WhyText.{script_line_line, spot_word, story_lines, told_line, told_lines, uncorrected_words, why_head}
 use Rattle.causes.specs.WhyText.{why_lines_of, why_text}
 use Rattle.causes.specs.declared.cause.Because.{Because}

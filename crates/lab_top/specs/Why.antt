@@ -1,5 +1,5 @@
 -- What `why LIST SCRIPT NODE [SLOT]` asks for, and how it ends.
-use Rattle.std.specs.Prelude.{Err, List, Ok, Option, Result, ℕ, ◌≡◌}
+use Rattle.std.specs.Prelude.{Err, List, Option, Result, ℕ, ◌≡◌}
 use Rattle.commands.specs.Files.{list_plan, refused_script, script_file}
 use Rattle.commands.specs.Plan.{after, asks, ends, whole_ending}
 use Rattle.commands.specs.Read.{script_from}
