@@ -11,6 +11,7 @@ use Rattle.ttp_world.specs.declared.medl.Medl.{Medl}
 use Rattle.ttp_world.specs.declared.script.Script.{Script}
 use Rattle.why_answers.specs.declared.answer.WhyAnswer.{WhyAnswer}
 
+-- an answer of this status and these lines
 abbrev pub why_answered : ℕ → Lines → WhyAnswer
 why_answered status lines = record { status = status; lines = lines }
 

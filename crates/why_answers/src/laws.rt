@@ -1,4 +1,4 @@
-//! What is owed of the text of `why`. The functions do nothing; their contracts are the laws.
+//! What holds of the text of `why`. The functions do nothing; their contracts are the laws.
 ghost use Rattle.std.specs.Prelude.{◌≡◌, ℕ, ◌<◌, ◌++◌, true, codes, length, map, suc, reverse, List as Items};
 ghost use Rattle.std.specs.List.{AllByRecursion, AllZip, list_any};
 ghost use Rattle.ttp_base.specs.Text.{newline};
