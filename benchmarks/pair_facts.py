@@ -147,8 +147,8 @@ def p4(lab):
         none = [pair for pair in later if not {abs(size) for size in pair.jumps()} & {window}]
         lab.look("p4", f"a round of {name}: pairs in different slots that cost a third node, with no jump by W", len(none), 0)
     lab.look("p4", "pairs of 6, 7 and 8 drifting nodes in different slots that cost a third node, and that end the cluster", (third, dead), (12_639, 514))
-    dead = [pair for pair in round_of(lab, "r8").later() if pair.kind == "dead"]
-    lab.look("p4", "those of eight that end the cluster, and how far apart", (len(dead), max(pair.apart for pair in dead)), (114, 10))
+    dead = [pair for pair in round_of(lab, "r8").pairs if pair.kind == "dead"]
+    lab.look("p4", "those of eight that end the cluster, in one slot or two, and how far apart", (len(dead), max(pair.apart for pair in dead)), (114, 10))
     alone = {max(pair.alone) for pair in dead}
     lab.look("p4", "what the worse fault of these costs alone", (min(alone), max(alone)), (3, 5))
     right = "fault jump 6 36 38 and send 0 AB noise 48 48"
