@@ -14,7 +14,7 @@ use Rattle.campaign.specs.declared.cost.Counts.{Counts}
 use Rattle.campaign.specs.Cost.{says_yes, has_two, cost_of}
 use Rattle.campaign.specs.CostText.{test_words, cost_words, fault_words}
 use Rattle.campaign.specs.Tried.{with_fault, faults_from}
-use Rattle.campaign.specs.ZerosWorld.{zeros_world}
+use Rattle.ttp_world.specs.ZerosWorld.{zeros_world}
 
 -- What a line tells of a run.
 

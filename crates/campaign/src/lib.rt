@@ -5,7 +5,7 @@
 //! of nodes that are not faulty were split, and what is left at the end. This crate says what is tried
 //! (`specs/Tried.antt`), what is read of a run (`specs/Cost.antt`), and how it is written
 //! (`specs/CostText.antt`, `specs/Lines.antt`), over the world and the tests of scripts that ttp_world
-//! defines. A run is that of `specs/ZerosWorld.antt`, one for all legal message numbers.
+//! defines. A run is that of `specs/ZerosWorld.antt` of ttp_world, one for all legal message numbers.
 //!
 //! A fault is an event as any other: the run with it is that of the script with this event behind the
 //! others (`with_fault`), and which are tried in a slot follows from the row of that slot in the script's

@@ -2,7 +2,7 @@
 use Rattle.std.specs.List.{range_with_len}
 use Rattle.std.specs.Prelude.{Bool, List, None, Some, [], false, neg_ℤ, pos, replicate, reverse, suc, true, ℕ, ℤ, ◌∷◌}
 use Rattle.campaign.specs.Tried.{both_channels, only_a, only_b}
-use Rattle.campaign.specs.ZerosWorld.{zeros_world}
+use Rattle.ttp_world.specs.ZerosWorld.{zeros_world}
 use Rattle.causes.specs.RunSlots.{RunSlots, newest_spot, slots_of_run}
 use Rattle.causes.specs.Story.{spots_back, told_spot}
 use Rattle.causes.specs.WhyText.{told_line}

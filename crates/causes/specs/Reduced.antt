@@ -3,7 +3,7 @@ use Rattle.std.specs.List.{filter_map, list_any}
 use Rattle.std.specs.Prelude.{Bool, List, None, Option, Some, [], false, filter, not, suc, true, ℕ, ◌&&◌, ◌==◌, ◌||◌}
 use Rattle.std.specs.Prelude.{◌∷◌}
 use Rattle.std.specs.Str.{bytes_eq}
-use Rattle.campaign.specs.ZerosWorld.{zeros_world}
+use Rattle.ttp_world.specs.ZerosWorld.{zeros_world}
 use Rattle.causes.specs.Story.{is_fault_event}
 use Rattle.causes.specs.declared.cause.ScriptLine.{ScriptLine}
 use Rattle.ttp_world.specs.Diary.{diary_of, newest_entry}

@@ -4,7 +4,7 @@
 -- back to slot 0, so that its length tells the number of its newest.
 use Rattle.std.specs.Prelude.{Bool, List, None, Option, Some, [], drop, false, filter, length, map, suc, true, ℕ, ◌-◌}
 use Rattle.std.specs.Prelude.{◌∷◌}
-use Rattle.campaign.specs.ZerosWorld.{all_zeros}
+use Rattle.ttp_world.specs.ZerosWorld.{all_zeros}
 use Rattle.causes.specs.declared.cause.Spot.{Spot}
 use Rattle.ttp_world.specs.Acknowledgement.{is_sent_or_joined}
 use Rattle.ttp_world.specs.Act.{coming_place}

@@ -5,7 +5,7 @@ use Rattle.std.specs.Prelude.{if◌then◌else◌, length, map, nat_lt, option_m
 use Rattle.std.specs.Prelude.{unwrap_or, ℕ, ◌&&◌, ◌++◌, ◌==◌, ◌∷◌}
 use Rattle.std.specs.Str.{bytes_eq}
 use Rattle.campaign.specs.CostText.{channels_word, fault_words, listed}
-use Rattle.campaign.specs.ZerosWorld.{zeros_world}
+use Rattle.ttp_world.specs.ZerosWorld.{zeros_world}
 use Rattle.causes.specs.Members.{entry_at_spot, newest_entry_of}
 use Rattle.causes.specs.Reduced.{entry_alone, is_needed, is_same_word}
 use Rattle.causes.specs.RunSlots.{RunSlots, slots_of_run}

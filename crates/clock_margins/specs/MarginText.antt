@@ -6,7 +6,7 @@ use Rattle.ttp_world.specs.declared.medl.Medl.{Medl}
 use Rattle.ttp_world.specs.declared.script.Script.{Script}
 use Rattle.campaign.specs.declared.cost.Span.{Span}
 use Rattle.campaign.specs.Lines.{own_line, summary}
-use Rattle.campaign.specs.ZerosWorld.{zeros_world}
+use Rattle.ttp_world.specs.ZerosWorld.{zeros_world}
 use Rattle.clock_margins.specs.declared.margin.Margin.{Margin}
 use Rattle.clock_margins.specs.declared.margin.Sweep.{Sweep}
 use Rattle.clock_margins.specs.Forms.{margins_head_form, margins_head_values, range_form, range_values, outcome_form, outcome_values}

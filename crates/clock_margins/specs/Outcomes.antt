@@ -9,7 +9,7 @@ use Rattle.ttp_world.specs.Returning.{is_sound}
 use Rattle.ttp_world.specs.Safety.{newest_slot}
 use Rattle.campaign.specs.Cost.{faulty_by_test, leaves, hurt_nodes, memberships, has_two}
 use Rattle.campaign.specs.CostText.{test_words}
-use Rattle.campaign.specs.ZerosWorld.{zeros_world}
+use Rattle.ttp_world.specs.ZerosWorld.{zeros_world}
 use Rattle.clock_margins.specs.declared.margin.Costs.{Costs}
 use Rattle.clock_margins.specs.declared.margin.Costs.TheVariants as costs
 use Rattle.clock_margins.specs.declared.margin.Outcome.{Outcome}

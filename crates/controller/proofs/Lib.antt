@@ -14,3 +14,4 @@ pub mod Sets
 pub mod Standing
 pub mod Stints
 pub mod Words
+pub mod ZerosRuns

@@ -16,3 +16,4 @@ pub mod Sending
 pub mod StandsFor
 pub mod Stint
 pub mod Within
+pub mod ZerosRun

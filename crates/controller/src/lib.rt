@@ -21,7 +21,7 @@
 //! take_all(seats, medium, list, script, 0);
 //! ```
 //!
-//! These lines are `step` of `src/plant.rt`, and `Run::step` of two_faced calls [`Plant::slot`] with
+//! These lines are `step` of `src/plant.rt`, and [`ZerosRun::step`] calls [`Plant::slot`] with
 //! zeros for each payload. By [`laws::plants_of_scripts_that_agree`] and [`Plant::copy_from`] a run
 //! may be taken to a slot once, and from there on by many scripts. `specs/Passes.antt` says each pass
 //! in the words of the slot that has begun; `proofs/InSlot.antt` shows it of one controller.
@@ -47,9 +47,11 @@ mod seat;
 mod sending;
 mod status;
 mod turn;
+mod zeros_run;
 
 pub use controller::{Controller, Intent, Outcome};
 pub use passes::{begin_all, is_loaded, plan_all, take_all};
 pub use plant::Plant;
 pub use seat::{Seat, seats_of};
 pub use status::StatusFlags;
+pub use zeros_run::ZerosRun;

@@ -5,7 +5,7 @@ use Rattle.ttp_world.proofs.Words.{SentFrame, NodePast, Hearing, BegunSlot, node
 use Rattle.ttp_world.proofs.Words.{hearing_in, cases_eq, eq-eqb, ne_eqb, false≢true}
 use Rattle.std.proofs.Common.{zero, suc, ◌+◌, ◌<◌, ◌≤◌, inl, inr, arith}
 use Rattle.std.specs.List.{flat_map, range_with_len}
-use Rattle.campaign.specs.ZerosWorld.{all_zeros, zeros_world}
+use Rattle.ttp_world.specs.ZerosWorld.{all_zeros, zeros_world}
 use Rattle.causes.specs.LinesOf.{bytes_sent}
 use Rattle.causes.specs.RunSlots.{entry_in_slot, is_sent, is_started, past_in}
 use Rattle.run_rows.specs.Rows.{slot_in}

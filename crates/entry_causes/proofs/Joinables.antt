@@ -5,7 +5,7 @@ use Rattle.ttp_world.proofs.Words.{SentFrame, NodePast, Hearing, node_of, chosen
 use Rattle.ttp_world.proofs.Words.{list_any, list_any-append, AllByRecursion}
 use Rattle.std.proofs.Common.{◌+◌, ◌<◌, ◌||◌, arith, is_some}
 use Rattle.std.specs.List.{flat_map}
-use Rattle.campaign.specs.ZerosWorld.{all_zeros, zeros_world}
+use Rattle.ttp_world.specs.ZerosWorld.{all_zeros, zeros_world}
 use Rattle.causes.specs.LinesOf.{bytes_sent}
 use Rattle.causes.specs.Listening.{has_joinable}
 use Rattle.causes.specs.RunSlots.{is_sent, is_started}

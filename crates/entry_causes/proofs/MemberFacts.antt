@@ -1,7 +1,7 @@
 -- The members of a node as a slot begins are nodes of the list, and so is the one that it doubts.
 use Rattle.std.proofs.Common.{◌≡◌, ℕ, zero, suc, ◌<◌, Bool, true, false, cond, [], length, subst, sym, ap, ◌∙◌}
 use Rattle.std.specs.Prelude.{filter}
-use Rattle.campaign.specs.ZerosWorld.{all_zeros, zeros_world}
+use Rattle.ttp_world.specs.ZerosWorld.{all_zeros, zeros_world}
 use Rattle.causes.specs.RunSlots.{entry_in_slot, past_in}
 use Rattle.entry_causes.specs.Differences.{IfDoubted}
 use Rattle.run_costs.proofs.Rows.{next_row}

@@ -1,6 +1,6 @@
 -- Where nodes stand is a place of the list's cycle.
 use Rattle.std.proofs.Common.{ℕ, ◌<◌, length, subst, sym}
-use Rattle.campaign.specs.ZerosWorld.{zeros_world}
+use Rattle.ttp_world.specs.ZerosWorld.{zeros_world}
 use Rattle.causes.specs.RunSlots.{past_in}
 use Rattle.run_rows.proofs.OneMore.{place-of_list}
 use Rattle.run_rows.specs.Rows.{slot_in}

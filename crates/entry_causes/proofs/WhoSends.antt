@@ -6,7 +6,7 @@ use Rattle.ttp_world.proofs.Words.{SentFrame, remaining_frames, NodePast, Hearin
 use Rattle.ttp_world.proofs.Words.{node_of, chosen_of, frames_of, frames_in, hearing_in, row_in}
 use Rattle.std.specs.List.{flat_map}
 use Rattle.std.specs.Prelude.{not}
-use Rattle.campaign.specs.ZerosWorld.{all_zeros, zeros_world}
+use Rattle.ttp_world.specs.ZerosWorld.{all_zeros, zeros_world}
 use Rattle.causes.specs.LinesOf.{remaining_in, senders_of, strikes}
 use Rattle.entry_causes.specs.Senders.{is_left_on, sends_in, the_one}
 use Rattle.run_looks.specs.Questions.{senders_by}

@@ -1,5 +1,5 @@
 //! The frames of a slot once more, as they are sent.
-ghost use Rattle.campaign.specs.ZerosWorld.{all_zeros};
+ghost use Rattle.ttp_world.specs.ZerosWorld.{all_zeros};
 ghost use Rattle.causes.specs.LinesOf.{bytes_sent};
 ghost use Rattle.causes.specs.RunSlots.{is_sent};
 ghost use Rattle.entry_causes.specs.Senders.{sends_in};

@@ -9,7 +9,7 @@ use Rattle.ttp_world.specs.declared.script.Script.{Script}
 use Rattle.campaign.specs.CostText.{listed, cost_words, fault_words}
 use Rattle.campaign.specs.Lines.{Summary, summary, summary_with, own_line, fault_node, place_words}
 use Rattle.campaign.specs.Tried.{with_fault}
-use Rattle.campaign.specs.ZerosWorld.{zeros_world}
+use Rattle.ttp_world.specs.ZerosWorld.{zeros_world}
 use Rattle.fault_pairs.specs.declared.pair.Harm.{Harm}
 use Rattle.fault_pairs.specs.declared.pair.PairClass.{PairClass}
 use Rattle.fault_pairs.specs.declared.pair.PairClass.TheVariants as class

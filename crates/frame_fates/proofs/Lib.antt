@@ -5,3 +5,4 @@ pub mod SlotsAlike
 pub mod Unnumbered
 pub mod RunsAlike
 pub mod NamedRuns
+pub mod ZerosRuns

@@ -23,13 +23,11 @@ use Rattle.frame_fates.specs.Runs.{AreRuns, IsRun}
 use Rattle.frame_fates.proofs.NamedRuns.{named-run, legal-names}
 use Rattle.frame_fates.proofs.RunsAlike.{older, runs-pasts, runs-entries}
 use Rattle.frame_fates.proofs.Unnumbered.{entry_of-unnumbered}
-use Rattle.two_faced.specs.ZerosRun as zeros_run
-use Rattle.two_faced.proofs.ZerosRun as zeros_law
 use Rattle.campaign.specs.Cost.{leave_after, newest_leave, leaves, is_hurt_in, is_hurt, hurt_nodes}
 use Rattle.campaign.specs.Cost.{faulty_by_test, firm_members, each_once, memberships, has_two, is_split, span_after}
 use Rattle.campaign.specs.Cost.{split_span, cost_of}
 use Rattle.campaign.specs.declared.cost.Leave.{Leave}
-use Rattle.campaign.specs.ZerosWorld.{all_zeros, zeros_world}
+use Rattle.ttp_world.specs.ZerosWorld.{all_zeros, zeros_world}
 
 -- Who left, and who was hurt: by entries, whatever number a frame's message has.
 
@@ -119,22 +117,4 @@ cost-alike list script one other runs = λ i. record {
   hurt = hurt_nodes-alike list script one other runs i;
   split = split_span-alike list script one other runs i;
   end = memberships-alike list script one other (λ k. true) runs i;
-}
-
--- The run in which frames carry zeros.
-
-zeros-same : (list : Medl) (script : Script) (slots : ℕ)
-    → zeros_run.zeros_world list script slots ≡ zeros_world list script slots
-zeros-same list script zero = refl
-zeros-same list script (suc slots) = ap (λ history. step list script history (all_zeros list)) (zeros-same list script slots)
-
-pub zeros-legal : (list : Medl) (script : Script) (numbers : Numbers) (slots : ℕ) → IsValidScript list script
-    → IsLegal list script numbers → length numbers ≡ slots
-    → AreRuns list script (world list script numbers) (zeros_world list script slots)
-zeros-legal list script numbers slots valid legal count = record {
-  valid = valid;
-  first = named-run list script numbers valid (legal-names list script numbers legal);
-  second = subst (IsRun list script) (zeros-same list script slots) (zeros_law.zeros-run list script slots);
-  slots = length-world list script numbers ∙ count
-      ∙ sym (ap length (sym (zeros-same list script slots)) ∙ zeros_law.length-zeros_world list script slots);
 }

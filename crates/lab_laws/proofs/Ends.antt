@@ -42,7 +42,7 @@ use Rattle.campaign.specs.Cost.{is_kept, is_owed, says_yes, says_yes_if, faulty_
 use Rattle.campaign.specs.Cost.{each_once, memberships, has_two, is_split, split_span, span_after, span_with, cost_of}
 use Rattle.campaign.specs.declared.cost.Cost.{Cost}
 use Rattle.campaign.specs.Lines.{summary}
-use Rattle.campaign.specs.ZerosWorld.{zeros_world}
+use Rattle.ttp_world.specs.ZerosWorld.{zeros_world}
 use Rattle.lab_laws.specs.Ends.{faulty_nodes_if, IsOver, AreOver}
 use Rattle.lab_laws.proofs.Alike.{cost-alike, zeros-legal}
 use Rattle.lab_laws.proofs.Yes.{IsUnharmed, all-inactive, waiting, yes-unharmed}

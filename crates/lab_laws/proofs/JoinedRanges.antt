@@ -23,7 +23,7 @@ use Rattle.campaign.specs.declared.cost.Span.{Span}
 use Rattle.campaign.specs.Lines.{Summary, summary, is_same_cost, has_hurt, is_torn, is_dead, counts_of, costs_of, summary_with}
 use Rattle.campaign.specs.Lines.{kept_counts, broken_counts, campaign_lines}
 use Rattle.campaign.specs.Tried.{faults_in, row_of, slots_between, faults_from}
-use Rattle.campaign.specs.ZerosWorld.{zeros_world}
+use Rattle.ttp_world.specs.ZerosWorld.{zeros_world}
 use Rattle.whole_campaign.specs.declared.shown.Piece.{Piece}
 use Rattle.whole_campaign.specs.Due.{no_runs}
 use Rattle.whole_campaign.specs.Whole.{FaultTold, WholeCampaign, campaign_in}

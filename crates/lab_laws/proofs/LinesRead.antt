@@ -25,7 +25,7 @@ use Rattle.whole_trace.specs.Due.{is_keep, is_back}
 use Rattle.campaign.specs.Cost.{says_yes_if}
 use Rattle.campaign.specs.CostText.{test_words_if}
 use Rattle.campaign.specs.Lines.{fault_line}
-use Rattle.run_costs.proofs.Rows.{length-zeros}
+use Rattle.ttp_world.proofs.ZerosWorlds.{length-zeros_world}
 use Rattle.whole_campaign.specs.declared.cost.CostShown.{CostShown}
 use Rattle.whole_campaign.specs.declared.shown.Test.{Test}
 use Rattle.whole_campaign.specs.declared.shown.Test.TheVariants as test
@@ -211,7 +211,7 @@ run-read list script valid slots =
       test_words = told.words;
       test_feed = told.feed;
       yes = test-yes list script (has_arm script);
-      cost = cost-in list script history script.slots valid slots.slots.1 (length-zeros list script script.slots);
+      cost = cost-in list script history script.slots valid slots.slots.1 (length-zeros_world list script script.slots);
     }
 
 -- The script's own line.

@@ -24,7 +24,7 @@ use Rattle.campaign.specs.CostText.{test_words, listed, leave_word, span_words, 
 use Rattle.campaign.specs.Lines.{summary, summary_with, has_hurt, head_line, own_line, fault_line, run_line, counts_line}
 use Rattle.campaign.specs.Lines.{place_words, kept_counts, broken_counts, lines_with, campaign_lines}
 use Rattle.campaign.specs.Tried.{with_fault, faults_from}
-use Rattle.campaign.specs.ZerosWorld.{zeros_world}
+use Rattle.ttp_world.specs.ZerosWorld.{zeros_world}
 use Rattle.lab_laws.specs.SafeLines.{StandIn, IsSafeLine}
 use Rattle.lab_laws.proofs.Kept.{unharmed-unhurt, unharmed-unsplit, none-counted}
 use Rattle.lab_laws.proofs.NoYes.{Yless, test-yless, cost-yless, fault-yless, place-yless, head-yless, counts-yless}

@@ -3,7 +3,7 @@ pub use Rattle.campaign.specs.CostText.{cost_words, fault_words, leave_word, lis
 pub use Rattle.campaign.specs.Lines.{Summary, counts_line, fault_node, fault_slot, head_line, own_line, run_line}
 pub use Rattle.campaign.specs.Lines.{summary, summary_with}
 pub use Rattle.campaign.specs.Tried.{jump_sizes, losses_from}
-pub use Rattle.campaign.specs.ZerosWorld.{zeros_world}
+pub use Rattle.ttp_world.specs.ZerosWorld.{zeros_world}
 pub use Rattle.campaign.specs.declared.cost.Cost.{Cost}
 pub use Rattle.campaign.specs.declared.cost.Counts.{Counts}
 pub use Rattle.campaign.specs.declared.cost.Leave.{Leave}

@@ -37,7 +37,7 @@ use Rattle.campaign.specs.Cost.{is_kept, is_owed, says_yes, says_yes_if, faulty_
 use Rattle.campaign.specs.Cost.{is_firm, firm_members, each_once, memberships, has_two, is_split, split_span}
 use Rattle.campaign.specs.Cost.{span_after, cost_of}
 use Rattle.campaign.specs.declared.cost.Cost.{Cost}
-use Rattle.campaign.specs.ZerosWorld.{zeros_world}
+use Rattle.ttp_world.specs.ZerosWorld.{zeros_world}
 use Rattle.lab_laws.proofs.Alike.{cost-alike, zeros-legal}
 use Rattle.lab_laws.proofs.Calm.{IsCalm, safe-calm, back-calm}
 use Rattle.safety_laws.proofs.Begins.{waiting-unleft as waiting-stays}

@@ -14,7 +14,7 @@ use Rattle.campaign.specs.CostText.{unended, cost_words}
 use Rattle.campaign.specs.Lines.{Summary, summary, own_line, fault_slot, fault_node, is_same_cost, kept_counts}
 use Rattle.campaign.specs.Lines.{broken_counts, summary_with, run_line}
 use Rattle.campaign.specs.Tried.{losses_of, jumps_of, row_of, slots_between, faults_from}
-use Rattle.campaign.specs.ZerosWorld.{zeros_world}
+use Rattle.ttp_world.specs.ZerosWorld.{zeros_world}
 use Rattle.whole_campaign.specs.declared.shown.Doing.{Doing}
 use Rattle.whole_campaign.specs.declared.shown.Doing.TheVariants as doing
 use Rattle.whole_campaign.specs.declared.shown.FaultShown.{FaultShown}

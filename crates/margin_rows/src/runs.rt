@@ -4,7 +4,7 @@ ghost use Rattle.std.specs.Prelude.{◌≡◌, [], ◌∷◌, map, pos, negsuc, 
 ghost use Rattle.clock_margins.specs.MarginText.{sweep_lines, margin_lines, lines_of_values};
 ghost use Rattle.clock_margins.specs.Outcomes.{told_of_value};
 ghost use Rattle.clock_margins.specs.Sweeps.{drift_sweep, jump_sweep, reach, sweeps, values_from};
-ghost use Rattle.campaign.specs.ZerosWorld.{zeros_world};
+ghost use Rattle.ttp_world.specs.ZerosWorld.{zeros_world};
 ghost use Rattle.margin_rows.specs.Clusters.{bus_within, quiet_run, drifting_bus, in_turns, armed_in_34, few};
 ghost use Rattle.margin_rows.specs.Texts.{behind_start, with_a_late_node, at_the_edge, far_jumps, jumps_where_armed, four_text, no_text};
 

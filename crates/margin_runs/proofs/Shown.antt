@@ -11,7 +11,7 @@ use Rattle.ttp_world.specs.declared.script.Script.{Script}
 use Rattle.ttp_world.specs.Diary.{entry_of}
 use Rattle.campaign.specs.declared.cost.Span.{Span}
 use Rattle.campaign.specs.Tried.{is_timed, row_of}
-use Rattle.campaign.specs.ZerosWorld.{zeros_world}
+use Rattle.ttp_world.specs.ZerosWorld.{zeros_world}
 use Rattle.clock_margins.specs.declared.margin.Sweep.{Sweep}
 use Rattle.clock_margins.specs.Sweeps.{jump_sweep}
 use Rattle.run_costs.specs.States.{AreShown, state_at, off_state}

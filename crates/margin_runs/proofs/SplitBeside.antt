@@ -12,12 +12,13 @@ use Rattle.ttp_world.specs.Safety.{newest_slot}
 use Rattle.controller.specs.Agreement.{begins_at}
 use Rattle.campaign.specs.Cost.{has_two, memberships}
 use Rattle.campaign.specs.Tried.{with_fault}
-use Rattle.campaign.specs.ZerosWorld.{zeros_world}
+use Rattle.ttp_world.specs.ZerosWorld.{zeros_world}
 use Rattle.clock_margins.specs.Outcomes.{is_sound_beside, is_split_beside, was_split_beside}
 use Rattle.run_costs.specs.Told.{AreSound}
 use Rattle.run_costs.proofs.Later.{zeros-longer}
 use Rattle.run_costs.proofs.LaterFaults.{faulty_by_test-longer}
-use Rattle.run_costs.proofs.Rows.{length-zeros, next_row, zeros-next}
+use Rattle.ttp_world.proofs.ZerosWorlds.{length-zeros_world}
+use Rattle.run_costs.proofs.Rows.{next_row, zeros-next}
 
 -- the correct nodes but one are those that count
 pub sound-beside : (list : Medl) (script : Script) (slot node : ℕ) (correct : List ℕ) → AreSound list script slot correct
@@ -34,7 +35,7 @@ pub split-more : (list : Medl) (script : Script) (slot node : ℕ) (now before :
 split-more list script slot node now before is was =
     let row = next_row list script slot in
     let history = zeros_world list script slot in
-    let newest : slot ≡ length (row ∷ history) - 1 = omega (arith, length-zeros list script slot) in
+    let newest : slot ≡ length (row ∷ history) - 1 = omega (arith, length-zeros_world list script slot) in
     let split : now ≡ is_split_beside list script node (row ∷ history) =
     is ∙ ap (λ (h : History). has_two (memberships list h (is_sound_beside list script node slot))) (zeros-next list script slot)
     ∙ ap (λ (n : ℕ). has_two (memberships list (row ∷ history) (is_sound_beside list script node n))) newest in
@@ -66,5 +67,5 @@ module _ (list : Medl) (script : Script) (more : Event) (plain : is_arm more ≡
       → was_split_beside list script node (zeros_world list script slots)
       ≡ was_split_beside list longer node (zeros_world list longer slots)
   split-longer slots few =
-      split-over (zeros_world list script slots) (omega (arith, few, length-zeros list script slots))
+      split-over (zeros_world list script slots) (omega (arith, few, length-zeros_world list script slots))
       ∙ ap (was_split_beside list longer node) (zeros-longer list script more slots few)

@@ -13,7 +13,7 @@ use Rattle.ttp_world.specs.Hypothesis.{nodes_of}
 use Rattle.ttp_world.specs.Medl.{IsValid}
 use Rattle.ttp_world.proofs.Lists.{nodes-most}
 use Rattle.campaign.specs.Cost.{newest_leave, is_hurt, firm_members, each_once}
-use Rattle.campaign.specs.ZerosWorld.{zeros_world}
+use Rattle.ttp_world.specs.ZerosWorld.{zeros_world}
 use Rattle.clock_margins.specs.declared.margin.Sweep.{Sweep}
 use Rattle.clock_margins.specs.Outcomes.{ValueTold, outcome_beside, told_of_value}
 use Rattle.clock_margins.specs.Ranges.{Range, is_told_as, range_alone, range_before, ranges_of}

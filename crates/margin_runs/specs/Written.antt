@@ -13,7 +13,7 @@ use Rattle.ttp_world.specs.Script.{IsValidScript, is_ever_on}
 use Rattle.campaign.specs.declared.cost.Span.{Span}
 use Rattle.campaign.specs.Lines.{own_line, summary}
 use Rattle.campaign.specs.Tried.{is_timed}
-use Rattle.campaign.specs.ZerosWorld.{zeros_world}
+use Rattle.ttp_world.specs.ZerosWorld.{zeros_world}
 use Rattle.clock_margins.specs.declared.margin.Sweep.{Sweep}
 use Rattle.clock_margins.specs.declared.margin.Total.{Total}
 use Rattle.clock_margins.specs.MarginText.{margins_head, sweep_lines, sweep_margin}

@@ -8,7 +8,7 @@ ghost use Rattle.ttp_world.specs.Hypothesis.{four_windows};
 ghost use Rattle.ttp_world.specs.Medl.{IsValid};
 ghost use Rattle.ttp_world.specs.Script.{IsValidScript, is_ever_on};
 ghost use Rattle.campaign.specs.Tried.{is_denied, is_timed};
-ghost use Rattle.campaign.specs.ZerosWorld.{zeros_world};
+ghost use Rattle.ttp_world.specs.ZerosWorld.{zeros_world};
 ghost use Rattle.clock_margins.specs.declared.margin.Sweep.{Sweep};
 ghost use Rattle.clock_margins.specs.MarginText.{tolds_of, sweep_lines, sweep_margin, margin_lines};
 ghost use Rattle.clock_margins.specs.Outcomes.{ValueTold};

@@ -13,7 +13,7 @@ use Rattle.ttp_world.specs.declared.script.Event.{Event}
 use Rattle.ttp_world.specs.declared.script.Script.{Script}
 use Rattle.ttp_world.specs.Diary.{History}
 use Rattle.campaign.specs.Tried.{with_fault, faults_in, row_of, slots_between}
-use Rattle.campaign.specs.ZerosWorld.{zeros_world}
+use Rattle.ttp_world.specs.ZerosWorld.{zeros_world}
 use Rattle.fault_pairs.specs.Pairs.{FirstFault, SecondFault, firsts_among, firsts_in}
 use Rattle.fault_pairs.specs.Pairs.{second_apart, seconds_beside, seconds_in, seconds_behind, seconds_of}
 use Rattle.fault_pairs.specs.Sums.{PairTold}

@@ -15,7 +15,7 @@ use Rattle.ttp_world.specs.Script.{IsValidScript}
 use Rattle.campaign.specs.declared.cost.Span.{Span}
 use Rattle.campaign.specs.Lines.{summary_with, fault_node}
 use Rattle.campaign.specs.Tried.{with_fault, faults_in, row_of, slots_between}
-use Rattle.campaign.specs.ZerosWorld.{zeros_world}
+use Rattle.ttp_world.specs.ZerosWorld.{zeros_world}
 use Rattle.single_faults.specs.Tried.{MayStand}
 use Rattle.single_faults.proofs.Stand.{faults_in-stand}
 use Rattle.single_faults.proofs.Valid.{with_fault-valid}

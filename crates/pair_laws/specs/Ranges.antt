@@ -4,7 +4,7 @@ use Rattle.ttp_base.specs.Text.{Lines}
 use Rattle.ttp_world.specs.declared.medl.Medl.{Medl}
 use Rattle.ttp_world.specs.declared.script.Script.{Script}
 use Rattle.campaign.specs.Lines.{summary}
-use Rattle.campaign.specs.ZerosWorld.{zeros_world}
+use Rattle.ttp_world.specs.ZerosWorld.{zeros_world}
 use Rattle.fault_pairs.specs.declared.pair.Harm.{Harm}
 use Rattle.fault_pairs.specs.declared.pair.PairCounts.{PairCounts}
 use Rattle.fault_pairs.specs.Classes.{harm_of}

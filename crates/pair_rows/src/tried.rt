@@ -5,7 +5,7 @@ ghost use Rattle.ttp_world.specs.declared.script.Event.TheVariants as event;
 ghost use Rattle.ttp_world.specs.declared.script.Fault.TheVariants as fault;
 ghost use Rattle.ttp_base.specs.NodeSet.{below};
 ghost use Rattle.campaign.specs.Tried.{both_channels};
-ghost use Rattle.campaign.specs.ZerosWorld.{zeros_world};
+ghost use Rattle.ttp_world.specs.ZerosWorld.{zeros_world};
 ghost use Rattle.fault_pairs.specs.Pairs.{firsts_from, seconds_of, second_apart};
 ghost use Rattle.pair_rows.specs.Clusters.{plain_bus, quiet_run, node_0_alone};
 ghost use Rattle.pair_rows.specs.Told.{first_in, how_many_apart, how_many_of};

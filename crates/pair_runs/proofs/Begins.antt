@@ -22,7 +22,7 @@ use Rattle.ttp_world.proofs.LineLists.{each-append}
 use Rattle.campaign.specs.Lines.{fault_node}
 use Rattle.campaign.specs.Tried.{both_channels, only_a, only_b, is_hearing, is_timed, losses_between, losses_from, losses_of}
 use Rattle.campaign.specs.Tried.{jump_sizes, jumps_of, faults_of, faults_in, with_fault, row_of}
-use Rattle.campaign.specs.ZerosWorld.{zeros_world}
+use Rattle.ttp_world.specs.ZerosWorld.{zeros_world}
 use Rattle.single_faults.specs.Tried.{MayStand}
 use Rattle.single_faults.proofs.Stand.{faults_in-stand}
 use Rattle.run_costs.specs.Later.{comes_later}

@@ -11,7 +11,7 @@ use Rattle.std.proofs.lemmas.Simd.{map-map}
 use Rattle.ttp_base.specs.NodeSet.{below}
 use Rattle.ttp_world.specs.declared.script.Event.{Event}
 use Rattle.ttp_world.specs.Medl.{IsValid}
-use Rattle.campaign.specs.ZerosWorld.{zeros_world}
+use Rattle.ttp_world.specs.ZerosWorld.{zeros_world}
 use Rattle.fault_pairs.specs.Pairs.{FirstFault, second_apart, firsts_among, seconds_in}
 use Rattle.fault_pairs.specs.PairText.{apart_line}
 use Rattle.fault_pairs.specs.Sums.{PairTold, told_apart, are_so_far_apart, distances}

@@ -5,7 +5,7 @@ use Rattle.std.specs.Prelude.{map}
 use Rattle.std.proofs.lemmas.List.{take_more, take-append-drop, map-append}
 use Rattle.std.proofs.lemmas.Simd.{map-map}
 use Rattle.campaign.specs.Tried.{with_fault}
-use Rattle.campaign.specs.ZerosWorld.{zeros_world}
+use Rattle.ttp_world.specs.ZerosWorld.{zeros_world}
 use Rattle.ttp_world.specs.declared.script.Script.{Script}
 use Rattle.fault_pairs.specs.declared.pair.PairClass.TheVariants as class
 use Rattle.fault_pairs.specs.Classes.{has_line}

@@ -7,7 +7,7 @@ use Rattle.ttp_world.specs.declared.medl.Medl.{Medl}
 use Rattle.ttp_world.specs.declared.script.Script.{Script}
 use Rattle.campaign.specs.Lines.{own_line, summary}
 use Rattle.campaign.specs.Tried.{faults_in, row_of}
-use Rattle.campaign.specs.ZerosWorld.{zeros_world}
+use Rattle.ttp_world.specs.ZerosWorld.{zeros_world}
 use Rattle.run_costs.specs.Standing.{IsRunOfList}
 use Rattle.fault_runs.specs.Tries.{IsOwnAfter, IsOwnOf}
 use Rattle.fault_pairs.specs.Pairs.{FirstFault, SecondFault, firsts_among, firsts_from, seconds_behind}

@@ -7,7 +7,7 @@ use Rattle.ttp_world.specs.declared.medl.Medl.{Medl}
 use Rattle.ttp_world.specs.declared.node.NodeState.{NodeState}
 use Rattle.ttp_world.specs.declared.script.Script.{Script}
 use Rattle.ttp_world.specs.Diary.{newest_entry, diary_of}
-use Rattle.campaign.specs.ZerosWorld.{zeros_world}
+use Rattle.ttp_world.specs.ZerosWorld.{zeros_world}
 use Rattle.causes.specs.Reduced.{entry_in_run}
 use Rattle.run_costs.specs.States.{AreShown, off_state}
 

@@ -23,7 +23,7 @@ use Rattle.hypothesis.specs.Standing.{told_start, HaveSameNodes}
 use Rattle.campaign.specs.Cost.{is_hurt_in, is_hurt, hurt_nodes, has_two, memberships, is_split, split_span, span_after}
 use Rattle.campaign.specs.Cost.{newest_leave}
 use Rattle.campaign.specs.Tried.{with_fault}
-use Rattle.campaign.specs.ZerosWorld.{all_zeros, zeros_world}
+use Rattle.ttp_world.specs.ZerosWorld.{all_zeros, zeros_world}
 use Rattle.run_costs.specs.declared.seen_costs.faulty.Faulty.{Faulty}
 use Rattle.run_costs.specs.declared.seen_costs.faulty.Faulty.TheVariants as faulty
 use Rattle.run_costs.specs.declared.seen_costs.seen.SeenCost.{SeenCost}
@@ -32,7 +32,7 @@ use Rattle.run_costs.specs.Later.{comes_later, is_loss}
 use Rattle.run_costs.specs.Told.{IsSeenOf}
 use Rattle.run_costs.proofs.LaterFaults.{kept-longer, slots-longer, at-longer, joined-longer, has_arm-longer}
 use Rattle.run_costs.proofs.LaterFaults.{faulty_by_test-longer, disturbance-longer}
-use Rattle.run_costs.proofs.Rows.{length-zeros}
+use Rattle.ttp_world.proofs.ZerosWorlds.{length-zeros_world}
 
 module _ (list : Medl) (script : Script) (more : Event) where
   abbrev pub longer : Script
@@ -44,7 +44,7 @@ module _ (list : Medl) (script : Script) (more : Event) where
   zeros-longer (suc slot) few =
       let older = zeros-longer slot (omega (arith, few)) in
       let less : length (zeros_world list longer slot) < begins_at more =
-      omega (arith, few, length-zeros list longer slot) in
+      omega (arith, few, length-zeros_world list longer slot) in
       (λ i. step list script (older i) (all_zeros list))
       ∙ step-same (agree-more script more (begins_at more) (omega arith)) list (zeros_world list longer slot) less
       (all_zeros list)
@@ -85,7 +85,7 @@ module _ (list : Medl) (script : Script) (more : Event) where
         → IsSeenOf list longer slots now
     seen-longer slots few seen now was faulty left hurt split =
         let history = zeros_world list script slots in
-        let short : length history ≤ begins_at more = omega (arith, few, length-zeros list script slots) in
+        let short : length history ≤ begins_at more = omega (arith, few, length-zeros_world list script slots) in
         let same = zeros-longer slots few in
         record {
           faulty = faulty;

@@ -11,10 +11,10 @@ use Rattle.controller.specs.Agreement.{begins_at}
 use Rattle.controller.proofs.LaterEvents.{agree-more}
 use Rattle.controller.proofs.SameWorlds.{node_past-same}
 use Rattle.campaign.specs.Tried.{with_fault}
-use Rattle.campaign.specs.ZerosWorld.{zeros_world}
+use Rattle.ttp_world.specs.ZerosWorld.{zeros_world}
 use Rattle.run_costs.specs.States.{AreShown}
 use Rattle.run_costs.proofs.Later.{zeros-longer}
-use Rattle.run_costs.proofs.Rows.{length-zeros}
+use Rattle.ttp_world.proofs.ZerosWorlds.{length-zeros_world}
 use Rattle.controller.specs.PlantStands.{PlantStandsFor}
 use Rattle.run_costs.specs.declared.run.Run.{Run}
 use Rattle.run_costs.specs.Standing.{IsRunAfter}
@@ -26,7 +26,7 @@ module _ (list : Medl) (script : Script) (more : Event) (slots : ℕ) (later : s
   shown-longer states shown =
       let longer = with_fault script more in
       let history = zeros_world list script slots in
-      let few : length history ≤ begins_at more = omega (arith, later, length-zeros list script slots) in
+      let few : length history ≤ begins_at more = omega (arith, later, length-zeros_world list script slots) in
       record {
         count = shown.count;
         nodes = λ k node.
@@ -36,11 +36,11 @@ module _ (list : Medl) (script : Script) (more : Event) (slots : ℕ) (later : s
       }
 
   pub run-longer : (run : Run) → IsRunAfter run list script slots
-      → PlantStandsFor run.plant (with_fault script more) (zeros_world list script slots)
+      → PlantStandsFor run.cluster.plant (with_fault script more) (zeros_world list script slots)
       → IsRunAfter run list (with_fault script more) slots
   run-longer run was plant = record {
     same = was.same;
-    plant = subst (PlantStandsFor run.plant (with_fault script more)) (zeros-longer list script more slots later) plant;
+    plant = subst (PlantStandsFor run.cluster.plant (with_fault script more)) (zeros-longer list script more slots later) plant;
     zeros = was.zeros;
     room = was.room;
     states = λ some. shown-longer (take (length list.slots) run.states) (was.states some);

@@ -4,6 +4,5 @@ pub mod LeftNodes
 pub mod LaterEvents
 pub mod LaterFaults
 pub mod Nodes
-pub mod Payloads
 pub mod Plants
 pub mod Rows

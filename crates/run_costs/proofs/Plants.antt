@@ -10,7 +10,7 @@ use Rattle.ttp_world.specs.Diary.{History}
 use Rattle.ttp_world.specs.Medl.{IsValid}
 use Rattle.ttp_world.specs.Past.{state_of}
 use Rattle.ttp_world.specs.World.{slot_after, step, node_past}
-use Rattle.campaign.specs.ZerosWorld.{all_zeros, zeros_world}
+use Rattle.ttp_world.specs.ZerosWorld.{all_zeros, zeros_world}
 use Rattle.run_costs.specs.States.{off_state, AreShown}
 use Rattle.controller.specs.Passes.{AreChosen}
 use Rattle.controller.specs.PlantStands.{PlantStandsFor, MayStep, Steps}
@@ -18,23 +18,6 @@ use Rattle.controller.specs.PlantView.{PlantView}
 use Rattle.controller.proofs.Payloads.{chosen-step}
 use Rattle.run_costs.specs.Standing.{AreOfPlant}
 use Rattle.run_costs.proofs.Payloads.{zeros-chosen}
-
-pub plant-may_step : (list : Medl) (script : Script) (history : History) (plant : PlantView) (chosen : List Chosen)
-    → IsValid list → chosen ≡ all_zeros list → plant.list ≡ list → PlantStandsFor plant script history
-    → MayStep plant script chosen
-plant-may_step list script history plant chosen valid zeros same stands =
-    chosen-step chosen (subst IsValid (sym same) valid) stands
-    (subst (λ (l : Medl). AreChosen (slot_after l script history) chosen) (sym same)
-    (subst (AreChosen (slot_after list script history)) (sym zeros) (zeros-chosen list script history)))
-
-pub plant-steps : (list : Medl) (script : Script) (slot : ℕ) (old new : PlantView) (chosen : List Chosen)
-    → chosen ≡ all_zeros list → new.list ≡ list → PlantStandsFor old script (zeros_world list script slot)
-    → Steps old new script chosen → PlantStandsFor new script (zeros_world list script (slot + 1))
-plant-steps list script slot old new chosen zeros same stands steps =
-    let history = zeros_world list script slot in
-    let next : step list script history (all_zeros list) ≡ zeros_world list script (slot + 1) =
-    sym (ap (zeros_world list script) (add-one slot)) in
-    subst (PlantStandsFor new script) ((λ i. step (same i) script history (zeros i)) ∙ next) (steps history stands).stands
 
 -- the states that are taken down are those of what the plant stands for
 pub plant-shown : (list : Medl) (script : Script) (history : History) (plant : PlantView) (n : ℕ)

@@ -19,18 +19,15 @@ use Rattle.hypothesis.specs.Standing.{HaveSameNodes}
 use Rattle.campaign.specs.declared.cost.Leave.{Leave}
 use Rattle.campaign.specs.Cost.{faulty_by_test, leave_after, newest_leave, is_hurt_in, is_hurt, hurt_nodes}
 use Rattle.campaign.specs.Cost.{firm_members, each_once, has_two, memberships, is_split}
-use Rattle.campaign.specs.ZerosWorld.{all_zeros, zeros_world}
+use Rattle.ttp_world.specs.ZerosWorld.{all_zeros, zeros_world}
 use Rattle.run_costs.specs.States.{state_at, AreShown, firm_of, firm_sets}
 use Rattle.run_costs.specs.Told.{is_hurt_by}
 use Rattle.run_costs.proofs.Nodes.{filter_map_agree-below}
+pub use Rattle.ttp_world.proofs.ZerosWorlds.{length-zeros_world as length-zeros}
 
 -- The run in which frames carry zeros.
 
-pub length-zeros : (list : Medl) (script : Script) (slots : ℕ) → length (zeros_world list script slots) ≡ slots
-length-zeros list script zero = refl
-length-zeros list script (suc slots) = ap suc (length-zeros list script slots)
-
--- its next row
+-- the next row
 abbrev pub next_row : Medl → Script → ℕ → List Entry
 next_row list script slot = row_in (slot_after list script (zeros_world list script slot)) (all_zeros list)
 

@@ -4,7 +4,7 @@ use Rattle.ttp_base.specs.NodeSet.{most_nodes}
 use Rattle.ttp_world.specs.declared.medl.Medl.{Medl}
 use Rattle.ttp_world.specs.declared.node.NodeState.{NodeState}
 use Rattle.ttp_world.specs.declared.script.Script.{Script}
-use Rattle.campaign.specs.ZerosWorld.{all_zeros, zeros_world}
+use Rattle.ttp_world.specs.ZerosWorld.{all_zeros, zeros_world}
 use Rattle.run_costs.specs.States.{state_at, AreShown}
 use Rattle.controller.specs.PlantStands.{PlantStandsFor, ShowsNode}
 use Rattle.controller.specs.PlantView.{PlantView}
@@ -20,16 +20,16 @@ pub record AreOfPlant (plant : PlantView) (n : ℕ) (states : List NodeState) : 
 -- a run stands for the world after so many slots in which frames carry zeros, and from its first slot on its states are
 -- those of its nodes
 pub record IsRunAfter (run : Run) (list : Medl) (script : Script) (slots : ℕ) : Type 0 where
-  pub same : run.plant.list ≡ list
-  pub plant : PlantStandsFor run.plant script (zeros_world list script slots)
-  pub zeros : run.zeros ≡ all_zeros list
+  pub same : run.cluster.plant.list ≡ list
+  pub plant : PlantStandsFor run.cluster.plant script (zeros_world list script slots)
+  pub zeros : run.cluster.zeros ≡ all_zeros list
   pub room : length run.states ≡ most_nodes
   pub states : 0 < slots → AreShown list script (zeros_world list script slots) (take (length list.slots) run.states)
 
 -- a run is one of a list, whatever it has done
 pub record IsRunOfList (run : Run) (list : Medl) : Type 0 where
-  pub same : run.plant.list ≡ list
-  pub zeros : run.zeros ≡ all_zeros list
+  pub same : run.cluster.plant.list ≡ list
+  pub zeros : run.cluster.zeros ≡ all_zeros list
 
 -- it has done so many slots, and what was seen of it was seen of these
 pub record IsSeenAfter (run : SeenRun) (list : Medl) (script : Script) (slots : ℕ) : Type 0 where

@@ -7,7 +7,7 @@ use Rattle.ttp_world.specs.declared.node.Entry.TheVariants as entry
 use Rattle.ttp_world.specs.declared.script.Script.{Script}
 use Rattle.ttp_world.specs.Returning.{is_sound}
 use Rattle.campaign.specs.Cost.{faulty_by_test, newest_leave, hurt_nodes, split_span}
-use Rattle.campaign.specs.ZerosWorld.{zeros_world}
+use Rattle.ttp_world.specs.ZerosWorld.{zeros_world}
 use Rattle.run_costs.specs.declared.seen_costs.seen.SeenCost.{SeenCost}
 use Rattle.run_costs.specs.FaultyAt.{IsFaultyAt}
 

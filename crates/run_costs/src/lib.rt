@@ -21,7 +21,6 @@ mod cost;
 mod run;
 pub mod seen_costs;
 mod seen_run;
-mod zeros;
 
 pub use cost::{cost_from, cost_of};
 pub use run::Run;

@@ -1,25 +1,22 @@
-//! A run of a cluster, slot by slot, in which every frame with payload carries zeros.
+//! A run of a cluster in which every frame with payload carries zeros, with what is shown of its nodes.
 ghost use Rattle.std.specs.Prelude.{◌≡◌, ◌+◌, ◌<◌, ◌≤◌, ℕ, length, IfOk};
 ghost use Rattle.ttp_world.specs.declared.medl.Medl.{Medl};
 ghost use Rattle.ttp_world.specs.declared.script.Script.{Script};
 ghost use Rattle.ttp_world.specs.Medl.{IsValid};
 ghost use Rattle.ttp_world.specs.Script.{IsValidScript};
-ghost use Rattle.campaign.specs.ZerosWorld.{zeros_world};
+ghost use Rattle.ttp_world.specs.ZerosWorld.{zeros_world};
 ghost use Rattle.run_costs.specs.States.{AreShown};
 ghost use Rattle.run_costs.specs.Standing.{AreOfPlant, IsRunAfter};
 
-use crate::zeros::all_zeros;
-use controller::Plant;
+use controller::{Plant, ZerosRun};
 use std::alloc::Global;
-use ttp_base::{List, Memory, NodeSet};
-use ttp_world::{Ack, Chosen, Entry, Medl, NodeState, Phase, Script};
+use ttp_base::{Memory, NodeSet};
+use ttp_world::{Ack, Entry, Medl, NodeState, Phase, Script};
 
 /// A run between two slots.
 #[derive(Drop)]
 pub struct Run {
-    plant: Plant,
-    // Message 0 of each node.
-    zeros: List<Chosen>,
+    cluster: ZerosRun,
     // What is shown of each node after the newest slot.
     states: [NodeState; 24],
 }
@@ -62,8 +59,7 @@ impl Run {
         ensures { (script : Script) → IfOk result (λ run. IsRunAfter run list.now script 0) }
     {
         Ok(Run {
-            plant: Plant::new(alloc, list)?,
-            zeros: all_zeros(alloc, list)?,
+            cluster: ZerosRun::new(alloc, list)?,
             states: [off(); 24],
         })
     }
@@ -76,17 +72,17 @@ impl Run {
         requires stands { IsRunAfter self.old list.now script.now slot }
         ensures { IsRunAfter self.new list.now script.now (slot + 1) }
     {
-        self.plant.slot(list, script, self.zeros.as_slice());
-        note_states(&self.plant, list.nodes(), &mut self.states);
+        self.cluster.step(list, script, slot);
+        note_states(self.cluster.plant(), list.nodes(), &mut self.states);
     }
 
     /// Makes it a copy of another run of the same list. It takes no memory.
     pub fn copy_from(&mut self, other: &Run)
-        requires list { other.now.plant.list ≡ self.old.plant.list }
-        requires zeros { other.now.zeros ≡ self.old.zeros }
+        requires list { other.now.cluster.plant.list ≡ self.old.cluster.plant.list }
+        requires zeros { other.now.cluster.zeros ≡ self.old.cluster.zeros }
         ensures { self.new ≡ other.now }
     {
-        self.plant.copy_from(&other.plant);
+        self.cluster.copy_from(&other.cluster);
         copy_states(&mut self.states, &other.states);
     }
 

@@ -6,7 +6,7 @@ ghost use Rattle.ttp_world.specs.Medl.{IsValid};
 ghost use Rattle.ttp_world.specs.Script.{IsValidScript};
 ghost use Rattle.campaign.specs.Cost.{cost_of, leaves, memberships, has_two};
 ghost use Rattle.campaign.specs.Tried.{with_fault};
-ghost use Rattle.campaign.specs.ZerosWorld.{zeros_world};
+ghost use Rattle.ttp_world.specs.ZerosWorld.{zeros_world};
 ghost use Rattle.run_costs.specs.Later.{comes_later};
 ghost use Rattle.run_costs.specs.States.{AreShown};
 ghost use Rattle.run_costs.specs.Standing.{IsRunAfter, IsRunOfList, IsSeenAfter};

@@ -4,7 +4,7 @@ use Rattle.std.proofs.Common.{below_more, get_or-set_other}
 use Rattle.std.proofs.Math.ListN.{length-set}
 use Rattle.std.proofs.lemmas.List.{get_or-set_same, get_or_default}
 use Rattle.std.specs.Prelude.{slice_set}
-use Rattle.campaign.specs.ZerosWorld.{zeros_world}
+use Rattle.ttp_world.specs.ZerosWorld.{zeros_world}
 use Rattle.controller.specs.Limits.{most_clock}
 use Rattle.run_costs.proofs.Rows.{next_row}
 use Rattle.run_costs.specs.States.{AreShown, off_state}

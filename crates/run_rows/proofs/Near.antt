@@ -4,7 +4,7 @@ use Rattle.std.proofs.Common.{FitsSigned, arith, inl, inr, of_z, to_z, w64}
 use Rattle.std.proofs.lemmas.Int.{fits_signed_from_abs, ints, to_z-of_z}
 use Rattle.std.proofs.lemmas.Option.{slice_get_cases}
 use Rattle.std.specs.Prelude.{slice_get}
-use Rattle.campaign.specs.ZerosWorld.{zeros_world}
+use Rattle.ttp_world.specs.ZerosWorld.{zeros_world}
 use Rattle.controller.proofs.Near.{ended-clock}
 use Rattle.controller.proofs.Parts.{each-of}
 use Rattle.controller.specs.Limits.{most_clock}
@@ -12,7 +12,7 @@ use Rattle.controller.specs.PlantStands.{PlantStandsFor}
 use Rattle.controller.specs.PlantView.{PlantView}
 use Rattle.controller.specs.PlantWithin.{most_ahead, most_jump}
 use Rattle.controller.specs.declared.seat.Seat.{Seat}
-use Rattle.run_costs.proofs.Rows.{length-zeros}
+use Rattle.ttp_world.proofs.ZerosWorlds.{length-zeros_world}
 use Rattle.run_costs.specs.Standing.{IsRunAfter}
 use Rattle.run_costs.specs.States.{AreShown, state_at}
 use Rattle.run_costs.specs.declared.run.Run.{Run}
@@ -55,15 +55,15 @@ pub run-near : (list : Medl) (script : Script) (slots k : ℕ) (run : Run) (stat
     → k < length list.slots
     → unsigned_abs (state_at states k).offset ≤ most_ahead slots
 run-near list script slots k run states stands shown node =
-    let near : unsigned_abs (node_past run.plant.list script (zeros_world list script slots) k).offset
-    ≤ most_ahead run.plant.slot =
-    plant-near run.plant script (zeros_world list script slots) k stands.plant
+    let near : unsigned_abs (node_past run.cluster.plant.list script (zeros_world list script slots) k).offset
+    ≤ most_ahead run.cluster.plant.slot =
+    plant-near run.cluster.plant script (zeros_world list script slots) k stands.plant
     (subst (λ (l : Medl). k < length l.slots) (sym stands.same) node) in
-    let count : run.plant.slot ≡ slots = stands.plant.slot ∙ length-zeros list script slots in
+    let count : run.cluster.plant.slot ≡ slots = stands.plant.slot ∙ length-zeros_world list script slots in
     let ours : unsigned_abs (node_past list script (zeros_world list script slots) k).offset ≤ most_ahead slots =
     subst (λ (n : ℕ). unsigned_abs (node_past list script (zeros_world list script slots) k).offset ≤ most_ahead n) count
     (subst (λ (l : Medl).
-    unsigned_abs (node_past l script (zeros_world list script slots) k).offset ≤ most_ahead run.plant.slot) stands.same
+    unsigned_abs (node_past l script (zeros_world list script slots) k).offset ≤ most_ahead run.cluster.plant.slot) stands.same
     near) in
     subst (λ (z : ℤ). unsigned_abs z ≤ most_ahead slots) (sym (ap (λ (s : NodeState). s.offset) (shown.nodes k node)))
     ours

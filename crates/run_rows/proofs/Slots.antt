@@ -3,8 +3,9 @@ use Rattle.std.proofs.Common.{◌≡◌, ℕ, zero, suc, ◌+◌, ◌-◌, ◌<�
 use Rattle.std.proofs.Common.{inl, inr, unsigned_abs}
 use Rattle.std.proofs.Math.Nat.{eq-or-lt_of_le}
 use Rattle.controller.specs.Limits.{most_clock}
-use Rattle.campaign.specs.ZerosWorld.{zeros_world}
-use Rattle.run_costs.proofs.Rows.{length-zeros, next_row}
+use Rattle.ttp_world.specs.ZerosWorld.{zeros_world}
+use Rattle.ttp_world.proofs.ZerosWorlds.{length-zeros_world}
+use Rattle.run_costs.proofs.Rows.{next_row}
 use Rattle.run_rows.specs.Begun.{begun_shown}
 use Rattle.run_rows.specs.Rows.{AreRowsNear, node_row, slot_in, past_slots_in}
 use Rattle.run_rows.specs.declared.row.NodeRow.{NodeRow}
@@ -43,7 +44,7 @@ length-past_slots_in list script (suc slot) =
 
 pub slot_in-number : (list : Medl) (script : Script) (slot : ℕ) → (slot_in list script slot).begun.number ≡ slot
 unfolding slot_in
-slot_in-number list script slot = length-zeros list script slot
+slot_in-number list script slot = length-zeros_world list script slot
 
 pub slot_in-list : (list : Medl) (script : Script) (slot : ℕ) → (slot_in list script slot).begun.list ≡ list
 unfolding slot_in

@@ -1,7 +1,7 @@
 -- What is kept of a node as a slot begins.
 use Rattle.std.specs.Prelude.{◌≡◌, ℕ, ◌<◌, ◌≤◌, Bool, false, true, get_or, length, List, [], pos, unsigned_abs}
 use Rattle.run_rows.specs.declared.row.NodeBegun.{NodeBegun}
-use Rattle.campaign.specs.ZerosWorld.{zeros_world}
+use Rattle.ttp_world.specs.ZerosWorld.{zeros_world}
 use Rattle.controller.specs.Limits.{most_clock}
 use Rattle.ttp_world.specs.Diary.{cstate_at, no_place}
 use Rattle.ttp_world.specs.Messages.{has_averaged}

@@ -3,7 +3,7 @@
 use Rattle.std.specs.Prelude.{◌≡◌, ℕ, ◌<◌, ◌+◌, List, get_or, if◌then◌else◌, is_some, length, min}
 use Rattle.std.specs.Prelude.{◌&&◌, []}
 use Rattle.run_rows.specs.declared.row.Kept.{Kept}
-use Rattle.campaign.specs.ZerosWorld.{zeros_world}
+use Rattle.ttp_world.specs.ZerosWorld.{zeros_world}
 use Rattle.ttp_world.specs.After.{is_active_entry, limit_after, place_after}
 use Rattle.ttp_world.specs.Clock.{begins_round, deviation_noted}
 use Rattle.ttp_world.specs.Diary.{Place, cstate_at, joined_place, no_place}

@@ -1,7 +1,7 @@
 -- The rows of a run.
 use Rattle.std.specs.Prelude.{◌≡◌, ℕ, zero, suc, ◌<◌, ◌≤◌, List, [], ◌++◌, length, map, unsigned_abs}
 use Rattle.run_rows.specs.declared.row.NodeRow.{NodeRow}
-use Rattle.campaign.specs.ZerosWorld.{all_zeros, zeros_world}
+use Rattle.ttp_world.specs.ZerosWorld.{all_zeros, zeros_world}
 use Rattle.controller.specs.Limits.{most_clock}
 use Rattle.causes.specs.RunSlots.{RunSlot, RunSlots, entry_in_slot, slot_of_run, slots_of_run}
 use Rattle.run_rows.specs.Begun.{begun_shown}

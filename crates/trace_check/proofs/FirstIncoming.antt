@@ -4,7 +4,7 @@ use Rattle.trace_check.proofs.Words.{inr, ap, sym, ◌∙◌, arith, length-appe
 use Rattle.trace_check.proofs.Words.{cases_eq, get_or-append-add, length-replicate, get_or-map-range_with_len}
 use Rattle.trace_check.proofs.Words.{length-map-range_with_len, mul-add-lt, same_Some, slice_get-get_or, Medl, Chosen}
 use Rattle.trace_check.proofs.Words.{StatusWords, Script, nothing_chosen, Incoming, IsNewestMessage, TellsRings}
-use Rattle.trace_check.proofs.Words.{first_payloads, zeros_chosen, zeros_of_all}
+use Rattle.trace_check.proofs.Words.{first_payloads, zeros_chosen, all_zeros}
 use Rattle.std.proofs.Math.Nat.{mul-suc}
 use Rattle.std.proofs.lemmas.List.{get_or-replicate}
 
@@ -12,13 +12,13 @@ module _ (list : Medl) where
   abbrev n : ℕ
   n = length list.slots
 
-  length-zeros : length (zeros_of_all list) ≡ length list.slots
+  length-zeros : length (all_zeros list) ≡ length list.slots
   length-zeros = length-map-range_with_len (zeros_chosen list) 0 (length list.slots)
 
   pub length-first : (receivers : ℕ) → length (first_payloads list receivers) ≡ length list.slots * receivers
   length-first zero = omega arith
   length-first (suc receivers) =
-      length-append (first_payloads list receivers) (zeros_of_all list)
+      length-append (first_payloads list receivers) (all_zeros list)
       ∙ (λ i. length-first receivers i + length-zeros i)
       ∙ sym (mul-suc (length list.slots) receivers)
 
@@ -28,19 +28,19 @@ module _ (list : Medl) where
   first-at (suc receivers) k p less node =
       let width = length list.slots in
       let front = first_payloads list receivers in
-      elim (cases_eq k receivers) as (λ _. get_or (front ++ zeros_of_all list) (k * width + p) nothing_chosen
+      elim (cases_eq k receivers) as (λ _. get_or (front ++ all_zeros list) (k * width + p) nothing_chosen
       ≡ zeros_chosen list p) [
         | inl last ↦
             let many : length front ≡ k * width =
             length-first receivers ∙ ap (λ (j : ℕ). width * j) (sym last) ∙ mul_comm width k in
-            ap (λ (j : ℕ). get_or (front ++ zeros_of_all list) (j + p) nothing_chosen) (sym many)
-            ∙ get_or-append-add front (zeros_of_all list) p nothing_chosen
+            ap (λ (j : ℕ). get_or (front ++ all_zeros list) (j + p) nothing_chosen) (sym many)
+            ∙ get_or-append-add front (all_zeros list) p nothing_chosen
             ∙ get_or-map-range_with_len (zeros_chosen list) 0 width p p nothing_chosen node (omega arith)
         | inr earlier ↦
             let before : k < receivers = omega (arith, less, earlier) in
             let within : k * width + p < length front =
             omega (arith, length-first receivers, mul-add-lt k width p receivers before node) in
-            get_or-append front (zeros_of_all list) nothing_chosen (k * width + p) within
+            get_or-append front (all_zeros list) nothing_chosen (k * width + p) within
             ∙ first-at receivers k p before node
       ]
 

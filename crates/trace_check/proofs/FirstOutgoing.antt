@@ -1,11 +1,10 @@
 -- What nodes send where their hosts have written nothing.
-use Rattle.trace_check.proofs.Words.{◌≡◌, ℕ, ◌+◌, List, [], ◌∷◌, ◌++◌, length, get_or, Option, Some, ap, sym, ◌∙◌}
+use Rattle.trace_check.proofs.Words.{◌≡◌, ℕ, ◌+◌, List, [], ◌∷◌, ◌++◌, length, get_or, Some, ap, sym, ◌∙◌}
 use Rattle.trace_check.proofs.Words.{arith, map, slice_get, replicate, get_or-map-range_with_len}
 use Rattle.trace_check.proofs.Words.{length-map-range_with_len, map-range_with_len_more, below, Medl, Chosen, Script}
 use Rattle.trace_check.proofs.Words.{nothing_chosen, chosen_of, Outgoing, zeros_chosen, HoldsNewest}
-use Rattle.std.specs.Prelude.{unwrap_or}
 use Rattle.ttp_world.specs.declared.medl.SlotPlan.{SlotPlan}
-use Rattle.ttp_world.specs.Medl.{no_plan}
+use Rattle.ttp_world.proofs.ZerosWorlds.{zeros_chosen-plan}
 use Rattle.ttp_world.proofs.Rings.{out_messages-first}
 
 abbrev pub first_number : ℕ → ℕ
@@ -20,19 +19,14 @@ pub AreFirst-none : (newest : List ℕ) (chosen : List Chosen) (list : Medl) →
     → AreFirst newest chosen list 0
 AreFirst-none newest chosen list none nothing = record { newest_is = none; chosen_is = nothing }
 
-pub zeros-chosen : (list : Medl) (k : ℕ) (plan : SlotPlan) (zeros : Chosen) → slice_get list.slots k ≡ Some plan
-    → zeros.number ≡ 0 → zeros.payload ≡ replicate plan.payload 0 → zeros ≡ zeros_chosen list k
-zeros-chosen list k plan zeros at number payload =
-    let size = ap (λ (found : Option SlotPlan). (unwrap_or found no_plan).payload) at in
-    λ i. record { number = number i; payload = (payload ∙ sym (ap (λ (n : ℕ). replicate n 0) size)) i }
-
 pub AreFirst-more : (newest new_newest : List ℕ) (chosen new_chosen : List Chosen) (list : Medl) (k : ℕ)
-    (plan : SlotPlan) (zeros : Chosen)
-    → AreFirst newest chosen list k → new_newest ≡ newest ++ 0 ∷ [] → new_chosen ≡ chosen ++ zeros ∷ []
-    → slice_get list.slots k ≡ Some plan → zeros.number ≡ 0 → zeros.payload ≡ replicate plan.payload 0
+    (plan : SlotPlan) (zeros : List ℕ)
+    → AreFirst newest chosen list k → new_newest ≡ newest ++ 0 ∷ []
+    → new_chosen ≡ chosen ++ record { number = 0; payload = zeros } ∷ []
+    → slice_get list.slots k ≡ Some plan → zeros ≡ replicate plan.payload 0
     → AreFirst new_newest new_chosen list (k + 1)
-AreFirst-more newest new_newest chosen new_chosen list k plan zeros first more chosen_more at number payload =
-    let one = zeros-chosen list k plan zeros at number payload in
+AreFirst-more newest new_newest chosen new_chosen list k plan zeros first more chosen_more at are =
+    let one = zeros_chosen-plan list k plan zeros at are in
     record {
       newest_is = more ∙ ap (λ (ns : List ℕ). ns ++ 0 ∷ []) first.newest_is
           ∙ sym (map-range_with_len_more first_number 0 k k (omega arith));

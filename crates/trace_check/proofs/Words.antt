@@ -37,7 +37,7 @@ pub use Rattle.trace_check.specs.Following.{ReadsOne, StandsAt, FollowerStandsFo
 pub use Rattle.trace_check.specs.Following.{line_of_read, lines_of_slot, node_lines, row_after}
 pub use Rattle.trace_check.specs.Incoming.{AreFloorsWithin, HasPlaces, IsNewestMessage, IsHostAndSource, TellsRings}
 pub use Rattle.trace_check.specs.Incoming.{first_payloads, floor_of, floor_place, newest_before, newest_message}
-pub use Rattle.trace_check.specs.Incoming.{zeros_chosen, zeros_of_all}
+pub use Rattle.ttp_world.specs.ZerosWorld.{all_zeros, zeros_chosen}
 pub use Rattle.trace_check.specs.Outgoing.{Chooses, HasChosen, HoldsNewest, number_by_text, number_taken, oldest_number}
 pub use Rattle.trace_check.specs.declared.follow.Follower.{Follower}
 pub use Rattle.trace_check.specs.declared.incoming.Incoming.{Incoming}

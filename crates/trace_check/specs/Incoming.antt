@@ -1,7 +1,6 @@
 -- What is known of the rings that hosts read.
-use Rattle.std.specs.Prelude.{◌≡◌, ℕ, zero, suc, ◌+◌, ◌*◌, ◌<◌, ◌≤◌, List, [], ◌++◌, length, get_or, map, slice_get}
+use Rattle.std.specs.Prelude.{◌≡◌, ℕ, zero, suc, ◌+◌, ◌*◌, ◌<◌, ◌≤◌, List, [], ◌++◌, length, get_or, slice_get}
 use Rattle.std.specs.Prelude.{Some}
-use Rattle.ttp_base.specs.NodeSet.{below}
 use Rattle.ttp_world.specs.declared.medl.Medl.{Medl}
 use Rattle.ttp_world.specs.declared.node.Chosen.{Chosen}
 use Rattle.ttp_world.specs.declared.script.Script.{Script}
@@ -10,7 +9,7 @@ use Rattle.ttp_world.specs.declared.script.Source.TheVariants as source
 use Rattle.ttp_world.specs.Diary.{History}
 use Rattle.ttp_world.specs.declared.host_lines.HostRead.{HostRead}
 use Rattle.ttp_world.specs.Messages.{ring_messages, newest_number}
-use Rattle.ttp_world.specs.Outgoing.{zeros_of}
+use Rattle.ttp_world.specs.ZerosWorld.{all_zeros}
 use Rattle.trace_check.specs.declared.incoming.Incoming.{Incoming}
 
 -- a ring's newest message, and its number
@@ -32,16 +31,10 @@ pub record IsNewestMessage (message : Chosen) (list : Medl) (script : Script) (h
   pub number : message.number ≡ newest_number (ring_messages list script history k (source.Node p))
   pub payload : message.payload ≡ newest_message (ring_messages list script history k (source.Node p))
 
--- the zeros of each sender, and before the first slot so many receivers have these
-abbrev pub zeros_chosen : Medl → ℕ → Chosen
-zeros_chosen list k = record { number = 0; payload = zeros_of list k }
-
-abbrev pub zeros_of_all : Medl → List Chosen
-zeros_of_all list = map (zeros_chosen list) (below (length list.slots))
-
+-- before the first slot so many receivers have the zeros of each sender
 abbrev pub first_payloads : Medl → ℕ → List Chosen
 first_payloads list zero = []
-first_payloads list (suc receivers) = first_payloads list receivers ++ zeros_of_all list
+first_payloads list (suc receivers) = first_payloads list receivers ++ all_zeros list
 
 -- a host and a source of the list's
 abbrev pub IsHostAndSource : Medl → ℕ → Source → Type 0

@@ -7,9 +7,9 @@ ghost use Rattle.ttp_world.specs.Diary.{History};
 ghost use Rattle.ttp_world.specs.declared.script.Script.{Script as Said};
 ghost use Rattle.ttp_world.specs.Medl.{IsValid};
 ghost use Rattle.trace_check.specs.Incoming.{TellsRings, AreFloorsWithin, IsHostAndSource, IsRingKept, first_payloads};
-ghost use Rattle.trace_check.specs.Incoming.{newest_before, zeros_of_all, floor_of, floor_place};
+ghost use Rattle.trace_check.specs.Incoming.{newest_before, floor_of, floor_place};
+ghost use Rattle.ttp_world.specs.ZerosWorld.{all_zeros};
 
-use crate::outgoing::zeros;
 use std::alloc::Global;
 use ttp_base::{List, Memory};
 use ttp_world::{Chosen, Delivered, HostRead, Medl, Payload, Source, StatusWords};
@@ -30,10 +30,11 @@ pub(crate) struct Incoming {
 // Adds the zeros of each of the list's nodes as a sender.
 fn push_zeros(payloads: &mut List<Chosen>, list: &Medl) -> Result<(), Memory>
     requires { IsValid list.now }
-    ensures { OnOk result (payloads.new ≡ payloads.old ++ zeros_of_all list.now) }
+    ensures { OnOk result (payloads.new ≡ payloads.old ++ all_zeros list.now) }
 {
     for sender in 0..list.nodes() {
-        payloads.push(zeros(list.slots.get(usize::from(sender)).payload))?;
+        let payload = Payload::zeros(list.slots.get(usize::from(sender)).payload);
+        payloads.push(Chosen { number: 0, payload })?;
     }
     Ok(())
 }

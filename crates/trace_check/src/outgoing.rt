@@ -1,5 +1,5 @@
 //! What hosts have written for their nodes to send.
-ghost use Rattle.std.specs.Prelude.{◌≡◌, ℕ, ◌+◌, ◌<◌, ◌≤◌, ◌^◌, length, get_or, slice_get, slice_set, replicate, option_map};
+ghost use Rattle.std.specs.Prelude.{◌≡◌, ℕ, ◌+◌, ◌<◌, ◌≤◌, ◌^◌, length, get_or, slice_get, slice_set, option_map};
 ghost use Rattle.std.specs.Prelude.{IfOk, Some, if◌then◌else◌, ◌==◌};
 ghost use Rattle.ttp_world.specs.declared.medl.Medl.{Medl as List_};
 ghost use Rattle.ttp_world.specs.declared.script.Script.{Script as Said};
@@ -11,22 +11,7 @@ use crate::text::number_by_line;
 use line_text::cut_line;
 use std::alloc::Global;
 use ttp_base::{List, Memory};
-use ttp_world::{Chosen, Medl, PAYLOAD_LIMIT, Payload, Script};
-
-/// Message 0 of a node with so many bytes of payload: the zeros.
-pub(crate) fn zeros(len: u8) -> Chosen
-    requires { len ≤ 240 }
-    ensures number { result.number ≡ 0 }
-    ensures payload { result.payload ≡ replicate len 0 }
-{
-    Chosen {
-        number: 0,
-        payload: Payload {
-            len,
-            bytes: [0; PAYLOAD_LIMIT],
-        },
-    }
-}
+use ttp_world::{Chosen, Medl, Payload, Script};
 
 // The message that a node's host writes in a slot as one of several, the first of which is 0.
 fn written_in<'a>(script: &'a Script, slot: u32, host: u8, place: u64) -> Option<&'a Payload>
@@ -68,7 +53,8 @@ impl Outgoing {
         let mut chosen = List::new(alloc);
         for node in 0..list.nodes() {
             newest.push(0u64)?;
-            chosen.push(zeros(list.slots.get(usize::from(node)).payload))?;
+            let payload = Payload::zeros(list.slots.get(usize::from(node)).payload);
+            chosen.push(Chosen { number: 0, payload })?;
         }
         Ok(Outgoing {
             newest: newest.into_vec(),

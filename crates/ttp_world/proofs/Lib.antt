@@ -46,6 +46,7 @@ pub mod TraceWords
 pub mod Unhosted
 pub mod WeightBounds
 pub mod Worlds
+pub mod ZerosWorlds
 pub mod WorldFacts
 pub mod ListFacts
 pub mod SmallTests

@@ -24,6 +24,7 @@ pub mod Reception
 pub mod Conduct
 pub mod Outgoing
 pub mod World
+pub mod ZerosWorld
 pub mod Messages
 pub mod Hypothesis
 pub mod Starts

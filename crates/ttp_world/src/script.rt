@@ -1,6 +1,6 @@
 //! What a script says: which nodes are switched on, their clocks, faults, and what hosts do.
 
-ghost use Rattle.std.specs.Prelude.{◌≡◌, ℕ, ◌++◌, ◌<◌, ◌≤◌, length, drop, option_map};
+ghost use Rattle.std.specs.Prelude.{◌≡◌, ℕ, ◌++◌, ◌<◌, ◌≤◌, length, drop, replicate, option_map};
 ghost use Rattle.std.specs.List.{filter_map};
 ghost use Rattle.ttp_world.specs.declared.script.Channel.{Channel};
 ghost use Rattle.ttp_world.specs.Script.{is_on, incidents_of, flipped_bits, bits_on, AreBounded};
@@ -90,6 +90,17 @@ impl Model for Payload {
 }
 
 impl Payload {
+    /// So many zeros.
+    pub fn zeros(len: u8) -> Payload
+        requires { len ≤ PAYLOAD_LIMIT }
+        ensures { result ≡ replicate len 0 }
+    {
+        Payload {
+            len,
+            bytes: [0; PAYLOAD_LIMIT],
+        }
+    }
+
     /// The payload of these bytes, which are copied.
     pub fn of(bytes: &[u8]) -> Payload
         requires { length bytes.now ≤ PAYLOAD_LIMIT }

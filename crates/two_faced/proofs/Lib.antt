@@ -9,6 +9,4 @@ pub mod Judged
 pub mod Widest
 pub mod SeenAlike
 pub mod SeenWithin
-pub mod ZerosPayloads
-pub mod ZerosRun
 pub mod Words

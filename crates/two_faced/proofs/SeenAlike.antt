@@ -1,14 +1,13 @@
 -- What is seen of clocks does not depend on the messages of frames.
 use Rattle.two_faced.proofs.Words.{◌≡◌, ℕ, ◌<◌, ℤ, List, [], ◌∷◌, length, Option, Some, None, refl, ap, sym, ◌∙◌, cond}
 use Rattle.two_faced.proofs.Words.{not, ◌&&◌, arith, ◌==◌, filter_map, AllByRecursion, below-lt, Medl, Script, History}
-use Rattle.two_faced.proofs.Words.{nodes_of, IsValidScript, is_on, Numbers, world, length-world, clock_beside}
+use Rattle.two_faced.proofs.Words.{nodes_of, IsValidScript, is_on, Numbers, world, clock_beside}
 use Rattle.two_faced.proofs.Words.{apart_after, widest, seen_with_slot, seen_in, zeros_world}
 use Rattle.std.specs.List.{cons_option}
 use Rattle.ttp_world.specs.Legal.{IsLegalRun}
 use Rattle.frame_fates.specs.Runs.{AreRuns}
-use Rattle.frame_fates.proofs.NamedRuns.{named-run, legal-names}
 use Rattle.frame_fates.proofs.RunsAlike.{older, runs-clocks}
-use Rattle.two_faced.proofs.ZerosRun.{length-zeros_world, zeros-run}
+use Rattle.frame_fates.proofs.ZerosRuns.{zeros-legal}
 
 filter_map-agree : (f g : ℕ → Option ℤ) (n : ℕ) (ks : List ℕ) → ((k : ℕ) → k < n → f k ≡ g k)
     → AllByRecursion (λ k. k < n) ks → filter_map f ks ≡ filter_map g ks
@@ -39,19 +38,9 @@ seen_in-alike list script z start (row ∷ one) (row_too ∷ other) runs =
     λ i. seen_with_slot start (before i) (record { value = apart i; slot = slots i })
 
 -- so what is seen where frames carry zeros is what is seen by any legal numbers
-zeros-legal : (list : Medl) (script : Script) (numbers : Numbers) → IsValidScript list script
-    → IsLegalRun list script numbers
-    → AreRuns list script (zeros_world list script script.slots) (world list script numbers)
-zeros-legal list script numbers valid legal = record {
-  valid = valid;
-  first = zeros-run list script script.slots;
-  second = named-run list script numbers valid (legal-names list script numbers legal.legal);
-  slots = length-zeros_world list script script.slots ∙ sym (length-world list script numbers ∙ legal.count);
-}
-
 pub seen_of-zeros : (list : Medl) (script : Script) (z start : ℕ) (numbers : Numbers) → IsValidScript list script
     → IsLegalRun list script numbers → seen_in list script z start (zeros_world list script script.slots)
     ≡ seen_in list script z start (world list script numbers)
 seen_of-zeros list script z start numbers valid legal =
-    seen_in-alike list script z start (zeros_world list script script.slots) (world list script numbers)
-    (zeros-legal list script numbers valid legal)
+    sym (seen_in-alike list script z start (world list script numbers) (zeros_world list script script.slots)
+    (zeros-legal list script numbers script.slots valid legal.legal legal.count))

@@ -45,5 +45,5 @@ pub use Rattle.two_faced.specs.Errors.{HasFacedClocks, bound}
 pub use Rattle.two_faced.specs.Faced.{faced_clocks_broken, errors_allowed_in, first_fault_slot, faults_broken}
 pub use Rattle.two_faced.specs.Seen.{apart_after, clock_beside, greatest, least, seen_in, widest, seen_with_slot}
 pub use Rattle.two_faced.specs.Spans.{IsNearSpan}
-pub use Rattle.two_faced.specs.ZerosRun.{zeros_chosen, zeros_world}
+pub use Rattle.ttp_world.specs.ZerosWorld.{zeros_chosen, zeros_world}
 pub use Rattle.two_faced.specs.declared.seen.Seen.{Seen}

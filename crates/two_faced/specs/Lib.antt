@@ -4,4 +4,3 @@ pub mod Halved
 pub mod Seen
 pub mod Spans
 pub mod WorkedCases
-pub mod ZerosRun

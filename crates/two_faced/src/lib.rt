@@ -35,7 +35,7 @@
 //! they have drifted since, and that each note of another sender's frame tells where that sender's clock
 //! was then.
 //!
-//! In the run of `find_seen` each frame carries zeros (`specs/ZerosRun.antt`), and by frame_fates the
+//! In the run of `find_seen` each frame carries zeros (`ttp_world/specs/ZerosWorld.antt`), and by frame_fates the
 //! clocks are those of every run by legal numbers, whatever hosts write and read (`proofs/SeenAlike.antt`).
 //! `src/worked_cases.rt` has cases of the rules, and a run, that the check computes.
 //!
@@ -55,7 +55,6 @@ mod clocks;
 mod faced;
 mod faults;
 mod law;
-mod run;
 mod seen;
 mod worked_cases;
 

@@ -6,9 +6,10 @@ ghost use Rattle.ttp_world.specs.Script.{IsValidScript};
 ghost use Rattle.ttp_world.specs.World.{Numbers};
 ghost use Rattle.two_faced.specs.Seen.{apart_after, seen_with_slot, seen_in, seen_of};
 ghost use Rattle.two_faced.specs.Spans.{with_clock, IsNearClock, IsNearSpan};
-ghost use Rattle.two_faced.specs.ZerosRun.{zeros_world, RunStandsAfter};
+ghost use Rattle.ttp_world.specs.ZerosWorld.{zeros_world};
+ghost use Rattle.controller.specs.ZerosRun.{RunStandsAfter};
 
-use crate::run::Run;
+use controller::ZerosRun;
 use hypothesis::start_of;
 use std::alloc::Global;
 use ttp_base::Memory;
@@ -48,7 +49,7 @@ fn with_clock(span: Option<Span>, clock: i64) -> Span
 }
 
 // How far the clocks of the nodes that are on are apart after a slot, but for a node's.
-fn apart_after(run: &Run, list: &Medl, script: &Script, node: u8, slot: u32) -> i64
+fn apart_after(run: &ZerosRun, list: &Medl, script: &Script, node: u8, slot: u32) -> i64
     requires valid { IsValid list.now }
     requires script { IsValidScript list.now script.now }
     requires slot { slot < script.now.slots }
@@ -79,7 +80,7 @@ fn seen_with_slot(start: u32, seen: Seen, later: Seen) -> Seen
 }
 
 // What is seen from the start on in a run that has not begun.
-fn seen_in(run: Run, list: &Medl, script: &Script, node: u8, start: u32) -> Seen
+fn seen_in(run: ZerosRun, list: &Medl, script: &Script, node: u8, start: u32) -> Seen
     requires valid { IsValid list.now }
     requires script { IsValidScript list.now script.now }
     requires stands { RunStandsAfter run list.now script.now 0 }
@@ -112,7 +113,7 @@ pub fn find_seen(alloc: Global, list: &Medl, script: &Script, node: u8) -> Resul
     ensures { IfOk result (λ seen. (numbers : Numbers) → IsLegalRun list.now script.now numbers
         → seen ≡ seen_of list.now script.now numbers node) }
 {
-    let run = Run::new(alloc, list)?;
+    let run = ZerosRun::new(alloc, list)?;
     match start_of(list, script) {
         Some(start) => Ok(seen_in(run, list, script, node, start.slot)),
         None => Ok(Seen { value: 0, slot: 0 }),

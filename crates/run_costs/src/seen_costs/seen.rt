@@ -9,7 +9,7 @@ ghost use Rattle.ttp_world.specs.Returning.{is_sound};
 ghost use Rattle.ttp_world.specs.Script.{IsValidScript};
 ghost use Rattle.campaign.specs.Cost.{cost_of, leaves, leave_after, span_with, span_after};
 ghost use Rattle.campaign.specs.Tried.{with_fault};
-ghost use Rattle.campaign.specs.ZerosWorld.{zeros_world};
+ghost use Rattle.ttp_world.specs.ZerosWorld.{zeros_world};
 ghost use Rattle.run_costs.specs.Later.{comes_later};
 ghost use Rattle.run_costs.specs.States.{state_at, AreShown};
 ghost use Rattle.run_costs.specs.Told.{is_hurt_by, AreSound, IsSeenOf};

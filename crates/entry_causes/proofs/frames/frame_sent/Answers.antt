@@ -1,6 +1,6 @@
 use Rattle.std.proofs.Common.{◌≡◌, true, false, ap, subst, sym, ◌∙◌, refl}
 use Rattle.std.proofs.lemmas.Bool.{false≢true}
-use Rattle.campaign.specs.ZerosWorld.{all_zeros}
+use Rattle.ttp_world.specs.ZerosWorld.{all_zeros}
 use Rattle.causes.specs.RunSlots.{is_sent, is_started, past_in}
 use Rattle.controller.proofs.Sets.{with_node-room}
 use Rattle.entry_causes.proofs.BytesSent.{bytes-own, bytes-started}

@@ -1,7 +1,7 @@
 use Rattle.std.proofs.Common.{◌≡◌, ◌<◌, ◌≤◌, ℕ, Bool, true, false, cond, [], take, replicate, length, ap, refl, sym, ◌∙◌, zero-add}
 use Rattle.std.proofs.lemmas.List.{take-replicate}
 use Rattle.std.proofs.lemmas.List.FromFn.{get_or-map-range_with_len}
-use Rattle.campaign.specs.ZerosWorld.{all_zeros, zeros_chosen}
+use Rattle.ttp_world.specs.ZerosWorld.{all_zeros, zeros_chosen}
 use Rattle.ttp_world.specs.Conduct.{carries_payload, payload_sent}
 use Rattle.ttp_world.specs.Diary.{Place, joined_place}
 use Rattle.ttp_world.specs.Frame.{frame, header_of}

@@ -1,7 +1,7 @@
 use Rattle.std.proofs.Common.{to_z, of_z, w64, rules}
 use Rattle.std.proofs.lemmas.Int.{to_z-of_z}
 use Rattle.std.proofs.Common.{◌≡◌, ℕ, ◌<◌, ap, ◌∙◌, arith}
-use Rattle.campaign.specs.ZerosWorld.{zeros_world}
+use Rattle.ttp_world.specs.ZerosWorld.{zeros_world}
 use Rattle.clock_margins.specs.Outcomes.{outcome_beside}
 use Rattle.margin_runs.proofs.tried.try_script.Goals as goal
 

@@ -1,6 +1,6 @@
 use Rattle.std.proofs.Common.{refl, sym, not}
 use Rattle.std.proofs.lemmas.List.Elements.{filter-append}
-use Rattle.campaign.specs.ZerosWorld.{zeros_world}
+use Rattle.ttp_world.specs.ZerosWorld.{zeros_world}
 use Rattle.fault_pairs.specs.PairText.{first_fault_lines}
 use Rattle.fault_pairs.specs.Pairs.{firsts_in}
 use Rattle.fault_pairs.specs.Sums.{PairTold, are_so_far_apart}

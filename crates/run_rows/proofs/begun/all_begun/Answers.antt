@@ -1,8 +1,8 @@
 use Rattle.std.proofs.Common.{ℕ, ◌<◌, ◌≤◌, length, ap, subst, sym, ◌∙◌, get_or, unsigned_abs, arith}
 use Rattle.std.proofs.lemmas.List.{get_or_default}
-use Rattle.campaign.specs.ZerosWorld.{zeros_world}
+use Rattle.ttp_world.specs.ZerosWorld.{zeros_world}
 use Rattle.controller.specs.PlantWithin.{most_ahead}
-use Rattle.run_costs.proofs.Rows.{length-zeros}
+use Rattle.ttp_world.proofs.ZerosWorlds.{length-zeros_world}
 use Rattle.run_costs.specs.States.{off_state}
 use Rattle.run_rows.proofs.Filled.{begun-more, kept-at, state-shown}
 use Rattle.run_rows.proofs.Near.{run-near}
@@ -46,5 +46,5 @@ loop-node-preserved c =
     (omega (arith, less, few)) c.loop-node.invariant
     (c.begun_by.ensures.value past (c.index-states-at.is ∙ state) kept
     ∙ ap (λ (n : ℕ). begun_shown list (begun_node list script n past node))
-    (sym (length-zeros list script c.args.slot)))
+    (sym (length-zeros_world list script c.args.slot)))
     c.begun_by.ensures.near

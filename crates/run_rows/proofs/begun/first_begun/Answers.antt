@@ -1,5 +1,5 @@
 use Rattle.std.proofs.Common.{◌<◌, length, arith}
-use Rattle.campaign.specs.ZerosWorld.{zeros_world}
+use Rattle.ttp_world.specs.ZerosWorld.{zeros_world}
 use Rattle.run_rows.proofs.Filled.{begun-more, kept-at}
 use Rattle.ttp_world.proofs.Lists.{nodes-most}
 use Rattle.ttp_world.specs.World.{node_past}

@@ -1,6 +1,6 @@
 use Rattle.two_faced.proofs.Words.{◌≡◌, ℕ, ◌+◌, ℤ, w64, FitsSigned, to_z, of_z, ap, sym, ◌∙◌, rules, to_z-of_z, Medl}
 use Rattle.two_faced.proofs.Words.{Script, zeros_world, Seen, apart_after, seen_with_slot, seen_in}
-use Rattle.two_faced.proofs.ZerosRun.{length-zeros_world, zeros_world-more}
+use Rattle.ttp_world.proofs.ZerosWorlds.{length-zeros_world, zeros_world-more}
 use Rattle.two_faced.proofs.seen.seen_in.Goals as goal
 
 -- one slot more

@@ -1,5 +1,5 @@
 use Rattle.two_faced.proofs.Words.{◌≡◌, zeros_world, seen_in}
-use Rattle.two_faced.specs.ZerosRun.{RunStandsAfter}
+use Rattle.controller.specs.ZerosRun.{RunStandsAfter}
 use Rattle.two_faced.proofs.seen.seen_in.Given as goal
 
 -- the run stands for the world of the slots so far, and this was seen in it

@@ -1,7 +1,7 @@
 use Rattle.ttp_world.specs.World.{world}
 use Rattle.campaign.specs.Cost.{says_yes}
 use Rattle.campaign.specs.CostText.{test_words}
-use Rattle.campaign.specs.ZerosWorld.{zeros_world}
+use Rattle.ttp_world.specs.ZerosWorld.{zeros_world}
 use Rattle.lab_laws.proofs.Alike.{cost-alike, zeros-legal}
 use Rattle.lab_laws.proofs.campaigns.laws.same_cost.Goals as goal
 

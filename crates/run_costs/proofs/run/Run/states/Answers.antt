@@ -1,5 +1,5 @@
 use Rattle.std.proofs.Common.{ℕ, take, sym, subst, ◌∙◌}
-use Rattle.campaign.specs.ZerosWorld.{zeros_world}
+use Rattle.ttp_world.specs.ZerosWorld.{zeros_world}
 use Rattle.run_costs.specs.States.{AreShown}
 use Rattle.run_costs.proofs.run.Run.states.Goals as goal
 

@@ -1,7 +1,7 @@
 use Rattle.std.proofs.Common.{◌≤◌, ap, ◌∙◌, arith}
 use Rattle.ttp_base.specs.NodeSet.{has_node}
 use Rattle.campaign.specs.Cost.{has_two}
-use Rattle.campaign.specs.ZerosWorld.{zeros_world}
+use Rattle.ttp_world.specs.ZerosWorld.{zeros_world}
 use Rattle.ttp_world.proofs.Lists.{nodes-most}
 use Rattle.run_costs.proofs.Rows.{shown-memberships}
 use Rattle.run_costs.proofs.seen_run.SeenRun.are_split.Goals as goal

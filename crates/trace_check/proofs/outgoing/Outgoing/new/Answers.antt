@@ -8,9 +8,9 @@ loop-node-init c = AreFirst-none c.new-newest.result c.new-chosen.result c.args.
 pub loop-node-preserved : goal.loop-node-preserved
 loop-node-preserved c =
     AreFirst-more c.loop-node.newest c.push.new.self c.loop-node.chosen c.push-in-loop-node.new.self c.args.list.now
-    c.loop-node.node c.get.result.now c.zeros.result c.loop-node.invariant c.in_ok-push.ensures.ok
+    c.loop-node.node c.get.result.now c.zeros-payload.result c.loop-node.invariant c.in_ok-push.ensures.ok
     c.in_ok-push-2.ensures.ok (ap (slice_get c.args.list.now.slots) (sym c.from.ensures) ∙ c.get.ensures)
-    c.zeros.ensures.number c.zeros.ensures.payload
+    c.zeros-payload.ensures
 
 pub returns : goal.returns
 returns c = λ script.

@@ -3,9 +3,10 @@ use Rattle.std.specs.Prelude.{filter}
 use Rattle.ttp_base.specs.NodeSet.{below}
 use Rattle.ttp_world.specs.Diary.{History}
 use Rattle.campaign.specs.Cost.{newest_leave, is_hurt, hurt_nodes, span_after, split_span}
-use Rattle.campaign.specs.ZerosWorld.{zeros_world}
+use Rattle.ttp_world.specs.ZerosWorld.{zeros_world}
 use Rattle.run_costs.specs.States.{AreShown}
-use Rattle.run_costs.proofs.Rows.{length-zeros, next_row, zeros-next, correct-sound, left-next, hurt-next, split-next}
+use Rattle.ttp_world.proofs.ZerosWorlds.{length-zeros_world}
+use Rattle.run_costs.proofs.Rows.{next_row, zeros-next, correct-sound, left-next, hurt-next, split-next}
 use Rattle.run_costs.proofs.seen_costs.seen.SeenCost.add.Goals as goal
 
 pub returns-clause-seen : goal.returns-clause-seen
@@ -17,7 +18,7 @@ returns-clause-seen c =
     let seen = c.requires.seen in
     let history = zeros_world list script slot in
     let row = next_row list script slot in
-    let long = length-zeros list script slot in
+    let long = length-zeros_world list script slot in
     let next = zeros-next list script slot in
     let shown : AreShown list script (row ∷ history) states =
     subst (λ (h : History). AreShown list script h states) next c.requires.shown in

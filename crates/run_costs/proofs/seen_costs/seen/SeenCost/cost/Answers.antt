@@ -2,7 +2,7 @@ use Rattle.std.proofs.Common.{true, ℕ, None, refl, get_or, length, ap, ◌∙�
 use Rattle.std.specs.List.{filter_map}
 use Rattle.ttp_base.specs.NodeSet.{below}
 use Rattle.campaign.specs.Cost.{newest_leave}
-use Rattle.campaign.specs.ZerosWorld.{zeros_world}
+use Rattle.ttp_world.specs.ZerosWorld.{zeros_world}
 use Rattle.run_costs.proofs.Nodes.{filter_map_agree-below}
 use Rattle.run_costs.proofs.Rows.{shown-memberships}
 use Rattle.run_costs.proofs.seen_costs.seen.SeenCost.cost.Goals as goal

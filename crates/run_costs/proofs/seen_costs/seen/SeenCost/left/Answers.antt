@@ -3,7 +3,7 @@ use Rattle.std.specs.Prelude.{filter, is_some}
 use Rattle.ttp_base.specs.NodeSet.{below}
 use Rattle.ttp_base.proofs.NodeSets.{same_sieve}
 use Rattle.campaign.specs.Cost.{newest_leave}
-use Rattle.campaign.specs.ZerosWorld.{zeros_world}
+use Rattle.ttp_world.specs.ZerosWorld.{zeros_world}
 use Rattle.run_costs.proofs.LeftNodes.{nodes-left}
 use Rattle.run_costs.proofs.seen_costs.seen.SeenCost.left.Goals as goal
 

@@ -1,5 +1,6 @@
--- A run in which every frame with payload carries message 0 of its node, the zeros.
-use Rattle.std.specs.Prelude.{◌≡◌, ℕ, zero, suc, List, [], map, length}
+-- A run in which every frame with payload carries message 0 of its node, the zeros. Clocks, entries and costs are those of
+-- every run of the script, whatever messages its frames carry.
+use Rattle.std.specs.Prelude.{ℕ, zero, suc, List, [], map, length}
 use Rattle.ttp_base.specs.NodeSet.{below}
 use Rattle.ttp_world.specs.declared.medl.Medl.{Medl}
 use Rattle.ttp_world.specs.declared.node.Chosen.{Chosen}
@@ -7,8 +8,6 @@ use Rattle.ttp_world.specs.declared.script.Script.{Script}
 use Rattle.ttp_world.specs.Diary.{History}
 use Rattle.ttp_world.specs.Outgoing.{zeros_of}
 use Rattle.ttp_world.specs.World.{step}
-use Rattle.controller.specs.PlantStands.{PlantStandsFor}
-use Rattle.two_faced.specs.declared.run.Run.{Run}
 
 -- message 0 of node k, the zeros
 abbrev pub zeros_chosen : Medl → ℕ → Chosen
@@ -22,9 +21,3 @@ all_zeros list = map (zeros_chosen list) (below (length list.slots))
 abbrev pub zeros_world : Medl → Script → ℕ → History
 zeros_world list script zero = []
 zeros_world list script (suc slots) = step list script (zeros_world list script slots) (all_zeros list)
-
--- a run's plant stands for that world
-pub record RunStandsAfter (run : Run) (list : Medl) (script : Script) (slots : ℕ) : Type 0 where
-  pub same : run.plant.list ≡ list
-  pub plant : PlantStandsFor run.plant script (zeros_world list script slots)
-  pub zeros : run.zeros ≡ all_zeros list

@@ -1,6 +1,8 @@
-use Rattle.two_faced.proofs.Words.{◌≡◌, below, zeros_chosen}
+use Rattle.controller.proofs.Words.{◌≡◌}
+use Rattle.ttp_base.specs.NodeSet.{below}
+use Rattle.ttp_world.specs.ZerosWorld.{zeros_chosen}
 use Rattle.std.specs.Prelude.{map}
-use Rattle.two_faced.proofs.run.all_zeros.Given as goal
+use Rattle.controller.proofs.zeros_run.all_zeros.Given as goal
 
 -- the messages of the nodes so far
 abbrev pub invariant-loop-node : goal.invariant-loop-node

@@ -1,8 +1,10 @@
-use Rattle.two_faced.proofs.Words.{◌≤◌, ◌^◌, ℤ, w64, FitsSigned, ap, sym, subst, ◌∙◌, rules, arith, unsigned_abs}
-use Rattle.two_faced.proofs.Words.{to_z-of_z, Medl, node_past, zeros_world}
+use Rattle.controller.proofs.Words.{◌≤◌, ◌^◌, ℤ, w64, FitsSigned, ap, sym, subst, ◌∙◌, rules, arith, unsigned_abs}
+use Rattle.controller.proofs.Words.{to_z-of_z, Medl}
+use Rattle.ttp_world.specs.World.{node_past}
+use Rattle.ttp_world.specs.ZerosWorld.{zeros_world}
 use Rattle.ttp_world.specs.declared.node.NodeState.{NodeState}
-use Rattle.two_faced.proofs.ZerosRun.{length-zeros_world}
-use Rattle.two_faced.proofs.run.Run.clock.Goals as goal
+use Rattle.ttp_world.proofs.ZerosWorlds.{length-zeros_world}
+use Rattle.controller.proofs.zeros_run.ZerosRun.clock.Goals as goal
 
 pub returns-clause-shows : goal.returns-clause-shows
 returns-clause-shows c = λ script slots stands.

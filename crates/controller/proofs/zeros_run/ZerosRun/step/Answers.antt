@@ -1,6 +1,7 @@
-use Rattle.two_faced.proofs.Words.{length, ap, ◌∙◌, arith}
-use Rattle.two_faced.proofs.ZerosRun.{length-all_zeros, length-zeros_world, may_step, plant_next}
-use Rattle.two_faced.proofs.run.Run.step.Goals as goal
+use Rattle.controller.proofs.Words.{length, ap, ◌∙◌, arith}
+use Rattle.ttp_world.proofs.ZerosWorlds.{length-all_zeros, length-zeros_world}
+use Rattle.controller.proofs.ZerosRuns.{zeros-may_step, zeros-stepped}
+use Rattle.controller.proofs.zeros_run.ZerosRun.step.Goals as goal
 
 pub slot-requires-clause-slot : goal.slot-requires-clause-slot
 slot-requires-clause-slot c =
@@ -13,7 +14,7 @@ slot-requires-clause-count c =
 
 pub slot-requires-clause-chosen : goal.slot-requires-clause-chosen
 slot-requires-clause-chosen c =
-    may_step c.args.list.now c.args.script.now c.args.slot c.args.self.now.plant c.as_slice.result.now c.requires.list
+    zeros-may_step c.args.list.now c.args.script.now c.args.slot c.args.self.now.plant c.as_slice.result.now c.requires.list
     c.requires.stands.same (c.as_slice.ensures ∙ c.requires.stands.zeros) c.requires.stands.plant
 
 pub returns : goal.returns
@@ -23,7 +24,7 @@ returns c =
     record {
       same = same;
       plant =
-          plant_next c.args.list.now c.args.script.now c.args.slot c.args.self.now.plant c.slot.new.self
+          zeros-stepped c.args.list.now c.args.script.now c.args.slot c.args.self.now.plant c.slot.new.self
           c.as_slice.result.now same (c.as_slice.ensures ∙ stands.zeros) c.slot.ensures.steps stands.plant;
       zeros = stands.zeros;
     }

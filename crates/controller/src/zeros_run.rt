@@ -1,36 +1,26 @@
 //! A run of a cluster, slot by slot, in which every frame with payload carries zeros.
 //!
-//! Clocks are the same whatever the frames carry (`laws::runs_are_alike` of `frame_fates`), so what is seen
-//! of them in this run is what is seen in every other one.
-ghost use Rattle.std.specs.Prelude.{◌≡◌, ◌+◌, ◌^◌, ◌<◌, ◌≤◌, ℕ, length, replicate, unsigned_abs, IfOk};
+//! Clocks, entries and what a run costs do not depend on what frames carry (`laws::runs_are_alike` of frame_fates), so
+//! what is seen of them in this run is what is seen in every other one of the script.
+ghost use Rattle.std.specs.Prelude.{◌≡◌, ◌+◌, ◌^◌, ◌<◌, ◌≤◌, ℕ, length, unsigned_abs, IfOk};
 ghost use Rattle.ttp_world.specs.declared.script.Script.{Script};
 ghost use Rattle.ttp_world.specs.Medl.{IsValid};
 ghost use Rattle.ttp_world.specs.Script.{IsValidScript};
 ghost use Rattle.ttp_world.specs.World.{node_past};
-ghost use Rattle.two_faced.specs.ZerosRun.{all_zeros, zeros_world, RunStandsAfter};
+ghost use Rattle.ttp_world.specs.ZerosWorld.{all_zeros, zeros_world};
+ghost use Rattle.controller.specs.ZerosRun.{RunStandsAfter};
 
-use controller::Plant;
+use crate::plant::Plant;
 use std::alloc::Global;
 use ttp_base::{List, Memory};
-use ttp_world::{Chosen, Medl, PAYLOAD_LIMIT, Payload, SLOT_LIMIT, Script};
+use ttp_world::{Chosen, Medl, Payload, SLOT_LIMIT, Script};
 
 /// A run between two slots.
 #[derive(Drop)]
-pub struct Run {
+pub struct ZerosRun {
     plant: Plant,
     // Message 0 of each node.
     zeros: List<Chosen>,
-}
-
-// So many zeros.
-fn zeros(len: u8) -> Payload
-    requires { len ≤ 240 }
-    ensures { result ≡ replicate len 0 }
-{
-    Payload {
-        len,
-        bytes: [0; PAYLOAD_LIMIT],
-    }
 }
 
 // Message 0 of each node.
@@ -40,20 +30,20 @@ fn all_zeros(alloc: Global, list: &Medl) -> Result<List<Chosen>, Memory>
 {
     let mut all = List::new(alloc);
     for node in 0..list.nodes() {
-        let payload = zeros(list.slots.get(usize::from(node)).payload);
+        let payload = Payload::zeros(list.slots.get(usize::from(node)).payload);
         all.push(Chosen { number: 0, payload })?;
     }
     Ok(all)
 }
 
-impl Run {
-    /// The run of a list before its first slot. Only this call takes memory; `Memory` where that
-    /// was refused.
-    pub fn new(alloc: Global, list: &Medl) -> Result<Run, Memory>
+impl ZerosRun {
+    /// The run of a list before its first slot. Only this call takes memory; `Memory` where that was
+    /// refused.
+    pub fn new(alloc: Global, list: &Medl) -> Result<ZerosRun, Memory>
         requires { IsValid list.now }
         ensures { (script : Script) → IfOk result (λ run. RunStandsAfter run list.now script 0) }
     {
-        Ok(Run {
+        Ok(ZerosRun {
             plant: Plant::new(alloc, list)?,
             zeros: all_zeros(alloc, list)?,
         })
@@ -68,6 +58,22 @@ impl Run {
         ensures { RunStandsAfter self.new list.now script.now (slot + 1) }
     {
         self.plant.slot(list, script, self.zeros.as_slice());
+    }
+
+    /// Makes it a copy of another run of the same list. It takes no memory.
+    pub fn copy_from(&mut self, other: &ZerosRun)
+        requires list { other.now.plant.list ≡ self.old.plant.list }
+        requires zeros { other.now.zeros ≡ self.old.zeros }
+        ensures { self.new ≡ other.now }
+    {
+        self.plant.copy_from(&other.plant);
+    }
+
+    /// The cluster after the newest slot.
+    pub fn plant(&self) -> &Plant
+        ensures { result.now ≡ self.now.plant }
+    {
+        &self.plant
     }
 
     /// A node's clock after the newest slot, which is no further from 0 than 2^53 microticks.

@@ -1,4 +1,4 @@
-use Rattle.two_faced.proofs.run.Run.new.Goals as goal
+use Rattle.controller.proofs.zeros_run.ZerosRun.new.Goals as goal
 
 pub returns : goal.returns
 returns c = λ script. record {

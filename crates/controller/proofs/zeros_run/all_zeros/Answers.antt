@@ -1,12 +1,13 @@
-use Rattle.two_faced.proofs.Words.{◌≡◌, ap, sym, ◌∙◌, ◌++◌, [], ◌∷◌, arith, Some, zeros_chosen}
+use Rattle.controller.proofs.Words.{◌≡◌, ap, sym, ◌∙◌, ◌++◌, ◌∷◌, arith, Some}
+use Rattle.ttp_world.specs.ZerosWorld.{zeros_chosen}
 use Rattle.std.specs.Prelude.{slice_get}
 use Rattle.std.proofs.lemmas.List.FromFn.{map-range_with_len_more}
-use Rattle.two_faced.proofs.ZerosPayloads.{zeros_chosen-plan}
-use Rattle.ttp_world.proofs.WorldFacts.{payload_few as plan_payload}
-use Rattle.two_faced.proofs.run.all_zeros.Goals as goal
+use Rattle.ttp_world.proofs.ZerosWorlds.{zeros_chosen-plan}
+use Rattle.ttp_world.proofs.WorldFacts.{payload_few}
+use Rattle.controller.proofs.zeros_run.all_zeros.Goals as goal
 
 pub zeros-payload-requires : goal.zeros-payload-requires
-zeros-payload-requires c = plan_payload c.args.list.now c.from.result c.get.result.now c.requires c.get.ensures
+zeros-payload-requires c = payload_few c.args.list.now c.from.result c.get.result.now c.requires c.get.ensures
 
 pub loop-node-preserved : goal.loop-node-preserved
 loop-node-preserved c =

@@ -1,9 +1,0 @@
-use Rattle.std.proofs.Common.{◌≡◌}
-use Rattle.std.specs.Prelude.{map}
-use Rattle.ttp_base.specs.NodeSet.{below}
-use Rattle.campaign.specs.ZerosWorld.{zeros_chosen}
-use Rattle.run_costs.proofs.zeros.all_zeros.Given as goal
-
--- the messages of the nodes so far
-abbrev pub invariant-loop-node : goal.invariant-loop-node
-invariant-loop-node l = l.all ≡ map (zeros_chosen l.list) (below l.node)

@@ -1,8 +1,0 @@
-use Rattle.std.proofs.lemmas.List.{drop-replicate, take-replicate}
-use Rattle.trace_check.proofs.outgoing.zeros.Goals as goal
-
-pub invariant_of-result : goal.invariant_of-result
-invariant_of-result c = (c.requires, drop-replicate c.args.len 240 0)
-
-pub returns-clause-payload : goal.returns-clause-payload
-returns-clause-payload c = take-replicate c.args.len 240 0 c.requires
