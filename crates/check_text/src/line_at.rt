@@ -4,7 +4,7 @@ ghost use Rattle.script_text.specs.Lines.{lines_of_file};
 ghost use Rattle.check_text.specs.At.{IsLineAt};
 ghost use Rattle.check_text.specs.Lines.{line_numbered};
 
-use script_errors::next_line;
+use script_text::next_line;
 
 /// A line of a text, with its number, counted from 1, and what follows it. Before the first line the number is 0.
 #[derive(Clone, Copy)]

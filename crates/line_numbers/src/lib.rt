@@ -12,7 +12,6 @@
 //! event and 8 for each node. The crate asks not whether the bytes are a script.
 #![tactic(auto)]
 
-mod lines;
 mod numbers;
 mod words;
 

@@ -4,9 +4,9 @@ ghost use Rattle.script_text.specs.Lines.{words_of_line};
 ghost use Rattle.line_numbers.specs.Numbers.{is_of_node, line_numbers_in};
 ghost use Rattle.line_numbers.specs.SoFar.{KeepsLine, IsEmpty};
 
-use crate::lines::next_line;
-use crate::words::{LineKind, decimal_value, line_kind, next_word};
+use crate::words::{LineKind, line_kind};
 use causes::LineNumbers;
+use script_text::{cut_first_word, decimal_value, next_line};
 use std::alloc::Global;
 use ttp_base::{List, Memory};
 
@@ -48,10 +48,10 @@ impl SoFar {
     fn take(&mut self, number: u32, line: &[u8]) -> Result<(), Memory>
         ensures { OnOk result (KeepsLine number (words_of_line line.now) self.old self.new) }
     {
-        let first = next_word(line);
+        let first = cut_first_word(line);
         match line_kind(first.piece) {
-            LineKind::On => keep(&mut self.on, next_word(first.rest).piece, number),
-            LineKind::Drift => keep(&mut self.drift, next_word(first.rest).piece, number),
+            LineKind::On => keep(&mut self.on, cut_first_word(first.rest).piece, number),
+            LineKind::Drift => keep(&mut self.drift, cut_first_word(first.rest).piece, number),
             LineKind::Event => self.events.push(number)?,
             LineKind::Other => {}
         }

@@ -3,7 +3,7 @@ ghost use Rattle.std.specs.Prelude.{◌≡◌};
 ghost use Rattle.script_errors.specs.Words.{form_named, parts_of};
 
 use crate::error::{Form, Part};
-use crate::number::is_text;
+use script_text::is_text;
 
 /// The form that a line's first word names.
 pub fn form_named(word: &[u8]) -> Option<Form>

@@ -22,7 +22,6 @@
 mod error;
 mod form;
 mod line;
-mod lines;
 mod number;
 mod read;
 mod so_far;
@@ -33,7 +32,5 @@ mod writes;
 
 pub use error::{Form, Part, ScriptError, Wrong};
 pub use form::form_named;
-pub use lines::{Cut, next_line};
-pub use number::decimal_value;
 pub use read::script_errors;
 pub use spots::{Spot, cut, spot_text};

@@ -15,10 +15,10 @@ ghost use Rattle.script_errors.specs.SoFar.{TellsLine, counted_writes};
 
 use crate::error::{Form, ScriptError, Wrong};
 use crate::form::{form_named, parts_of};
-use crate::number::decimal_value;
 use crate::so_far::SoFar;
 use crate::spots::{Spot, begins_with_mark, is_comment, spot_text};
 use crate::words::{tell, tell_own};
+use script_text::decimal_value;
 use ttp_base::{List, Memory};
 use ttp_world::Medl;
 

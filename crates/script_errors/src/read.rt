@@ -10,10 +10,10 @@ ghost use Rattle.script_errors.specs.Errors.{script_errors, is_utf16, list_error
 use crate::error::{ScriptError, Wrong};
 use crate::form::form_named;
 use crate::line::{says_something, take_line};
-use crate::lines::next_line;
 use crate::so_far::SoFar;
 use crate::spots::{Spot, cut, spot_text};
 use crate::words::tell;
+use script_text::next_line;
 use std::alloc::Global;
 use ttp_base::{List, Memory};
 use ttp_world::Medl;

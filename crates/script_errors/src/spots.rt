@@ -3,6 +3,7 @@ ghost use Rattle.std.specs.Prelude.{◌≡◌, ◌+◌, ◌<◌, ◌≤◌, ◌+
 ghost use Rattle.script_text.specs.Lines.{is_blank, is_comment};
 ghost use Rattle.script_errors.specs.Spots.{spots_of, spots_from, spot_text, begins_with_mark};
 
+use script_text::is_blank;
 use ttp_base::Memory;
 
 /// Where a word of a line begins, and where it has ended, in bytes from 0.
@@ -12,13 +13,6 @@ pub struct Spot {
     pub start: u32,
     /// The place behind its last byte.
     pub end: u32,
-}
-
-/// Whether a byte stands between words.
-fn is_blank(byte: u8) -> bool
-    ensures { result ≡ is_blank byte }
-{
-    byte == b' ' || byte == b'\t'
 }
 
 // Adds the word that ends with the line, where one has begun.

@@ -8,9 +8,9 @@ ghost use Rattle.script_errors.specs.Errors.{span_errors, own_errors};
 
 use crate::error::{Form, Part, ScriptError, Wrong};
 use crate::form::parts_of;
-use crate::number::decimal_value;
 use crate::spots::{Spot, spot_text};
 use crate::word::{right_node, word_wrong};
+use script_text::decimal_value;
 use ttp_base::{List, Memory};
 use ttp_world::Medl;
 

@@ -9,7 +9,7 @@ use ttp_world::{Channels, Fault};
 
 /// Whether a word is spelled like a text. A compiler that knows the text makes a few tests of bytes of it.
 #[inline(always)]
-pub(crate) fn is_text(text: &[u8], word: &[u8]) -> bool
+pub fn is_text(text: &[u8], word: &[u8]) -> bool
     ensures { result ≡ is_text text.now word.now }
 {
     if word.len() != text.len() {

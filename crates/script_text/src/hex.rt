@@ -28,7 +28,7 @@ fn digit_of(byte: u8) -> u8
 }
 
 /// Whether a word has no bytes but hexadecimal digits.
-pub(crate) fn is_hex_word(word: &[u8]) -> bool
+pub fn is_hex_word(word: &[u8]) -> bool
     ensures { result ≡ is_hex_word word.now }
 {
     for byte in word {

@@ -1,18 +1,18 @@
 //! A text cut into lines.
-ghost use Rattle.std.specs.Prelude.{◌≡◌, ◌+◌, ◌<◌, [], ◌∷◌, length, take, drop, position, IfSome, IfNone};
+ghost use Rattle.std.specs.Prelude.{◌≡◌, ◌+◌, ◌<◌, ◌≤◌, [], ◌∷◌, length, take, drop, position, IfSome, IfNone};
 ghost use Rattle.script_text.specs.Lines.{is_line_feed, is_blank, without_return, lines_of_file};
 
 use memchr::memchr;
 
 /// A first piece of a text, and what follows it.
 #[derive(Clone, Copy)]
-pub(crate) struct Cut<'a> {
-    pub(crate) piece: &'a [u8],
-    pub(crate) rest: &'a [u8],
+pub struct Cut<'a> {
+    pub piece: &'a [u8],
+    pub rest: &'a [u8],
 }
 
 /// Whether a byte stands between words.
-pub(crate) fn is_blank(byte: u8) -> bool
+pub fn is_blank(byte: u8) -> bool
     ensures { result ≡ is_blank byte }
 {
     byte <= b' ' && (byte == b' ' || byte == b'\t')
@@ -20,7 +20,8 @@ pub(crate) fn is_blank(byte: u8) -> bool
 
 // A line without the carriage return at its end, of which one is dropped.
 fn without_return(line: &[u8]) -> &[u8]
-    ensures { result.now ≡ without_return line.now }
+    ensures line { result.now ≡ without_return line.now }
+    ensures shorter { length result.now ≤ length line.now }
 {
     match line.last() {
         Some(b'\r') => &line[..line.len() - 1],
@@ -50,10 +51,11 @@ pub(crate) fn cut_at(text: &[u8], place: usize) -> Cut<'_>
 
 /// The first line of a text, if it has one.
 #[tactic(auto, using(crate::proofs::Cuts::cuts))]
-pub(crate) fn next_line(text: &[u8]) -> Option<Cut<'_>>
+pub fn next_line(text: &[u8]) -> Option<Cut<'_>>
     ensures none { IfNone result (lines_of_file text.now ≡ []) }
     ensures some { IfSome result (λ cut. lines_of_file text.now ≡ cut.piece.now ∷ lines_of_file cut.rest.now) }
     ensures shorter { IfSome result (λ cut. length cut.rest.now < length text.now) }
+    ensures within { IfSome result (λ cut. length cut.piece.now ≤ length text.now) }
 {
     if let Some(end) = line_end(text) {
         let Cut { piece, rest } = cut_at(text, end);

@@ -45,7 +45,7 @@ pub(crate) fn whole_number(word: &[u8], digits: Digits) -> Option<u32>
 }
 
 /// The number that a word of 1 to 9 decimal digits is.
-pub(crate) fn decimal_value(word: &[u8]) -> Option<u32>
+pub fn decimal_value(word: &[u8]) -> Option<u32>
     ensures { SomeIff result (IsTrue (is_number word.now)) (decimal_value word.now) }
 {
     whole_number(word, front_digits(word))

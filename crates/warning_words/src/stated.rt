@@ -4,7 +4,8 @@ ghost use Rattle.warning_words.specs.SaidLines.{number_behind, said_with, said_o
 ghost use Rattle.warning_words.specs.SaidLines.{says_other, event_lines, stating_lines, is_wanted, no_line, line_at};
 ghost use Rattle.warning_words.specs.SaidLines.{first_wanted, cause_line};
 
-use script_errors::{Form, Spot, cut, decimal_value, form_named, next_line, spot_text};
+use script_errors::{Form, Spot, cut, form_named, spot_text};
+use script_text::{decimal_value, next_line};
 use std::alloc::Global;
 use ttp_base::{List, Memory, NodeSet};
 
