@@ -1,10 +1,12 @@
 pub mod Counts
+pub mod Differences
 pub mod OwnNumbers
 pub mod Outcomes
 pub mod Told
 pub mod Wholes
 pub mod Labels
 pub mod Followed
+pub mod Fronts
 pub mod FewLines
 pub mod FirstOutgoing
 pub mod NodesAlike

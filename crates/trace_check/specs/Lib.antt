@@ -1,4 +1,5 @@
 pub mod Answer
+pub mod Difference
 pub mod Following
 pub mod Incoming
 pub mod Outgoing

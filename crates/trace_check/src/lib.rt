@@ -3,7 +3,7 @@
 //! Which message a frame carries and which one a host reads is a choice that a run makes, and each choice
 //! of legal numbers gives another trace. [`verify`] says whether a text is one of them (`is_trace`), and
 //! otherwise names the first line that no legal numbers give after the lines before it (`IsFirstWrong`,
-//! both of `specs/Answer.antt`). `show_outcome` of ttp_top answers so, where no modes are wanted:
+//! both of `specs/Answer.antt`); [`differs_line`] is the line that says so. `show_outcome` of ttp_top answers so, where no modes are wanted:
 //!
 //! ```text
 //! match outcome_of(alloc, list, script, text) {
@@ -30,6 +30,7 @@
 #![tactic(auto)]
 
 mod answer;
+mod difference;
 mod follow;
 mod hosts;
 mod incoming;
@@ -39,4 +40,5 @@ mod outgoing;
 mod text;
 
 pub use answer::{Outcome, verify};
+pub use difference::differs_line;
 pub use outgoing::Outgoing;

@@ -42,7 +42,8 @@ pub use Rattle.ttp_base.specs.NodeSet.{below, set_bits}
 pub use Rattle.ttp_base.specs.Outside.{CutShort, HasRisen, Output, Wrote, WroteLines}
 pub use Rattle.ttp_base.specs.Text.{Lines, is_line, lines_of, newline}
 pub use Rattle.ttp_top.specs.Calls.Answer.{BenchAnswer, CutOf, BenchEnding, BenchPlan, WroteOf, ttpbench}
-pub use Rattle.ttp_top.specs.Calls.Differences.{differs_line, same_line}
+pub use Rattle.trace_check.specs.Difference.{differs_line}
+pub use Rattle.ttp_top.specs.Calls.Differences.{same_line}
 pub use Rattle.ttp_top.specs.Calls.Forms.{keep_ending, modes_ending, plan_of, precision_ending, sample_ending}
 pub use Rattle.ttp_top.specs.Calls.Forms.{table_ending, trace_ending, usage_line, verify_ending}
 pub use Rattle.ttp_top.specs.Calls.Precision.{answer_line, broken_line, faced_line}

@@ -14,7 +14,7 @@
 //! promise of every call, which is that of commands. `specs/Scripts`, `specs/Samples`,
 //! `specs/Traces` and `specs/Tests` have the promises of commands in their own words. `verify` and
 //! `modes` speak of the whole text however much of it is loaded, since no trace is longer than a
-//! load may be (`trace_size` of theorems), and `proofs/Traces/Fronts.antt` shows that the bytes that are loaded
+//! load may be (`trace_size` of theorems), and `proofs/Fronts.antt` of trace_check shows that the bytes that are loaded
 //! decide.
 //!
 //! `run` goes through a cluster in `src/trace.rt`: it is made before the first line, and between

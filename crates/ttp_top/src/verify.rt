@@ -1,5 +1,4 @@
 //! The commands `verify MEDL SCRIPT TRACE` and `modes MEDL SCRIPT TRACE`, once the list and the script are there.
-ghost use Rattle.std.specs.Prelude.{◌≡◌};
 ghost use Rattle.ttp_world.specs.Medl.{IsValid};
 ghost use Rattle.ttp_world.specs.Script.{IsValidScript};
 ghost use Rattle.commands.specs.Files.{trace_plan};
@@ -7,27 +6,14 @@ ghost use Rattle.commands.specs.Outcome.{Follows, ShowsEnding};
 ghost use Rattle.commands.specs.Plan.{outside, ends};
 ghost use Rattle.commands.specs.Texts.{alone};
 ghost use Rattle.ttp_top.specs.Calls.Answer.{ttpbench};
-ghost use Rattle.ttp_top.specs.Calls.Differences.{differs_line};
 ghost use Rattle.ttp_top.specs.Calls.Forms.{judged_ending};
 
 use crate::modes::show_text;
 use commands::{load_trace, say};
 use std::alloc::Global;
-use trace_check::{Outcome, verify as outcome_of};
-use ttp_base::{Library, Line, Sink};
+use trace_check::{Outcome, differs_line, verify as outcome_of};
+use ttp_base::{Library, Sink};
 use ttp_world::{Medl, Script};
-
-// The line on a text whose first wrong line has this number.
-#[tactic(auto, using(ttp_base::proofs::Room::room))]
-fn differs_line(number: u32) -> Line
-    ensures { result ≡ differs_line number }
-{
-    let mut line = Line::new();
-    line.put_text("differs at line ");
-    line.put_number(u64::from(number));
-    line.put_text("\n");
-    line
-}
 
 // Whether a text is a trace, or the modes of one. Memory is taken before the first line is written.
 fn show_outcome<K: Sink>(

@@ -1,21 +1,13 @@
--- The lines on whether a text is a trace.
-use Rattle.ttp_top.proofs.Terms.{◌≡◌, ℕ, Bool, true, false, List, ◌++◌, refl, sym, subst, inl, inr, arith, ◌==◌, codes}
-use Rattle.ttp_top.proofs.Terms.{decimal, if◌then◌else◌, list_any-append, Output, Lines, newline, is_line}
-use Rattle.ttp_top.proofs.Terms.{is_line-append, has, has-decimal, Medl, Script, is_trace, IsFirstWrong, AreLines, Says}
+-- The line on a text that is no trace.
+use Rattle.ttp_top.proofs.Terms.{◌≡◌, ℕ, Bool, false, List, sym, subst, inl, inr}
+use Rattle.ttp_top.proofs.Terms.{if◌then◌else◌, Output, Lines}
+use Rattle.ttp_top.proofs.Terms.{Medl, Script, is_trace, IsFirstWrong, AreLines, Says}
 use Rattle.ttp_top.proofs.Terms.{line_ending, whole_ending, those, BenchAnswer, BenchEnding, ttpbench, differs_line}
 use Rattle.ttp_top.proofs.Terms.{differences}
-use Rattle.std.specs.Prelude.{◌↔◌}
-use Rattle.trace_check.specs.declared.answer.Outcome.TheVariants as outcome
-use Rattle.ttp_top.specs.Calls.Differences.{IsDifference}
+use Rattle.trace_check.specs.Difference.{IsDifference}
+use Rattle.trace_check.proofs.Differences.{differs_line-is_line}
 
--- Each is one line.
-
-differs-by_words : (line : List ℕ) → has 10 line ≡ false → is_line (codes "differs at line " ++ line ++ newline) ≡ true
-differs-by_words line none =
-    is_line-append (codes "differs at line " ++ line) newline (simp (list_any-append (λ c. c == 10), none)) refl
-
-differs_line-is_line : (line : ℕ) → is_line (differs_line line) ≡ true
-differs_line-is_line line = differs-by_words (decimal line) (has-decimal 10 line (omega arith))
+-- It is one line.
 
 pub differences-each : (list : Medl) (script : Script) (text : List ℕ) (lines : Lines)
     → IsDifference list script text lines → AreLines lines
@@ -26,15 +18,6 @@ differences-each list script text lines is = subst AreLines (sym is.said) (diffe
 -- this ending where a text is a trace, and else the line that differs
 abbrev pub ending_if : BenchEnding → Medl → Script → List ℕ → Bool → BenchEnding
 ending_if ending list script text same = if same then ending else whole_ending 1 (those (differences list script text))
-
--- where a line is named the text is no trace
-pub differs-none : (list : Medl) (script : Script) (text : List ℕ) (line : ℕ)
-    → ((outcome.Differs line ≡ outcome.Same) ↔ (is_trace list script text ≡ true)) → is_trace list script text ≡ false
-differs-none list script text line same = by_case (is_trace list script text) same
-  where
-    by_case : (b : Bool) → ((outcome.Differs line ≡ outcome.Same) ↔ (b ≡ true)) → b ≡ false
-    by_case false is = refl
-    by_case true is = let is_same : outcome.Differs line ≡ outcome.Same = is.1 refl in absurd cc
 
 pub differs-said : (ending : BenchEnding) (list : Medl) (script : Script) (text : List ℕ) (line : ℕ)
     (before now : Output)

@@ -17,7 +17,7 @@ use Rattle.commands.specs.Right.{MayBe}
 use Rattle.commands.specs.Texts.{CutAmong}
 use Rattle.ttp_top.specs.Traces.Promise.{said_same, said_modes, IsVerdict, IsJudged}
 use Rattle.ttp_top.specs.Traces.Promise.{ShowOneMode, VerifyPromise, ModesPromise}
-use Rattle.ttp_top.proofs.Traces.Fronts.{HaveAtMost, is_trace-short, is_trace-front, first_wrong-front}
+use Rattle.trace_check.proofs.Fronts.{HaveAtMost, is_trace-short, is_trace-front, first_wrong-front}
 
 -- ---- what both forms ask for, and how they end
 

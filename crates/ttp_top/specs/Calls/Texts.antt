@@ -9,7 +9,7 @@ use Rattle.ttp_world.specs.Script.{IsValidScript}
 use Rattle.ttp_world.specs.Trace.{trace_lines}
 use Rattle.ttp_world.specs.World.{Numbers}
 use Rattle.script_gen.specs.Generator.{generated}
-use Rattle.ttp_top.specs.Calls.Differences.{IsDifference}
+use Rattle.trace_check.specs.Difference.{IsDifference}
 use Rattle.ttp_top.specs.Calls.Precision.{precision_line}
 use Rattle.ttp_top.specs.Samples.Lines.{sample_lines}
 

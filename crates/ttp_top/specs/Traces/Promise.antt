@@ -14,7 +14,8 @@ use Rattle.theorems.specs.ModeText.{ShowsOneMode}
 use Rattle.commands.specs.Plan.{Outside}
 use Rattle.commands.specs.Right.{MayBe, AreRight, AreTold}
 use Rattle.ttp_top.specs.Calls.Answer.{BenchAnswer}
-use Rattle.ttp_top.specs.Calls.Differences.{same_line, IsDifference}
+use Rattle.trace_check.specs.Difference.{IsDifference}
+use Rattle.ttp_top.specs.Calls.Differences.{same_line}
 
 -- what a command writes for a text that is a trace of a list and a script
 abbrev pub OfTrace : Type 0

@@ -1,7 +1,8 @@
 use Rattle.ttp_top.proofs.Terms.{◌∙◌, inl, lines_of, mode_lines, said_as, line_ending, whole_ending, one, ttpbench}
 use Rattle.ttp_top.proofs.Terms.{differs_line, same_line, if◌then◌else◌}
 use Rattle.ttp_world.specs.TraceNumbers.{numbers_in}
-use Rattle.ttp_top.proofs.Calls.Differences.{differs-none, differs-said}
+use Rattle.trace_check.proofs.Differences.{differs-none}
+use Rattle.ttp_top.proofs.Calls.Differences.{differs-said}
 use Rattle.ttp_top.proofs.verify.show_outcome.Goals as goal
 
 pub returns-in-Ok-Differs : goal.returns-in-Ok-Differs

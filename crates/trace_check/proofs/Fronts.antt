@@ -1,15 +1,21 @@
 -- Of a text that is longer than any trace, the first bytes decide whether it is one and which of its lines is wrong.
-use Rattle.ttp_top.proofs.Terms.{◌≡◌, ◌⊎◌, ℕ, ◌+◌, ◌-◌, ◌<◌, ◌≤◌, Bool, true, false, List, ◌++◌, length, take, drop}
-use Rattle.ttp_top.proofs.Terms.{refl, ap, sym, subst, ◌∙◌, inl, inr, arith, append_assoc, concat, cases_lt, take_all}
-use Rattle.ttp_top.proofs.Terms.{Lines, lines_of, Medl, Script, IsLegalRun, trace_lines, Numbers, is_trace}
-use Rattle.ttp_top.proofs.Terms.{IsFirstWrong, is_trace-numbers}
-use Rattle.std.proofs.Common.{length-append}
-use Rattle.std.proofs.lemmas.List.{take-append-drop, length-take, length-take-le}
+use Rattle.std.proofs.Common.{◌≡◌, ◌⊎◌, ℕ, ◌+◌, ◌-◌, ◌<◌, ◌≤◌, Bool, true, false, List, ◌++◌, length, take, drop, refl, ap}
+use Rattle.std.proofs.Common.{sym, subst, ◌∙◌, inl, inr, arith, append_assoc, length-append}
+use Rattle.std.specs.List.{concat}
+use Rattle.std.proofs.lemmas.Bool.{cases_lt}
+use Rattle.std.proofs.lemmas.List.{take_all, take-append-drop, length-take, length-take-le}
 use Rattle.std.proofs.lemmas.List.Folds.{concat-append}
 use Rattle.std.proofs.Math.Seq.{take-append-add}
-use Rattle.trace_check.specs.Answer.{BeginsAsTrace}
+use Rattle.ttp_base.specs.Text.{Lines, lines_of}
+use Rattle.ttp_world.specs.declared.medl.Medl.{Medl}
+use Rattle.ttp_world.specs.declared.script.Script.{Script}
+use Rattle.ttp_world.specs.Legal.{IsLegalRun}
+use Rattle.ttp_world.specs.Trace.{trace_lines}
+use Rattle.ttp_world.specs.World.{Numbers}
 use Rattle.line_text.proofs.Cuts.{concat-lines_of}
+use Rattle.trace_check.specs.Answer.{is_trace, BeginsAsTrace, IsFirstWrong}
 use Rattle.trace_check.proofs.Outcomes.{begins-right}
+use Rattle.trace_check.proofs.OwnNumbers.{is_trace-numbers}
 
 -- no trace of a list and a script has more bytes than these
 abbrev pub HaveAtMost : Medl → Script → ℕ → Type 0
