@@ -22,12 +22,13 @@ use Rattle.commands.proofs.Both.{both_came, both_told, both_ask}
 use Rattle.commands.proofs.Plans.{AllAsk, end_comes}
 use Rattle.commands.proofs.Told.{Quiet, told_shows, told_cut}
 use Rattle.lab_top.specs.Forms.{frames_ending, frames_plan}
-use Rattle.lab_top.specs.Frames.{frames_named, IsDifference}
+use Rattle.trace_check.specs.Difference.{IsDifference}
+use Rattle.lab_top.specs.Frames.{frames_named}
 use Rattle.lab_top.specs.FramesPromise.{MayBeAll, WroteFrames, WroteDifference, CutDifference, ToldDifference, AreAllTold}
 use Rattle.lab_top.specs.FramesPromise.{FramesPromise}
 use Rattle.lab_top.specs.Texts.{differences, LabEnding, LabPlan, LabAnswer, ttplab}
 use Rattle.lab_top.specs.ViewPromise.{WroteOrNone}
-use Rattle.lab_top.proofs.Fronts.{HaveAtMost, is_trace-short, is_trace-front, first_wrong-front}
+use Rattle.trace_check.proofs.Fronts.{HaveAtMost, is_trace-short, is_trace-front, first_wrong-front}
 use Rattle.lab_top.proofs.RefusedFiles.{RefusesNone, list_refused, script_refused, list_due, script_due}
 
 -- ---- the verdict

@@ -18,7 +18,6 @@ pub mod CampaignPromises
 pub mod CheckPromises
 pub mod MarginPromises
 pub mod PairPromises
-pub mod Fronts
 pub mod FramesPromises
 pub mod ScriptPromises
 pub mod WhyPromises

@@ -12,7 +12,8 @@ use Rattle.commands.specs.Plan.{Outside}
 use Rattle.commands.specs.Read.{list_from, script_from}
 use Rattle.commands.specs.Right.{MayBe, AreTold}
 use Rattle.lab_top.specs.LinesPromise.{MayBeBoth, ToldList, ToldScript}
-use Rattle.lab_top.specs.Frames.{frames_named, IsDifference}
+use Rattle.trace_check.specs.Difference.{IsDifference}
+use Rattle.lab_top.specs.Frames.{frames_named}
 use Rattle.lab_top.specs.ViewPromise.{HoldsText, WroteOrNone}
 
 -- the files of these names may be a list, a script for it, and this text

@@ -6,7 +6,7 @@ use Rattle.ttp_world.specs.declared.medl.Medl.{Medl}
 use Rattle.ttp_world.specs.declared.script.Script.{Script}
 use Rattle.commands.specs.Plan.{Ending, Plan}
 use Rattle.commands.specs.Texts.{Program, Answer}
-use Rattle.lab_top.specs.Frames.{IsDifference}
+use Rattle.trace_check.specs.Difference.{IsDifference}
 
 -- A set of texts.
 pub data LabSets : Type 0 where

@@ -1,5 +1,5 @@
 //! The command `frames LIST SCRIPT TRACE`.
-ghost use Rattle.std.specs.Prelude.{◌≡◌, Some, IsTrue};
+ghost use Rattle.std.specs.Prelude.{Some, IsTrue};
 ghost use Rattle.ttp_world.specs.Medl.{IsValid};
 ghost use Rattle.ttp_world.specs.Script.{IsValidScript};
 ghost use Rattle.trace_check.specs.Answer.{is_trace};
@@ -8,28 +8,15 @@ ghost use Rattle.commands.specs.Outcome.{Follows, ShowsEnding};
 ghost use Rattle.commands.specs.Plan.{outside, ends};
 ghost use Rattle.commands.specs.Texts.{alone};
 ghost use Rattle.lab_top.specs.Forms.{frames_ending, lab_plan_of};
-ghost use Rattle.lab_top.specs.Frames.{differs_line};
 ghost use Rattle.lab_top.specs.Texts.{ttplab};
 ghost use Rattle.lab_top.specs.Words.{frames};
 
 use bus_frames::{FrameFault, put_frames};
 use commands::{load_both, load_trace, say};
 use std::alloc::Global;
-use trace_check::{Outcome, verify};
-use ttp_base::{Library, Line, Sink};
+use trace_check::{Outcome, differs_line, verify};
+use ttp_base::{Library, Sink};
 use ttp_world::{Medl, Script};
-
-// The line on a text whose first wrong line has this number.
-#[tactic(auto, using(ttp_base::proofs::Room::room))]
-fn differs_line(number: u32) -> Line
-    ensures { result ≡ differs_line number }
-{
-    let mut line = Line::new();
-    line.put_text("differs at line ");
-    line.put_number(u64::from(number));
-    line.put_text("\n");
-    line
-}
 
 // The frames of a trace.
 fn show_frames<K: Sink>(alloc: Global, list: &Medl, script: &Script, text: &[u8], out: &mut K) -> u8
