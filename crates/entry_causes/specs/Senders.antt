@@ -1,7 +1,6 @@
 -- Who sends in a slot, by the entries of its nodes.
-use Rattle.std.specs.Prelude.{ℕ, Bool, List, None, Option, Some, [], ◌∷◌, filter, not, ◌&&◌, length}
+use Rattle.std.specs.Prelude.{ℕ, Bool, List, None, Option, Some, [], ◌∷◌, not, ◌&&◌}
 use Rattle.causes.specs.RunSlots.{RunSlot, entry_in_slot}
-use Rattle.ttp_base.specs.NodeSet.{below}
 use Rattle.ttp_world.specs.declared.script.Channel.{Channel}
 use Rattle.ttp_world.specs.declared.script.Fault.TheVariants as fault
 use Rattle.ttp_world.specs.Medium.{is_sending}
@@ -20,7 +19,3 @@ sends_in s k = is_sending (entry_in_slot k s)
 -- and something of its frame remains on a channel
 abbrev pub is_left_on : Channel → RunSlot → ℕ → Bool
 is_left_on c s k = sends_in s k && not (has_send_fault s.begun.script fault.Silence k c s.begun.number)
-
--- the nodes of a slot that pass a test
-abbrev pub nodes_where : (ℕ → Bool) → RunSlot → List ℕ
-nodes_where p s = filter p (below (length s.begun.list.slots))

@@ -33,10 +33,6 @@ is_bare kind.I = true
 is_bare kind.N = false
 is_bare kind.X = false
 
--- every frame of the list is bare
-abbrev pub IsBareList : Medl → Type 0
-IsBareList list = AllByRecursion (λ plan. IsTrue (list_all is_bare plan.kinds)) list.slots
-
 -- a slot that is not there
 abbrev pub no_plan : SlotPlan
 no_plan = record { kinds = []; payload = 0; sync = false; start = false; requests = false; live = 0 }
