@@ -1,9 +1,8 @@
-//! The lines of a trace, by the names that callers know: [`put_slot`] writes all lines of a slot from its
-//! report, and the other calls are those of two crates below.
+//! The lines of a slot: [`put_slot`] writes all of them from the slot's report.
 //!
-//! The lines themselves, written and looked for, are line_text's, which needs no report; [`read_line`] and
-//! [`TraceLine`] are line_reader's. A report's read lines hold pairs of words as a ring gave them, so this
-//! crate alone stands on host_port. `put_next` of ttp_top writes a slot once a cluster has done it:
+//! The lines themselves are line_text's, which needs no report. A report's read lines hold pairs of words as a
+//! ring gave them, so this crate stands on host_port. `put_next` of ttp_top writes a slot once a cluster has
+//! done it:
 //!
 //! ```text
 //! match put_slot(cluster.list(), cluster.report(), lines, out) {
@@ -22,10 +21,4 @@
 
 mod slot;
 
-pub use line_reader::{TraceLine, Word, read_line};
-pub use line_text::{
-    NodeLines, RingMessage, behind_back, behind_header, behind_keep, behind_node_line,
-    behind_payload_line, behind_status_line, behind_write_line, message_in, put_back, put_header,
-    put_keep, put_node_line, put_read_line, put_write_line,
-};
 pub use slot::put_slot;

@@ -16,10 +16,10 @@ use crate::trace::{RunFault, put_run};
 use cluster_run::Cluster;
 use commands::load_both;
 use hypothesis::{has_arm, keeps as keeps_of, returns};
+use line_text::{put_back, put_keep};
 use std::alloc::Global;
 use std::sync::Wait;
 use std::thread::Threads;
-use trace_text::{put_back, put_keep};
 use ttp_base::{Gate, Library, Sink};
 use ttp_world::{Medl, Script};
 

@@ -20,11 +20,11 @@ use crate::totals::{Totals, count_run};
 use cluster_run::Cluster;
 use commands::load_list;
 use hypothesis::keeps;
+use line_text::put_keep;
 use script_gen::generate;
 use std::alloc::Global;
 use std::sync::Wait;
 use std::thread::Threads;
-use trace_text::put_keep;
 use ttp_base::{Failed, Gate, Library, Line, Sink};
 use ttp_world::{Medl, Script};
 

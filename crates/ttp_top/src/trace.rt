@@ -7,10 +7,11 @@ ghost use Rattle.ttp_top.specs.Scripts.Written.{HasWritten, Leaves};
 
 use cluster_run::{Cluster, Watch};
 use host_port::SlotReport;
+use line_text::{NodeLines, put_header};
 use std::marker::PhantomData;
 use std::sync::Wait;
 use std::thread::Threads;
-use trace_text::{NodeLines, put_header, put_slot};
+use trace_text::put_slot;
 use ttp_base::{Failed, Gate, Sink};
 use ttp_world::Medl;
 

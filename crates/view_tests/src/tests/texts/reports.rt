@@ -4,8 +4,9 @@ ghost use Rattle.line_text.specs.LineParts.{HasDigits};
 
 use super::scripts::{FOUR_NODES, list_of};
 use host_port::{NodeLine, SlotReport, WriteLine};
+use line_text::NodeLines;
 use std::alloc::Global;
-use trace_text::{NodeLines, put_slot};
+use trace_text::put_slot;
 use ttp_base::{List, Memory, MemorySink, NodeSet};
 use ttp_world::{Ack, Entry, Medl, NodeState, Phase, Verdict};
 
