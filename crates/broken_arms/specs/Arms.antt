@@ -51,7 +51,7 @@ abbrev pub deaf_in : Medl → Script → ClusterStart → ℕ → Option ℕ
 deaf_in list script start slot =
     find (is_deaf script (faulty_in list script start slot) slot) (nodes_of list)
 
--- the same, of a slot that is node k's
+-- the least node that is on and not faulty, and does not hear a slot that is node k's
 abbrev pub unheard_in : Medl → Script → ClusterStart → ℕ → ℕ → Option NotOwed
 unheard_in list script start k slot =
     if expected_sender list start slot == k

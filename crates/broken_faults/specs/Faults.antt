@@ -151,7 +151,7 @@ few_after list script start slot count = record {
   cause = cause_if (cause_of list script start) (newest_fault None (faults_before list script start count));
 }
 
--- the same in a slot that the rule names: before it where the start lacks nodes, and else after it
+-- who is left in the slot that the rule names, and why: before it where the start lacks nodes, and else after it
 abbrev pub few_in : Medl → Script → ClusterStart → ℕ → TooFew
 few_in list script start slot =
     few_after list script start slot (if has_four_before list script start start.slot then suc slot else slot)

@@ -19,7 +19,7 @@ abbrev pub told_fault : Option Fault → Option FaultyNode
 told_fault None = None
 told_fault (Some f) = Some (record { slot = f.slot; node = f.node })
 
--- the same as a list
+-- the fault that the code knows, as a list of one or none
 abbrev pub told_faults : Option Fault → List FaultyNode
 told_faults None = []
 told_faults (Some f) = record { slot = f.slot; node = f.node } ∷ []

@@ -38,6 +38,6 @@ past_slot (past.Errors slot node sum) = slot
 abbrev pub narrow_window : Medl → Option ℤ
 narrow_window list = if int_le (needed list) list.window then None else Some (needed list)
 
--- the same where nodes come back
+-- how wide the window has to be where nodes come back, if it is narrower
 abbrev pub narrow_window_back : Medl → Option ℤ
 narrow_window_back list = if int_le (needed_back list) list.window then None else Some (needed_back list)

@@ -41,7 +41,7 @@ why_by_starters list script (k ∷ starters) =
 abbrev pub why_no_start : Medl → Script → NoStart
 why_no_start list script = why_by_starters list script (filter (may_start list) (nodes_of list))
 
--- the same by the start, if there is one
+-- why there is no start, where none was found
 abbrev pub no_start_by : Medl → Script → Option ClusterStart → Option NoStart
 no_start_by list script None = Some (why_no_start list script)
 no_start_by list script (Some start) = None

@@ -84,7 +84,7 @@ signal_line list slot c sending (Bits k bytes) =
     line_front list slot c sending (found_word list sending bytes)
     ++ byte_words (member_width list) sending.header sending.size bytes ++ newline
 
--- the same, where it meets another or not
+-- the line of a frame, which meets another on the channel or does not
 abbrev pub frame_line : Medl → ℕ → Channel → Sending → Bool → Signal → List ℕ
 frame_line list slot c sending true s = line_front list slot c sending (codes "collision") ++ newline
 frame_line list slot c sending false s = signal_line list slot c sending s

@@ -65,19 +65,19 @@ pub record SlotStands (plant : PlantView) (chosen : List Chosen) (offsets : List
   pub place : (k : ℕ) → k < length list.slots
       → (coming_place list (node_past list script before k)).slot < length list.slots
 
--- so it is of some
+-- a plant stands behind a slot of some history, with these messages and clocks
 pub record IsSomeSlot (plant : PlantView) (chosen : List Chosen) (offsets : List ℤ) (list : Medl) (script : Script)
     (slot : ℕ) : Type 0 where
   pub row : List Entry
   pub before : History
   pub stands : SlotStands plant chosen offsets list script slot row before
 
--- so it is of some messages
+-- a plant stands behind a slot of some history, with these clocks and some messages
 pub record IsSomeChoice (plant : PlantView) (offsets : List ℤ) (list : Medl) (script : Script) (slot : ℕ) : Type 0 where
   pub chosen : List Chosen
   pub some : IsSomeSlot plant chosen offsets list script slot
 
--- so it is of some clocks and script as well
+-- a plant stands behind some slot of some script
 pub record IsPastSlot (plant : PlantView) (list : Medl) : Type 0 where
   pub chosen : List Chosen
   pub offsets : List ℤ

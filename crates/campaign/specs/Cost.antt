@@ -65,7 +65,7 @@ abbrev pub newest_leave : History → ℕ → Option Leave
 newest_leave [] k = None
 newest_leave (row ∷ history) k = leave_after k (length history) (entry_of row k) (newest_leave history k)
 
--- the same of all nodes that ever left
+-- for each node that ever left the newest time
 abbrev pub leaves : Medl → History → List Leave
 leaves list history = filter_map (newest_leave history) (nodes_of list)
 
@@ -123,12 +123,12 @@ abbrev pub span_with : ℕ → Option Span → Span
 span_with slot None = record { first = slot; last = slot }
 span_with slot (Some span) = record { first = span.first; last = slot }
 
--- the same after a slot more, in which they are split or not
+-- the first and the last split slot with one slot more, in which memberships are split or not
 abbrev pub span_after : ℕ → Bool → Option Span → Option Span
 span_after slot true before = Some (span_with slot before)
 span_after slot false before = before
 
--- the same of a history
+-- the first and the last slot of a history after which memberships were split
 abbrev pub split_span : Medl → Script → History → Option Span
 split_span list script [] = None
 split_span list script (row ∷ history) =

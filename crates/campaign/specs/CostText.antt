@@ -71,7 +71,7 @@ on_channels true true = codes "AB"
 on_channels true false = codes "A"
 on_channels false b = codes "B"
 
--- the same
+-- the letters of a fault's channels
 abbrev pub channels_word : Channels → List ℕ
 channels_word channels = on_channels channels.a channels.b
 

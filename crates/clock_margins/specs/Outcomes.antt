@@ -85,7 +85,7 @@ abbrev pub is_others : Costs → Bool
 is_others costs.Others = true
 is_others _ = false
 
--- the same of what is told of a value
+-- a value costs no other node
 abbrev pub costs_nobody : ℕ → ValueTold → Bool
 costs_nobody k told = is_nobody (whom_it_costs k told.outcome)
 

@@ -19,7 +19,7 @@ is_same_truth true other = other
 is_same_truth false true = false
 is_same_truth false false = true
 
--- the same memberships in the same order
+-- two lists have equal memberships in one order
 abbrev pub are_same_sets : List (List ℕ) → List (List ℕ) → Bool
 are_same_sets [] [] = true
 are_same_sets (members ∷ sets) (m ∷ more) = bytes_eq members m && are_same_sets sets more

@@ -23,7 +23,7 @@ abbrev pub with_clock_value : Script → ℕ → Option ℕ → ℤ → Script
 with_clock_value script k None value = with_drift script k value
 with_clock_value script k (Some slot) value = with_fault script (event.Jump k value slot)
 
--- the same of a sweep
+-- the script with this value of a sweep
 abbrev pub swept_script : Script → Sweep → ℤ → Script
 swept_script script sweep value = with_clock_value script sweep.node sweep.slot value
 

@@ -35,7 +35,8 @@ pub record HaveBegunFor (at : CurrentSlot) (numbers : Numbers) (seats : List Sea
     pub begun : HaveBegun (next_slot at.list.now at.script.now numbers) 0 seats
     pub written : (k : ℕ) → k < length at.list.now.slots → HoldsWritten at.list.now at.script.now numbers ends k
 
--- so it is for some numbers, there is a place for each node, and what hosts have written is bytes
+-- a slot may choose its messages: seats and ends stand for some legal numbers, there is a place for each node, and
+-- hosts wrote bytes
 pub record MayChoose (at : CurrentSlot) (seats : List Seat) (ends : List HostState) (chosen : List Chosen) : Type 0
   where
     pub ends_count : length ends ≡ length at.list.now.slots

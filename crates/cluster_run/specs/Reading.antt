@@ -109,7 +109,7 @@ pub record SettlesReadsOf (old : ControllerState) (readers : Option ReadersState
   pub whole : (from : Source) → IsReaderSettled (at_source old from) (reader_in readers from)
   pub settled_is : (from : Source) → at_source new from ≡ settled (at_source old from) (reader_in readers from)
 
--- so it is of all hosts
+-- what the readers of all hosts got is their ends' messages, and each is settled there
 pub record SettlesReads (old : List ControllerState) (readers : List (Option ReadersState)) (new : List ControllerState)
     : Type 0 where
   pub each : (k : ℕ) → k < length readers → SettlesReadsOf (end_at old k) (readers_at readers k) (end_at new k)

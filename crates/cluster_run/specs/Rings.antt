@@ -97,7 +97,7 @@ pub record IsRing (shape : Shape) (messages : List (List ℕ)) (pairs : List Mes
   pub seen : All (SawAtMost w.messages) w.joined
   pub once : shape.buffers ≢ 1 → All GotEach w.joined
 
--- so it is where a ring is due
+-- a writer is there exactly where a ring is due, and has written these messages
 abbrev pub IsRingOf : Option Shape → List (List ℕ) → List Message → Option WriterState → Type 0
 IsRingOf None messages pairs writer = writer ≡ None
 IsRingOf (Some shape) messages pairs writer = IsSomeAnd writer (IsRing shape messages pairs)

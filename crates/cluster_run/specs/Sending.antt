@@ -83,7 +83,7 @@ pub record MayWrite (many : ℕ) (ends : List HostState) (write : HostWrite) : T
   pub takes : Takes (host_at ends write.host) (length write.payload)
   pub room : message_count (host_at ends write.host) + many ≤ most_number
 
--- so it is of every write of the script
+-- the ring of each write's host takes its payload, and has room for so many messages
 abbrev pub MayWriteAll : Script → ℕ → List HostState → Type 0
 MayWriteAll script many ends = (place : ℕ) (w : HostWrite) → write_at script place ≡ Some w → MayWrite many ends w
 

@@ -28,7 +28,7 @@ pub record Refused (p : Program) (unfinished : Texts p.Sets) (before now : Outpu
 abbrev pub Says : (p : Program) → Ending p.Sets → Output → Output → Answer p.Kept → Type 0
 Says p ending before now answer = Showed p ending before now answer ⊎ Stopped p ending before now answer
 
--- the same, or it was refused memory as it wrote
+-- a command ended so, or a fault of the sink or a refusal of memory cut its text short
 abbrev pub ShowsEnding : (p : Program) → Ending p.Sets → Output → Output → Answer p.Kept → Type 0
 ShowsEnding p ending before now answer = Says p ending before now answer ⊎ Refused p ending.unfinished before now answer
 

@@ -28,7 +28,7 @@ abbrev pub list_read : Result Medl MedlError → Result Medl FileFault
 list_read (Ok list) = Ok list
 list_read (Err fault) = Err (wrong.List fault)
 
--- the same of bytes that may be more than a limit
+-- the list of bytes that may be more than a limit, or what is wrong with them
 abbrev pub list_within : ℕ → List ℕ → Result Medl FileFault
 list_within limit bytes = if nat_lt limit (length bytes) then Err wrong.TooLarge else list_read (medl_of bytes)
 
@@ -43,7 +43,7 @@ abbrev pub script_read : Result Script ScriptError → Result Script FileFault
 script_read (Ok script) = Ok script
 script_read (Err fault) = Err (wrong.Script fault)
 
--- the same of bytes that may be more than a limit
+-- the script of bytes that may be more than a limit, or what is wrong with them
 abbrev pub script_within : ℕ → Medl → List ℕ → Result Script FileFault
 script_within limit list bytes =
     if nat_lt limit (length bytes) then Err wrong.TooLarge else script_read (script_of list bytes)

@@ -65,7 +65,7 @@ intent_by list past Start = intent.Bare
 intent_by list past Send = if carries_payload list (coming_place list past) then intent.Loaded else intent.Bare
 intent_by list past _ = intent.Quiet
 
--- the same by the turn: nothing, where none has begun or its plan was made
+-- what a node sends by its turn: nothing, where none has begun or its plan was made
 abbrev pub turn_intent : Medl → NodePast → Turn → Intent
 turn_intent list past Ended = intent.Quiet
 turn_intent list past (Begun act jump) = intent_by list past act
@@ -87,7 +87,7 @@ loaded_length list k intent.Quiet = 0
 loaded_length list k intent.Bare = 0
 loaded_length list k intent.Loaded = (plan_at list k).payload
 
--- the same of what a controller plans
+-- how many bytes of payload the frame carries that a controller plans
 abbrev pub payload_wanted : ControllerView → ℕ
 payload_wanted view = loaded_length view.list view.node (view_intent view)
 

@@ -55,7 +55,7 @@ jump_begun s k = jump_taken (node_of s k).act (jump_of s.script k s.number)
 abbrev pub HasBegun : BegunSlot → ℕ → ControllerView → Type 0
 HasBegun s k view = StandsForNode s k (Begun (node_of s k).act (jump_begun s k)) view
 
--- the same of the nodes of some seats, from a first one on
+-- the first pass: the controllers of some seats stand for their nodes in the slot that has begun, from a first node on
 abbrev pub HaveBegun : BegunSlot → ℕ → List Seat → Type 0
 HaveBegun s first seats = EachFrom first (λ k seat. HasBegun s k seat.controller) seats
 
@@ -85,13 +85,14 @@ intent_before script slot k view =
     intent_by view.list view.past
     (act view.list view.node (is_on script k slot) (is_armed script k slot) view.past)
 
--- the same before a slot, of the frame that the node will send in it
+-- before a slot: where node k is to send a frame with payload in it, the payload is as long as the list says
 abbrev pub IsPayloadBefore : Script → ℕ → Chosen → ℕ → ControllerView → Type 0
 IsPayloadBefore script slot chosen k view =
     intent_before script slot k view ≡ intent.Loaded
     → length chosen.payload ≡ (plan_at view.list view.node).payload
 
--- the same of the nodes of some seats, from a first one on
+-- before a slot: where nodes of some seats, from a first one on, are to send frames with payload, it is as long as the
+-- list says
 abbrev pub ArePayloadsBefore : Script → ℕ → List Chosen → ℕ → List Seat → Type 0
 ArePayloadsBefore script slot chosen first seats =
     EachFrom first (λ k seat. IsPayloadBefore script slot (chosen_of chosen k) k seat.controller) seats
@@ -109,7 +110,7 @@ HasPlanned s chosen k view =
     (Planned (node_of s k).act (jump_begun s k)
     (message_planned s.list (node_of s k).past chosen (node_of s k).act)) view
 
--- the same of the nodes of some seats, from a first one on
+-- the second pass: the controllers of some seats stand for their nodes with their frames planned, from a first node on
 abbrev pub HavePlanned : BegunSlot → List Chosen → ℕ → List Seat → Type 0
 HavePlanned s chosen first seats =
     EachFrom first (λ k seat. HasPlanned s (chosen_of chosen k) k seat.controller) seats
@@ -137,7 +138,7 @@ pub record IsOutcomeOf (list : Medl) (script : Script) (history : History) (chos
       (node_past list script (row_in (slot_after list script history) chosen ∷ history) k)
       (is_some (delivered_at (slot_after list script history) chosen k))
 
--- the same for the nodes of some seats, from a first one on
+-- the payloads that the nodes of some seats deliver, from a first one on, and their statuses after the slot
 abbrev pub AreLeft : Medl → Script → History → List Chosen → ℕ → List Seat → Type 0
 AreLeft list script history chosen first seats =
     EachFrom first (λ k seat. IsOutcomeOf list script history chosen k seat.outcome) seats
@@ -191,7 +192,7 @@ pub record IsFromClocks (carried : Carried) (script : Script) (slot : ℕ) (cloc
   pub frames : List SentFrame
   pub stands : MediumStandsFor carried script slot frames clock
 
--- so it is still, once what node k sends is put
+-- once what node k sends is put, all on the medium was still sent in a slot by nodes whose clocks are so far ahead
 abbrev pub KeepsClocks : Script → ℕ → ControllerView → Carried → Carried → Type 0
 KeepsClocks script k old before after =
     (slot : ℕ) (clock : ℕ → ℤ) → view_clock old ≡ clock k → IsFromClocks before script slot clock

@@ -33,7 +33,7 @@ plant_of list slot seats carried = record { list = list; slot = slot; seats = se
 abbrev pub no_outcome : Outcome
 no_outcome = record { delivered = None; status = record { words = replicate 4 0 } }
 
--- the same for each host
+-- nothing is left for any host before the first slot
 abbrev pub no_outcomes : Medl → List Outcome
 no_outcomes list = replicate (length list.slots) no_outcome
 

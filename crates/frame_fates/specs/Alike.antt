@@ -18,11 +18,11 @@ unnumbered (entry.Joined sender cstate deviation) = entry.Joined sender cstate d
 unnumbered (entry.Judged sender verdict deviation) = entry.Judged sender verdict deviation
 unnumbered (entry.Left reason peer) = entry.Left reason peer
 
--- the same of each entry of a row
+-- a row without the numbers of messages
 abbrev pub unnumbered_row : List Entry → List Entry
 unnumbered_row row = map unnumbered row
 
--- the same of each row of a history
+-- a history without the numbers of messages
 abbrev pub unnumbered_history : History → History
 unnumbered_history history = map unnumbered_row history
 

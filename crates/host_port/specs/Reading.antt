@@ -50,7 +50,7 @@ is_read_at node place read = (read.host == node) && (source_place read.source ==
 abbrev pub reads_at : List HostRead → ℕ → ℕ → ℕ
 reads_at reads node place = count_by (is_read_at node place) reads
 
--- the same by the source
+-- how often a node's host reads a source, by the reads of a slot
 abbrev pub reads_from : List HostRead → ℕ → Source → ℕ
 reads_from reads node from = reads_at reads node (source_place from)
 

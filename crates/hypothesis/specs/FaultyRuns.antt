@@ -24,7 +24,7 @@ pub record IsKeptAt (list : Medl) (script : Script) (slot : ℕ) (walk : KeptFau
   pub known : KnowsKept list script slot walk
   pub kept : AreKeptFrom list script slot walk.kept
 
--- the same of the walk by the test on armed nodes
+-- the walk by the test on armed nodes stands at a slot
 pub record KnowsBack (list : Medl) (script : Script) (slot : ℕ) (walk : BackFaulty) : Type 0 where
   pub start : start_of list script ≡ Some (told_start walk.start)
   pub jumps : walk.jumps ≡ jumps.Far → disturbance_broken list script ≡ None

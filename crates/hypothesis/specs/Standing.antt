@@ -11,7 +11,7 @@ use Rattle.hypothesis.specs.declared.losses.SlotLoss.TheVariants as slot_loss
 abbrev pub told_start : Start → ClusterStart
 told_start start = record { slot = start.slot; node = start.node }
 
--- the same, if it found one
+-- the start that the code found, if it found one
 abbrev pub told_start_if : Option Start → Option ClusterStart
 told_start_if None = None
 told_start_if (Some start) = Some (told_start start)

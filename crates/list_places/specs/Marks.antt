@@ -97,7 +97,7 @@ abbrev pub pair_slots : Key → List ℕ → List SlotPlace
 pair_slots key text =
     if is_slot_key key && (first text == left_bracket) then element_places (length text) (drop 1 text) else []
 
--- the same with these slots, and with a slot more
+-- marks with these slots, and with a slot more
 abbrev pub with_these_slots : Marked → List SlotPlace → Marked
 with_these_slots m places = record { top = m.top; slots = places; has_headers = m.has_headers; is_in_slot = m.is_in_slot }
 

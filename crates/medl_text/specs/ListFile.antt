@@ -74,7 +74,7 @@ abbrev pub key_faults : {X : Type 0} → Field → (Data → Option X) → (X �
 key_faults field seen_as faults None = errors.Missing field ∷ []
 key_faults field seen_as faults (Some d) = kind_faults field faults (seen_as d)
 
--- the same of a key that may be absent
+-- the faults of a key that may be absent: where it is there, it is of its kind, and what it holds is right
 abbrev pub optional_faults : {X : Type 0} → Field → (Data → Option X) → (X → List MedlError) → Option Data
     → List MedlError
 optional_faults field seen_as faults None = []
@@ -142,7 +142,7 @@ abbrev pub letters_faults : ℕ → ℕ → List ℕ → List MedlError
 letters_faults rounds k letters =
     if length letters == rounds && list_all is_kind letters then [] else errors.Kinds k ∷ []
 
--- the same of what a slot holds under `kinds`
+-- the faults of what a slot holds under `kinds`
 unfoldable pub kinds_faults : ℕ → ℕ → Members → List MedlError
 kinds_faults rounds k table =
     let field = at_slot k names.Kinds in key_faults field as_str (letters_faults rounds k) (held_at field table)
@@ -176,7 +176,7 @@ abbrev pub answers_faults : ℕ → ℕ → List ℕ → List MedlError
 answers_faults modes k letters =
     if length letters == modes && list_all is_answer letters then [] else errors.Live k ∷ []
 
--- the same of what a slot holds under `live`, if it holds something there
+-- the faults of what a slot holds under `live`, if it holds something there
 unfoldable pub live_faults : ℕ → ℕ → Members → List MedlError
 live_faults modes k table =
     let field = at_slot k names.Live in optional_faults field as_str (answers_faults modes k) (held_at field table)
@@ -284,11 +284,11 @@ has_only known (member key d table) = is_known_key known key && has_only known t
 abbrev pub unknown_at_top : Members → List MedlError
 unknown_at_top file = if has_only top_keys file then [] else errors.Unknown None ∷ []
 
--- the same of slot k
+-- the fault of slot k with a key that no slot has
 abbrev pub unknown_at_slot : ℕ → Members → List MedlError
 unknown_at_slot k table = if has_only slot_keys table then [] else errors.Unknown (Some k) ∷ []
 
--- the same of all slots, the first of which has this number
+-- the faults of slots with keys that no slot has, the first of which has this number
 abbrev pub unknown_in_slots : ℕ → List Members → List MedlError
 unknown_in_slots k [] = []
 unknown_in_slots k (table ∷ tables) = unknown_at_slot k table ++ unknown_in_slots (suc k) tables
@@ -355,7 +355,7 @@ list_unless (fault ∷ faults) list = Err fault
 unfoldable pub medl_in : Members → Result Medl MedlError
 medl_in file = list_unless (file_faults file) (list_in file)
 
--- the same of a text that may be no document
+-- the list of a text that may be no document, or its first fault
 abbrev pub medl_of_document : Option Members → Result Medl MedlError
 medl_of_document None = Err errors.NotToml
 medl_of_document (Some file) = medl_in file

@@ -51,7 +51,7 @@ pub record KnowsModes (node : NodeModes) (list : Medl) (script : Script) (histor
 
 -- All nodes.
 
--- so it is of each node of the list
+-- the modes of each node of the list are known
 pub record KnowAll (nodes : List NodeModes) (list : Medl) (script : Script) (history : History) : Type 0 where
   pub count : length nodes ≡ length list.slots
   pub each : (k : ℕ) (node : NodeModes) → k < length list.slots → node ≡ get_or nodes k node
@@ -76,7 +76,7 @@ pub record IsPastRow (plant : PlantView) (chosen : List Chosen) (list : Medl) (s
       → place_of list k (diary_of (row ∷ history) k)
       ≡ place_after list k (place_of list k (diary_of history k)) (entry_of row k)
 
--- so it is, for some script and history, after which all was known of the nodes
+-- a plant went one slot on from some history after which the modes of all nodes were known
 pub record HasStepped (plant : PlantView) (chosen : List Chosen) (nodes : List NodeModes) (list : Medl) : Type 0 where
   pub script : Script
   pub row : List Entry

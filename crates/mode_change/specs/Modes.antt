@@ -78,7 +78,7 @@ ends_cycle list place = ends_round list place && (suc place.round == list.rounds
 abbrev pub switched : Modes → Modes
 switched modes = record { mode = option_or modes.next modes.mode; next = None }
 
--- the same at the end of the cluster cycle, and else no change
+-- at the end of the cluster cycle the next mode becomes the mode; else nothing changes
 abbrev pub switched_at : Bool → Modes → Modes
 switched_at ends modes = if ends then switched modes else modes
 

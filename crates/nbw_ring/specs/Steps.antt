@@ -109,7 +109,7 @@ pub record IsLater (counter : ℕ) (v : Reading) : Type 0 where
   pub above_seen : v.seen ≤ counter
   pub small : counter ≤ 2 * most_number + 1
 
--- the same of a thread, if it is a reader
+-- a load of the counter may follow what a thread knows of it, if it is a reader
 abbrev pub FollowsCounter : ℕ → View → Type 0
 FollowsCounter counter (Writer w) = Unit {0}
 FollowsCounter counter (Reader v) = IsLater counter v

@@ -30,7 +30,7 @@ pub record HasFewSums (distances most : ℕ) (sums : Sums) : Type 0 where
   pub are : AreSumsOf distances all sums
   pub few : AreFewSums most sums
 
--- the same of the pairs of a first fault beside
+-- a tally has the sums of some pairs, and counts those of one first fault; no count is more than so many
 pub record HasFewPairs (distances most : ℕ) (tally : Tally) : Type 0 where
   pub sums : HasFewSums distances most tally.sums
   pub counts : AreFewPairs most tally.counts

@@ -115,7 +115,7 @@ HoldsCompanyDeviationsWithin list bound =
     → (r p : ℕ) → IsIn list group r → IsIn list group p
     → (neg_ℤ bound ≤ℤ measured list script history r p) × (measured list script history r p ≤ℤ bound)
 
--- and so it does in a settled one
+-- what one node of a settled company measures of another's frame lies no further from 0
 unfoldable pub HoldsSettledDeviationsWithin : Medl → ℤ → Type 0
 HoldsSettledDeviationsWithin list bound =
     (script : Script) (may_grow : Bool) (group : ℕ → Bool) (newest : ℕ) (history : History)

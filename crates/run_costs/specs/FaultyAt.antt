@@ -14,7 +14,7 @@ IsFaultyAt list script slot faulty.Nobody = start_of list script ≡ None
 IsFaultyAt list script slot (faulty.Kept walk) = (has_arm script ≡ false) × IsKeptAt list script slot walk
 IsFaultyAt list script slot (faulty.Back walk) = (has_arm script ≡ true) × IsBackAt list script slot walk
 
--- the same, whatever it keeps of what happens to the nodes
+-- the faulty nodes at a slot are known, whatever is kept of what happens to the nodes
 abbrev pub KnowsFaulty : Medl → Script → ℕ → Faulty → Type 0
 KnowsFaulty list script slot faulty.Nobody = start_of list script ≡ None
 KnowsFaulty list script slot (faulty.Kept walk) = (has_arm script ≡ false) × KnowsKept list script slot walk

@@ -39,7 +39,7 @@ abbrev pub shown_in : ℕ → Fate → Fate
 shown_in slot (Falling change since) = Fallen change since slot
 shown_in slot fate = fate
 
--- the same, if it is its own
+-- a node's fate after a slot that is its own or not
 abbrev pub turned : Bool → ℕ → Fate → Fate
 turned own slot fate = if own then shown_in slot fate else fate
 

@@ -30,7 +30,7 @@ abbrev pub payload_of_number : Medl → Script → ℕ → ℕ → Option ℕ �
 payload_of_number list script slot k None = []
 payload_of_number list script slot k (Some i) = (message_chosen list script slot k (Some i)).payload ∷ []
 
--- the same by the entry
+-- the message that node k sent in a slot, as one or none, by its entry
 abbrev pub message_given : Medl → Script → ℕ → ℕ → Entry → List (List ℕ)
 message_given list script slot k e = payload_of_number list script slot k (message_of e)
 
@@ -53,7 +53,7 @@ pub record AcceptsAlike (list : Medl) (script : Script) (group : ℕ → Bool) (
       ≡ message_given list script (length history) k (entry_of row k)
   pub own : (k : ℕ) → IsIn list group k → new_messages k (delivered_of list script history row k) ≡ []
 
--- so it is in each slot of a history from slot s on
+-- the nodes of a group accept and deliver alike in each slot of a history from slot s on
 abbrev pub AcceptsAlikeSince : Medl → Script → (ℕ → Bool) → ℕ → History → Type 0
 AcceptsAlikeSince list script group s [] = Unit {0}
 AcceptsAlikeSince list script group s (row ∷ history) =
@@ -76,7 +76,7 @@ pub record StandsAlike (list : Medl) (group : ℕ → Bool) (s : ℕ) (row : Lis
   pub places : (j k : ℕ) → IsIn list group j → IsIn list group k
       → place_of list j (diary_of (row ∷ history) j) ≡ place_of list k (diary_of (row ∷ history) k)
 
--- so it is in each slot of a history from slot s on
+-- the nodes of a group stand alike after each slot of a history from slot s on
 abbrev pub StandsAlikeSince : Medl → (ℕ → Bool) → ℕ → History → Type 0
 StandsAlikeSince list group s [] = Unit {0}
 StandsAlikeSince list group s (row ∷ history) =

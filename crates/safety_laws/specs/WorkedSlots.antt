@@ -51,7 +51,7 @@ faultless = script_with (replicate 4 (Some 0)) []
 abbrev pub first_frame_lost : Script
 first_frame_lost = script_with (replicate 4 (Some 0)) (event.Send 1 both fault.Silence 9 9 ∷ [])
 
--- so it is, and node 1 hears nothing in the three slots after it
+-- node 1's first frame, in slot 9, is lost on both channels, and it hears nothing in the three slots after it
 abbrev pub silent_and_deaf : Script
 silent_and_deaf =
     script_with (replicate 4 (Some 0))

@@ -43,7 +43,7 @@ pub record Finishes (list : Option Medl) (before : Before) (number : ℕ) (line 
       (taken_unless (errors_of_word number first (stated_wrong list before (line_states line f (first ∷ words)))) before
       number (line_states line f (first ∷ words)))
 
--- the same of all that is wrong with it
+-- all that is wrong with a line of a form with its number of words was told, and what it states counts where nothing is
 pub record TellsFull (list : Option Medl) (before : Before) (number : ℕ) (line : List ℕ) (f : Form) (first : Spot)
     (words : List Spot) (so_far : SoFar) (old new : List ScriptError) : Type 0 where
   pub found : new ≡ old ++ full_errors list before number line f first words
@@ -51,13 +51,14 @@ pub record TellsFull (list : Option Medl) (before : Before) (number : ℕ) (line
       (taken_unless (full_errors list before number line f first words) before number
       (line_states line f (first ∷ words)))
 
--- the same of a line of a form with any number of words
+-- all that is wrong with a line of a form was told, and what it states counts where nothing is
 pub record TellsForm (list : Option Medl) (before : Before) (number : ℕ) (line : List ℕ) (f : Form) (first : Spot)
     (words : List Spot) (so_far : SoFar) (old new : List ScriptError) : Type 0 where
   pub found : new ≡ old ++ form_errors list before number line f first words
   pub after : StandsFor list so_far (form_after list before number line f first words)
 
--- the same of one that has another number of words
+-- all that is wrong with a line of a form with another number of words was told, and what it states before a comment
+-- counts
 pub record TellsLength (list : Option Medl) (before : Before) (number : ℕ) (line : List ℕ) (f : Form) (first : Spot)
     (words : List Spot) (so_far : SoFar) (old new : List ScriptError) : Type 0 where
   pub found : new ≡ old ++ (length_errors number line f first words
@@ -65,13 +66,13 @@ pub record TellsLength (list : Option Medl) (before : Before) (number : ℕ) (li
       then full_errors list before number line f first (before_comment line words) else []))
   pub after : StandsFor list so_far (form_after list before number line f first words)
 
--- the same of words
+-- all that is wrong with the words of a line was told, and what they state counts where nothing is
 pub record TellsWords (list : Option Medl) (before : Before) (number : ℕ) (line : List ℕ) (words : List Spot)
     (so_far : SoFar) (old new : List ScriptError) : Type 0 where
   pub found : new ≡ old ++ said_errors list before number line words
   pub after : StandsFor list so_far (said_after list before number line words)
 
--- the same of a whole line
+-- all that is wrong with a whole line was told, and what it states counts where nothing is
 pub record TellsLine (list : Option Medl) (before : Before) (number : ℕ) (line : List ℕ)
     (so_far : SoFar) (old new : List ScriptError) : Type 0 where
   pub found : new ≡ old ++ line_errors list before number line

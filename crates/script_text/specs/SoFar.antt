@@ -96,7 +96,7 @@ RefusesForm list words so_far form (refusals.Fault fault) =
     → first_fault (form_faults list before words form) ≡ Some fault
 RefusesForm list words so_far form refusals.Memory = Unit {0}
 
--- the same of a whole line
+-- a whole line has no fault, and what it says was taken
 pub record TakesLine (list : Medl) (words : List (List ℕ)) (old new : SoFar) : Type 0 where
   pub faults : (before : List Statement) → LinesStandFor old before → line_faults list before words ≡ []
   pub after : (before : List Statement) → LinesStandFor old before → LinesStandFor new (statements_after before words)

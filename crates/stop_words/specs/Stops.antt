@@ -53,7 +53,7 @@ why_words text at (why.NoValue len reason) = shown_there text at len ++ (codes "
 why_words text at (why.Defined key in_brackets) =
     shown_word key ++ (codes " is defined already" ++ brackets_words in_brackets)
 
--- the same where it stops being one somewhere
+-- why a text is no TOML, if it stops being one somewhere
 unfoldable pub stop_words : List ℕ → Option Stop → List ℕ
 stop_words text None = codes ""
 stop_words text (Some stop) = why_words text stop.at stop.why

@@ -20,7 +20,7 @@ pub record ShowSameMode (lines : Lines) (slot j k : ℕ) : Type 0 where
   pub one : ShowsMode lines slot j mode next
   pub other : ShowsMode lines slot k mode next
 
--- so it is of any two nodes that are correct after the slot
+-- the lines of any two nodes that are correct after the slot show one mode
 abbrev pub ShowsOneMode : Medl → Script → Lines → ℕ → Type 0
 ShowsOneMode list script lines slot =
     (j k : ℕ) → IsIn list (is_correct_after list script slot) j → IsIn list (is_correct_after list script slot) k

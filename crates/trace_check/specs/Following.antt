@@ -80,7 +80,7 @@ pub record HasEnded (plant : PlantView) (incoming : Incoming) (list : Medl) (scr
       → IfSome (outcome_at plant k).delivered (λ d. d.sender < length list.slots)
   pub rings : TellsRings incoming list script history
 
--- so it is past the slot of this number, for some history
+-- a plant and what hosts read are past the slot of this number, for some history
 pub record IsPast (plant : PlantView) (incoming : Incoming) (list : Medl) (slot : ℕ) : Type 0 where
   pub script : Script
   pub history : History
@@ -144,7 +144,7 @@ pub record ReadsNone (list : Medl) (script : Script) (history : History) (chosen
       → MayRead list script history chosen earlier (record { read = read; number = number })
       → ¬ (text ≡ line_of_read list script history chosen (record { read = read; number = number }) ++ more)
 
--- so it is of each of some reads, the first one after these
+-- each of some reads may be made by legal numbers, the first one after these
 abbrev pub MayReadAll : Medl → Script → History → List Chosen → List ReadMessage → List ReadMessage → Type 0
 MayReadAll list script history chosen earlier [] = Unit {0}
 MayReadAll list script history chosen earlier (r ∷ reads) =
@@ -180,7 +180,7 @@ pub record FollowerStandsFor (f : Follower) (list : Medl) (script : Script) (num
   pub incoming : TellsRings f.incoming list script (world list script numbers)
   pub floors : AreFloorsWithin f.incoming list script (world list script numbers)
 
--- so it is after so many slots, for some legal numbers
+-- a follower knows all that comes of some legal numbers of so many slots
 pub record StandsAt (f : Follower) (list : Medl) (script : Script) (slot : ℕ) : Type 0 where
   pub numbers : Numbers
   pub count : length numbers ≡ slot

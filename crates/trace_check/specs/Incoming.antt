@@ -64,7 +64,7 @@ abbrev pub IsRingKept : Incoming → HostRead → Type 0
 IsRingKept incoming read = (p : ℕ) → read.source ≡ source.Node p
     → read.host * incoming.nodes + p < length incoming.payloads.items
 
--- the same of both, but for what hosts have read
+-- both know the same newest messages; what hosts have read may differ
 pub record HaveSameMessages (old new : Incoming) : Type 0 where
   pub nodes : new.nodes ≡ old.nodes
   pub payloads : new.payloads ≡ old.payloads

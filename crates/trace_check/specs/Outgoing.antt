@@ -38,11 +38,11 @@ pub record Chooses (o : Outgoing) (list : Medl) (script : Script) (slot : ℕ) (
   pub chosen : (k : ℕ) → k < length list.slots
       → chosen_of o.chosen.items k ≡ message_chosen list script slot k (Some (number k))
 
--- so it is between two slots: each would send its host's newest
+-- between two slots each node would send its host's newest message
 abbrev pub HoldsNewest : Outgoing → Medl → Script → ℕ → Type 0
 HoldsNewest o list script slot = Chooses o list script slot (oldest_number list script slot)
 
--- and so it is in a slot, whichever legal messages are chosen
+-- in a slot some legal message is chosen for each node
 pub record HasChosen (o : Outgoing) (list : Medl) (script : Script) (slot : ℕ) : Type 0 where
   pub number : ℕ → ℕ
   pub legal : (k : ℕ) → k < length list.slots → IsTrue (is_legal_message list script slot k (Some (number k)))

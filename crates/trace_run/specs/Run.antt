@@ -44,7 +44,7 @@ pub record IsTraceAt (run : TraceRun) (list : Medl) (script : Script) (whole : N
   pub left : IsTextLeft list script whole slot text
   pub stands : TraceStandsFor run list script (first_numbers script whole slot)
 
--- so it is by some
+-- after so many slots this is left of a text that is the trace of some legal numbers
 pub record IsTraceSomewhere (run : TraceRun) (list : Medl) (script : Script) (slot : ℕ) (text : List ℕ) : Type 0 where
   pub whole : Numbers
   pub at : IsTraceAt run list script whole slot text
@@ -81,7 +81,7 @@ pub record IsMade (run : TraceRun) (list : Medl) (script : Script) (whole : Numb
       (world list script (first_numbers script whole slot))
   pub chosen : HasChosen run.outgoing list script slot
 
--- so it is by some
+-- the slot that follows the first ones was made by some legal numbers, and its lines stand at the front of the text
 pub record IsMadeSomewhere (run : TraceRun) (list : Medl) (script : Script) (slot : ℕ) (text : List ℕ) : Type 0 where
   pub whole : Numbers
   pub made : IsMade run list script whole slot text

@@ -52,6 +52,7 @@ phase_act phase.Left list k on armed past = if armed then Listen else Gone
 phase_act phase.Listening list k on armed past = listening_act list k past
 phase_act phase.Active list k on armed past = active_act list k past
 
--- the same by its past: a node that has left listens again from a slot on in which it is armed
+-- what node k does in the coming slot, by its past: a node that has left listens again from a slot on in which it is
+-- armed
 abbrev pub act : Medl → ℕ → Bool → Bool → NodePast → Act
 act list k on armed past = phase_act past.phase list k on armed past

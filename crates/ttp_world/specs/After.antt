@@ -40,7 +40,7 @@ opined_members list k members a e =
 abbrev pub members_after : Medl → ℕ → List ℕ → Ack → Entry → List ℕ
 members_after list k members a e = if is_active_entry e then opined_members list k members a e else []
 
--- the same for a verdict, as a set with nodes put in and taken out: a correct frame settles a doubt
+-- the members that a verdict leaves, as a set with nodes put in and taken out: a correct frame settles a doubt
 abbrev pub settled_members : List ℕ → Ack → List ℕ
 settled_members members (ack.Doubt x) = without_node members x
 settled_members members _ = members

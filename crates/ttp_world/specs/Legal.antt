@@ -33,7 +33,7 @@ is_same_number None (Some j) = false
 is_same_number (Some i) None = false
 is_same_number (Some i) (Some j) = i == j
 
--- the same of two lists, place by place
+-- two lists have the same numbers or lack them, place by place
 abbrev pub are_same_numbers : List (Option ℕ) → List (Option ℕ) → Bool
 are_same_numbers [] [] = true
 are_same_numbers [] (n ∷ ns) = false
@@ -116,7 +116,7 @@ abbrev pub is_legal : Medl → Script → Numbers → Bool
 is_legal list script numbers =
     are_legal_slots list script (world list script numbers) numbers && never_fall (all_reads script numbers)
 
--- the same as a fact
+-- message numbers are legal, as a fact
 abbrev pub IsLegal : Medl → Script → Numbers → Type 0
 IsLegal list script numbers = IsTrue (is_legal list script numbers)
 

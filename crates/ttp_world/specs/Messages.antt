@@ -45,7 +45,7 @@ delivered_of list script history row r =
 abbrev pub payload_of_sender : ℕ → Delivered → List (List ℕ)
 payload_of_sender p delivered = if delivered.sender == p then delivered.payload ∷ [] else []
 
--- the same of what was delivered, if anything was
+-- the payload of node p of what was delivered, if anything was
 abbrev pub new_messages : ℕ → Option Delivered → List (List ℕ)
 new_messages p None = []
 new_messages p (Some delivered) = payload_of_sender p delivered

@@ -30,7 +30,7 @@ candidate_sets ack.First own members =
 candidate_sets (ack.Doubt x) own members =
     record { first = without_node (with_node members own) x; second = Some (with_node (without_node members own) x) }
 
--- the same for the frame of a sender, which is a member of each
+-- the candidates for the frame of a sender, which is a member of each
 abbrev pub candidates : Ack → ℕ → List ℕ → ℕ → Candidates
 candidates a own members sender = candidate_sets a own (with_node members sender)
 

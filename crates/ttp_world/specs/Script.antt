@@ -88,7 +88,7 @@ pub record HostWrite : Type 0 where
   pub host : ℕ
   pub payload : List ℕ
 
--- the same where it lies in the script
+-- a message that a node's host writes, where it lies in the script
 abbrev pub host_write : Written → HostWrite
 host_write written = record { host = written.host; payload = written.payload.now }
 

@@ -41,7 +41,7 @@ abbrev pub said_with : ℕ → List ℕ → Spot → List Spot → Form → Said
 said_with number line first words f =
     record { line = number; column = first.start + 1; form = f; number = number_behind line words }
 
--- the same where the first names a form
+-- a line of this number whose first word names this form, if it names one
 abbrev pub said_if : ℕ → List ℕ → Spot → List Spot → Option Form → List SaidLine
 said_if number line first words None = []
 said_if number line first words (Some f) = said_with number line first words f ∷ []

@@ -64,7 +64,7 @@ script_on slots on events = record { slots = slots; on = on; drift = map (λ o. 
 abbrev pub all_on_script : ℕ → ℕ → List Event → Script
 all_on_script n slots events = script_on slots (replicate n (Some 0)) events
 
--- the same, where node 0 of four drifts by one microtick a slot
+-- four nodes, all on from slot 0, of which node 0 drifts by one microtick a slot
 abbrev pub drifting_script : ℕ → List Event → Script
 drifting_script slots events =
     record { slots = slots; on = replicate 4 (Some 0); drift = pos 1 ∷ pos 0 ∷ pos 0 ∷ pos 0 ∷ []; events = events }

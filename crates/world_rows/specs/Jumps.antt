@@ -29,11 +29,11 @@ late_node_3 = Some 0 ∷ Some 0 ∷ Some 0 ∷ Some 8 ∷ Some 0 ∷ Some 0 ∷ 
 abbrev pub six_nodes_keep : ℕ → List Event → Keep
 six_nodes_keep slots events = keeps (bare_list 6) (all_on_script 6 slots events)
 
--- the same for six nodes that are switched on at these slots
+-- what the test says of so many slots of six nodes with these events, switched on at these slots
 abbrev pub late_nodes_keep : ℕ → List (Option ℕ) → List Event → Keep
 late_nodes_keep slots on events = keeps (bare_list 6) (script_on slots on events)
 
--- the same where the window is five microticks, and node 3 jumps so far in slot 26
+-- what the test says of six nodes where the window is five microticks, and node 3 jumps so far in slot 26
 abbrev pub wide_window_keeps : ℤ → Keep
 wide_window_keeps value =
     keeps (list_with (pos 0) (pos 0) (pos 5) (map (bare_slot_with (0 ∷ [])) (below 6)))

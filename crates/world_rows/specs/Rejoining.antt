@@ -47,7 +47,7 @@ implicit_list = list_with (pos 0) (pos 0) (pos 2) (map implicit_slot (below 6))
 abbrev pub armed_until : ℕ → List Event → Script
 armed_until slots events = all_on_script 6 slots (event.Send 2 both fault.Noise 26 26 ∷ event.Arm 2 40 ∷ events)
 
--- the same run, where it is not armed
+-- node 2 sends noise and is not armed
 abbrev pub never_armed : Script
 never_armed = all_on_script 6 72 (event.Send 2 both fault.Noise 26 26 ∷ [])
 
