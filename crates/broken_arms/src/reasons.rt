@@ -14,7 +14,7 @@ ghost use Rattle.broken_faults.specs.Faults.{faulty_in};
 
 use hypothesis::{
     BackFaulty, SlotFaults, Start, expected_sender, four_rounds, is_deaf, is_only_arm, lesser,
-    offers_place, two_rounds,
+    offers_place, touches, two_rounds,
 };
 use ttp_base::NodeSet;
 use ttp_world::{Event, Medl, SLOT_LIMIT, Script};
@@ -184,15 +184,6 @@ fn near_fault(list: &Medl, script: &Script, start: Start, slot: u32) -> Option<N
         }
     }
     None
-}
-
-// Whether slots lie in the four rounds from a slot on, some of them.
-fn touches(list: &Medl, slot: u32, from: u32, to: u32) -> bool
-    requires valid { IsValid list.now }
-    requires slot { slot < SLOT_LIMIT }
-    ensures { result ≡ touches list.now slot from to }
-{
-    from < slot + four_rounds(list) && slot <= to
 }
 
 // The first of the four rounds' slots in which a line of a node's sending, hearing or clock stands.

@@ -1,14 +1,14 @@
 //! Drifts and reading errors past their bounds, and the window that clocks need.
-ghost use Rattle.std.specs.Prelude.{◌≡◌, ◌*◌, ◌<◌, pos, ◌*ℤ◌, ◌≤ℤ◌, length, filter, All};
+ghost use Rattle.std.specs.Prelude.{◌≡◌, ◌*◌, ◌<◌, pos, ◌≤ℤ◌, length, filter, All};
 ghost use Rattle.std.specs.List.{find};
 ghost use Rattle.ttp_base.specs.NodeSet.{most_nodes};
 ghost use Rattle.ttp_world.specs.Hypothesis.{nodes_of, clocks_broken, is_within_bound};
-ghost use Rattle.ttp_world.specs.Medl.{IsValid, IsWithin};
+ghost use Rattle.ttp_world.specs.Medl.{IsValid};
 ghost use Rattle.ttp_world.specs.Returning.{needed_back};
 ghost use Rattle.ttp_world.specs.Script.{drift_of, reading_error, IsValidScript, IsWithinSpan};
 ghost use Rattle.broken_rules.specs.Clocks.{is_past, past_bound_in, errors_past, narrow_window, narrow_window_back};
 
-use hypothesis::drifts_hold;
+use hypothesis::{drifts_hold, needed_back};
 use precision::needed;
 use ttp_base::NodeSet;
 use ttp_world::{DRIFT_LIMIT, Medl, Script};
@@ -96,23 +96,6 @@ pub(crate) fn narrow_window(list: &Medl) -> Option<i64>
 {
     let due = needed(list);
     if due <= list.window { None } else { Some(due) }
-}
-
-// What drifts make of it where a node came back: 8 D n.
-fn drift_share_back(list: &Medl) -> i64
-    requires { IsValid list.now }
-    ensures value { result ≡ list.now.drift *ℤ pos (8 * length list.now.slots) }
-    ensures within { IsWithin 0 192000 result }
-{
-    list.drift * (8 * list.nodes()) as i64
-}
-
-// How far a deviation may lie from 0 between nodes of which one came back, in microticks.
-fn needed_back(list: &Medl) -> i64
-    requires { IsValid list.now }
-    ensures { result ≡ needed_back list.now }
-{
-    drift_share_back(list) + (list.error * 6 + 2)
 }
 
 /// How wide it has to be where nodes come back.

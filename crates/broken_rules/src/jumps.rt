@@ -1,13 +1,13 @@
 //! Flipped bits, and jumps of a clock that do not go far or are not the node's first.
-ghost use Rattle.std.specs.Prelude.{◌≡◌, ◌*◌, ◌<◌, ◌≤◌, get_or, length, Some, None};
+ghost use Rattle.std.specs.Prelude.{◌≡◌, ◌*◌, ◌<◌, get_or, length, Some, None};
 ghost use Rattle.std.specs.List.{filter_map};
 ghost use Rattle.ttp_base.specs.NodeSet.{most_nodes};
-ghost use Rattle.ttp_world.specs.Hypothesis.{four_windows, is_far_jump};
-ghost use Rattle.ttp_world.specs.Medl.{IsValid, IsWithin};
+ghost use Rattle.ttp_world.specs.Hypothesis.{is_far_jump};
+ghost use Rattle.ttp_world.specs.Medl.{IsValid};
 ghost use Rattle.ttp_world.specs.Script.{jump_of, IsValidEvent, IsValidScript};
 ghost use Rattle.broken_rules.specs.Jumps.{HoldFirstJumps, jump_disturbs, disturbed_at, earlier, first_disturbed};
 
-use hypothesis::lesser;
+use hypothesis::{is_far_jump, lesser};
 use ttp_world::{Event, Medl, Script};
 
 /// What a line of a script does to a frame or a clock that no rule allows.
@@ -50,24 +50,6 @@ fn first_jumps(list: &Medl, script: &Script) -> FirstJumps
         }
     }
     FirstJumps { slots }
-}
-
-// Four windows, in microticks.
-fn four_windows(list: &Medl) -> i64
-    requires { IsValid list.now }
-    ensures value { result ≡ four_windows list.now }
-    ensures bound { IsWithin 4 4000000 result }
-{
-    list.window * 4
-}
-
-// Whether a jump goes as far as four windows, either way.
-fn is_far_jump(list: &Medl, jump: i64) -> bool
-    requires { IsValid list.now }
-    ensures { result ≡ is_far_jump list.now jump }
-{
-    let far = four_windows(list);
-    far <= jump || jump <= -far
 }
 
 // What is not allowed of a node's jump in a slot, if something is.

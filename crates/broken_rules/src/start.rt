@@ -1,15 +1,13 @@
 //! Why a cluster has no start.
-ghost use Rattle.std.specs.Prelude.{◌≡◌, ◌+◌, ◌*◌, ◌<◌, length, filter, IfSome, not, ◌&&◌};
-ghost use Rattle.std.specs.List.{filter_map};
-ghost use Rattle.ttp_base.specs.NodeSet.{most_nodes};
-ghost use Rattle.ttp_world.specs.Hypothesis.{nodes_of, least_of, start_slot, starts_in};
+ghost use Rattle.std.specs.Prelude.{◌≡◌, ◌<◌, filter, not, ◌&&◌};
+ghost use Rattle.ttp_world.specs.Hypothesis.{nodes_of, starts_in};
 ghost use Rattle.ttp_world.specs.Medl.{may_start, IsValid};
 ghost use Rattle.ttp_world.specs.Script.{is_ever_on, IsValidScript};
 ghost use Rattle.broken_rules.specs.Start.{is_late, why_at, why_no_start, no_start};
 
-use hypothesis::{lesser, start_of};
+use hypothesis::{first_start, is_ever_on, start_of, starters_in};
 use ttp_base::NodeSet;
-use ttp_world::{Medl, SLOT_LIMIT, Script};
+use ttp_world::{Medl, Script};
 
 /// Why no node starts alone, with all others on by then: the first of these.
 #[derive(Clone, Copy)]
@@ -40,14 +38,6 @@ fn starters_of(list: &Medl) -> NodeSet
     starters
 }
 
-// Whether a node is ever on.
-fn is_ever_on(script: &Script, node: u8) -> bool
-    requires { node < length script.now.on }
-    ensures { result ≡ is_ever_on script.now node }
-{
-    script.on.get(node as usize).is_some()
-}
-
 // The nodes that are ever on.
 fn ever_on(list: &Medl, script: &Script) -> NodeSet
     requires valid { IsValid list.now }
@@ -61,66 +51,6 @@ fn ever_on(list: &Medl, script: &Script) -> NodeSet
         }
     }
     on
-}
-
-// When a node would start on a silent bus, where it may.
-fn start_slot(list: &Medl, script: &Script, node: u8) -> Option<u32>
-    requires valid { IsValid list.now }
-    requires script { IsValidScript list.now script.now }
-    requires node { node < length list.now.slots }
-    ensures value { result ≡ start_slot list.now script.now node }
-    ensures bound { IfSome result (λ slot. slot < SLOT_LIMIT + 3 * most_nodes) }
-{
-    if !list.slots.get(node as usize).start {
-        return None;
-    }
-    match script.on.get(node as usize) {
-        Some(on) => Some(*on + 2 * u32::from(list.nodes()) + u32::from(node)),
-        None => None,
-    }
-}
-
-// The first slot in which a node would start.
-fn first_start(list: &Medl, script: &Script) -> Option<u32>
-    requires valid { IsValid list.now }
-    requires script { IsValidScript list.now script.now }
-    ensures { result ≡ least_of (filter_map (start_slot list.now script.now) (nodes_of list.now)) }
-{
-    let mut least = None;
-    for node in 0..list.nodes() {
-        if let Some(slot) = start_slot(list, script, node) {
-            least = Some(lesser(slot, least));
-        }
-    }
-    least
-}
-
-// Whether a node would start in a slot.
-fn starts_in(list: &Medl, script: &Script, slot: u32, node: u8) -> bool
-    requires valid { IsValid list.now }
-    requires script { IsValidScript list.now script.now }
-    requires node { node < length list.now.slots }
-    ensures { result ≡ starts_in list.now script.now slot node }
-{
-    match start_slot(list, script, node) {
-        Some(start) => start == slot,
-        None => false,
-    }
-}
-
-// The nodes that would start in a slot.
-fn starters_in(list: &Medl, script: &Script, slot: u32) -> NodeSet
-    requires valid { IsValid list.now }
-    requires script { IsValidScript list.now script.now }
-    ensures { result ≡ filter (starts_in list.now script.now slot) (nodes_of list.now) }
-{
-    let mut starters = NodeSet::empty();
-    for node in 0..list.nodes() {
-        if starts_in(list, script, slot, node) {
-            starters = starters.with(node);
-        }
-    }
-    starters
 }
 
 // The nodes that come on after a slot.

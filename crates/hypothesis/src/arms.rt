@@ -104,8 +104,8 @@ pub fn is_only_arm(list: &Medl, script: &Script, slot: u32) -> bool
     count == 1
 }
 
-// Whether slots lie in the four rounds from a slot on, some of them.
-fn touches(list: &Medl, slot: u32, from: u32, to: u32) -> bool
+/// Whether slots lie in the four rounds from a slot on, some of them.
+pub fn touches(list: &Medl, slot: u32, from: u32, to: u32) -> bool
     requires valid { IsValid list.now }
     requires slot { slot < SLOT_LIMIT }
     ensures { result ≡ touches list.now slot from to }
@@ -156,8 +156,8 @@ fn is_left_alone(list: &Medl, script: &Script, node: u8, slot: u32) -> bool
     true
 }
 
-// Whether a node is on and not faulty, where these are.
-fn is_sound(script: &Script, faulty: NodeSet, slot: u32, node: u8) -> bool
+/// Whether a node is on and not faulty, where these are.
+pub fn is_sound(script: &Script, faulty: NodeSet, slot: u32, node: u8) -> bool
     requires on { node < length script.now.on }
     requires node { node < most_nodes }
     ensures { result ≡ is_sound script.now faulty slot node }

@@ -165,8 +165,8 @@ fn back_drift_share(list: &Medl) -> i64
     list.drift * (8 * list.nodes()) as i64
 }
 
-// How far a deviation may lie from 0 between nodes of which one came back, in microticks.
-fn needed_back(list: &Medl) -> i64
+/// How far a deviation may lie from 0 between nodes of which one came back, in microticks.
+pub fn needed_back(list: &Medl) -> i64
     requires { IsValid list.now }
     ensures { result ≡ needed_back list.now }
 {

@@ -56,15 +56,18 @@ mod steady;
 mod walk;
 
 pub use crate::armed::has_arm;
-pub use crate::arms::{four_rounds, is_deaf, is_only_arm, offers_place, two_rounds};
+pub use crate::arms::{
+    four_rounds, is_deaf, is_only_arm, is_sound, offers_place, touches, two_rounds,
+};
 use crate::back_walk::started_back;
-pub use crate::clocks::{drifts_hold, errors_hold_within};
+pub use crate::clocks::{drifts_hold, errors_hold_within, needed_back};
 use crate::clocks::{back_window_broken, clocks_broken, window_broken};
 pub use crate::faulty::{BackFaulty, KeptFaulty, first_broken_arm};
 pub use crate::losses::{expected_sender, is_lost};
 pub use crate::nodes::lesser;
 use crate::outside::{disturbance_broken, outside_broken};
-pub use crate::start::{Start, sole_start, start_of};
+pub use crate::outside::{four_windows, is_far_jump};
+pub use crate::start::{Start, first_start, is_ever_on, sole_start, start_of, starters_in};
 pub use crate::steady::{has_four_steady, is_steady};
 pub use crate::walk::SlotFaults;
 use crate::walk::started_keep;

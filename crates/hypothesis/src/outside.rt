@@ -34,8 +34,8 @@ fn first_jumps(list: &Medl, script: &Script) -> FirstJumps
     FirstJumps { slots }
 }
 
-// Four windows, in microticks.
-fn four_windows(list: &Medl) -> i64
+/// Four windows, in microticks.
+pub fn four_windows(list: &Medl) -> i64
     requires { IsValid list.now }
     ensures value { result ≡ four_windows list.now }
     ensures bound { IsWithin 4 4000000 result }
@@ -43,8 +43,8 @@ fn four_windows(list: &Medl) -> i64
     list.window * 4
 }
 
-// Whether a jump goes as far as four windows, either way.
-fn is_far_jump(list: &Medl, jump: i64) -> bool
+/// Whether a jump goes as far as four windows, either way.
+pub fn is_far_jump(list: &Medl, jump: i64) -> bool
     requires { IsValid list.now }
     ensures { result ≡ is_far_jump list.now jump }
 {

@@ -22,7 +22,7 @@ pub struct Start {
 }
 
 /// Whether a node is ever on.
-pub(crate) fn is_ever_on(script: &Script, node: u8) -> bool
+pub fn is_ever_on(script: &Script, node: u8) -> bool
     requires { node < length script.now.on }
     ensures { result ≡ is_ever_on script.now node }
 {
@@ -46,8 +46,8 @@ fn start_slot(list: &Medl, script: &Script, node: u8) -> Option<u32>
     }
 }
 
-// The first slot in which a node would start.
-fn first_start(list: &Medl, script: &Script) -> Option<u32>
+/// The first slot in which a node would start on a silent bus. Goes over the nodes.
+pub fn first_start(list: &Medl, script: &Script) -> Option<u32>
     requires valid { IsValid list.now }
     requires script { IsValidScript list.now script.now }
     ensures value { result ≡ least_of (filter_map (start_slot list.now script.now) (nodes_of list.now)) }
@@ -89,8 +89,8 @@ fn starts_in(list: &Medl, script: &Script, slot: u32, node: u8) -> bool
     }
 }
 
-// The nodes that would start in a slot.
-fn starters_in(list: &Medl, script: &Script, slot: u32) -> NodeSet
+/// The nodes that would start in a slot on a silent bus. Goes over the nodes.
+pub fn starters_in(list: &Medl, script: &Script, slot: u32) -> NodeSet
     requires valid { IsValid list.now }
     requires script { IsValidScript list.now script.now }
     ensures { result ≡ filter (starts_in list.now script.now slot) (nodes_of list.now) }

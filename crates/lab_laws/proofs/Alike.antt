@@ -1,6 +1,6 @@
 -- Runs that differ in the messages of their frames alone cost the same.
-use Rattle.std.proofs.Common.{◌≡◌, ℕ, zero, suc, ◌-◌, ◌<◌, Bool, true, List, [], ◌∷◌, length, Option, Some, None}
-use Rattle.std.proofs.Common.{refl, ap, sym, subst, ◌∙◌, not, ◌&&◌, ◌||◌, arith}
+use Rattle.std.proofs.Common.{◌≡◌, ℕ, ◌-◌, ◌<◌, Bool, true, List, [], ◌∷◌, length, Option, Some, None}
+use Rattle.std.proofs.Common.{refl, ap, sym, ◌∙◌, not, ◌&&◌, ◌||◌, arith}
 use Rattle.std.specs.Prelude.{filter, if◌then◌else◌}
 use Rattle.std.specs.List.{filter_map, cons_option, AllByRecursion}
 use Rattle.std.proofs.lemmas.List.{length-map}
@@ -12,22 +12,16 @@ use Rattle.ttp_world.specs.declared.script.Script.{Script}
 use Rattle.ttp_world.specs.Acknowledgement.{is_doubt}
 use Rattle.ttp_world.specs.Diary.{History, is_active_phase}
 use Rattle.ttp_world.specs.Hypothesis.{nodes_of}
-use Rattle.ttp_world.specs.Legal.{IsLegal}
 use Rattle.ttp_world.specs.Past.{NodePast}
 use Rattle.ttp_world.specs.Returning.{is_sound}
-use Rattle.ttp_world.specs.Script.{IsValidScript}
-use Rattle.ttp_world.specs.World.{Numbers, step, world}
-use Rattle.ttp_world.proofs.Worlds.{length-world}
 use Rattle.frame_fates.specs.Alike.{unnumbered, unnumbered_row, unnumbered_history}
-use Rattle.frame_fates.specs.Runs.{AreRuns, IsRun}
-use Rattle.frame_fates.proofs.NamedRuns.{named-run, legal-names}
+use Rattle.frame_fates.specs.Runs.{AreRuns}
 use Rattle.frame_fates.proofs.RunsAlike.{older, runs-pasts, runs-entries}
 use Rattle.frame_fates.proofs.Unnumbered.{entry_of-unnumbered}
 use Rattle.campaign.specs.Cost.{leave_after, newest_leave, leaves, is_hurt_in, is_hurt, hurt_nodes}
 use Rattle.campaign.specs.Cost.{faulty_by_test, firm_members, each_once, memberships, has_two, is_split, span_after}
 use Rattle.campaign.specs.Cost.{split_span, cost_of}
 use Rattle.campaign.specs.declared.cost.Leave.{Leave}
-use Rattle.ttp_world.specs.ZerosWorld.{all_zeros, zeros_world}
 
 -- Who left, and who was hurt: by entries, whatever number a frame's message has.
 

@@ -44,7 +44,8 @@ use Rattle.campaign.specs.declared.cost.Cost.{Cost}
 use Rattle.campaign.specs.Lines.{summary}
 use Rattle.ttp_world.specs.ZerosWorld.{zeros_world}
 use Rattle.lab_laws.specs.Ends.{faulty_nodes_if, IsOver, AreOver}
-use Rattle.lab_laws.proofs.Alike.{cost-alike, zeros-legal}
+use Rattle.frame_fates.proofs.ZerosRuns.{zeros-legal}
+use Rattle.lab_laws.proofs.Alike.{cost-alike}
 use Rattle.lab_laws.proofs.Yes.{IsUnharmed, all-inactive, waiting, yes-unharmed}
 use Rattle.safety_laws.proofs.Idle.{act-off as off-act}
 

@@ -4,10 +4,8 @@ ghost use Rattle.std.specs.List.{cons_option};
 ghost use Rattle.ttp_base.specs.NodeSet.{most_nodes};
 ghost use Rattle.ttp_base.specs.Outside.{Output, WroteLines};
 ghost use Rattle.ttp_world.specs.declared.script.TheConstants.{EVENT_LIMIT, DRIFT_LIMIT, JUMP_LIMIT};
-ghost use Rattle.ttp_world.specs.Hypothesis.{four_windows};
 ghost use Rattle.ttp_world.specs.Medl.{IsValid};
 ghost use Rattle.ttp_world.specs.Script.{IsValidScript, is_ever_on};
-ghost use Rattle.campaign.specs.Tried.{is_denied, is_timed};
 ghost use Rattle.ttp_world.specs.ZerosWorld.{zeros_world};
 ghost use Rattle.clock_margins.specs.declared.margin.Sweep.{Sweep};
 ghost use Rattle.clock_margins.specs.MarginText.{tolds_of, sweep_lines, sweep_margin, margin_lines};
@@ -29,15 +27,17 @@ use crate::tried::{Common, try_beside};
 use campaign::Span;
 use clock_margins::{Margin, Sweep, Total};
 use fault_runs::{CampaignFault, put_own_line};
+use hypothesis::four_windows;
 use line_form::Text;
 use margin_text::{
     ROOM, Swept, Told, form_all, form_head, form_margin, form_range, no_sweeps, with_margin,
 };
 use run_costs::Run;
+use single_faults::is_timed;
 use std::alloc::Global;
 use std::thread::Threads;
 use ttp_base::{Memory, Sink};
-use ttp_world::{DRIFT_LIMIT, Entry, JUMP_LIMIT, Medl, NodeState, Reason, Script};
+use ttp_world::{DRIFT_LIMIT, Entry, JUMP_LIMIT, Medl, NodeState, Script};
 
 // How many values are tried side by side, at most.
 const AT_ONCE: u32 = 512;
@@ -64,13 +64,6 @@ fn limit_for(asked: Option<Span>) -> u32
     }
 }
 
-fn four_windows(list: &Medl) -> i64
-    requires { IsValid list.now }
-    ensures value { result ≡ four_windows list.now }
-{
-    4 * list.window
-}
-
 // How far values go either way.
 fn reach_of(list: &Medl, asked: Option<Span>) -> u32
     requires valid { IsValid list.now }
@@ -80,27 +73,6 @@ fn reach_of(list: &Medl, asked: Option<Span>) -> u32
     let far = four_windows(list).unsigned_abs();
     let limit = limit_for(asked);
     far.min(u64::from(limit)) as u32
-}
-
-// Whether a node was denied by the sender that it heard.
-fn is_denied(reason: Reason) -> bool
-    ensures { result ≡ is_denied reason }
-{
-    match reason {
-        Reason::Denied => true,
-        Reason::Unacknowledged | Reason::Clique => false,
-    }
-}
-
-// Whether others hold their clocks against a node's own in a slot, or it holds its own against theirs.
-fn is_timed(entry: &Entry) -> bool
-    ensures { result ≡ is_timed entry.now }
-{
-    match entry {
-        Entry::Sent { .. } | Entry::Judged { .. } => true,
-        Entry::Left { reason, .. } => is_denied(*reason),
-        _ => false,
-    }
 }
 
 // Takes the next value. Where a range ends before it, its line is written.

@@ -1,23 +1,17 @@
 -- A plant that takes the run in which frames carry zeros, slot by slot.
-use Rattle.std.proofs.Common.{◌≡◌, ℕ, ◌+◌, ◌≤◌, take, List, length, ap, sym, subst, ◌∙◌, add-one, arith}
+use Rattle.std.proofs.Common.{◌≡◌, ℕ, ◌≤◌, take, List, length, ap, ◌∙◌, arith}
 use Rattle.std.proofs.lemmas.List.{get_or-take, length-take-le}
 use Rattle.ttp_base.specs.NodeSet.{most_nodes}
 use Rattle.ttp_world.specs.declared.medl.Medl.{Medl}
-use Rattle.ttp_world.specs.declared.node.Chosen.{Chosen}
 use Rattle.ttp_world.specs.declared.node.NodeState.{NodeState}
 use Rattle.ttp_world.specs.declared.script.Script.{Script}
 use Rattle.ttp_world.specs.Diary.{History}
-use Rattle.ttp_world.specs.Medl.{IsValid}
 use Rattle.ttp_world.specs.Past.{state_of}
-use Rattle.ttp_world.specs.World.{slot_after, step, node_past}
-use Rattle.ttp_world.specs.ZerosWorld.{all_zeros, zeros_world}
+use Rattle.ttp_world.specs.World.{node_past}
 use Rattle.run_costs.specs.States.{off_state, AreShown}
-use Rattle.controller.specs.Passes.{AreChosen}
-use Rattle.controller.specs.PlantStands.{PlantStandsFor, MayStep, Steps}
+use Rattle.controller.specs.PlantStands.{PlantStandsFor}
 use Rattle.controller.specs.PlantView.{PlantView}
-use Rattle.controller.proofs.Payloads.{chosen-step}
 use Rattle.run_costs.specs.Standing.{AreOfPlant}
-use Rattle.run_costs.proofs.Payloads.{zeros-chosen}
 
 -- the states that are taken down are those of what the plant stands for
 pub plant-shown : (list : Medl) (script : Script) (history : History) (plant : PlantView) (n : ℕ)

@@ -1,5 +1,5 @@
 -- What is read of one row more.
-use Rattle.std.proofs.Common.{◌≡◌, ℕ, suc, zero, ◌+◌, ◌-◌, ◌<◌, Bool, ◌&&◌, ◌||◌, not, List, ◌∷◌}
+use Rattle.std.proofs.Common.{◌≡◌, ℕ, ◌+◌, ◌-◌, ◌<◌, Bool, ◌&&◌, ◌||◌, not, List, ◌∷◌}
 use Rattle.std.proofs.Common.{length, get_or, Option, None, refl, ap, sym, ◌∙◌, add-one, arith}
 use Rattle.std.specs.Prelude.{filter}
 use Rattle.ttp_base.specs.NodeSet.{below, has_node}

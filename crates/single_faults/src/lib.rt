@@ -25,4 +25,4 @@ mod script;
 mod tried;
 
 pub use script::{copy_of, with_fault};
-pub use tried::faults_in;
+pub use tried::{faults_in, is_timed};

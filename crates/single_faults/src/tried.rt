@@ -53,8 +53,8 @@ fn is_hearing(entry: &Entry) -> bool
     }
 }
 
-// Whether a node's clock is held against those of others.
-fn is_timed(entry: &Entry) -> bool
+/// Whether a node's clock is held against those of others, or they hold theirs against it.
+pub fn is_timed(entry: &Entry) -> bool
     ensures { result ≡ is_timed entry.now }
 {
     match entry {

@@ -1,5 +1,5 @@
 //! What hosts have written for their nodes to send.
-ghost use Rattle.std.specs.Prelude.{◌≡◌, ℕ, ◌+◌, ◌<◌, ◌≤◌, ◌^◌, length, get_or, slice_get, slice_set, option_map};
+ghost use Rattle.std.specs.Prelude.{◌≡◌, ℕ, ◌+◌, ◌<◌, ◌^◌, length, get_or, slice_get, slice_set, option_map};
 ghost use Rattle.std.specs.Prelude.{IfOk, Some, if◌then◌else◌, ◌==◌};
 ghost use Rattle.ttp_world.specs.declared.medl.Medl.{Medl as List_};
 ghost use Rattle.ttp_world.specs.declared.script.Script.{Script as Said};

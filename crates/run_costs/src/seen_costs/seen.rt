@@ -17,6 +17,7 @@ ghost use Rattle.run_costs.specs.Told.{is_hurt_by, AreSound, IsSeenOf};
 use crate::seen_costs::faulty::Faulty;
 use crate::seen_costs::sets::{are_split, memberships};
 use campaign::{Cost, Leave, Span};
+use hypothesis::is_sound;
 use std::alloc::Global;
 use ttp_base::{List, Memory, NodeSet};
 use ttp_world::{Entry, Event, Medl, NodeState, Script};
@@ -77,15 +78,6 @@ fn hurt_with(hurt: NodeSet, states: &[NodeState], correct: NodeSet) -> NodeSet
         }
     }
     all
-}
-
-// Whether a node is on in a slot and not faulty after it.
-fn is_sound(script: &Script, faulty: NodeSet, slot: u32, node: u8) -> bool
-    requires on { node < length script.now.on }
-    requires node { node < 24 }
-    ensures { result ≡ is_sound script.now faulty slot node }
-{
-    script.is_on(node, slot) && !faulty.has(node)
 }
 
 // The nodes that are.

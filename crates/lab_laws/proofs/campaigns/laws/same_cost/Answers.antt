@@ -2,7 +2,8 @@ use Rattle.ttp_world.specs.World.{world}
 use Rattle.campaign.specs.Cost.{says_yes}
 use Rattle.campaign.specs.CostText.{test_words}
 use Rattle.ttp_world.specs.ZerosWorld.{zeros_world}
-use Rattle.lab_laws.proofs.Alike.{cost-alike, zeros-legal}
+use Rattle.frame_fates.proofs.ZerosRuns.{zeros-legal}
+use Rattle.lab_laws.proofs.Alike.{cost-alike}
 use Rattle.lab_laws.proofs.campaigns.laws.same_cost.Goals as goal
 
 pub returns : goal.returns
