@@ -3,7 +3,7 @@ ghost use Rattle.std.specs.Prelude.{◌≡◌, ◌+◌, ◌<◌, min, ◌||◌, 
 ghost use Rattle.ttp_base.specs.NodeSet.{has_node, most_nodes};
 ghost use Rattle.ttp_world.specs.Hypothesis.{jumpers_in, loss_in, nodes_made, numbers_of, start_of};
 ghost use Rattle.ttp_world.specs.Medl.{IsValid};
-ghost use Rattle.ttp_world.specs.Returning.{faulty_at, four_rounds, is_offered, run_slots, touches};
+ghost use Rattle.ttp_world.specs.Returning.{faulty_at, four_rounds, is_offered, run_slots};
 ghost use Rattle.ttp_world.specs.Script.{IsValidScript};
 ghost use Rattle.hypothesis.specs.FaultyRuns.{AreFaultsAt, IsBackAt};
 ghost use Rattle.hypothesis.specs.Standing.{told_start, HaveSameNodes};

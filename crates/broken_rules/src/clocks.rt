@@ -1,11 +1,8 @@
 //! Drifts and reading errors past their bounds, and the window that clocks need.
-ghost use Rattle.std.specs.Prelude.{◌≡◌, ◌*◌, ◌<◌, pos, ◌≤ℤ◌, length, filter, All};
-ghost use Rattle.std.specs.List.{find};
-ghost use Rattle.ttp_base.specs.NodeSet.{most_nodes};
-ghost use Rattle.ttp_world.specs.Hypothesis.{nodes_of, clocks_broken, is_within_bound};
+ghost use Rattle.std.specs.Prelude.{◌≡◌, ◌<◌, pos, ◌≤ℤ◌, length, filter, All};
+ghost use Rattle.ttp_world.specs.Hypothesis.{nodes_of};
 ghost use Rattle.ttp_world.specs.Medl.{IsValid};
-ghost use Rattle.ttp_world.specs.Returning.{needed_back};
-ghost use Rattle.ttp_world.specs.Script.{drift_of, reading_error, IsValidScript, IsWithinSpan};
+ghost use Rattle.ttp_world.specs.Script.{drift_of, IsValidScript, IsWithinSpan};
 ghost use Rattle.broken_rules.specs.Clocks.{is_past, past_bound_in, errors_past, narrow_window, narrow_window_back};
 
 use hypothesis::{drifts_hold, needed_back};

@@ -1,10 +1,8 @@
 //! Flipped bits, and jumps of a clock that do not go far or are not the node's first.
-ghost use Rattle.std.specs.Prelude.{◌≡◌, ◌*◌, ◌<◌, get_or, length, Some, None};
-ghost use Rattle.std.specs.List.{filter_map};
+ghost use Rattle.std.specs.Prelude.{◌≡◌, ◌<◌};
 ghost use Rattle.ttp_base.specs.NodeSet.{most_nodes};
-ghost use Rattle.ttp_world.specs.Hypothesis.{is_far_jump};
 ghost use Rattle.ttp_world.specs.Medl.{IsValid};
-ghost use Rattle.ttp_world.specs.Script.{jump_of, IsValidEvent, IsValidScript};
+ghost use Rattle.ttp_world.specs.Script.{IsValidEvent, IsValidScript};
 ghost use Rattle.broken_rules.specs.Jumps.{HoldFirstJumps, jump_disturbs, disturbed_at, earlier, first_disturbed};
 
 use hypothesis::{is_far_jump, lesser};

@@ -1,5 +1,5 @@
 //! Why a cluster has no start.
-ghost use Rattle.std.specs.Prelude.{◌≡◌, ◌<◌, filter, not, ◌&&◌};
+ghost use Rattle.std.specs.Prelude.{◌≡◌, filter};
 ghost use Rattle.ttp_world.specs.Hypothesis.{nodes_of, starts_in};
 ghost use Rattle.ttp_world.specs.Medl.{may_start, IsValid};
 ghost use Rattle.ttp_world.specs.Script.{is_ever_on, IsValidScript};

@@ -10,7 +10,7 @@ ghost use Rattle.ttp_world.specs.declared.script.TheConstants.{SLOT_LIMIT};
 ghost use Rattle.ttp_world.specs.Diary.{History, entry_of};
 ghost use Rattle.ttp_world.specs.Medium.{Signal, is_sending};
 ghost use Rattle.ttp_world.specs.Medl.{IsValid};
-ghost use Rattle.ttp_world.specs.Script.{AreBounded, IsValidScript, has_send_fault, is_among};
+ghost use Rattle.ttp_world.specs.Script.{AreBounded, IsValidScript, has_send_fault};
 ghost use Rattle.ttp_world.specs.TraceNumbers.{numbers_in};
 ghost use Rattle.medium.specs.Shows.{Shows};
 ghost use Rattle.trace_check.specs.Answer.{is_trace};
@@ -23,21 +23,11 @@ use crate::line::{collision_line, head_line, signal_line};
 use crate::sending::{Sending, is_sending, sending_of};
 use controller::Plant;
 use line_text::cut_line;
-use medium::Arrival;
+use medium::{Arrival, is_among};
 use std::alloc::Global;
 use trace_run::TraceRun;
 use ttp_base::{Failed, Line, List, Memory, Sink};
-use ttp_world::{Channel, Channels, Incidents, Medl, Script};
-
-// Whether a channel is one of these.
-fn is_among(channel: Channel, channels: Channels) -> bool
-    ensures { result ≡ is_among channel channels }
-{
-    match channel {
-        Channel::A => channels.a,
-        Channel::B => channels.b,
-    }
-}
+use ttp_world::{Channel, Incidents, Medl, Script};
 
 // Whether a frame of a node lies on a channel in the slot that the plant is past, be it as noise.
 fn lies_on(

@@ -19,9 +19,9 @@ ghost use Rattle.ttp_world.specs.declared.script.Fault.TheVariants as fault;
 use crate::flips::{add_flipping, flip_frame};
 use crate::frames::frame_sent;
 use crate::senders::{
-    add_silencing, add_spots, alone, has_frames, is_among, is_sending, noisy_in, remaining_in,
+    add_silencing, add_spots, alone, has_frames, is_sending, noisy_in, remaining_in,
 };
-use medium::Outgoing;
+use medium::{Outgoing, is_among};
 use run_looks::Sources;
 use run_rows::RunRows;
 use ttp_base::Memory;

@@ -8,43 +8,13 @@ ghost use Rattle.std.specs.Option.{option_to_list};
 ghost use Rattle.std.specs.Prelude.{IfSome, OnOk, [], count_by, filter, length, not, slice_get, take, ◌&&◌, ◌%◌, ◌<◌, ◌==◌, ◌∷◌, ◌≡◌, ◌≤◌};
 ghost use Rattle.ttp_base.specs.NodeSet.{has_node};
 ghost use Rattle.ttp_world.specs.Events.{bits_on, is_among};
-ghost use Rattle.ttp_world.specs.Medium.{flip_bit, flip_bits, flip_in_byte};
+ghost use Rattle.ttp_world.specs.Medium.{flip_bits};
 
-use crate::senders::is_among;
-use medium::Outgoing;
+use medium::{Outgoing, flip_bits, is_among};
 use run_looks::{Question, Sources, first_line};
 use run_rows::RunRows;
 use ttp_base::Memory;
 use ttp_world::{Channel, FlippedBit};
-
-// A byte with a bit flipped, counted from the least significant.
-fn flip_in_byte(place: u8, byte: u8) -> u8
-    requires { place < 8 }
-    ensures { result ≡ flip_in_byte place byte }
-{
-    byte ^ (1 << place)
-}
-
-// Flips a bit, counted from the first byte's most significant. One past the end has no effect.
-fn flip_bit(bytes: &mut [u8], bit: u16)
-    ensures { bytes.new ≡ flip_bit bytes.old bit }
-{
-    let at = (bit / 8) as usize;
-    if at < bytes.len() {
-        bytes[at] = flip_in_byte((7 - bit % 8) as u8, bytes[at]);
-    }
-}
-
-// Flips those of the bits that are flipped on a channel, one after the other.
-fn flip_bits(bytes: &mut [u8], flips: &[FlippedBit], channel: Channel)
-    ensures { bytes.new ≡ flip_bits bytes.old (bits_on channel flips.now) }
-{
-    for flip in flips {
-        if is_among(channel, flip.channels) {
-            flip_bit(bytes, flip.bit);
-        }
-    }
-}
 
 /// Flips the bits of a frame that are flipped on a channel.
 pub(crate) fn flip_frame(frame: &mut Outgoing, flips: &[FlippedBit], channel: Channel)

@@ -11,7 +11,6 @@ ghost use Rattle.run_rows.specs.Rows.{past_slots, run_slot};
 ghost use Rattle.std.specs.Prelude.{IfOk, IsTrue, drop, filter, length, ℕ, ◌<◌, ◌≡◌, ◌≤◌};
 ghost use Rattle.ttp_base.specs.NodeSet.{below, has_node};
 ghost use Rattle.ttp_world.specs.Medium.{Bits};
-ghost use Rattle.ttp_world.specs.Reception.{rank_of};
 ghost use Rattle.causes.specs.declared.cause.Miss.TheVariants as miss;
 ghost use Rattle.ttp_world.specs.declared.node.Entry.TheVariants as entry;
 
@@ -25,6 +24,7 @@ use crate::said::add_path;
 use crate::senders::{add_silencing, add_spots, has_frames, noisy_in, remaining_in};
 use crate::view::{deviation_in, is_within_window, view_of_bytes, view_of_sent};
 use causes::{Because, Cause, Miss, ScriptLine, Spot};
+use node_parts::reception::rank_of;
 use run_looks::{Question, Sources, first_line, newest_departure};
 use run_rows::RunRows;
 use std::alloc::Global;
@@ -120,19 +120,6 @@ fn nodes_of(alloc: Global, nodes: u8, set: NodeSet) -> Result<List<u8>, Memory>
         }
     }
     Ok(list)
-}
-
-// The place of a view in the order from the best to the worst.
-fn rank_of(view: ChannelView) -> u8
-    ensures { result ≡ rank_of view }
-{
-    match view {
-        ChannelView::First => 0,
-        ChannelView::Second => 1,
-        ChannelView::Other => 2,
-        ChannelView::Bad => 3,
-        ChannelView::Silent => 4,
-    }
 }
 
 fn is_same_view(one: ChannelView, other: ChannelView) -> bool

@@ -8,24 +8,16 @@ ghost use Rattle.entry_causes.specs.Senders.{is_left_on, the_one};
 ghost use Rattle.run_looks.specs.Added.{AddsSources};
 ghost use Rattle.run_rows.specs.Rows.{run_slot};
 ghost use Rattle.ttp_world.specs.declared.script.Fault.TheVariants as fault;
-ghost use Rattle.ttp_world.specs.Events.{is_among, is_send_fault};
+ghost use Rattle.ttp_world.specs.Events.{is_send_fault};
 ghost use Rattle.ttp_world.specs.Medium.{is_sending};
 ghost use Rattle.ttp_world.specs.Membership.{AreNodes};
 
 use causes::{ScriptLine, Spot};
+use medium::is_among;
 use run_looks::{Question, Sources, widest_line};
 use run_rows::RunRows;
 use ttp_base::{Memory, NodeSet};
-use ttp_world::{Channel, Channels, Entry, Fault};
-
-pub(crate) fn is_among(channel: Channel, channels: Channels) -> bool
-    ensures { result ≡ is_among channel channels }
-{
-    match channel {
-        Channel::A => channels.a,
-        Channel::B => channels.b,
-    }
-}
+use ttp_world::{Channel, Entry, Fault};
 
 /// An entry is of a frame that the node sent.
 pub(crate) fn is_sending(entry: &Entry) -> bool

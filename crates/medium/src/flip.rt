@@ -6,7 +6,7 @@ ghost use Rattle.ttp_world.specs.Script.{is_among, bits_on};
 use ttp_world::{Channel, Channels, FlippedBit};
 
 /// Whether a channel is one of these.
-pub(crate) fn is_among(channel: Channel, channels: Channels) -> bool
+pub fn is_among(channel: Channel, channels: Channels) -> bool
     ensures { result ≡ is_among channel channels }
 {
     match channel {
@@ -34,7 +34,7 @@ fn flip_bit(bytes: &mut [u8], bit: u16)
 }
 
 /// Flips those of the bits that are flipped on a channel, one after the other.
-pub(crate) fn flip_bits(bytes: &mut [u8], flips: &[FlippedBit], channel: Channel)
+pub fn flip_bits(bytes: &mut [u8], flips: &[FlippedBit], channel: Channel)
     ensures { bytes.new ≡ flip_bits bytes.old (bits_on channel flips.now) }
 {
     for flip in flips {

@@ -38,5 +38,6 @@ mod medium;
 mod outgoing;
 
 pub use arrival::{Arrival, received};
+pub use flip::{flip_bits, is_among};
 pub use medium::Medium;
 pub use outgoing::Outgoing;

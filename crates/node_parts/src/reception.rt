@@ -27,8 +27,8 @@ ghost use Rattle.ttp_world.specs.Reception.{rank_of, is_taken_from_a, better_vie
 pub use ttp_world::ChannelView;
 use ttp_world::{Ack, Verdict};
 
-// The place of a view in the order from the best, 0, to the worst.
-fn rank_of(view: ChannelView) -> u8
+/// The place of a view in the order from the best, 0, to the worst.
+pub fn rank_of(view: ChannelView) -> u8
     ensures { result ≡ rank_of view }
 {
     match view {

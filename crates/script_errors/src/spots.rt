@@ -1,6 +1,6 @@
 //! A line cut into words, each with its place.
 ghost use Rattle.std.specs.Prelude.{◌≡◌, ◌+◌, ◌<◌, ◌≤◌, ◌++◌, [], true, length, OnOk};
-ghost use Rattle.script_text.specs.Lines.{is_blank, is_comment};
+ghost use Rattle.script_text.specs.Lines.{is_comment};
 ghost use Rattle.script_errors.specs.Spots.{spots_of, spots_from, spot_text, begins_with_mark};
 
 use script_text::is_blank;
