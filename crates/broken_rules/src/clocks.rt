@@ -87,7 +87,7 @@ pub(crate) fn past_bound(list: &Medl, script: &Script, broken: Option<u32>) -> O
 }
 
 /// How wide the window has to be, where it is narrower.
-pub(crate) fn narrow_window(list: &Medl) -> Option<i64>
+pub fn narrow_window(list: &Medl) -> Option<i64>
     requires { IsValid list.now }
     ensures { result ≡ narrow_window list.now }
 {

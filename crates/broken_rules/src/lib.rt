@@ -20,8 +20,8 @@ mod jumps;
 mod rules;
 mod start;
 
-pub use crate::clocks::PastBound;
+pub use crate::clocks::{PastBound, narrow_window};
 pub use crate::conditions::BrokenConditions;
 pub use crate::jumps::{Disturbance, Disturbed};
-pub use crate::rules::{Answer, BrokenRules, broken_rules};
+pub use crate::rules::{Answer, BrokenRules, broken_rules, says_yes};
 pub use crate::start::NoStart;

@@ -66,8 +66,8 @@ fn clocks_slot(answer: Answer) -> Option<u32>
     }
 }
 
-// Whether the test says yes.
-fn says_yes(answer: Answer) -> bool
+/// Whether the test says yes.
+pub fn says_yes(answer: Answer) -> bool
     ensures { result ≡ not (is_some (first_named answer)) }
 {
     match answer {

@@ -1,5 +1,5 @@
 //! The lines on rules that right files do not keep.
-ghost use Rattle.std.specs.Prelude.{◌≡◌, ◌≤◌, [], Some, None, length, is_some, not, IfOk};
+ghost use Rattle.std.specs.Prelude.{◌≡◌, ◌≤◌, [], Some, None, length, IfOk};
 ghost use Rattle.ttp_world.specs.Medl.{IsValid};
 ghost use Rattle.ttp_world.specs.Script.{IsValidScript};
 ghost use Rattle.broken_rules.specs.Clocks.{narrow_window};
@@ -10,13 +10,12 @@ ghost use Rattle.check_text.specs.Lines.{window_place};
 
 use crate::list_side::key_places;
 use crate::named::Named;
-use broken_rules::{Answer, BrokenRules, broken_rules};
+use broken_rules::{Answer, BrokenRules, broken_rules, narrow_window, says_yes};
 use check_words::Text;
 use hypothesis::has_arm;
-use precision::needed;
 use std::alloc::Global;
 use ttp_base::{List, Memory};
-use ttp_world::{Back, Keep, Medl, Script};
+use ttp_world::{Medl, Script};
 use warning_words::{Files, said_lines, warning_lines, window_alone};
 
 /// The lines on rules that are not kept, and the answer of the test, if it was asked.
@@ -35,15 +34,6 @@ pub(crate) fn no_rules(alloc: Global) -> Rules
         lines: List::new(alloc),
         answer: None,
     }
-}
-
-// How wide the window of a list has to be, where it is narrower.
-fn narrow_window(list: &Medl) -> Option<i64>
-    requires { IsValid list.now }
-    ensures { result ≡ narrow_window list.now }
-{
-    let due = needed(list);
-    if due <= list.window { None } else { Some(due) }
 }
 
 // The line on the window of a list, where it is narrower.
@@ -76,21 +66,6 @@ pub(crate) fn rules_alone(alloc: Global, file: Named<'_>, list: &Medl) -> Result
         lines,
         answer: None,
     })
-}
-
-// Whether the test says yes.
-fn says_yes(answer: &Answer) -> bool
-    ensures { result ≡ not (is_some (first_named answer.now)) }
-{
-    match answer {
-        Answer::Keeps {
-            keep: Keep::Yes { .. },
-        }
-        | Answer::Returns {
-            back: Back::Yes { .. },
-        } => true,
-        _ => false,
-    }
 }
 
 // The lines on rules of which something is told.
@@ -138,7 +113,7 @@ fn broken_lines(
     ensures { IfOk result (λ lines. lines
         ≡ warning_lines (files_with (named_by file.entry) (named_by beside.entry) list.now script.now) broken.now) }
 {
-    if says_yes(&broken.answer) {
+    if says_yes(broken.answer) {
         return Ok(List::new(alloc));
     }
     told_lines(alloc, file, beside, list, script, broken)

@@ -6,9 +6,9 @@ ghost use Rattle.medl_text.specs.ListFile.{document_of};
 ghost use Rattle.check_text.specs.Lines.{has_member, script_fault_lines};
 ghost use Rattle.check_text.specs.Sides.{script_side_lines};
 
+use list_errors::document_of;
 use script_errors::{ScriptError, script_errors};
 use std::alloc::Global;
-use std::str;
 use toml::Table;
 use ttp_base::{List, Memory};
 use ttp_world::Medl;
@@ -21,21 +21,6 @@ const SCRIPT_LIMIT: usize = 1_048_576;
 pub(crate) enum ScriptSide {
     TooLarge,
     Errors { errors: List<ScriptError> },
-}
-
-// The table that the bytes of a file are, where they are one.
-#[tactic(auto, unfolding(medl_text::specs::ListFile::document_of))]
-fn document_of(alloc: Global, text: &[u8]) -> Result<Option<Table>, Memory>
-    ensures { IfOk result (λ file. document_of text.now ≡ option_map table_view file) }
-{
-    let Ok(text) = str::from_utf8(text) else {
-        return Ok(None);
-    };
-    match toml::table_from_str(alloc, text) {
-        Ok(file) => Ok(Some(file)),
-        Err(error) if error.is_memory() => Err(Memory),
-        Err(_) => Ok(None),
-    }
 }
 
 // Whether it has a key.

@@ -1,15 +1,15 @@
 //! What is wrong with the table of a file.
 ghost use Rattle.std.specs.Prelude.{◌≡◌, ◌<◌, ◌≤◌, ◌++◌, [], ◌∷◌, ◌&&◌, nat_le, true, length, map, take, option_map, OnOk, IfOk, IfSome, if◌then◌else◌};
 ghost use Rattle.toml.specs.View.{table_view, items_view};
-ghost use Rattle.medl_text.specs.ListFile.{are_tables, tables_of, is_known_key};
+ghost use Rattle.medl_text.specs.ListFile.{are_tables, tables_of};
 ghost use Rattle.list_errors.specs.Errors.{version_known, rounds_known, modes_known, elements_of, count_limit, count_wrongs};
 ghost use Rattle.list_errors.specs.Errors.{slots_wrongs, is_unknown_key, unknown_keys, unknown_keys_at_top, unknown_keys_at_slot, unknown_keys_in_slots, few_syncs, sync_of, sync_count, sync_wrongs};
 ghost use Rattle.list_errors.specs.Errors.{modes_wrongs, top_wrongs, table_wrongs};
 
 use crate::error::Wrong;
 use crate::slot::tell_slot;
-use crate::table::{at_slot, at_top, elements, member, number, number_in};
-use medl_text::FieldName;
+use crate::table::{elements, number, number_in};
+use medl_text::{FieldName, at_slot, at_top, is_known_key, member};
 use std::alloc::Global;
 use toml::{Table, Value};
 use ttp_base::{List, Memory};
@@ -114,12 +114,6 @@ fn tell_slots(
         )?;
     }
     Ok(())
-}
-
-fn is_known_key(key: &str, known: &[FieldName]) -> bool
-    ensures { result ≡ is_known_key known.now key.now }
-{
-    known.iter().any(|name| name.key() == key)
 }
 
 // A key, where no list has it.

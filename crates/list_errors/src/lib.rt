@@ -27,4 +27,4 @@ mod slot;
 mod table;
 
 pub use error::{ValueType, Wrong};
-pub use read::{ListFound, list_errors};
+pub use read::{ListFound, document_of, list_errors};

@@ -49,9 +49,9 @@ fn one_wrong(alloc: Global, wrong: Wrong) -> Result<ListFound, Memory>
     })
 }
 
-// The table that the bytes of a file are, where they are one.
+/// The table that the bytes of a file are, where they are one.
 #[tactic(auto, unfolding(medl_text::specs::ListFile::document_of))]
-fn document_of(alloc: Global, text: &[u8]) -> Result<Option<Table>, Memory>
+pub fn document_of(alloc: Global, text: &[u8]) -> Result<Option<Table>, Memory>
     ensures { IfOk result (λ file. document_of text.now ≡ option_map table_view file) }
 {
     let Ok(text) = str::from_utf8(text) else {

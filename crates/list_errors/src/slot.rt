@@ -3,13 +3,13 @@ ghost use Rattle.std.specs.Prelude.{◌≡◌, ◌++◌, map, OnOk, IfOk};
 ghost use Rattle.std.specs.List.{list_all};
 ghost use Rattle.toml.specs.View.{table_view};
 ghost use Rattle.ttp_world.specs.Medl.{is_bare};
-ghost use Rattle.medl_text.specs.ListFile.{is_kind, kind_of, payload_limit, is_answer};
+ghost use Rattle.medl_text.specs.ListFile.{is_kind, kind_of, payload_limit};
 ghost use Rattle.list_errors.specs.Errors.{has_count, kinds_wrongs, kinds_known, data_limit, requests_wrongs, live_wrongs};
 ghost use Rattle.list_errors.specs.Errors.{slot_wrongs};
 
 use crate::error::Wrong;
-use crate::table::{at_slot, flag_in, member, number, tell_flag, wrong_kind};
-use medl_text::FieldName;
+use crate::table::{flag_in, number, tell_flag, wrong_kind};
+use medl_text::{FieldName, are_answers, at_slot, member};
 use std::alloc::Global;
 use toml::Table;
 use ttp_base::{List, Memory};
@@ -20,22 +20,10 @@ fn is_kind(letter: u8) -> bool
     letter == b'I' || letter == b'N' || letter == b'X'
 }
 
-fn is_answer(letter: u8) -> bool
-    ensures { result ≡ is_answer letter }
-{
-    letter == b'y' || letter == b'n'
-}
-
 fn are_kinds(letters: &[u8]) -> bool
     ensures { result ≡ list_all is_kind letters.now }
 {
     letters.iter().all(|letter| is_kind(*letter))
-}
-
-fn are_answers(letters: &[u8]) -> bool
-    ensures { result ≡ list_all is_answer letters.now }
-{
-    letters.iter().all(|letter| is_answer(*letter))
 }
 
 // Whether frames of a kind carry no payload.

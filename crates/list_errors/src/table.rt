@@ -2,29 +2,14 @@
 ghost use Rattle.std.specs.Prelude.{◌≡◌, ◌≤◌, pos, ◌++◌, true, unwrap_or, option_map, IfOk, OnOk, IfSome};
 ghost use Rattle.toml.specs.Data.{as_integer, as_bool};
 ghost use Rattle.toml.specs.View.{view, table_view, items_view};
-ghost use Rattle.medl_text.specs.ListFile.{at_top, at_slot, held_at, natural, are_tables, tables_of};
+ghost use Rattle.medl_text.specs.ListFile.{natural, are_tables, tables_of};
 ghost use Rattle.list_errors.specs.Errors.{where_right, type_of, kind_wrongs, range_wrongs, number_wrongs, number_known};
 ghost use Rattle.list_errors.specs.Errors.{flag_wrongs, nothing_wrong, elements_of, array_wrongs};
 
 use crate::error::{ValueType, Wrong};
-use medl_text::{Field, FieldName};
+use medl_text::{Field, FieldName, are_tables, at_top, member};
 use toml::{Table, Value};
 use ttp_base::{List, Memory};
-
-pub(crate) fn at_top(name: FieldName) -> Field
-    ensures { result ≡ at_top name }
-{
-    Field { name, slot: None }
-}
-
-pub(crate) fn at_slot(k: u8, name: FieldName) -> Field
-    ensures { result ≡ at_slot k name }
-{
-    Field {
-        name,
-        slot: Some(k),
-    }
-}
 
 fn type_of(value: &Value) -> ValueType
     ensures { result ≡ type_of (view value.now) }
@@ -38,13 +23,6 @@ fn type_of(value: &Value) -> ValueType
         Value::Array(_) => ValueType::Array,
         Value::Table(_) => ValueType::Table,
     }
-}
-
-/// The value at a key.
-pub(crate) fn member(table: &Table, field: Field) -> Option<&Value>
-    ensures { option_map (λ v. view v.now) result ≡ held_at field (table_view table.now) }
-{
-    table.get(field.name.key())
 }
 
 /// That a value has another type.
@@ -137,18 +115,6 @@ pub(crate) fn tell_flag(table: &Table, field: Field, wrongs: &mut List<Wrong>) -
     };
     flag_in(value, field, wrongs)?;
     Ok(())
-}
-
-// Whether each of some values is a table.
-fn are_tables(values: &[Value]) -> bool
-    ensures { result ≡ are_tables (items_view values.now) }
-{
-    for value in values {
-        if !value.is_table() {
-            return false;
-        }
-    }
-    true
 }
 
 /// The slots of a file, where they are an array of tables.

@@ -32,3 +32,5 @@ mod table;
 pub use error::{Field, FieldName, MedlError};
 pub use read::read_medl;
 pub use schedule::put_schedule;
+pub use slot::are_answers;
+pub use table::{are_tables, at_slot, at_top, is_known_key, member};

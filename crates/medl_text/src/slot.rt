@@ -105,7 +105,8 @@ fn is_answer(letter: u8) -> bool
     letter == b'y' || letter == b'n'
 }
 
-fn are_answers(letters: &[u8]) -> bool
+/// Whether letters answer yes or no.
+pub fn are_answers(letters: &[u8]) -> bool
     ensures { result ≡ list_all is_answer letters.now }
 {
     letters.iter().all(|letter| is_answer(*letter))

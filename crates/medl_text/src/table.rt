@@ -13,13 +13,15 @@ use crate::error::{Field, FieldName, MedlError};
 use toml::value::Array;
 use toml::{Table, Value};
 
-pub(crate) fn at_top(name: FieldName) -> Field
+/// A field at the top of a list.
+pub fn at_top(name: FieldName) -> Field
     ensures { result ≡ at_top name }
 {
     Field { name, slot: None }
 }
 
-pub(crate) fn at_slot(k: u8, name: FieldName) -> Field
+/// A field of slot k.
+pub fn at_slot(k: u8, name: FieldName) -> Field
     ensures { result ≡ at_slot k name }
 {
     Field {
@@ -29,7 +31,7 @@ pub(crate) fn at_slot(k: u8, name: FieldName) -> Field
 }
 
 /// The value at a key.
-pub(crate) fn member(table: &Table, field: Field) -> Option<&Value>
+pub fn member(table: &Table, field: Field) -> Option<&Value>
     ensures { option_map (λ v. view v.now) result ≡ held_at field (table_view table.now) }
 {
     table.get(field.name.key())
@@ -124,7 +126,8 @@ pub(crate) fn array(table: &Table, field: Field) -> Result<&Array, MedlError>
     }
 }
 
-fn are_tables(values: &[Value]) -> bool
+/// Whether each of some values is a table.
+pub fn are_tables(values: &[Value]) -> bool
     ensures { result ≡ are_tables (items_view values.now) }
 {
     for value in values {
@@ -148,7 +151,8 @@ fn all_among(table: &Table, known: &[FieldName]) -> bool
     table.keys().all(|key| is_known_key(key.as_str(), known))
 }
 
-fn is_known_key(key: &str, known: &[FieldName]) -> bool
+/// Whether a key is one of these.
+pub fn is_known_key(key: &str, known: &[FieldName]) -> bool
     ensures { result ≡ is_known_key known.now key.now }
 {
     known.iter().any(|name| name.key() == key)

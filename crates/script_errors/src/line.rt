@@ -16,9 +16,9 @@ ghost use Rattle.script_errors.specs.SoFar.{TellsLine, counted_writes};
 use crate::error::{Form, ScriptError, Wrong};
 use crate::form::{form_named, parts_of};
 use crate::so_far::SoFar;
-use crate::spots::{Spot, begins_with_mark, is_comment, spot_text};
+use crate::spots::{Spot, begins_with_mark, spot_text};
 use crate::words::{tell, tell_own};
-use script_text::decimal_value;
+use script_text::{decimal_value, is_comment};
 use ttp_base::{List, Memory};
 use ttp_world::Medl;
 

@@ -1,6 +1,6 @@
 //! What single words are.
-ghost use Rattle.std.specs.Prelude.{◌≡◌, SomeIff, IsTrue};
-ghost use Rattle.script_text.specs.Numbers.{is_value, value_in, is_channels, is_fault};
+ghost use Rattle.std.specs.Prelude.{SomeIff, IsTrue};
+ghost use Rattle.script_text.specs.Numbers.{is_value, value_in};
 
 use script_text::decimal_value;
 
@@ -12,18 +12,4 @@ pub(crate) fn value_in(word: &[u8]) -> Option<i64>
         Some(b'-') => Some(-i64::from(decimal_value(&word[1..])?)),
         _ => Some(i64::from(decimal_value(word)?)),
     }
-}
-
-/// Whether a word spells channels.
-pub(crate) fn is_channels(word: &[u8]) -> bool
-    ensures { result ≡ is_channels word.now }
-{
-    word == b"A".as_slice() || word == b"B".as_slice() || word == b"AB".as_slice()
-}
-
-/// Whether a word spells a fault.
-pub(crate) fn is_fault(word: &[u8]) -> bool
-    ensures { result ≡ is_fault word.now }
-{
-    word == b"silence".as_slice() || word == b"noise".as_slice()
 }

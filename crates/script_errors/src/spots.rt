@@ -1,6 +1,5 @@
 //! A line cut into words, each with its place.
 ghost use Rattle.std.specs.Prelude.{◌≡◌, ◌+◌, ◌<◌, ◌≤◌, ◌++◌, [], true, length, OnOk};
-ghost use Rattle.script_text.specs.Lines.{is_comment};
 ghost use Rattle.script_errors.specs.Spots.{spots_of, spots_from, spot_text, begins_with_mark};
 
 use script_text::is_blank;
@@ -59,16 +58,6 @@ pub fn spot_text(line: &[u8], word: Spot) -> &[u8]
         return &[];
     }
     &line[start..end]
-}
-
-/// Whether a word begins a comment.
-pub(crate) fn is_comment(word: &[u8]) -> bool
-    ensures { result ≡ is_comment word.now }
-{
-    match word.first() {
-        Some(byte) => *byte == b'#',
-        None => false,
-    }
 }
 
 /// Whether a word begins with a byte order mark.

@@ -6,8 +6,8 @@ ghost use Rattle.script_errors.specs.Words.{node_wrong, data_wrong, writer_wrong
 ghost use Rattle.script_errors.specs.Words.{message_length_wrong, message_wrong, word_wrong, right_node};
 
 use crate::error::{Part, Wrong};
-use crate::number::{is_channels, is_fault, value_in};
-use script_text::{decimal_value, is_hex_word, is_text};
+use crate::number::value_in;
+use script_text::{decimal_value, is_channels, is_fault, is_hex_word, is_text};
 use ttp_world::{
     DRIFT_LIMIT, ERROR_LIMIT, FIRST_FLIPPED_BIT, JUMP_LIMIT, LAST_FLIPPED_BIT, Medl, SLOT_LIMIT,
 };

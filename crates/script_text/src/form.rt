@@ -68,14 +68,14 @@ fn form_word_count(form: Keyword) -> usize
 }
 
 /// Whether a word spells channels.
-pub(crate) fn is_channels(word: &[u8]) -> bool
+pub fn is_channels(word: &[u8]) -> bool
     ensures { result ≡ is_channels word.now }
 {
     word == b"A".as_slice() || word == b"B".as_slice() || word == b"AB".as_slice()
 }
 
 /// Whether a word spells a fault.
-pub(crate) fn is_fault(word: &[u8]) -> bool
+pub fn is_fault(word: &[u8]) -> bool
     ensures { result ≡ is_fault word.now }
 {
     word == b"silence".as_slice() || word == b"noise".as_slice()

@@ -42,9 +42,9 @@ mod words;
 mod writes;
 
 pub use error::{LineFault, ScriptError};
-pub use form::is_text;
+pub use form::{is_channels, is_fault, is_text};
 pub use hex::is_hex_word;
 pub use lines::{Cut, is_blank, next_line};
 pub use number::decimal_value;
-pub use read::read_script;
+pub use read::{is_comment, read_script};
 pub use words::cut_first_word;

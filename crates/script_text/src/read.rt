@@ -147,7 +147,8 @@ fn take_line(list: &Medl, line: &[u8], so_far: &mut SoFar) -> Result<(), Refusal
     take_any_line(list, line, so_far)
 }
 
-fn is_comment(word: &[u8]) -> bool
+/// Whether a word begins a comment.
+pub fn is_comment(word: &[u8]) -> bool
     ensures { result ≡ is_comment word.now }
 {
     match word.first() {
