@@ -93,7 +93,7 @@ piece_some (b ∷ text) piece others is = by_feed (is_newline b) (lines_of text)
     by_feed false [] same = let size = ap (λ (ls : Lines). length (get_or ls 0 [])) same in omega (arith, size)
     by_feed false (l ∷ lines) same = let size = ap (λ (ls : Lines). length (get_or ls 0 [])) same in omega (arith, size)
 
--- and so what follows it is shorter
+-- what follows the first line of a text is shorter than the text
 pub cut_shorter : (text piece rest : List ℕ) → lines_of text ≡ piece ∷ lines_of rest → length rest < length text
 cut_shorter text piece rest cut =
     let whole : text ≡ piece ++ rest =

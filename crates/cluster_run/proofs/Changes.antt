@@ -30,7 +30,7 @@ pub changed_more : {A : Type 0} {P : ℕ → A → A → Type 0} {d : A} {k : �
     → AreChanged P d (k + 1) old (set now k new)
 changed_more {P = P} {d = d} {k = k} {old = old} {now = now} x new so near here by = grind steps
 
--- The same of two lists.
+-- Two lists, each changed at one place.
 pub record AreBothChanged {A B : Type 0} (P : ℕ → A → A → B → B → Type 0) (d : A) (e : B) (k : ℕ) (old now : List A)
     (was is : List B) : Type 0 where
   pub first : AreChanged (λ j x y. Unit {0}) d k old now

@@ -38,7 +38,7 @@ pub record IsAdded (k old new : ℕ) (stands : Bool) : Type 0 where
   pub sum : new ≡ old + flag (2 ^ k) stands
   pub below : new < 2 ^ suc k
 
--- so it is after flag k is set or cleared, where that flag is above all that are set
+-- after flag k is set or cleared a word has this flag added, where it is above all that are set
 pub added : (k : ℕ) {old new : ℕ} {stands : Bool} → k < 64 → old < 2 ^ k
     → new ≡ (if stands then bit_or old (2 ^ k) else without 64 old (2 ^ k)) → IsAdded k old new stands
 added k {old} {stands = true} within below set =

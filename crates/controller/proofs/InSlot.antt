@@ -82,7 +82,7 @@ module _ (list : Medl) (script : Script) (history : History) (k : ℕ) (node : k
       ap (λ (n : BegunNode). n.past.offset +ℤ jump_taken n.act (jump_of script k (length history))) is
       ∙ ap (λ (n : BegunNode). n.clock) (sym is)
 
-  -- so is its controller's
+  -- the clock of a controller in a slot is its node's
   pub clock-node : {view : ControllerView} → HasBegun (slot_after list script history) k view
       → view_clock view ≡ (node_of (slot_after list script history) k).clock
   clock-node begun = (λ i. (begun.past i).offset +ℤ turn_jump (begun.turn i)) ∙ offset-node

@@ -15,7 +15,7 @@ number_in-more byte j = ap number_in (map-range_with_len_more byte 0 j j (zero-a
 pub number-below : (number byte j : ℕ) → number < 256 ^ j → byte < 256 → 256 * number + byte < 256 ^ (j + 1)
 number-below number byte j low one = omega (arith, pow_more 256 j)
 
--- so that one byte more fits a word
+-- a number of fewer than eight bytes leaves room for one more in a word
 pub number-fits : (number j : ℕ) → number < 256 ^ j → j < 8 → number < 2 ^ 56
 number-fits number j low few =
     let most : 256 ^ j ≤ 256 ^ 7 = pow-le-pow_right {n = 256} (lit< tt) {i = j} {j = 7} (omega arith) in omega arith

@@ -238,7 +238,7 @@ list_valid file none =
       sync = sync_right (plans_of (modes_in file) 0 tables) unknown.1;
     }
 
--- so is what was read of a file
+-- what was read of a file is valid
 pub read_valid : (read : Result Medl MedlError) (file : Members) → IfOk read (λ list. file_faults file ≡ [])
     → IfOk read (λ list. list ≡ list_in file) → IfOk read IsValid
 read_valid (Ok list) file none is = subst IsValid (sym is) (list_valid file none)

@@ -75,7 +75,7 @@ pub jumped-few : (slot : ℕ) (offset jump : ℤ) → unsigned_abs offset ≤ mo
 jumped-few slot offset jump near few within =
     omega (arith, ints, near, few, span-abs most_jump jump within)
 
--- and so within what controllers are asked for
+-- a clock near 0 is within what controllers are asked for
 pub kept-near : (slot : ℕ) (offset : ℤ) → unsigned_abs offset ≤ most_ahead slot → slot ≤ SLOT_LIMIT
     → unsigned_abs offset ≤ most_clock
 kept-near slot offset near few = omega (arith, near, few)

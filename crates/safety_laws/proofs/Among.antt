@@ -148,7 +148,7 @@ module _ {list : Medl} {script : Script} {start : ClusterStart} {plan : FaultPla
       let early = doubted-early j k since shown change of_j fate (doubt ∙ ap (λ (z : ℕ). ack.Doubt z) same) in
       omega (arith, early, late)))) all
 
-  -- and so by what its fate tells of its loss
+  -- a node whose fate tells an old loss has left and is out among the others
   gone-by : (nodes : List ℕ) → AllByRecursion IsSoundNode nodes → (k slot : ℕ) (fate : Fate)
       → fate_of plan turn k ≡ fate → lost_since fate ≡ Some (slot - start.slot)
       → slot + 2 * length list.slots ≤ suc (suc (start.slot + turn))

@@ -148,7 +148,7 @@ module _ {list : Medl} {script : Script} {start : ClusterStart} (run : IsBackRun
         (ap not (unforgiven (suc slot) (omega arith) to))
   ]
 
-  -- so it is faulty after each slot of these
+  -- an armed node is faulty after each slot of its four rounds
   pub armed-after : (slot : ℕ) → arm ≤ slot → slot < arm + four_rounds list
       → has_node (after list script start slot) k ≡ true
   armed-after slot from to = after-has list script start slot k ∙ or_right _ _ (arm-stays slot from to)

@@ -163,7 +163,7 @@ module _ (x : NodeSlot) (group : List ℕ) (is : IsJudging x) (holds : HoldsGrou
         same,
       )
 
-  -- so it does after a tentative one, and doubts the owner
+  -- after a tentative verdict it holds the group without the owner, and doubts the owner
   pub holds-tentative : (deviation : ℤ) → IsJudgedAs x verdict.Tentative deviation → x.past.ack ≡ ack.First
       → HoldsGroup x.list x.node (without_node group (owner_of x)) (next_past x)
       × ((next_past x).ack ≡ ack.Doubt (owner_of x))

@@ -160,7 +160,7 @@ module _ {list : Medl} {script : Script} {start : ClusterStart} {plan : FaultPla
       subst (All P)
       (sym (none-silent list (planned_place list plan (suc slot)) (entry_of row k) (s.noted.other k is p))) (All-nil P)
 
-  -- so they lie near 0
+  -- the newest notes of sound nodes lie near 0
   pub small-new : (k : ℕ) → IsSoundIn list plan (suc slot) k
       → All (IsUpTo (needed list)) (notes_in list (planned_place list plan (suc slot)) (entry_of row k))
   small-new k p =

@@ -17,7 +17,7 @@ KeepsClocks list script start plan =
     → start.slot + suc turn < script.slots
     → ClocksHold list plan (suc turn) (slot_after list script (world list script numbers))
 
--- so it is within the list's bounds
+-- by a plan that stays within the list's bounds clocks hold as membership asks it
 pub clocks-hold : (list : Medl) (script : Script) (start : ClusterStart) (plan : FaultPlan) → IsValid list
     → FollowsWithin list script start plan → KeepsClocks list script start plan
 clocks-hold list script start plan valid follows turn numbers noted within =

@@ -297,7 +297,7 @@ module _ {list : Medl} {script : Script} {start : ClusterStart} {plan : FaultPla
       → fate_of plan turn k ≡ Sound
   stayed-before stay k = fate-before k (none-enters plan (suc turn) k stay)
 
-  -- and so was the sender of a good slot
+  -- the sender of a good slot was sound before it
   pub sender-before : is_good_slot plan (suc turn) ≡ true → fate_of plan turn (sender plan (suc turn)) ≡ Sound
   sender-before = fate-before (sender plan (suc turn)) (sender-stays plan (suc turn) (good_plan t))
 

@@ -163,7 +163,7 @@ line_right list said line none valid =
       host_size = line_host_size list line said (says_nothing words) form refl none;
     }
 
--- the same of all lines without a fault
+-- what lines without a fault say is valid, and has no more events than fit into their bytes
 record IsRightFile (list : Medl) (said : List Statement) (lines : List (List ℕ)) : Type 0 where
   slots : is_some (slots_of (statements_of said lines)) ≡ true
   valid : AreValid list (statements_of said lines)
@@ -301,7 +301,7 @@ events_bounded list said valid = λ k d within.
     event_bounded list (stated_script list said) (get_or (events_of said) k d)
     (valid.events (stated_script list said) refl k d within)
 
--- so is what is answered, be it that memory may be refused
+-- a script that is answered is valid, be it that memory may be refused
 pub answer_valid : (list : Medl) (text : List ℕ) (result : Result Script ScriptError) → IsValid list
     → length text ≤ 1048576 → (result ≡ Err errors.Memory) ⊎ (result ≡ script_of list text)
     → IfOk result (IsValidScript list)

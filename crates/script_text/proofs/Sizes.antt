@@ -178,7 +178,7 @@ size-host_words (word ∷ words) form has names of_host spelled = omega (
   size-two_each words (All-tail HasBytes word words has),
 )
 
--- so they take eleven bytes and more with the one that ends them, as `read 0 0 1` does
+-- the lines of hosts take eleven bytes and more with the one that ends them, as `read 0 0 1` does
 pub size-host_line : (line : List ℕ) (form : Keyword) → keyword_of (word_at (words_of_line line) 0) ≡ Some form
     → is_host_form form ≡ true → is_spelled form (words_of_line line) ≡ true
     → 11 ≤ with_end line

@@ -131,7 +131,7 @@ notes-near list own reach notes place e valid near all =
     (cond_both (begins_round place e) [] notes (All P) (λ begins. All-nil P) (λ goes. all)))
     (λ idle. All-nil P)
 
--- so is what a slot corrects
+-- what a slot corrects is small
 correction-near : (list : Medl) (place : Place) (notes : List ℤ) (e : Entry) → IsValid list → All (IsNear list) notes
     → IsNear list (correction_after list place notes e)
 correction-near list place notes e valid all =

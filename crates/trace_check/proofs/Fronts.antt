@@ -64,7 +64,7 @@ module _ (list : Medl) (script : Script) (limit : ℕ) (most : HaveAtMost list s
             ∙ ap (λ (lines : Lines). concat lines ++ rest) begins.lines;
       }
 
-  -- so they are those of its first bytes, and the other way round
+  -- first lines that are those of a trace in the first bytes are so in the whole text, and the other way round
   begins-whole : (text : List ℕ) (count : ℕ) → limit < length text
       → BeginsAsTrace list script (take (limit + 1) text) count → BeginsAsTrace list script text count
   begins-whole text count long begins =

@@ -30,7 +30,7 @@ numbered-again e = refl
 same-numbered : (e f : Entry) → unnumbered e ≡ unnumbered f → message_of e ≡ message_of f → e ≡ f
 same-numbered e f alike same = sym (numbered-again e) ∙ (λ i. numbered (same i) (alike i)) ∙ numbered-again f
 
--- so are pasts
+-- a past with another newest entry
 abbrev with_entry : NodePast → Entry → NodePast
 with_entry past e = record {
   phase = past.phase;

@@ -80,7 +80,7 @@ legal-small list script slot k i valid valid_script within legal =
       within,
     )
 
--- so that number is taken where the text has the line
+-- the number that a node's line names is taken where the text has the line
 pub taken-named : (list : Medl) (script : Script) (slot k i : ℕ) (text line : List ℕ)
     → get_or (lines_of text) k [] ≡ line → number_by_line line ≡ Some i
     → IsTrue (is_legal_message list script slot k (Some i)) → number_by_text list script slot text k ≡ i

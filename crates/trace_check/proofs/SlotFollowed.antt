@@ -71,7 +71,7 @@ newest-may list script history chosen earlier (read ∷ reads) up =
       newest-may list script history chosen (r ∷ earlier) reads (omega arith, up),
     )
 
--- and so they may after legal reads
+-- after legal reads hosts may read the newest messages
 may-rest : (list : Medl) (script : Script) (history : History) (chosen : List Chosen) (earlier : List ReadMessage)
     (reads : List HostRead) (numbers : List ℕ)
     → AllByRecursion

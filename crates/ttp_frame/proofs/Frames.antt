@@ -254,7 +254,7 @@ match_of-parts wide bytes header size start c =
     by false true false k = refl
     by true true false k = refl
 
--- the same, by what was found
+-- what a frame matches, by what was found
 pub match_of-found : (wide : Bool) (bytes : List ℕ) (header size start : ℕ) (c : CState) (s w k e : Bool)
     → s ≡ has_shape (member_bytes wide) bytes header size
     → w ≡ has_word start (unsent (member_bytes wide) header c) bytes

@@ -118,7 +118,7 @@ fits-frame width header c payload start =
     (bytes_eq-Decides _ _).1
     (ap (λ p. frame width header c p start) (sym (payload_in-frame width header c payload start)))
 
--- so it is formed, and not where another header is expected
+-- a frame is formed, and not where another header is expected
 pub is_formed-frame : (width header : ℕ) (c : CState) (payload : List ℕ) (start : ℕ)
     → is_formed width (frame width header c payload start) header (length payload) start ≡ true
 is_formed-frame width header c payload start =

@@ -169,7 +169,7 @@ check_word-byte word byte =
     (length-word_bits 0 alone ∙ sym (length-bits_of 24 (word * 2 ^ 8)))
     ∙ ap (bit_xor (check_word 0 alone)) (number_of-bits_of 24 (word * 2 ^ 8))
 
--- the same, as the code computes it
+-- a byte more, as the code computes its check word
 pub check_word-step : (word byte : ℕ)
     → bit_xor (bit_and (word * 256 % 2 ^ 32) 0xff_ffff) (check_word 0 (bit_xor (word / 65536) byte ∷ []))
     ≡ check_word word (byte ∷ [])

@@ -208,7 +208,7 @@ chosen-bytes list script slot k None bytes = no_bytes
 chosen-bytes list script slot k (Some i) bytes =
     get_or-each AreBytes (out_messages list script k slot) i [] bytes no_bytes
 
--- so is what is delivered in its slot
+-- what is delivered in a slot is bytes, where hosts have written bytes
 pub delivered-bytes : (list : Medl) (script : Script) (history : History) (row : List Entry) (r : ℕ)
     → ((k : ℕ) → All AreBytes (out_messages list script k (length history)))
     → IfSome (delivered_of list script history row r) BringsBytes

@@ -55,7 +55,7 @@ undisturbed-allowed : (list : Medl) (script : Script) (k slot : ℕ) (e : Event)
     → is_allowed_jump list script k slot ≡ true
 undisturbed-allowed list script k slot e none here = grind arith
 
--- the same where nodes may be armed
+-- where nodes may be armed and nothing disturbs, a clock that jumps may do so
 pub undisturbed-jump : (list : Medl) (script : Script) (k slot : ℕ) → disturbance_broken list script ≡ None
     → has_jump script k slot ≡ true
     → is_allowed_jump list script k slot ≡ true

@@ -18,7 +18,7 @@ pub record HasShape (list : Medl) (script : Script) (slot : ℕ) (row : List Ent
   pub nodes : length new.sent ≡ length list.slots
   pub reads : length new.read ≡ length (reads_in script slot)
 
--- so it is of each slot
+-- the numbers of each slot have the shape of its row and its reads
 abbrev pub HaveShapes : Medl → Script → Numbers → Type 0
 HaveShapes list script [] = Unit {0}
 HaveShapes list script (new ∷ numbers) =
@@ -118,7 +118,7 @@ legal-message list script new numbers k legal node =
     ∙ each-below (λ j. is_legal_message list script (length history) j (message_of (entry_of row j))) (length row) k
     (and_parts (are_same_numbers new.sent (map message_of row)) _ parts.messages).1 (omega (arith, width))
 
--- and so is each read
+-- each read of legal numbers is legal
 pub legal-reads : (list : Medl) (script : Script) (new : SlotNumbers) (numbers : Numbers)
     → IsLegal list script (new ∷ numbers)
     → IsTrue (list_all (is_legal_read list script (world list script numbers) (world list script (new ∷ numbers)))

@@ -33,7 +33,7 @@ pub read-other : (t : ℕ) (words : List (List ℕ)) → IsOther t words → num
 read-other t words other =
     ap (λ (b : Bool). cond b (number_named (word_in words 6)) None) (reading-other t words other)
 
--- so it is with a line of another slot
+-- a line of another slot has another number as its second word
 pub other_by_slot : (s t : ℕ) (words : List (List ℕ)) → s < 2 ^ 64 → t < 2 ^ 64 → s ≢ t → word_in words 1 ≡ decimal s
     → IsOther t words
 other_by_slot s t words low high other slot =

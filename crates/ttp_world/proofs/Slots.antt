@@ -24,7 +24,7 @@ entry_of-row_in s chosen k node =
     get_or-map-range_with_len (entry_in s chosen (frames_in s chosen)) 0 (length s.list.slots) k k entry.Off node
     (omega arith)
 
--- so is the entry of a node in the slot after a history, by what it does there
+-- the entry of a node in the slot after a history is the one that it makes, by what it does there
 pub entry_of-row_after : (list : Medl) (script : Script) (history : History) (chosen : List Chosen) (k : ℕ)
     → k < length list.slots
     → entry_of (row_in (slot_after list script history) chosen) k

@@ -71,7 +71,7 @@ no_script form fault = record {
   keeps = λ lines kept none. none_kept form 4 kept none (omega arith);
 }
 
--- and so is each ending with status 0 of a form that runs no cluster and keeps nothing
+-- each ending with status 0 is of a form that runs no cluster and keeps nothing
 done : (form : Option Form) (ending : BenchEnding) → runs_cluster form ≡ false → ending.status ≡ 0
     → ending.unfinished ≡ no_texts → IsFinal ttpbench ending
     → ((lines : Lines) (kept : Option ClusterView) → IsKeptBeside ttpbench ending.texts lines kept → kept ≡ None)

@@ -41,7 +41,7 @@ answer_line-is_line list node (faced.Yes start) seen =
 answer_line-is_line list node (faced.No rule slot) seen =
     no-by_words (decimal rule) (decimal slot) (has-decimal 10 rule (omega arith)) (has-decimal 10 slot (omega arith))
 
--- so is each text, since there are legal numbers
+-- each text of a test is one line, since there are legal numbers
 pub precisions-each : (list : Medl) (script : Script) (node : ℕ) (lines : Lines) → IsPrecision list script node lines
     → AreLines lines
 precisions-each list script node lines is =

@@ -90,7 +90,7 @@ totals-alike list script (row ∷ one) (row_too ∷ other) runs =
       reads = (before i).reads + length (reads_in script (slots i));
     }
 
--- so it is the same for all legal numbers
+-- all legal numbers give the same totals
 pub totals-legal : (list : Medl) (script : Script) (numbers others : Numbers) → IsValidScript list script
     → IsLegalRun list script numbers → IsLegalRun list script others
     → totals_of list script (world list script numbers) ≡ totals_of list script (world list script others)

@@ -54,7 +54,7 @@ summary-each list script slots number totals = (
   ),
 )
 
--- so is each text, since there are legal numbers
+-- each text of a sample is lines, since there are legal numbers
 pub samples-each : (list : Medl) (slots number : ℕ) (lines : Lines) → IsSample list slots number lines → AreLines lines
 samples-each list slots number lines is =
     let script = generated list slots number in

@@ -17,7 +17,7 @@ found (m ∷ measured) (suc n) words e =
     let (k, within, is) = found measured n words e in
     (suc k, omega (arith, within), is)
 
--- the same behind the opening message
+-- words of one of the messages behind the opening one are read as one of these measurements
 behind : (opening : List ℕ) (measured : List Measurement) (n : ℕ) (words : List ℕ) → n ≢ 0
     → slice_get (opening ∷ map measured_words measured) n ≡ Some words → Contains measured (read words)
 behind opening measured zero words some e = grind (arith, some)
