@@ -3,6 +3,7 @@
 mod calls;
 mod campaigns;
 mod charts;
+mod five;
 mod forms;
 mod laws;
 mod lines;

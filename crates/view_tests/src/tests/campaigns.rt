@@ -3,23 +3,13 @@
 ghost use Rattle.ttp_world.specs.Medl.{IsValid};
 ghost use Rattle.ttp_world.specs.Script.{IsValidScript};
 
+use super::five::{FIVE, QUIET, sum_of};
 use fault_runs::{has_room, processors, put_campaign};
 use medl_text::read_medl;
 use script_text::read_script;
 use std::thread::Threads;
 use ttp_base::{List, MemorySink};
 use ttp_world::{Medl, Script};
-
-// Five nodes, of which node 0 starts in slot 10.
-const FIVE: &str =
-    "version = 1\nrounds = 1\nschedule = 0\nbuffers = 2\ndrift = 0\nerror = 0\nwindow = 1\n
-[[slot]]\nkinds = \"I\"\ndata = 0\nsync = true\nstart = true\n
-[[slot]]\nkinds = \"I\"\ndata = 0\nsync = true\nstart = false\n
-[[slot]]\nkinds = \"I\"\ndata = 0\nsync = true\nstart = false\n
-[[slot]]\nkinds = \"I\"\ndata = 0\nsync = true\nstart = false\n
-[[slot]]\nkinds = \"I\"\ndata = 0\nsync = true\nstart = false\n";
-
-const QUIET: &[u8] = b"slots 45\non 0 0\non 1 0\non 2 0\non 3 0\non 4 0\n";
 
 // The slot of a campaign over that script, and its text: how many bytes it has, and their sum, in which each counts
 // 31 times what the next one does, modulo 2^64. Both are taken of the text that stands with the format's
@@ -29,15 +19,6 @@ const SLOT: u32 = 22;
 const LENGTH: usize = 8217;
 
 const SUM: u64 = 73_808_455_622_624_466;
-
-// A sum of bytes that tells their order.
-fn sum_of(text: &[u8]) -> u64 {
-    let mut sum: u64 = 0;
-    for byte in text {
-        sum = sum.wrapping_mul(31).wrapping_add(u64::from(*byte));
-    }
-    sum
-}
 
 // Whether a campaign in so many threads has its text.
 fn is_put<R: Threads + Sync + AllocGlobal>(

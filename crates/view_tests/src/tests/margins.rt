@@ -2,6 +2,7 @@
 ghost use Rattle.ttp_world.specs.Medl.{IsValid};
 ghost use Rattle.ttp_world.specs.Script.{IsValidScript};
 
+use super::five::{FIVE, QUIET, sum_of};
 use campaign::Span;
 use fault_runs::{has_room, processors};
 use margin_runs::put_margins;
@@ -10,17 +11,6 @@ use script_text::read_script;
 use std::thread::Threads;
 use ttp_base::{List, MemorySink};
 use ttp_world::{Medl, Script};
-
-// Five nodes, of which node 0 starts in slot 10.
-const FIVE: &str =
-    "version = 1\nrounds = 1\nschedule = 0\nbuffers = 2\ndrift = 0\nerror = 0\nwindow = 1\n
-[[slot]]\nkinds = \"I\"\ndata = 0\nsync = true\nstart = true\n
-[[slot]]\nkinds = \"I\"\ndata = 0\nsync = true\nstart = false\n
-[[slot]]\nkinds = \"I\"\ndata = 0\nsync = true\nstart = false\n
-[[slot]]\nkinds = \"I\"\ndata = 0\nsync = true\nstart = false\n
-[[slot]]\nkinds = \"I\"\ndata = 0\nsync = true\nstart = false\n";
-
-const QUIET: &[u8] = b"slots 45\non 0 0\non 1 0\non 2 0\non 3 0\non 4 0\n";
 
 // The text of their drifts: how many bytes it has, and their sum, in which each counts 31 times what the next one does, modulo
 // 2^64.
@@ -31,15 +21,6 @@ const SUM: u64 = 10_794_770_126_686_828_885;
 // The last two lines of the jumps in a slot that the script does not have.
 const NO_JUMPS: &[u8] =
     b"end 001f fault -\nall jump sweeps 0 values 0 nobody 0 itself 0 others 0 free - - least - most 0\n";
-
-// A sum of bytes that tells their order.
-fn sum_of(text: &[u8]) -> u64 {
-    let mut sum: u64 = 0;
-    for byte in text {
-        sum = sum.wrapping_mul(31).wrapping_add(u64::from(*byte));
-    }
-    sum
-}
 
 // Whether the margins of these slots, or of all drifts, have these bytes at their end, and of drifts their sum.
 fn are_put<R: Threads + Sync + AllocGlobal>(

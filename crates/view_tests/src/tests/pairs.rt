@@ -2,23 +2,13 @@
 ghost use Rattle.ttp_world.specs.Medl.{IsValid};
 ghost use Rattle.ttp_world.specs.Script.{IsValidScript};
 
+use super::five::{FIVE, QUIET, sum_of};
 use medl_text::read_medl;
 use pair_runs::put_pairs;
 use script_text::read_script;
 use std::thread::Threads;
 use ttp_base::{List, MemorySink};
 use ttp_world::{EVENT_LIMIT, Medl, Script};
-
-// Five nodes, of which node 0 starts in slot 10.
-const FIVE: &str =
-    "version = 1\nrounds = 1\nschedule = 0\nbuffers = 2\ndrift = 0\nerror = 0\nwindow = 1\n
-[[slot]]\nkinds = \"I\"\ndata = 0\nsync = true\nstart = true\n
-[[slot]]\nkinds = \"I\"\ndata = 0\nsync = true\nstart = false\n
-[[slot]]\nkinds = \"I\"\ndata = 0\nsync = true\nstart = false\n
-[[slot]]\nkinds = \"I\"\ndata = 0\nsync = true\nstart = false\n
-[[slot]]\nkinds = \"I\"\ndata = 0\nsync = true\nstart = false\n";
-
-const QUIET: &[u8] = b"slots 45\non 0 0\non 1 0\non 2 0\non 3 0\non 4 0\n";
 
 // The slot of both faults, and the text of these pairs: how many bytes it has, and their sum, in which each counts 31 times what
 // the next one does, modulo 2^64. Both are taken of the text that stands with the format's description.
@@ -27,15 +17,6 @@ const SLOT: u32 = 22;
 const LENGTH: usize = 14954;
 
 const SUM: u64 = 12_355_141_633_198_118_327;
-
-// A sum of bytes that tells their order.
-fn sum_of(text: &[u8]) -> u64 {
-    let mut sum: u64 = 0;
-    for byte in text {
-        sum = sum.wrapping_mul(31).wrapping_add(u64::from(*byte));
-    }
-    sum
-}
 
 // Whether these pairs have their text in so many threads.
 fn is_put<R: Threads + Sync + AllocGlobal>(
