@@ -80,7 +80,7 @@ fn hurt_with(hurt: NodeSet, states: &[NodeState], correct: NodeSet) -> NodeSet
     all
 }
 
-// The nodes that are.
+// The nodes that are on in a slot and not faulty after it.
 fn correct_in(list: &Medl, script: &Script, faulty: NodeSet, slot: u32) -> NodeSet
     requires valid { IsValid list.now }
     requires script { IsValidScript list.now script.now }
