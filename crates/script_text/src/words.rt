@@ -193,16 +193,23 @@ fn next_word(line: &[u8]) -> WordCut<'_>
     front_word(past_blanks(line))
 }
 
-/// The first word of a line, which has no bytes where the line has none, and what follows it.
-pub fn cut_first_word(line: &[u8]) -> Cut<'_>
+// The word at the front of a line, and what follows it.
+fn cut_front(line: &[u8]) -> Cut<'_>
+    requires { is_blank (slice_index line.now 0) ≡ false }
     ensures { CutsWord line.now result.piece.now result.rest.now }
 {
-    let line = past_blanks(line);
     let end = word_end(line, 0);
     Cut {
         piece: &line[..end],
         rest: past_word(line, end),
     }
+}
+
+/// The first word of a line, which has no bytes where the line has none, and what follows it.
+pub fn cut_first_word(line: &[u8]) -> Cut<'_>
+    ensures { CutsWord line.now result.piece.now result.rest.now }
+{
+    cut_front(past_blanks(line))
 }
 
 // The first word of a line, where it is a number.
