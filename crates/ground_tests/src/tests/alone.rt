@@ -1,35 +1,35 @@
 //! A node that hears nobody, slot by slot, worked out by hand.
 use super::lists::bare_nodes;
-use super::slots::{Came, Due, Run, Slot, Step, WAITS, each_goes};
+use super::slots::{Came, DueEntry, FirstSlots, SlotCase, SlotStep, WAITS, each_goes};
 use std::alloc::Global;
 use ttp_world::{Ack, Verdict};
 
-const OFF: Slot = Slot {
+const OFF: SlotCase = SlotCase {
     on: false,
-    entry: Due::Off,
+    entry: DueEntry::Off,
     ..WAITS
 };
 
-const STARTS: Slot = Slot {
+const STARTS: SlotCase = SlotCase {
     jump: 3,
     drift: -1,
     sends: true,
-    entry: Due::Started,
+    entry: DueEntry::Started,
     fresh: Some((0b10, Ack::First, 2)),
     ..WAITS
 };
 
 // The slot of node 2.
-const NULL: Slot = Slot {
-    entry: Due::Judged(2, Verdict::Null, 0),
+const NULL: SlotCase = SlotCase {
+    entry: DueEntry::Judged(2, Verdict::Null, 0),
     ..WAITS
 };
 
 // A slot in which it waits.
-const WAITING: Step = (Came::Silence, Came::Silence, WAITS);
+const WAITING: SlotStep = (Came::Silence, Came::Silence, WAITS);
 
 // Node 1 comes on, and hears nothing for two rounds and one slot more.
-const ALONE: &[Run] = &[(
+const ALONE: &[FirstSlots] = &[(
     1,
     &[
         (Came::Silence, Came::Silence, OFF),

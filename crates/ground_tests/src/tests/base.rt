@@ -189,7 +189,7 @@ fn a_file_as_it_lies(rt: HostRuntime) {
 // A source with so many bytes left, which gives at most so many at once, is interrupted at first, and may fail
 // where so many are left. It tells no errors, and counts its calls.
 #[derive(Drop)]
-struct Pieces {
+struct PieceReader {
     left: usize,
     most: usize,
     interrupts: u32,
@@ -197,7 +197,7 @@ struct Pieces {
     calls: u32,
 }
 
-impl Read for Pieces {
+impl Read for PieceReader {
     fn read(&mut self, buf: &mut [u8]) -> io::Result<usize> {
         self.calls = self.calls.saturating_add(1);
         if self.interrupts > 0 {
@@ -249,7 +249,7 @@ const FRONT_CASES: &[FrontCase] = &[
 
 fn gives_front(alloc: Global, case: &FrontCase) -> bool {
     let (length, count, most, interrupts, fails, expected, left, calls) = *case;
-    let mut reader = Pieces {
+    let mut reader = PieceReader {
         left: length,
         most,
         interrupts,

@@ -16,7 +16,7 @@ const BOTH: Channels = Channels { a: true, b: true };
 
 // A line of a script that speaks of slot 3: faults by the node whose they are.
 #[derive(Clone, Copy)]
-enum Line {
+enum Said {
     None,
     Send(u8, Channels, Fault),
     Receive(u8, Channels, Fault),
@@ -25,7 +25,7 @@ enum Line {
 
 // What is heard on a channel: bits by their bytes, and by the offset of the node that sent them.
 #[derive(Clone, Copy)]
-enum Heard {
+enum Sound {
     Silence,
     Noise,
     Bits(&'static [u8], i64),
@@ -43,30 +43,30 @@ const EACH: [bool; 2] = [true, true];
 // What they send, and how far their clocks are ahead.
 const SENT: [([u8; 3], i64); 2] = [([0x10, 0xa5, 0xff], -7), ([0x11, 0x00, 0x3c], 40)];
 // The same as it is heard without faults.
-const ZERO: Heard = Heard::Bits(&[0x10, 0xa5, 0xff], -7);
+const ZERO: Sound = Sound::Bits(&[0x10, 0xa5, 0xff], -7);
 
-const ONE: Heard = Heard::Bits(&[0x11, 0x00, 0x3c], 40);
+const ONE: Sound = Sound::Bits(&[0x11, 0x00, 0x3c], 40);
 
-fn event(line: Line) -> Event
+fn event(line: Said) -> Event
     ensures { IsBounded result }
 {
     match line {
-        Line::None => Event::Arm { node: 9, slot: 3 },
-        Line::Send(node, channels, fault) => Event::Send {
+        Said::None => Event::Arm { node: 9, slot: 3 },
+        Said::Send(node, channels, fault) => Event::Send {
             node,
             channels,
             fault,
             from: 3,
             to: 3,
         },
-        Line::Receive(node, channels, fault) => Event::Receive {
+        Said::Receive(node, channels, fault) => Event::Receive {
             node,
             channels,
             fault,
             from: 2,
             to: 4,
         },
-        Line::Flip(node, channels, bit) => Event::Flip {
+        Said::Flip(node, channels, bit) => Event::Flip {
             node,
             channels,
             bit,
@@ -75,7 +75,7 @@ fn event(line: Line) -> Event
     }
 }
 
-fn script(alloc: Global, lines: [Line; 2]) -> Option<Script> {
+fn script(alloc: Global, lines: [Said; 2]) -> Option<Script> {
     let Ok(events) = vec![in alloc; event(lines[0]), event(lines[1])] else {
         return None;
     };
@@ -90,10 +90,10 @@ fn script(alloc: Global, lines: [Line; 2]) -> Option<Script> {
     }
 }
 
-fn is_heard(arrival: &Arrival, heard: Heard) -> bool {
+fn is_heard(arrival: &Arrival, heard: Sound) -> bool {
     match (arrival, heard) {
-        (Arrival::Silence, Heard::Silence) | (Arrival::Noise, Heard::Noise) => true,
-        (Arrival::Bits { bytes, offset }, Heard::Bits(wanted, ahead)) => {
+        (Arrival::Silence, Sound::Silence) | (Arrival::Noise, Sound::Noise) => true,
+        (Arrival::Bits { bytes, offset }, Sound::Bits(wanted, ahead)) => {
             *bytes == wanted && *offset == ahead
         }
         _ => false,
@@ -133,132 +133,132 @@ fn put_in_slot(medium: &mut Medium, script: &Script, node: u8, frame: &Outgoing,
 }
 
 // Two lines of the script, who sends, and what node 2 hears on channels A and B.
-type Row = ([Line; 2], [bool; 2], Heard, Heard);
+type SlotHeard = ([Said; 2], [bool; 2], Sound, Sound);
 
-const ROWS: &[Row] = &[
+const ROWS: &[SlotHeard] = &[
     (
-        [Line::None, Line::None],
+        [Said::None, Said::None],
         NEITHER,
-        Heard::Silence,
-        Heard::Silence,
+        Sound::Silence,
+        Sound::Silence,
     ),
-    ([Line::None, Line::None], FIRST, ZERO, ZERO),
-    ([Line::None, Line::None], SECOND, ONE, ONE),
+    ([Said::None, Said::None], FIRST, ZERO, ZERO),
+    ([Said::None, Said::None], SECOND, ONE, ONE),
     // Two frames, a frame and noise, a frame beside a silenced one, and silence over noise.
-    ([Line::None, Line::None], EACH, Heard::Noise, Heard::Noise),
+    ([Said::None, Said::None], EACH, Sound::Noise, Sound::Noise),
     (
-        [Line::Send(0, BOTH, Noise), Line::None],
+        [Said::Send(0, BOTH, Noise), Said::None],
         EACH,
-        Heard::Noise,
-        Heard::Noise,
+        Sound::Noise,
+        Sound::Noise,
     ),
     (
-        [Line::Send(1, BOTH, Noise), Line::None],
+        [Said::Send(1, BOTH, Noise), Said::None],
         EACH,
-        Heard::Noise,
-        Heard::Noise,
+        Sound::Noise,
+        Sound::Noise,
     ),
-    ([Line::Send(0, BOTH, Silence), Line::None], EACH, ONE, ONE),
-    ([Line::Send(1, BOTH, Silence), Line::None], EACH, ZERO, ZERO),
+    ([Said::Send(0, BOTH, Silence), Said::None], EACH, ONE, ONE),
+    ([Said::Send(1, BOTH, Silence), Said::None], EACH, ZERO, ZERO),
     (
-        [Line::Send(0, A, Silence), Line::None],
+        [Said::Send(0, A, Silence), Said::None],
         EACH,
         ONE,
-        Heard::Noise,
+        Sound::Noise,
     ),
     (
-        [Line::Send(0, A, Silence), Line::Send(1, B, Silence)],
+        [Said::Send(0, A, Silence), Said::Send(1, B, Silence)],
         EACH,
         ONE,
         ZERO,
     ),
     (
-        [Line::Send(0, B, Noise), Line::None],
+        [Said::Send(0, B, Noise), Said::None],
         FIRST,
         ZERO,
-        Heard::Noise,
+        Sound::Noise,
     ),
     (
-        [Line::Send(0, A, Noise), Line::Send(0, A, Silence)],
+        [Said::Send(0, A, Noise), Said::Send(0, A, Silence)],
         FIRST,
-        Heard::Silence,
+        Sound::Silence,
         ZERO,
     ),
     (
-        [Line::Send(0, A, Noise), Line::Send(0, A, Silence)],
+        [Said::Send(0, A, Noise), Said::Send(0, A, Silence)],
         EACH,
         ONE,
-        Heard::Noise,
+        Sound::Noise,
     ),
-    ([Line::Send(2, BOTH, Noise), Line::None], FIRST, ZERO, ZERO),
+    ([Said::Send(2, BOTH, Noise), Said::None], FIRST, ZERO, ZERO),
     // Flips inside, past the end, of one bit twice, of two bits, and of another node.
     (
-        [Line::Flip(0, A, 8), Line::None],
+        [Said::Flip(0, A, 8), Said::None],
         FIRST,
-        Heard::Bits(&[0x10, 0x25, 0xff], -7),
+        Sound::Bits(&[0x10, 0x25, 0xff], -7),
         ZERO,
     ),
     (
-        [Line::Flip(0, B, 23), Line::None],
+        [Said::Flip(0, B, 23), Said::None],
         FIRST,
         ZERO,
-        Heard::Bits(&[0x10, 0xa5, 0xfe], -7),
+        Sound::Bits(&[0x10, 0xa5, 0xfe], -7),
     ),
-    ([Line::Flip(0, BOTH, 24), Line::None], FIRST, ZERO, ZERO),
+    ([Said::Flip(0, BOTH, 24), Said::None], FIRST, ZERO, ZERO),
     (
-        [Line::Flip(0, A, 12), Line::Flip(0, BOTH, 12)],
+        [Said::Flip(0, A, 12), Said::Flip(0, BOTH, 12)],
         FIRST,
         ZERO,
-        Heard::Bits(&[0x10, 0xad, 0xff], -7),
+        Sound::Bits(&[0x10, 0xad, 0xff], -7),
     ),
     (
-        [Line::Flip(1, A, 8), Line::Flip(1, A, 16)],
+        [Said::Flip(1, A, 8), Said::Flip(1, A, 16)],
         SECOND,
-        Heard::Bits(&[0x11, 0x80, 0xbc], 40),
+        Sound::Bits(&[0x11, 0x80, 0xbc], 40),
         ONE,
     ),
-    ([Line::Flip(1, BOTH, 8), Line::None], FIRST, ZERO, ZERO),
+    ([Said::Flip(1, BOTH, 8), Said::None], FIRST, ZERO, ZERO),
     // The receiver's own faults over a frame, noise and silence, and another receiver's.
     (
-        [Line::Receive(2, A, Silence), Line::None],
+        [Said::Receive(2, A, Silence), Said::None],
         FIRST,
-        Heard::Silence,
+        Sound::Silence,
         ZERO,
     ),
     (
-        [Line::Receive(2, B, Noise), Line::None],
+        [Said::Receive(2, B, Noise), Said::None],
         FIRST,
         ZERO,
-        Heard::Noise,
+        Sound::Noise,
     ),
     (
-        [Line::Receive(2, A, Silence), Line::Receive(2, B, Noise)],
+        [Said::Receive(2, A, Silence), Said::Receive(2, B, Noise)],
         EACH,
-        Heard::Silence,
-        Heard::Noise,
+        Sound::Silence,
+        Sound::Noise,
     ),
     (
-        [Line::Receive(2, A, Silence), Line::Receive(2, B, Noise)],
+        [Said::Receive(2, A, Silence), Said::Receive(2, B, Noise)],
         NEITHER,
-        Heard::Silence,
-        Heard::Silence,
+        Sound::Silence,
+        Sound::Silence,
     ),
     (
-        [Line::Receive(2, A, Noise), Line::Receive(2, A, Silence)],
+        [Said::Receive(2, A, Noise), Said::Receive(2, A, Silence)],
         FIRST,
-        Heard::Silence,
+        Sound::Silence,
         ZERO,
     ),
     (
-        [Line::Receive(2, A, Noise), Line::Send(0, A, Silence)],
+        [Said::Receive(2, A, Noise), Said::Send(0, A, Silence)],
         FIRST,
-        Heard::Silence,
+        Sound::Silence,
         ZERO,
     ),
     (
         [
-            Line::Receive(0, BOTH, Noise),
-            Line::Receive(1, BOTH, Silence),
+            Said::Receive(0, BOTH, Noise),
+            Said::Receive(1, BOTH, Silence),
         ],
         FIRST,
         ZERO,
@@ -278,7 +278,7 @@ fn put_frames(medium: &mut Medium, script: &Script, sends: [bool; 2]) {
 }
 
 // Whether node 2 hears on channels A and B what it is due to hear, by a script of the lines of a row.
-fn hears(medium: &mut Medium, script: &Script, row: &Row) -> bool {
+fn hears(medium: &mut Medium, script: &Script, row: &SlotHeard) -> bool {
     let (_, sends, a, b) = *row;
     put_frames(medium, script, sends);
     let incidents = script.incidents(2, 3);
@@ -286,7 +286,7 @@ fn hears(medium: &mut Medium, script: &Script, row: &Row) -> bool {
         && is_heard(&medium.heard(&incidents, Channel::B), b)
 }
 
-fn are_heard(alloc: Global, medium: &mut Medium, row: &Row) -> bool {
+fn are_heard(alloc: Global, medium: &mut Medium, row: &SlotHeard) -> bool {
     let Some(script) = script(alloc, row.0) else {
         return false;
     };
@@ -321,12 +321,12 @@ fn hears_less(medium: &mut Medium, script: &Script) -> bool {
     put_frames(medium, script, FIRST);
     let carried = medium.carried(Channel::A);
     let heard = received(&carried, &script.incidents(2, 3), Channel::A);
-    is_heard(&carried, ZERO) && is_heard(heard, Heard::Silence)
+    is_heard(&carried, ZERO) && is_heard(heard, Sound::Silence)
 }
 
 // The receiver of node 2 is dead on channel A.
 fn is_received(alloc: Global, medium: &mut Medium) -> bool {
-    let Some(script) = script(alloc, [Line::Receive(2, A, Silence), Line::None]) else {
+    let Some(script) = script(alloc, [Said::Receive(2, A, Silence), Said::None]) else {
         return false;
     };
     let is_right = hears_less(medium, &script);
@@ -343,7 +343,7 @@ fn less_is_received(alloc: Global) -> bool {
 
 // Whether a copy of a medium carries what it carries.
 fn is_copied(alloc: Global, medium: &mut Medium) -> bool {
-    let Some(script) = script(alloc, [Line::None, Line::None]) else {
+    let Some(script) = script(alloc, [Said::None, Said::None]) else {
         return false;
     };
     put_frames(medium, &script, FIRST);

@@ -12,7 +12,7 @@ use ttp_frame::FrameIn;
 use ttp_world::{Ack, Delivered, Entry, Medl, NodeState, Phase, Reason, StatusWords, Verdict};
 
 /// A frame of the first round: its header, the time, slot and members of its C-state, and its payload.
-pub(super) struct Frame {
+pub(super) struct FirstFrame {
     pub header: u8,
     pub time: u16,
     pub slot: u8,
@@ -26,26 +26,26 @@ pub(super) enum Came {
     Silence,
     Noise,
     Bytes(&'static [u8], i16),
-    Frame(&'static Frame, i16),
+    Frame(&'static FirstFrame, i16),
 }
 
 /// What a node is due to enter.
 #[derive(Clone, Copy)]
-pub(super) enum Due {
+pub(super) enum DueEntry {
     Off,
     Waited,
     Started,
     /// A frame without a message.
     Sent,
     /// It joins on this frame, which comes so late.
-    Joined(&'static Frame, i64),
+    Joined(&'static FirstFrame, i64),
     /// Of the sender's frame, which comes so late.
     Judged(u8, Verdict, i64),
     Left(Reason, u8),
 }
 
 /// How a slot is for a node, and what the node is due to do in it.
-pub(super) struct Slot {
+pub(super) struct SlotCase {
     /// Whether it is to be on.
     pub on: bool,
     pub jump: i8,
@@ -53,7 +53,7 @@ pub(super) struct Slot {
     pub drift: i8,
     /// Whether it sends.
     pub sends: bool,
-    pub entry: Due,
+    pub entry: DueEntry,
     /// The first byte of what is delivered.
     pub byte: Option<u8>,
     /// The members, the acknowledgement and the clock of a node that has just started, joined or sent.
@@ -61,21 +61,21 @@ pub(super) struct Slot {
 }
 
 /// What comes on channels A and B, and the slot.
-pub(super) type Step = (Came, Came, Slot);
+pub(super) type SlotStep = (Came, Came, SlotCase);
 
 /// A node that is on, whose clock goes on as it should, waits.
-pub(super) const WAITS: Slot = Slot {
+pub(super) const WAITS: SlotCase = SlotCase {
     on: true,
     jump: 0,
     error: 0,
     drift: 0,
     sends: false,
-    entry: Due::Waited,
+    entry: DueEntry::Waited,
     byte: None,
     fresh: None,
 };
 
-fn frame_in(frame: &Frame) -> FrameIn<'_> {
+fn frame_in(frame: &FirstFrame) -> FrameIn<'_> {
     FrameIn {
         wide: false,
         header: frame.header,
@@ -116,7 +116,7 @@ fn arrival_of(came: Came, frame: &[u8]) -> Arrival<'_>
 fn goes(
     node: &mut Controller,
     list: &Medl,
-    slot: &Slot,
+    slot: &SlotCase,
     jump: i64,
     a: &Arrival,
     b: &Arrival,
@@ -146,23 +146,23 @@ fn goes(
     sent == slot.sends
 }
 
-fn entry_of(due: Due) -> Entry {
+fn entry_of(due: DueEntry) -> Entry {
     match due {
-        Due::Off => Entry::Off,
-        Due::Waited => Entry::Waited,
-        Due::Started => Entry::Started,
-        Due::Sent => Entry::Sent { message: None },
-        Due::Joined(frame, deviation) => Entry::Joined {
+        DueEntry::Off => Entry::Off,
+        DueEntry::Waited => Entry::Waited,
+        DueEntry::Started => Entry::Started,
+        DueEntry::Sent => Entry::Sent { message: None },
+        DueEntry::Joined(frame, deviation) => Entry::Joined {
             sender: frame.slot,
             cstate: state(frame.time, 0, frame.slot, frame.members),
             deviation,
         },
-        Due::Judged(sender, verdict, deviation) => Entry::Judged {
+        DueEntry::Judged(sender, verdict, deviation) => Entry::Judged {
             sender,
             verdict,
             deviation,
         },
-        Due::Left(reason, peer) => Entry::Left { reason, peer },
+        DueEntry::Left(reason, peer) => Entry::Left { reason, peer },
     }
 }
 
@@ -185,7 +185,7 @@ fn is_fresh(state: &NodeState, members: u32, ack: Ack, offset: i64) -> bool {
 }
 
 // Whether a node shows after a slot what is due.
-fn shows(state: &NodeState, slot: &Slot) -> bool {
+fn shows(state: &NodeState, slot: &SlotCase) -> bool {
     state.entry == entry_of(slot.entry)
         && match slot.fresh {
             Some((members, ack, offset)) => is_fresh(state, members, ack, offset),
@@ -194,7 +194,7 @@ fn shows(state: &NodeState, slot: &Slot) -> bool {
 }
 
 // Takes a node through a slot, and tells whether it does what is due.
-fn follows(node: &mut Controller, list: &Medl, step: &Step) -> bool
+fn follows(node: &mut Controller, list: &Medl, step: &SlotStep) -> bool
     requires list { list.now ≡ node.old.list }
     requires turn { IsEnded node.old.turn }
     ensures list { list.now ≡ node.new.list }
@@ -220,7 +220,7 @@ fn follows(node: &mut Controller, list: &Medl, step: &Step) -> bool
         && first_byte(&outcome) == slot.byte
 }
 
-fn follows_each(node: &mut Controller, list: &Medl, steps: &[Step]) -> bool
+fn follows_each(node: &mut Controller, list: &Medl, steps: &[SlotStep]) -> bool
     requires list { list.now ≡ node.old.list }
     requires turn { IsEnded node.old.turn }
 {
@@ -233,7 +233,7 @@ fn follows_each(node: &mut Controller, list: &Medl, steps: &[Step]) -> bool
 }
 
 // Whether a node that begins off does what is due in each of its first slots.
-fn goes_on(alloc: Global, list: &Medl, number: u8, steps: &[Step]) -> bool
+fn goes_on(alloc: Global, list: &Medl, number: u8, steps: &[SlotStep]) -> bool
     requires { IsValid list.now }
 {
     if usize::from(number) >= list.slots.len() {
@@ -246,10 +246,10 @@ fn goes_on(alloc: Global, list: &Medl, number: u8, steps: &[Step]) -> bool
 }
 
 /// A node by its number, and its first slots.
-pub(super) type Run = (u8, &'static [Step]);
+pub(super) type FirstSlots = (u8, &'static [SlotStep]);
 
 /// Whether the node of each run does what is due.
-pub(super) fn each_goes(alloc: Global, list: &Medl, runs: &[Run]) -> bool
+pub(super) fn each_goes(alloc: Global, list: &Medl, runs: &[FirstSlots]) -> bool
     requires { IsValid list.now }
 {
     for (number, steps) in runs {

@@ -62,7 +62,7 @@ fn a_cluster_does_its_first_slot(rt: HostRuntime) {
 
 // What a watcher was told: of how many slots, and of how many reads in them.
 #[derive(Clone, Copy, PartialEq, Eq)]
-struct Told {
+struct WatchedSlots {
     slots: u32,
     reads: usize,
 }
@@ -78,7 +78,7 @@ impl Watch for Counter {
     ghost use Rattle.ttp_world.specs.declared.script.Script.{Script};
     ghost use Rattle.cluster_run.specs.Standing.{ClusterView};
 
-    type Out = Told;
+    type Out = WatchedSlots;
 
     type Fault = Memory;
 
@@ -88,7 +88,12 @@ impl Watch for Counter {
 
     ghost leaves = { λ _ _ _ _ _. Unit {0} };
 
-    fn told(&mut self, out: &mut Told, _list: &Medl, report: &SlotReport) -> Result<(), Memory> {
+    fn told(
+        &mut self,
+        out: &mut WatchedSlots,
+        _list: &Medl,
+        report: &SlotReport,
+    ) -> Result<(), Memory> {
         out.slots = out.slots.wrapping_add(1);
         out.reads = out.reads.wrapping_add(report.reads.len());
         if out.slots == self.most {
@@ -97,7 +102,7 @@ impl Watch for Counter {
         Ok(())
     }
 
-    fn refused(&mut self, _out: &mut Told) -> Memory {
+    fn refused(&mut self, _out: &mut WatchedSlots) -> Memory {
         Memory
     }
 }
@@ -106,7 +111,7 @@ impl Watch for Counter {
 fn is_ended<R: Threads + Wait + Sync>(
     rt: &R,
     cluster: &mut Cluster,
-    told: &mut Told,
+    told: &mut WatchedSlots,
     most: u32,
 ) -> bool {
     let ended = cluster.run(rt, &mut Counter { most }, told, &Beside::new(OPEN));
@@ -114,7 +119,11 @@ fn is_ended<R: Threads + Wait + Sync>(
 }
 
 // Whether a run goes on to the end.
-fn is_whole<R: Threads + Wait + Sync>(rt: &R, cluster: &mut Cluster, told: &mut Told) -> bool {
+fn is_whole<R: Threads + Wait + Sync>(
+    rt: &R,
+    cluster: &mut Cluster,
+    told: &mut WatchedSlots,
+) -> bool {
     let ended = cluster.run(rt, &mut Counter { most: 0 }, told, &Beside::new(OPEN));
     ended.is_ok() && told.slots == 20 && told.reads == 1 && cluster.done() == 20
 }
@@ -124,7 +133,7 @@ fn goes_on<R: Threads + Wait + Sync>(rt: &R, alloc: Global, most: u32) -> bool {
     let Ok(mut cluster) = poll_cluster(alloc) else {
         return false;
     };
-    let mut told = Told { slots: 0, reads: 0 };
+    let mut told = WatchedSlots { slots: 0, reads: 0 };
     let is_right = is_ended(rt, &mut cluster, &mut told, most)
         && is_whole(rt, &mut cluster, &mut told);
     let_go(Some(cluster));

@@ -10,36 +10,36 @@ use std::thread::{Threads, join_mut};
 
 // A number that is counted up, and how often the worker did it.
 #[derive(Drop)]
-struct Tally {
+struct CountedUp {
     count: u64,
     served: u64,
 }
 
 struct CountUp;
 
-impl Errand<Tally> for CountUp {
+impl Errand<CountedUp> for CountUp {
     ghost needs = { λ j. j.count < 1000 };
 
     ghost does = { λ j k. k.count ≡ j.count + 1 };
 }
 
-fn counted_up(job: Tally) -> Tally
+fn counted_up(job: CountedUp) -> CountedUp
     requires { job.count < 1000 }
     ensures { result.count ≡ job.count + 1 }
 {
-    Tally {
+    CountedUp {
         count: job.count + 1,
         served: job.served,
     }
 }
 
 // The same by the worker, who takes so many looks for it.
-fn served_up(job: Tally, looks: u32) -> Tally
+fn served_up(job: CountedUp, looks: u32) -> CountedUp
     requires { job.count < 1000 }
     ensures { result.count ≡ job.count + 1 }
 {
     pass(looks);
-    Tally {
+    CountedUp {
         count: job.count + 1,
         served: job.served.saturating_add(1),
     }
@@ -55,11 +55,11 @@ fn pass(looks: u32) {
 // Counts both up once, the second one by the worker if it comes to that while so many looks go by.
 fn count_both<'a, R: Wait>(
     rt: &R,
-    giver: &mut Option<Giver<'a, Tally, CountUp>>,
-    front: Tally,
-    back: Tally,
+    giver: &mut Option<Giver<'a, CountedUp, CountUp>>,
+    front: CountedUp,
+    back: CountedUp,
     looks: u32,
-) -> (Tally, Tally)
+) -> (CountedUp, CountedUp)
     requires { (front.count < 1000) × (back.count < 1000) }
     ensures { (result.0.count ≡ front.count + 1) × (result.1.count ≡ back.count + 1) }
 {
@@ -71,7 +71,7 @@ fn count_both<'a, R: Wait>(
     let front = counted_up(front);
     let (hired, back) = waiting.finish(
         rt,
-        &|job: Tally| -> Tally
+        &|job: CountedUp| -> CountedUp
             requires { job.count < 1000 }
             ensures { result.count ≡ job.count + 1 }
         { counted_up(job) },
@@ -87,18 +87,18 @@ const SHORT: u64 = 5;
 // rounds of the second one the worker did.
 fn count_up<'a, R: Wait>(
     rt: &R,
-    giver: &mut Option<Giver<'a, Tally, CountUp>>,
+    giver: &mut Option<Giver<'a, CountedUp, CountUp>>,
     rounds: u64,
     looks: u32,
 ) -> (u64, u64, u64)
     requires { rounds ≤ 1000 }
     ensures { (result.0 ≡ rounds) × (result.1 ≡ rounds) }
 {
-    let mut front = Tally {
+    let mut front = CountedUp {
         count: 0,
         served: 0,
     };
-    let mut back = Tally {
+    let mut back = CountedUp {
         count: 0,
         served: 0,
     };
@@ -112,11 +112,11 @@ fn count_up<'a, R: Wait>(
     (front.count, back.count, back.served)
 }
 
-fn serve<'a, R: Wait>(rt: &R, worker: &mut Option<Worker<'a, Tally, CountUp>>, looks: u32) {
+fn serve<'a, R: Wait>(rt: &R, worker: &mut Option<Worker<'a, CountedUp, CountUp>>, looks: u32) {
     if let Some(worker) = worker.take() {
         worker.serve(
             rt,
-            &|job: Tally| -> Tally
+            &|job: CountedUp| -> CountedUp
                 requires { job.count < 1000 }
                 ensures { result.count ≡ job.count + 1 }
             { served_up(job, looks) },
@@ -134,7 +134,7 @@ fn count_in_threads<R: Threads + Wait + Sync>(
 ) -> Option<u64>
     requires { rounds ≤ 1000 }
 {
-    let Ok((table, seat)) = open::<Tally, CountUp>(alloc) else {
+    let Ok((table, seat)) = open::<CountedUp, CountUp>(alloc) else {
         return None;
     };
     let (giver, worker) = hire(&table.shared, seat);
@@ -174,7 +174,7 @@ fn who_sleeps_is_woken(rt: HostRuntime) {
 
 // Whether a giver without a worker counts both numbers up, after which a worker that comes has nothing to do.
 fn is_counted_alone<R: Wait>(rt: &R, alloc: Global) -> bool {
-    let Ok((table, seat)) = open::<Tally, CountUp>(alloc) else {
+    let Ok((table, seat)) = open::<CountedUp, CountUp>(alloc) else {
         return false;
     };
     let (giver, worker) = hire(&table.shared, seat);
@@ -191,12 +191,12 @@ fn a_job_that_nobody_begins_is_done_all_the_same(rt: HostRuntime) {
 
 // Whether a job that nobody begins is taken back as it was given.
 fn is_taken_back<R: Wait>(rt: &R, alloc: Global) -> bool {
-    let Ok((table, seat)) = open::<Tally, CountUp>(alloc) else {
+    let Ok((table, seat)) = open::<CountedUp, CountUp>(alloc) else {
         return false;
     };
     let (giver, _worker) = hire(&table.shared, seat);
     match giver
-        .ask(Tally {
+        .ask(CountedUp {
             count: 7,
             served: 0,
         })

@@ -131,11 +131,11 @@ fn is_newest_read(ring: &Ring, writer: &mut Writer, width: usize) -> bool
 
 // Keeps the places that were passed, as decimal digits, the first one first.
 #[derive(Drop)]
-struct Places {
+struct PassedPlaces {
     digits: AtomicU64,
 }
 
-impl Gate for Places {
+impl Gate for PassedPlaces {
     fn pass(&self, place: u32) {
         let before = self.digits.load(SeqCst);
         let digits = before.wrapping_mul(10).wrapping_add(place as u64);
@@ -150,7 +150,7 @@ fn reads_each<R: Wait>(rt: &R, ring: &Ring, writer: &mut Writer, reader: &mut Re
     requires reader { (reader.old.ring ≡ ring.now) × (1 ≤ reader.old.spare) }
     ensures { (writer.new.ring ≡ ring.now) × (reader.new.ring ≡ ring.now) }
 {
-    let places = Places {
+    let places = PassedPlaces {
         digits: AtomicU64::new(0),
     };
     let before = (writer.number(), reader.spare());

@@ -38,9 +38,9 @@ keeps no H4 0
 const CAMPAIGN: &[&str] = &["campaign", "list", "script", "11", "11"];
 
 // The words of a call, and the first line that it writes.
-type Row = (&'static [&'static str], &'static str);
+type LabCase = (&'static [&'static str], &'static str);
 
-const COMMANDS: &[Row] = &[
+const COMMANDS: &[LabCase] = &[
     (&["wave", "trace"], "$version ttplab wave $end\n"),
     (
         &["picture", "trace", "0", "00009"],
@@ -107,7 +107,11 @@ fn has_fronts<R: AllocGlobal + Threads + Sync>(rt: &R, call: &Call<'_>, text: &[
 }
 
 // Whether a call answers as its row says, also where a line can't be written.
-fn is_answered<R: AllocGlobal + Threads + Sync>(rt: &R, row: &Row, files: &[(&str, &str)]) -> bool {
+fn is_answered<R: AllocGlobal + Threads + Sync>(
+    rt: &R,
+    row: &LabCase,
+    files: &[(&str, &str)],
+) -> bool {
     let (words, line) = *row;
     let call = Call {
         words,

@@ -8,9 +8,9 @@ use std::thread::Threads;
 use ttp_base::MemorySink;
 
 // The words of a call, and the first line that it writes.
-type Row = (&'static [&'static str], &'static str);
+type FormCase = (&'static [&'static str], &'static str);
 
-const COMMANDS: &[Row] = &[
+const COMMANDS: &[FormCase] = &[
     (
         &["schedule", "list"],
         "ttpbench schedule 1 nodes 5 rounds 1 schedule 000000\n",
@@ -80,7 +80,11 @@ fn has_fronts<R: Threads + Wait + Sync + AllocGlobal>(
 }
 
 // Whether a call answers as its row says, also where a line can't be written.
-fn is_answered<R: Threads + Wait + Sync + AllocGlobal>(rt: &R, row: &Row, trace: &[u8]) -> bool {
+fn is_answered<R: Threads + Wait + Sync + AllocGlobal>(
+    rt: &R,
+    row: &FormCase,
+    trace: &[u8],
+) -> bool {
     let (words, line) = *row;
     let call = Call {
         words,

@@ -33,7 +33,7 @@ fn sink_with(alloc: Global, room: usize) -> Result<MemorySink, Memory> {
 // An active node's line: the list's version, the node, the sender that it judged and how, a member beside four others,
 // both counts, the acknowledgement, the clock and the message; and what is written of it into a sink with so much room.
 #[derive(Clone, Copy)]
-struct Row {
+struct NodeCase {
     version: u8,
     node: u8,
     sender: u8,
@@ -48,7 +48,7 @@ struct Row {
     text: &'static str,
 }
 
-const FIRST: Row = Row {
+const FIRST: NodeCase = NodeCase {
     version: 1,
     node: 0,
     sender: 2,
@@ -64,34 +64,34 @@ const FIRST: Row = Row {
 };
 
 // Nodes of slot 17 that judge it alike, and then otherwise in one thing after another.
-const ROWS: &[Row] = &[
+const ROWS: &[NodeCase] = &[
     FIRST,
-    Row {
+    NodeCase {
         node: 1,
         text: "slot 17 node 1 correct peer 2 msg 2 mem 001f acc 3 rej 0 ack none clock 0\n",
         ..FIRST
     },
-    Row {
+    NodeCase {
         node: 3,
         member: 4,
         text: "slot 17 node 3 correct peer 2 msg 2 mem 001b acc 3 rej 0 ack none clock 0\n",
         ..FIRST
     },
-    Row {
+    NodeCase {
         node: 4,
         member: 4,
         message: Some(3),
         text: "slot 17 node 4 correct peer 2 msg 3 mem 001b acc 3 rej 0 ack none clock 0\n",
         ..FIRST
     },
-    Row {
+    NodeCase {
         node: 5,
         member: 4,
         message: None,
         text: "slot 17 node 5 correct peer 2 msg - mem 001b acc 3 rej 0 ack none clock 0\n",
         ..FIRST
     },
-    Row {
+    NodeCase {
         node: 6,
         verdict: Verdict::Tentative,
         member: 4,
@@ -99,7 +99,7 @@ const ROWS: &[Row] = &[
         text: "slot 17 node 6 tentative peer 2 msg - mem 001b acc 3 rej 0 ack none clock 0\n",
         ..FIRST
     },
-    Row {
+    NodeCase {
         node: 7,
         sender: 3,
         verdict: Verdict::Tentative,
@@ -111,7 +111,7 @@ const ROWS: &[Row] = &[
 ];
 
 // What the line of a row shows of its node.
-fn state_of(row: &Row, members: NodeSet) -> NodeState {
+fn state_of(row: &NodeCase, members: NodeSet) -> NodeState {
     NodeState {
         phase: Phase::Active,
         entry: Entry::Judged {
@@ -139,7 +139,7 @@ fn fits(list: &Medl, members: NodeSet) -> bool
 }
 
 // Whether the line of a row's node is its text, whole or not at all.
-fn is_line(alloc: Global, row: &Row, newest: &mut NodeLines) -> bool {
+fn is_line(alloc: Global, row: &NodeCase, newest: &mut NodeLines) -> bool {
     if row.member >= 24 {
         return false;
     }
@@ -157,7 +157,7 @@ fn is_line(alloc: Global, row: &Row, newest: &mut NodeLines) -> bool {
 }
 
 // Whether it is so of rows, one after another, in a slot.
-fn are_lines(alloc: Global, slot: u32, rows: &[Row]) -> bool {
+fn are_lines(alloc: Global, slot: u32, rows: &[NodeCase]) -> bool {
     let mut newest = NodeLines::new();
     newest.begin(slot);
     for row in rows {
@@ -174,7 +174,7 @@ fn lines_of_one_slot(rt: HostRuntime) {
 }
 
 // The widest line with a message that there can be: the members of a list of version 2 have six digits.
-const WIDEST: Row = Row {
+const WIDEST: NodeCase = NodeCase {
     version: 2,
     node: 23,
     sender: 23,
@@ -189,9 +189,9 @@ const WIDEST: Row = Row {
     text: "slot 19999 node 23 correct peer 23 msg 20000 mem 80001b acc 255 rej 255 ack doubt:22 clock -576460752303423488\n",
 };
 
-const WHOLE: &[Row] = &[WIDEST];
+const WHOLE: &[NodeCase] = &[WIDEST];
 
-const REFUSED: &[Row] = &[Row {
+const REFUSED: &[NodeCase] = &[NodeCase {
     room: 110,
     text: "",
     ..WIDEST
@@ -290,14 +290,14 @@ const ANSWERS: &[(Answer, usize, &str)] = &[
 ];
 
 // Whether the line of an answer is its text, whole or not at all.
-fn is_answer(alloc: Global, case: &(Answer, usize, &str)) -> bool {
+fn is_answer(alloc: Global, case: &(LastLine, usize, &str)) -> bool {
     let (answer, room, text) = case;
     let Ok(mut out) = sink_with(alloc, *room) else {
         return false;
     };
     let is_whole = match answer {
-        Answer::Keep(keep) => put_keep(keep, &mut out).is_ok(),
-        Answer::Back(back) => put_back(back, &mut out).is_ok(),
+        LastLine::Keep(keep) => put_keep(keep, &mut out).is_ok(),
+        LastLine::Back(back) => put_back(back, &mut out).is_ok(),
     };
     is_whole != text.is_empty() && out.bytes() == text.as_bytes()
 }

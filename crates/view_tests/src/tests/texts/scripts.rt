@@ -202,14 +202,14 @@ const LAST_READS: &[HostRead] = &[HostRead {
 }];
 
 // A slot, the flipped bits of node 1 in it, the places of what hosts write in it, and what hosts read.
-type Slot = (
+type SlotLooked = (
     u32,
     &'static [FlippedBit],
     &'static [usize],
     &'static [HostRead],
 );
 
-const SLOTS: &[Slot] = &[
+const SLOTS: &[SlotLooked] = &[
     (0, FIRST_FLIP, &[], FIRST_READS),
     (3, &[], &[10, 15], READS),
     (4, &[], &[11], &[]),
