@@ -53,5 +53,6 @@ pub use controller::{Controller, Intent, Outcome};
 pub use passes::{begin_all, is_loaded, plan_all, take_all};
 pub use plant::Plant;
 pub use seat::{Seat, seats_of};
+pub use sending::{cold_start, outgoing};
 pub use status::StatusFlags;
 pub use zeros_run::ZerosRun;

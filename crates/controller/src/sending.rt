@@ -25,8 +25,8 @@ use ttp_world::{Act, CState, Medl};
 
 const COLD_START: u8 = 3;
 
-// The bytes of a frame, ready to be sent.
-fn outgoing(frame: &FrameIn, start: u32) -> Outgoing
+/// The bytes of a frame, ready to be sent.
+pub fn outgoing(frame: &FrameIn, start: u32) -> Outgoing
     requires shape { IsFrameShape frame.now.header (length frame.now.payload.now) }
     requires start { start < schedule_limit }
     requires members { HaveRoom frame.now.wide frame.now.cstate.members }
@@ -37,9 +37,9 @@ fn outgoing(frame: &FrameIn, start: u32) -> Outgoing
     Outgoing { len, bytes }
 }
 
-// The cold-start frame of node k.
+/// The cold-start frame of node k.
 #[tactic(auto, using(crate::proofs::Sets::rooms))]
-fn cold_start(list: &Medl, k: u8) -> Outgoing
+pub fn cold_start(list: &Medl, k: u8) -> Outgoing
     requires valid { IsValid list.now }
     requires node { k < length list.now.slots }
     ensures { result ≡ cold_start_frame list.now k }

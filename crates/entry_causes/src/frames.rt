@@ -5,57 +5,19 @@ ghost use Rattle.causes.specs.RunSlots.{is_sent};
 ghost use Rattle.entry_causes.specs.Senders.{sends_in};
 ghost use Rattle.run_rows.specs.Rows.{run_slot};
 ghost use Rattle.std.specs.Prelude.{IsTrue, if◌then◌else◌, length, ◌<◌, ◌≡◌, ◌≤◌};
-ghost use Rattle.ttp_frame.specs.FrameBytes.{bytes_of};
-ghost use Rattle.ttp_frame.specs.Shape.{HaveRoom, IsFrameShape, is_without_payload, most_payload};
-ghost use Rattle.ttp_world.specs.Conduct.{carries_payload, cold_start_frame, payload_sent};
+ghost use Rattle.ttp_frame.specs.Shape.{HaveRoom, is_without_payload, most_payload};
+ghost use Rattle.ttp_world.specs.Conduct.{carries_payload, payload_sent};
 ghost use Rattle.ttp_world.specs.Diary.{joined_place};
 ghost use Rattle.ttp_world.specs.Frame.{frame, header_of};
-ghost use Rattle.ttp_world.specs.Medl.{IsValid, is_wide, kind_at, member_width, plan_at, schedule_limit};
+ghost use Rattle.ttp_world.specs.Medl.{IsValid, is_wide, kind_at, member_width, plan_at};
 ghost use Rattle.ttp_world.specs.World.{chosen_of};
 
 use crate::places::{cstate_in, members_sent};
+use controller::{cold_start, outgoing};
 use medium::Outgoing;
 use run_rows::RunRows;
-use ttp_base::NodeSet;
-use ttp_frame::{FrameIn, encode};
+use ttp_frame::FrameIn;
 use ttp_world::{CState, Entry, Medl};
-
-// The first byte of a cold start.
-const COLD_START: u8 = 3;
-
-// The bytes of a frame, ready to be sent.
-fn outgoing(frame: &FrameIn, start: u32) -> Outgoing
-    requires shape { IsFrameShape frame.now.header (length frame.now.payload.now) }
-    requires start { start < schedule_limit }
-    requires members { HaveRoom frame.now.wide frame.now.cstate.members }
-    ensures { result ≡ bytes_of frame.now start }
-{
-    let mut bytes = [0; 256];
-    let len = encode(frame, start, &mut bytes) as u16;
-    Outgoing { len, bytes }
-}
-
-// A node's cold start.
-#[tactic(auto, using(controller::proofs::Sets::rooms))]
-fn cold_start(list: &Medl, node: u8) -> Outgoing
-    requires valid { IsValid list.now }
-    requires node { node < length list.now.slots }
-    ensures { result ≡ cold_start_frame list.now node }
-{
-    let cstate = CState {
-        time: 0,
-        round: 0,
-        slot: node,
-        members: NodeSet::empty().with(node),
-    };
-    let frame = FrameIn {
-        wide: list.is_wide(),
-        header: COLD_START,
-        cstate,
-        payload: &[],
-    };
-    outgoing(&frame, list.schedule)
-}
 
 // How many bytes of payload a node's frame of this C-state carries.
 fn payload_size(list: &Medl, cstate: &CState, node: u8) -> u8
