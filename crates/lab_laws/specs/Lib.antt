@@ -1,8 +1,6 @@
 pub mod Alike
-pub mod Ends
 pub mod Joined
 pub mod Ranges
-pub mod SafeLines
 pub mod Marks
 pub mod TakenCampaign
 pub mod TakenTrace

@@ -3,7 +3,7 @@ use Rattle.std.specs.Prelude.{◌≡◌, ℕ, List, All}
 use Rattle.ttp_base.specs.Outside.{WroteLines}
 use Rattle.ttp_base.specs.Text.{Lines}
 use Rattle.campaign.specs.Lines.{campaign_lines}
-use Rattle.lab_laws.specs.SafeLines.{IsSafeLine}
+use Rattle.campaign_laws.specs.SafeLines.{IsSafeLine}
 use Rattle.commands.specs.Plan.{Outside}
 use Rattle.lab_top.specs.LinesPromise.{LinesPromise}
 

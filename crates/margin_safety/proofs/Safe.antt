@@ -9,7 +9,7 @@ use Rattle.ttp_world.specs.Script.{IsValidScript}
 use Rattle.campaign.specs.Cost.{says_yes}
 use Rattle.ttp_world.specs.ZerosWorld.{zeros_world}
 use Rattle.clock_margins.specs.Outcomes.{outcome_beside, whom_it_costs, is_others}
-use Rattle.lab_laws.proofs.Yes.{yes-line}
+use Rattle.campaign_laws.proofs.Yes.{yes-line}
 use Rattle.margin_safety.proofs.Fewer.{never-split, costs-none}
 
 -- no node was hurt, memberships were never split, and it costs no others

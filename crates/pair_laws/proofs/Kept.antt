@@ -19,7 +19,7 @@ use Rattle.ttp_world.specs.ZerosWorld.{zeros_world}
 use Rattle.single_faults.specs.Tried.{MayStand}
 use Rattle.single_faults.proofs.Stand.{faults_in-stand}
 use Rattle.single_faults.proofs.Valid.{with_fault-valid}
-use Rattle.lab_laws.proofs.Yes.{IsUnharmed, yes-line}
+use Rattle.campaign_laws.proofs.Yes.{IsUnharmed, yes-line}
 use Rattle.fault_pairs.specs.declared.pair.Harm.{Harm}
 use Rattle.fault_pairs.specs.declared.pair.PairClass.TheVariants as class
 use Rattle.fault_pairs.specs.Classes.{only_both, has_third, has_own, has_less, pair_class, is_divided, harm_of}

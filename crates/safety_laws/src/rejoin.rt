@@ -10,7 +10,7 @@
 //!
 //! A caller of [`back_safe`] has a valid list and script whose test says `yes`, with the slot of the start;
 //! what it says is of all legal message numbers. theorems cites it as `returned-safe` of
-//! `proofs/Returned.antt`, and lab_laws the plan as `returned-by_plan` of `proofs/ReturnsByPlan.antt`.
+//! `proofs/Returned.antt`, and campaign_laws the plan as `returned-by_plan` of `proofs/ReturnsByPlan.antt`.
 //! `law_of_nodes_that_are_armed_again` of ground_tests calls the law:
 //!
 //! ```text

@@ -3,8 +3,8 @@ use Rattle.campaign.specs.Cost.{says_yes}
 use Rattle.campaign.specs.CostText.{test_words}
 use Rattle.ttp_world.specs.ZerosWorld.{zeros_world}
 use Rattle.frame_fates.proofs.ZerosRuns.{zeros-legal}
-use Rattle.lab_laws.proofs.Alike.{cost-alike}
-use Rattle.lab_laws.proofs.campaigns.laws.same_cost.Goals as goal
+use Rattle.campaign_laws.proofs.Alike.{cost-alike}
+use Rattle.campaign_laws.proofs.laws.same_cost.Goals as goal
 
 pub returns : goal.returns
 returns c = λ numbers legal.

@@ -43,10 +43,10 @@ use Rattle.campaign.specs.Cost.{each_once, memberships, has_two, is_split, split
 use Rattle.campaign.specs.declared.cost.Cost.{Cost}
 use Rattle.campaign.specs.Lines.{summary}
 use Rattle.ttp_world.specs.ZerosWorld.{zeros_world}
-use Rattle.lab_laws.specs.Ends.{faulty_nodes_if, IsOver, AreOver}
+use Rattle.campaign_laws.specs.Ends.{faulty_nodes_if, IsOver, AreOver}
 use Rattle.frame_fates.proofs.ZerosRuns.{zeros-legal}
-use Rattle.lab_laws.proofs.Alike.{cost-alike}
-use Rattle.lab_laws.proofs.Yes.{IsUnharmed, all-inactive, waiting, yes-unharmed}
+use Rattle.campaign_laws.proofs.Alike.{cost-alike}
+use Rattle.campaign_laws.proofs.Yes.{IsUnharmed, all-inactive, waiting, yes-unharmed}
 use Rattle.safety_laws.proofs.Idle.{act-off as off-act}
 
 -- A node that is not on is off.

@@ -10,8 +10,8 @@ ghost use Rattle.campaign.specs.declared.cost.Cost.{Cost};
 ghost use Rattle.campaign.specs.Cost.{says_yes};
 ghost use Rattle.campaign.specs.Lines.{summary, summary_of, summary_with, kept_counts, campaign_lines};
 ghost use Rattle.campaign.specs.Tried.{faults_from};
-ghost use Rattle.lab_laws.specs.Ends.{AreOver};
-ghost use Rattle.lab_laws.specs.SafeLines.{IsSafeLine};
+ghost use Rattle.campaign_laws.specs.Ends.{AreOver};
+ghost use Rattle.campaign_laws.specs.SafeLines.{IsSafeLine};
 
 use ttp_world::{Medl, Script};
 

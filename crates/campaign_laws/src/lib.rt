@@ -8,12 +8,14 @@
 //! A caller has a valid list and a valid script with room for one event more:
 //!
 //! ```text
-//! lab_laws::campaigns::laws::lines_are_safe(list, script);
+//! campaign_laws::laws::lines_are_safe(list, script);
 //! ```
 //!
 //! [`laws::one_is_left`] says when `end` has one membership at most: where each faulty node became so two rounds before the end
 //! or earlier.
 //!
-//! The module has no code that does anything: its functions are laws.
+//! The crate has no code that does anything: its functions are laws. It stands apart from the laws of views, so that those of
+//! margins and of pairs, which cite it, do not wait for them.
+#![tactic(auto)]
 
 pub mod laws;

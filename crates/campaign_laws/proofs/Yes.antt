@@ -39,8 +39,8 @@ use Rattle.campaign.specs.Cost.{span_after, cost_of}
 use Rattle.campaign.specs.declared.cost.Cost.{Cost}
 use Rattle.ttp_world.specs.ZerosWorld.{zeros_world}
 use Rattle.frame_fates.proofs.ZerosRuns.{zeros-legal}
-use Rattle.lab_laws.proofs.Alike.{cost-alike}
-use Rattle.lab_laws.proofs.Calm.{IsCalm, safe-calm, back-calm}
+use Rattle.campaign_laws.proofs.Alike.{cost-alike}
+use Rattle.campaign_laws.proofs.Calm.{IsCalm, safe-calm, back-calm}
 use Rattle.safety_laws.proofs.Begins.{waiting-unleft as waiting-stays}
 
 -- nobody is hurt, and no memberships are split

@@ -1,5 +1,5 @@
-use Rattle.lab_laws.proofs.Yes.{yes-line}
-use Rattle.lab_laws.proofs.campaigns.laws.yes_is_safe.Goals as goal
+use Rattle.campaign_laws.proofs.Yes.{yes-line}
+use Rattle.campaign_laws.proofs.laws.yes_is_safe.Goals as goal
 
 pub returns-clause-hurt : goal.returns-clause-hurt
 returns-clause-hurt c =

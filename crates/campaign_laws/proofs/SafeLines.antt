@@ -25,10 +25,10 @@ use Rattle.campaign.specs.Lines.{summary, summary_with, has_hurt, head_line, own
 use Rattle.campaign.specs.Lines.{place_words, kept_counts, broken_counts, lines_with, campaign_lines}
 use Rattle.campaign.specs.Tried.{with_fault, faults_from}
 use Rattle.ttp_world.specs.ZerosWorld.{zeros_world}
-use Rattle.lab_laws.specs.SafeLines.{StandIn, IsSafeLine}
-use Rattle.lab_laws.proofs.Kept.{unharmed-unhurt, unharmed-unsplit, none-counted}
-use Rattle.lab_laws.proofs.NoYes.{Yless, test-yless, cost-yless, fault-yless, place-yless, head-yless, counts-yless}
-use Rattle.lab_laws.proofs.Yes.{IsUnharmed, yes-line}
+use Rattle.campaign_laws.specs.SafeLines.{StandIn, IsSafeLine}
+use Rattle.campaign_laws.proofs.Kept.{unharmed-unhurt, unharmed-unsplit, none-counted}
+use Rattle.campaign_laws.proofs.NoYes.{Yless, test-yless, cost-yless, fault-yless, place-yless, head-yless, counts-yless}
+use Rattle.campaign_laws.proofs.Yes.{IsUnharmed, yes-line}
 
 -- where there is no y, there is no yes
 

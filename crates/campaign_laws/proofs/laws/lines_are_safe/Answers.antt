@@ -1,5 +1,5 @@
-use Rattle.lab_laws.proofs.SafeLines.{campaign_lines-safe}
-use Rattle.lab_laws.proofs.campaigns.laws.lines_are_safe.Goals as goal
+use Rattle.campaign_laws.proofs.SafeLines.{campaign_lines-safe}
+use Rattle.campaign_laws.proofs.laws.lines_are_safe.Goals as goal
 
 pub returns : goal.returns
 returns c = λ first last.
