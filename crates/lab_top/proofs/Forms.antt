@@ -13,8 +13,8 @@ use Rattle.campaign.specs.Lines.{campaign_lines}
 use Rattle.clock_margins.specs.MarginText.{margin_lines}
 use Rattle.fault_pairs.specs.PairText.{pairs_lines}
 use Rattle.wave_text.proofs.DeclaredLines.{wave_lines-each}
-use Rattle.lab_laws.proofs.LinesAndTitles.{picture_lines-each}
-use Rattle.lab_laws.proofs.CampaignsRead.{campaign-draws}
+use Rattle.view_laws.proofs.LinesAndTitles.{picture_lines-each}
+use Rattle.view_laws.proofs.CampaignsRead.{campaign-draws}
 use Rattle.check_text.specs.Check.{Named, check_lines}
 use Rattle.check_text.proofs.Written.{check_lines-each, check_status-one}
 use Rattle.script_gen.specs.Generator.{generated}

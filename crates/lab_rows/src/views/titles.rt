@@ -1,7 +1,7 @@
 //! The titles of a picture.
 ghost use Rattle.std.specs.Prelude.{◌≡◌, [], ◌∷◌, codes, filter, None, true, false};
 ghost use Rattle.picture_text.specs.Picture.{picture_lines};
-ghost use Rattle.lab_laws.specs.Titles.{begins_with, titles_in, titles, node_start, is_of_slot, texts_of_trace};
+ghost use Rattle.view_laws.specs.Titles.{begins_with, titles_in, titles, node_start, is_of_slot, texts_of_trace};
 ghost use Rattle.lab_rows.specs.Small.{small};
 ghost use Rattle.lab_rows.specs.SmallTitles.{small_titles, small_lines, lines_slot_0};
 

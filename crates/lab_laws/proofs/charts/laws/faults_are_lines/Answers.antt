@@ -1,5 +1,0 @@
-use Rattle.lab_laws.proofs.FaultLines.{fault-lines}
-use Rattle.lab_laws.proofs.charts.laws.faults_are_lines.Goals as goal
-
-pub returns : goal.returns
-returns c = λ text campaign is. fault-lines text campaign is

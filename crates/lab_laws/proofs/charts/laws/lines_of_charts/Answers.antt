@@ -1,5 +1,0 @@
-use Rattle.lab_laws.proofs.CampaignsRead.{campaign-draws}
-use Rattle.lab_laws.proofs.charts.laws.lines_of_charts.Goals as goal
-
-pub returns : goal.returns
-returns c = λ text campaign asked is. (campaign-draws text campaign asked is).each

@@ -1,9 +1,0 @@
-use Rattle.lab_laws.proofs.CampaignsRead.{campaign-draws}
-use Rattle.lab_laws.proofs.charts.laws.marks_of_charts.Goals as goal
-
-pub returns : goal.returns
-returns c = record {
-  marks = λ text campaign asked is. (campaign-draws text campaign asked is).are;
-  once = λ text campaign asked is. (campaign-draws text campaign asked is).once;
-  plain = λ text campaign asked is. (campaign-draws text campaign asked is).plain;
-}

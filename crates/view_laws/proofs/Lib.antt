@@ -1,0 +1,15 @@
+pub mod CampaignsRead
+pub mod ChartDraws
+pub mod Draws
+pub mod FaultLines
+pub mod LineStarts
+pub mod LinesAndTitles
+pub mod PictureTitles
+pub mod PlainLines
+pub mod PlainWords
+pub mod ReadLines
+pub mod SlotOrder
+pub mod SlotTexts
+pub mod SlotTitles
+pub mod TextLines
+pub mod TitlesIn
