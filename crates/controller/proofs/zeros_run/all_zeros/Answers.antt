@@ -1,4 +1,4 @@
-use Rattle.controller.proofs.Words.{◌≡◌, ap, sym, ◌∙◌, ◌++◌, ◌∷◌, arith, Some}
+use Rattle.controller.proofs.Words.{◌≡◌, ap, sym, ◌∙◌, ◌++◌, [], ◌∷◌, arith, Some}
 use Rattle.ttp_world.specs.ZerosWorld.{zeros_chosen}
 use Rattle.std.specs.Prelude.{slice_get}
 use Rattle.std.proofs.lemmas.List.FromFn.{map-range_with_len_more}
