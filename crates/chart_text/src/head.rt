@@ -50,11 +50,8 @@ fn make_svg(line: &mut Line, height: u64)
     ensures { line.new ≡ chart_svg height }
 {
     line.clear();
-    put_field(
-        line,
-        "<svg xmlns=\"http://www.w3.org/2000/svg\" width=\"1320\" height=\"",
-        height,
-    );
+    let words = "<svg xmlns=\"http://www.w3.org/2000/svg\" width=\"1320\" height=\"";
+    put_field(line, words, height);
     put_field(line, "\" viewBox=\"0 0 1320 ", height);
     line.put_text("\">\n");
 }
@@ -63,11 +60,8 @@ fn make_title(line: &mut Line, size: Size)
     ensures { line.new ≡ chart_title size }
 {
     line.clear();
-    put_field(
-        line,
-        "<title>ttplab campaign 1 nodes ",
-        u64::from(size.nodes),
-    );
+    let words = "<title>ttplab campaign 1 nodes ";
+    put_field(line, words, u64::from(size.nodes));
     put_field(line, " slots ", u64::from(size.slots));
     line.put_text("</title>\n");
 }

@@ -103,12 +103,8 @@ pub(crate) fn put_how_to_read<K: Sink>(top: u64, sheet: &mut Sheet, out: &mut K)
         "it shows its line. harmful: hurt, split, torn or dead. healthy: not faulty by the rules of the hypothesis; it may be the fault's own node. worst: dead before",
     );
     sheet.write(out);
-    make_words(
-        &mut sheet.line,
-        12,
-        top + 76,
-        "torn, split and hurt, and then by the number of healthy nodes lost.",
-    );
+    let words = "torn, split and hurt, and then by the number of healthy nodes lost.";
+    make_words(&mut sheet.line, 12, top + 76, words);
     sheet.write(out);
 }
 

@@ -106,50 +106,22 @@ plain-source : (from : Source) → Plain (source_word from)
 plain-source source.Status = refl
 plain-source (source.Node p) = plain-decimal p
 
--- what a test finds of all words it finds of each
-each-word : (test : Word → Bool) → list_all test words ≡ true → (w : Word) → test w ≡ true
-each-word test all w =
-    let are = each-of words all in
-    elim w as (λ v. test v ≡ true) [
-      | word.Off ↦ are.0
-      | word.Wait ↦ are.1.0
-      | word.Retry ↦ are.1.1.0
-      | word.Gone ↦ are.1.1.1.0
-      | word.Start ↦ are.1.1.1.1.0
-      | word.Join ↦ are.1.1.1.1.1.0
-      | word.Send ↦ are.1.1.1.1.1.1.0
-      | word.Correct ↦ are.1.1.1.1.1.1.1.0
-      | word.Tentative ↦ are.1.1.1.1.1.1.1.1.0
-      | word.Incorrect ↦ are.1.1.1.1.1.1.1.1.1.0
-      | word.Invalid ↦ are.1.1.1.1.1.1.1.1.1.1.0
-      | word.Null ↦ are.1.1.1.1.1.1.1.1.1.1.1.0
-      | word.Denied ↦ are.1.1.1.1.1.1.1.1.1.1.1.1.0
-      | word.Unacknowledged ↦ are.1.1.1.1.1.1.1.1.1.1.1.1.1.0
-      | word.Clique ↦ are.1.1.1.1.1.1.1.1.1.1.1.1.1.1.0
-    ]
-  where
-    each-of : (ws : List Word) → list_all test ws ≡ true → AllByRecursion (λ v. test v ≡ true) ws
-    each-of [] e = tt
-    each-of (v ∷ ws) e = let parts = and_parts (test v) (list_all test ws) e in (parts.0, each-of ws parts.1)
-
 pub plain-word : (w : Word) → Plain (word_text w)
-plain-word w = not-true (list_any is_special (word_text w)) (each-word (λ v. not (list_any is_special (word_text v))) refl w)
+plain-word word.Off = refl
+plain-word w = refl
 
 pub plain-letter : (w : Word) → Plain (letter w)
-plain-letter w = not-true (list_any is_special (letter w)) (each-word (λ v. not (list_any is_special (letter v))) refl w)
+plain-letter word.Off = refl
+plain-letter w = refl
 
 pub plain-meaning : (w : Word) → Plain (word_text w ++ codes ": " ++ word_meaning w)
-plain-meaning w =
-    not-true (list_any is_special (word_text w ++ codes ": " ++ word_meaning w))
-    (each-word (λ v. not (list_any is_special (word_text v ++ codes ": " ++ word_meaning v))) refl w)
+plain-meaning word.Off = refl
+plain-meaning w = refl
 
 -- Lines of the trace.
 
 pub plain-head : (head : Head) → Plain (header_text head)
-plain-head head =
-    plain-append (codes "ttpbench trace " ++ decimal head.version ++ codes " nodes " ++ decimal head.nodes
-    ++ codes " rounds " ++ decimal head.rounds ++ codes " slots " ++ decimal head.slots ++ codes " schedule ")
-    (hex 6 head.schedule) (simp parts) (plain-hex 6 head.schedule)
+plain-head head = simp parts
 
 pub plain-keep : (k : Keep) → Plain (keep_text k)
 plain-keep (keep.Yes start) = simp parts
@@ -189,10 +161,7 @@ plain-behind last slots =
 
 pub plain-shown : (span : Span) (slots : ℕ) (quiet : Bool) (strange : Option ℕ) → Plain (window_text span slots quiet strange)
 plain-shown span slots quiet strange =
-    let before = plain-before span.first quiet in
-    let behind = plain-behind span.last slots in
-    let more = plain-more strange in
-    simp (parts, before, behind, more)
+    simp (parts, plain-before span.first quiet, plain-behind span.last slots, plain-more strange)
 
 -- an entry of a table of such texts
 plain-any : (table : Lines) (i : ℕ) → AllByRecursion (λ text. Plain text) table → Plain (get_or table i [])
@@ -217,11 +186,7 @@ plain-class node most refused =
     let message = plain-if (is_some node.message) (codes " data") [] refl refl in
     let doubt = plain-if (is_doubt node.ack) (codes " doubt") [] refl refl in
     let sent = plain-if (sends node.word && refused) (codes " refused") [] refl refl in
-    plain-append (word_text node.word ++ doubt_class node ++ other_class node most ++ data_class node)
-    (refused_class node refused)
-    (plain-append (word_text node.word ++ doubt_class node ++ other_class node most) (data_class node)
-    (plain-append (word_text node.word ++ doubt_class node) (other_class node most)
-    (plain-append (word_text node.word) (doubt_class node) (plain-word node.word) doubt) (other most)) message) sent
+    simp (special-append, plain-word node.word, doubt, other most, message, sent)
   where
     other : (held : Option ℕ) → Plain (other_class node held)
     other None = refl
@@ -234,14 +199,13 @@ plain-flat f (x ∷ xs) are = plain-append (f x) (flat_map f xs) (are x) (plain-
 
 plain-membership : (head : Head) (slot : SlotLines) (members : ℕ) → Plain (membership_text head slot members)
 plain-membership head slot members =
-    plain-append (codes " " ++ hex (head_member_digits head) members ++ codes " of") (each_node (holders_of members slot))
-    (simp parts) (plain-flat (λ k. codes " " ++ decimal k) (holders_of members slot) (λ k. simp parts))
+    let holders = plain-flat (λ k. codes " " ++ decimal k) (holders_of members slot) plain-decimal in
+    simp (parts, holders)
 
 pub plain-members : (head : Head) (t : ℕ) (slot : SlotLines) → Plain (members_title head t slot)
 plain-members head t slot =
-    plain-append (codes "slot " ++ decimal t ++ codes " members")
-    (flat_map (membership_text head slot) (shown_memberships slot.nodes)) (simp parts)
-    (plain-flat (membership_text head slot) (shown_memberships slot.nodes) (plain-membership head slot))
+    let held = plain-flat (membership_text head slot) (shown_memberships slot.nodes) (plain-membership head slot) in
+    simp (parts, held)
 
 pub plain-no_members : (t : ℕ) → Plain (codes "slot " ++ decimal t ++ codes " members -")
 plain-no_members t = simp parts
@@ -258,8 +222,7 @@ plain-apart (Some range) = plain-decimal (spread_in range)
 
 pub plain-clocks : (t : ℕ) (range : Option ClockRange)
     → Plain (codes "slot " ++ decimal t ++ codes " clocks apart " ++ apart_text range)
-plain-clocks t range =
-    plain-append (codes "slot " ++ decimal t ++ codes " clocks apart ") (apart_text range) (simp parts) (plain-apart range)
+plain-clocks t range = simp (parts, plain-apart range)
 
 plain-short : (number : ℕ) → Plain (short_number number)
 plain-short number =
@@ -276,9 +239,7 @@ plain-far_text None = refl
 plain-far_text (Some k) = simp parts
 
 pub plain-far : (t : ℕ) (far : Option ℕ) → Plain (codes "slot " ++ decimal t ++ codes " clock apart from most " ++ far_text far)
-plain-far t far =
-    plain-append (codes "slot " ++ decimal t ++ codes " clock apart from most ") (far_text far) (simp parts)
-    (plain-far_text far)
+plain-far t far = simp (parts, plain-far_text far)
 
 pub plain-far_shown : (far : Option ℕ) → Plain (far_shown far)
 plain-far_shown None = refl

@@ -24,11 +24,8 @@ fn make_pole(line: &mut Line, frame: Frame, slot: u32)
     ensures { line.new ≡ flag_pole frame.head.nodes frame.span slot }
 {
     line.clear();
-    put_field(
-        line,
-        "<path class=\"flag\" d=\"M",
-        column_x(frame, slot) - 1,
-    );
+    let words = "<path class=\"flag\" d=\"M";
+    put_field(line, words, column_x(frame, slot) - 1);
     put_field(line, " ", row_y(frame, slot, 0) - 26);
     put_field(line, "v", 20 * u64::from(frame.head.nodes) + 26);
     line.put_text("\"/>\n");

@@ -25,11 +25,8 @@ fn make_svg(line: &mut Line, height: u64)
     ensures { line.new ≡ svg_line height }
 {
     line.clear();
-    put_field(
-        line,
-        "<svg xmlns=\"http://www.w3.org/2000/svg\" width=\"1140\" height=\"",
-        height,
-    );
+    let words = "<svg xmlns=\"http://www.w3.org/2000/svg\" width=\"1140\" height=\"";
+    put_field(line, words, height);
     put_field(line, "\" viewBox=\"0 0 1140 ", height);
     line.put_text("\">\n");
 }
@@ -71,11 +68,8 @@ fn put_before(line: &mut Line, first: u32, quiet: bool)
     if quiet {
         line.put_text("; before: all nodes off or listening");
     } else {
-        put_field(
-            line,
-            "; before: ttplab picture TRACE 0 ",
-            u64::from(first - 1),
-        );
+        let words = "; before: ttplab picture TRACE 0 ";
+        put_field(line, words, u64::from(first - 1));
     }
 }
 

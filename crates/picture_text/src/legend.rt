@@ -138,88 +138,25 @@ pub(crate) fn put_classes<K: Sink>(top: u64, sheet: &mut Sheet, out: &mut K)
     requires { top ≤ 2 ^ 43 }
     ensures { Puts sheet.old.failed (K.output out.old) sheet.new.failed (K.output out.new) (class_entries top) }
 {
-    put_class(
-        top,
-        0,
-        "agree",
-        "4",
-        "members: how many all nodes hold",
-        sheet,
-        out,
-    );
-    put_class(
-        top,
-        1,
-        "differ",
-        "!",
-        "members: nodes hold different ones",
-        sheet,
-        out,
-    );
+    let words = "members: how many all nodes hold";
+    put_class(top, 0, "agree", "4", words, sheet, out);
+    let words = "members: nodes hold different ones";
+    put_class(top, 1, "differ", "!", words, sheet, out);
     put_round_entry(top, 2, "a round begins: node 0 is due", sheet, out);
-    put_class(
-        top,
-        3,
-        "none",
-        "7",
-        "clocks: microticks between them",
-        sheet,
-        out,
-    );
-    put_class(
-        top,
-        4,
-        "none",
-        "12k",
-        "12k: 12000 to 12999, 1M+: 1000000 up",
-        sheet,
-        out,
-    );
-    put_class(
-        top,
-        5,
-        "apart",
-        "3",
-        "apart: its clock is far from most",
-        sheet,
-        out,
-    );
-    put_class(
-        top,
-        6,
-        "correct data",
-        "c",
-        "a message was sent or delivered",
-        sheet,
-        out,
-    );
-    put_class(
-        top,
-        7,
-        "correct other",
-        "c",
-        "holds other members than most",
-        sheet,
-        out,
-    );
-    put_class(
-        top,
-        8,
-        "correct doubt",
-        "c",
-        "in doubt about its own frame",
-        sheet,
-        out,
-    );
-    put_class(
-        top,
-        9,
-        "send refused",
-        "s",
-        "few took the frame of this sender",
-        sheet,
-        out,
-    );
+    let words = "clocks: microticks between them";
+    put_class(top, 3, "none", "7", words, sheet, out);
+    let words = "12k: 12000 to 12999, 1M+: 1000000 up";
+    put_class(top, 4, "none", "12k", words, sheet, out);
+    let words = "apart: its clock is far from most";
+    put_class(top, 5, "apart", "3", words, sheet, out);
+    let words = "a message was sent or delivered";
+    put_class(top, 6, "correct data", "c", words, sheet, out);
+    let words = "holds other members than most";
+    put_class(top, 7, "correct other", "c", words, sheet, out);
+    let words = "in doubt about its own frame";
+    put_class(top, 8, "correct doubt", "c", words, sheet, out);
+    let words = "few took the frame of this sender";
+    put_class(top, 9, "send refused", "s", words, sheet, out);
 }
 
 /// Writes those of marks, from the same edge on.
@@ -227,37 +164,10 @@ pub(crate) fn put_mark_entries<K: Sink>(top: u64, sheet: &mut Sheet, out: &mut K
     requires { top ≤ 2 ^ 43 }
     ensures { Puts sheet.old.failed (K.output out.old) sheet.new.failed (K.output out.new) (mark_entries top) }
 {
-    put_mark_entry(
-        top,
-        10,
-        "write",
-        "v-10l10 10z",
-        0,
-        19,
-        "its host writes a message",
-        sheet,
-        out,
-    );
-    put_mark_entry(
-        top,
-        11,
-        "read",
-        "h-10l10-10z",
-        19,
-        19,
-        "its host reads a node's message",
-        sheet,
-        out,
-    );
-    put_mark_entry(
-        top,
-        12,
-        "status",
-        "v10l-10-10z",
-        19,
-        0,
-        "its host reads its status",
-        sheet,
-        out,
-    );
+    let words = "its host writes a message";
+    put_mark_entry(top, 10, "write", "v-10l10 10z", 0, 19, words, sheet, out);
+    let words = "its host reads a node's message";
+    put_mark_entry(top, 11, "read", "h-10l10-10z", 19, 19, words, sheet, out);
+    let words = "its host reads its status";
+    put_mark_entry(top, 12, "status", "v10l-10-10z", 19, 0, words, sheet, out);
 }

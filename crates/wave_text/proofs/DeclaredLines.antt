@@ -36,11 +36,11 @@ none-node_name v = refl
 
 none-port_name : (does : What) (v : PortVariable) → HasNone (port_name does v)
 none-port_name what.Write v = refl
-none-port_name (what.Read from) of_port.Number = none-append (codes "read_") (source_word from) refl (none-source from)
-none-port_name (what.Read from) of_port.Data = none-append (codes "data_") (source_word from) refl (none-source from)
+none-port_name (what.Read from) of_port.Number = none-source from
+none-port_name (what.Read from) of_port.Data = none-source from
 
 none-wire : (size : ℕ) → HasNone (wire size)
-none-wire size = none-append (codes "wire ") (decimal size) refl (none-decimal size)
+none-wire size = none-decimal size
 
 none-cluster_type : (width : ℕ) (v : ClusterVariable) → HasNone (cluster_type width v)
 none-cluster_type width of_cluster.Agree = none-wire 1
@@ -59,9 +59,7 @@ none-port_type port of_port.Number = refl
 none-port_type port of_port.Data = none-wire (8 * port.size)
 
 none-range : (size : ℕ) → HasNone (range_text size)
-none-range size =
-    none-append (codes " [" ++ decimal (size - 1)) (codes ":0]")
-    (none-append (codes " [") (decimal (size - 1)) refl (none-decimal (size - 1))) refl
+none-range size = simp feeds
 
 none-cluster_range : (width : ℕ) (v : ClusterVariable) → HasNone (cluster_range width v)
 none-cluster_range width of_cluster.Active = none-range width
@@ -84,15 +82,10 @@ ends_so text none = is_line-append text (codes " $end" ++ newline) none refl
 declaration-IsLine : (type code name range : List ℕ) → HasNone type → HasNone code → HasNone name → HasNone range
     → IsLine (declaration type code name range)
 declaration-IsLine type code name range p q r s =
-    ends_so (codes "$var " ++ type ++ codes " " ++ code ++ codes " " ++ name ++ range)
-    (none-append (codes "$var " ++ type ++ codes " " ++ code ++ codes " " ++ name) range
-    (none-append (codes "$var " ++ type ++ codes " " ++ code ++ codes " ") name
-    (none-append (codes "$var " ++ type ++ codes " " ++ code) (codes " ")
-    (none-append (codes "$var " ++ type ++ codes " ") code
-    (none-append (codes "$var " ++ type) (codes " ") (none-append (codes "$var ") type refl p) refl) q) refl) r) s)
+    ends_so (codes "$var " ++ type ++ codes " " ++ code ++ codes " " ++ name ++ range) (simp (feed-append, p, q, r, s))
 
 scope-IsLine : (name : List ℕ) → HasNone name → IsLine (scope_line name)
-scope-IsLine name none = ends_so (codes "$scope module " ++ name) (none-append (codes "$scope module ") name refl none)
+scope-IsLine name none = ends_so (codes "$scope module " ++ name) none
 
 each-map : {X : Type 0} (f : X → List ℕ) (xs : List X) → ((x : X) → IsLine (f x)) → AreLines (map f xs)
 each-map f [] are = tt
@@ -128,7 +121,7 @@ node_scope-each width ports k =
     let own = scope_line name ∷ map (node_declaration width k) node_variables in
     each-append IsLine (own ++ host_scope (ports_at ports k)) (upscope_line ∷ [])
     (each-append IsLine own (host_scope (ports_at ports k)) (
-      scope-IsLine name (none-append (codes "node") (decimal k) refl (none-decimal k)),
+      scope-IsLine name (none-decimal k),
       each-map (node_declaration width k) node_variables (node-declared width k),
     ) (host-each (ports_at ports k)))
     (refl, tt)
@@ -145,44 +138,19 @@ declarations-each width n ports =
 -- The head.
 
 none-head : (head : Head) → HasNone (header_text head)
-none-head head =
-    none-append (codes "ttpbench trace " ++ decimal head.version ++ codes " nodes " ++ decimal head.nodes
-    ++ codes " rounds " ++ decimal head.rounds ++ codes " slots " ++ decimal head.slots ++ codes " schedule ")
-    (hex 6 head.schedule)
-    (none-append (codes "ttpbench trace " ++ decimal head.version ++ codes " nodes " ++ decimal head.nodes
-    ++ codes " rounds " ++ decimal head.rounds ++ codes " slots " ++ decimal head.slots) (codes " schedule ")
-    (none-append (codes "ttpbench trace " ++ decimal head.version ++ codes " nodes " ++ decimal head.nodes
-    ++ codes " rounds " ++ decimal head.rounds ++ codes " slots ") (decimal head.slots)
-    (none-append (codes "ttpbench trace " ++ decimal head.version ++ codes " nodes " ++ decimal head.nodes
-    ++ codes " rounds " ++ decimal head.rounds) (codes " slots ")
-    (none-append (codes "ttpbench trace " ++ decimal head.version ++ codes " nodes " ++ decimal head.nodes
-    ++ codes " rounds ") (decimal head.rounds)
-    (none-append (codes "ttpbench trace " ++ decimal head.version ++ codes " nodes " ++ decimal head.nodes)
-    (codes " rounds ")
-    (none-append (codes "ttpbench trace " ++ decimal head.version ++ codes " nodes ") (decimal head.nodes)
-    (none-append (codes "ttpbench trace " ++ decimal head.version) (codes " nodes ")
-    (none-append (codes "ttpbench trace ") (decimal head.version) refl (none-decimal head.version)) refl)
-    (none-decimal head.nodes)) refl) (none-decimal head.rounds)) refl) (none-decimal head.slots)) refl)
-    (has-hex 10 6 head.schedule (omega arith))
-
-none-rule : (name : List ℕ) (rule slot : ℕ) → HasNone name → HasNone (name ++ decimal rule ++ codes " " ++ decimal slot)
-none-rule name rule slot none =
-    none-append (name ++ decimal rule ++ codes " ") (decimal slot)
-    (none-append (name ++ decimal rule) (codes " ") (none-append name (decimal rule) none (none-decimal rule)) refl)
-    (none-decimal slot)
+none-head head = simp (feeds, has-hex 10 6 head.schedule (omega arith))
 
 none-keep : (k : Keep) → HasNone (keep_text k)
-none-keep (keep.Yes start) = none-append (codes "keeps yes start ") (decimal start) refl (none-decimal start)
-none-keep (keep.No rule slot) = none-rule (codes "keeps no H") rule slot refl
+none-keep (keep.Yes start) = none-decimal start
+none-keep (keep.No rule slot) = simp feeds
 
 none-back : (b : Back) → HasNone (back_text b)
-none-back (back.Yes start) = none-append (codes "returns yes start ") (decimal start) refl (none-decimal start)
-none-back (back.No rule slot) = none-rule (codes "returns no Q") rule slot refl
+none-back (back.Yes start) = none-decimal start
+none-back (back.No rule slot) = simp feeds
 
 comment-IsLine : (text : List ℕ) → HasNone text → IsLine (comment_line text)
 comment-IsLine text none =
-    is_line-append (codes "$comment " ++ text ++ codes " $end") newline
-    (none-append (codes "$comment " ++ text) (codes " $end") (none-append (codes "$comment ") text refl none) refl) refl
+    ends_so (codes "$comment " ++ text) none
 
 returns-each : (trace : WholeTrace) → AreLines (comment_lines (returns_text trace))
 returns-each trace = go trace.back
@@ -198,11 +166,7 @@ head-each trace =
       refl,
       (
         comment-IsLine (first_text trace) (none-head trace.head),
-        (
-          comment-IsLine (keeps_text trace)
-              (none-keep trace.keep),
-          returns-each trace,
-        ),
+        (comment-IsLine (keeps_text trace) (none-keep trace.keep), returns-each trace),
       ),
     ) (refl, tt)
 

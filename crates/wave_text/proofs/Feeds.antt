@@ -28,8 +28,13 @@ HasNone text = has 10 text ≡ false
 pub none-append : (x y : List ℕ) → HasNone x → HasNone y → HasNone (x ++ y)
 none-append x y p q = has-append 10 x y p q
 
+pub feed-append : (x y : List ℕ) → has 10 (x ++ y) ≡ (has 10 x || has 10 y)
+feed-append x y = list_any-append (λ c. c == 10) x y
+
 pub none-decimal : (n : ℕ) → HasNone (decimal n)
 none-decimal n = has-decimal 10 n feed_is_low
+
+pub ruleset feeds = (feed-append, none-decimal)
 
 -- a digit, and a letter
 pub none-byte : (n : ℕ) → 10 < n → HasNone (n ∷ [])
@@ -57,15 +62,14 @@ none-binary_number (suc more) v = go (nat_lt v 2) (none-binary_number more (v / 
         none-append (binary_number more (v / 2)) ((48 + v % 2) ∷ []) none (none-byte (48 + v % 2) (omega arith))
 
 none-number : (v : ℕ) → HasNone (number_text v)
-none-number v = none-append (codes "b") (binary_number most_binary_digits v) refl
-    (none-binary_number most_binary_digits v)
+none-number v = none-binary_number most_binary_digits v
 
 none-wires : (width v : ℕ) → HasNone (wires_text width v)
-none-wires width v = none-append (codes "b") (binary width v) refl (none-binary width v)
+none-wires width v = none-binary width v
 
 none-bit : (b : Bool) → HasNone (bit_text b)
 none-bit true = refl
-none-bit false = refl
+none-bit b = refl
 
 none-number_or_nothing : (number : Option ℕ) → HasNone (number_or_nothing number)
 none-number_or_nothing None = refl
@@ -104,31 +108,23 @@ none-unless_off word.Off text none = refl
 none-unless_off w text none = none
 
 none-held : (w : Word) (text : List ℕ) → HasNone text → HasNone (held_text w text)
-none-held word.Off text none = refl
-none-held word.Wait text none = refl
-none-held word.Retry text none = refl
-none-held word.Gone text none = refl
-none-held word.Denied text none = refl
-none-held word.Unacknowledged text none = refl
-none-held word.Clique text none = refl
-none-held w text none = none
+none-held w text none = none-unless_off w _ (either (is_active_word w))
+  where
+    either : (active : Bool) → HasNone (if active then text else nothing_text)
+    either true = none
+    either false = refl
 
 pub none-node_value : (width : ℕ) (v : NodeVariable) (node : NodeShown) → HasNone (node_value width v node)
 none-node_value width of_node.Sends node = none-bit (sends node.word)
 none-node_value width of_node.Phase node = none-phase node.word
 none-node_value width of_node.Word node = none-word node.word
-none-node_value width of_node.Peer node =
-    none-unless_off node.word (number_or_nothing node.peer) (none-number_or_nothing node.peer)
-none-node_value width of_node.Message node =
-    none-unless_off node.word (number_or_nothing node.message) (none-number_or_nothing node.message)
-none-node_value width of_node.Members node =
-    none-held node.word (wires_text width (set_bits node.members)) (none-wires width (set_bits node.members))
-none-node_value width of_node.Accepted node = none-held node.word (number_text node.accepted) (none-number node.accepted)
-none-node_value width of_node.Rejected node = none-held node.word (number_text node.rejected) (none-number node.rejected)
-none-node_value width of_node.Ack node =
-    none-append (codes "s") (ack_word node.ack) refl (has-ack_word 10 node.ack feed_is_low)
-none-node_value width of_node.Clock node =
-    none-append (codes "r") (signed_decimal node.offset) refl (has-signed 10 node.offset feed_is_low)
+none-node_value width of_node.Peer node = none-unless_off node.word _ (none-number_or_nothing node.peer)
+none-node_value width of_node.Message node = none-unless_off node.word _ (none-number_or_nothing node.message)
+none-node_value width of_node.Members node = none-held node.word _ (none-wires width (set_bits node.members))
+none-node_value width of_node.Accepted node = none-held node.word _ (none-number node.accepted)
+none-node_value width of_node.Rejected node = none-held node.word _ (none-number node.rejected)
+none-node_value width of_node.Ack node = has-ack_word 10 node.ack feed_is_low
+none-node_value width of_node.Clock node = has-signed 10 node.offset feed_is_low
 
 none-each_byte : (bytes : List ℕ) → HasNone (flat_map (binary 8) bytes)
 none-each_byte [] = refl
@@ -139,8 +135,7 @@ pub none-port_value : (v : PortVariable) (message : Option Message) → HasNone 
 none-port_value of_port.Number None = refl
 none-port_value of_port.Number (Some message) = none-number message.number
 none-port_value of_port.Data None = refl
-none-port_value of_port.Data (Some message) =
-    none-append (codes "b") (flat_map (binary 8) message.payload) refl (none-each_byte message.payload)
+none-port_value of_port.Data (Some message) = none-each_byte message.payload
 
 pub none-source : (from : Source) → HasNone (source_word from)
 none-source source.Status = refl

@@ -58,22 +58,18 @@ none-source_letter (what.Read (source.Node p)) = none-letter_of p
 
 pub none-port_code : (port : Port) (v : PortVariable) → HasNone (port_code port v)
 none-port_code port v =
-    none-append (port_letter port.what v ++ letter_of_node port.host) (source_letter port.what)
-    (none-append (port_letter port.what v) (letter_of_node port.host) (none-port_letter port.what v)
-    (none-letter_of port.host))
-    (none-source_letter port.what)
+    simp (feed-append, none-port_letter port.what v, none-letter_of port.host, none-source_letter port.what)
 
 -- Changes.
 
-spaced : (value : List ℕ) (long : Bool) → HasNone value → HasNone (value ++ (if long then codes " " else []))
-spaced value true none = none-append value (codes " ") none refl
-spaced value false none = none-append value [] none refl
+spaced : (long : Bool) → HasNone (if long then codes " " else [])
+spaced true = refl
+spaced false = refl
 
 change-IsLine : (value code : List ℕ) → HasNone value → HasNone code → IsLine (change_line value code)
 change-IsLine value code p q =
     ends ((value ++ (if nat_lt 1 (length value) then codes " " else [])) ++ code)
-    (none-append (value ++ (if nat_lt 1 (length value) then codes " " else [])) code
-    (spaced value (nat_lt 1 (length value)) p) q)
+    (simp (feed-append, p, q, spaced (nat_lt 1 (length value))))
 
 unless_same : (same : Bool) (line : List ℕ) → IsLine line → AreLines (if same then [] else line ∷ [])
 unless_same true line is = tt
@@ -92,19 +88,17 @@ changes-each value code before now p q = change-each code (option_map value befo
 cluster-each : (width : ℕ) (before : Option (List NodeShown)) (now : List NodeShown)
     → AreLines (cluster_changes width before now)
 cluster-each width before now =
-    each-flat_map (λ v. changes_by (cluster_value width v) (cluster_letter v) before now) cluster_variables
-    (λ v. changes-each (cluster_value width v) (cluster_letter v) before now (none-cluster_value width v)
-    (none-cluster_letter v))
+    each-flat_map _ cluster_variables (λ v. changes-each (cluster_value width v) (cluster_letter v) before now
+    (none-cluster_value width v) (none-cluster_letter v))
 
 node-each : (width k : ℕ) (before : Option NodeShown) (now : NodeShown) → AreLines (node_changes width k before now)
 node-each width k before now =
-    each-flat_map (λ v. changes_by (node_value width v) (node_code v k) before now) node_variables
-    (λ v. changes-each (node_value width v) (node_code v k) before now (none-node_value width v) (none-node_code v k))
+    each-flat_map _ node_variables (λ v. changes-each (node_value width v) (node_code v k) before now (none-node_value width v) (none-node_code v k))
 
 port-each : (port : Port) (before : Option (Option Message)) (now : Option Message)
     → AreLines (port_changes port before now)
 port-each port before now =
-    each-flat_map (λ v. changes_by (port_value v) (port_code port v) before now) (port_variables port.what)
+    each-flat_map _ (port_variables port.what)
     (λ v. changes-each (port_value v) (port_code port v) before now (none-port_value v) (none-port_code port v))
 
 scope-each : (width : ℕ) (ports : List Port) (before : Option SlotLines) (now : SlotLines) (k : ℕ)
@@ -130,7 +124,7 @@ slot-each width n ports before now =
 -- Slots.
 
 time-IsLine : (t : ℕ) → IsLine (time_line t)
-time-IsLine t = ends (codes "#" ++ decimal t) (none-append (codes "#") (decimal t) refl (none-decimal t))
+time-IsLine t = ends (codes "#" ++ decimal t) (none-decimal t)
 
 later-each : (width n : ℕ) (ports : List Port) (t : ℕ) (before : SlotLines) (slots : List SlotLines)
     → AreLines (later_lines width n ports t before slots)
