@@ -3,7 +3,6 @@ pub mod Slots
 pub mod Counting
 pub mod Order
 pub mod Written
-pub mod Joined
 pub mod Taken
 pub mod PieceCounts
 pub mod Whole

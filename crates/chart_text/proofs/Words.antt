@@ -12,12 +12,11 @@ pub use Rattle.chart_text.specs.Worst.{fault_in_line, hurt_word, is_worse, list_
 pub use Rattle.chart_text.specs.declared.size.Size.{Size}
 pub use Rattle.chart_text.specs.declared.tally.Tallies.{Tallies}
 pub use Rattle.chart_text.specs.declared.tally.Tally.{Tally}
-pub use Rattle.picture_text.proofs.Joined.{mark_parts}
 pub use Rattle.ttp_base.proofs.Puts.{puts_both, puts_first, puts_one, puts_two}
 pub use Rattle.ttp_base.proofs.Puts.{puts_below}
 pub use Rattle.picture_text.proofs.Rows.{one_more}
 pub use Rattle.picture_text.specs.Cells.{place_attributes}
-pub use Rattle.picture_text.specs.Picture.{ended, row_line}
+pub use Rattle.picture_text.specs.Picture.{row_line}
 pub use Rattle.ttp_base.specs.Sheet.{Puts}
 pub use Rattle.picture_text.specs.declared.window.Span.{Span}
 pub use Rattle.std.proofs.Common.{Bool, List, None, Option, Result, Some, [], ap, append_assoc, arith, codes, cond}

@@ -10,7 +10,7 @@ use Rattle.whole_campaign.specs.Own.{OwnShown}
 use Rattle.whole_campaign.specs.Readable.{counts_sum}
 use Rattle.whole_campaign.specs.Whole.{FaultTold, WholeCampaign}
 use Rattle.picture_text.specs.declared.window.Span.{Span}
-use Rattle.picture_text.specs.Cells.{attribute, title_element}
+use Rattle.picture_text.specs.Cells.{title_element}
 use Rattle.picture_text.specs.Picture.{class_of, ended, text_line, row_line}
 use Rattle.picture_text.specs.Tables.{keep_meaning, back_meaning, keep_slot, keep_name, back_slot, back_name}
 use Rattle.picture_text.specs.Window.{columns}
@@ -28,13 +28,13 @@ use Rattle.chart_text.specs.Worst.{ten_worst, worst_lines, most_lost}
 
 -- The head.
 
-abbrev pub chart_size : ℕ → List ℕ
-chart_size height = attribute (codes "width") (codes "1320") ++ attribute (codes "height") (decimal height)
-
 abbrev pub chart_svg : ℕ → List ℕ
 chart_svg height =
-    ended (codes "<svg" ++ attribute (codes "xmlns") (codes "http://www.w3.org/2000/svg") ++ chart_size height
-    ++ attribute (codes "viewBox") (codes "0 0 1320 " ++ decimal height) ++ codes ">")
+    codes "<svg xmlns=\"http://www.w3.org/2000/svg\" width=\"1320\" height=\"" ++ decimal height
+    ++ codes "\" viewBox=\"0 0 1320 " ++ decimal height ++ codes "\">\n"
+
+abbrev pub chart_ground : ℕ → List ℕ
+chart_ground height = codes "<rect width=\"1320\" height=\"" ++ decimal height ++ codes "\" fill=\"#ffffff\"/>\n"
 
 abbrev pub chart_title : Size → List ℕ
 chart_title size =
@@ -116,7 +116,7 @@ own_lines own =
 abbrev pub chart_front : Size → ℕ → Lines
 chart_front size height =
     chart_svg height ∷ chart_title size ∷ chart_styles
-    ++ ended (codes "<rect" ++ chart_size height ++ codes " fill=\"#ffffff\"/>") ∷ []
+    ++ chart_ground height ∷ []
 
 -- The names of the rows of the band that begins with column c, and of each band.
 abbrev pub row_names_at : ℕ → ℕ → Lines

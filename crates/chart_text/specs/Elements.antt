@@ -1,17 +1,15 @@
 -- The elements of a chart beside those of a picture.
 use Rattle.std.specs.Prelude.{ℕ, ◌+◌, List, ◌++◌, codes, decimal}
-use Rattle.ttp_base.specs.Text.{newline}
-use Rattle.picture_text.specs.Cells.{attribute, place_attributes, title_element}
-use Rattle.picture_text.specs.Picture.{class_of, ended}
+use Rattle.picture_text.specs.Cells.{place_attributes}
 use Rattle.chart_text.specs.declared.look.Look.{Look}
 use Rattle.chart_text.specs.Looks.{look_text, look_letter}
 
 -- a cell of this class, lower and wider than one of a picture
 abbrev pub wide_cell : List ℕ → ℕ → ℕ → List ℕ → List ℕ → List ℕ
 wide_cell class x y title shown =
-    codes "<g" ++ class_of class ++ codes ">" ++ title_element title
-    ++ codes "<rect" ++ place_attributes x y ++ codes " width=\"22\" height=\"15\"/>"
-    ++ codes "<text" ++ place_attributes (x + 11) (y + 12) ++ codes ">" ++ shown ++ codes "</text></g>" ++ newline
+    codes "<g class=\"" ++ class ++ codes "\"><title>" ++ title ++ codes "</title><rect" ++ place_attributes x y
+    ++ codes " width=\"22\" height=\"15\"/><text" ++ place_attributes (x + 11) (y + 12) ++ codes ">" ++ shown
+    ++ codes "</text></g>\n"
 
 -- the cell that stands for a look
 abbrev pub look_cell : Look → ℕ → ℕ → List ℕ
@@ -24,5 +22,5 @@ fault_shape = codes "h2v4h-2z"
 -- an upright line of this class and height
 abbrev pub pole : List ℕ → ℕ → ℕ → ℕ → List ℕ
 pole class x y height =
-    ended (codes "<path" ++ class_of class ++ attribute (codes "d") (codes "M" ++ decimal x ++ codes " " ++ decimal y
-    ++ codes "v" ++ decimal height) ++ codes "/>")
+    codes "<path class=\"" ++ class ++ codes "\" d=\"M" ++ decimal x ++ codes " " ++ decimal y ++ codes "v" ++ decimal height
+    ++ codes "\"/>\n"

@@ -9,7 +9,7 @@ use Rattle.whole_campaign.specs.declared.shown.FaultShown.{FaultShown}
 use Rattle.whole_campaign.specs.Faults.{first_place}
 use Rattle.whole_campaign.specs.Whole.{FaultTold}
 use Rattle.picture_text.specs.Cells.{place_attributes}
-use Rattle.picture_text.specs.Picture.{class_of, ended, text_line}
+use Rattle.picture_text.specs.Picture.{class_of, text_line}
 use Rattle.chart_text.specs.declared.look.Look.TheVariants as look
 use Rattle.chart_text.specs.declared.size.Size.{Size}
 use Rattle.chart_text.specs.Sums.{counts_by}
@@ -48,10 +48,9 @@ key_said p = if nat_lt p 12 then channels_said p ++ codes " " ++ loss_said p els
 
 abbrev pub key_square : ℕ → ℕ → List ℕ
 key_square top p =
-    ended (codes "<g" ++ class_of (codes "key") ++ codes "><rect" ++ place_attributes (key_x p) (key_y top p)
-    ++ codes " width=\"82\" height=\"20\"/><text" ++ place_attributes (key_x p + 41)
-    (key_y top p + 14) ++ codes ">" ++ key_said p
-    ++ codes "</text></g>")
+    codes "<g class=\"key\"><rect" ++ place_attributes (key_x p) (key_y top p)
+    ++ codes " width=\"82\" height=\"20\"/><text" ++ place_attributes (key_x p + 41) (key_y top p + 14) ++ codes ">"
+    ++ key_said p ++ codes "</text></g>\n"
 
 abbrev pub key_row : ℕ → List ℕ → List ℕ
 key_row y name = text_line (class_of (codes "row")) 124 y name

@@ -15,9 +15,8 @@ use ttp_base::Line;
 /// What stands between the title of a wide cell and what is shown.
 pub(crate) fn close_wide_title(line: &mut Line, at: Corner)
     requires { length line.old ≤ 450 }
-    ensures text { line.new ≡ line.old ++ (codes "</title><rect" ++ place_attributes at.x at.y
-        ++ codes " width=\"22\" height=\"15\"/>"
-        ++ codes "<text" ++ place_attributes (at.x + 11) (at.y + 12) ++ codes ">") }
+    ensures text { line.new ≡ line.old ++ codes "</title><rect" ++ place_attributes at.x at.y
+        ++ codes " width=\"22\" height=\"15\"/><text" ++ place_attributes (at.x + 11) (at.y + 12) ++ codes ">" }
     ensures short { length line.new ≤ length line.old + 150 }
 {
     line.put_text("</title><rect");
@@ -58,7 +57,7 @@ pub(crate) fn make_pole(line: &mut Line, class: &str, at: Corner, height: u64)
 /// Adds a number and what stands behind it.
 pub(crate) fn put_many(line: &mut Line, number: u64, label: &str)
     requires { (length line.old ≤ 500) × (length label.now ≤ 80) }
-    ensures text { line.new ≡ line.old ++ (decimal number ++ label.now) }
+    ensures text { line.new ≡ line.old ++ decimal number ++ label.now }
     ensures short { length line.new ≤ length line.old + 20 + length label.now }
 {
     line.put_number(number);

@@ -4,9 +4,9 @@
 ghost use Rattle.std.specs.Prelude.{◌≡◌, ◌+◌, ◌≤◌, [], ◌++◌, length, codes};
 ghost use Rattle.whole_campaign.specs.Own.{own_of};
 ghost use Rattle.picture_text.specs.Cells.{title_element};
-ghost use Rattle.picture_text.specs.Picture.{class_of, ended, text_line};
+ghost use Rattle.picture_text.specs.Picture.{class_of, text_line};
 ghost use Rattle.ttp_base.specs.Sheet.{Puts};
-ghost use Rattle.chart_text.specs.Chart.{chart_size, chart_svg, chart_title, chart_styles};
+ghost use Rattle.chart_text.specs.Chart.{chart_ground, chart_svg, chart_title, chart_styles};
 ghost use Rattle.chart_text.specs.Chart.{harm_text, hidden_text, test_meaning, counts_told, counted_lines, own_lines, chart_front};
 
 use crate::buffer::Buffer;
@@ -74,7 +74,7 @@ fn put_styles<K: Sink>(sheet: &mut Sheet, out: &mut K)
 }
 
 fn make_ground(line: &mut Line, height: u64)
-    ensures { line.new ≡ ended (codes "<rect" ++ chart_size height ++ codes " fill=\"#ffffff\"/>") }
+    ensures { line.new ≡ chart_ground height }
 {
     line.clear();
     put_field(line, "<rect width=\"1320\" height=\"", height);

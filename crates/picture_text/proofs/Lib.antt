@@ -1,6 +1,5 @@
 pub mod PlainTexts
 pub mod Ending
-pub mod LongCell
 pub mod Whole
 pub mod Holders
 pub mod Rows
@@ -8,6 +7,5 @@ pub mod Places
 pub mod Digits
 pub mod Distinct
 pub mod Sought
-pub mod Joined
 pub mod NodeLine
 pub mod Words

@@ -1,11 +1,11 @@
 -- The picture as its head, its rows and what stands behind them.
 use Rattle.picture_text.proofs.Words.{◌≡◌, ℕ, ◌+◌, List, [], ◌∷◌, ◌++◌, Bool, codes, refl, sym, ap, ◌∙◌, subst}
 use Rattle.picture_text.proofs.Words.{append_assoc, Option, flat_map, Output, Lines, lines_below, Back, Keep, keep_text}
-use Rattle.picture_text.proofs.Words.{Head, WholeTrace, header_text, Span, attribute, title_element, ended, size}
+use Rattle.picture_text.proofs.Words.{Head, WholeTrace, header_text, Span, title_element, ended}
 use Rattle.picture_text.proofs.Words.{svg_line, word_entries, class_entries, mark_entries, picture_of, band_lines}
 use Rattle.picture_text.proofs.Words.{cell_lines, beside_lines, slot_at, keep_flag, back_flag, Puts, keep_meaning}
 use Rattle.picture_text.proofs.Words.{words, strange_past}
-use Rattle.picture_text.specs.Picture.{style_lines, window_text, said_line, back_said, text_line}
+use Rattle.picture_text.specs.Picture.{ground_line, style_lines, window_text, said_line, back_said, text_line}
 use Rattle.picture_text.specs.Picture.{picture_head_lines}
 use Rattle.picture_text.specs.Picture.{shown_slots}
 use Rattle.picture_text.specs.Window.{height, bands, legend_top, is_quiet_before}
@@ -15,7 +15,7 @@ use Rattle.ttp_base.proofs.Puts.{puts_then}
 abbrev pub front_lines : Head → Span → Bool → Option ℕ → Keep → Option Back → Lines
 front_lines head span quiet strange keep back =
     svg_line (height head.nodes span) ∷ ended (title_element (header_text head)) ∷ style_lines
-    ++ ended (codes "<rect" ++ size (height head.nodes span) ++ codes " fill=\"#ffffff\"/>")
+    ++ ground_line (height head.nodes span)
     ∷ text_line [] 12 20 (header_text head)
     ∷ text_line [] 12 40 (window_text span head.slots quiet strange)
     ∷ said_line 60 (keep_text keep) (keep_meaning keep) ∷ back_said back
@@ -33,20 +33,6 @@ end_lines span head keep back =
     ++ class_entries (legend_top head.nodes span + 118) ++ mark_entries (legend_top head.nodes span + 118)
     ++ ended (codes "</svg>") ∷ []
 
-front-is : (trace : WholeTrace) (span : Span)
-    → front_lines trace.head span (is_quiet_before span.first trace.slots) (strange_past span.last trace.slots) trace.keep
-    trace.back
-    ≡ picture_head_lines trace span
-front-is trace span =
-    let h = height trace.head.nodes span in
-    ap (λ (fill : List ℕ). svg_line h ∷ ended (title_element (header_text trace.head)) ∷ style_lines
-    ++ ended fill
-    ∷ text_line [] 12 20 (header_text trace.head)
-    ∷ text_line [] 12 40 (window_text span trace.head.slots (is_quiet_before span.first trace.slots)
-    (strange_past span.last trace.slots))
-    ∷ said_line 60 (keep_text trace.keep) (keep_meaning trace.keep) ∷ back_said trace.back)
-    (sym (append_assoc (codes "<rect" ++ size h) (attribute (codes "fill") (codes "#ffffff")) (codes "/>")))
-
 ten : (h b c d k l w e m s : Lines) → h ++ (b ++ c ++ d) ++ (k ++ l ++ w ++ e ++ m ++ s)
     ≡ h ++ b ++ c ++ d ++ k ++ l ++ w ++ e ++ m ++ s
 ten h b c d k l w e m s = simp append_assoc refl
@@ -61,7 +47,7 @@ pub picture_put : (trace : WholeTrace) (span : Span) (head : Head) (quiet : Bool
 picture_put trace span head quiet strange keep again back once f g h i a b c d is calm past kept kept-too due due-too p q r =
     let n = trace.head.nodes in
     let front : front_lines head span quiet strange keep back ≡ picture_head_lines trace span =
-    (λ j. front_lines (is j) span (calm j) (past j) (kept j) (due j)) ∙ front-is trace span in
+    λ j. front_lines (is j) span (calm j) (past j) (kept j) (due j) in
     let rows : row_lines trace span head ≡ row_lines trace span trace.head = ap (row_lines trace span) is in
     let ends : end_lines span head again once ≡ end_lines span trace.head trace.keep trace.back =
     λ j. end_lines span (is j) (kept-too j) (due-too j) in

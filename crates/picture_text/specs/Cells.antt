@@ -31,16 +31,15 @@ title_element title = codes "<title>" ++ title ++ codes "</title>"
 -- a cell of this class, whose title a browser shows when the mouse is over it
 abbrev pub cell : List ℕ → ℕ → ℕ → List ℕ → List ℕ → List ℕ
 cell class x y title shown =
-    codes "<g" ++ attribute (codes "class") class ++ codes ">" ++ title_element title
-    ++ codes "<rect" ++ place_attributes x y ++ codes " width=\"19\" height=\"19\"/>"
-    ++ codes "<text" ++ place_attributes (x + 9) (y + 14) ++ codes ">" ++ shown ++ codes "</text></g>" ++ newline
+    codes "<g class=\"" ++ class ++ codes "\"><title>" ++ title ++ codes "</title><rect" ++ place_attributes x y
+    ++ codes " width=\"19\" height=\"19\"/><text" ++ place_attributes (x + 9) (y + 14) ++ codes ">" ++ shown
+    ++ codes "</text></g>\n"
 
 -- a mark of this class and shape
 abbrev pub mark : List ℕ → List ℕ → ℕ → ℕ → List ℕ → List ℕ
 mark class shape x y title =
-    codes "<path" ++ attribute (codes "class") class
-    ++ attribute (codes "d") (codes "M" ++ decimal x ++ codes " " ++ decimal y ++ shape)
-    ++ codes ">" ++ title_element title ++ codes "</path>" ++ newline
+    codes "<path class=\"" ++ class ++ codes "\" d=\"M" ++ decimal x ++ codes " " ++ decimal y ++ shape
+    ++ codes "\"><title>" ++ title ++ codes "</title></path>\n"
 
 abbrev pub write_shape : List ℕ
 write_shape = codes "v-10l10 10z"

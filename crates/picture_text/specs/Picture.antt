@@ -30,17 +30,18 @@ class_of class = attribute (codes "class") class
 
 abbrev pub text_line : List ℕ → ℕ → ℕ → List ℕ → List ℕ
 text_line class x y shown =
-    ended (codes "<text" ++ class ++ place_attributes x y ++ codes ">" ++ shown ++ codes "</text>")
+    codes "<text" ++ class ++ place_attributes x y ++ codes ">" ++ shown ++ codes "</text>\n"
 
 -- The head.
 
-abbrev pub size : ℕ → List ℕ
-size h = attribute (codes "width") (codes "1140") ++ attribute (codes "height") (decimal h)
-
 abbrev pub svg_line : ℕ → List ℕ
 svg_line h =
-    ended (codes "<svg" ++ attribute (codes "xmlns") (codes "http://www.w3.org/2000/svg") ++ size h
-    ++ attribute (codes "viewBox") (codes "0 0 1140 " ++ decimal h) ++ codes ">")
+    codes "<svg xmlns=\"http://www.w3.org/2000/svg\" width=\"1140\" height=\"" ++ decimal h
+    ++ codes "\" viewBox=\"0 0 1140 " ++ decimal h ++ codes "\">\n"
+
+-- what all else is drawn on
+abbrev pub ground_line : ℕ → List ℕ
+ground_line h = codes "<rect width=\"1140\" height=\"" ++ decimal h ++ codes "\" fill=\"#ffffff\"/>\n"
 
 abbrev pub word_style : Word → List ℕ
 word_style w =
@@ -90,7 +91,7 @@ abbrev pub picture_head_lines : WholeTrace → Span → Lines
 picture_head_lines trace span =
     let h = height trace.head.nodes span in
     svg_line h ∷ ended (title_element (first_text trace)) ∷ style_lines
-    ++ ended (codes "<rect" ++ size h ++ attribute (codes "fill") (codes "#ffffff") ++ codes "/>")
+    ++ ground_line h
     ∷ text_line [] 12 20 (first_text trace)
     ∷ text_line [] 12 40 (window_text span trace.head.slots (is_quiet_before span.first trace.slots)
     (strange_past span.last trace.slots))
@@ -122,8 +123,8 @@ number_lines n span t =
 -- a line of a round, from this place down
 abbrev pub round_line : ℕ → ℕ → ℕ → List ℕ
 round_line x y high =
-    ended (codes "<path" ++ class_of (codes "round") ++ attribute (codes "d") (codes "M" ++ decimal x ++ codes " "
-    ++ decimal y ++ codes "h1v" ++ decimal high ++ codes "h-1z") ++ codes "/>")
+    codes "<path class=\"round\" d=\"M" ++ decimal x ++ codes " " ++ decimal y ++ codes "h1v" ++ decimal high
+    ++ codes "h-1z\"/>\n"
 
 -- before a slot in which a round begins
 abbrev pub round_start_lines : ℕ → Span → ℕ → SlotLines → Lines
@@ -156,8 +157,8 @@ cell_lines head span t slot =
 
 abbrev pub why_box : Word → ℕ → ℕ → List ℕ
 why_box w x y =
-    ended (codes "<rect" ++ class_of (codes "why") ++ place_attributes x y
-    ++ attribute (codes "width") (decimal (7 * length (word_text w) + 6)) ++ codes " height=\"19\"/>")
+    codes "<rect class=\"why\"" ++ place_attributes x y ++ codes " width=\"" ++ decimal (7 * length (word_text w) + 6)
+    ++ codes "\" height=\"19\"/>\n"
 
 abbrev pub why_word : Word → ℕ → ℕ → List ℕ
 why_word w x y = text_line (class_of (codes "why")) x y (word_text w)
@@ -181,9 +182,8 @@ is_shown span t = nat_le span.first t && nat_le t span.last
 
 abbrev pub flag_pole : ℕ → Span → ℕ → List ℕ
 flag_pole n span t =
-    ended (codes "<path" ++ class_of (codes "flag") ++ attribute (codes "d") (codes "M"
-    ++ decimal (column_x n span t - 1) ++ codes " " ++ decimal (row_y n span t 0 - 26) ++ codes "v"
-    ++ decimal (20 * n + 26)) ++ codes "/>")
+    codes "<path class=\"flag\" d=\"M" ++ decimal (column_x n span t - 1) ++ codes " "
+    ++ decimal (row_y n span t 0 - 26) ++ codes "v" ++ decimal (20 * n + 26) ++ codes "\"/>\n"
 
 abbrev pub flag_lines : ℕ → Span → ℕ → List ℕ → ℕ → List ℕ → Lines
 flag_lines n span t class x name =

@@ -2,7 +2,6 @@
 #![tactic(auto, using(ttp_base::proofs::Room::room))]
 
 ghost use Rattle.std.specs.Prelude.{◌≡◌, ◌+◌, ◌≤◌, [], ◌++◌, length, codes, decimal};
-ghost use Rattle.ttp_base.specs.Text.{newline};
 ghost use Rattle.picture_text.specs.Cells.{place_attributes, cell, mark};
 ghost use Rattle.picture_text.specs.Picture.{class_of, text_line, round_line};
 
@@ -12,7 +11,7 @@ use ttp_base::Line;
 /// Adds a number behind a label.
 pub fn put_field(line: &mut Line, label: &str, number: u64)
     requires { length line.old + length label.now ≤ 620 }
-    ensures text { line.new ≡ line.old ++ (label.now ++ decimal number) }
+    ensures text { line.new ≡ line.old ++ label.now ++ decimal number }
     ensures short { length line.new ≤ length line.old + length label.now + 20 }
 {
     line.put_text(label);
@@ -50,9 +49,8 @@ pub fn open_title(line: &mut Line)
 /// What stands between the title of a cell and what is shown.
 pub(crate) fn close_title(line: &mut Line, at: Corner)
     requires { length line.old ≤ 450 }
-    ensures text { line.new ≡ line.old ++ (codes "</title><rect" ++ place_attributes at.x at.y
-        ++ codes " width=\"19\" height=\"19\"/>"
-        ++ codes "<text" ++ place_attributes (at.x + 9) (at.y + 14) ++ codes ">") }
+    ensures text { line.new ≡ line.old ++ codes "</title><rect" ++ place_attributes at.x at.y
+        ++ codes " width=\"19\" height=\"19\"/><text" ++ place_attributes (at.x + 9) (at.y + 14) ++ codes ">" }
     ensures short { length line.new ≤ length line.old + 150 }
 {
     line.put_text("</title><rect");
@@ -65,7 +63,7 @@ pub(crate) fn close_title(line: &mut Line, at: Corner)
 /// Ends a cell.
 pub fn close_cell(line: &mut Line)
     requires { length line.old ≤ 620 }
-    ensures { line.new ≡ line.old ++ (codes "</text></g>" ++ newline) }
+    ensures { line.new ≡ line.old ++ codes "</text></g>\n" }
 {
     line.put_text("</text></g>\n");
 }
@@ -88,7 +86,7 @@ pub(crate) fn make_cell(line: &mut Line, class: &str, at: Corner, title: &str, s
 pub fn open_mark(line: &mut Line, class: &str, shape: &str, at: Corner)
     requires { (length class.now ≤ 8) × (length shape.now ≤ 11) }
     ensures text { line.new ≡ codes "<path class=\"" ++ class.now ++ codes "\" d=\"M"
-        ++ (decimal at.x ++ codes " " ++ decimal at.y) ++ shape.now ++ codes "\"><title>" }
+        ++ decimal at.x ++ codes " " ++ decimal at.y ++ shape.now ++ codes "\"><title>" }
     ensures short { length line.new ≤ 88 }
 {
     line.clear();
@@ -103,7 +101,7 @@ pub fn open_mark(line: &mut Line, class: &str, shape: &str, at: Corner)
 /// Ends a mark.
 pub fn close_mark(line: &mut Line)
     requires { length line.old ≤ 624 }
-    ensures { line.new ≡ line.old ++ (codes "</title></path>" ++ newline) }
+    ensures { line.new ≡ line.old ++ codes "</title></path>\n" }
 {
     line.put_text("</title></path>\n");
 }
@@ -157,7 +155,7 @@ pub fn open_text_of(line: &mut Line, class: &str, x: u64, y: u64)
 /// Ends a text.
 pub fn close_text(line: &mut Line)
     requires { length line.old ≤ 630 }
-    ensures { line.new ≡ line.old ++ (codes "</text>" ++ newline) }
+    ensures { line.new ≡ line.old ++ codes "</text>\n" }
 {
     line.put_text("</text>\n");
 }

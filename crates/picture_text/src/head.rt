@@ -5,7 +5,7 @@ ghost use Rattle.std.specs.Prelude.{◌≡◌, ◌+◌, ◌<◌, ◌≤◌, ◌^
 ghost use Rattle.line_reader.specs.TraceLines.{keep_text, back_text};
 ghost use Rattle.shown_slot.specs.Trace.{header_text};
 ghost use Rattle.picture_text.specs.Cells.{title_element};
-ghost use Rattle.picture_text.specs.Picture.{ended, size, svg_line, style_lines, before_text, behind_text, more_text};
+ghost use Rattle.picture_text.specs.Picture.{ended, svg_line, ground_line, style_lines, before_text, behind_text, more_text};
 ghost use Rattle.picture_text.specs.Picture.{window_text, said_line, back_said, text_line};
 ghost use Rattle.ttp_base.specs.Sheet.{Puts};
 ghost use Rattle.picture_text.specs.Tables.{keep_meaning, back_meaning};
@@ -49,7 +49,7 @@ fn put_styles<K: Sink>(sheet: &mut Sheet, out: &mut K)
 }
 
 fn make_ground(line: &mut Line, height: u64)
-    ensures { line.new ≡ ended (codes "<rect" ++ size height ++ codes " fill=\"#ffffff\"/>") }
+    ensures { line.new ≡ ground_line height }
 {
     line.clear();
     put_field(line, "<rect width=\"1140\" height=\"", height);
@@ -197,7 +197,7 @@ pub(crate) fn put_head<K: Sink>(
 )
     ensures { Puts sheet.old.failed (K.output out.old) sheet.new.failed (K.output out.new)
         (svg_line (height frame.head.nodes frame.span) ∷ ended (title_element (header_text frame.head)) ∷ style_lines
-        ++ ended (codes "<rect" ++ size (height frame.head.nodes frame.span) ++ codes " fill=\"#ffffff\"/>")
+        ++ ground_line (height frame.head.nodes frame.span)
         ∷ text_line [] 12 20 (header_text frame.head)
         ∷ text_line [] 12 40 (window_text frame.span frame.head.slots quiet strange)
         ∷ said_line 60 (keep_text keep) (keep_meaning keep) ∷ back_said back) }

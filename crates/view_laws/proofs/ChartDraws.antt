@@ -14,16 +14,16 @@ use Rattle.whole_campaign.specs.declared.shown.Test.{Test}
 use Rattle.whole_campaign.specs.Faults.{first_place}
 use Rattle.whole_campaign.specs.Own.{OwnShown}
 use Rattle.whole_campaign.specs.Whole.{FaultTold}
-use Rattle.picture_text.specs.Cells.{attribute, title_element, mark}
+use Rattle.picture_text.specs.Cells.{title_element, mark}
 use Rattle.picture_text.specs.Picture.{class_of, ended, text_line, row_line}
 use Rattle.picture_text.specs.Window.{columns}
 use Rattle.picture_text.proofs.PlainTexts.{Plain, parts, plain-append, plain-decimal}
-use Rattle.view_laws.proofs.TitlesIn.{◌▸◌, tag, plain, title, IsLineWith, line_of, attribute-adds, place-adds, bare-lines}
-use Rattle.view_laws.proofs.TitlesIn.{text-titles, classed-titles, mark-titles}
+use Rattle.lab_laws.proofs.TitlesIn.{◌▸◌, tag, plain, number, title, named, IsLineWith, closed, line_of, place-adds, bare-lines}
+use Rattle.lab_laws.proofs.TitlesIn.{text-titles, classed-titles, mark-titles}
 use Rattle.chart_text.specs.declared.look.Look.{Look}
 use Rattle.chart_text.specs.declared.look.Look.TheVariants as look
 use Rattle.chart_text.specs.declared.size.Size.{Size}
-use Rattle.chart_text.specs.Chart.{of_all_slots_lines, chart_size, chart_svg, chart_title, chart_styles, harm_text, many_listed, node_sum_lines}
+use Rattle.chart_text.specs.Chart.{of_all_slots_lines, chart_ground, chart_svg, chart_title, chart_styles, harm_text, many_listed, node_sum_lines}
 use Rattle.chart_text.specs.Chart.{slots_shown_text, test_meaning, test_name, test_slot}
 use Rattle.chart_text.specs.Chart.{counts_told, counted_lines, own_lines, chart_front, row_names, test_flag, chart_head}
 use Rattle.chart_text.specs.Chart.{chart_body, chart_end, chart_of}
@@ -65,12 +65,11 @@ wide-titles : (class : List ℕ) (x y : ℕ) (name shown : List ℕ) → Plain c
     → IsLineWith (wide_cell class x y name shown) (name ∷ [])
 wide-titles class x y name shown c n s =
     let all =
-    tag (codes "<g") (λ rest. refl) refl ▸ attribute-adds (codes "class") class refl c ▸ tag (codes ">") (λ rest. refl) refl
-    ▸ title name n ▸ tag (codes "<rect") (λ rest. refl) refl ▸ place-adds x y
-    ▸ tag (codes " width=\"22\" height=\"15\"/>") (λ rest. refl) refl ▸ tag (codes "<text") (λ rest. refl) refl
-    ▸ place-adds (x + 11) (y + 12) ▸ tag (codes ">") (λ rest. refl) refl ▸ plain shown s
-    ▸ tag (codes "</text></g>") (λ rest. refl) refl in
-    line_of all
+    named (tag (codes "<g class=\"") (λ rest. refl) refl ▸ plain class c) (plain (codes "\">") refl) name n
+    (tag (codes "<rect") (λ rest. refl) refl)
+    ▸ place-adds x y ▸ tag (codes " width=\"22\" height=\"15\"/><text") (λ rest. refl) refl ▸ place-adds (x + 11) (y + 12)
+    ▸ tag (codes ">") (λ rest. refl) refl ▸ plain shown s in
+    closed all (codes "</text></g>\n") refl refl
 
 wide-draws : (class : List ℕ) (x y : ℕ) (name shown : List ℕ) → Plain class → Plain name → Plain shown
     → Draws (wide_cell class x y name shown ∷ []) []
@@ -82,11 +81,10 @@ look-draws l x y = wide-draws (look_text l) x y (look_text l) (look_letter l) (p
 
 pole-draws : (class : List ℕ) (x y height : ℕ) → Plain class → Draws (pole class x y height ∷ []) []
 pole-draws class x y height c =
-    let shape = codes "M" ++ decimal x ++ codes " " ++ decimal y ++ codes "v" ++ decimal height in
     let all =
-    tag (codes "<path") (λ rest. refl) refl ▸ attribute-adds (codes "class") class refl c
-    ▸ plain (attribute (codes "d") shape) (simp parts) ▸ tag (codes "/>") (λ rest. refl) refl in
-    untitled-line (pole class x y height) (line_of all)
+    tag (codes "<path class=\"") (λ rest. refl) refl ▸ plain class c ▸ plain (codes "\" d=\"M") refl ▸ number x
+    ▸ plain (codes " ") refl ▸ number y ▸ plain (codes "v") refl ▸ number height in
+    untitled-line (pole class x y height) (closed all (codes "\"/>\n") refl refl)
 
 look-mark : (l : Look) (x y : ℕ) (name : List ℕ) → is_mark (mark (look_text l) fault_shape x y name) ≡ true
 look-mark look.Same x y name = refl
@@ -115,17 +113,12 @@ harmful-draws many x y = classed-draws (codes "slot") x y (many_shown many) refl
 
 -- The head.
 
-size-plain : (h : ℕ) → Plain (chart_size h)
-size-plain h = simp parts
-
 svg-draws : (h : ℕ) → Draws (chart_svg h ∷ []) []
 svg-draws h =
     let all =
-    tag (codes "<svg") (λ rest. refl) refl
-    ▸ tag (attribute (codes "xmlns") (codes "http://www.w3.org/2000/svg")) (λ rest. refl) refl
-    ▸ plain (chart_size h) (size-plain h)
-    ▸ plain (attribute (codes "viewBox") (codes "0 0 1320 " ++ decimal h)) (simp parts) ▸ tag (codes ">") (λ rest. refl) refl in
-    untitled-line (chart_svg h) (line_of all)
+    tag (codes "<svg xmlns=\"http://www.w3.org/2000/svg\" width=\"1320\" height=\"") (λ rest. refl) refl ▸ number h
+    ▸ plain (codes "\" viewBox=\"0 0 1320 ") refl ▸ number h in
+    untitled-line (chart_svg h) (closed all (codes "\">\n") refl refl)
 
 title-draws : (size : Size) → Draws (chart_title size ∷ []) []
 title-draws size =
@@ -143,11 +136,9 @@ styles-draws = bare-draws chart_styles (bare-lines chart_styles refl refl)
 
 front-draws : (size : Size) (h : ℕ) → Draws (chart_front size h) []
 front-draws size h =
-    let rect = ended (codes "<rect" ++ chart_size h ++ codes " fill=\"#ffffff\"/>") in
-    let all =
-    tag (codes "<rect") (λ rest. refl) refl ▸ plain (chart_size h) (size-plain h)
-    ▸ tag (codes " fill=\"#ffffff\"/>") (λ rest. refl) refl in
-    svg-draws h ◃ title-draws size ◃ styles-draws ◃ untitled-line rect (line_of all)
+    let all = tag (codes "<rect width=\"1320\" height=\"") (λ rest. refl) refl ▸ number h in
+    svg-draws h ◃ title-draws size ◃ styles-draws
+    ◃ untitled-line (chart_ground h) (closed all (codes "\" fill=\"#ffffff\"/>\n") refl refl)
 
 -- the script's own line can be drawn
 pub record IsOwnPlain (own : OwnShown) : Type 0 where
@@ -162,9 +153,8 @@ own-draws own is =
     let shown : Plain said = plain-append (codes "without any of them: ") own.cost refl is.cost in
     let all =
     tag (codes "<text") (λ rest. refl) refl ▸ place-adds 12 60 ▸ tag (codes ">") (λ rest. refl) refl
-    ▸ (title own.text is.text ▸ tag (codes "without any of them: ") (λ rest. refl) refl ▸ plain own.cost is.cost)
-    ▸ tag (codes "</text>") (λ rest. refl) refl in
-    titled-line line own.text (line_of all) refl is.text
+    ▸ (title own.text is.text ▸ tag (codes "without any of them: ") (λ rest. refl) refl ▸ plain own.cost is.cost) in
+    titled-line line own.text (closed all (codes "</text>\n") refl refl) refl is.text
     ◃ text-draws 12 78 (own.test_text ++ codes ": " ++ test_meaning own.test)
     (plain-append (own.test_text ++ codes ": ") (test_meaning own.test)
     (plain-append own.test_text (codes ": ") is.test_text refl) (plain-test own.test))
@@ -299,11 +289,10 @@ body-draws size own shown faults are =
 key_square-draws : (top p : ℕ) → Draws (key_square top p ∷ []) []
 key_square-draws top p =
     let all =
-    tag (codes "<g") (λ rest. refl) refl ▸ tag (class_of (codes "key")) (λ rest. refl) refl ▸ tag (codes "><rect") (λ rest. refl) refl
-    ▸ place-adds (key_x p) (key_y top p) ▸ tag (codes " width=\"82\" height=\"20\"/><text") (λ rest. refl) refl
-    ▸ place-adds (key_x p + 41) (key_y top p + 14) ▸ tag (codes ">") (λ rest. refl) refl ▸ plain (key_said p) (plain-key p)
-    ▸ tag (codes "</text></g>") (λ rest. refl) refl in
-    untitled-line (key_square top p) (line_of all)
+    tag (codes "<g class=\"key\"><rect") (λ rest. refl) refl ▸ place-adds (key_x p) (key_y top p)
+    ▸ tag (codes " width=\"82\" height=\"20\"/><text") (λ rest. refl) refl ▸ place-adds (key_x p + 41) (key_y top p + 14)
+    ▸ tag (codes ">") (λ rest. refl) refl ▸ plain (key_said p) (plain-key p) in
+    untitled-line (key_square top p) (closed all (codes "</text></g>\n") refl refl)
 
 how-draws : (top : ℕ) → Draws (how_to_read top) []
 how-draws top =

@@ -19,11 +19,11 @@ use Rattle.whole_trace.specs.Whole.{SlotLines, WholeTrace}
 use Rattle.shown_slot.specs.Nodes.{is_leaving_word, is_refused, starts_round, clock_range, node_apart}
 use Rattle.shown_slot.specs.Trace.{node_at, first_text, node_text, host_text}
 use Rattle.picture_text.specs.declared.window.Span.{Span}
-use Rattle.picture_text.specs.Cells.{attribute, title_element, cell, mark, write_shape, read_shape, status_shape}
+use Rattle.picture_text.specs.Cells.{title_element, cell, mark, write_shape, read_shape, status_shape}
 use Rattle.picture_text.specs.Cells.{shown_memberships, held_by_most, node_class, node_cell, members_title, count_of}
 use Rattle.picture_text.specs.Cells.{members_cell_of, members_cell, apart_text, apart_shown, clocks_cell, host_of, host_mark}
 use Rattle.picture_text.specs.Cells.{far_text, far_shown, far_cell}
-use Rattle.picture_text.specs.Picture.{ended, class_of, text_line, size, svg_line, style_lines, said_line, back_said}
+use Rattle.picture_text.specs.Picture.{ended, class_of, text_line, svg_line, ground_line, style_lines, said_line, back_said}
 use Rattle.picture_text.specs.Picture.{window_text, picture_head_lines, row_line, band_lines, number_lines, slot_at, cell_lines}
 use Rattle.picture_text.specs.Picture.{round_line, round_start_lines, round_entry}
 use Rattle.picture_text.specs.Picture.{why_lines, why_box, why_word, beside_lines, is_shown, flag_pole, flag_lines}
@@ -39,32 +39,23 @@ use Rattle.picture_text.proofs.PlainTexts.{plain-head, plain-keep, plain-back, p
 use Rattle.picture_text.proofs.PlainTexts.{plain-keep_meaning, plain-back_meaning, plain-class, plain-members}
 use Rattle.picture_text.proofs.PlainTexts.{plain-no_members, plain-count, plain-clocks, plain-apart_shown, plain-keep_name}
 use Rattle.picture_text.proofs.PlainTexts.{plain-back_name, plain-far, plain-far_shown}
-use Rattle.view_laws.proofs.TitlesIn.{◌▸◌, tag, plain, title, IsLineWith, line_of, place-adds, text-titles, classed-titles}
-use Rattle.view_laws.proofs.TitlesIn.{cell-titles, mark-titles, Have, ◌▹◌, untitled, titled, no-lines, bare-lines, bare, map-none}
-use Rattle.view_laws.proofs.TitlesIn.{map-each, flat-none, flat-each, if-none}
+use Rattle.lab_laws.proofs.TitlesIn.{◌▸◌, tag, plain, number, title, IsLineWith, closed, line_of, place-adds, text-titles, classed-titles}
+use Rattle.lab_laws.proofs.TitlesIn.{cell-titles, mark-titles, Have, ◌▹◌, untitled, titled, no-lines, bare-lines, bare, map-none}
+use Rattle.lab_laws.proofs.TitlesIn.{map-each, flat-none, flat-each, if-none}
 
 -- The head.
-
-size-plain : (h : ℕ) → Plain (size h)
-size-plain h = simp parts
 
 svg-titles : (h : ℕ) → IsLineWith (svg_line h) []
 svg-titles h =
     let all =
-    tag (codes "<svg") (λ rest. refl) refl
-    ▸ tag (attribute (codes "xmlns") (codes "http://www.w3.org/2000/svg")) (λ rest. refl) refl ▸ plain (size h) (size-plain h)
-    ▸ plain (attribute (codes "viewBox") (codes "0 0 1140 " ++ decimal h)) (simp parts) ▸ tag (codes ">") (λ rest. refl) refl in
-    line_of all
+    tag (codes "<svg xmlns=\"http://www.w3.org/2000/svg\" width=\"1140\" height=\"") (λ rest. refl) refl ▸ number h
+    ▸ plain (codes "\" viewBox=\"0 0 1140 ") refl ▸ number h in
+    closed all (codes "\">\n") refl refl
 
-abbrev ground : ℕ → List ℕ
-ground h = ended (codes "<rect" ++ size h ++ attribute (codes "fill") (codes "#ffffff") ++ codes "/>")
-
-ground-titles : (h : ℕ) → IsLineWith (ground h) []
+ground-titles : (h : ℕ) → IsLineWith (ground_line h) []
 ground-titles h =
-    let all =
-    tag (codes "<rect") (λ rest. refl) refl ▸ plain (size h) (size-plain h)
-    ▸ tag (attribute (codes "fill") (codes "#ffffff")) (λ rest. refl) refl ▸ tag (codes "/>") (λ rest. refl) refl in
-    line_of all
+    let all = tag (codes "<rect width=\"1140\" height=\"") (λ rest. refl) refl ▸ number h in
+    closed all (codes "\" fill=\"#ffffff\"/>\n") refl refl
 
 said-titles : (y : ℕ) (said meaning : List ℕ) → Plain said → Plain meaning → IsLineWith (said_line y said meaning) []
 said-titles y said meaning s m =
@@ -92,7 +83,7 @@ head-titles trace span =
     let all =
     untitled (svg_line h) (ended (title_element first) ∷ style_lines) (first ∷ []) (svg-titles h)
     (titled (ended (title_element first)) style_lines first [] (line_of name) styles-titles)
-    ▹ untitled (ground h) (text_line [] 12 20 first ∷ text_line [] 12 40 shown ∷ said ∷ back) [] (ground-titles h)
+    ▹ untitled (ground_line h) (text_line [] 12 20 first ∷ text_line [] 12 40 shown ∷ said ∷ back) [] (ground-titles h)
     (untitled (text_line [] 12 20 first) (text_line [] 12 40 shown ∷ said ∷ back) []
     (text-titles [] 12 20 first refl (plain-head trace.head))
     (untitled (text_line [] 12 40 shown) (said ∷ back) []
@@ -133,11 +124,10 @@ number-titles n span t =
 
 line-titles : (x y high : ℕ) → IsLineWith (round_line x y high) []
 line-titles x y high =
-    let shape = codes "M" ++ decimal x ++ codes " " ++ decimal y ++ codes "h1v" ++ decimal high ++ codes "h-1z" in
     let all =
-    tag (codes "<path") (λ rest. refl) refl ▸ tag (class_of (codes "round")) (λ rest. refl) refl
-    ▸ plain (attribute (codes "d") shape) (simp parts) ▸ tag (codes "/>") (λ rest. refl) refl in
-    line_of all
+    tag (codes "<path class=\"round\" d=\"M") (λ rest. refl) refl ▸ number x ▸ plain (codes " ") refl ▸ number y
+    ▸ plain (codes "h1v") refl ▸ number high in
+    closed all (codes "h-1z\"/>\n") refl refl
 
 round-titles : (n : ℕ) (span : Span) (t : ℕ) (slot : SlotLines) → Have (round_start_lines n span t slot) []
 round-titles n span t slot =
@@ -205,10 +195,9 @@ slot-titles trace span t =
 why_box-titles : (w : Word) (x y : ℕ) → IsLineWith (why_box w x y) []
 why_box-titles w x y =
     let all =
-    tag (codes "<rect") (λ rest. refl) refl ▸ tag (class_of (codes "why")) (λ rest. refl) refl ▸ place-adds x y
-    ▸ plain (attribute (codes "width") (decimal (7 * length (word_text w) + 6))) (simp parts)
-    ▸ tag (codes " height=\"19\"/>") (λ rest. refl) refl in
-    line_of all
+    tag (codes "<rect class=\"why\"") (λ rest. refl) refl ▸ place-adds x y ▸ plain (codes " width=\"") refl
+    ▸ number (7 * length (word_text w) + 6) in
+    closed all (codes "\" height=\"19\"/>\n") refl refl
 
 why-titles : (n : ℕ) (span : Span) (t : ℕ) (slot : SlotLines) (k : ℕ) → Have (why_lines n span t slot k) []
 why-titles n span t slot k =
@@ -248,12 +237,10 @@ beside-titles trace span t =
 
 pole-titles : (n : ℕ) (span : Span) (t : ℕ) → IsLineWith (flag_pole n span t) []
 pole-titles n span t =
-    let shape = codes "M" ++ decimal (column_x n span t - 1) ++ codes " " ++ decimal (row_y n span t 0 - 26) ++ codes "v"
-    ++ decimal (20 * n + 26) in
     let all =
-    tag (codes "<path") (λ rest. refl) refl ▸ tag (class_of (codes "flag")) (λ rest. refl) refl
-    ▸ plain (attribute (codes "d") shape) (simp parts) ▸ tag (codes "/>") (λ rest. refl) refl in
-    line_of all
+    tag (codes "<path class=\"flag\" d=\"M") (λ rest. refl) refl ▸ number (column_x n span t - 1) ▸ plain (codes " ") refl
+    ▸ number (row_y n span t 0 - 26) ▸ plain (codes "v") refl ▸ number (20 * n + 26) in
+    closed all (codes "\"/>\n") refl refl
 
 flag-titles : (n : ℕ) (span : Span) (t : ℕ) (class : List ℕ) (x : ℕ) (name : List ℕ) → Plain class → Plain name
     → Have (flag_lines n span t class x name) []

@@ -11,10 +11,10 @@ use Rattle.ttp_base.proofs.Lines.{is_line-append}
 use Rattle.ttp_base.proofs.Numerals.{has, has-append}
 use Rattle.ttp_world.proofs.LineLists.{each-append}
 use Rattle.ttp_world.proofs.TraceLines.{IsLine}
-use Rattle.picture_text.specs.Cells.{attribute, place_attributes, title_element, cell, mark}
+use Rattle.picture_text.specs.Cells.{place_attributes, title_element, cell, mark}
 use Rattle.picture_text.specs.Picture.{class_of, text_line}
-use Rattle.view_laws.specs.Titles.{begins_with, text_before, titles_in, titles}
-use Rattle.picture_text.proofs.PlainTexts.{is_special, Plain, parts}
+use Rattle.lab_laws.specs.Titles.{begins_with, text_before, titles_in, titles}
+use Rattle.picture_text.proofs.PlainTexts.{is_special, Plain, parts, plain-decimal}
 
 -- a text without a line feed, as plain texts are
 abbrev Unfed : List ℕ → Type 0
@@ -90,17 +90,39 @@ pub record IsLineWith (text : List ℕ) (names : Lines) : Type 0 where
   pub titled : titles_in text ≡ names
   pub one : is_line text ≡ true
 
--- bytes and the line feed behind them
-pub line_of : {bytes : List ℕ} {names : Lines} → Adds bytes names → IsLineWith (bytes ++ newline) names
-line_of {bytes} {names} adds = record {
-  titled = adds.before newline ∙ append-nil names;
-  one = is_line-append bytes newline adds.unfed refl;
+-- bytes and the end of their line behind them
+pub closed : {bytes : List ℕ} {names : Lines} → Adds bytes names → (last : List ℕ) → titles_in last ≡ [] → is_line last ≡ true
+    → IsLineWith (bytes ++ last) names
+closed {bytes} {names} adds last none one = record {
+  titled = adds.before last ∙ ap (λ (others : Lines). names ++ others) none ∙ append-nil names;
+  one = is_line-append bytes last adds.unfed one;
 }
+
+pub line_of : {bytes : List ℕ} {names : Lines} → Adds bytes names → IsLineWith (bytes ++ newline) names
+line_of adds = closed adds newline refl refl
 
 -- Parts of lines.
 
-pub attribute-adds : (name value : List ℕ) → Plain name → Plain value → Adds (attribute name value) []
-attribute-adds name value n v = plain (attribute name value) (simp (parts, n, v))
+pub number : (n : ℕ) → Adds (decimal n) []
+number n = plain (decimal n) (plain-decimal n)
+
+title_parts : (x o t name u c : List ℕ) → x ++ o ++ (t ++ name ++ u) ++ c ≡ x ++ (o ++ t) ++ name ++ (u ++ c)
+title_parts x o t name u c = simp append_assoc refl
+
+-- a title behind the end of a tag and before another
+pub named : {x o c : List ℕ} {a : Lines} → Adds x a → Adds o [] → (name : List ℕ) → Plain name → Adds c []
+    → Adds (x ++ (o ++ codes "<title>") ++ name ++ (codes "</title>" ++ c)) (a ++ [] ++ (name ∷ []) ++ [])
+named {x} {o} {c} {a} front end name n next =
+    subst (λ (bytes : List ℕ). Adds bytes (a ++ [] ++ (name ∷ []) ++ []))
+    (title_parts x o (codes "<title>") name (codes "</title>") c) (front ▸ end ▸ title name n ▸ next)
+
+-- and before the end of its line
+pub closed_title : {x o : List ℕ} {a : Lines} → Adds x a → Adds o [] → (name : List ℕ) → Plain name → (last : List ℕ)
+    → titles_in last ≡ [] → is_line last ≡ true
+    → IsLineWith (x ++ (o ++ codes "<title>") ++ name ++ (codes "</title>" ++ last)) (a ++ [] ++ (name ∷ []))
+closed_title {x} {o} {a} front end name n last none one =
+    subst (λ (bytes : List ℕ). IsLineWith bytes (a ++ [] ++ (name ∷ [])))
+    (title_parts x o (codes "<title>") name (codes "</title>") last) (closed (front ▸ end ▸ title name n) last none one)
 
 pub place-adds : (x y : ℕ) → Adds (place_attributes x y) []
 place-adds x y = plain (place_attributes x y) (simp parts)
@@ -112,9 +134,8 @@ pub text-titles : (class : List ℕ) (x y : ℕ) (shown : List ℕ) → Plain cl
     → IsLineWith (text_line class x y shown) []
 text-titles class x y shown c s =
     let all =
-    tag (codes "<text") (λ rest. refl) refl ▸ plain class c ▸ place-adds x y ▸ tag (codes ">") (λ rest. refl) refl ▸ plain shown s
-    ▸ tag (codes "</text>") (λ rest. refl) refl in
-    line_of all
+    tag (codes "<text") (λ rest. refl) refl ▸ plain class c ▸ place-adds x y ▸ tag (codes ">") (λ rest. refl) refl ▸ plain shown s in
+    closed all (codes "</text>\n") refl refl
 
 pub classed-titles : (class : List ℕ) (x y : ℕ) (shown : List ℕ) → Plain class → Plain shown
     → IsLineWith (text_line (class_of class) x y shown) []
@@ -125,22 +146,17 @@ pub cell-titles : (class : List ℕ) (x y : ℕ) (name shown : List ℕ) → Pla
     → IsLineWith (cell class x y name shown) (name ∷ [])
 cell-titles class x y name shown c n s =
     let all =
-    tag (codes "<g") (λ rest. refl) refl ▸ attribute-adds (codes "class") class refl c ▸ tag (codes ">") (λ rest. refl) refl
-    ▸ title name n ▸ tag (codes "<rect") (λ rest. refl) refl ▸ place-adds x y
-    ▸ tag (codes " width=\"19\" height=\"19\"/>") (λ rest. refl) refl ▸ tag (codes "<text") (λ rest. refl) refl
-    ▸ place-adds (x + 9) (y + 14) ▸ tag (codes ">") (λ rest. refl) refl ▸ plain shown s
-    ▸ tag (codes "</text></g>") (λ rest. refl) refl in
-    line_of all
+    named (tag (codes "<g class=\"") (λ rest. refl) refl ▸ plain class c) (plain (codes "\">") refl) name n
+    (tag (codes "<rect") (λ rest. refl) refl)
+    ▸ place-adds x y ▸ tag (codes " width=\"19\" height=\"19\"/><text") (λ rest. refl) refl ▸ place-adds (x + 9) (y + 14)
+    ▸ tag (codes ">") (λ rest. refl) refl ▸ plain shown s in
+    closed all (codes "</text></g>\n") refl refl
 
 pub mark-titles : (class shape : List ℕ) (x y : ℕ) (name : List ℕ) → Plain class → Plain shape → Plain name
     → IsLineWith (mark class shape x y name) (name ∷ [])
 mark-titles class shape x y name c s n =
-    let path = codes "M" ++ decimal x ++ codes " " ++ decimal y ++ shape in
-    let all =
-    tag (codes "<path") (λ rest. refl) refl ▸ attribute-adds (codes "class") class refl c
-    ▸ attribute-adds (codes "d") path refl (simp (parts, s)) ▸ tag (codes ">") (λ rest. refl) refl ▸ title name n
-    ▸ tag (codes "</path>") (λ rest. refl) refl in
-    line_of all
+    closed_title (tag (codes "<path class=\"") (λ rest. refl) refl ▸ plain class c ▸ plain (codes "\" d=\"M") refl ▸ number x
+    ▸ plain (codes " ") refl ▸ number y ▸ plain shape s) (plain (codes "\">") refl) name n (codes "</path>\n") refl refl
 
 -- Lists of lines.
 

@@ -1,12 +1,8 @@
-use Rattle.chart_text.proofs.Words.{◌-◌, ◌++◌, codes, decimal, get_or, length, place_attributes, newline}
-use Rattle.chart_text.proofs.Words.{marked_slots}
-use Rattle.chart_text.specs.Chart.{hidden_text}
-use Rattle.chart_text.proofs.Joined.{shown_parts}
+use Rattle.chart_text.proofs.Words.{refl, append_assoc}
 use Rattle.chart_text.proofs.chart.make_shown.Goals as goal
 
 pub returns : goal.returns
 returns c =
-    let shown = marked_slots c.args.marks.now in
     rw (
       c.close_text.ensures,
       c.put_hidden.ensures.text,
@@ -24,8 +20,4 @@ returns c =
       c.marked_slot-last.ensures,
       c.marked_slot-first.ensures,
       c.requires.many,
-    )
-    (shown_parts (codes "<text" ++ place_attributes 12 40 ++ codes ">") (decimal c.args.frame.size.nodes)
-    (codes " nodes, ") (decimal c.args.frame.size.slots) (codes " slots, shown: ")
-    (decimal (length shown)) (codes " of them, ") (decimal (get_or shown 0 0)) (codes " to ")
-    (decimal (get_or shown (length shown - 1) 0)) (hidden_text c.args.hidden) (codes "</text>") newline)
+    ) (simp append_assoc refl)

@@ -1,6 +1,4 @@
-use Rattle.chart_text.proofs.Words.{◌+◌, place_attributes}
-use Rattle.chart_text.specs.Looks.{look_text, look_letter}
-use Rattle.chart_text.proofs.Joined.{wide_cell_parts}
+use Rattle.chart_text.proofs.Words.{refl}
 use Rattle.chart_text.proofs.element.make_look_cell.Goals as goal
 
 pub returns : goal.returns
@@ -15,6 +13,4 @@ returns c =
       c.put_text.ensures,
       c.open_cell.ensures,
       c.look_text-name.ensures.text,
-    )
-    (wide_cell_parts (look_text c.args.look) (look_text c.args.look) (place_attributes c.args.at.x c.args.at.y)
-    (place_attributes (c.args.at.x + 11) (c.args.at.y + 12)) (look_letter c.args.look))
+    ) refl

@@ -1,5 +1,4 @@
-use Rattle.chart_text.proofs.Words.{decimal}
-use Rattle.chart_text.proofs.Joined.{pole_parts}
+use Rattle.chart_text.proofs.Words.{refl}
 use Rattle.chart_text.proofs.element.make_pole.Goals as goal
 
 pub returns : goal.returns
@@ -12,5 +11,4 @@ returns c =
       c.put_text-2.ensures,
       c.put_text.ensures,
       c.clear.ensures,
-    )
-    (pole_parts c.args.class.now (decimal c.args.at.x) (decimal c.args.at.y) (decimal c.args.height))
+    ) refl

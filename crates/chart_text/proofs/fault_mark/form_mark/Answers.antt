@@ -1,5 +1,4 @@
-use Rattle.chart_text.proofs.Words.{decimal, mark_parts}
-use Rattle.chart_text.specs.Elements.{fault_shape}
+use Rattle.chart_text.proofs.Words.{refl}
 use Rattle.chart_text.proofs.fault_mark.form_mark.Goals as goal
 
 pub returns-clause-text : goal.returns-clause-text
@@ -14,5 +13,4 @@ returns-clause-text c =
       c.bytes.ensures,
       c.clear.ensures.text,
       c.open_mark.ensures.text,
-    )
-    (mark_parts c.args.class.now (decimal c.args.at.x) (decimal c.args.at.y) fault_shape c.args.text.now)
+    ) refl

@@ -1,6 +1,4 @@
-use Rattle.chart_text.proofs.Words.{◌++◌, codes, decimal, place_attributes, newline}
-use Rattle.picture_text.specs.Picture.{class_of}
-use Rattle.chart_text.proofs.Joined.{harm_parts}
+use Rattle.chart_text.proofs.Words.{refl, append_assoc}
 use Rattle.chart_text.proofs.head.make_harm.Goals as goal
 
 pub returns : goal.returns
@@ -14,7 +12,4 @@ returns c =
       c.put_many-2.ensures.text,
       c.put_many.ensures.text,
       c.open_text_of.ensures.text,
-    )
-    (harm_parts (codes "<text" ++ class_of (codes "said") ++ place_attributes 12 20 ++ codes ">") (decimal c.args.harmful)
-    (codes " of ") (decimal c.args.all) (codes " faults are harmful; the most healthy nodes that one of them costs: ")
-    (decimal c.args.most) (codes " of ") (decimal c.args.nodes) (codes "</text>") newline)
+    ) (simp append_assoc refl)

@@ -1,6 +1,9 @@
-use Rattle.chart_text.proofs.Words.{◌++◌, codes, place_attributes, newline}
-use Rattle.chart_text.proofs.Joined.{own_parts}
+use Rattle.chart_text.proofs.Words.{◌≡◌, ℕ, List, ◌++◌, codes, refl, append_assoc, place_attributes}
 use Rattle.chart_text.proofs.head.make_own.Goals as goal
+
+own_parts : (front t text u w cost e : List ℕ)
+    → front ++ t ++ text ++ (u ++ w) ++ cost ++ e ≡ front ++ (t ++ text ++ u ++ w ++ cost) ++ e
+own_parts front t text u w cost e = simp append_assoc refl
 
 pub returns-clause-text : goal.returns-clause-text
 returns-clause-text c =
@@ -16,4 +19,4 @@ returns-clause-text c =
       c.open_text.ensures.text,
     )
     (own_parts (codes "<text" ++ place_attributes 12 60 ++ codes ">") (codes "<title>") c.args.own.text.now
-    (codes "</title>") (codes "without any of them: ") c.args.own.cost.now (codes "</text>") newline)
+    (codes "</title>") (codes "without any of them: ") c.args.own.cost.now (codes "</text>\n"))

@@ -1,10 +1,8 @@
-use Rattle.chart_text.proofs.Words.{codes, decimal}
-use Rattle.chart_text.proofs.Joined.{counts_parts}
+use Rattle.chart_text.proofs.Words.{refl, append_assoc}
 use Rattle.chart_text.proofs.head.put_counts.Goals as goal
 
 pub returns-clause-text : goal.returns-clause-text
 returns-clause-text c =
-    let counts = c.args.counts.now in
     rw (
       c.put_many-6.ensures.text,
       c.put_many-5.ensures.text,
@@ -14,8 +12,4 @@ returns-clause-text c =
       c.put_text-2.ensures,
       c.put_text.ensures,
       c.put_many.ensures.text,
-    )
-    (counts_parts c.args.line.now (decimal counts.runs) (codes " faults ") c.args.place.now
-    (codes " the single-fault hypothesis: ") (decimal counts.same) (codes " changed nothing, ") (decimal counts.hurt)
-    (codes " cost healthy nodes, ") (decimal counts.split) (codes " split them, ") (decimal counts.torn)
-    (codes " left several memberships, ") (decimal counts.dead) (codes " left no two nodes together"))
+    ) (simp append_assoc refl)

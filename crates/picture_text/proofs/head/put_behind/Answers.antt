@@ -1,7 +1,5 @@
-use Rattle.picture_text.proofs.Words.{◌+◌, ◌-◌, codes}
-use Rattle.std.proofs.Common.{decimal}
+use Rattle.picture_text.proofs.Words.{◌+◌, refl, append_assoc}
 use Rattle.std.proofs.lemmas.Bool.{ne_eqb}
-use Rattle.picture_text.proofs.Joined.{two_fields}
 use Rattle.picture_text.proofs.head.put_behind.Goals as goal
 
 pub returns-then-last-slots-clause-text : goal.returns-then-last-slots-clause-text
@@ -12,6 +10,4 @@ returns-then-last-slots-clause-text c =
       c.from-then-last-slots.ensures,
       c.put_field.ensures.text,
       c.from.ensures,
-    )
-    (two_fields c.args.line.now (codes "; behind: ttplab picture TRACE ") (decimal (c.args.last + 1)) (codes " ")
-    (decimal (c.args.slots - 1)))
+    ) (simp append_assoc refl)
