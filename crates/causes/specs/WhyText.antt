@@ -18,10 +18,10 @@ use Rattle.causes.specs.declared.cause.ScriptLine.{ScriptLine}
 use Rattle.causes.specs.declared.cause.Spot.{Spot}
 use Rattle.causes.specs.declared.cause.Story.{Story}
 use Rattle.causes.specs.declared.cause.Told.{Told}
-use Rattle.ttp_base.specs.Text.{Lines, newline}
+use Rattle.ttp_base.specs.Text.{Lines, gather, newline}
 use Rattle.ttp_world.specs.Hypothesis.{needed}
 use Rattle.ttp_world.specs.Script.{drift_of, on_slot}
-use Rattle.ttp_world.specs.Trace.{entry_word, number_or_dash, peer_of}
+use Rattle.ttp_world.specs.Trace.{entry_pieces, entry_word, number_or_dash, peer_of}
 use Rattle.ttp_world.specs.declared.medl.Medl.{Medl}
 use Rattle.ttp_world.specs.declared.node.Entry.{Entry}
 use Rattle.ttp_world.specs.declared.script.Event.{Event}
@@ -171,8 +171,8 @@ why_head list script k slot =
 -- how the line of an entry begins in a trace, too
 abbrev pub entry_head : ℕ → ℕ → Entry → List ℕ
 entry_head slot k e =
-    codes "slot " ++ decimal slot ++ codes " node " ++ decimal k ++ codes " " ++ entry_word e
-    ++ codes " peer " ++ number_or_dash (peer_of k e)
+    gather [] (codes "slot " ∷ decimal slot ∷ codes " node " ∷ decimal k
+    ∷ entry_pieces (entry_word e) (number_or_dash (peer_of k e)))
 
 -- what the root adds, by its entry and slot
 abbrev pub root_part : Entry → ℕ → List ℕ

@@ -14,7 +14,8 @@ use Rattle.ttp_world.specs.declared.script.Event.{Event}
 use Rattle.ttp_world.specs.declared.script.Event.TheVariants as event
 use Rattle.ttp_world.specs.declared.script.Script.{Script}
 use Rattle.ttp_world.specs.Script.{drift_of, on_slot}
-use Rattle.ttp_world.specs.Trace.{entry_word, number_or_dash, peer_of}
+use Rattle.ttp_world.specs.Trace.{entry_pieces, entry_word, number_or_dash, peer_of}
+use Rattle.ttp_base.proofs.Gathered.{has-gather}
 use Rattle.ttp_world.proofs.LineLists.{each-append}
 use Rattle.ttp_world.proofs.TraceWords.{has-entry_word}
 use Rattle.campaign.specs.CostText.{channels_word, listed}
@@ -232,9 +233,9 @@ head-is_line list script k slot =
 
 none-head : (slot k : ℕ) (e : Entry) → HasNone (entry_head slot k e)
 none-head slot k e =
-    none8 (codes "slot ") (decimal slot) (codes " node ") (decimal k) (codes " ") (entry_word e) (codes " peer ")
-    (number_or_dash (peer_of k e)) refl (none-decimal slot) refl (none-decimal k) refl (none-entry e) refl
-    (none-dash (peer_of k e))
+    has-gather 10 [] (codes "slot " ∷ decimal slot ∷ codes " node " ∷ decimal k
+    ∷ entry_pieces (entry_word e) (number_or_dash (peer_of k e))) refl
+    (simp (none-decimal slot, none-decimal k, none-entry e, none-dash (peer_of k e)))
 
 none-root : (run : RunSlots) (spots : List Spot) → HasNone (root_words run spots)
 none-root run [] = refl

@@ -6,6 +6,7 @@ use Rattle.std.specs.Fmt.{signed_decimal}
 use Rattle.std.specs.List.{list_all}
 use Rattle.std.proofs.lemmas.Bool.{and_parts, ltb-true, leb-true}
 use Rattle.ttp_base.specs.Text.{hex_bytes}
+use Rattle.ttp_world.specs.Trace.{node_line_text}
 use Rattle.line_text.proofs.Options.{guarded, some_same}
 use Rattle.line_form.specs.Kinds.{numeral, numeral_in, hex_number, is_byte, ◌>>=◌}
 use Rattle.line_form.specs.Forms.{LineForm, Values, spelled, fit, well, line_values}
@@ -119,11 +120,9 @@ node-says (slot, (k, (w, (peer, (message, (members, (accepted, (rejected, (a, (o
         offset = offset-small offset rest.1.1.1.1.0;
       },
       spelled-gathered node_form vs
-          ∙ (λ i. codes "slot " ++ decimal slot ++ codes " node " ++ decimal k
-          ++ codes " " ++ place-text w (ltb-true w 15 words.0) i ++ codes " peer " ++ dash-text 256 peer i
-          ++ codes " msg " ++ dash-text 1000000 message i ++ codes " mem " ++ members-text members rest.0 i
-          ++ codes " acc " ++ decimal accepted ++ codes " rej " ++ decimal rejected
-          ++ codes " ack " ++ ack-text a rest.1.1.1.0 i ++ codes " clock " ++ signed_decimal offset),
+          ∙ (λ i. node_line_text (decimal slot) (decimal k) (place-text w (ltb-true w 15 words.0) i) (dash-text 256 peer i)
+          (dash-text 1000000 message i) (members-text members rest.0 i) (decimal accepted) (decimal rejected)
+          (ack-text a rest.1.1.1.0 i) (signed_decimal offset)),
     )
 
 -- A form that is sound, and what its values say.

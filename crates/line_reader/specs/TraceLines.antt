@@ -14,7 +14,7 @@ use Rattle.ttp_world.specs.declared.node.Ack.TheVariants as ack
 use Rattle.ttp_world.specs.declared.script.Source.{Source}
 use Rattle.ttp_world.specs.declared.script.Source.TheVariants as source
 use Rattle.ttp_world.specs.Medl.{member_bytes}
-use Rattle.ttp_world.specs.Trace.{number_or_dash, ack_word, host_head, source_word}
+use Rattle.ttp_world.specs.Trace.{number_or_dash, ack_word, node_line_text, host_head, source_word}
 use Rattle.line_reader.specs.declared.trace_line.TraceLine.{TraceLine}
 use Rattle.line_reader.specs.declared.trace_line.TraceLine.TheVariants as line
 use Rattle.line_reader.specs.declared.trace_line.Word.{Word}
@@ -58,12 +58,9 @@ text_of (line.Header version nodes rounds slots schedule) =
     codes "ttpbench trace " ++ decimal version ++ codes " nodes " ++ decimal nodes ++ codes " rounds " ++ decimal rounds
     ++ codes " slots " ++ decimal slots ++ codes " schedule " ++ hex 6 schedule
 text_of (line.Node slot k w peer message wide members accepted rejected a offset) =
-    codes "slot " ++ decimal slot ++ codes " node " ++ decimal k ++ codes " " ++ word_text w
-    ++ codes " peer " ++ number_or_dash peer
-    ++ codes " msg " ++ number_or_dash message
-    ++ codes " mem " ++ hex (2 * member_bytes wide) (set_bits members)
-    ++ codes " acc " ++ decimal accepted ++ codes " rej " ++ decimal rejected
-    ++ codes " ack " ++ ack_word a ++ codes " clock " ++ signed_decimal offset
+    node_line_text (decimal slot) (decimal k) (word_text w) (number_or_dash peer) (number_or_dash message)
+    (hex (2 * member_bytes wide) (set_bits members)) (decimal accepted) (decimal rejected) (ack_word a)
+    (signed_decimal offset)
 text_of (line.Write slot host number) = host_head slot host ++ codes " write " ++ decimal number
 text_of (line.Read slot host from number payload) =
     host_head slot host ++ codes " read " ++ source_word from ++ codes " " ++ decimal number

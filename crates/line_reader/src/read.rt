@@ -10,6 +10,7 @@ use crate::digits::members_of;
 use crate::line_words::{ack, fits_word, has_size, node_word, source};
 use crate::trace_line::{NodeLine, TraceLine};
 use line_form::Reader;
+use line_text::PEER;
 use ttp_world::{Back, Keep, PAYLOAD_LIMIT, Payload};
 
 // Slots have at most 5 digits, message numbers 6, and offsets 18.
@@ -49,7 +50,7 @@ pub fn read_node_line(bytes: &[u8]) -> Option<NodeLine>
     let slot = line.number("slot ", SLOTS) as u32;
     let node = line.byte(" node ");
     let word = node_word(&mut line, " ");
-    let peer = line.byte_or_dash(" peer ");
+    let peer = line.byte_or_dash(PEER);
     let message = line.number_or_dash(" msg ", MESSAGES);
     let members = line.hexed_or(" mem ", 4, 6);
     let accepted = line.byte(" acc ");

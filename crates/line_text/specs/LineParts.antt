@@ -1,14 +1,15 @@
 -- The parts of the lines of a trace, and what a line asks of the state that it shows.
-use Rattle.std.specs.Prelude.{◌≡◌, ℕ, ℤ, ◌*◌, ◌<◌, ◌≤◌, List, ◌++◌, length, take, codes, decimal, Option, IfSome}
+use Rattle.std.specs.Prelude.{◌≡◌, ℕ, ℤ, ◌*◌, ◌<◌, ◌≤◌, List, [], ◌∷◌, ◌++◌, length, take, codes, decimal, Option, IfSome}
 use Rattle.std.specs.Fmt.{signed_decimal}
 use Rattle.ttp_base.specs.NodeSet.{set_bits}
-use Rattle.ttp_base.specs.Text.{hex, newline}
+use Rattle.ttp_base.specs.Text.{hex, newline, gather}
 use Rattle.ttp_world.specs.declared.medl.Medl.{Medl}
 use Rattle.ttp_world.specs.declared.node.Ack.{Ack}
 use Rattle.ttp_world.specs.declared.node.Entry.{Entry}
 use Rattle.ttp_world.specs.declared.node.NodeState.{NodeState}
 use Rattle.ttp_world.specs.Medl.{member_limit, member_bytes}
 use Rattle.ttp_world.specs.Trace.{ack_word, entry_word, verdict_word, peer_of, number_or_dash, member_digits, node_line}
+use Rattle.ttp_world.specs.Trace.{entry_pieces, told_pieces, ack_pieces}
 use Rattle.line_text.specs.declared.node_line.Judged.{Judged}
 
 -- a state's members can be written in the digits that a list gives them
@@ -27,24 +28,17 @@ head_text slot = codes "slot " ++ decimal slot ++ codes " node "
 
 -- the word for what node k did, and of whom it speaks
 abbrev pub entry_text : ℕ → Entry → List ℕ
-entry_text k entry = codes " " ++ entry_word entry ++ codes " peer " ++ number_or_dash (peer_of k entry)
-
--- the number of a message, or a dash
-abbrev pub message_text : Option ℕ → List ℕ
-message_text message = codes " msg " ++ number_or_dash message
-
--- the members, in as many digits as the list gives them
-abbrev pub members_text : Medl → List ℕ → List ℕ
-members_text list members = codes " mem " ++ hex (member_digits list) (set_bits members)
+entry_text k entry = gather [] (entry_pieces (entry_word entry) (number_or_dash (peer_of k entry)))
 
 -- between the node's number and its counts
 abbrev pub shown_text : Medl → ℕ → NodeState → Option ℕ → List ℕ
 shown_text list k state message =
-    entry_text k state.entry ++ message_text message ++ members_text list state.members ++ codes " acc "
+    gather [] (told_pieces (entry_word state.entry) (number_or_dash (peer_of k state.entry)) (number_or_dash message)
+    (hex (member_digits list) (set_bits state.members)))
 
 -- behind the accepted frames
 abbrev pub ack_text : ℕ → Ack → List ℕ
-ack_text rejected ack = codes " rej " ++ decimal rejected ++ codes " ack " ++ ack_word ack ++ codes " clock "
+ack_text rejected ack = gather [] (ack_pieces (decimal rejected) (ack_word ack))
 
 abbrev pub end_text : ℕ → Ack → ℤ → List ℕ
 end_text rejected ack offset = ack_text rejected ack ++ signed_decimal offset ++ newline
@@ -52,18 +46,16 @@ end_text rejected ack offset = ack_text rejected ack ++ signed_decimal offset ++
 -- a line that is begun, with all that comes behind
 abbrev pub with_rest : List ℕ → Medl → ℕ → NodeState → Option ℕ → List ℕ
 with_rest begun list k state message =
-    begun ++ decimal k ++ codes " " ++ entry_word state.entry
-    ++ codes " peer " ++ number_or_dash (peer_of k state.entry)
-    ++ codes " msg " ++ number_or_dash message
-    ++ codes " mem " ++ hex (member_digits list) (set_bits state.members)
-    ++ codes " acc " ++ decimal state.accepted ++ codes " rej " ++ decimal state.rejected
-    ++ codes " ack " ++ ack_word state.ack ++ codes " clock " ++ signed_decimal state.offset ++ newline
+    gather begun (decimal k ∷ told_pieces (entry_word state.entry) (number_or_dash (peer_of k state.entry))
+    (number_or_dash message) (hex (member_digits list) (set_bits state.members))
+    ++ decimal state.accepted ∷ ack_pieces (decimal state.rejected) (ack_word state.ack)
+    ++ signed_decimal state.offset ∷ newline ∷ [])
 
 -- what is shown of a node that judged the slot so
 abbrev pub text_of_judged : Judged → List ℕ
 text_of_judged j =
-    codes " " ++ verdict_word j.verdict ++ codes " peer " ++ decimal j.sender ++ codes " msg "
-    ++ number_or_dash j.message ++ codes " mem " ++ hex (2 * member_bytes j.wide) j.bits ++ codes " acc "
+    gather [] (told_pieces (verdict_word j.verdict) (decimal j.sender) (number_or_dash j.message)
+    (hex (2 * member_bytes j.wide) j.bits))
 
 -- a judgement, if there is one, and the text that tells it
 pub record ToldState : Type 0 where

@@ -52,3 +52,4 @@ pub use labels::after_label;
 pub use node_line::NodeLines;
 pub use numerals::{message_in, numeral_in};
 pub use put::{put_back, put_header, put_keep, put_node_line, put_read_line, put_write_line};
+pub use words::PEER;

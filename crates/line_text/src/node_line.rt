@@ -1,11 +1,12 @@
 //! The lines of the nodes after a slot.
 ghost use Rattle.std.specs.Prelude.{◌≡◌, ◌≢◌, ◌+◌, ◌≤◌, [], ◌∷◌, ◌++◌, length, codes, MatchBool, Some, IfSome, OnOk, OnErr, option_map};
 ghost use Rattle.ttp_base.specs.Outside.{WroteLines, CutShort};
+ghost use Rattle.ttp_base.specs.NodeSet.{set_bits};
 ghost use Rattle.ttp_base.specs.Text.{hex};
 ghost use Rattle.ttp_world.specs.declared.node.Ack.TheVariants as ack;
 ghost use Rattle.ttp_world.specs.Trace.{number_or_dash, ack_word, member_digits};
 ghost use Rattle.line_text.specs.LineParts.{HasDigits, listed_line, head_text, shown_text, ack_text, end_text};
-ghost use Rattle.line_text.specs.LineParts.{entry_text, message_text, members_text, text_of_judged, with_rest};
+ghost use Rattle.line_text.specs.LineParts.{entry_text, text_of_judged, with_rest};
 ghost use Rattle.line_text.specs.Labels.{after_label};
 
 use crate::labels::after_label;
@@ -99,7 +100,7 @@ fn put_entry(line: &mut Line, node: u8, entry: &Entry)
 #[tactic(auto, using(ttp_base::proofs::Room::room))]
 fn put_message(line: &mut Line, message: Option<u64>)
     requires { length line.old + 30 ≤ 640 }
-    ensures text { line.new ≡ line.old ++ message_text message }
+    ensures text { line.new ≡ line.old ++ codes " msg " ++ number_or_dash message }
     ensures short { length line.new ≤ length line.old + 30 }
 {
     put_array(line, b" msg ");
@@ -111,7 +112,7 @@ fn put_message(line: &mut Line, message: Option<u64>)
 fn put_members(line: &mut Line, list: &Medl, state: &NodeState)
     requires room { length line.old + 30 ≤ 640 }
     requires digits { HasDigits list.now state.now }
-    ensures text { line.new ≡ line.old ++ members_text list.now state.now.members }
+    ensures text { line.new ≡ line.old ++ codes " mem " ++ hex (member_digits list.now) (set_bits state.now.members) }
     ensures short { length line.new ≤ length line.old + 30 }
 {
     let digits = if list.is_wide() { 6 } else { 4 };

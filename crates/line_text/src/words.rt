@@ -5,6 +5,9 @@ ghost use Rattle.ttp_world.specs.Trace.{verdict_word, reason_word, entry_word, p
 use ttp_base::Line;
 use ttp_world::{Entry, Reason, Verdict};
 
+/// What stands before the node of which a word speaks.
+pub const PEER: &str = " peer ";
+
 /// Adds a text of a known size. A copy of it can't lie in the line, so this takes few instructions.
 #[inline(always)]
 pub(crate) fn put_array<const N: usize>(line: &mut Line, text: &[u8; N])
@@ -48,7 +51,7 @@ fn put_reason(line: &mut Line, reason: Reason)
 {
     line.put_text(" ");
     line.put_text(reason_word(reason));
-    line.put_text(" peer ");
+    line.put_text(PEER);
 }
 
 /// Adds the word for what a node did in a slot, and what stands before its peer.

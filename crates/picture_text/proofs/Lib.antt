@@ -4,8 +4,6 @@ pub mod Whole
 pub mod Holders
 pub mod Rows
 pub mod Places
-pub mod Digits
 pub mod Distinct
 pub mod Sought
-pub mod NodeLine
 pub mod Words

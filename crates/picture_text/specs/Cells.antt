@@ -1,10 +1,11 @@
 -- The cells and marks of a picture: what stands in each of them, and the element that shows it.
-use Rattle.std.specs.Prelude.{ℕ, ◌+◌, ◌/◌, ◌==◌, nat_le, nat_lt, Bool, ◌&&◌, not, List, [], ◌∷◌, ◌++◌, map}
+use Rattle.std.specs.Prelude.{ℕ, ◌+◌, ◌*◌, ◌/◌, ◌==◌, nat_le, nat_lt, Bool, ◌&&◌, not, List, [], ◌∷◌, ◌++◌, map}
 use Rattle.std.specs.Prelude.{length, filter, flat_map, Option, Some, None, is_some, codes, decimal, if◌then◌else◌}
 use Rattle.std.specs.List.{list_any}
 use Rattle.ttp_base.specs.NodeSet.{below, set_bits}
 use Rattle.ttp_base.specs.Text.{hex, newline}
 use Rattle.ttp_world.specs.declared.script.Source.TheVariants as source
+use Rattle.ttp_world.specs.Medl.{member_bytes}
 use Rattle.line_reader.specs.TraceLines.{word_text}
 use Rattle.whole_trace.specs.declared.shown.Head.{Head}
 use Rattle.whole_trace.specs.declared.shown.HostLine.{HostLine}
@@ -117,7 +118,7 @@ node_cell head t k node most refused x y =
 -- What all nodes hold.
 
 abbrev pub head_member_digits : Head → ℕ
-head_member_digits head = if head.version == 2 then 6 else 4
+head_member_digits head = 2 * member_bytes (head.version == 2)
 
 abbrev pub each_node : List ℕ → List ℕ
 each_node nodes = flat_map (λ k. codes " " ++ decimal k) nodes

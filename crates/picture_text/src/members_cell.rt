@@ -11,10 +11,9 @@ use crate::element::{close_cell, close_title, open_cell, open_title, put_field};
 use crate::frame::{Corner, Frame};
 use crate::grid::{column_x, row_y};
 use crate::members::{Memberships, holds};
-use crate::titles::put_members;
 use shown_slot::is_holder;
 use ttp_base::{Line, Sheet, Sink, Text};
-use whole_trace::{Head, NodeShown, SlotShown};
+use whole_trace::{Head, NodeShown, SlotShown, put_members};
 
 // Adds the numbers of the nodes of a slot that hold these members.
 fn put_holders(line: &mut Line, slot: &SlotShown<'_>, members: u32)
@@ -38,7 +37,7 @@ fn make_membership(line: &mut Line, head: &Head, slot: &SlotShown<'_>, members: 
 {
     line.clear();
     line.put_text(" ");
-    put_members(line, head, members);
+    put_members(line, head.version == 2, members);
     line.put_text(" of");
     put_holders(line, slot, members);
 }

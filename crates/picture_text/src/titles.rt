@@ -1,73 +1,14 @@
 //! The lines of a trace, formed as titles.
 #![tactic(auto, using(ttp_base::proofs::Room::room, crate::proofs::Places::decimal_of_slot))]
 
-ghost use Rattle.std.specs.Prelude.{◌≡◌, ◌+◌, ◌≤◌, ◌++◌, length, codes, decimal};
-ghost use Rattle.ttp_base.specs.Text.{hex};
-ghost use Rattle.ttp_world.specs.Trace.{number_or_dash, ack_word, host_head, source_word};
-ghost use Rattle.line_reader.specs.TraceLines.{word_text};
+ghost use Rattle.std.specs.Prelude.{◌≡◌, ◌+◌, ◌≤◌, ◌++◌, length};
+ghost use Rattle.ttp_world.specs.Trace.{host_head, source_word};
 ghost use Rattle.shown_slot.specs.Trace.{node_text, host_text};
-ghost use Rattle.picture_text.specs.Cells.{head_member_digits};
 
 use crate::element::put_field;
-use shown_slot::word_text;
 use ttp_base::Line;
-use ttp_world::{Ack, Source};
-use whole_trace::{Head, HostLine, NodeShown};
-
-// Adds a number or a dash behind a label.
-fn put_number_or_dash(line: &mut Line, label: &str, number: Option<u64>)
-    requires { (length line.old ≤ 600) × (length label.now ≤ 6) }
-    ensures text { line.new ≡ line.old ++ label.now ++ number_or_dash number }
-    ensures short { length line.new ≤ length line.old + 26 }
-{
-    line.put_text(label);
-    match number {
-        Some(number) => line.put_number(number),
-        None => line.put_text("-"),
-    }
-}
-
-fn put_ack(line: &mut Line, ack: Ack)
-    requires { length line.old ≤ 600 }
-    ensures text { line.new ≡ line.old ++ codes " ack " ++ ack_word ack }
-    ensures short { length line.new ≤ length line.old + 31 }
-{
-    match ack {
-        Ack::Closed => line.put_text(" ack none"),
-        Ack::First => line.put_text(" ack first"),
-        Ack::Doubt(successor) => put_field(line, " ack doubt:", u64::from(successor)),
-    }
-}
-
-/// Adds members in the digits of the trace's version.
-#[tactic(auto, using(ttp_base::proofs::Room::room, crate::proofs::Digits::hex_four, shown_slot::proofs::Texts::six_digits))]
-pub(crate) fn put_members(line: &mut Line, head: &Head, members: u32)
-    requires { length line.old ≤ 600 }
-    ensures text { line.new ≡ line.old ++ hex (head_member_digits head.now) members }
-    ensures short { length line.new ≤ length line.old + 6 }
-{
-    if head.version == 2 {
-        line.put_hex(u64::from(members % 16_777_216), 6);
-    } else {
-        line.put_hex(u64::from(members % 65_536), 4);
-    }
-}
-
-// Adds what the line of a node shows before its members.
-fn put_heard(line: &mut Line, slot: u32, number: u8, node: &NodeShown)
-    requires { length line.old ≤ 400 }
-    ensures text { line.new ≡ line.old ++ (codes "slot " ++ decimal slot ++ codes " node " ++ decimal number
-        ++ codes " " ++ word_text node.now.word ++ codes " peer " ++ number_or_dash node.now.peer ++ codes " msg "
-        ++ number_or_dash node.now.message) }
-    ensures short { length line.new ≤ length line.old + 120 }
-{
-    put_field(line, "slot ", u64::from(slot));
-    put_field(line, " node ", u64::from(number));
-    line.put_text(" ");
-    line.put_text(word_text(node.word));
-    put_number_or_dash(line, " peer ", node.peer.map(u64::from));
-    put_number_or_dash(line, " msg ", node.message);
-}
+use ttp_world::Source;
+use whole_trace::{Head, HostLine, NodeShown, put_behind, put_head, put_told};
 
 /// Adds the line of a node.
 pub(crate) fn put_node_text(line: &mut Line, head: &Head, slot: u32, number: u8, node: &NodeShown)
@@ -75,13 +16,12 @@ pub(crate) fn put_node_text(line: &mut Line, head: &Head, slot: u32, number: u8,
     ensures text { line.new ≡ line.old ++ node_text head.now slot number node.now }
     ensures short { length line.new ≤ length line.old + 240 }
 {
-    put_heard(line, slot, number, node);
-    line.put_text(" mem ");
-    put_members(line, head, node.members.bits());
-    put_field(line, " acc ", u64::from(node.accepted));
-    put_field(line, " rej ", u64::from(node.rejected));
-    put_ack(line, node.ack);
-    line.put_text(" clock ");
+    let wide = head.version == 2;
+    put_head(line, slot);
+    line.put_number(u64::from(number));
+    put_told(line, node.word, node.peer, node.message, wide, node.members);
+    line.put_number(u64::from(node.accepted));
+    put_behind(line, node.rejected, node.ack);
     line.put_signed(node.offset);
 }
 

@@ -1,8 +1,8 @@
 -- The lines of a trace beside those of its slots, with and without their line feeds.
-use Rattle.std.proofs.Common.{◌≡◌, ℕ, zero, suc, ◌+◌, ◌-◌, ◌*◌, ◌/◌, ◌%◌, ◌≤◌, List, [], ◌∷◌, ◌++◌, length, take}
-use Rattle.std.proofs.Common.{refl, sym, ap, ◌∙◌, arith, length-append}
+use Rattle.std.proofs.Common.{◌≡◌, ℕ, ◌+◌, ◌-◌, ◌≤◌, List, ◌++◌, length, take}
+use Rattle.std.proofs.Common.{ap, ◌∙◌, arith, length-append}
 use Rattle.std.proofs.Math.Seq.{take-append_seam}
-use Rattle.ttp_base.specs.Text.{newline, hex, hex_digit}
+use Rattle.ttp_base.specs.Text.{newline}
 use Rattle.ttp_world.specs.declared.keep.Back.{Back}
 use Rattle.ttp_world.specs.declared.keep.Back.TheVariants as back
 use Rattle.ttp_world.specs.declared.keep.Keep.{Keep}
@@ -33,22 +33,3 @@ keep_feed (keep.No rule slot) = fed (keep_text (keep.No rule slot))
 pub back_feed : (b : Back) → IsFed (back_line b) (back_text b)
 back_feed (back.Yes start) = fed (back_text (back.Yes start))
 back_feed (back.No rule slot) = fed (back_text (back.No rule slot))
-
--- a number with so many digits behind it
-abbrev shifted : ℕ → ℕ → ℕ
-shifted zero q = q
-shifted (suc digits) q = 16 * shifted digits q
-
-hex-front : (digits q v : ℕ) → hex digits (shifted digits q + v) ≡ hex digits v
-hex-front zero q v = refl
-hex-front (suc digits) q v =
-    let t = shifted digits q in
-    let front : (16 * t + v) / 16 ≡ t + v / 16 = omega arith in
-    let last : (16 * t + v) % 16 ≡ v % 16 = omega arith in
-    rw (front, last) (ap (λ (text : List ℕ). text ++ hex_digit (v % 16) ∷ []) (hex-front digits q (v / 16)))
-
-pub six_digits : (v : ℕ) → hex 6 (v % 16777216) ≡ hex 6 v
-six_digits v =
-    let q = v / 16777216 in
-    let is : shifted 6 q + v % 16777216 ≡ v = omega arith in
-    sym (hex-front 6 q (v % 16777216)) ∙ ap (hex 6) is

@@ -20,7 +20,7 @@ fn put_field(line: &mut Line, label: &str, number: u32)
 }
 
 /// The first line of a trace.
-#[tactic(auto, using(ttp_base::proofs::Room::room, crate::proofs::Texts::six_digits))]
+#[tactic(auto, using(ttp_base::proofs::Room::room, ttp_base::proofs::Hex::six_digits))]
 pub fn header_text(head: &Head) -> Line
     ensures text { result ≡ header_text head.now }
     ensures short { length result ≤ 140 }

@@ -1,5 +1,5 @@
 -- How long the lines of nodes are.
-use Rattle.std.proofs.Common.{◌≡◌, ℕ, suc, ◌*◌, ◌<◌, ◌≤◌, true, List, [], ◌∷◌, ◌++◌, length, codes}
+use Rattle.std.proofs.Common.{◌≡◌, ℕ, suc, ◌*◌, ◌<◌, ◌≤◌, true, List, [], ◌∷◌, ◌++◌, length}
 use Rattle.std.proofs.Common.{Option, Some, None, IfSome, arith, length-append}
 use Rattle.std.specs.Prelude.{map, nat_le, option_map}
 use Rattle.std.specs.Fmt.{decimal, signed_decimal}
@@ -24,7 +24,7 @@ use Rattle.ttp_world.specs.Outgoing.{messages_before, out_messages}
 use Rattle.ttp_world.specs.Past.{state_of}
 use Rattle.ttp_world.specs.Script.{IsValidScript}
 use Rattle.ttp_world.specs.Trace.{number_or_dash, entry_word, peer_of, ack_word, member_digits, node_line, node_line_of}
-use Rattle.ttp_world.specs.Trace.{number_delivered, message_shown}
+use Rattle.ttp_world.specs.Trace.{number_delivered, message_shown, node_line_text}
 use Rattle.ttp_world.specs.World.{SlotNumbers, Numbers, node_past, world}
 use Rattle.ttp_world.proofs.HostMessages.{few_messages}
 use Rattle.ttp_world.proofs.LegalShapes.{legal-message}
@@ -41,9 +41,7 @@ use Rattle.theorems.proofs.WordLengths.{entry_word-short, ack_word-short, member
 node_text : (slot k entry peer message members accepted rejected ack clock : List ℕ)
     → length slot ≤ 5 → length k ≤ 3 → length entry ≤ 14 → length peer ≤ 3 → length message ≤ 6
     → length members ≤ 6 → length accepted ≤ 5 → length rejected ≤ 5 → length ack ≤ 9 → length clock ≤ 18
-    → length (codes "slot " ++ slot ++ codes " node " ++ k ++ codes " " ++ entry ++ codes " peer " ++ peer
-    ++ codes " msg " ++ message ++ codes " mem " ++ members ++ codes " acc " ++ accepted ++ codes " rej " ++ rejected
-    ++ codes " ack " ++ ack ++ codes " clock " ++ clock ++ newline) ≤ 128
+    → length (node_line_text slot k entry peer message members accepted rejected ack clock ++ newline) ≤ 128
 node_text slot k entry peer message members accepted rejected ack clock p q r s t u v w x y =
     simp length-append (omega arith)
 

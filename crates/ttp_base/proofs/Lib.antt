@@ -4,6 +4,7 @@ mod Decimal
 pub mod Hex
 mod Known
 mod Told
+pub mod Gathered
 pub mod Lines
 pub mod NodeLists
 pub mod NodeSets

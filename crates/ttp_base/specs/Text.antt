@@ -1,12 +1,16 @@
 -- Texts as lists of lines, and what a line is made of, beside std's decimal numbers.
 use Rattle.std.specs.Prelude.{ℕ, zero, suc, ◌==◌, ◌+◌, ◌/◌, ◌%◌, nat_lt, Bool, false, if◌then◌else◌}
-use Rattle.std.specs.Prelude.{List, [], ◌∷◌, ◌++◌, length}
+use Rattle.std.specs.Prelude.{List, [], ◌∷◌, ◌++◌, length, fold}
 use Rattle.std.specs.List.{flat_map}
 use Rattle.ttp_base.specs.NodeSet.{below}
 
 -- the bytes of each line, with the line feed that ends it
 abbrev pub Lines : Type 0
 Lines = List (List ℕ)
+
+-- pieces put behind a text, one after the other
+abbrev pub gather : List ℕ → List (List ℕ) → List ℕ
+gather text pieces = fold (λ (t : List ℕ) piece. t ++ piece) text pieces
 
 -- the line feed that ends a line
 abbrev pub newline : List ℕ

@@ -3,10 +3,13 @@ use Rattle.ttp_world.proofs.Words.{◌≡◌, ℕ, false, List, [], ◌∷◌, �
 use Rattle.ttp_world.proofs.Words.{ap, ◌∙◌, append_assoc, codes, decimal, ◌==◌, signed_decimal, All-nil, All-cons}
 use Rattle.ttp_world.proofs.Words.{set_bits, newline, hex, Medl, NodeState, Script, History, ReadMessage, ring_messages}
 use Rattle.ttp_world.proofs.Words.{messages_before, number_or_dash, entry_word, peer_of, ack_word, node_line}
+use Rattle.ttp_world.proofs.Words.{entry_pieces, ack_pieces, node_pieces}
 use Rattle.ttp_world.proofs.Words.{write_line, source_word, message_hex, read_line, words_of, word_in, has, has-decimal}
 use Rattle.std.proofs.Common.{All}
+use Rattle.std.specs.List.{concat}
 use Rattle.std.proofs.lemmas.Bool.{or_parts}
 use Rattle.std.proofs.lemmas.List.Splits.{slice_split_at}
+use Rattle.ttp_base.proofs.Gathered.{gathered}
 use Rattle.ttp_world.proofs.TraceWords.{has-entry_word, has-number_or_dash, has-source_word}
 
 pub space_is_low : 32 < 45
@@ -26,36 +29,26 @@ word_then word rest words one then =
 
 -- Node lines.
 
--- texts that stand one after another, put together from the right
-five_words : (a slot b k c entry d peer e message rest : List ℕ)
-    → a ++ slot ++ b ++ k ++ c ++ entry ++ d ++ peer ++ e ++ message ++ rest
-    ≡ a ++ (slot ++ (b ++ (k ++ (c ++ (entry ++ (d ++ (peer ++ (e ++ (message ++ rest)))))))))
-five_words a slot b k c entry d peer e message rest = simp append_assoc
-
-five_more : (x a members b accepted c rejected d ack e clock end : List ℕ)
-    → x ++ a ++ members ++ b ++ accepted ++ c ++ rejected ++ d ++ ack ++ e ++ clock ++ end
-    ≡ x ++ (a ++ members ++ b ++ accepted ++ c ++ rejected ++ d ++ ack ++ e ++ clock ++ end)
-five_more x a members b accepted c rejected d ack e clock end = simp append_assoc
-
-node_words : (slot k entry peer message rest : List ℕ)
+-- as far as the message
+front_words : (slot k entry peer message : List ℕ) (rest : List (List ℕ))
     → has 32 slot ≡ false → has 32 k ≡ false → has 32 entry ≡ false
     → has 32 peer ≡ false → has 32 message ≡ false
-    → words_of (codes "slot " ++ slot ++ codes " node " ++ k ++ codes " " ++ entry ++ codes " peer " ++ peer
-    ++ codes " msg " ++ message ++ 32 ∷ rest)
-    ≡ codes "slot" ∷ slot ∷ codes "node" ∷ k ∷ entry ∷ codes "peer" ∷ peer ∷ codes "msg" ∷ message ∷ words_of rest
-node_words slot k entry peer message rest p q r s t =
-    let after_peer = codes "msg " ++ (message ++ 32 ∷ rest) in
+    → words_of (concat (codes "slot " ∷ slot ∷ codes " node " ∷ k ∷ entry_pieces entry peer
+    ++ codes " msg " ∷ message ∷ codes " mem " ∷ rest))
+    ≡ codes "slot" ∷ slot ∷ codes "node" ∷ k ∷ entry ∷ codes "peer" ∷ peer ∷ codes "msg" ∷ message
+    ∷ words_of (codes "mem " ++ concat rest)
+front_words slot k entry peer message rest p q r s t =
+    let after_message = codes "mem " ++ concat rest in
+    let after_peer = codes "msg " ++ (message ++ 32 ∷ after_message) in
     let after_entry = codes "peer " ++ (peer ++ 32 ∷ after_peer) in
     let after_node = entry ++ 32 ∷ after_entry in
     let after_slot = codes "node " ++ (k ++ 32 ∷ after_node) in
-    ap words_of (five_words (codes "slot ") slot (codes " node ") k (codes " ") entry (codes " peer ") peer
-    (codes " msg ") message (32 ∷ rest))
-    ∙ ap (λ (ws : List (List ℕ)). codes "slot" ∷ ws)
+    ap (λ (ws : List (List ℕ)). codes "slot" ∷ ws)
     (word_then slot after_slot _ p (ap (λ (ws : List (List ℕ)). codes "node" ∷ ws)
     (word_then k after_node _ q
     (word_then entry after_entry _ r (ap (λ (ws : List (List ℕ)). codes "peer" ∷ ws)
     (word_then peer after_peer _ s (ap (λ (ws : List (List ℕ)). codes "msg" ∷ ws)
-    (word_then message rest _ t refl))))))))
+    (word_then message after_message _ t refl))))))))
 
 -- what a node line says of a slot and a node, by its words
 pub record IsNodeLine (t k : ℕ) (does : List ℕ) (message : Option ℕ) (words : List (List ℕ)) : Type 0 where
@@ -70,15 +63,13 @@ pub node_line-words : (width slot k : ℕ) (state : NodeState) (message : Option
 node_line-words width slot k state message =
     let peer = number_or_dash (peer_of k state.entry) in
     let members = hex width (set_bits state.members) in
-    let rest = codes "mem " ++ members ++ codes " acc " ++ decimal state.accepted ++ codes " rej "
-    ++ decimal state.rejected
-    ++ codes " ack " ++ ack_word state.ack ++ codes " clock " ++ signed_decimal state.offset ++ newline in
-    let same = ap words_of (five_more
-    (codes "slot " ++ decimal slot ++ codes " node " ++ decimal k ++ codes " " ++ entry_word state.entry
-    ++ codes " peer " ++ peer ++ codes " msg " ++ number_or_dash message)
-    (codes " mem ") members (codes " acc ") (decimal state.accepted) (codes " rej ") (decimal state.rejected)
-    (codes " ack ") (ack_word state.ack) (codes " clock ") (signed_decimal state.offset) newline)
-    ∙ node_words (decimal slot) (decimal k) (entry_word state.entry) peer (number_or_dash message) rest
+    let accepted = decimal state.accepted in
+    let rejected = decimal state.rejected in
+    let clock = signed_decimal state.offset in
+    let same = ap words_of (gathered [] (node_pieces (decimal slot) (decimal k) (entry_word state.entry) peer
+    (number_or_dash message) members accepted rejected (ack_word state.ack) clock ++ newline ∷ []))
+    ∙ front_words (decimal slot) (decimal k) (entry_word state.entry) peer (number_or_dash message)
+    (members ∷ codes " acc " ∷ accepted ∷ ack_pieces rejected (ack_word state.ack) ++ clock ∷ newline ∷ [])
     (has-decimal 32 slot space_is_low) (has-decimal 32 k space_is_low) (has-entry_word 32 state.entry space_is_low)
     (has-number_or_dash 32 (peer_of k state.entry) space_is_low) (has-number_or_dash 32 message space_is_low) in
     record {

@@ -5,11 +5,12 @@ use Rattle.ttp_world.proofs.Words.{list_any-append, below, set_bits, newline, he
 use Rattle.ttp_world.proofs.Words.{has-hex, Back, Keep, Medl, Entry, NodeState, Script, History, keeps, ReadMessage}
 use Rattle.ttp_world.proofs.Words.{read_messages, ring_messages, messages_before, state_of, has_arm, returns, HostWrite}
 use Rattle.ttp_world.proofs.Words.{writes_in, reads_in, number_or_dash, entry_word, peer_of, ack_word, member_digits}
-use Rattle.ttp_world.proofs.Words.{message_shown, trace_head, node_line, node_line_of, write_line, more_write_lines}
+use Rattle.ttp_world.proofs.Words.{message_shown, trace_head, node_pieces, node_line_text, node_line, node_line_of, write_line, more_write_lines}
 use Rattle.ttp_world.proofs.Words.{write_lines, source_word, message_hex, read_line, read_lines, keep_line, back_line}
 use Rattle.ttp_world.proofs.Words.{slot_lines, history_lines, back_lines_if, test_lines, trace_lines, SlotNumbers}
 use Rattle.ttp_world.proofs.Words.{Numbers, node_past, world}
 use Rattle.ttp_base.specs.Text.{is_line}
+use Rattle.ttp_base.proofs.Gathered.{has-gather}
 use Rattle.ttp_base.proofs.Lines.{is_line-append}
 use Rattle.ttp_base.proofs.Numerals.{has-signed}
 use Rattle.ttp_world.specs.declared.keep.Back.TheVariants as back
@@ -47,30 +48,20 @@ head-IsLine list script =
 
 -- Node lines.
 
-node-by_words : (slot k entry peer message members accepted rejected ack clock : List ℕ)
-    → has 10 slot ≡ false → has 10 k ≡ false → has 10 entry ≡ false → has 10 peer ≡ false → has 10 message ≡ false
-    → has 10 members ≡ false → has 10 accepted ≡ false → has 10 rejected ≡ false → has 10 ack ≡ false
-    → has 10 clock ≡ false
-    → IsLine (codes "slot " ++ slot ++ codes " node " ++ k ++ codes " " ++ entry ++ codes " peer " ++ peer
-    ++ codes " msg " ++ message ++ codes " mem " ++ members ++ codes " acc " ++ accepted ++ codes " rej " ++ rejected
-    ++ codes " ack " ++ ack ++ codes " clock " ++ clock ++ newline)
-node-by_words slot k entry peer message members accepted rejected ack clock p q r s t u v w x y =
-    ends (codes "slot " ++ slot ++ codes " node " ++ k ++ codes " " ++ entry ++ codes " peer " ++ peer
-    ++ codes " msg " ++ message ++ codes " mem " ++ members ++ codes " acc " ++ accepted ++ codes " rej " ++ rejected
-    ++ codes " ack " ++ ack ++ codes " clock " ++ clock)
-    (simp (list_any-append (λ c. c == 10), p, q, r, s, t, u, v, w, x, y))
-
 node_line-IsLine : (width slot k : ℕ) (state : NodeState) (message : Option ℕ)
     → IsLine (node_line width slot k state message)
 node_line-IsLine width slot k state message =
-    node-by_words (decimal slot) (decimal k) (entry_word state.entry) (number_or_dash (peer_of k state.entry))
-    (number_or_dash message) (hex width (set_bits state.members)) (decimal state.accepted) (decimal state.rejected)
-    (ack_word state.ack) (signed_decimal state.offset)
-    (has-decimal 10 slot feed_is_low) (has-decimal 10 k feed_is_low) (has-entry_word 10 state.entry feed_is_low)
-    (has-number_or_dash 10 (peer_of k state.entry) feed_is_low) (has-number_or_dash 10 message feed_is_low)
-    (has-hex 10 width (set_bits state.members) feed_is_low) (has-decimal 10 state.accepted feed_is_low)
-    (has-decimal 10 state.rejected feed_is_low) (has-ack_word 10 state.ack feed_is_low)
-    (has-signed 10 state.offset feed_is_low)
+    let peer = number_or_dash (peer_of k state.entry) in
+    let members = hex width (set_bits state.members) in
+    ends (node_line_text (decimal slot) (decimal k) (entry_word state.entry) peer (number_or_dash message) members
+    (decimal state.accepted) (decimal state.rejected) (ack_word state.ack) (signed_decimal state.offset))
+    (has-gather 10 [] (node_pieces (decimal slot) (decimal k) (entry_word state.entry) peer (number_or_dash message) members
+    (decimal state.accepted) (decimal state.rejected) (ack_word state.ack) (signed_decimal state.offset)) refl
+    (simp (has-decimal 10 slot feed_is_low, has-decimal 10 k feed_is_low, has-entry_word 10 state.entry feed_is_low,
+    has-number_or_dash 10 (peer_of k state.entry) feed_is_low, has-number_or_dash 10 message feed_is_low,
+    has-hex 10 width (set_bits state.members) feed_is_low, has-decimal 10 state.accepted feed_is_low,
+    has-decimal 10 state.rejected feed_is_low, has-ack_word 10 state.ack feed_is_low,
+    has-signed 10 state.offset feed_is_low)))
 
 -- Host lines.
 

@@ -67,7 +67,8 @@ pub use Rattle.ttp_world.specs.Returning.{has_arm, returns}
 pub use Rattle.ttp_world.specs.Script.{HostWrite, IsValidEvent, IsValidScript, has_receive_fault, has_send_fault, is_on}
 pub use Rattle.ttp_world.specs.Script.{messages_written, read_in, reads_in, write_at, write_in, write_of, writes_in}
 pub use Rattle.ttp_world.specs.Sorted.{AreSorted, SplitsAt, has_key, key_of, values_of}
-pub use Rattle.ttp_world.specs.Trace.{ack_word, back_line, back_lines_if, entry_word, history_lines, keep_line}
+pub use Rattle.ttp_world.specs.Trace.{ack_pieces, ack_word, back_line, back_lines_if, entry_pieces, entry_word}
+pub use Rattle.ttp_world.specs.Trace.{history_lines, keep_line, node_pieces, node_line_text}
 pub use Rattle.ttp_world.specs.Trace.{member_digits, message_hex, message_shown, more_write_lines, node_line}
 pub use Rattle.ttp_world.specs.Trace.{node_line_of, number_or_dash, peer_of, read_line, read_lines, reason_word}
 pub use Rattle.ttp_world.specs.Trace.{slot_lines, source_word, test_lines, trace_head, trace_lines, verdict_word}

@@ -5,7 +5,7 @@ use Rattle.std.specs.Fmt.{signed_decimal}
 -- a row of a crate above computes a text where it unfolds `ttp_world::specs::Trace::digits`
 pub use Rattle.std.specs.Fmt.{digits}
 use Rattle.ttp_base.specs.NodeSet.{below, set_bits}
-use Rattle.ttp_base.specs.Text.{Lines, newline, hex, hex_bytes}
+use Rattle.ttp_base.specs.Text.{Lines, newline, hex, hex_bytes, gather}
 use Rattle.ttp_world.specs.declared.keep.Back.{Back}
 use Rattle.ttp_world.specs.declared.keep.Back.TheVariants as back
 use Rattle.ttp_world.specs.declared.keep.Keep.{Keep}
@@ -100,15 +100,35 @@ ack_word (ack.Doubt x) = codes "doubt:" ++ decimal x
 abbrev pub member_digits : Medl → ℕ
 member_digits list = 2 * member_width list
 
+-- the pieces of a node's line: what it did, and of whom that speaks
+abbrev pub entry_pieces : (entry peer : List ℕ) → List (List ℕ)
+entry_pieces entry peer = codes " " ∷ entry ∷ codes " peer " ∷ peer ∷ []
+
+-- all between the node's number and the frames that it accepted
+abbrev pub told_pieces : (entry peer message members : List ℕ) → List (List ℕ)
+told_pieces entry peer message members =
+    entry_pieces entry peer ++ codes " msg " ∷ message ∷ codes " mem " ∷ members ∷ codes " acc " ∷ []
+
+-- and between these and its clock
+abbrev pub ack_pieces : (rejected ack : List ℕ) → List (List ℕ)
+ack_pieces rejected ack = codes " rej " ∷ rejected ∷ codes " ack " ∷ ack ∷ codes " clock " ∷ []
+
+abbrev pub node_pieces : (slot k entry peer message members accepted rejected ack clock : List ℕ) → List (List ℕ)
+node_pieces slot k entry peer message members accepted rejected ack clock =
+    codes "slot " ∷ slot ∷ codes " node " ∷ k ∷ told_pieces entry peer message members
+    ++ accepted ∷ ack_pieces rejected ack ++ clock ∷ []
+
+-- the line by its words, without its line feed
+abbrev pub node_line_text : (slot k entry peer message members accepted rejected ack clock : List ℕ) → List ℕ
+node_line_text slot k entry peer message members accepted rejected ack clock =
+    gather [] (node_pieces slot k entry peer message members accepted rejected ack clock)
+
 -- a node's state after a slot, with its members in so many digits and the message that its line names
 abbrev pub node_line : ℕ → ℕ → ℕ → NodeState → Option ℕ → List ℕ
 node_line width slot k state message =
-    codes "slot " ++ decimal slot ++ codes " node " ++ decimal k ++ codes " " ++ entry_word state.entry
-    ++ codes " peer " ++ number_or_dash (peer_of k state.entry)
-    ++ codes " msg " ++ number_or_dash message
-    ++ codes " mem " ++ hex width (set_bits state.members)
-    ++ codes " acc " ++ decimal state.accepted ++ codes " rej " ++ decimal state.rejected
-    ++ codes " ack " ++ ack_word state.ack ++ codes " clock " ++ signed_decimal state.offset ++ newline
+    node_line_text (decimal slot) (decimal k) (entry_word state.entry) (number_or_dash (peer_of k state.entry))
+    (number_or_dash message) (hex width (set_bits state.members)) (decimal state.accepted) (decimal state.rejected)
+    (ack_word state.ack) (signed_decimal state.offset) ++ newline
 
 -- the message that a frame carries, or the one that was delivered by its number in the receiver's ring
 abbrev pub number_delivered : Medl → Script → History → ℕ → Delivered → ℕ

@@ -1,6 +1,6 @@
 -- Of a slot that is shown the titles are the lines of its nodes and of its hosts.
 use Rattle.std.proofs.Common.{◌≡◌, ◌≢◌, ℕ, zero, suc, ◌+◌, ◌-◌, ◌*◌, ◌<◌, ◌≤◌, ◌^◌, Bool, true, false, cond, ◌||◌, min, map, nat_le}
-use Rattle.std.proofs.Common.{List, [], ◌∷◌, ◌++◌, length, filter, refl, sym, ap, ◌∙◌, arith, codes, decimal, Option, Some, None, inl, inr}
+use Rattle.std.proofs.Common.{List, [], ◌∷◌, ◌++◌, length, drop, filter, refl, sym, ap, ◌∙◌, arith, codes, decimal, Option, Some, None, inl, inr}
 use Rattle.std.specs.Prelude.{◌==◌}
 use Rattle.std.specs.List.{concat, flat_map, range_with_len}
 use Rattle.std.specs.Fmt.{signed_decimal}
@@ -10,8 +10,8 @@ use Rattle.std.proofs.lemmas.List.Elements.{filter-append}
 use Rattle.ttp_base.specs.NodeSet.{below, set_bits}
 use Rattle.ttp_base.specs.Text.{Lines, hex, hex_bytes}
 use Rattle.ttp_world.specs.Medl.{member_bytes}
-use Rattle.ttp_world.specs.Trace.{number_or_dash, ack_word, source_word}
-use Rattle.line_form.proofs.Gathered.{gathered}
+use Rattle.ttp_world.specs.Trace.{number_or_dash, ack_word, source_word, node_pieces}
+use Rattle.ttp_base.proofs.Gathered.{gathered}
 use Rattle.line_reader.specs.TraceLines.{word_text}
 use Rattle.whole_trace.specs.declared.shown.Head.{Head}
 use Rattle.whole_trace.specs.declared.shown.HostLine.{HostLine}
@@ -98,20 +98,18 @@ one-passes p f n k within is others =
 -- Lines, by the words that they begin with.
 
 -- what stands behind the number of a node in its line
-abbrev node_pieces : Head → NodeShown → Lines
-node_pieces head node =
-    word_text node.word ∷ codes " peer " ∷ number_or_dash node.peer ∷ codes " msg " ∷ number_or_dash node.message
-    ∷ codes " mem " ∷ hex (2 * member_bytes (head.version == 2)) (set_bits node.members) ∷ codes " acc "
-    ∷ decimal node.accepted ∷ codes " rej " ∷ decimal node.rejected ∷ codes " ack " ∷ ack_word node.ack ∷ codes " clock "
-    ∷ signed_decimal node.offset ∷ []
+abbrev pieces_of_node : Head → ℕ → ℕ → NodeShown → Lines
+pieces_of_node head t k node =
+    node_pieces (decimal t) (decimal k) (word_text node.word) (number_or_dash node.peer) (number_or_dash node.message)
+    (hex (2 * member_bytes (head.version == 2)) (set_bits node.members)) (decimal node.accepted) (decimal node.rejected)
+    (ack_word node.ack) (signed_decimal node.offset)
 
 abbrev node_rest : Head → NodeShown → List ℕ
-node_rest head node = concat (node_pieces head node)
+node_rest head node = concat (drop 5 (pieces_of_node head 0 0 node))
 
 node-begins : (head : Head) (t k : ℕ) (node : NodeShown)
     → node_text head t k node ≡ codes "slot " ++ (decimal t ++ (codes " node " ++ (decimal k ++ 32 ∷ node_rest head node)))
-node-begins head t k node =
-    gathered [] (codes "slot " ∷ decimal t ∷ codes " node " ∷ decimal k ∷ codes " " ∷ node_pieces head node)
+node-begins head t k node = gathered [] (pieces_of_node head t k node)
 
 -- and behind the word host
 abbrev host_pieces : HostLine → Lines

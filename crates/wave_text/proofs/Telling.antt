@@ -11,7 +11,7 @@ use Rattle.std.proofs.Math.Nat.{pow-suc}
 use Rattle.std.proofs.lemmas.List.Folds.{list_any-append}
 use Rattle.std.proofs.lemmas.List.Sums.{fold-append}
 use Rattle.ttp_world.specs.Medl.{member_bytes}
-use Rattle.ttp_world.specs.Trace.{number_or_dash}
+use Rattle.ttp_world.specs.Trace.{number_or_dash, node_line_text}
 use Rattle.line_reader.specs.declared.trace_line.Word.TheVariants as word
 use Rattle.shown_slot.specs.Trace.{node_text}
 use Rattle.wave_text.specs.declared.variable.NodeVariable.TheVariants as of_node
@@ -127,12 +127,8 @@ held_wires-told w width v none fits = held-told w (wires_text width v) v none (w
 -- a line by its parts, where the members are these bits, in so many digits
 abbrev line_of : ℕ → ℕ → ℕ → NodeShown → Option ℕ → Option ℕ → ℕ → ℕ → ℕ → List ℕ
 line_of digits t k node peer message bits accepted rejected =
-    codes "slot " ++ decimal t ++ codes " node " ++ decimal k ++ codes " " ++ word_text node.word
-    ++ codes " peer " ++ number_or_dash peer
-    ++ codes " msg " ++ number_or_dash message
-    ++ codes " mem " ++ hex digits bits
-    ++ codes " acc " ++ decimal accepted ++ codes " rej " ++ decimal rejected
-    ++ codes " ack " ++ ack_word node.ack ++ codes " clock " ++ signed_decimal node.offset
+    node_line_text (decimal t) (decimal k) (word_text node.word) (number_or_dash peer) (number_or_dash message)
+    (hex digits bits) (decimal accepted) (decimal rejected) (ack_word node.ack) (signed_decimal node.offset)
 
 told_parts : (width digits t k : ℕ) (node : NodeShown) → IsRightNode width node
     → line_of digits t k node (number_shown (node_value width of_node.Peer node))

@@ -1,10 +1,10 @@
 -- What the values of a node's variables tell of its line.
-use Rattle.std.specs.Prelude.{◌≡◌, ℕ, ◌+◌, ◌-◌, ◌*◌, ◌^◌, ◌<◌, nat_lt, Bool, false, List, ◌++◌, drop, fold}
-use Rattle.std.specs.Prelude.{Option, Some, None, IfSome, unwrap_or, codes, decimal, if◌then◌else◌}
+use Rattle.std.specs.Prelude.{◌≡◌, ℕ, ◌+◌, ◌-◌, ◌*◌, ◌^◌, ◌<◌, nat_lt, Bool, false, List, drop, fold}
+use Rattle.std.specs.Prelude.{Option, Some, None, IfSome, unwrap_or, decimal, if◌then◌else◌}
 use Rattle.std.specs.List.{list_any}
 use Rattle.ttp_base.specs.NodeSet.{set_bits}
 use Rattle.ttp_base.specs.Text.{hex}
-use Rattle.ttp_world.specs.Trace.{number_or_dash}
+use Rattle.ttp_world.specs.Trace.{number_or_dash, node_line_text}
 use Rattle.line_reader.specs.declared.trace_line.Word.TheVariants as word
 use Rattle.whole_trace.specs.declared.shown.NodeShown.{NodeShown}
 use Rattle.shown_slot.specs.Nodes.{is_active_word}
@@ -27,12 +27,9 @@ count_told value = unwrap_or (number_shown value) 0
 -- the line of node k after slot t by the values of its variables, with its members in so many digits
 abbrev pub line_told : ℕ → ℕ → ℕ → (w peer message members accepted rejected a clock : List ℕ) → List ℕ
 line_told digits t k w peer message members accepted rejected a clock =
-    codes "slot " ++ decimal t ++ codes " node " ++ decimal k ++ codes " " ++ drop 1 w
-    ++ codes " peer " ++ number_or_dash (number_shown peer)
-    ++ codes " msg " ++ number_or_dash (number_shown message)
-    ++ codes " mem " ++ hex digits (count_told members)
-    ++ codes " acc " ++ decimal (count_told accepted) ++ codes " rej " ++ decimal (count_told rejected)
-    ++ codes " ack " ++ drop 1 a ++ codes " clock " ++ drop 1 clock
+    node_line_text (decimal t) (decimal k) (drop 1 w) (number_or_dash (number_shown peer))
+    (number_or_dash (number_shown message)) (hex digits (count_told members)) (decimal (count_told accepted))
+    (decimal (count_told rejected)) (drop 1 a) (drop 1 clock)
 
 -- A node of a right trace: what isn't active has no members and no counts, what is off names no peer and no message, and
 -- its numbers fit their variables, with members of nodes below a number.

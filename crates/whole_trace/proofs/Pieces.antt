@@ -8,12 +8,11 @@ use Rattle.std.proofs.lemmas.Slice.Eq.{bytes_eq-Decides}
 use Rattle.std.proofs.Math.Seq.{take-append_seam, drop-append_seam}
 use Rattle.std.proofs.lemmas.Fmt.{decimal_digit, decimal_step}
 use Rattle.ttp_base.specs.NodeSet.{set_bits}
-use Rattle.ttp_base.specs.Text.{newline, hex, lines_of}
+use Rattle.ttp_base.specs.Text.{newline, hex, lines_of, gather}
 use Rattle.ttp_base.proofs.Numerals.{has}
 use Rattle.ttp_world.specs.Medl.{member_bytes}
-use Rattle.ttp_world.specs.Trace.{number_or_dash, ack_word}
+use Rattle.ttp_world.specs.Trace.{number_or_dash, ack_word, told_pieces, ack_pieces}
 use Rattle.line_form.specs.Kinds.{signed, signed_numeral}
-use Rattle.line_form.proofs.Gathered.{gather}
 use Rattle.line_form.proofs.ReadLaws.{takes}
 use Rattle.line_text.proofs.Cuts.{concat-lines_of, first_line, lines_of-behind}
 use Rattle.line_text.proofs.Options.{guarded}
@@ -124,9 +123,9 @@ alike-front n k a z head judged behind text r1 r2 r3 r4 r5 last rest has node co
     } in
     let fed = newline ++ rest in
     let front = codes "slot " ∷ decimal n.slot ∷ codes " node " ∷ [] in
-    let words = codes " " ∷ word_text n.word ∷ codes " peer " ∷ number_or_dash n.peer ∷ codes " msg "
-    ∷ number_or_dash n.message ∷ codes " mem " ∷ hex (2 * member_bytes n.wide) (set_bits n.members) ∷ codes " acc " ∷ [] in
-    let last_words = codes " rej " ∷ decimal n.rejected ∷ codes " ack " ∷ ack_word n.ack ∷ codes " clock " ∷ [] in
+    let words = told_pieces (word_text n.word) (number_or_dash n.peer) (number_or_dash n.message)
+    (hex (2 * member_bytes n.wide) (set_bits n.members)) in
+    let last_words = ack_pieces (decimal n.rejected) (ack_word n.ack) in
     let one = text_of v ++ newline in
     let all : text ≡ one ++ rest =
     e1 ∙ (λ i. has.begins i ++ e2 i) ∙ gathered-onto [] front (decimal k ++ r2)

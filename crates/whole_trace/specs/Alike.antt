@@ -1,9 +1,9 @@
 -- The line of a node in pieces, as lines that say nearly the same are read by them.
-use Rattle.std.specs.Prelude.{◌≡◌, ℕ, ◌*◌, List, ◌∷◌, ◌++◌, Option, Some, IfSome, codes}
+use Rattle.std.specs.Prelude.{◌≡◌, ℕ, ◌*◌, List, [], ◌∷◌, Option, Some, IfSome}
 use Rattle.ttp_base.specs.NodeSet.{set_bits}
-use Rattle.ttp_base.specs.Text.{hex, lines_of}
+use Rattle.ttp_base.specs.Text.{hex, lines_of, gather}
 use Rattle.ttp_world.specs.Medl.{member_bytes}
-use Rattle.ttp_world.specs.Trace.{number_or_dash}
+use Rattle.ttp_world.specs.Trace.{number_or_dash, told_pieces}
 use Rattle.line_text.specs.LineParts.{head_text, ack_text}
 use Rattle.line_reader.specs.declared.trace_line.NodeLine.{NodeLine}
 use Rattle.line_reader.specs.declared.trace_line.TraceLine.{TraceLine}
@@ -19,8 +19,8 @@ said_by n =
 -- between the node's number and the frames that it accepted
 abbrev pub judged_text : NodeLine → List ℕ
 judged_text n =
-    codes " " ++ word_text n.word ++ codes " peer " ++ number_or_dash n.peer ++ codes " msg " ++ number_or_dash n.message
-    ++ codes " mem " ++ hex (2 * member_bytes n.wide) (set_bits n.members) ++ codes " acc "
+    gather [] (told_pieces (word_text n.word) (number_or_dash n.peer) (number_or_dash n.message)
+    (hex (2 * member_bytes n.wide) (set_bits n.members)))
 
 -- texts are the pieces of a line, if there is one: before the node's number, up to the frames that it accepted, and from
 -- these up to its clock

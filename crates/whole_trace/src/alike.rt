@@ -1,21 +1,16 @@
 //! Lines of nodes that say nearly the same as one before.
-ghost use Rattle.std.specs.Prelude.{◌≡◌, ◌+◌, ◌*◌, ◌<◌, ◌≤◌, [], ◌∷◌, ◌++◌, length, None, Some, IfSome, decimal};
+ghost use Rattle.std.specs.Prelude.{◌≡◌, ◌+◌, ◌*◌, ◌<◌, ◌∷◌, ◌++◌, None, Some, IfSome, decimal};
 ghost use Rattle.std.specs.Fmt.{signed_decimal};
-ghost use Rattle.ttp_base.specs.NodeSet.{set_bits};
-ghost use Rattle.ttp_base.specs.Text.{newline, hex};
-ghost use Rattle.ttp_world.specs.Medl.{member_bytes};
-ghost use Rattle.ttp_world.specs.Trace.{number_or_dash, ack_word};
-ghost use Rattle.line_text.specs.LineParts.{head_text, ack_text};
-ghost use Rattle.line_reader.specs.TraceLines.{Fits, FitsMembers, FitsOffset};
-ghost use Rattle.whole_trace.specs.Alike.{said_by, judged_text, IsNodeFront};
+ghost use Rattle.ttp_base.specs.Text.{newline};
+ghost use Rattle.line_reader.specs.TraceLines.{Fits, FitsOffset};
+ghost use Rattle.whole_trace.specs.Alike.{said_by, IsNodeFront};
 
-use crate::word::word_text;
+use crate::text::{put_behind, put_head, put_told};
 use line_form::signed_in;
 use line_reader::{NodeLine, Word};
 use line_text::{after_label, cut_line};
 use std::marker::Model;
-use ttp_base::{Line, NodeSet};
-use ttp_world::Ack;
+use ttp_base::Line;
 
 // Offsets are nearer to 0.
 const OFFSETS: u64 = 1_000_000_000_000_000_000;
@@ -46,90 +41,6 @@ impl Model for Alike {
     ghost view = { λ a. a.newest };
 
     ghost invariant = { λ a. HavePieces a.newest a.head a.judged a.behind };
-}
-
-#[tactic(auto, using(ttp_base::proofs::Room::room))]
-fn put_head(line: &mut Line, slot: u32)
-    requires { length line.old ≤ 600 }
-    ensures { line.new ≡ line.old ++ head_text slot }
-{
-    line.put_text("slot ");
-    line.put_number(u64::from(slot));
-    line.put_text(" node ");
-}
-
-#[tactic(auto, using(ttp_base::proofs::Room::room))]
-fn put_number_or_dash(line: &mut Line, number: Option<u64>)
-    requires { length line.old + 20 ≤ 640 }
-    ensures text { line.new ≡ line.old ++ number_or_dash number }
-    ensures short { length line.new ≤ length line.old + 20 }
-{
-    match number {
-        Some(number) => line.put_number(number),
-        None => line.put_text("-"),
-    }
-}
-
-// Adds members in six digits or in four.
-#[tactic(auto, using(ttp_base::proofs::Room::room))]
-fn put_members(line: &mut Line, wide: bool, members: NodeSet)
-    requires room { length line.old + 20 ≤ 640 }
-    requires fits { FitsMembers (member_bytes wide) members }
-    ensures text { line.new ≡ line.old ++ hex (2 * member_bytes wide) (set_bits members) }
-    ensures short { length line.new ≤ length line.old + 6 }
-{
-    if wide {
-        line.put_hex(u64::from(members.bits()), 6);
-    } else {
-        line.put_hex(u64::from(members.bits()), 4);
-    }
-}
-
-// Adds what stands between a node's number and the frames that it accepted.
-#[tactic(auto, using(ttp_base::proofs::Room::room))]
-fn put_judged(line: &mut Line, node: &NodeLine)
-    requires room { length line.old ≤ 400 }
-    requires fits { Fits (said_by node.now) }
-    ensures { line.new ≡ line.old ++ judged_text node.now }
-{
-    line.put_text(" ");
-    line.put_text(word_text(node.word));
-    line.put_text(" peer ");
-    put_number_or_dash(line, node.peer.map(u64::from));
-    line.put_text(" msg ");
-    put_number_or_dash(line, node.message);
-    line.put_text(" mem ");
-    put_members(line, node.wide, node.members);
-    line.put_text(" acc ");
-}
-
-#[tactic(auto, using(ttp_base::proofs::Room::room))]
-fn put_ack_word(line: &mut Line, ack: Ack)
-    requires { length line.old + 30 ≤ 640 }
-    ensures text { line.new ≡ line.old ++ ack_word ack }
-    ensures short { length line.new ≤ length line.old + 30 }
-{
-    match ack {
-        Ack::Closed => line.put_text("none"),
-        Ack::First => line.put_text("first"),
-        Ack::Doubt(successor) => {
-            line.put_text("doubt:");
-            line.put_number(u64::from(successor));
-        }
-    }
-}
-
-// Adds what stands between the frames that a node accepted and its clock.
-#[tactic(auto, using(ttp_base::proofs::Room::room))]
-fn put_behind(line: &mut Line, node: &NodeLine)
-    requires { length line.old ≤ 400 }
-    ensures { line.new ≡ line.old ++ ack_text node.now.rejected node.now.ack }
-{
-    line.put_text(" rej ");
-    line.put_number(u64::from(node.rejected));
-    line.put_text(" ack ");
-    put_ack_word(line, node.ack);
-    line.put_text(" clock ");
 }
 
 // A digit at the front of bytes, and what follows it.
@@ -229,9 +140,16 @@ impl Alike {
         self.head.clear();
         put_head(&mut self.head, node.slot);
         self.judged.clear();
-        put_judged(&mut self.judged, node);
+        put_told(
+            &mut self.judged,
+            node.word,
+            node.peer,
+            node.message,
+            node.wide,
+            node.members,
+        );
         self.behind.clear();
-        put_behind(&mut self.behind, node);
+        put_behind(&mut self.behind, node.rejected, node.ack);
         self.newest = Some(*node);
     }
 

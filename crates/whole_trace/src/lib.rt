@@ -29,10 +29,12 @@ mod due;
 mod place;
 mod shown;
 mod slots;
+mod text;
 mod whole;
 mod word;
 
 pub use shown::{Head, HostLine, NodeShown};
 pub use slots::{Hosts, SlotShown, Slots};
+pub use text::{put_behind, put_head, put_members, put_told};
 pub use whole::{Whole, read_whole};
 pub use word::word_text;

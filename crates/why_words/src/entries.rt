@@ -11,6 +11,7 @@ use crate::because::put_because;
 use crate::lists::{put_comma, put_dash, put_number_behind, put_numbers_of};
 use causes::{Because, LineNumbers, ScriptLine, Spot};
 use fault_runs::campaign_text::Text;
+use line_text::PEER;
 use reduced_runs::entry_word;
 use std::alloc::Global;
 use ttp_base::Memory;
@@ -66,7 +67,7 @@ pub fn put_entry_head(text: &mut Text, slot: u32, node: u8, entry: &Entry) -> Re
     put_number_behind(text, " node ", u32::from(node))?;
     text.put(" ")?;
     text.put(entry_word(entry))?;
-    text.put(" peer ")?;
+    text.put(PEER)?;
     put_or_dash(text, peer_of(node, entry))
 }
 

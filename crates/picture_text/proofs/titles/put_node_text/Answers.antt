@@ -1,24 +1,27 @@
-use Rattle.picture_text.proofs.Words.{◌==◌}
-use Rattle.std.proofs.Common.{SFits, w64, rules}
+use Rattle.picture_text.proofs.Words.{◌*◌, ◌==◌, sym, set_bits, hex, ack_word, number_or_dash, word_text, signed_decimal}
+use Rattle.std.proofs.Common.{SFits, w64, rules, decimal}
 use Rattle.std.proofs.lemmas.Int.{to_z-of_z}
-use Rattle.picture_text.proofs.NodeLine.{node_line}
+use Rattle.ttp_base.proofs.Gathered.{gather-behind}
+use Rattle.ttp_world.specs.Medl.{member_bytes}
+use Rattle.ttp_world.specs.Trace.{node_pieces}
 use Rattle.picture_text.proofs.titles.put_node_text.Goals as goal
 
 pub returns-clause-text : goal.returns-clause-text
 returns-clause-text c =
-    let fits : SFits w64 c.args.node.now.offset = search rules in
+    let node = c.args.node.now in
+    let fits : SFits w64 node.offset = search rules in
     let signed = simp to_z-of_z at c.put_signed.ensures in
     rw (
       signed,
-      c.put_text-2.ensures,
-      c.put_ack.ensures.text,
-      c.put_field-2.ensures.text,
+      c.put_behind.ensures.text,
+      c.put_number-2.ensures,
       c.from-2.ensures,
-      c.put_field.ensures.text,
+      c.put_told.ensures.text,
+      c.put_number.ensures,
       c.from.ensures,
-      c.put_members.ensures.text,
-      c.bits.ensures,
-      c.put_text.ensures,
-      c.put_heard.ensures.text,
+      c.put_head.ensures.text,
     )
-    (node_line (c.args.head.now.version == 2) c.args.line.now c.args.slot c.args.number c.args.node.now)
+    (sym (gather-behind c.args.line.now (node_pieces (decimal c.args.slot) (decimal c.args.number) (word_text node.word)
+    (number_or_dash node.peer) (number_or_dash node.message)
+    (hex (2 * member_bytes (c.args.head.now.version == 2)) (set_bits node.members)) (decimal node.accepted)
+    (decimal node.rejected) (ack_word node.ack) (signed_decimal node.offset))))
