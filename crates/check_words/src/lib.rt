@@ -18,11 +18,13 @@ mod nodes;
 mod pieces;
 mod script_words;
 mod shown;
-mod text;
 
 pub use lines::{Place, put_last, put_place};
 pub use nearest::{Near, put_meant};
 pub use pieces::{Piece, put_pieces};
 pub use script_words::{put_said, wrong_fault};
 pub use shown::{put_byte_hex, put_shown};
-pub use text::Text;
+use ttp_base::GrowingText;
+
+/// The text that words are added to.
+pub type Text = GrowingText;

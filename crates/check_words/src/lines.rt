@@ -2,8 +2,8 @@
 ghost use Rattle.std.specs.Prelude.{◌≡◌, ◌++◌, OnOk};
 ghost use Rattle.check_words.specs.Lines.{file_place, counts_text, last_line};
 
+use crate::Text;
 use crate::pieces::{Piece, put_pieces};
-use crate::text::Text;
 use ttp_base::Memory;
 
 /// A byte of a file by its line and its column, both counted from 1.

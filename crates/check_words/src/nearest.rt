@@ -3,8 +3,8 @@ ghost use Rattle.std.specs.Prelude.{◌≡◌, ◌+◌, ◌≤◌, ◌++◌, len
 ghost use Rattle.check_words.specs.Shown.{small_letter, near_at, nearer_name, nearest_of, nearest_from, nearest_name, name_at, chosen};
 ghost use Rattle.check_words.specs.Shown.{nearest_or_all, edits, meant};
 
+use crate::Text;
 use crate::shown::put_shown;
-use crate::text::Text;
 use std::alloc::Global;
 use strsim::generic_levenshtein;
 use ttp_base::Memory;

@@ -4,7 +4,7 @@ ghost use Rattle.std.specs.List.{AllByRecursion};
 ghost use Rattle.ttp_base.specs.NodeSet.{most_nodes};
 ghost use Rattle.check_words.specs.Nodes.{more_nodes, nodes_among, nodes_text};
 
-use crate::text::Text;
+use crate::Text;
 use ttp_base::{Memory, NodeSet};
 
 // The numbers that a node may have.

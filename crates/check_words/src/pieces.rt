@@ -2,9 +2,9 @@
 ghost use Rattle.std.specs.Prelude.{◌≡◌, ◌++◌, OnOk};
 ghost use Rattle.check_words.specs.Pieces.{piece_text, pieces_text};
 
+use crate::Text;
 use crate::nodes::put_nodes;
 use crate::shown::put_shown;
-use crate::text::Text;
 use ttp_base::{Memory, NodeSet};
 
 /// A piece of a text.

@@ -6,9 +6,9 @@ ghost use Rattle.check_words.specs.Shown.{meant};
 ghost use Rattle.check_words.specs.Script.{part_name, form_words, all_form_words, wrong_fault, spelling, nodes_from, stands_text};
 ghost use Rattle.check_words.specs.Script.{script_said};
 
+use crate::Text;
 use crate::nearest::put_meant;
 use crate::pieces::{Piece, put_pieces};
-use crate::text::Text;
 use script_errors::{Form, Part, Wrong};
 use std::alloc::Global;
 use ttp_base::Memory;

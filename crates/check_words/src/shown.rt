@@ -4,7 +4,7 @@ ghost use Rattle.std.specs.List.{flat_map};
 ghost use Rattle.ttp_base.specs.Text.{hex_digit, byte_hex};
 ghost use Rattle.check_words.specs.Shown.{is_plain_byte, shown_byte, shown_most, dots_for, shown_word};
 
-use crate::text::Text;
+use crate::Text;
 use ttp_base::Memory;
 
 // So many bytes of a word are shown.

@@ -22,9 +22,11 @@
 mod cost_words;
 mod fault_words;
 mod lines;
-mod text;
 
 pub use cost_words::{put_cost, put_nodes};
 pub use fault_words::put_fault;
 pub use lines::{fault_node, put_counts, put_head, put_own, put_place, put_run, put_test};
-pub use text::Text;
+use ttp_base::GrowingText;
+
+/// The text that lines are added to.
+pub type Text = GrowingText;

@@ -31,6 +31,7 @@ mod asked;
 mod calls;
 mod fault;
 mod gate;
+mod growing_text;
 mod library;
 mod list;
 mod memory_library;
@@ -47,6 +48,7 @@ mod text;
 
 pub use fault::{Failed, Memory};
 pub use gate::{Gate, OpenGate};
+pub use growing_text::GrowingText;
 pub use library::{Library, LoadError};
 pub use list::List;
 pub use memory_library::MemoryLibrary;

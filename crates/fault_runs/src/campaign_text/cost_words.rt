@@ -6,7 +6,7 @@ ghost use Rattle.ttp_world.specs.Trace.{reason_word};
 ghost use Rattle.campaign.specs.CostText.{listed, leave_word, span_words, members_word, cost_words};
 ghost use Rattle.fault_runs.specs.Listing.{comma_before, dash_for, in_order};
 
-use crate::campaign_text::text::Text;
+use crate::campaign_text::Text;
 use campaign::{Cost, Leave, Span};
 use ttp_base::{Memory, NodeSet};
 use ttp_world::{Medl, Reason};

@@ -3,7 +3,7 @@ ghost use Rattle.std.specs.Prelude.{◌≡◌, ◌++◌, OnOk};
 ghost use Rattle.ttp_world.specs.declared.script.Event.TheVariants as event;
 ghost use Rattle.campaign.specs.CostText.{channels_word, kind_word, loss_words, fault_words};
 
-use crate::campaign_text::text::Text;
+use crate::campaign_text::Text;
 use ttp_base::Memory;
 use ttp_world::{Channels, Event, Fault};
 

@@ -9,8 +9,8 @@ ghost use Rattle.campaign.specs.Lines.{head_line, own_line, fault_slot, fault_no
 ghost use Rattle.campaign.specs.Lines.{counts_line};
 ghost use Rattle.fault_runs.specs.Told.{told_summary, keep_words, back_words, head_words, run_words};
 
+use crate::campaign_text::Text;
 use crate::campaign_text::fault_words::put_fault;
-use crate::campaign_text::text::Text;
 use campaign::Counts;
 use hypothesis::{has_arm, keeps, returns};
 use ttp_base::Memory;

@@ -1,21 +1,24 @@
-//! A growing text.
+//! A text that grows.
+#![tactic(auto, using(std::proofs::Common::append_assoc))]
+
 ghost use Rattle.std.specs.Prelude.{◌≡◌, ◌<◌, [], ◌∷◌, ◌++◌, OnOk};
 ghost use Rattle.std.specs.Fmt.{decimal, signed_decimal};
 ghost use Rattle.ttp_base.specs.Text.{hex_digit, hex};
 
+use crate::fault::Memory;
+use crate::text::Line;
 use std::alloc::Global;
 use std::marker::Model;
-use ttp_base::{Line, Memory};
 
 /// A growing text, which contracts see as the list of its bytes. Once it has grown to its longest, no call
 /// takes memory. A call that adds answers `Memory` where memory was refused; some of what is due may have
 /// been added.
 #[derive(Drop)]
-pub struct Text {
+pub struct GrowingText {
     bytes: Vec<u8>,
 }
 
-impl Model for Text {
+impl Model for GrowingText {
     ghost use Rattle.std.specs.Prelude.{List, ℕ};
 
     ghost Value = { List ℕ };
@@ -23,12 +26,12 @@ impl Model for Text {
     ghost view = { λ t. t.bytes.items };
 }
 
-impl Text {
+impl GrowingText {
     /// The empty text.
-    pub fn new(alloc: Global) -> Text
+    pub fn new(alloc: Global) -> GrowingText
         ensures { result ≡ [] }
     {
-        Text {
+        GrowingText {
             bytes: Vec::new(alloc),
         }
     }
@@ -65,7 +68,7 @@ impl Text {
     }
 
     /// Adds a number in decimal digits.
-    #[tactic(auto, using(ttp_base::proofs::Room::room))]
+    #[tactic(auto, using(crate::proofs::Room::room))]
     pub fn put_number(&mut self, number: u64) -> Result<(), Memory>
         ensures { OnOk result (self.new ≡ self.old ++ decimal number) }
     {
@@ -83,7 +86,7 @@ impl Text {
     }
 
     /// Adds a number in decimal digits, with a `-` before a negative one.
-    #[tactic(auto, using(ttp_base::proofs::Room::room))]
+    #[tactic(auto, using(crate::proofs::Room::room))]
     pub fn put_signed(&mut self, number: i64) -> Result<(), Memory>
         ensures { OnOk result (self.new ≡ self.old ++ signed_decimal number) }
     {
