@@ -2,33 +2,19 @@
 #![tactic(auto)]
 
 ghost use Rattle.std.specs.Prelude.{◌≡◌, ℕ, ◌+◌, ◌^◌, ◌<◌, ◌||◌, true, length, map};
-ghost use Rattle.whole_campaign.specs.Due.{no_runs};
 ghost use Rattle.whole_campaign.specs.Readable.{counts_together, counts_sum, counts_fit};
 ghost use Rattle.chart_text.specs.Columns.{is_tried};
 ghost use Rattle.chart_text.specs.Steps.{has_mark};
 
 use crate::marks::mark_piece;
 use campaign::Counts;
-use whole_campaign::Pieces;
+use whole_campaign::{Pieces, no_runs};
 
 /// The sums of the counts of pieces: of the faults that the test covers, and of the others.
 #[derive(Clone, Copy)]
 pub(crate) struct Sums {
     pub(crate) kept: Counts,
     pub(crate) broken: Counts,
-}
-
-fn no_runs() -> Counts
-    ensures { result ≡ no_runs }
-{
-    Counts {
-        runs: 0,
-        same: 0,
-        hurt: 0,
-        split: 0,
-        torn: 0,
-        dead: 0,
-    }
 }
 
 // Two counts of the same, added up.

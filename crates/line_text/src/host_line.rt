@@ -3,9 +3,10 @@ ghost use Rattle.std.specs.Prelude.{◌≡◌, ◌+◌, ◌*◌, ◌≤◌, ◌+
 ghost use Rattle.std.specs.List.{flat_map};
 ghost use Rattle.ttp_base.specs.Text.{hex_bytes};
 ghost use Rattle.ttp_world.specs.declared.script.Source.TheVariants as source;
-ghost use Rattle.ttp_world.specs.Trace.{host_head, source_word, word_hex, message_hex};
+ghost use Rattle.ttp_world.specs.Trace.{word_hex, message_hex};
 ghost use Rattle.line_text.specs.HostLines.{bytes_in, message_in, HasWords, written_line, message_line};
 
+use crate::shared::{put_host, put_source};
 use ttp_base::Line;
 use ttp_world::Source;
 
@@ -21,30 +22,6 @@ pub struct RingMessage<'a> {
     pub words: &'a [u64],
     /// How many bytes a payload has. Of a status it says nothing.
     pub size: u8,
-}
-
-#[tactic(auto, using(ttp_base::proofs::Room::room))]
-fn put_host(line: &mut Line, slot: u32, host: u8)
-    requires { length line.old + 60 ≤ 640 }
-    ensures text { line.new ≡ line.old ++ host_head slot host }
-    ensures short { length line.new ≤ length line.old + 60 }
-{
-    line.put_text("slot ");
-    line.put_number(u64::from(slot));
-    line.put_text(" host ");
-    line.put_number(u64::from(host));
-}
-
-#[tactic(auto, using(ttp_base::proofs::Room::room))]
-fn put_source(line: &mut Line, source: Source)
-    requires { length line.old + 20 ≤ 640 }
-    ensures text { line.new ≡ line.old ++ source_word source }
-    ensures short { length line.new ≤ length line.old + 20 }
-{
-    match source {
-        Source::Status => line.put_text("status"),
-        Source::Node(node) => line.put_number(u64::from(node)),
-    }
 }
 
 // Adds words, sixteen digits for each.

@@ -39,6 +39,7 @@ pub mod laws;
 mod node_line;
 mod numerals;
 mod put;
+mod shared;
 mod words;
 
 pub use answer_lines::{back_line, keep_line};
@@ -52,4 +53,5 @@ pub use labels::after_label;
 pub use node_line::NodeLines;
 pub use numerals::{message_in, numeral_in};
 pub use put::{put_back, put_header, put_keep, put_node_line, put_read_line, put_write_line};
+pub use shared::{put_ack_word, put_host, put_number_or_dash, put_source};
 pub use words::PEER;

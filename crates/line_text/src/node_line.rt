@@ -10,6 +10,7 @@ ghost use Rattle.line_text.specs.LineParts.{entry_text, text_of_judged, with_res
 ghost use Rattle.line_text.specs.Labels.{after_label};
 
 use crate::labels::after_label;
+use crate::shared::{put_ack_word, put_number_or_dash};
 use crate::words::{peer_of, put_array, put_word};
 use std::marker::Model;
 use ttp_base::{Failed, Line, NodeSet, Sink};
@@ -76,18 +77,6 @@ impl Model for NodeLines {
 }
 
 #[tactic(auto, using(ttp_base::proofs::Room::room))]
-fn put_number_or_dash(line: &mut Line, number: Option<u64>)
-    requires { length line.old + 20 ≤ 640 }
-    ensures text { line.new ≡ line.old ++ number_or_dash number }
-    ensures short { length line.new ≤ length line.old + 20 }
-{
-    match number {
-        Some(number) => line.put_number(number),
-        None => line.put_text("-"),
-    }
-}
-
-#[tactic(auto, using(ttp_base::proofs::Room::room))]
 fn put_entry(line: &mut Line, node: u8, entry: &Entry)
     requires { length line.old + 50 ≤ 640 }
     ensures text { line.new ≡ line.old ++ entry_text node entry.now }
@@ -132,22 +121,6 @@ fn put_shown(line: &mut Line, list: &Medl, node: u8, state: &NodeState, message:
     put_message(line, message);
     put_members(line, list, state);
     put_array(line, b" acc ");
-}
-
-#[tactic(auto, using(ttp_base::proofs::Room::room))]
-fn put_ack_word(line: &mut Line, ack: Ack)
-    requires { length line.old + 30 ≤ 640 }
-    ensures text { line.new ≡ line.old ++ ack_word ack }
-    ensures short { length line.new ≤ length line.old + 30 }
-{
-    match ack {
-        Ack::Closed => line.put_text("none"),
-        Ack::First => line.put_text("first"),
-        Ack::Doubt(successor) => {
-            line.put_text("doubt:");
-            line.put_number(u64::from(successor));
-        }
-    }
 }
 
 fn is_same_message(one: Option<u64>, other: Option<u64>) -> bool

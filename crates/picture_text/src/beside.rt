@@ -9,13 +9,12 @@ ghost use Rattle.picture_text.specs.Picture.{why_box, why_lines, beside_lines};
 ghost use Rattle.ttp_base.specs.Sheet.{Puts};
 ghost use Rattle.picture_text.specs.Window.{row_y, column_x};
 
-use crate::cells::node_at;
 use crate::element::{close_mark, make_text_of, open_mark, put_field, put_place};
 use crate::frame::{Corner, Frame};
 use crate::grid::{beside, corner};
 use crate::titles::put_host_text;
 use line_reader::Word;
-use shown_slot::{is_leaving_word, word_text};
+use shown_slot::{is_leaving_word, node_at, word_text};
 use ttp_base::{Line, Sheet, Sink};
 use ttp_world::Source;
 use whole_trace::{HostLine, SlotShown};

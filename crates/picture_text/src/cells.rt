@@ -4,7 +4,7 @@
 ghost use Rattle.std.specs.Prelude.{◌≡◌, ◌+◌, ◌-◌, ◌*◌, ◌<◌, ◌≤◌, [], ◌∷◌, ◌++◌, length, map, codes, decimal};
 ghost use Rattle.ttp_base.specs.NodeSet.{below};
 ghost use Rattle.shown_slot.specs.Nodes.{clock_range, node_apart};
-ghost use Rattle.shown_slot.specs.Trace.{no_shown_node, node_at};
+ghost use Rattle.shown_slot.specs.Trace.{node_at};
 ghost use Rattle.picture_text.specs.Cells.{doubt_class, other_class, data_class, refused_class, node_class, node_cell};
 ghost use Rattle.picture_text.specs.Cells.{apart_text, short_number, apart_shown, clocks_cell, far_text, far_shown, far_cell};
 ghost use Rattle.picture_text.specs.Picture.{number_lines, round_start_lines, cell_lines};
@@ -20,39 +20,13 @@ use crate::members::{held_by_most, memberships_of};
 use crate::members_cell::put_members_cell;
 use crate::tables::letter;
 use crate::titles::put_node_text;
-use line_reader::Word;
 use shown_slot::{
-    ClockRange, clock_range, is_holder, is_refused, node_apart, sends, starts_round, word_text,
+    ClockRange, clock_range, is_holder, is_refused, node_apart, node_at, sends, starts_round,
+    word_text,
 };
-use ttp_base::{Line, NodeSet, Sheet, Sink};
+use ttp_base::{Line, Sheet, Sink};
 use ttp_world::Ack;
 use whole_trace::{NodeShown, SlotShown};
-
-// What stands for a node that a slot does not have.
-fn no_shown_node() -> NodeShown
-    ensures { result ≡ no_shown_node }
-{
-    NodeShown {
-        word: Word::Off,
-        peer: None,
-        message: None,
-        members: NodeSet::empty(),
-        accepted: 0,
-        rejected: 0,
-        ack: Ack::Closed,
-        offset: 0,
-    }
-}
-
-/// A node of a slot.
-pub(crate) fn node_at(slot: &SlotShown<'_>, number: u8) -> NodeShown
-    ensures { result ≡ node_at slot.now number }
-{
-    match slot.nodes().get(usize::from(number)) {
-        Some(node) => *node,
-        None => no_shown_node(),
-    }
-}
 
 // What the class of a node's cell says of doubt about its own frame.
 fn doubt_class(node: &NodeShown) -> &'static str

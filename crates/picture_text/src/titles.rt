@@ -1,13 +1,12 @@
 //! The lines of a trace, formed as titles.
-#![tactic(auto, using(ttp_base::proofs::Room::room, crate::proofs::Places::decimal_of_slot))]
+#![tactic(auto, using(ttp_base::proofs::Room::room, ttp_base::proofs::Room::decimal_of_slot))]
 
 ghost use Rattle.std.specs.Prelude.{◌≡◌, ◌+◌, ◌≤◌, ◌++◌, length};
-ghost use Rattle.ttp_world.specs.Trace.{host_head, source_word};
 ghost use Rattle.shown_slot.specs.Trace.{node_text, host_text};
 
 use crate::element::put_field;
+use line_text::{put_host, put_source};
 use ttp_base::Line;
-use ttp_world::Source;
 use whole_trace::{Head, HostLine, NodeShown, put_behind, put_head, put_told};
 
 /// Adds the line of a node.
@@ -23,29 +22,6 @@ pub(crate) fn put_node_text(line: &mut Line, head: &Head, slot: u32, number: u8,
     line.put_number(u64::from(node.accepted));
     put_behind(line, node.rejected, node.ack);
     line.put_signed(node.offset);
-}
-
-// Adds the slot and the host with which the line of a host begins.
-fn put_host(line: &mut Line, slot: u32, host: u8)
-    requires { length line.old ≤ 600 }
-    ensures text { line.new ≡ line.old ++ host_head slot host }
-    ensures short { length line.new ≤ length line.old + 24 }
-{
-    line.put_text("slot ");
-    line.put_number(u64::from(slot));
-    line.put_text(" host ");
-    line.put_number(u64::from(host));
-}
-
-fn put_source(line: &mut Line, source: Source)
-    requires { length line.old ≤ 600 }
-    ensures text { line.new ≡ line.old ++ source_word source }
-    ensures short { length line.new ≤ length line.old + 6 }
-{
-    match source {
-        Source::Status => line.put_text("status"),
-        Source::Node(node) => line.put_number(u64::from(node)),
-    }
 }
 
 /// Adds the line of a host.

@@ -17,7 +17,7 @@ mod text;
 pub use host::{Message, Port, What, message_in_line};
 pub use node::{
     ClockRange, Sender, active_bits, agreement, clock_range, is_active_word, is_holder,
-    is_leaving_word, is_refused, left_bits, node_apart, sender_among, sends, starts_round,
+    is_leaving_word, is_refused, left_bits, node_apart, node_at, sender_among, sends, starts_round,
 };
 pub use text::{back_text, header_text, keep_text};
 pub use whole_trace::word_text;

@@ -3,11 +3,13 @@ ghost use Rattle.std.specs.Prelude.{◌≡◌, ◌+◌, ◌^◌, ◌<◌, ◌≤
 ghost use Rattle.shown_slot.specs.Nodes.{is_active_word, is_leaving_word, sends, is_holder, hold_members, agreement};
 ghost use Rattle.shown_slot.specs.Nodes.{spread_in, sender_among, bits_where, widened, clock_range};
 ghost use Rattle.shown_slot.specs.Nodes.{has_first_due, starts_round, is_refusing_word, is_taking_word, is_refused};
+ghost use Rattle.shown_slot.specs.Trace.{no_shown_node, node_at};
 ghost use Rattle.shown_slot.specs.Nodes.{is_near_high, is_near_low, has_clock, apart_by, apart_in};
 
 use line_reader::Word;
+use ttp_base::NodeSet;
 use ttp_world::Ack;
-use whole_trace::NodeShown;
+use whole_trace::{NodeShown, SlotShown};
 
 /// Who sent in a slot.
 #[derive(Clone, Copy)]
@@ -23,6 +25,32 @@ pub enum Sender {
 pub struct ClockRange {
     pub low: i64,
     pub high: i64,
+}
+
+// What stands for a node that a slot does not have.
+fn no_shown_node() -> NodeShown
+    ensures { result ≡ no_shown_node }
+{
+    NodeShown {
+        word: Word::Off,
+        peer: None,
+        message: None,
+        members: NodeSet::empty(),
+        accepted: 0,
+        rejected: 0,
+        ack: Ack::Closed,
+        offset: 0,
+    }
+}
+
+/// A node of a slot.
+pub fn node_at(slot: &SlotShown<'_>, number: u8) -> NodeShown
+    ensures { result ≡ node_at slot.now number }
+{
+    match slot.nodes().get(usize::from(number)) {
+        Some(node) => *node,
+        None => no_shown_node(),
+    }
 }
 
 /// Whether a node whose line has this word takes part in the cluster.

@@ -6,12 +6,15 @@ use Rattle.std.specs.Fmt.{decimal, signed_decimal}
 use Rattle.ttp_base.specs.Text.{hex}
 use Rattle.ttp_base.proofs.Hex.{length-hex_bytes}
 
--- a number of 64 bits has at most 20 digits, one of 16 bits at most 5, and one of 8 bits at most 3
+-- a number of 64 bits has at most 20 digits, one of 32 bits at most 10, and one of 8 bits at most 3
 pub decimal_is_short : (n : ℕ) → n < 2 ^ 64 → length (decimal n) ≤ 20
 decimal_is_short n fits = length-decimal-le 20 n (omega arith) (omega arith) fits
 
 pub decimal_of_byte : (n : ℕ) → n < 2 ^ 8 → length (decimal n) ≤ 3
 decimal_of_byte n fits = length-decimal-le 3 n (omega arith) (omega arith) (omega arith)
+
+pub decimal_of_slot : (n : ℕ) → n < 2 ^ 32 → length (decimal n) ≤ 10
+decimal_of_slot n fits = length-decimal-le 10 n (omega arith) (omega arith) (omega arith)
 
 pub signed_is_short : (z : ℤ) → SFits w64 z → length (signed_decimal z) ≤ 20
 signed_is_short z fits = length_signed_le 19 z (omega (arith, fits.sfits)) fits.sfits

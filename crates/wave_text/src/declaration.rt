@@ -1,6 +1,5 @@
 //! The line that declares a variable.
 ghost use Rattle.std.specs.Prelude.{◌≡◌, ◌<◌, ◌≤◌, ◌+◌, ◌++◌, length};
-ghost use Rattle.ttp_world.specs.Trace.{source_word};
 ghost use Rattle.wave_text.specs.Variables.{cluster_name, cluster_type, node_name, node_type, port_name, port_type};
 ghost use Rattle.wave_text.specs.Variables.{cluster_range, node_range, port_range, range_text, wire, HasLetters};
 ghost use Rattle.wave_text.specs.Variables.{cluster_declaration, node_declaration, port_declaration};
@@ -9,8 +8,8 @@ use crate::change::{cluster_letter, node_code};
 use crate::draft::Draft;
 use crate::port::port_code;
 use crate::variable::{ClusterVariable, NodeVariable, PortVariable};
+use line_text::put_source;
 use shown_slot::{Port, What};
-use ttp_world::Source;
 
 #[tactic(auto, using(ttp_base::proofs::Room::room))]
 fn put_wire(line: &mut Draft, size: u32)
@@ -135,19 +134,6 @@ pub(crate) fn make_node_declaration(line: &mut Draft, width: u8, node: u8, varia
     line.put_text(node_name(variable));
     put_node_range(line, width, variable);
     line.put_text(" $end\n");
-}
-
-// Adds the name of what is read.
-#[tactic(auto, using(ttp_base::proofs::Room::room))]
-fn put_source(line: &mut Draft, source: Source)
-    requires { length line.old ≤ 1950 }
-    ensures text { line.new ≡ line.old ++ source_word source }
-    ensures short { length line.new ≤ length line.old + 20 }
-{
-    match source {
-        Source::Status => line.put_text("status"),
-        Source::Node(node) => line.put_number(u64::from(node)),
-    }
 }
 
 fn put_port_name(line: &mut Draft, what: What, variable: PortVariable)

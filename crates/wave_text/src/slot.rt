@@ -4,7 +4,7 @@
 ghost use Rattle.std.specs.Prelude.{◌≡◌, ◌<◌, ◌≤◌, [], ◌==◌, if◌then◌else◌, All, option_map, flat_map};
 ghost use Rattle.ttp_base.specs.Text.{lines_below};
 ghost use Rattle.ttp_base.specs.Sheet.{Puts};
-ghost use Rattle.shown_slot.specs.Trace.{no_shown_node, node_at};
+ghost use Rattle.shown_slot.specs.Trace.{node_at};
 ghost use Rattle.wave_text.specs.Moment.{ShowsMessages, ShowsNewest, unless_first};
 ghost use Rattle.wave_text.specs.Variables.{HasLetters, ports_at};
 ghost use Rattle.wave_text.specs.Wave.{port_message, port_changes};
@@ -14,45 +14,15 @@ use crate::change::{put_cluster_changes, put_node_changes};
 use crate::page::Page;
 use crate::place::table_place;
 use crate::port::put_port_changes;
-use line_reader::Word;
-use shown_slot::{Message, Port};
-use ttp_base::{NodeSet, Sink};
-use ttp_world::Ack;
-use whole_trace::{NodeShown, SlotShown};
+use shown_slot::{Message, Port, node_at};
+use ttp_base::Sink;
+use whole_trace::SlotShown;
 
 /// A slot, and the newest message of each port in it.
 #[derive(Drop)]
 pub(crate) struct Moment<'a> {
     pub(crate) slot: SlotShown<'a>,
     pub(crate) messages: Vec<Option<Message>>,
-}
-
-// What stands for a node that a slot doesn't have.
-fn no_shown_node() -> NodeShown
-    ensures { result ≡ no_shown_node }
-{
-    NodeShown {
-        word: Word::Off,
-        peer: None,
-        message: None,
-        members: NodeSet::empty(),
-        accepted: 0,
-        rejected: 0,
-        ack: Ack::Closed,
-        offset: 0,
-    }
-}
-
-fn node_at(slot: &SlotShown, node: u8) -> NodeShown
-    ensures { result ≡ node_at slot.now node }
-{
-    let nodes = slot.nodes();
-    let k = usize::from(node);
-    if k < nodes.len() {
-        nodes[k]
-    } else {
-        no_shown_node()
-    }
 }
 
 // The newest message of a port in a slot.

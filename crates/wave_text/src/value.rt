@@ -9,6 +9,7 @@ ghost use Rattle.wave_text.specs.Values.{number_text, wires_text, node_ack_text,
 use crate::draft::{Draft, put_binary, put_number, put_wires};
 use crate::variable::{ClusterVariable, NodeVariable, PortVariable};
 use line_reader::Word;
+use line_text::put_ack_word;
 use shown_slot::{
     Message, Sender, active_bits, agreement, clock_range, is_active_word, left_bits, sender_among,
     sends, word_text,
@@ -172,14 +173,8 @@ fn put_ack(line: &mut Draft, ack: Ack)
     ensures text { line.new ≡ line.old ++ node_ack_text ack }
     ensures short { length line.new ≤ length line.old + 65 }
 {
-    match ack {
-        Ack::Closed => line.put_text("snone"),
-        Ack::First => line.put_text("sfirst"),
-        Ack::Doubt(successor) => {
-            line.put_text("sdoubt:");
-            line.put_number(u64::from(successor));
-        }
-    }
+    line.put_text("s");
+    put_ack_word(line, ack);
 }
 
 #[tactic(auto, using(ttp_base::proofs::Room::room))]

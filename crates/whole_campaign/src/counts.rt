@@ -11,7 +11,7 @@ use campaign::Counts;
 use ttp_base::Line;
 
 /// The counts of no runs.
-pub(crate) fn no_runs() -> Counts
+pub fn no_runs() -> Counts
     ensures { result ≡ no_runs }
 {
     Counts {

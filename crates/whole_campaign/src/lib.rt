@@ -38,6 +38,7 @@ mod walks;
 mod whole;
 
 pub use cost::CostShown;
+pub use counts::no_runs;
 pub use head::CampaignHead;
 pub use listed::{Kind, NodesSoFar, SetsSoFar};
 pub use own::OwnLine;

@@ -1,30 +1,12 @@
 //! What the test of a script says, in its four words.
 ghost use Rattle.std.specs.Prelude.{◌≡◌};
 ghost use Rattle.campaign.specs.Cost.{is_kept, is_owed};
-ghost use Rattle.whole_trace.specs.Due.{is_keep, is_back};
 ghost use Rattle.whole_campaign.specs.Runs.{test_of, test_in, test_says_yes, is_same_test};
 
 use crate::shown::Test;
 use line_reader::{TraceLine, read_line};
 use ttp_world::{Back, Keep};
-
-fn is_keep(keep: Keep) -> bool
-    ensures { result ≡ is_keep keep }
-{
-    match keep {
-        Keep::Yes { .. } => true,
-        Keep::No { rule, .. } => 1 <= rule && rule <= 7,
-    }
-}
-
-fn is_back(back: Back) -> bool
-    ensures { result ≡ is_back back }
-{
-    match back {
-        Back::Yes { .. } => true,
-        Back::No { rule, .. } => 1 <= rule && rule <= 8,
-    }
-}
+use whole_trace::{is_back, is_keep};
 
 // The answer of a test, if its rule is one that there is.
 fn test_of(line: &TraceLine) -> Option<Test>

@@ -138,7 +138,8 @@ fn is_node_line(head: &Head, due: u32, k: u8, line: &TraceLine) -> bool
     }
 }
 
-fn is_keep(keep: Keep) -> bool
+/// Whether the rule that the hypothesis test names is one of its rules.
+pub fn is_keep(keep: Keep) -> bool
     ensures { result ≡ is_keep keep }
 {
     match keep {
@@ -147,7 +148,8 @@ fn is_keep(keep: Keep) -> bool
     }
 }
 
-fn is_back(back: Back) -> bool
+/// Whether the rule that the test on armed nodes names is one of its rules.
+pub fn is_back(back: Back) -> bool
     ensures { result ≡ is_back back }
 {
     match back {

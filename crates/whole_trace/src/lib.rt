@@ -33,6 +33,7 @@ mod text;
 mod whole;
 mod word;
 
+pub use due::{is_back, is_keep};
 pub use shown::{Head, HostLine, NodeShown};
 pub use slots::{Hosts, SlotShown, Slots};
 pub use text::{put_behind, put_head, put_members, put_told};

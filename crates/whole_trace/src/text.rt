@@ -10,7 +10,7 @@ ghost use Rattle.line_reader.specs.TraceLines.{word_text};
 
 use crate::word::word_text;
 use line_reader::Word;
-use line_text::PEER;
+use line_text::{PEER, put_ack_word, put_number_or_dash};
 use ttp_base::{Line, NodeSet};
 use ttp_world::Ack;
 
@@ -23,17 +23,6 @@ pub fn put_head(line: &mut Line, slot: u32)
     line.put_text("slot ");
     line.put_number(u64::from(slot));
     line.put_text(" node ");
-}
-
-fn put_number_or_dash(line: &mut Line, number: Option<u64>)
-    requires { length line.old + 20 ≤ 640 }
-    ensures text { line.new ≡ line.old ++ number_or_dash number }
-    ensures short { length line.new ≤ length line.old + 20 }
-{
-    match number {
-        Some(number) => line.put_number(number),
-        None => line.put_text("-"),
-    }
 }
 
 /// Adds members in six digits or in four, which show no more of them.
@@ -73,21 +62,6 @@ pub fn put_told(
     line.put_text(" mem ");
     put_members(line, wide, members.bits());
     line.put_text(" acc ");
-}
-
-fn put_ack_word(line: &mut Line, ack: Ack)
-    requires { length line.old + 30 ≤ 640 }
-    ensures text { line.new ≡ line.old ++ ack_word ack }
-    ensures short { length line.new ≤ length line.old + 30 }
-{
-    match ack {
-        Ack::Closed => line.put_text("none"),
-        Ack::First => line.put_text("first"),
-        Ack::Doubt(successor) => {
-            line.put_text("doubt:");
-            line.put_number(u64::from(successor));
-        }
-    }
 }
 
 /// Adds what stands between the frames that a node accepted and its clock.
