@@ -94,14 +94,8 @@ pub(crate) fn put_end<K: Sink>(
     let x = chart_x(nodes, column);
     let y = chart_y(nodes, column, nodes);
     let at = Corner { x, y: y + 5 };
-    make_sum(
-        &mut sheet.line,
-        frame.size,
-        Summed::OfSlot { slot },
-        "",
-        tally,
-        at,
-    );
+    let of = Summed::OfSlot { slot };
+    make_sum(&mut sheet.line, frame.size, of, "", tally, at);
     sheet.write(out);
     let at = Corner {
         x: x + 11,
@@ -120,14 +114,8 @@ fn put_node<K: Sink>(frame: Frame, x: u64, node: u8, tally: &Tally, sheet: &mut 
 {
     let y = chart_y(frame.size.nodes, 0, node);
     let at = Corner { x, y };
-    make_sum(
-        &mut sheet.line,
-        frame.size,
-        Summed::OfNode { node },
-        "",
-        tally,
-        at,
-    );
+    let of = Summed::OfNode { node };
+    make_sum(&mut sheet.line, frame.size, of, "", tally, at);
     sheet.write(out);
     let at = Corner {
         x: x + 53,

@@ -82,26 +82,17 @@ pub(crate) fn put_how_to_read<K: Sink>(top: u64, sheet: &mut Sheet, out: &mut K)
 {
     make_text_of(&mut sheet.line, "said", 12, top + 8, "how to read it");
     sheet.write(out);
-    make_words(
-        &mut sheet.line,
-        12,
-        top + 28,
-        "A cell is a node in a slot: up to sixteen faults that begin there, each tried in a run of its own. Its colour says what the worst of them does, its number how",
-    );
+    let words =
+        "A cell is a node in a slot: up to sixteen faults that begin there, each tried in a run of its own. Its colour says what the worst of them does, its number how";
+    make_words(&mut sheet.line, 12, top + 28, words);
     sheet.write(out);
-    make_words(
-        &mut sheet.line,
-        12,
-        top + 44,
-        "many healthy nodes that one costs. A blue frame: the node sends in this slot. Below a cell stands a mark for each fault that changed something; the pointer over",
-    );
+    let words =
+        "many healthy nodes that one costs. A blue frame: the node sends in this slot. Below a cell stands a mark for each fault that changed something; the pointer over";
+    make_words(&mut sheet.line, 12, top + 44, words);
     sheet.write(out);
-    make_words(
-        &mut sheet.line,
-        12,
-        top + 60,
-        "it shows its line. harmful: hurt, split, torn or dead. healthy: not faulty by the rules of the hypothesis; it may be the fault's own node. worst: dead before",
-    );
+    let words =
+        "it shows its line. harmful: hurt, split, torn or dead. healthy: not faulty by the rules of the hypothesis; it may be the fault's own node. worst: dead before";
+    make_words(&mut sheet.line, 12, top + 60, words);
     sheet.write(out);
     let words = "torn, split and hurt, and then by the number of healthy nodes lost.";
     make_words(&mut sheet.line, 12, top + 76, words);
@@ -113,33 +104,21 @@ pub(crate) fn put_words_meant<K: Sink>(top: u64, sheet: &mut Sheet, out: &mut K)
     requires { top ≤ 2 ^ 31 }
     ensures { Puts sheet.old.failed (K.output out.old) sheet.new.failed (K.output out.new) (words_meant top) }
 {
-    make_words(
-        &mut sheet.line,
-        12,
-        top + 152,
-        "silence: a frame is lost. noise: it comes spoilt. AB, A, B: on both channels, or on one. If the node sends in the slot, for all; otherwise for this node alone.",
-    );
+    let words =
+        "silence: a frame is lost. noise: it comes spoilt. AB, A, B: on both channels, or on one. If the node sends in the slot, for all; otherwise for this node alone.";
+    make_words(&mut sheet.line, 12, top + 152, words);
     sheet.write(out);
-    make_words(
-        &mut sheet.line,
-        12,
-        top + 168,
-        "jump: the clock of the node jumps ahead, or back (-). W: the window of the list; a frame that is further from its receiver's clock is not taken.",
-    );
+    let words =
+        "jump: the clock of the node jumps ahead, or back (-). W: the window of the list; a frame that is further from its receiver's clock is not taken.";
+    make_words(&mut sheet.line, 12, top + 168, words);
     sheet.write(out);
-    make_words(
-        &mut sheet.line,
-        12,
-        top + 184,
-        "without any of them: left: who left, as NODE:SLOT:WHY; hurt: the healthy ones of them; split: first and last slot in which healthy nodes held different members;",
-    );
+    let words =
+        "without any of them: left: who left, as NODE:SLOT:WHY; hurt: the healthy ones of them; split: first and last slot in which healthy nodes held different members;";
+    make_words(&mut sheet.line, 12, top + 184, words);
     sheet.write(out);
-    make_words(
-        &mut sheet.line,
-        12,
-        top + 200,
-        "end: the memberships at the end, each as a number in base 16, in which bit k is node k.",
-    );
+    let words =
+        "end: the memberships at the end, each as a number in base 16, in which bit k is node k.";
+    make_words(&mut sheet.line, 12, top + 200, words);
     sheet.write(out);
 }
 

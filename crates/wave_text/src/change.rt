@@ -222,26 +222,10 @@ fn put_counts<K: Sink>(
     ensures { Puts page.old.sheet.failed (K.output out.old) page.new.sheet.failed (K.output out.new)
         (node_changes width node (Some before.now) now.now) }
 {
-    put_node_change(
-        width,
-        NodeVariable::Peer,
-        node,
-        false,
-        before,
-        now,
-        page,
-        out,
-    );
-    put_node_change(
-        width,
-        NodeVariable::Accepted,
-        node,
-        false,
-        before,
-        now,
-        page,
-        out,
-    );
+    let peer = NodeVariable::Peer;
+    put_node_change(width, peer, node, false, before, now, page, out);
+    let accepted = NodeVariable::Accepted;
+    put_node_change(width, accepted, node, false, before, now, page, out);
 }
 
 // Writes the changes of a node's variables, one after another.
