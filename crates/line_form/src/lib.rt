@@ -45,4 +45,4 @@ pub use put::{
 };
 pub use reader::Reader;
 pub use ttp_base::Text;
-pub use words::{hex_or_in, signed_in};
+pub use words::{hex_or_in, numeral_in, signed_in};

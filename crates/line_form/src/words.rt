@@ -49,9 +49,9 @@ fn has_leading_zero(word: &[u8]) -> bool
     1 < word.len() && word[0] == b'0'
 }
 
-// The number that a word of decimal digits is, at most so many and none that leads and is 0.
+/// The number that a word of decimal digits is, at most so many and none that leads and is 0.
 #[tactic(auto, unfolding(crate::specs::Kinds::numeral_in))]
-fn numeral_in(word: &[u8], most: usize) -> Option<u64>
+pub fn numeral_in(word: &[u8], most: usize) -> Option<u64>
     requires { most ≤ 18 }
     ensures value { result ≡ numeral_in most word.now }
     ensures small { IfSome result (λ n. n < 10 ^ most) }

@@ -2,5 +2,4 @@ pub mod ValueLaws
 pub mod LineValues
 pub mod Options
 pub mod ReadLines
-pub mod ReadWords
 pub mod WrittenLines

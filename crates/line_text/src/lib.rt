@@ -50,8 +50,9 @@ pub use behind::{
 pub use cut::cut_line;
 pub use host_line::RingMessage;
 pub use labels::after_label;
+pub use line_form::numeral_in;
 pub use node_line::NodeLines;
-pub use numerals::{message_in, numeral_in};
+pub use numerals::message_in;
 pub use put::{put_back, put_header, put_keep, put_node_line, put_read_line, put_write_line};
 pub use shared::{put_ack_word, put_host, put_number_or_dash, put_source};
 pub use words::PEER;

@@ -23,7 +23,7 @@ use Rattle.line_form.proofs.ReadLaws.{takes}
 use Rattle.line_reader.specs.TraceLines.{slot_digits, text_of}
 use Rattle.line_reader.proofs.Options.{bound}
 use Rattle.line_reader.proofs.ReadLines.{line-takes}
-use Rattle.line_reader.proofs.ReadWords.{numeral-takes}
+use Rattle.line_text.proofs.WrittenNumbers.{numeral-takes}
 use Rattle.campaign.specs.CostText.{on_channels, channels_word, kind_word, loss_words}
 use Rattle.whole_campaign.specs.declared.cost.CostShown.{CostShown}
 use Rattle.whole_campaign.specs.declared.listed.Kind.{Kind}
