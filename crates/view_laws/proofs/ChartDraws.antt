@@ -18,8 +18,8 @@ use Rattle.picture_text.specs.Cells.{title_element, mark}
 use Rattle.picture_text.specs.Picture.{class_of, ended, text_line, row_line}
 use Rattle.picture_text.specs.Window.{columns}
 use Rattle.picture_text.proofs.PlainTexts.{Plain, parts, plain-append, plain-decimal}
-use Rattle.lab_laws.proofs.TitlesIn.{◌▸◌, tag, plain, number, title, named, IsLineWith, closed, line_of, place-adds, bare-lines}
-use Rattle.lab_laws.proofs.TitlesIn.{text-titles, classed-titles, mark-titles}
+use Rattle.view_laws.proofs.TitlesIn.{◌▸◌, tag, plain, number, title, named, IsLineWith, closed, line_of, place-adds, bare-lines}
+use Rattle.view_laws.proofs.TitlesIn.{text-titles, classed-titles, mark-titles}
 use Rattle.chart_text.specs.declared.look.Look.{Look}
 use Rattle.chart_text.specs.declared.look.Look.TheVariants as look
 use Rattle.chart_text.specs.declared.size.Size.{Size}

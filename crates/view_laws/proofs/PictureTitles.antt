@@ -39,9 +39,9 @@ use Rattle.picture_text.proofs.PlainTexts.{plain-head, plain-keep, plain-back, p
 use Rattle.picture_text.proofs.PlainTexts.{plain-keep_meaning, plain-back_meaning, plain-class, plain-members}
 use Rattle.picture_text.proofs.PlainTexts.{plain-no_members, plain-count, plain-clocks, plain-apart_shown, plain-keep_name}
 use Rattle.picture_text.proofs.PlainTexts.{plain-back_name, plain-far, plain-far_shown}
-use Rattle.lab_laws.proofs.TitlesIn.{◌▸◌, tag, plain, number, title, IsLineWith, closed, line_of, place-adds, text-titles, classed-titles}
-use Rattle.lab_laws.proofs.TitlesIn.{cell-titles, mark-titles, Have, ◌▹◌, untitled, titled, no-lines, bare-lines, bare, map-none}
-use Rattle.lab_laws.proofs.TitlesIn.{map-each, flat-none, flat-each, if-none}
+use Rattle.view_laws.proofs.TitlesIn.{◌▸◌, tag, plain, number, title, IsLineWith, closed, line_of, place-adds, text-titles, classed-titles}
+use Rattle.view_laws.proofs.TitlesIn.{cell-titles, mark-titles, Have, ◌▹◌, untitled, titled, no-lines, bare-lines, bare, map-none}
+use Rattle.view_laws.proofs.TitlesIn.{map-each, flat-none, flat-each, if-none}
 
 -- The head.
 

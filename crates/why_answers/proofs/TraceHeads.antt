@@ -18,12 +18,11 @@ use Rattle.causes.specs.declared.cause.LineNumbers.{LineNumbers}
 use Rattle.causes.specs.declared.cause.Spot.{Spot}
 use Rattle.causes.specs.declared.cause.Told.{Told}
 use Rattle.campaign.specs.CostText.{listed}
-use Rattle.frame_fates.proofs.NamedRuns.{legal-names, named-run}
 use Rattle.frame_fates.proofs.RunsAlike.{older, runs-entries}
+use Rattle.frame_fates.proofs.ZerosRuns.{zeros-legal}
 use Rattle.frame_fates.proofs.Unnumbered.{entry_of-unnumbered}
 use Rattle.frame_fates.specs.Alike.{unnumbered, unnumbered_history, unnumbered_row}
-use Rattle.frame_fates.specs.Runs.{AreRuns, IsRun}
-use Rattle.run_costs.proofs.Payloads.{zeros-chosen}
+use Rattle.frame_fates.specs.Runs.{AreRuns}
 use Rattle.run_costs.proofs.Rows.{length-zeros}
 use Rattle.run_rows.specs.Rows.{slot_in}
 use Rattle.ttp_base.proofs.Below.{below-next}
@@ -190,26 +189,6 @@ history-begins list script (new ∷ numbers) slot k less node runs =
           (history-begins list script numbers slot k lower node (older runs))
     ]
 
-zeros-run : (list : Medl) (script : Script) (slots : ℕ) → IsRun list script (zeros_world list script slots)
-zeros-run list script zero = tt
-zeros-run list script (suc slots) = (
-  record {
-    chosen = all_zeros list;
-    sizes = zeros-chosen list script (zeros_world list script slots);
-    made = refl;
-  },
-  zeros-run list script slots,
-)
-
-legal-runs : (list : Medl) (script : Script) (numbers : Numbers) → IsValidScript list script → IsLegal list script numbers
-    → AreRuns list script (world list script numbers) (zeros_world list script (length numbers))
-legal-runs list script numbers valid legal = record {
-  valid = valid;
-  first = named-run list script numbers valid (legal-names list script numbers legal);
-  second = zeros-run list script (length numbers);
-  slots = length-world list script numbers ∙ sym (length-zeros list script (length numbers));
-}
-
 pub trace-begins : (list : Medl) (script : Script) (numbers : Numbers) (slot k : ℕ) → slot < length numbers
     → k < length list.slots → IsValidScript list script → IsLegal list script numbers
     → OneBeginsWith (entry_head slot k (made list script slot k) ++ codes " ") (trace_lines list script numbers)
@@ -218,7 +197,7 @@ trace-begins list script numbers slot k less node valid legal =
     let lines = history_lines list script (world list script numbers) numbers in
     begins-left head (trace_head list script ∷ lines) (test_lines list script)
     (begins-more head (trace_head list script) lines
-    (history-begins list script numbers slot k less node (legal-runs list script numbers valid legal)))
+    (history-begins list script numbers slot k less node (zeros-legal list script numbers (length numbers) valid legal refl)))
 
 made-at : (list : Medl) (script : Script) (n slot k : ℕ) → slot < n
     → made list script slot k ≡ entry_at_spot (first_slots list script n) (spot_at slot k)
