@@ -20,7 +20,8 @@ use Rattle.ttp_world.specs.Medium.{is_sending}
 use Rattle.campaign.specs.Tried.{losses_from, losses_of, jump_sizes, jumps_of, faults_of}
 use Rattle.campaign.specs.Tried.{is_hearing, is_timed, faults_from}
 use Rattle.run_costs.specs.States.{off_state, AreShown}
-use Rattle.run_costs.proofs.Rows.{length-zeros, next_row, zeros-next}
+use Rattle.run_costs.proofs.Rows.{next_row, zeros-next}
+use Rattle.ttp_world.proofs.ZerosWorlds.{length-zeros_world}
 
 -- of those that pass a test, or nothing of the others
 flat_map-filter-if : {X : Type 0} (p : ℕ → Bool) (f : ℕ → List X) (k : ℕ) (ks : List ℕ) (b : Bool)
@@ -109,13 +110,13 @@ zeros-row list script slot zero none = absurd (omega (arith, none))
 zeros-row list script slot (suc slots) within = elim (cases_eq slot slots) [
   | inl same ↦
       let newest : suc (length (zeros_world list script slots)) - suc slot ≡ 0 =
-      omega (arith, length-zeros list script slots, same) in
+      omega (arith, length-zeros_world list script slots, same) in
       ap (λ n. get_or (next_row list script slots ∷ zeros_world list script slots) n []) newest
       ∙ ap (next_row list script) (sym same)
   | inr other ↦
       let less : slot < slots = omega (arith, within, other) in
       row-older (next_row list script slots) (zeros_world list script slots) slot
-      (omega (arith, less, length-zeros list script slots))
+      (omega (arith, less, length-zeros_world list script slots))
       ∙ zeros-row list script slot slots less
 ]
 

@@ -17,13 +17,14 @@ use Rattle.campaign.specs.declared.cost.Leave.{Leave}
 use Rattle.campaign.specs.Cost.{cost_of, leaves, leave_after, newest_leave, is_hurt, is_hurt_in, hurt_nodes}
 use Rattle.campaign.specs.Cost.{split_span, span_after, memberships, has_two, faulty_by_test}
 use Rattle.campaign.specs.Tried.{with_fault}
-use Rattle.campaign.specs.ZerosWorld.{all_zeros}
+use Rattle.ttp_world.specs.ZerosWorld.{all_zeros}
 use Rattle.controller.specs.Agreement.{begins_at}
 use Rattle.controller.proofs.SameSlots.{surroundings_in-same}
 use Rattle.run_costs.specs.States.{off_state, state_at, AreShown}
 use Rattle.run_costs.proofs.Later.{zeros-longer}
 use Rattle.run_costs.proofs.Nodes.{filter_map_agree-below}
-use Rattle.run_costs.proofs.Rows.{length-zeros, next_row, zeros-next}
+use Rattle.run_costs.proofs.Rows.{next_row, zeros-next}
+use Rattle.ttp_world.proofs.ZerosWorlds.{length-zeros_world}
 use Rattle.fault_runs.specs.Merging.{has_just_left, is_waiting, is_left_entry, is_loss_in, IsSameDeed, HasSettledAt, IsSettledFrom}
 use Rattle.fault_runs.proofs.Losses.{jumps-alike, alike-other}
 use Rattle.fault_runs.proofs.OneMembership.{still-one}
@@ -42,7 +43,7 @@ module _ (list : Medl) (script : Script) (e : Event) (slot : ℕ) (is : is_loss_
     near (suc n) k =
         let row = next_row list script n in
         let t = length (zeros_world list script n) in
-        let long = length-zeros list script n in (
+        let long = length-zeros_world list script n in (
           elim (cases_eq n slot) [
             | inl same ↦ record {
               jump = jumps-alike script slot e is k t;
@@ -69,7 +70,7 @@ module _ (list : Medl) (script : Script) (e : Event) (slot : ℕ) (is : is_loss_
     worlds-same (suc m) =
         let n = slot + 1 + m in
         let older = worlds-same m in
-        let long = length-zeros list script n in
+        let long = length-zeros_world list script n in
         let next : suc n ≡ slot + 1 + suc m = omega arith in
         let other : length (zeros_world list script n) ≡ slot → ⊥ = λ at. absurd (omega (arith, long, at)) in
         subst (λ n. zeros_world list script n ≡ zeros_world list more n) next

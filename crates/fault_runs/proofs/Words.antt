@@ -3,7 +3,7 @@ pub use Rattle.campaign.specs.CostText.{cost_words}
 pub use Rattle.campaign.specs.Lines.{Summary, broken_counts, campaign_lines, counts_line, head_line, is_same_cost}
 pub use Rattle.campaign.specs.Lines.{kept_counts, own_line, run_line, summary, summary_with}
 pub use Rattle.campaign.specs.Tried.{faults_in, row_of}
-pub use Rattle.campaign.specs.ZerosWorld.{zeros_world}
+pub use Rattle.ttp_world.specs.ZerosWorld.{zeros_world}
 pub use Rattle.campaign.specs.declared.cost.Cost.{Cost}
 pub use Rattle.campaign.specs.declared.cost.Counts.{Counts}
 pub use Rattle.fault_runs.specs.Ends.{LeftBy, LeftFewerBy, WroteFewer}

@@ -11,7 +11,7 @@ use Rattle.ttp_world.specs.Diary.{History, diary_of, newest_entry}
 use Rattle.campaign.specs.Cost.{memberships, has_two}
 use Rattle.campaign.specs.Lines.{summary}
 use Rattle.campaign.specs.Tried.{row_of}
-use Rattle.campaign.specs.ZerosWorld.{zeros_world}
+use Rattle.ttp_world.specs.ZerosWorld.{zeros_world}
 use Rattle.run_costs.specs.Standing.{IsSeenAfter}
 use Rattle.run_costs.specs.declared.seen_run.SeenRun.{SeenRun}
 use Rattle.fault_runs.specs.declared.whole.WholeRun.{WholeRun}

@@ -12,7 +12,7 @@ use Rattle.campaign.specs.declared.cost.Counts.{Counts}
 use Rattle.campaign.specs.Lines.{Summary, summary, summary_with, head_line, own_line, run_line}
 use Rattle.campaign.specs.Lines.{counts_line, kept_counts, broken_counts}
 use Rattle.campaign.specs.Tried.{faults_in, row_of}
-use Rattle.campaign.specs.ZerosWorld.{zeros_world}
+use Rattle.ttp_world.specs.ZerosWorld.{zeros_world}
 use Rattle.fault_runs.specs.declared.tally.Tally.{Tally}
 
 -- the faults that are tried in a slot, where it is in the range

@@ -4,7 +4,7 @@ ghost use Rattle.ttp_world.specs.declared.script.Script.{Script};
 ghost use Rattle.ttp_world.specs.Medl.{IsValid};
 ghost use Rattle.ttp_world.specs.Script.{IsValidScript};
 ghost use Rattle.campaign.specs.Tried.{with_fault};
-ghost use Rattle.campaign.specs.ZerosWorld.{zeros_world};
+ghost use Rattle.ttp_world.specs.ZerosWorld.{zeros_world};
 ghost use Rattle.run_costs.specs.Later.{comes_later};
 ghost use Rattle.run_costs.specs.Standing.{IsRunOfList, IsSeenAfter};
 ghost use Rattle.run_costs.specs.States.{AreShown};

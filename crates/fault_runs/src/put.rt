@@ -12,7 +12,7 @@ ghost use Rattle.campaign.specs.CostText.{cost_words};
 ghost use Rattle.campaign.specs.Lines.{Summary, summary, own_line, campaign_lines};
 ghost use Rattle.campaign.specs.declared.cost.Cost.{Cost};
 ghost use Rattle.campaign.specs.Tried.{row_of};
-ghost use Rattle.campaign.specs.ZerosWorld.{zeros_world};
+ghost use Rattle.ttp_world.specs.ZerosWorld.{zeros_world};
 ghost use Rattle.fault_runs.specs.declared.put.CampaignFault.TheVariants as fault;
 ghost use Rattle.fault_runs.specs.Ends.{LeftBy, LeftFewerBy, WroteFewer};
 ghost use Rattle.fault_runs.specs.Runs.{tried_in, tried_before, entries_of, fault_lines, front_lines, end_lines};

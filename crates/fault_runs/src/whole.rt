@@ -5,7 +5,7 @@ ghost use Rattle.ttp_base.specs.NodeSet.{below};
 ghost use Rattle.ttp_world.specs.declared.script.Script.{Script};
 ghost use Rattle.ttp_world.specs.Medl.{IsValid};
 ghost use Rattle.ttp_world.specs.Script.{IsValidScript};
-ghost use Rattle.campaign.specs.ZerosWorld.{zeros_world};
+ghost use Rattle.ttp_world.specs.ZerosWorld.{zeros_world};
 ghost use Rattle.run_costs.specs.Standing.{IsSeenAfter};
 ghost use Rattle.fault_runs.specs.Merging.{has_just_left, HasSettledAt, IsWholeRun};
 

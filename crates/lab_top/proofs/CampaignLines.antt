@@ -32,7 +32,7 @@ use Rattle.campaign.specs.CostText.{cost_words, on_channels, channels_word, kind
 use Rattle.campaign.specs.Lines.{summary, head_line, own_line, fault_line, counts_line}
 use Rattle.campaign.specs.Lines.{fault_slot, fault_node, run_line, lines_with, campaign_lines}
 use Rattle.campaign.specs.Tried.{with_fault, faults_from}
-use Rattle.campaign.specs.ZerosWorld.{zeros_world}
+use Rattle.ttp_world.specs.ZerosWorld.{zeros_world}
 use Rattle.wave_text.proofs.Feeds.{HasNone, none-append, none-decimal}
 use Rattle.commands.specs.Lines.{AreLines}
 

@@ -15,7 +15,7 @@ use Rattle.ttp_world.specs.declared.medl.Medl.{Medl}
 use Rattle.ttp_world.specs.declared.script.Script.{Script}
 use Rattle.ttp_world.proofs.LineLists.{each-append}
 use Rattle.campaign.specs.declared.cost.Span.{Span}
-use Rattle.campaign.specs.ZerosWorld.{zeros_world}
+use Rattle.ttp_world.specs.ZerosWorld.{zeros_world}
 use Rattle.clock_margins.specs.declared.margin.Sweep.{Sweep}
 use Rattle.clock_margins.specs.Forms.{margins_head_form, margins_head_values, range_form, range_values, outcome_form, outcome_values}
 use Rattle.clock_margins.specs.Forms.{margin_form, margin_values, all_form, all_values}

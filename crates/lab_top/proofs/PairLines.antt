@@ -11,7 +11,7 @@ use Rattle.ttp_world.proofs.LineLists.{each-append}
 use Rattle.campaign.specs.CostText.{test_words, cost_words, fault_words, listed}
 use Rattle.campaign.specs.Lines.{summary, fault_slot, fault_node}
 use Rattle.campaign.specs.Tried.{with_fault}
-use Rattle.campaign.specs.ZerosWorld.{zeros_world}
+use Rattle.ttp_world.specs.ZerosWorld.{zeros_world}
 use Rattle.fault_pairs.specs.declared.pair.Harm.{Harm}
 use Rattle.fault_pairs.specs.declared.pair.PairClass.{PairClass}
 use Rattle.fault_pairs.specs.declared.pair.PairClass.TheVariants as class

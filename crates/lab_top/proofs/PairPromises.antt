@@ -4,7 +4,7 @@ use Rattle.ttp_base.specs.Text.{Lines}
 use Rattle.ttp_world.specs.declared.medl.Medl.{Medl}
 use Rattle.ttp_world.specs.declared.script.Script.{Script}
 use Rattle.campaign.specs.Tried.{slots_between}
-use Rattle.campaign.specs.ZerosWorld.{zeros_world}
+use Rattle.ttp_world.specs.ZerosWorld.{zeros_world}
 use Rattle.fault_pairs.specs.Pairs.{firsts_in}
 use Rattle.fault_pairs.specs.PairText.{first_fault_lines, pairs_lines}
 use Rattle.fault_pairs.specs.Sums.{PairTold, pair_counts}

@@ -19,7 +19,7 @@ use Rattle.ttp_base.proofs.Gathered.{has-gather}
 use Rattle.ttp_world.proofs.LineLists.{each-append}
 use Rattle.ttp_world.proofs.TraceWords.{has-entry_word}
 use Rattle.campaign.specs.CostText.{channels_word, listed}
-use Rattle.campaign.specs.ZerosWorld.{zeros_world}
+use Rattle.ttp_world.specs.ZerosWorld.{zeros_world}
 use Rattle.causes.specs.Members.{entry_at_spot, newest_entry_of}
 use Rattle.causes.specs.Reduced.{entry_alone, is_needed, is_same_word}
 use Rattle.causes.specs.RunSlots.{RunSlots, slots_of_run}

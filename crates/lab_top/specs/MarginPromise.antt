@@ -9,7 +9,7 @@ use Rattle.ttp_world.specs.Events.{IsWithinSpan}
 use Rattle.campaign.specs.declared.cost.Span.{Span}
 use Rattle.campaign.specs.Cost.{says_yes}
 use Rattle.campaign.specs.Lines.{summary}
-use Rattle.campaign.specs.ZerosWorld.{zeros_world}
+use Rattle.ttp_world.specs.ZerosWorld.{zeros_world}
 use Rattle.clock_margins.specs.declared.margin.Sweep.{Sweep}
 use Rattle.clock_margins.specs.Forms.{clock_place}
 use Rattle.clock_margins.specs.MarginText.{tolds_of, sweep_lines, sweep_margin, margin_lines}

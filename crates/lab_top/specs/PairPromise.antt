@@ -7,7 +7,7 @@ use Rattle.ttp_world.specs.declared.script.Script.{Script}
 use Rattle.ttp_world.specs.declared.script.TheConstants.{EVENT_LIMIT}
 use Rattle.campaign.specs.Lines.{summary, summary_with}
 use Rattle.campaign.specs.Tried.{with_fault, faults_from}
-use Rattle.campaign.specs.ZerosWorld.{zeros_world}
+use Rattle.ttp_world.specs.ZerosWorld.{zeros_world}
 use Rattle.single_faults.specs.Tried.{MayStand}
 use Rattle.fault_pairs.specs.Classes.{harm_of}
 use Rattle.fault_pairs.specs.Pairs.{FirstFault, SecondFault}

@@ -1,7 +1,7 @@
--- The words of tests, and the digits of memberships.
-use Rattle.std.proofs.Common.{◌≡◌, ℕ, ◌-◌, ◌/◌, ◌%◌, List, [], ◌∷◌, ◌++◌, length, take, refl, ap, sym, ◌∙◌, append_assoc, append-nil, length-append, arith}
+-- The words of tests.
+use Rattle.std.proofs.Common.{◌≡◌, ℕ, ◌-◌, List, [], ◌∷◌, ◌++◌, length, take, refl, ap, sym, ◌∙◌, append_assoc, append-nil, length-append, arith}
 use Rattle.std.specs.Prelude.{codes, decimal}
-use Rattle.ttp_base.specs.Text.{newline, hex_digit, hex}
+use Rattle.ttp_base.specs.Text.{newline}
 use Rattle.line_form.specs.Forms.{worded}
 use Rattle.ttp_world.specs.declared.keep.Back.TheVariants as back
 use Rattle.ttp_world.specs.declared.keep.Keep.TheVariants as keep
@@ -46,25 +46,6 @@ pub owed-no : (rule slot : ℕ) (first line : List ℕ) → first ≡ worded [] 
     → line ≡ worded first (codes " ") (decimal slot) → line ≡ unended (back_line (back.No rule slot))
 owed-no rule slot first line is and =
     two-words (codes "returns no Q") (decimal rule) (codes " ") (decimal slot) first line is and
-
--- the lowest digits of a number are those of what is left of it
-pub low-four : (v : ℕ) → hex 4 (v % 65536) ≡ hex 4 v
-low-four v =
-    let a : v % 65536 % 16 ≡ v % 16 = omega arith in
-    let b : v % 65536 / 16 % 16 ≡ v / 16 % 16 = omega arith in
-    let c : v % 65536 / 16 / 16 % 16 ≡ v / 16 / 16 % 16 = omega arith in
-    let d : v % 65536 / 16 / 16 / 16 % 16 ≡ v / 16 / 16 / 16 % 16 = omega arith in
-    λ i. hex_digit (d i) ∷ hex_digit (c i) ∷ hex_digit (b i) ∷ hex_digit (a i) ∷ []
-
-pub low-six : (v : ℕ) → hex 6 (v % 16777216) ≡ hex 6 v
-low-six v =
-    let a : v % 16777216 % 16 ≡ v % 16 = omega arith in
-    let b : v % 16777216 / 16 % 16 ≡ v / 16 % 16 = omega arith in
-    let c : v % 16777216 / 16 / 16 % 16 ≡ v / 16 / 16 % 16 = omega arith in
-    let d : v % 16777216 / 16 / 16 / 16 % 16 ≡ v / 16 / 16 / 16 % 16 = omega arith in
-    let e : v % 16777216 / 16 / 16 / 16 / 16 % 16 ≡ v / 16 / 16 / 16 / 16 % 16 = omega arith in
-    let f : v % 16777216 / 16 / 16 / 16 / 16 / 16 % 16 ≡ v / 16 / 16 / 16 / 16 / 16 % 16 = omega arith in
-    λ i. hex_digit (f i) ∷ hex_digit (e i) ∷ hex_digit (d i) ∷ hex_digit (c i) ∷ hex_digit (b i) ∷ hex_digit (a i) ∷ []
 
 -- six words behind another, without a line feed
 pub six-words : (text a b c d e f g h j k l m : List ℕ)

@@ -23,7 +23,6 @@ use Rattle.ttp_world.specs.ZerosWorld.{all_zeros, zeros_world}
 use Rattle.run_costs.specs.States.{state_at, AreShown, firm_of, firm_sets}
 use Rattle.run_costs.specs.Told.{is_hurt_by}
 use Rattle.run_costs.proofs.Nodes.{filter_map_agree-below}
-pub use Rattle.ttp_world.proofs.ZerosWorlds.{length-zeros_world as length-zeros}
 
 -- The run in which frames carry zeros.
 

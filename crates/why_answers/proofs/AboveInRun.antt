@@ -5,7 +5,7 @@ use Rattle.std.proofs.lemmas.Bool.{and_parts, cases_lt, false≢true}
 use Rattle.std.proofs.lemmas.List.{get_or_past}
 use Rattle.std.specs.List.{AllByRecursion}
 use Rattle.std.specs.Prelude.{IfSome, if◌then◌else◌}
-use Rattle.campaign.specs.ZerosWorld.{all_zeros, zeros_world}
+use Rattle.ttp_world.specs.ZerosWorld.{all_zeros, zeros_world}
 use Rattle.causes.specs.Causes.{cause_at, entry_cause, newest_cause}
 use Rattle.causes.specs.LinesOf.{remaining_in}
 use Rattle.causes.specs.Members.{entry_at_spot}
@@ -15,7 +15,7 @@ use Rattle.causes.specs.declared.cause.Cause.{Cause}
 use Rattle.causes.specs.declared.cause.Spot.{Spot}
 use Rattle.entry_causes.proofs.WhoSends.{remaining-slot_in}
 use Rattle.entry_causes.specs.Senders.{is_left_on}
-use Rattle.run_costs.proofs.Rows.{length-zeros}
+use Rattle.ttp_world.proofs.ZerosWorlds.{length-zeros_world}
 use Rattle.run_rows.proofs.Slots.{length-past_slots_in, past_slots_in-next, past_slots_in-suc, past_slots_in-zero, slot_in-number}
 use Rattle.run_rows.specs.Rows.{past_slots_in, slot_in}
 use Rattle.ttp_world.proofs.EntriesMade.{listening_entry-holds}
@@ -150,7 +150,7 @@ pub story-of : (list : Medl) (script : Script) (k slot : ℕ) → k < length lis
 story-of list script k slot node =
     let history = zeros_world list script slot in
     let run = first_slots list script (suc slot) in
-    let long = length-zeros list script slot in
+    let long = length-zeros_world list script slot in
     subst (λ (n : ℕ). IsStory (spot_at n k) (why_told list script k slot)) long
     (told-story list script (row_in (slot_after list script history) (all_zeros list)) history k node
     (λ s within. each-weaker (λ e. StandsAbove run e s) (λ e. level run e < level run s) (cause_at run s).entries

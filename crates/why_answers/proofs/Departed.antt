@@ -3,10 +3,10 @@ use Rattle.std.proofs.Common.{◌≡◌, ℕ, ◌+◌, ap, sym, ◌∙◌, refl}
 use Rattle.std.proofs.Math.Numerals.{suc-eq-add-one}
 use Rattle.std.specs.Prelude.{Option, Some, option_map}
 use Rattle.campaign.specs.Cost.{leave_after, newest_leave}
-use Rattle.campaign.specs.ZerosWorld.{zeros_world}
+use Rattle.ttp_world.specs.ZerosWorld.{zeros_world}
 use Rattle.campaign.specs.declared.cost.Leave.{Leave}
 use Rattle.causes.specs.Reduced.{entry_in_run}
-use Rattle.run_costs.proofs.Rows.{length-zeros}
+use Rattle.ttp_world.proofs.ZerosWorlds.{length-zeros_world}
 use Rattle.ttp_world.specs.declared.medl.Medl.{Medl}
 use Rattle.ttp_world.specs.declared.node.Entry.{Entry}
 use Rattle.ttp_world.specs.declared.node.Reason.{Reason}
@@ -22,7 +22,7 @@ next list script slot k =
     ap (λ n. departure_before list script n k) (sym (suc-eq-add-one slot))
     ∙ ap (λ n. option_map (λ leave. leave.slot)
     (leave_after k n (entry_in_run list script slot k) (newest_leave (zeros_world list script slot) k)))
-    (length-zeros list script slot)
+    (length-zeros_world list script slot)
 
 pub departed : (list : Medl) (script : Script) (slot k : ℕ) (e : Entry) (reason : Reason) (peer : ℕ)
     → e ≡ entry_in_run list script slot k → e ≡ entry.Left reason peer

@@ -2,7 +2,7 @@
 use Rattle.std.proofs.Common.{◌≡◌, ℕ, zero, suc, ◌+◌, ◌<◌, ◌≤◌, Bool, true, false, ap, sym, subst, ◌∙◌, refl, arith}
 use Rattle.std.proofs.Math.Numerals.{suc-eq-add-one}
 use Rattle.std.specs.Prelude.{Option, Some, None}
-use Rattle.campaign.specs.ZerosWorld.{zeros_world}
+use Rattle.ttp_world.specs.ZerosWorld.{zeros_world}
 use Rattle.causes.specs.Causes.{cause_at, newest_cause}
 use Rattle.causes.specs.Members.{entry_at_spot}
 use Rattle.causes.specs.RunSlots.{RunSlots, entry_in_slot, is_started, node_spot, slots_of_run}

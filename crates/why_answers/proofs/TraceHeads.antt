@@ -7,7 +7,7 @@ use Rattle.std.proofs.lemmas.List.Elements.{recursion_from_All}
 use Rattle.std.specs.Fmt.{signed_decimal}
 use Rattle.std.specs.List.{AllByRecursion, AllZip}
 use Rattle.std.specs.Prelude.{filter, reverse}
-use Rattle.campaign.specs.ZerosWorld.{all_zeros, zeros_world}
+use Rattle.ttp_world.specs.ZerosWorld.{all_zeros, zeros_world}
 use Rattle.causes.specs.Members.{entry_at_spot}
 use Rattle.causes.specs.Causes.{cause_at}
 use Rattle.causes.specs.RunSlots.{RunSlots, newest_spot}
@@ -23,7 +23,7 @@ use Rattle.frame_fates.proofs.ZerosRuns.{zeros-legal}
 use Rattle.frame_fates.proofs.Unnumbered.{entry_of-unnumbered}
 use Rattle.frame_fates.specs.Alike.{unnumbered, unnumbered_history, unnumbered_row}
 use Rattle.frame_fates.specs.Runs.{AreRuns}
-use Rattle.run_costs.proofs.Rows.{length-zeros}
+use Rattle.ttp_world.proofs.ZerosWorlds.{length-zeros_world}
 use Rattle.run_rows.specs.Rows.{slot_in}
 use Rattle.ttp_base.proofs.Below.{below-next}
 use Rattle.ttp_base.specs.NodeSet.{below, set_bits}
@@ -218,7 +218,7 @@ told-part list script k slot =
     let source : RunSource = record { list = list; script = script; history = history } in
     let run = first_slots list script (suc slot) in
     let n = length list.slots in
-    let long = length-zeros list script (suc slot) in
+    let long = length-zeros_world list script (suc slot) in
     let asked = newest_spot k run in
     let origin = added_root script k (drop 1 run) (cause_at run asked).entries in
     let reach = reached run (asked ∷ origin) (spots_back run) in

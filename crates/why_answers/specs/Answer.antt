@@ -3,7 +3,7 @@ use Rattle.std.specs.Fmt.{decimal}
 use Rattle.std.specs.Prelude.{List, None, Option, Some, [], codes, if◌then◌else◌, length, nat_lt, option_map, ℕ, ◌++◌, ◌-◌}
 use Rattle.std.specs.Prelude.{◌∷◌}
 use Rattle.campaign.specs.Cost.{newest_leave}
-use Rattle.campaign.specs.ZerosWorld.{zeros_world}
+use Rattle.ttp_world.specs.ZerosWorld.{zeros_world}
 use Rattle.causes.specs.WhyText.{why_text}
 use Rattle.line_numbers.specs.Numbers.{line_numbers_in}
 use Rattle.ttp_base.specs.Text.{Lines, newline}

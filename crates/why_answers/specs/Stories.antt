@@ -1,7 +1,7 @@
 -- What is owed of the stories that `why` tells.
 use Rattle.std.specs.List.{AllByRecursion, list_any}
 use Rattle.std.specs.Prelude.{◌≡◌, ◌⊎◌, ◌<◌, Bool, List, [], codes, filter, ℕ, map, suc, true, ◌++◌, ◌==◌, ◌∷◌}
-use Rattle.campaign.specs.ZerosWorld.{zeros_world}
+use Rattle.ttp_world.specs.ZerosWorld.{zeros_world}
 use Rattle.causes.specs.Members.{entry_at_spot}
 use Rattle.causes.specs.RunSlots.{RunSlots, slots_of_run}
 use Rattle.causes.specs.Story.{has_spot, leads_back, lines_told, rank_of_entry, story}

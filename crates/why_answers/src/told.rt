@@ -22,7 +22,7 @@ struct RunCauses<'a> {
 }
 
 impl Causes for RunCauses<'_> {
-    ghost use Rattle.campaign.specs.ZerosWorld.{zeros_world};
+    ghost use Rattle.ttp_world.specs.ZerosWorld.{zeros_world};
 
     ghost source = { λ s. record {
       list = s.run.now.list;

@@ -7,7 +7,7 @@ use Rattle.ttp_base.specs.Text.{Lines}
 use Rattle.ttp_world.specs.declared.medl.Medl.{Medl}
 use Rattle.ttp_world.specs.declared.node.Entry.{Entry}
 use Rattle.ttp_world.specs.declared.script.Script.{Script}
-use Rattle.campaign.specs.ZerosWorld.{zeros_world}
+use Rattle.ttp_world.specs.ZerosWorld.{zeros_world}
 use Rattle.causes.specs.Members.{entry_at_spot, newest_entry_of}
 use Rattle.causes.specs.RunSlots.{RunSlots}
 use Rattle.causes.specs.Reduced.{entry_alone, is_same_word}
@@ -17,12 +17,12 @@ use Rattle.causes.specs.WhyText.{why_lines_in, why_lines_told, why_text}
 use Rattle.causes.specs.declared.cause.LineNumbers.{LineNumbers}
 use Rattle.causes.specs.declared.cause.ScriptLine.{ScriptLine}
 use Rattle.causes.specs.declared.cause.Story.{Story}
-use Rattle.run_costs.proofs.Rows.{length-zeros}
+use Rattle.ttp_world.proofs.ZerosWorlds.{length-zeros_world}
 use Rattle.why_story.specs.RunSource.{RunSource, source_slots, spot_at}
 use Rattle.why_story.proofs.Slots.{length-run}
 
 pub zeros-slots : (list : Medl) (script : Script) (slot : ℕ) → length (zeros_world list script (suc slot)) ≡ slot + 1
-zeros-slots list script slot = length-zeros list script (suc slot) ∙ suc-eq-add-one slot
+zeros-slots list script slot = length-zeros_world list script (suc slot) ∙ suc-eq-add-one slot
 
 -- the entry of the newest slot
 pub newest-entry : (source : RunSource) (slot k : ℕ) → length source.history ≡ slot + 1

@@ -2,7 +2,7 @@
 ghost use Rattle.std.specs.Prelude.{◌≡◌, ◌+◌, ◌++◌, ◌∷◌, [], ◌<◌, length, map, suc, IfOk, OnOk};
 ghost use Rattle.ttp_world.specs.Medl.{IsValid};
 ghost use Rattle.ttp_world.specs.Script.{IsValidScript};
-ghost use Rattle.campaign.specs.ZerosWorld.{zeros_world};
+ghost use Rattle.ttp_world.specs.ZerosWorld.{zeros_world};
 ghost use Rattle.causes.specs.Reduced.{is_same_word};
 ghost use Rattle.causes.specs.WhyText.{alone_line, why_head, why_lines_told, why_text};
 ghost use Rattle.why_story.specs.RunSource.{AreRunSpots, IsRunSpot, source_slots};

@@ -1,8 +1,8 @@
 use Rattle.std.proofs.Common.{◌+◌, arith}
-use Rattle.campaign.specs.ZerosWorld.{zeros_world}
+use Rattle.ttp_world.specs.ZerosWorld.{zeros_world}
 use Rattle.causes.specs.Causes.{cause_at, newest_cause}
 use Rattle.causes.specs.RunSlots.{slots_of_run}
-use Rattle.run_costs.proofs.Rows.{length-zeros}
+use Rattle.ttp_world.proofs.ZerosWorlds.{length-zeros_world}
 use Rattle.run_rows.specs.Rows.{past_slots}
 use Rattle.why_answers.proofs.RunSpots.{cause-at}
 use Rattle.why_lines.proofs.Whole.{if_ok-equal}
@@ -12,7 +12,7 @@ use Rattle.why_answers.proofs.told.RunCausesCauses.cause.Goals as goal
 pub cause-requires-clause-slot : goal.cause-requires-clause-slot
 cause-requires-clause-slot c =
     let run = c.args.self.now.run.now in
-    omega (arith, c.requires.slot, length-zeros run.list run.script run.slots)
+    omega (arith, c.requires.slot, length-zeros_world run.list run.script run.slots)
 
 pub returns : goal.returns
 returns c =
@@ -21,4 +21,4 @@ returns c =
     (cause_at (slots_of_run run.list run.script (zeros_world run.list run.script run.slots)) (spot_at c.args.slot c.args.node))
     c.cause.ensures
     (cause-at run.list run.script run.slots c.args.slot c.args.node
-    (omega (arith, c.requires.slot, length-zeros run.list run.script run.slots)))
+    (omega (arith, c.requires.slot, length-zeros_world run.list run.script run.slots)))
