@@ -89,8 +89,9 @@ pub fn bench<R: Threads + Wait + Sync, L: Library, K: Sink, G: Gate>(
     // For `run`, in its own words: status 0 is the trace of the world's run for the numbers that the trace
     // names, which are legal. Where the script keeps the single-fault hypothesis, that run is safe from its start on,
     // clocks of correct nodes are near, and they have judged the same frames and run one mode; where armed nodes are
-    // owed their places, it is safe with armed nodes. Right files give one; with status 6 one was cut short, and with status 7 it ends with a
-    // whole line before its last one. After status 0 the cluster that ran is kept, and stands for these numbers.
+    // guaranteed their places, it is safe with armed nodes. Right files give one; with status 6 one was cut short, and
+    // with status 7 it ends with a whole line before its last one. After status 0 the cluster that ran is kept, and
+    // stands for these numbers.
     ensures run { (list script : List ℕ) → form_of (texts_of words.now) ≡ Some (run list script)
         → RunPromise list script (outside (L.files library.old) (K.output out.old))
         (outside (L.files library.new) (K.output out.new)) (answer result kept.new) }

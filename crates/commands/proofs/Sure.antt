@@ -112,7 +112,7 @@ module _ {p : Program} {plan : Plan p.Sets} {before now : Outside} {answer : Ans
             ]
       ]
 
-  -- so what is owed where it counted none comes, or status 6
+  -- so what is promised where it counted none comes, or status 6
   pub unless_cut : {A : Type 0} → before.output.faults < count_end
       → (¬ HasRisen before.output.faults now.output.faults → A) → A ⊎ (answer.status ≡ 6)
   unless_cut {A = A} can owed =

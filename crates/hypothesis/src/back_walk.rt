@@ -177,7 +177,7 @@ fn walked_back(list: &Medl, script: &Script, start: Start, walk: Walk) -> Back
     }
 }
 
-/// Whether each armed node is owed its place by the rules on faults and arm lines, where its cluster
+/// Whether each armed node is guaranteed its place by the rules on faults and arm lines, where its cluster
 /// starts. The walk goes to the slot of the start also where the run ends before it.
 pub(crate) fn started_back(list: &Medl, script: &Script, start: Start) -> Back
     requires valid { IsValid list.now }

@@ -2,7 +2,7 @@
 //!
 //! [`keeps`] says whether a script keeps the hypothesis for a list, under which the promise of safety stands:
 //! with the slot of the start, or with the first of the seven rules that is broken and the slot that is named
-//! for it. [`returns`] says the same of what armed nodes are owed, by eight rules. `show_keep` and
+//! for it. [`returns`] says whether armed nodes are guaranteed their places, by eight rules. `show_keep` and
 //! `show_back` of ttp_top write their lines:
 //!
 //! ```text
@@ -114,7 +114,7 @@ pub fn keeps(list: &Medl, script: &Script) -> Keep
     }
 }
 
-/// Whether each node that is armed to listen again is owed its place within four rounds: the slot of
+/// Whether each node that is armed to listen again is guaranteed its place within four rounds: the slot of
 /// the start, or the first rule that is broken with the slot that is named for it.
 ///
 /// 1. Clocks, 4. the start, 6. distances and 7. nodes to measure are asked as in [`keeps`].

@@ -271,7 +271,7 @@ module _ (list : Medl) (script : Script) (valid : IsValid list) (valid_script : 
       (of_events (outside_slot list script) outside_in)
       (started_keep-fits (start_of list script) start_of-in)))
 
-  -- What armed nodes are owed.
+  -- Whether armed nodes are guaranteed their places.
 
   started_back-fits : (start : Option ClusterStart) → StartsIn start → BackFits (started_back list script start)
   started_back-fits None is = record { fits = (omega arith, omega arith); is = refl }

@@ -92,7 +92,7 @@ slots_listed list script (row ∷ history) [] = []
 slots_listed list script (row ∷ history) (new ∷ numbers) =
     slots_listed list script history numbers ++ slot_listed list script row history new ∷ []
 
--- whether each armed node is owed its place, where a node is armed
+-- whether each armed node is guaranteed its place, where a node is armed
 abbrev pub back_if : Medl → Script → Bool → Option Back
 back_if list script true = Some (returns list script)
 back_if list script false = None

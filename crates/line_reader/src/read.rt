@@ -151,7 +151,7 @@ fn broken_in(bytes: &[u8]) -> Option<TraceLine>
     line.close(TraceLine::Keep(Keep::No { rule, slot }))
 }
 
-// The line on armed nodes where each is owed its place.
+// The line on armed nodes where each is guaranteed its place.
 #[tactic(auto, unfolding(crate::specs::Reading::owed_in))]
 fn owed_in(bytes: &[u8]) -> Option<TraceLine>
     ensures { result ≡ owed_in bytes.now }

@@ -69,7 +69,7 @@ pub enum TraceLine {
     },
     /// The answer of the hypothesis test.
     Keep(Keep),
-    /// Whether each armed node is owed its place.
+    /// Whether each armed node is guaranteed its place.
     Back(Back),
 }
 

@@ -28,7 +28,7 @@ pub fn keep_line(keep: &Keep) -> Line
     line
 }
 
-/// The line that says whether each armed node is owed its place again. Takes no memory.
+/// The line that says whether each armed node is guaranteed its place again. Takes no memory.
 #[tactic(auto, using(ttp_base::proofs::Room::room))]
 pub fn back_line(back: &Back) -> Line
     ensures text { result ≡ back_line back.now }

@@ -116,7 +116,7 @@ too_soon = codes "a fault comes too soon after the start or another fault"
 abbrev pub too_few : List ℕ
 too_few = codes "fewer than four correct nodes are left to measure clocks by"
 
--- what it means that a rule is broken, from rule 1 on, of the hypothesis and of what armed nodes are owed
+-- what it means that a rule is broken, from rule 1 on, of the hypothesis and on the places of armed nodes
 abbrev pub rule_meanings : Lines
 rule_meanings =
     bounds_passed

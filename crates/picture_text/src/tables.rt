@@ -135,7 +135,7 @@ pub(crate) fn rule_meaning(number: u8) -> &'static str
     }
 }
 
-/// What it means that a rule of what armed nodes are owed is broken.
+/// What it means that a rule on the places of armed nodes is broken.
 pub(crate) fn returning_meaning(number: u8) -> &'static str
     ensures text { result.now ≡ get_or returning_meanings (number - 1) [] }
     ensures short { length result.now ≤ 100 }

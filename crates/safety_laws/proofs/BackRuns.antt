@@ -1,4 +1,4 @@
--- What the rules say of a run whose armed nodes are owed their places.
+-- What the rules say of a run whose armed nodes are guaranteed their places.
 use Rattle.safety_laws.proofs.BackWords.{◌≡◌, ℕ, zero, suc, ◌<◌, ◌≤◌, true, false, [], length, ◌⊎◌, ap, sym, subst, ◌∙◌, inl}
 use Rattle.safety_laws.proofs.BackWords.{inr, arith, AllByRecursion, not-false, Medl, Channel, Script, ClusterStart, FaultyNode}
 use Rattle.safety_laws.proofs.BackWords.{slots_before, joinings, has_four_before, breaks_arm_in, is_armed, flipped_bits}

@@ -1,4 +1,4 @@
--- A script whose test says that its armed nodes are owed their places follows its plan.
+-- A script whose test says that its armed nodes are guaranteed their places follows its plan.
 use Rattle.safety_laws.proofs.BackWords.{◌≡◌, ℕ, suc, ◌+◌, ◌-◌, ◌<◌, ◌≤◌, false, length, refl, sym, inr, arith, not-false}
 use Rattle.safety_laws.proofs.BackWords.{false_from_ne_true, Medl, Script, ClusterStart, IsValid, two_rounds, slots_before}
 use Rattle.safety_laws.proofs.BackWords.{joinings, has_four_before, breaks_arm_in, returns, is_armed, IsValidScript, arms}

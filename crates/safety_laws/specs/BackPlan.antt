@@ -1,4 +1,4 @@
--- The plan of faults of a script whose armed nodes are owed their places again.
+-- The plan of faults of a script whose armed nodes are guaranteed their places again.
 use Rattle.std.specs.Prelude.{◌≡◌, ◌≢◌, ℕ, suc, ◌+◌, ◌-◌, ◌<◌, ◌≤◌, true, false, map, length, filter, find}
 use Rattle.std.specs.Prelude.{Option, Some, None, unwrap_or}
 use Rattle.std.specs.List.{filter_map}
@@ -43,7 +43,7 @@ back_plan_of list script start = record {
   returns = filter_map (return_of list script start) script.events;
 }
 
--- A script whose test says that its armed nodes are owed their places follows its plan.
+-- A script whose test says that its armed nodes are guaranteed their places follows its plan.
 pub record ReturnsByPlan (list : Medl) (script : Script) (slot : ℕ) : Type 0 where
   pub start : ClusterStart
   pub started : start_of list script ≡ Some start

@@ -1,4 +1,4 @@
--- What a plan tells of a script whose armed nodes are owed their place again.
+-- What a plan tells of a script whose armed nodes are guaranteed their place again.
 use Rattle.std.specs.Prelude.{◌≡◌, ℕ, suc, ◌+◌, ◌-◌, ◌*◌, ◌<◌, ◌≤◌, false, true, length, Some, None}
 use Rattle.std.specs.List.{AllByRecursion}
 use Rattle.ttp_world.specs.declared.medl.Medl.{Medl}

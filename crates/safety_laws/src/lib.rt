@@ -58,7 +58,7 @@ mod worked_slots;
 
 use ttp_world::{Medl, Script};
 
-/// What a script is owed that keeps the single-fault hypothesis, whose cluster starts in slot `start`.
+/// What holds of a script that keeps the single-fault hypothesis, whose cluster starts in slot `start`.
 /// After each slot from that one on, and for all legal message numbers, the four tests of safety hold
 /// (`safe`): correct nodes that are not in doubt hold one membership, each correct node that has started
 /// or sent is in it, no correct node has left, and each node that became faulty two rounds ago has left

@@ -1,6 +1,6 @@
-//! Safety under the hypothesis by which a node that is armed again is owed its place.
+//! Safety under the hypothesis by which a node that is armed again is guaranteed its place.
 //!
-//! A node that left may be armed to listen again, and eight rules say when it is owed its place (`returns`
+//! A node that left may be armed to listen again, and eight rules say when it is guaranteed its place (`returns`
 //! of `ttp_world`'s specs). By the plan of such a script (`back_plan_of`) each time that a node becomes
 //! faulty is a loss, and each arm line a return: the node listens from its slot on, and enters by the first
 //! frame of another node that is not faulty and that carries a C-state. [`laws::returned_by_plan`] takes the
@@ -42,7 +42,7 @@ mod worked_case;
 
 use ttp_world::{Medl, Script};
 
-/// What a script is owed whose test says that its armed nodes get their places again, and whose cluster
+/// What holds of a script whose test says that its armed nodes get their places again, and whose cluster
 /// starts in slot `start`. After each slot from that one on, and for all legal message numbers, five
 /// tests hold, of the nodes that this test calls correct. Those that are not in doubt hold one
 /// membership; each that has started or sent in its stint is in it; none has left since it was armed

@@ -1,4 +1,4 @@
--- What is owed of a fault that is tried: it may stand in the script.
+-- What holds of a fault that is tried: it may stand in the script.
 use Rattle.std.specs.Prelude.{◌≡◌, false}
 use Rattle.ttp_world.specs.declared.medl.Medl.{Medl}
 use Rattle.ttp_world.specs.declared.script.Event.{Event}

@@ -1,4 +1,4 @@
-//! What is owed of a script with one fault more. The functions do nothing; their contracts are the laws.
+//! What holds of a script with one fault more. The functions do nothing; their contracts are the laws.
 ghost use Rattle.std.specs.Prelude.{ℕ, ◌<◌, length, All};
 ghost use Rattle.ttp_world.specs.declared.script.TheConstants.{EVENT_LIMIT};
 ghost use Rattle.ttp_world.specs.Diary.{History};

@@ -1,4 +1,4 @@
--- What is owed to a run in which one node may be two-faced.
+-- What holds of a run in which one node may be two-faced.
 use Rattle.std.specs.Prelude.{◌≡◌, ℕ, ◌<◌, ◌≤ℤ◌, ◌-ℤ◌, length, IsTrue}
 use Rattle.ttp_world.specs.declared.medl.Medl.{Medl}
 use Rattle.ttp_world.specs.declared.node.Phase.TheVariants as phase

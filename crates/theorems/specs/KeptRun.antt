@@ -1,4 +1,4 @@
--- What is owed to a run whose script keeps the single-fault hypothesis, and to one whose armed nodes are owed their
+-- What holds of a run whose script keeps the single-fault hypothesis, and of one whose armed nodes are guaranteed their
 -- places.
 use Rattle.std.specs.Prelude.{ℕ, ◌<◌, ◌≤ℤ◌, ◌-ℤ◌, neg_ℤ, length}
 use Rattle.ttp_world.specs.declared.medl.Medl.{Medl}
@@ -44,6 +44,6 @@ pub record IsKeptRun (list : Medl) (script : Script) (start : ℕ) (history : Hi
   pub frames : HoldsSince (HaveJudgedAlike list script start) start history
   pub modes : HoldsSince (RunOneMode list script) start history
 
--- a run of a script whose armed nodes are owed their places, whose cluster starts in slot `start`
+-- a run of a script whose armed nodes are guaranteed their places, whose cluster starts in slot `start`
 abbrev pub IsBackRun : Medl → Script → ℕ → History → Type 0
 IsBackRun list script start history = HoldsSince (IsBackSafe list script) start history

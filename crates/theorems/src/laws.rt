@@ -41,7 +41,7 @@ pub fn mode_texts()
         → start ≤ slot → slot < script.slots → ShowsOneMode list script (mode_lines list script numbers) slot }
 {}
 
-/// A run whose armed nodes are owed their places: after each slot from the start on the five tests of safety
+/// A run whose armed nodes are guaranteed their places: after each slot from the start on the five tests of safety
 /// with armed nodes hold.
 pub fn back_runs()
     ensures { (list : Medl) (script : Script) (start : ℕ) (numbers : Numbers) → IsValid list

@@ -1,5 +1,5 @@
 -- Safety with armed nodes: what holds of the nodes after a slot, where a script keeps the hypothesis under which such a
--- node is owed its place again.
+-- node is guaranteed its place again.
 --
 -- The words are those of safety, for nodes that are correct by the other test. A node that left may be armed to listen
 -- again, so what is said of one that left, or became faulty, is said since it was armed last.

@@ -1,4 +1,4 @@
--- When a node that is armed to listen again is owed its place: eight rules, of which the first that is broken is named
+-- When a node that is armed to listen again is guaranteed its place: eight rules, of which the first that is broken is named
 -- with a slot. Most are those of the single-fault hypothesis; but arm lines may stand, and four rounds after it was
 -- armed a node is faulty no longer.
 use Rattle.std.specs.Prelude.{ℕ, zero, suc, ◌+◌, ◌-◌, ◌*◌, ◌/◌, ◌%◌, min, nat_le, nat_lt, ℤ, pos, ◌+ℤ◌, ◌*ℤ◌}
@@ -264,14 +264,14 @@ breaks_arm_in list script start slot =
 abbrev pub arms_broken : Medl → Script → ClusterStart → Option ℕ
 arms_broken list script start = find (breaks_arm_in list script start) (below script.slots)
 
--- Where no node is armed, none is owed anything.
+-- Where no node is armed, there is nothing to guarantee.
 
 -- an event arms a node
 abbrev pub is_arm : Event → Bool
 is_arm (event.Arm node slot) = true
 is_arm _ = false
 
--- some event of a script arms a node; where none does, no node is owed anything
+-- some event of a script arms a node; where none does, there is nothing to guarantee
 abbrev pub has_arm : Script → Bool
 has_arm script = list_any is_arm script.events
 

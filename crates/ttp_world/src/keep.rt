@@ -1,4 +1,4 @@
-//! The answers of the tests of scripts: of the single-fault hypothesis, and of what armed nodes are owed.
+//! The answers of the tests of scripts: of the single-fault hypothesis, and of the places of armed nodes.
 
 /// Whether a script keeps the single-fault hypothesis.
 #[derive(Clone, Copy, PartialEq, Eq)]
@@ -9,7 +9,7 @@ pub enum Keep {
     No { rule: u8, slot: u32 },
 }
 
-/// Whether each node that is armed to listen again is owed its place.
+/// Whether each node that is armed to listen again is guaranteed its place.
 #[derive(Clone, Copy, PartialEq, Eq)]
 pub enum Back {
     /// It is, and the cluster starts in this slot.

@@ -1,4 +1,4 @@
--- What a script is owed in which one sender may be two-faced: each frame is judged correct.
+-- What holds of a script in which one sender may be two-faced: each frame is judged correct.
 --
 -- A history has its newest slot first, and its length is the number of the slot after it.
 use Rattle.std.specs.Prelude.{◌≢◌, ℕ, ◌<◌, List, [], ◌∷◌, length, IsTrue}

@@ -1,4 +1,4 @@
-//! The law of clocks with one two-faced sender, and what a script is owed that may have one. The functions do nothing;
+//! The law of clocks with one two-faced sender, and what holds of a script that may have one. The functions do nothing;
 //! their contracts are the laws.
 ghost use Rattle.std.specs.Prelude.{◌≡◌, ℕ, suc, ◌+◌, ◌<◌, ◌≤◌, ◌-ℤ◌, ◌≤ℤ◌, [], length, IsTrue};
 ghost use Rattle.ttp_world.specs.declared.medl.Medl.{Medl};
@@ -44,7 +44,7 @@ pub fn clocks_near()
         → IsTrue (is_within_window list (measured list script history r p)) }
 {}
 
-/// What a script is owed in which `node` may be two-faced, and whose cluster starts in slot `start`. After
+/// What holds of a script in which `node` may be two-faced, and whose cluster starts in slot `start`. After
 /// each slot from that one on, and for all legal message numbers, every node that is on is active
 /// (`active`), and in each slot after the start it judged the frame of each other node that sent correct
 /// (`correct`). All nodes that are on hold one membership (`members`), and the clocks of any two of them,

@@ -17,7 +17,7 @@
 //! ```
 //!
 //! The rules are those of `specs/Faced.antt`; what they share with the single-fault hypothesis is asked of
-//! the crate hypothesis. [`halved`] is the law that a script which keeps them is owed: every frame is
+//! the crate hypothesis. [`halved`] is the law of a script that keeps them: every frame is
 //! judged correct, and the clocks stay within the bound. Its proof is safety_laws' induction, with a plan
 //! without incidents (`proofs/QuietPlan.antt`) and the clocks of [`clocks_near`]; theorems cites it from
 //! `proofs/Judged.antt`.

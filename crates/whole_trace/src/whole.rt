@@ -66,7 +66,7 @@ impl<'a> Whole<'a> {
         self.outline.keep
     }
 
-    /// Whether each armed node is owed its place, where the trace says it.
+    /// Whether each armed node is guaranteed its place, where the trace says it.
     pub fn back(&self) -> Option<Back>
         ensures { result ≡ self.now.back }
     {

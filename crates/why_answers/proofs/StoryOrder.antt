@@ -150,7 +150,7 @@ kept-has back marks (t ∷ older) e is marked =
       | inr more ↦ kept-has back marks older e more marked
     ])
 
--- What is owed of a story of an entry.
+-- What holds of a story of an entry.
 pub record IsStory (asked : Spot) (told : List Told) : Type 0 where
   pub above : AreNamedAbove told
   pub from : AreToldFrom asked told

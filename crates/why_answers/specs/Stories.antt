@@ -1,4 +1,4 @@
--- What is owed of the stories that `why` tells.
+-- What holds of the stories that `why` tells.
 use Rattle.std.specs.List.{AllByRecursion, list_any}
 use Rattle.std.specs.Prelude.{◌≡◌, ◌⊎◌, ◌<◌, Bool, List, [], codes, filter, ℕ, map, suc, true, ◌++◌, ◌==◌, ◌∷◌}
 use Rattle.ttp_world.specs.ZerosWorld.{zeros_world}

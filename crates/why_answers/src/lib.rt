@@ -13,8 +13,8 @@
 //! ([`why_lines::why_lines`]); without a slot it costs one run more, of which nothing is kept. The bytes are those that the script was
 //! read from: they give the numbers of its lines. The crate writes nothing, and shares nothing.
 //!
-//! [`laws`] says what is owed of the text: that what is named stands above and is listed, that lines begin as those of the
-//! trace do, and that all fault lines together suffice.
+//! [`laws`] says what holds of the text: that what is named stands above and is listed, that lines begin as those of
+//! the trace do, and that all fault lines together suffice.
 #![tactic(auto, using(ttp_world::proofs::Lists::nodes))]
 
 mod answer;

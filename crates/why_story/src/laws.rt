@@ -1,4 +1,4 @@
-//! What is owed of stories. The function does nothing; its contract is the law.
+//! What holds of stories. The function does nothing; its contract is the law.
 ghost use Rattle.std.specs.Prelude.{ℕ, ◌∷◌, []};
 ghost use Rattle.ttp_world.specs.declared.script.Script.{Script};
 ghost use Rattle.causes.specs.RunSlots.{RunSlots, newest_spot};

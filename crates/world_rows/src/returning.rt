@@ -1,4 +1,4 @@
-//! Whether an armed node is owed its place again.
+//! Whether an armed node is guaranteed its place again.
 ghost use Rattle.std.specs.Prelude.{◌≡◌, [], ◌∷◌};
 ghost use Rattle.ttp_world.specs.declared.keep.Back.TheVariants as back;
 ghost use Rattle.ttp_world.specs.declared.script.Event.TheVariants as event;
@@ -7,7 +7,7 @@ ghost use Rattle.ttp_world.specs.Returning.{returns};
 ghost use Rattle.world_rows.specs.Cases.{bare_list, both, only_a};
 ghost use Rattle.world_rows.specs.Rejoining.{window_of_two, rearmed_in, implicit_list, armed_until};
 
-/// Node 2 became faulty in slot 26. Armed in slot 40 it is owed its place; three slots earlier it is
+/// Node 2 became faulty in slot 26. Armed in slot 40 it is guaranteed its place; three slots earlier it is
 /// not, since slot 26 lies in the two rounds up to slot 37. A window of one is too narrow.
 pub fn owed_its_place()
     ensures owed { returns window_of_two (rearmed_in 40) ≡ back.Yes 12 }

@@ -12,7 +12,7 @@ ghost use Rattle.ttp_world.specs.World.{Numbers, world};
 ghost use Rattle.safety_laws.specs.BackPlan.{back_plan_of, ReturnsByPlan};
 ghost use Rattle.safety_laws.specs.PlannedRun.{StandsBack};
 
-/// A valid script whose test says that its armed nodes are owed their places again follows a good plan
+/// A valid script whose test says that its armed nodes are guaranteed their places again follows a good plan
 /// of faults from the start on, which is that of its faulty nodes and its arm lines.
 pub fn returned_by_plan()
     ensures { (list : Medl) (script : Script) (slot : ℕ) → IsValid list → IsValidScript list script

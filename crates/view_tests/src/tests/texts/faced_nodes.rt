@@ -30,7 +30,7 @@ fn ask_law(list: &Medl, script: &Script, node: u8, start: u32)
     halved(list, script, node, start);
 }
 
-// Whether a script keeps the rules; it is then owed the law.
+// Whether a script keeps the rules; the law then holds of it.
 fn is_owed_law(list: &Medl, script: &Script, node: u8) -> bool
     requires valid { IsValid list.now }
     requires script { IsValidScript list.now script.now }
