@@ -57,11 +57,18 @@ node_line-IsLine width slot k state message =
     (decimal state.accepted) (decimal state.rejected) (ack_word state.ack) (signed_decimal state.offset))
     (has-gather 10 [] (node_pieces (decimal slot) (decimal k) (entry_word state.entry) peer (number_or_dash message) members
     (decimal state.accepted) (decimal state.rejected) (ack_word state.ack) (signed_decimal state.offset)) refl
-    (simp (has-decimal 10 slot feed_is_low, has-decimal 10 k feed_is_low, has-entry_word 10 state.entry feed_is_low,
-    has-number_or_dash 10 (peer_of k state.entry) feed_is_low, has-number_or_dash 10 message feed_is_low,
-    has-hex 10 width (set_bits state.members) feed_is_low, has-decimal 10 state.accepted feed_is_low,
-    has-decimal 10 state.rejected feed_is_low, has-ack_word 10 state.ack feed_is_low,
-    has-signed 10 state.offset feed_is_low)))
+    (simp (
+      has-decimal 10 slot feed_is_low,
+      has-decimal 10 k feed_is_low,
+      has-entry_word 10 state.entry feed_is_low,
+      has-number_or_dash 10 (peer_of k state.entry) feed_is_low,
+      has-number_or_dash 10 message feed_is_low,
+      has-hex 10 width (set_bits state.members) feed_is_low,
+      has-decimal 10 state.accepted feed_is_low,
+      has-decimal 10 state.rejected feed_is_low,
+      has-ack_word 10 state.ack feed_is_low,
+      has-signed 10 state.offset feed_is_low,
+    )))
 
 -- Host lines.
 
