@@ -1,5 +1,6 @@
 -- The first arm line that does not give its node its place stands in the slot that the rule names.
-use Rattle.std.proofs.Common.{arith, ◌≡◌, ℕ, zero, suc, ◌+◌, ◌<◌, Bool, true, false, cond, not, ◌||◌, List, [], ◌∷◌, Option, Some, None}
+use Rattle.std.proofs.Common.{arith, ◌≡◌, ℕ, zero, suc, ◌+◌, ◌<◌, Bool, true, false}
+use Rattle.std.proofs.Common.{cond, not, ◌||◌, List, [], ◌∷◌, Option, Some, None}
 use Rattle.std.proofs.Common.{is_some, option_map, refl, ap, sym, ◌∙◌}
 use Rattle.std.proofs.lemmas.Bool.{eqb-true, and_parts, not-true}
 use Rattle.std.specs.List.{list_any, find, range_with_len}
@@ -86,10 +87,12 @@ one-fails : (list : Medl) (script : Script) (start : ClusterStart) (k slot place
     → is_some (broken_from list script start slot place events) ≡ true
 one-fails list script start k slot place [] armed fails = absurd (grind arith)
 one-fails list script start k slot place (e ∷ events) armed fails =
-    one-step list script start k slot place e events (arms k slot e) (arm_fails list script start slot place e) refl refl
+    one-step list script start k slot place e events (arms k slot e)
+    (arm_fails list script start slot place e) refl refl
     fails (λ any. one-fails list script start k slot (place + 1) events any fails) armed
 
-armed-by : (list : Medl) (script : Script) (start : ClusterStart) (k slot : ℕ) (armed : Bool) → is_armed script k slot ≡ armed
+armed-by : (list : Medl) (script : Script) (start : ClusterStart) (k slot : ℕ) (armed : Bool)
+    → is_armed script k slot ≡ armed
     → fails_if_armed list script start k slot armed ≡ true
     → is_some (broken_from list script start slot 0 script.events) ≡ true
 armed-by list script start k slot false is fails = absurd (grind arith)
@@ -158,7 +161,8 @@ named-by : (list : Medl) (script : Script) (start : ClusterStart) (broken : Opti
 named-by list script start None is = refl
 named-by list script start (Some slot) is =
     told-slot list script start slot 0 script.events
-    ∙ the-slot slot (broken_from list script start slot 0 script.events) (any-node list script start slot (nodes_of list)
+    ∙ the-slot slot (broken_from list script start slot 0 script.events)
+    (any-node list script start slot (nodes_of list)
     (found-passes (breaks_arm_in list script start) slot (below script.slots) is))
 
 pub named : (list : Medl) (script : Script) (start : ClusterStart)

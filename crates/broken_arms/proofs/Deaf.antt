@@ -10,5 +10,6 @@ use Rattle.hypothesis.specs.Standing.{HaveSameNodes}
 pub same-deaf : (script : Script) (s t : List ℕ) (slot k : ℕ) → HaveSameNodes s t → k < most_nodes
     → is_deaf script s slot k ≡ is_deaf script t slot k
 same-deaf script s t slot k same small =
-    ap (λ b. (is_on script k slot && not b) && (is_deaf_on script k slot channel.A && is_deaf_on script k slot channel.B))
+    ap (λ b. (is_on script k slot && not b)
+    && (is_deaf_on script k slot channel.A && is_deaf_on script k slot channel.B))
     (same k small)

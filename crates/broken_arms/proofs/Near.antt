@@ -1,5 +1,6 @@
 -- The first fault near a slot.
-use Rattle.std.proofs.Common.{◌≡◌, ℕ, zero, suc, ◌+◌, ◌-◌, ◌<◌, ◌≤◌, min, Bool, true, false, cond, ◌&&◌, List, [], ◌∷◌, ◌++◌}
+use Rattle.std.proofs.Common.{◌≡◌, ℕ, zero, suc, ◌+◌, ◌-◌, ◌<◌, ◌≤◌, min, Bool}
+use Rattle.std.proofs.Common.{true, false, cond, ◌&&◌, List, [], ◌∷◌, ◌++◌}
 use Rattle.std.proofs.Common.{Option, Some, None, option_map, refl, ap, sym, ◌∙◌, arith}
 use Rattle.std.proofs.lemmas.Bool.{lt-ltb, le-ltb}
 use Rattle.std.specs.List.{find}
@@ -50,7 +51,8 @@ before-near : (list : Medl) (slot at : ℕ) → at < suc slot - two_rounds list 
 before-near list slot at less = rw (le-ltb slot (at + two_rounds list) (omega (arith, less))) refl
 
 behind-near : (list : Medl) (slot at : ℕ) → slot + four_rounds list ≤ at → is_near_fault list slot at ≡ false
-behind-near list slot at behind = rw (le-ltb at (slot + four_rounds list) behind) (no-more (nat_lt slot (at + two_rounds list)))
+behind-near list slot at behind =
+    rw (le-ltb at (slot + four_rounds list) behind) (no-more (nat_lt slot (at + two_rounds list)))
   where
     no-more : (b : Bool) → (b && false) ≡ false
     no-more true = refl
@@ -74,7 +76,8 @@ none-before list script start slot (suc at) less =
     found-append (lies_near list slot) (faults_before list script start at) (new_faults_in list script start at)
     ∙ (λ i. option_or (none-before list script start slot at (omega arith) i)
     (away-in list slot at (jumpers_in list script (faulty_in list script start at) at
-    ++ nodes_made (loss_in list script start (faulty_in list script start at) at)) (before-near list slot at (omega arith)) i))
+    ++ nodes_made (loss_in list script start (faulty_in list script start at) at))
+    (before-near list slot at (omega arith)) i))
 
 -- a slot in which no node becomes faulty
 pub next-none : (list : Medl) (script : Script) (start : ClusterStart) (slot at : ℕ) (js ms : List ℕ)
@@ -136,5 +139,6 @@ none-near list script start slot last is none =
     ∙ ap (find (lies_near list slot)) (before-split list script start last (script.slots - last))
     ∙ found-append (lies_near list slot) (faults_before list script start last)
     (faults_from list script start last (script.slots - last))
-    ∙ ap (λ found. option_or found (find (lies_near list slot) (faults_from list script start last (script.slots - last)))) none
+    ∙ ap (λ found. option_or found
+    (find (lies_near list slot) (faults_from list script start last (script.slots - last)))) none
     ∙ later-none list script start slot last (script.slots - last) (λ more. omega (arith, is, more))

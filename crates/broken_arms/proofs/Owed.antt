@@ -9,7 +9,8 @@ use Rattle.ttp_world.specs.declared.medl.Medl.{Medl}
 use Rattle.ttp_world.specs.declared.script.Event.{Event}
 use Rattle.ttp_world.specs.declared.script.Event.TheVariants as event
 use Rattle.ttp_world.specs.declared.script.Script.{Script}
-use Rattle.ttp_world.specs.Hypothesis.{ClusterStart, FaultyNode, nodes_of, expected_sender, lesser, least_of, jumpers_in}
+use Rattle.ttp_world.specs.Hypothesis.{ClusterStart, FaultyNode, nodes_of, expected_sender}
+use Rattle.ttp_world.specs.Hypothesis.{lesser, least_of, jumpers_in}
 use Rattle.ttp_world.specs.Hypothesis.{nodes_made, loss_in}
 use Rattle.ttp_world.specs.Returning.{slots_before, joinings, four_rounds, two_rounds, is_long_faulty, is_near_fault}
 use Rattle.ttp_world.specs.Returning.{is_apart, is_only_arm, is_line_of, is_left_alone, touches, is_deaf, is_missed_in}
@@ -17,7 +18,8 @@ use Rattle.ttp_world.specs.Returning.{is_heard, is_offered, may_return, run_slot
 use Rattle.hypothesis.specs.Walks.{all_in}
 use Rattle.broken_arms.specs.declared.reasons.NotOwed.{NotOwed}
 use Rattle.broken_arms.specs.declared.reasons.NotOwed.TheVariants as why
-use Rattle.broken_arms.specs.Arms.{near_fault, own_event_slot, own_line_slot, deaf_in, unheard_in, unheard, offer_fails, hearing_fails}
+use Rattle.broken_arms.specs.Arms.{near_fault, own_event_slot, own_line_slot, deaf_in}
+use Rattle.broken_arms.specs.Arms.{unheard_in, unheard, offer_fails, hearing_fails}
 use Rattle.broken_arms.specs.Arms.{by_own_line, only_arm_fails, by_near_fault, why_not_owed}
 use Rattle.broken_faults.specs.Faults.{faulty_in, faults_before}
 use Rattle.broken_faults.proofs.Newest.{all-append}
@@ -71,7 +73,8 @@ any-fault list script start p (suc slot) =
 near-any : (list : Medl) (script : Script) (start : ClusterStart) (slot : ℕ)
     → is_apart list script start slot ≡ not (is_some (near_fault list script start slot))
 near-any list script start slot =
-    sym (ap not (found-any (λ (f : FaultyNode). is_near_fault list slot f.slot) (faults_before list script start script.slots)
+    sym (ap not (found-any (λ (f : FaultyNode). is_near_fault list slot f.slot)
+    (faults_before list script start script.slots)
     ∙ any-fault list script start (λ (f : FaultyNode). is_near_fault list slot f.slot) script.slots))
 
 -- Lines of the node's own.
@@ -81,9 +84,11 @@ lesser-some n None = refl
 lesser-some n (Some m) = refl
 
 own-step : (list : Medl) (k slot n : ℕ) (e : Event) (events : List Event) (here touched : Bool)
-    → own_event_slot list k slot e ≡ cond here (cond touched (Some n) None) None → is_line_of list k slot e ≡ (here && touched)
+    → own_event_slot list k slot e ≡ cond here (cond touched (Some n) None) None
+    → is_line_of list k slot e ≡ (here && touched)
     → is_some (least_of (filter_map (own_event_slot list k slot) events)) ≡ list_any (is_line_of list k slot) events
-    → is_some (least_of (filter_map (own_event_slot list k slot) (e ∷ events))) ≡ list_any (is_line_of list k slot) (e ∷ events)
+    → is_some (least_of (filter_map (own_event_slot list k slot) (e ∷ events)))
+    ≡ list_any (is_line_of list k slot) (e ∷ events)
 own-step list k slot n e events true true own line later =
     rw (own, line) (lesser-some n (least_of (filter_map (own_event_slot list k slot) events)))
 own-step list k slot n e events true false own line later = rw (own, line) later
@@ -172,14 +177,16 @@ reason-none list script start k slot =
     let single = is_only_arm list script slot && quiet in
     let away = is_apart list script start slot && single in
     let heard_is : is_some (hearing_fails list script start k slot) ≡ not hears =
-    heard-by (unheard list script start k (run_slots script slot (four_rounds list))) (offer_fails list script start k slot) given
+    heard-by (unheard list script start k (run_slots script slot (four_rounds list)))
+    (offer_fails list script start k slot) given
     (offered-by given (why.NoPlace (slot + two_rounds list - 1)))
     ∙ ap (λ b. not (b && given)) (sym (heard-any list script start k slot)) in
     let own_is : is_some (by_own_line list script start k slot (own_line_slot list script k slot)) ≡ not quiet =
     own-by list script start k slot (own_line_slot list script k slot) hears heard_is
     ∙ ap (λ b. not (b && hears)) (sym (left-any list script k slot)) in
     let alone_is : is_some (only_arm_fails list script start k slot) ≡ not single =
-    only-by (is_only_arm list script slot) quiet (by_own_line list script start k slot (own_line_slot list script k slot)) _ own_is in
+    only-by (is_only_arm list script slot) quiet
+    (by_own_line list script start k slot (own_line_slot list script k slot)) _ own_is in
     let near_is : is_some (by_near_fault list script start k slot (near_fault list script start slot)) ≡ not away =
     near-by list script start k slot (near_fault list script start slot) single alone_is
     ∙ ap (λ b. not (b && single)) (sym (near-any list script start slot)) in

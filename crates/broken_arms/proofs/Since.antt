@@ -90,12 +90,14 @@ joins : (k slot : ℕ) (ks : List ℕ) (faulty : List FaultyNode)
 joins k slot [] faulty = refl
 joins k slot (j ∷ ks) faulty =
     one-more k slot j (all_in slot ks ++ faulty)
-    ∙ joins-step k slot j (j == k) (has_node ks k) (faulty_from faulty k) (faulty_from (all_in slot ks ++ faulty) k) refl
+    ∙ joins-step k slot j (j == k) (has_node ks k) (faulty_from faulty k)
+    (faulty_from (all_in slot ks ++ faulty) k) refl
     (joins k slot ks faulty)
 
 -- One slot more.
 
-earlier : (slot : ℕ) (since : Option ℕ) → is_some since ≡ true → IfSome since (λ s. s < slot) → lesser slot since ≡ since
+earlier : (slot : ℕ) (since : Option ℕ) → is_some since ≡ true
+    → IfSome since (λ s. s < slot) → lesser slot since ≡ since
 earlier slot None some before = absurd (grind arith)
 earlier slot (Some s) some before = ap Some (omega (arith, before))
 

@@ -71,7 +71,8 @@ offer_fails list script start k slot =
 
 abbrev pub hearing_fails : Medl → Script → ClusterStart → ℕ → ℕ → Option NotOwed
 hearing_fails list script start k slot =
-    option_or (unheard list script start k (run_slots script slot (four_rounds list))) (offer_fails list script start k slot)
+    option_or (unheard list script start k (run_slots script slot (four_rounds list)))
+    (offer_fails list script start k slot)
 
 abbrev pub by_own_line : Medl → Script → ClusterStart → ℕ → ℕ → Option ℕ → Option NotOwed
 by_own_line list script start k slot None = hearing_fails list script start k slot

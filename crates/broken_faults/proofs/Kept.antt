@@ -62,7 +62,8 @@ joined-kept list script start (suc slot) none =
 pub lost : (list : Medl) (script : Script) (start : ClusterStart) → has_arm script ≡ false
     → back_loss_broken list script start ≡ loss_broken list script start
 lost list script start none =
-    (λ i. find (λ slot. is_breaking (loss_in list script start (numbers_of (at-kept list script start slot none i)) slot))
+    (λ i. find (λ slot. is_breaking
+    (loss_in list script start (numbers_of (at-kept list script start slot none i)) slot))
     (below script.slots))
 
 pub early : (list : Medl) (script : Script) (start : ClusterStart) → has_arm script ≡ false

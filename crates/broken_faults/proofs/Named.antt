@@ -76,7 +76,8 @@ early list script start =
 
 pub each-by : (list : Medl) (script : Script) (start : ClusterStart) (frame : Option LostFrame)
     → lost_frame list script start ≡ frame
-    → NameFaultSlots list script start (faults_by frame (early_fault list script start) (too_few_left list script start))
+    → NameFaultSlots list script start
+    (faults_by frame (early_fault list script start) (too_few_left list script start))
 each-by list script start None is = record {
   lost = ap (option_map (λ (l : LostFrame). l.slot)) (sym is)
       ∙ lost list script start (back_loss_broken list script start);

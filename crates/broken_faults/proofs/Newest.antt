@@ -19,7 +19,8 @@ all-append slot [] ks = refl
 all-append slot (j ∷ js) ks = ap (λ rest. record { slot = slot; node = j } ∷ rest) (all-append slot js ks)
 
 pub newest-all : (newest : Option FaultyNode) (slot : ℕ) (js ks : List ℕ)
-    → newest_fault newest (all_in slot (js ++ ks)) ≡ newest_fault (newest_fault newest (all_in slot js)) (all_in slot ks)
+    → newest_fault newest (all_in slot (js ++ ks))
+    ≡ newest_fault (newest_fault newest (all_in slot js)) (all_in slot ks)
 newest-all newest slot js ks =
     ap (newest_fault newest) (all-append slot js ks)
     ∙ newest-append newest (all_in slot js) (all_in slot ks)
@@ -32,7 +33,8 @@ newest-in newest slot p n is =
     ∙ newest-all newest slot (filter p (below n)) (n ∷ [])
 
 pub newest-out : (newest : Option FaultyNode) (slot : ℕ) (p : ℕ → Bool) (n : ℕ) → p n ≡ false
-    → newest_fault newest (all_in slot (filter p (below (n + 1)))) ≡ newest_fault newest (all_in slot (filter p (below n)))
+    → newest_fault newest (all_in slot (filter p (below (n + 1))))
+    ≡ newest_fault newest (all_in slot (filter p (below n)))
 newest-out newest slot p n is = ap (λ ks. newest_fault newest (all_in slot ks)) (node-out p n is)
 
 -- a set of nodes of a list has the nodes that it has

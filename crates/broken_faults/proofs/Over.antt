@@ -42,11 +42,13 @@ over-early list script start before next f soon =
     λ rest. rw (lt-ltb f.slot (slot_since before + 2 * length list.slots) soon) refl
 
 -- once one came too early, those behind it are not looked at
-pub over-found : (list : Medl) (script : Script) (start : ClusterStart) (before next : Since) (faults others : List FaultyNode)
+pub over-found : (list : Medl) (script : Script) (start : ClusterStart)
+    (before next : Since) (faults others : List FaultyNode)
     (found : Option EarlyFault) → is_some found ≡ true → LooksOver list script start before faults found next
     → LooksOver list script start before (faults ++ others) found next
 over-found list script start before next faults others found some over =
-    λ rest. ap (first_early (cause_of list script start) (2 * length list.slots) before) (append_assoc faults others rest)
+    λ rest. ap (first_early (cause_of list script start) (2 * length list.slots) before)
+    (append_assoc faults others rest)
     ∙ over (others ++ rest) ∙ or-some found _ some ∙ sym (or-some found _ some)
 
 -- those behind some of which none did
@@ -55,7 +57,8 @@ pub over-both : (list : Medl) (script : Script) (start : ClusterStart) (before b
     → LooksOver list script start before faults first between → LooksOver list script start between others found next
     → LooksOver list script start before (faults ++ others) found next
 over-both list script start before between next faults others first found none over later =
-    λ rest. ap (first_early (cause_of list script start) (2 * length list.slots) before) (append_assoc faults others rest)
+    λ rest. ap (first_early (cause_of list script start) (2 * length list.slots) before)
+    (append_assoc faults others rest)
     ∙ over (others ++ rest) ∙ or-none first _ none ∙ later rest
 
 -- the second of two in a slot is too early
@@ -63,11 +66,13 @@ pub second-found : (list : Medl) (script : Script) (start : ClusterStart) (slot 
     (found : Option EarlyFault) → 0 < length list.slots
     → LooksOver list script start (since.Fault slot j) (all_in slot (k ∷ [])) found next → is_some found ≡ true
 second-found list script start slot j k next found some over =
-    let soon = over-early list script start (since.Fault slot j) next (record { slot = slot; node = k }) (omega arith) in
+    let soon = over-early list script start (since.Fault slot j) next
+    (record { slot = slot; node = k }) (omega arith) in
     by found (sym (over []) ∙ soon [])
   where
     by : (found : Option EarlyFault)
-        → option_or found None ≡ Some (early_by (cause_of list script start) (2 * length list.slots) (since.Fault slot j)
+        → option_or found None ≡ Some
+        (early_by (cause_of list script start) (2 * length list.slots) (since.Fault slot j)
         (record { slot = slot; node = k })) → is_some found ≡ true
     by None is = absurd (grind arith)
     by (Some e) is = refl
@@ -81,7 +86,8 @@ headed (j ∷ ks) k first =
 
 -- one that is told otherwise
 pub over-same : (list : Medl) (script : Script) (start : ClusterStart) (before next : Since) (slot at k j : ℕ)
-    (found : Option EarlyFault) → slot ≡ at → k ≡ j → LooksOver list script start before (all_in slot (k ∷ [])) found next
+    (found : Option EarlyFault) → slot ≡ at → k ≡ j
+    → LooksOver list script start before (all_in slot (k ∷ [])) found next
     → LooksOver list script start before (all_in at (j ∷ [])) found next
 over-same list script start before next slot at k j found slots nodes over =
     subst (λ s. LooksOver list script start before (all_in s (j ∷ [])) found next) slots
@@ -108,7 +114,8 @@ jump-second list script start before next slot k j ks first found some head seco
     ap (all_in slot) (sym (headed (drop 1 ks) j second)) in
     let both : LooksOver list script start (since.Fault slot k) (all_in slot (drop 1 ks)) found next =
     subst (λ faults. LooksOver list script start (since.Fault slot k) faults found next) rest
-    (over-found list script start (since.Fault slot k) next (all_in slot (j ∷ [])) (all_in slot (drop 1 (drop 1 ks))) found
+    (over-found list script start (since.Fault slot k) next (all_in slot (j ∷ []))
+    (all_in slot (drop 1 (drop 1 ks))) found
     (second-found list script start slot k j next found some later) later) in
     subst (λ js. LooksOver list script start before (all_in slot js) found next) (sym (headed ks k head))
     (over-both list script start before (since.Fault slot k) next (all_in slot (k ∷ [])) (all_in slot (drop 1 ks)) first
@@ -128,7 +135,8 @@ jump-alone list script start before next slot k ks first head alone none over =
 
 abbrev pub faults_from : Medl → Script → ClusterStart → ℕ → ℕ → List FaultyNode
 faults_from list script start slot zero = []
-faults_from list script start slot (suc n) = new_faults_in list script start slot ++ faults_from list script start (suc slot) n
+faults_from list script start slot (suc n) = new_faults_in list script start slot
+    ++ faults_from list script start (suc slot) n
 
 pub before-split : (list : Medl) (script : Script) (start : ClusterStart) (slot n : ℕ)
     → faults_before list script start (slot + n)
@@ -146,10 +154,12 @@ before-split list script start slot (suc n) =
 pub run-found : (list : Medl) (script : Script) (start : ClusterStart) (before next : Since) (slot last : ℕ)
     (found : Option EarlyFault) → slot < last → is_some found ≡ true
     → LooksOver list script start before (faults_before list script start (slot + 1)) found next
-    → first_early (cause_of list script start) (2 * length list.slots) before (faults_before list script start last) ≡ found
+    → first_early (cause_of list script start) (2 * length list.slots) before
+    (faults_before list script start last) ≡ found
 run-found list script start before next slot last found within some over =
     let split : slot + 1 + (last - (slot + 1)) ≡ last = omega (arith, within) in
-    ap (λ n. first_early (cause_of list script start) (2 * length list.slots) before (faults_before list script start n))
+    ap (λ n. first_early (cause_of list script start) (2 * length list.slots)
+    before (faults_before list script start n))
     (sym split)
     ∙ ap (first_early (cause_of list script start) (2 * length list.slots) before)
     (before-split list script start (slot + 1) (last - (slot + 1)))
@@ -158,7 +168,8 @@ run-found list script start before next slot last found within some over =
 -- and where none did
 pub run-none : (list : Medl) (script : Script) (start : ClusterStart) (before next : Since) (last : ℕ)
     → LooksOver list script start before (faults_before list script start last) None next
-    → first_early (cause_of list script start) (2 * length list.slots) before (faults_before list script start last) ≡ None
+    → first_early (cause_of list script start) (2 * length list.slots) before
+    (faults_before list script start last) ≡ None
 run-none list script start before next last over =
     ap (first_early (cause_of list script start) (2 * length list.slots) before)
     (sym (append-nil (faults_before list script start last))) ∙ over []

@@ -86,15 +86,16 @@ new_faults_in list script start slot =
 -- those of the first slots, so many
 abbrev pub faults_before : Medl → Script → ClusterStart → ℕ → List FaultyNode
 faults_before list script start zero = []
-faults_before list script start (suc slot) = faults_before list script start slot ++ new_faults_in list script start slot
+faults_before list script start (suc slot) =
+    faults_before list script start slot ++ new_faults_in list script start slot
 
 -- a line lets the clock of node k jump in a slot
 abbrev pub is_jump_in : ℕ → ℕ → Event → Bool
 is_jump_in k slot (event.Jump node value at) = (node == k) && (at == slot)
 is_jump_in k slot _ = false
 
--- the line that caused a fault: the first that may have caused the slot's loss, where this made the node faulty, and else
--- the node's first jump in the slot
+-- the line that caused a fault: the first that may have caused the slot's loss, where this made the node faulty, and
+-- else the node's first jump in the slot
 abbrev pub cause_of : Medl → Script → ClusterStart → FaultyNode → Option ℕ
 cause_of list script start f =
     if has_node (nodes_made (loss_in list script start (faulty_in list script start f.slot) f.slot)) f.node
@@ -147,7 +148,8 @@ cause_if cause (Some f) = cause f
 abbrev pub few_after : Medl → Script → ClusterStart → ℕ → ℕ → TooFew
 few_after list script start slot count = record {
   slot = slot;
-  left = filter (is_steady list script (numbers_of (faulty_since (slots_before list script start count)))) (nodes_of list);
+  left = filter (is_steady list script
+      (numbers_of (faulty_since (slots_before list script start count)))) (nodes_of list);
   cause = cause_if (cause_of list script start) (newest_fault None (faults_before list script start count));
 }
 

@@ -26,7 +26,8 @@ told_faults (Some f) = record { slot = f.slot; node = f.node } ∷ []
 
 -- what its slot makes of the nodes is so, and whether the slot's loss made its node faulty
 pub record IsFault (list : Medl) (script : Script) (start : ClusterStart) (f : Fault) : Type 0 where
-  pub lost : f.is_lost ≡ has_node (nodes_made (loss_in list script start (faulty_in list script start f.slot) f.slot)) f.node
+  pub lost : f.is_lost ≡ has_node
+      (nodes_made (loss_in list script start (faulty_in list script start f.slot) f.slot)) f.node
   pub faults : AreFaultsAt list script start f.slot f.faults
 
 -- the walk has gone over so many slots

@@ -1,5 +1,6 @@
 -- What breaks a rule names the slot that the rule names.
-use Rattle.std.proofs.Common.{◌≡◌, ℕ, ◌+◌, min, ℤ, Bool, true, false, cond, not, ◌&&◌, ◌||◌, List, [], ◌∷◌, refl, ap, sym}
+use Rattle.std.proofs.Common.{◌≡◌, ℕ, ◌+◌, min, ℤ, Bool, true, false, cond, not}
+use Rattle.std.proofs.Common.{◌&&◌, ◌||◌, List, [], ◌∷◌, refl, ap, sym}
 use Rattle.std.proofs.Common.{◌∙◌, arith, inl, inr, Option, Some, None, is_some, option_map}
 use Rattle.std.proofs.lemmas.Bool.{cases_lt, lt-ltb, le-ltb}
 use Rattle.std.specs.List.{filter_map, list_all, list_any, find}
@@ -9,7 +10,8 @@ use Rattle.ttp_world.specs.declared.medl.Medl.{Medl}
 use Rattle.ttp_world.specs.declared.script.Event.{Event}
 use Rattle.ttp_world.specs.declared.script.Event.TheVariants as event
 use Rattle.ttp_world.specs.declared.script.Script.{Script}
-use Rattle.ttp_world.specs.Hypothesis.{ClusterStart, nodes_of, clocks_broken, drifts_hold, errors_hold_in, is_within_bound}
+use Rattle.ttp_world.specs.Hypothesis.{ClusterStart, nodes_of, clocks_broken, drifts_hold}
+use Rattle.ttp_world.specs.Hypothesis.{errors_hold_in, is_within_bound}
 use Rattle.ttp_world.specs.Hypothesis.{is_far_jump, is_jump_before, lesser, least_of, outside_slot}
 use Rattle.ttp_world.specs.Hypothesis.{outside_broken, start_of, needed}
 use Rattle.ttp_world.specs.Returning.{disturbed_slot, disturbance_broken, is_arm, has_arm, needed_back}
@@ -124,7 +126,8 @@ short-slot list script k slot place false is = rw is refl
 
 since-by : (list : Medl) (script : Script) (k slot place first : ℕ) (far again : Bool)
     → is_far_jump list (jump_of script k slot) ≡ far → nat_lt first slot ≡ again
-    → option_map (λ (d : Disturbed). d.slot) (option_map (disturbed_by slot place) (jump_since list script k slot (Some first)))
+    → option_map (λ (d : Disturbed). d.slot)
+    (option_map (disturbed_by slot place) (jump_since list script k slot (Some first)))
     ≡ cond (far && not again) None (Some slot)
 since-by list script k slot place first true true is before = rw before refl
 since-by list script k slot place first false true is before = rw before refl
@@ -134,7 +137,8 @@ since-by list script k slot place first false false is before =
     rw before (short-slot list script k slot place false is)
 
 since : (list : Medl) (script : Script) (k slot place : ℕ) (first : Option ℕ)
-    → option_map (λ (d : Disturbed). d.slot) (option_map (disturbed_by slot place) (jump_since list script k slot first))
+    → option_map (λ (d : Disturbed). d.slot)
+    (option_map (disturbed_by slot place) (jump_since list script k slot first))
     ≡ cond (is_far_jump list (jump_of script k slot) && not (is_before slot first)) None (Some slot)
 since list script k slot place None =
     short-slot list script k slot place (is_far_jump list (jump_of script k slot)) refl

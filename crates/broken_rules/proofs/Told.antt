@@ -1,5 +1,6 @@
 -- The first rule of which something is told is the one that the test of a script names.
-use Rattle.std.proofs.Common.{arith, ◌≡◌, ℕ, Bool, true, false, not, Option, Some, None, is_some, option_map, refl, ap, sym, subst, ◌∙◌}
+use Rattle.std.proofs.Common.{arith, ◌≡◌, ℕ, Bool, true, false, not, Option, Some, None}
+use Rattle.std.proofs.Common.{is_some, option_map, refl, ap, sym, subst, ◌∙◌}
 use Rattle.std.specs.Option.{option_or}
 use Rattle.ttp_world.specs.declared.keep.Back.{Back}
 use Rattle.ttp_world.specs.declared.keep.Back.TheVariants as back
@@ -7,7 +8,8 @@ use Rattle.ttp_world.specs.declared.keep.Keep.{Keep}
 use Rattle.ttp_world.specs.declared.keep.Keep.TheVariants as keep
 use Rattle.ttp_world.specs.declared.medl.Medl.{Medl}
 use Rattle.ttp_world.specs.declared.script.Script.{Script}
-use Rattle.ttp_world.specs.Hypothesis.{ClusterStart, clocks_broken, window_broken, outside_broken, start_of, loss_broken}
+use Rattle.ttp_world.specs.Hypothesis.{ClusterStart, clocks_broken, window_broken}
+use Rattle.ttp_world.specs.Hypothesis.{outside_broken, start_of, loss_broken}
 use Rattle.ttp_world.specs.Hypothesis.{distance_broken, sync_broken, unless, started_keep, keeps}
 use Rattle.ttp_world.specs.Returning.{back_window_broken, disturbance_broken, back_loss_broken, back_distance_broken}
 use Rattle.ttp_world.specs.Returning.{back_sync_broken, arms_broken, unless_back, started_back, has_arm, returns}
@@ -40,7 +42,8 @@ abbrev kept_behind : Medl → Script → Option ClusterStart → Option RuleSlot
 kept_behind list script None = rule_in 4 (Some 0)
 kept_behind list script (Some start) =
     option_or (rule_in 5 (loss_broken list script start))
-    (option_or (rule_in 6 (distance_broken list script start)) (option_or (rule_in 7 (sync_broken list script start)) None))
+    (option_or (rule_in 6 (distance_broken list script start))
+    (option_or (rule_in 7 (sync_broken list script start)) None))
 
 abbrev back_behind : Medl → Script → Option ClusterStart → Option RuleSlot
 back_behind list script None = rule_in 4 (Some 0)
@@ -118,9 +121,11 @@ told_behind list script armed start =
     (option_or (rule_in 5 (option_map (λ (l : LostFrame). l.slot) (faults_if list script start).lost))
     (option_or (rule_in 6 (option_map (λ (e : EarlyFault). e.slot) (faults_if list script start).early))
     (option_or (rule_in 7 (option_map (λ (w : TooFew). w.slot) (faults_if list script start).few))
-    (rule_in 8 (option_map (λ (a : BrokenArm). a.slot) (arm_by list script armed start (faults_if list script start).lost))))))
+    (rule_in 8 (option_map (λ (a : BrokenArm). a.slot)
+    (arm_by list script armed start (faults_if list script start).lost))))))
 
-faults-told : (lost : Option LostFrame) (early : Option EarlyFault) (few : Option TooFew) (arm : Option LostFrame → Option ℕ)
+faults-told : (lost : Option LostFrame) (early : Option EarlyFault)
+    (few : Option TooFew) (arm : Option LostFrame → Option ℕ)
     (l e f a : Option ℕ) → option_map (λ (l : LostFrame). l.slot) lost ≡ l
     → option_map (λ (e : EarlyFault). e.slot) early ≡ e → option_map (λ (w : TooFew). w.slot) few ≡ f → arm None ≡ a
     → option_or (rule_in 5 (option_map (λ (l : LostFrame). l.slot) (faults_by lost early few).lost))
@@ -139,7 +144,8 @@ kept-told : (list : Medl) (script : Script) (start : Option ClusterStart) → ha
 kept-told list script None none = refl
 kept-told list script (Some start) none =
     faults-told (lost_frame list script start) (early_fault list script start) (too_few_left list script start)
-    (λ lost. None) (loss_broken list script start) (distance_broken list script start) (sync_broken list script start) None
+    (λ lost. None) (loss_broken list script start)
+    (distance_broken list script start) (sync_broken list script start) None
     (fault_slots.lost list script start (back_loss_broken list script start) ∙ kept.lost list script start none)
     (fault_slots.early list script start ∙ kept.early list script start none)
     (fault_slots.few list script start (back_sync_broken list script start) ∙ kept.few list script start none) refl
@@ -254,7 +260,8 @@ each list script = record {
   faults = λ start is. subst (λ found. NameFaultSlots list script start (faults_if list script found)) (sym is)
       (fault_slots.each list script start);
   arm = λ start is armed none.
-      arm-named list script start (has_arm script) (start_of list script) (broken_rules list script).faults.lost armed is none;
+      arm-named list script start (has_arm script) (start_of list script)
+      (broken_rules list script).faults.lost armed is none;
 }
 
 -- The slot in which a clock is past a bound.
@@ -272,7 +279,8 @@ kept-later list script (Some n) outside start = refl
 kept-later list script None (Some n) start = refl
 kept-later list script None None None = refl
 kept-later list script None None (Some start) =
-    kept-faults start.slot (loss_broken list script start) (distance_broken list script start) (sync_broken list script start)
+    kept-faults start.slot (loss_broken list script start)
+    (distance_broken list script start) (sync_broken list script start)
 
 clocks-kept : (list : Medl) (script : Script) (broken : Option ℕ) → clocks_broken list script ≡ broken
     → clocks_slot (answer.Keeps (keeps list script)) ≡ broken
@@ -289,7 +297,8 @@ back-faults slot None None None (Some n) = refl
 back-faults slot None None None None = refl
 
 back-later : (list : Medl) (script : Script) (window outside : Option ℕ) (start : Option ClusterStart)
-    → clocks_slot (answer.Returns (unless_back 2 window (unless_back 3 outside (started_back list script start)))) ≡ None
+    → clocks_slot (answer.Returns (unless_back 2 window (unless_back 3 outside (started_back list script start))))
+    ≡ None
 back-later list script (Some n) outside start = refl
 back-later list script None (Some n) start = refl
 back-later list script None None None = refl

@@ -90,6 +90,7 @@ first_named (answer.Returns (back.No rule slot)) = Some (record { rule = rule; s
 -- Each rule is told of exactly where it is broken, and in the slot that it names.
 pub record NameAllSlots (list : Medl) (script : Script) (broken : BrokenRules) : Type 0 where
   pub conditions : NameTheirSlots list script broken.conditions
-  pub faults : (start : ClusterStart) → start_of list script ≡ Some start → NameFaultSlots list script start broken.faults
+  pub faults : (start : ClusterStart) → start_of list script ≡ Some start
+      → NameFaultSlots list script start broken.faults
   pub arm : (start : ClusterStart) → start_of list script ≡ Some start → has_arm script ≡ true
       → broken.faults.lost ≡ None → option_map (λ arm. arm.slot) broken.arm ≡ arms_broken list script start

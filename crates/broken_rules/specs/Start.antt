@@ -13,8 +13,8 @@ use Rattle.broken_rules.specs.declared.start.NoStart.TheVariants as why
 abbrev pub is_late : Script → ℕ → ℕ → Bool
 is_late script slot k = is_ever_on script k && not (is_on script k slot)
 
--- what is wrong with the first slot in which a node would start, where these would: two are rivals, and where one starts
--- alone, others come on later
+-- what is wrong with the first slot in which a node would start, where these would: two are rivals, and where one
+-- starts alone, others come on later
 abbrev pub why_at : Medl → Script → ℕ → List ℕ → NoStart
 why_at list script slot (j ∷ k ∷ starters) = why.Rivals slot j k
 why_at list script slot _ = why.Late slot (filter (is_late script slot) (nodes_of list))

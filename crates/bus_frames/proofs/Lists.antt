@@ -1,5 +1,6 @@
 -- The lines of a channel, node by node.
-use Rattle.std.proofs.Common.{◌≡◌, ℕ, zero, suc, ◌+◌, ◌<◌, ◌≤◌, ◌⊎◌, inl, inr, List, [], ◌∷◌, ◌++◌, length, map, filter, cond}
+use Rattle.std.proofs.Common.{◌≡◌, ℕ, zero, suc, ◌+◌, ◌<◌, ◌≤◌, ◌⊎◌, inl, inr}
+use Rattle.std.proofs.Common.{List, [], ◌∷◌, ◌++◌, length, map, filter, cond}
 use Rattle.std.proofs.Common.{Bool, true, false, refl, add-one, ap, sym, arith, ◌∙◌}
 use Rattle.std.specs.Prelude.{nat_le}
 use Rattle.std.proofs.lemmas.Bool.{cases_eq, leb-false}
@@ -98,7 +99,8 @@ module _ (list : Medl) (script : Script) (row : List Entry) (before : History) (
       ∙ map_flat line (λ k. remaining_frames script (length before) c (told k)) (below (length list.slots))
 
   pub one-more : (i : ℕ) → length (frames_so_far (i + 1))
-      ≡ length (frames_so_far i) + length (remaining_frames script (length before) c (frames_told list script row before i))
+      ≡ length (frames_so_far i)
+      + length (remaining_frames script (length before) c (frames_told list script row before i))
   one-more i =
       let told = frames_told list script row before in
       ap (λ (fs : List SentFrame). length (remaining_frames script (length before) c fs)) (flat_map-next told i)

@@ -23,7 +23,8 @@ use Rattle.ttp_frame.proofs.Frames.{length-frame}
 use Rattle.bus_frames.specs.declared.sending.Sending.{Sending}
 use Rattle.bus_frames.specs.FrameText.{frame_line}
 use Rattle.bus_frames.specs.Sending.{frames_sent, sending_in}
-use Rattle.bus_frames.specs.Standing.{IsAsLong, SlotStands, frame_with, frames_there, lines_of_node, payload_with, sending_told}
+use Rattle.bus_frames.specs.Standing.{IsAsLong, SlotStands, frame_with, frames_there}
+use Rattle.bus_frames.specs.Standing.{lines_of_node, payload_with, sending_told}
 use Rattle.bus_frames.proofs.Channels.{alone-signal, lies, one-line}
 use Rattle.bus_frames.proofs.Parts.{long-shown}
 use Rattle.bus_frames.proofs.Told.{clock-is, payload-long, told-is}
@@ -54,7 +55,8 @@ module _ (plant : PlantView) (all : List Chosen) (offsets : List ℤ) (list : Me
   -- what the medium shows of the channel, where no two frames lie there
   pub shown-alone : (there : Arrival) → ShowsCarried plant.carried c there
       → nat_le 2 (length (frames_there list script row before c)) ≡ false
-      → Shows there (signal_of script (length before) c frame-sent) (λ p. (node_of (slot_after list script before) p).clock)
+      → Shows there (signal_of script (length before) c frame-sent)
+      (λ p. (node_of (slot_after list script before) p).clock)
   shown-alone there shows few =
       subst (λ s. Shows there s (λ p. (node_of (slot_after list script before) p).clock))
       (alone-signal plant all offsets list script slot row before stands valid k node c lying few)
@@ -68,17 +70,20 @@ module _ (plant : PlantView) (all : List Chosen) (offsets : List ℤ) (list : Me
   long-alone there sending shows few same =
       let own = sending_in (slot_after list script before) k in
       subst (λ s. IsAsLong list s there) (sym same)
-      (long-shown list own script (length before) c frame-sent there (λ p. (node_of (slot_after list script before) p).clock)
+      (long-shown list own script (length before) c frame-sent there
+      (λ p. (node_of (slot_after list script before) p).clock)
       (shown-alone there shows few)
       (length-frame (member_width list) own.header own.state (payload_with own (chosen_of all k)) list.schedule
       ∙ ap (λ n. 1 + carried_length (member_width list) own.header + n + 3)
       (payload-long plant all offsets list script slot row before stands valid k node sent)))
 
   -- its line
-  pub line-of : (there : Arrival) (meets : Bool) (sending : Sending) (line : List ℕ) → ShowsCarried plant.carried c there
+  pub line-of : (there : Arrival) (meets : Bool) (sending : Sending) (line : List ℕ)
+      → ShowsCarried plant.carried c there
       → sending ≡ sending_in (slot_after list script before) k
       → meets ≡ nat_le 2 (length (frames_there list script row before c))
-      → ((s : Signal) (clock : ℕ → ℤ) → (meets ≡ false → Shows there s clock) → line ≡ frame_line list slot c sending meets s)
+      → ((s : Signal) (clock : ℕ → ℤ) → (meets ≡ false → Shows there s clock) → line
+      ≡ frame_line list slot c sending meets s)
       → lines_of_node list script row before c (frames_there list script row before c) k ≡ line ∷ []
   line-of there meets sending line shows same meets_is line_is =
       one-line plant all offsets list script slot row before stands valid k node c meets line lying meets_is

@@ -1,5 +1,6 @@
 -- The words of a frame's bytes, and the line of what came.
-use Rattle.std.proofs.Common.{◌≡◌, ℕ, suc, ◌+◌, ◌-◌, Bool, true, false, List, [], ◌∷◌, ◌++◌, length, take, drop, refl, ap, sym, subst, ◌∙◌}
+use Rattle.std.proofs.Common.{◌≡◌, ℕ, suc, ◌+◌, ◌-◌, Bool, true, false, List, [], ◌∷◌}
+use Rattle.std.proofs.Common.{◌++◌, length, take, drop, refl, ap, sym, subst, ◌∙◌}
 use Rattle.std.proofs.Common.{append_assoc, true≢false}
 use Rattle.std.specs.Prelude.{ℤ, nat_lt}
 use Rattle.std.proofs.lemmas.Bool.{cond_both}
@@ -9,7 +10,8 @@ use Rattle.ttp_world.specs.declared.script.Channel.{Channel}
 use Rattle.ttp_world.specs.declared.script.Fault.TheVariants as fault
 use Rattle.ttp_world.specs.declared.script.Script.{Script}
 use Rattle.ttp_world.specs.Fitting.{carried_length, payload_in}
-use Rattle.ttp_world.specs.Medium.{SentFrame, Signal, Silence, Noise, Bits, flip_bit, flip_bits, flip_in_byte, signal_of}
+use Rattle.ttp_world.specs.Medium.{SentFrame, Signal, Silence, Noise, Bits, flip_bit}
+use Rattle.ttp_world.specs.Medium.{flip_bits, flip_in_byte, signal_of}
 use Rattle.ttp_world.specs.Medl.{member_width}
 use Rattle.ttp_world.specs.Script.{flipped_bits, has_send_fault}
 use Rattle.medium.specs.declared.arrival.Arrival.{Arrival}
@@ -53,7 +55,8 @@ bytes_of _ = []
 pub came-line : (list : Medl) (slot : ℕ) (c : Channel) (sending : Sending) (came : Arrival) (s : Signal) (clock : ℕ → ℤ)
     → is_bits came ≡ true → Shows came s clock
     → signal_line list slot c sending (Bits 0 (bytes_of came)) ≡ signal_line list slot c sending s
-came-line list slot c sending (arrival.Bits bytes offset) Silence clock is shows = absurd (true≢false (ap is_bits shows))
+came-line list slot c sending (arrival.Bits bytes offset) Silence clock is shows =
+    absurd (true≢false (ap is_bits shows))
 came-line list slot c sending (arrival.Bits bytes offset) Noise clock is shows = absurd (true≢false (ap is_bits shows))
 came-line list slot c sending (arrival.Bits bytes offset) (Bits k sent) clock is shows =
     ap (λ (b : List ℕ). signal_line list slot c sending (Bits 0 b)) shows.0

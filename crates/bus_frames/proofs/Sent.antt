@@ -62,7 +62,8 @@ frames-sent s chosen k is = by-act (node_of s k).act is
         let place = coming_place s.list p in
         ap (λ (payload : List ℕ). record {
           sender = k;
-          bytes = frame (member_width s.list) (header_of (kind_at s.list place.round place.slot)) (own_cstate s.list k p)
+          bytes = frame (member_width s.list)
+              (header_of (kind_at s.list place.round place.slot)) (own_cstate s.list k p)
               payload s.list.schedule;
         } ∷ []) (either (payload_length s.list place.round place.slot == 0) (chosen_of chosen k).payload [])
     by-act Off sent = absurd (true≢false (sym sent))

@@ -12,7 +12,8 @@ use Rattle.ttp_world.specs.declared.script.Script.{Script}
 use Rattle.ttp_world.specs.Act.{coming_place}
 use Rattle.ttp_world.specs.After.{past_after}
 use Rattle.ttp_world.specs.Conduct.{cold_start_cstate, own_cstate}
-use Rattle.ttp_world.specs.Diary.{History, Place, SlotSurroundings, cstate_at, diary_of, is_active, next_place, start_place}
+use Rattle.ttp_world.specs.Diary.{History, Place, SlotSurroundings, cstate_at, diary_of}
+use Rattle.ttp_world.specs.Diary.{is_active, next_place, start_place}
 use Rattle.ttp_world.specs.Diary.{time_limit}
 use Rattle.ttp_world.specs.Fitting.{number_in}
 use Rattle.ttp_world.specs.Frame.{big_endian, cstate_bytes}

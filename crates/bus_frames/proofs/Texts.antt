@@ -1,5 +1,6 @@
 -- The text of frames, slot by slot, as it is written beside the trace that is read.
-use Rattle.std.proofs.Common.{◌≡◌, ℕ, zero, suc, ◌+◌, ◌-◌, ◌<◌, ◌≤◌, List, [], ◌∷◌, ◌++◌, drop, refl, ap, sym, subst, ◌∙◌}
+use Rattle.std.proofs.Common.{◌≡◌, ℕ, zero, suc, ◌+◌, ◌-◌, ◌<◌, ◌≤◌, List, []}
+use Rattle.std.proofs.Common.{◌∷◌, ◌++◌, drop, refl, ap, sym, subst, ◌∙◌}
 use Rattle.std.proofs.Common.{append_assoc, append-nil, arith}
 use Rattle.std.specs.Prelude.{ℤ, Result, Ok, Err, OnOk, OnErr}
 use Rattle.ttp_base.specs.Outside.{Output, WroteLines, CutShort}
@@ -48,7 +49,8 @@ lines-first list script (new ∷ numbers) (suc more) =
 module _ (run : TraceRun) (list : Medl) (script : Script) (whole : Numbers) (slot : ℕ) (text : List ℕ)
     (made : IsMade run list script whole slot text) (valid : IsValid list) where
   -- what stands in the slot
-  pub slot-stands : (offsets : List ℤ) → AreOffsets offsets list script (world list script (first_numbers script whole slot))
+  pub slot-stands : (offsets : List ℤ)
+      → AreOffsets offsets list script (world list script (first_numbers script whole slot))
       → SlotStands run.plant run.outgoing.chosen.items offsets list script slot made.row
       (world list script (first_numbers script whole slot))
   slot-stands offsets are =
@@ -75,22 +77,26 @@ module _ (run : TraceRun) (list : Medl) (script : Script) (whole : Numbers) (slo
       → AreOffsets offsets list script (world list script (first_numbers script whole (slot + 1)))
   offsets-next offsets shown =
       subst (AreOffsets offsets list script) (sym made.next)
-      (subst (λ (l : Medl). AreOffsets offsets l script (made.row ∷ world list script (first_numbers script whole slot)))
+      (subst (λ (l : Medl). AreOffsets offsets l script
+      (made.row ∷ world list script (first_numbers script whole slot)))
       made.made.same
       (shown script (made.row ∷ world list script (first_numbers script whole slot)) made.made.stands))
 
   module _ (a b c : Output) (before : WroteLines a b (lines_so_far list script (first_numbers script whole slot))) where
     -- the lines of the slot are written
-    pub wrote-next : WroteLines b c (frame_slot_lines list script made.row (world list script (first_numbers script whole slot)))
+    pub wrote-next : WroteLines b c
+        (frame_slot_lines list script made.row (world list script (first_numbers script whole slot)))
         → WroteLines a c (lines_so_far list script (first_numbers script whole (slot + 1)))
     wrote-next more =
         let older = world list script (first_numbers script whole slot) in
-        subst (λ (h : History). WroteLines a c (frame_head list script ∷ frame_history_lines list script h)) (sym made.next)
+        subst (λ (h : History). WroteLines a c
+        (frame_head list script ∷ frame_history_lines list script h)) (sym made.next)
         (Wrote-join a b c (lines_so_far list script (first_numbers script whole slot))
         (frame_slot_lines list script made.row older) before more)
 
     -- or the sink fails within them
-    pub cut-next : CutShort b c (frame_slot_lines list script made.row (world list script (first_numbers script whole slot)))
+    pub cut-next : CutShort b c
+        (frame_slot_lines list script made.row (world list script (first_numbers script whole slot)))
         → CutShort a c (frame_lines list script whole)
     cut-next more =
         let older = world list script (first_numbers script whole slot) in

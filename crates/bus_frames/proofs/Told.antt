@@ -1,5 +1,6 @@
 -- What a plant tells of a node that has sent in the slot that it is past.
-use Rattle.std.proofs.Common.{◌≡◌, ℕ, ◌<◌, Bool, true, false, cond, List, [], ◌∷◌, length, get_or, refl, ap, sym, subst, ◌∙◌, arith}
+use Rattle.std.proofs.Common.{◌≡◌, ℕ, ◌<◌, Bool, true, false, cond, List, [], ◌∷◌}
+use Rattle.std.proofs.Common.{length, get_or, refl, ap, sym, subst, ◌∙◌, arith}
 use Rattle.std.proofs.Common.{true≢false}
 use Rattle.std.specs.Prelude.{◌==◌, ℤ, pos, ◌+ℤ◌, not, is_some, Option, Some, None}
 use Rattle.std.proofs.lemmas.Bool.{eqb-true}
@@ -23,7 +24,8 @@ use Rattle.ttp_world.specs.Membership.{AreNodes}
 use Rattle.ttp_world.specs.Messages.{messages_of, status_words}
 use Rattle.ttp_world.specs.Past.{NodePast, state_of}
 use Rattle.ttp_world.specs.Script.{is_armed, is_on, jump_of}
-use Rattle.ttp_world.specs.World.{BegunNode, chosen_of, frames_in, hearing_in, is_loaded, node_after, node_of, node_past}
+use Rattle.ttp_world.specs.World.{BegunNode, chosen_of, frames_in, hearing_in}
+use Rattle.ttp_world.specs.World.{is_loaded, node_after, node_of, node_past}
 use Rattle.ttp_world.specs.World.{jump_taken, sends_payload, slot_after}
 use Rattle.ttp_world.proofs.Lists.{nodes-most}
 use Rattle.ttp_world.proofs.NextPasts.{node_past-next}
@@ -36,14 +38,16 @@ use Rattle.controller.proofs.Endings.{sends-own}
 use Rattle.controller.proofs.Sets.{only-room, with_node-room}
 use Rattle.bus_frames.specs.declared.sending.Sending.{Sending}
 use Rattle.bus_frames.specs.Sending.{header_by, sending_in, size_by, state_by}
-use Rattle.bus_frames.specs.Standing.{HasByteRoom, SlotStands, frame_with, frames_told, payload_with, sending_by, sending_told}
+use Rattle.bus_frames.specs.Standing.{HasByteRoom, SlotStands, frame_with, frames_told}
+use Rattle.bus_frames.specs.Standing.{payload_with, sending_by, sending_told}
 use Rattle.bus_frames.proofs.Acts.{ActsBy, acts-by}
 use Rattle.bus_frames.proofs.Sent.{frames-sent, sends, sends-by, silent-by}
 use Rattle.bus_frames.proofs.States.{after-Sent, after-Started, members-nodes, next-time, state_after}
 
 -- By an entry of a node that sends.
 
-pub state-by : (list : Medl) (k : ℕ) (past : NodePast) (s : SlotSurroundings) (valid : IsValid list) (node : k < length list.slots)
+pub state-by : (list : Medl) (k : ℕ) (past : NodePast) (s : SlotSurroundings)
+    (valid : IsValid list) (node : k < length list.slots)
     → AreNodes list past.members → (a : Act) (sent : List SentFrame) (e : Entry) → ActsBy a sent e → is_sending e ≡ true
     → state_after (past_after list k past e s) ≡ state_by list k past a
 state-by list k past s valid node are a sent entry.Started by is =
@@ -169,7 +173,8 @@ module _ (plant : PlantView) (chosen : List Chosen) (offsets : List ℤ) (list :
   past : NodePast
   past = (node_of (slot_after list script before) k).past
 
-  pub acts : ActsBy (node_of (slot_after list script before) k).act (frames_told list script row before k) (entry_of row k)
+  pub acts : ActsBy (node_of (slot_after list script before) k).act
+      (frames_told list script row before k) (entry_of row k)
   acts =
       let s = slot_after list script before in
       let told = messages_of list script (length before) row in
@@ -228,7 +233,8 @@ module _ (plant : PlantView) (chosen : List Chosen) (offsets : List ℤ) (list :
       (λ some. ap (λ (c : Chosen). c.payload) (sym (stands.made.told k node (loaded is some)))))
 
   after : node_past list script (row ∷ before) k
-      ≡ past_after list k (node_past list script before k) (entry_of row k) (surroundings_in script (length before) row k)
+      ≡ past_after list k (node_past list script before k) (entry_of row k)
+      (surroundings_in script (length before) row k)
   after = subst (λ (r : List Entry). node_past list script (r ∷ before) k
       ≡ past_after list k (node_past list script before k) (entry_of r k) (surroundings_in script (length before) r k))
       (sym stands.made.follows) (node_past-next list script before chosen k node)
@@ -238,9 +244,11 @@ module _ (plant : PlantView) (chosen : List Chosen) (offsets : List ℤ) (list :
       → state_after (node_past list script (row ∷ before) k) ≡ (sending_in (slot_after list script before) k).state
   state-is is =
       ap state_after after
-      ∙ ap (λ (p : NodePast). state_after (past_after list k p (entry_of row k) (surroundings_in script (length before) row k)))
+      ∙ ap (λ (p : NodePast). state_after
+      (past_after list k p (entry_of row k) (surroundings_in script (length before) row k)))
       (ap (λ (n : BegunNode). n.past) (sym here))
-      ∙ state-by list k (node_of (slot_after list script before) k).past (surroundings_in script (length before) row k) valid node
+      ∙ state-by list k (node_of (slot_after list script before) k).past
+      (surroundings_in script (length before) row k) valid node
       (subst (λ (n : BegunNode). AreNodes list n.past.members) (sym here) (members-nodes list script before k))
       (node_of (slot_after list script before) k).act (frames_told list script row before k) (entry_of row k) acts is
 
@@ -268,7 +276,8 @@ module _ (plant : PlantView) (chosen : List Chosen) (offsets : List ℤ) (list :
       ∙ word-by list k (length before) (node_past list script before k) outside delivers (entry_of row k) d is
       ∙ ap (λ (p : NodePast). number_in (cstate_bytes (member_width list) (state_after p))) (sym after)
 
-  pub place-is : is_sending (entry_of row k) ≡ true → IsOfPlace list (sending_in (slot_after list script before) k).state
+  pub place-is : is_sending (entry_of row k) ≡ true
+      → IsOfPlace list (sending_in (slot_after list script before) k).state
   place-is is =
       subst (λ (n : BegunNode). sends n.act ≡ true → IsOfPlace list (state_by list k n.past n.act)) (sym here)
       (place-by list k (node_past list script before k) valid node (members-nodes list script before k)
@@ -291,7 +300,8 @@ module _ (plant : PlantView) (chosen : List Chosen) (offsets : List ℤ) (list :
       → result ≡ (sending_in (slot_after list script before) k).state
   state-told state result word d shows is told reads =
       reads (sending_in (slot_after list script before) k).state (place-is is).has
-      (ap (λ (c : CState). c.members) (sym (state-is is)) ∙ sym (ap (λ (s : NodeState). s.members) (shown-is state shows)))
+      (ap (λ (c : CState). c.members) (sym (state-is is))
+      ∙ sym (ap (λ (s : NodeState). s.members) (shown-is state shows)))
       (told ∙ word-is is d ∙ ap (λ (c : CState). number_in (cstate_bytes (member_width list) c)) (state-is is))
 
   -- its clock in the slot

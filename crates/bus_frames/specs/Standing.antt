@@ -1,5 +1,6 @@
 -- What stands where the lines of a slot are written.
-use Rattle.std.specs.Prelude.{◌≡◌, ℕ, ◌+◌, ◌^◌, ◌<◌, ◌≤◌, ℤ, pos, unsigned_abs, List, length, get_or, Option, Some, None, if◌then◌else◌}
+use Rattle.std.specs.Prelude.{◌≡◌, ℕ, ◌+◌, ◌^◌, ◌<◌, ◌≤◌, ℤ, pos, unsigned_abs, List}
+use Rattle.std.specs.Prelude.{length, get_or, Option, Some, None, if◌then◌else◌}
 use Rattle.std.specs.Prelude.{◌==◌, [], map, Bool, nat_le}
 use Rattle.ttp_base.specs.NodeSet.{set_bits}
 use Rattle.ttp_base.specs.Text.{Lines}
@@ -126,15 +127,16 @@ frames_told list script row before k =
 -- the line of its frame, where it lies on a channel with these
 abbrev pub lines_of_node : Medl → Script → List Entry → History → Channel → List SentFrame → ℕ → Lines
 lines_of_node list script row before c there k =
-    map (bus_line list script before c there) (remaining_frames script (length before) c (frames_told list script row before k))
+    map (bus_line list script before c there)
+    (remaining_frames script (length before) c (frames_told list script row before k))
 
 -- the frames that lie on a channel in the slot of a row
 abbrev pub frames_there : Medl → Script → List Entry → History → Channel → List SentFrame
 frames_there list script row before c =
     remaining_frames script (length before) c (frames_sent list script row before)
 
--- A plant is past some slot of these clocks, where this is node k's, and where this says whether two frames or more lie on
--- a channel.
+-- A plant is past some slot of these clocks, where this is node k's, and where this says whether two frames or more lie
+-- on a channel.
 pub record IsSomePast (plant : PlantView) (list : Medl) (script : Script) (slot k : ℕ) (c : Channel) (meets : Bool)
     (offset : ℤ) : Type 0 where
   pub chosen : List Chosen

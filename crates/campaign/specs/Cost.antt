@@ -1,5 +1,6 @@
 -- What is read of a run: who left, who was hurt, when memberships were split, and what is left at the end.
-use Rattle.std.specs.Prelude.{ℕ, nat_le, Bool, true, false, ◌&&◌, ◌||◌, not, List, [], ◌∷◌, length, filter, Option, Some, None}
+use Rattle.std.specs.Prelude.{ℕ, nat_le, Bool, true, false, ◌&&◌, ◌||◌, not, List}
+use Rattle.std.specs.Prelude.{[], ◌∷◌, length, filter, Option, Some, None}
 use Rattle.std.specs.Prelude.{if◌then◌else◌}
 use Rattle.std.specs.List.{filter_map}
 use Rattle.std.specs.Str.{bytes_eq}
@@ -41,8 +42,8 @@ says_yes_if list script false = is_kept (keeps list script)
 abbrev pub says_yes : Medl → Script → Bool
 says_yes list script = says_yes_if list script (has_arm script)
 
--- The nodes that are faulty after a slot, by the rules of the test. A slot whose losses break them makes nobody faulty, and
--- nobody is where there is no start.
+-- The nodes that are faulty after a slot, by the rules of the test. A slot whose losses break them makes nobody faulty,
+-- and nobody is where there is no start.
 
 -- the nodes that are faulty after a slot by the one test or the other
 abbrev pub faulty_if : Medl → Script → ℕ → Bool → List ℕ

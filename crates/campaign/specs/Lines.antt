@@ -62,7 +62,8 @@ fault_node _ = 0
 
 -- the words for where a fault begins
 abbrev pub place_words : Event → List ℕ
-place_words fault = codes "slot " ++ decimal (fault_slot fault) ++ codes " node " ++ decimal (fault_node fault) ++ codes " "
+place_words fault = codes "slot " ++ decimal (fault_slot fault) ++ codes " node "
+    ++ decimal (fault_node fault) ++ codes " "
 
 -- the line of a fault
 abbrev pub fault_line : Medl → Event → Summary → List ℕ

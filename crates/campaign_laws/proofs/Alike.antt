@@ -83,7 +83,8 @@ memberships-alike list script one other among runs =
     ap each_once
     (filter_map-agree (firm_members list one among) (firm_members list other among) (length list.slots) (nodes_of list)
     (λ k node. ap
-    (λ (past : NodePast). if (is_active_phase past.phase && not (is_doubt past.ack)) && among k then Some past.members else None)
+    (λ (past : NodePast). if (is_active_phase past.phase && not (is_doubt past.ack))
+    && among k then Some past.members else None)
     ((runs-pasts list script one other runs).pasts k node))
     (below-lt (length list.slots)))
 

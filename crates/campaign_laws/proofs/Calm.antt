@@ -51,7 +51,8 @@ pairs-each : (p s : ℕ → Bool) (q : ℕ → ℕ → Bool) (n j k : ℕ)
     → list_all (λ i. list_all (q i) (filter s (filter p (below n)))) (filter s (filter p (below n))) ≡ true
     → j < n → k < n → p j ≡ true → p k ≡ true → s j ≡ true → s k ≡ true → q j k ≡ true
 pairs-each p s q n j k all one other sound_j sound_k firm_j firm_k =
-    twice (q j) k (twice (λ i. list_all (q i) (filter s (filter p (below n)))) j all one sound_j firm_j) other sound_k firm_k
+    twice (q j) k (twice (λ i. list_all (q i) (filter s (filter p (below n)))) j all
+    one sound_j firm_j) other sound_k firm_k
   where
     twice : (r : ℕ → Bool) (i : ℕ) → list_all r (filter s (filter p (below n))) ≡ true → i < n → p i ≡ true
         → s i ≡ true → r i ≡ true
@@ -77,7 +78,8 @@ safe-calm list script history safe = record {
 
 -- By the test on armed nodes: a node that has not left since it was armed did not leave in the newest slot.
 
-append-each : (P : ℕ → Type 0) (xs ys : List ℕ) → AllByRecursion P xs → AllByRecursion P ys → AllByRecursion P (xs ++ ys)
+append-each : (P : ℕ → Type 0) (xs ys : List ℕ) → AllByRecursion P xs
+    → AllByRecursion P ys → AllByRecursion P (xs ++ ys)
 append-each P [] ys one other = other
 append-each P (x ∷ xs) ys one other = (one.0, append-each P xs ys one.1 other)
 
@@ -119,8 +121,10 @@ unleft script [] k none = refl
 unleft script (row ∷ history) k none =
     newest-left (newest_arm script k (suc (length history))) (entry_of row k) (diary_of history k)
     (λ slot is.
-    let less = find-each (λ j. j < suc (length history)) (is_armed script k) (reverse (below (suc (length history)))) slot
-    (reverse-each (λ j. j < suc (length history)) (below (suc (length history))) (below-lt (suc (length history)))) is in
+    let less = find-each (λ j. j < suc (length history)) (is_armed script k)
+    (reverse (below (suc (length history)))) slot
+    (reverse-each (λ j. j < suc (length history)) (below (suc (length history)))
+    (below-lt (suc (length history)))) is in
     let long = length-map history (λ r. entry_of r k) in
     omega (arith, less, long))
     none
@@ -131,7 +135,8 @@ back-calm list script history safe = record {
   stay = λ k node sound.
       unleft script history k
       (negated (has_left_since_arm script history k)
-      (kept-each (is_sound script (numbers_of (back_faulty_after list script (newest_slot history))) (newest_slot history))
+      (kept-each (is_sound script
+      (numbers_of (back_faulty_after list script (newest_slot history))) (newest_slot history))
       (λ j. not (has_left_since_arm script history j)) (length list.slots) k safe.stay node sound));
   agree = λ j k one other sound_j sound_k firm_j firm_k.
       pairs-each

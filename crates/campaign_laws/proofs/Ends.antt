@@ -1,5 +1,7 @@
--- Where the test of a script says yes, and each faulty node became so two rounds before the end, one membership is left.
-use Rattle.std.proofs.Common.{◌≡◌, ℕ, suc, ◌+◌, ◌-◌, ◌*◌, ◌<◌, ◌≤◌, Bool, true, false, cond, not, ◌&&◌, ◌||◌, List, [], ◌∷◌}
+-- Where the test of a script says yes, and each faulty node became so two rounds before the end, one membership is
+-- left.
+use Rattle.std.proofs.Common.{◌≡◌, ℕ, suc, ◌+◌, ◌-◌, ◌*◌, ◌<◌, ◌≤◌, Bool, true}
+use Rattle.std.proofs.Common.{false, cond, not, ◌&&◌, ◌||◌, List, [], ◌∷◌}
 use Rattle.std.proofs.Common.{length, Option, Some, None, refl, ap, sym, ◌∙◌, subst, arith, IsTrue}
 use Rattle.std.specs.Prelude.{nat_le, ◌==◌}
 use Rattle.std.specs.List.{filter_map, cons_option, list_all, AllByRecursion}
@@ -19,12 +21,14 @@ use Rattle.ttp_world.specs.After.{past_after}
 use Rattle.ttp_world.specs.BackSafety.{IsBackSafe, is_armed_among, is_back_gone, back_correct_nodes}
 use Rattle.ttp_world.specs.Conduct.{new_entry}
 use Rattle.ttp_world.specs.Diary.{History, diary_of, phase_of, is_active, is_active_phase}
-use Rattle.ttp_world.specs.Hypothesis.{ClusterStart, FaultyNode, numbers_of, nodes_of, keeps, faulty_after, faulty_nodes_after}
+use Rattle.ttp_world.specs.Hypothesis.{ClusterStart, FaultyNode, numbers_of, nodes_of}
+use Rattle.ttp_world.specs.Hypothesis.{keeps, faulty_after, faulty_nodes_after}
 use Rattle.ttp_world.specs.Legal.{IsLegal}
 use Rattle.ttp_world.specs.Medl.{IsValid}
 use Rattle.ttp_world.specs.Messages.{is_left_phase}
 use Rattle.ttp_world.specs.Returning.{has_arm, returns, is_sound, back_faulty_after, two_rounds}
-use Rattle.ttp_world.specs.Safety.{newest_slot, has_left, is_settled, is_gone, is_out, is_out_among, members_of_node, IsSafe}
+use Rattle.ttp_world.specs.Safety.{newest_slot, has_left, is_settled, is_gone, is_out}
+use Rattle.ttp_world.specs.Safety.{is_out_among, members_of_node, IsSafe}
 use Rattle.ttp_world.specs.Script.{on_slot, has_come, is_on, IsValidScript}
 use Rattle.ttp_world.specs.Starts.{StartsAlone}
 use Rattle.ttp_world.specs.World.{Numbers, node_past, world, messages_chosen}
@@ -38,7 +42,8 @@ use Rattle.safety_laws.proofs.Waiting.{WaitAll-world}
 use Rattle.safety_laws.proofs.Kept.{kept-safe}
 use Rattle.safety_laws.proofs.Returned.{returned-safe}
 use Rattle.safety_laws.proofs.ReturnsByPlan.{returned-by_plan}
-use Rattle.campaign.specs.Cost.{is_kept, is_owed, says_yes, says_yes_if, faulty_by_test, faulty_if, is_firm, firm_members}
+use Rattle.campaign.specs.Cost.{is_kept, is_owed, says_yes, says_yes_if, faulty_by_test}
+use Rattle.campaign.specs.Cost.{faulty_if, is_firm, firm_members}
 use Rattle.campaign.specs.Cost.{each_once, memberships, has_two, is_split, split_span, span_after, span_with, cost_of}
 use Rattle.campaign.specs.declared.cost.Cost.{Cost}
 use Rattle.campaign.specs.Lines.{summary}
@@ -53,12 +58,14 @@ use Rattle.safety_laws.proofs.Idle.{act-off as off-act}
 
 off-next : (x : NodeSlot) → x.past.phase ≡ phase.Off → x.on ≡ false → (next_past x).phase ≡ phase.Off
 off-next x off stays =
-    ap (λ (a : Act). (past_after x.list x.node x.past (new_entry x.list x.node x.past x.chosen x.hearing a) x.around).phase)
+    ap (λ (a : Act). (past_after x.list x.node x.past
+    (new_entry x.list x.node x.past x.chosen x.hearing a) x.around).phase)
     (off-act x off stays)
 
 not_yet : (slot later : ℕ) (on : Option ℕ) → slot ≤ later → has_come later on ≡ false → has_come slot on ≡ false
 not_yet slot later None less off = refl
-not_yet slot later (Some on) less off = let after = leb-false on later off in lt-leb on slot (omega (arith, after, less))
+not_yet slot later (Some on) less off = let after = leb-false on later off in
+    lt-leb on slot (omega (arith, after, less))
 
 module _ (list : Medl) (script : Script) (k : ℕ) (node : k < length list.slots) where
   off-world : (numbers : Numbers) → is_on script k (length numbers - 1) ≡ false
@@ -70,7 +77,8 @@ module _ (list : Medl) (script : Script) (k : ℕ) (node : k < length list.slots
       let long = length-world list script numbers in
       let count : suc (length numbers) - 1 ≡ length numbers = omega arith in
       let still : is_on script k (length numbers) ≡ false = ap (is_on script k) (sym count) ∙ off in
-      let before = off-world numbers (not_yet (length numbers - 1) (length numbers) (on_slot script k) (omega arith) still) in
+      let before = off-world numbers
+      (not_yet (length numbers - 1) (length numbers) (on_slot script k) (omega arith) still) in
       ap (λ past. past.phase) (node_past-step list script history chosen k node)
       ∙ off-next (node_slot list script history chosen k) before (ap (is_on script k) long ∙ still)
 
@@ -95,13 +103,15 @@ none-is : (P : FaultyNode → Type 0) (gone : FaultyNode → Bool) (k : ℕ) (fa
 none-is P gone k [] other are all = refl
 none-is P gone k (f ∷ faulty) other are all =
     let parts = and_parts (gone f) (list_all gone faulty) all in
-    or_from (f.node == k) (has_node (numbers_of faulty) k) (other f are.0 parts.0) (none-is P gone k faulty other are.1 parts.1)
+    or_from (f.node == k) (has_node (numbers_of faulty) k) (other f are.0 parts.0)
+    (none-is P gone k faulty other are.1 parts.1)
 
 gone-left : (late left out : Bool) → (not late || (left && out)) ≡ true → late ≡ true → left ≡ true
 gone-left true left out all is = (and_parts left out all).0
 gone-left false left out all is = absurd (false≢true is)
 
-unarmed-left : (late armed left out : Bool) → (not late || (armed || (left && out))) ≡ true → late ≡ true → armed ≡ false
+unarmed-left : (late armed left out : Bool)
+    → (not late || (armed || (left && out))) ≡ true → late ≡ true → armed ≡ false
     → left ≡ true
 unarmed-left true true left out all is none = absurd (false≢true (sym none))
 unarmed-left true false left out all is none = (and_parts left out all).0
@@ -116,17 +126,20 @@ another history j k left active = by (j == k) refl
     by false is = is
     by true is =
         let same = eqb-true j k is in
-        absurd (false≢true (sym (apart (phase_of (diary_of history k)) (ap (has_left history) (sym same) ∙ left)) ∙ active))
+        absurd (false≢true (sym (apart (phase_of (diary_of history k)) (ap (has_left history) (sym same) ∙ left))
+        ∙ active))
 
 module _ (list : Medl) (script : Script) (history : History) (count : length history ≡ script.slots)
     (some : 1 ≤ script.slots) (k : ℕ) (active : is_active (diary_of history k) ≡ true) where
   newest : newest_slot history ≡ script.slots - 1
   newest = ap (λ n. n - 1) count
 
-  kept-clear : IsSafe list script history → AllByRecursion (IsOver list script) (faulty_nodes_after list script (script.slots - 1))
+  kept-clear : IsSafe list script history
+      → AllByRecursion (IsOver list script) (faulty_nodes_after list script (script.slots - 1))
       → has_node (faulty_after list script (newest_slot history)) k ≡ false
   kept-clear safe over =
-      none-is (IsOver list script) (is_gone list script history) k (faulty_nodes_after list script (newest_slot history))
+      none-is (IsOver list script) (is_gone list script history) k
+      (faulty_nodes_after list script (newest_slot history))
       (λ f is gone.
       let late : suc (newest_slot history) ≡ script.slots = omega (arith, newest, some) in
       let early = is.early in
@@ -134,14 +147,16 @@ module _ (list : Medl) (script : Script) (history : History) (count : length his
       (gone-left (nat_le (f.slot + 2 * length list.slots) (suc (newest_slot history))) (has_left history f.node)
       (is_out list script history f.node) gone
       (le-leb (f.slot + 2 * length list.slots) (suc (newest_slot history)) (omega (arith, late, early)))) active)
-      (subst (λ (slot : ℕ). AllByRecursion (IsOver list script) (faulty_nodes_after list script slot)) (sym newest) over)
+      (subst (λ (slot : ℕ). AllByRecursion (IsOver list script)
+      (faulty_nodes_after list script slot)) (sym newest) over)
       safe.faulty
 
   back-clear : IsBackSafe list script history
       → AllByRecursion (IsOver list script) (back_faulty_after list script (script.slots - 1))
       → has_node (numbers_of (back_faulty_after list script (newest_slot history))) k ≡ false
   back-clear safe over =
-      none-is (IsOver list script) (is_back_gone list script history) k (back_faulty_after list script (newest_slot history))
+      none-is (IsOver list script) (is_back_gone list script history) k
+      (back_faulty_after list script (newest_slot history))
       (λ f is gone.
       let early = is.early in
       another history f.node k
@@ -254,7 +269,8 @@ module _ (list : Medl) (script : Script) (valid : IsValid list) (script_valid : 
         (omega (arith, whole)) in
         ap (λ b. has_node (faulty_if list script (newest_slot (world list script numbers)) b) k) unarmed
         ∙ kept-clear list script (world list script numbers) count some k active safe
-        (subst (λ b. AllByRecursion (IsOver list script) (faulty_nodes_if list script (script.slots - 1) b)) unarmed over))
+        (subst (λ b. AllByRecursion (IsOver list script)
+        (faulty_nodes_if list script (script.slots - 1) b)) unarmed over))
 
     owed-one : (slot : ℕ) → returns list script ≡ back.Yes slot → has_arm script ≡ true
         → length (cost_of list script (world list script numbers)).end ≤ 1
@@ -268,7 +284,8 @@ module _ (list : Medl) (script : Script) (valid : IsValid list) (script_valid : 
         (omega (arith, whole)) in
         ap (λ b. has_node (faulty_if list script (newest_slot (world list script numbers)) b) k) armed
         ∙ back-clear list script (world list script numbers) count some k active safe
-        (subst (λ b. AllByRecursion (IsOver list script) (faulty_nodes_if list script (script.slots - 1) b)) armed over))
+        (subst (λ b. AllByRecursion (IsOver list script)
+        (faulty_nodes_if list script (script.slots - 1) b)) armed over))
 
     yes-one : IsTrue (says_yes list script) → length (cost_of list script (world list script numbers)).end ≤ 1
     yes-one says = by (has_arm script) refl says

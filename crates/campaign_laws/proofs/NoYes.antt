@@ -169,7 +169,8 @@ loss-yless : (word : List ℕ) (node : ℕ) (channels : Channels) (kind : Fault)
     → Yless (loss_words word node channels kind from to)
 loss-yless word node channels kind from to none =
     loss-by word (decimal node) (channels_word channels) (kind_word kind) (decimal from) (decimal to) none
-    (decimal-yless node) (channels-yless channels.a channels.b) (kind-yless kind) (decimal-yless from) (decimal-yless to)
+    (decimal-yless node) (channels-yless channels.a channels.b)
+    (kind-yless kind) (decimal-yless from) (decimal-yless to)
 
 jump-by : (node value slot : List ℕ) → Yless node → Yless value → Yless slot
     → Yless (codes "jump " ++ node ++ codes " " ++ value ++ codes " " ++ slot)
@@ -179,21 +180,25 @@ pub fault-yless : (e : Event) → Yless (fault_words e)
 fault-yless (event.Send node channels kind from to) = loss-yless (codes "send ") node channels kind from to refl
 fault-yless (event.Receive node channels kind from to) = loss-yless (codes "receive ") node channels kind from to refl
 fault-yless (event.Jump node value slot) =
-    jump-by (decimal node) (signed_decimal value) (decimal slot) (decimal-yless node) (signed-yless value) (decimal-yless slot)
+    jump-by (decimal node) (signed_decimal value) (decimal slot) (decimal-yless node)
+    (signed-yless value) (decimal-yless slot)
 fault-yless (event.Flip node channels bit slot) = refl
 fault-yless e = refl
 
-place-by : (slot node : List ℕ) → Yless slot → Yless node → Yless (codes "slot " ++ slot ++ codes " node " ++ node ++ codes " ")
+place-by : (slot node : List ℕ) → Yless slot → Yless node
+    → Yless (codes "slot " ++ slot ++ codes " node " ++ node ++ codes " ")
 place-by slot node p q = simp (list_any-append (λ c. c == 121), p, q)
 
 pub place-yless : (e : Event) → Yless (place_words e)
 place-yless e =
-    place-by (decimal (fault_slot e)) (decimal (fault_node e)) (decimal-yless (fault_slot e)) (decimal-yless (fault_node e))
+    place-by (decimal (fault_slot e)) (decimal (fault_node e))
+    (decimal-yless (fault_slot e)) (decimal-yless (fault_node e))
 
 -- The other lines.
 
 head-by : (nodes slots first last : List ℕ) → Yless nodes → Yless slots → Yless first → Yless last
-    → Yless (codes "ttplab campaign 1 nodes " ++ nodes ++ codes " slots " ++ slots ++ codes " from " ++ first ++ codes " to "
+    → Yless (codes "ttplab campaign 1 nodes " ++ nodes ++ codes " slots " ++ slots
+    ++ codes " from " ++ first ++ codes " to "
     ++ last ++ newline)
 head-by nodes slots first last p q r s = simp (list_any-append (λ c. c == 121), p, q, r, s)
 
@@ -204,7 +209,8 @@ head-yless list script first last =
 
 counted-by : (name runs same hurt split torn dead : List ℕ) → Yless name → Yless runs → Yless same → Yless hurt
     → Yless split → Yless torn → Yless dead
-    → Yless (name ++ runs ++ codes " same " ++ same ++ codes " hurt " ++ hurt ++ codes " split " ++ split ++ codes " torn "
+    → Yless (name ++ runs ++ codes " same " ++ same ++ codes " hurt " ++ hurt
+    ++ codes " split " ++ split ++ codes " torn "
     ++ torn ++ codes " dead " ++ dead ++ newline)
 counted-by name runs same hurt split torn dead p q r s t u v =
     simp (list_any-append (λ c. c == 121), p, q, r, s, t, u, v)

@@ -21,13 +21,15 @@ use Rattle.campaign.specs.declared.cost.Cost.{Cost}
 use Rattle.campaign.specs.declared.cost.Counts.{Counts}
 use Rattle.campaign.specs.Cost.{says_yes}
 use Rattle.campaign.specs.CostText.{test_words, listed, leave_word, span_words, members_word, cost_words, fault_words}
-use Rattle.campaign.specs.Lines.{summary, summary_with, has_hurt, head_line, own_line, fault_line, run_line, counts_line}
+use Rattle.campaign.specs.Lines.{summary, summary_with, has_hurt, head_line, own_line}
+use Rattle.campaign.specs.Lines.{fault_line, run_line, counts_line}
 use Rattle.campaign.specs.Lines.{place_words, kept_counts, broken_counts, lines_with, campaign_lines}
 use Rattle.campaign.specs.Tried.{with_fault, faults_from}
 use Rattle.ttp_world.specs.ZerosWorld.{zeros_world}
 use Rattle.campaign_laws.specs.SafeLines.{StandIn, IsSafeLine}
 use Rattle.campaign_laws.proofs.Kept.{unharmed-unhurt, unharmed-unsplit, none-counted}
-use Rattle.campaign_laws.proofs.NoYes.{Yless, test-yless, cost-yless, fault-yless, place-yless, head-yless, counts-yless}
+use Rattle.campaign_laws.proofs.NoYes.{Yless, test-yless, cost-yless, fault-yless}
+use Rattle.campaign_laws.proofs.NoYes.{place-yless, head-yless, counts-yless}
 use Rattle.campaign_laws.proofs.Yes.{IsUnharmed, yes-line}
 
 -- where there is no y, there is no yes
@@ -45,7 +47,8 @@ no_yes : (line : List ℕ) → Yless line → StandIn (codes " yes start ") line
 no_yes line none stand = false≢true (sym none ∙ ap (has 121) stand.whole ∙ found stand.front stand.rest)
 
 -- a line that begins with another letter is not that of kept runs
-not_kept : (line : List ℕ) (b : ℕ) → get_or line 0 0 ≡ b → (b ≡ 107 → ⊥) → (rest : List ℕ) → line ≡ codes "kept " ++ rest
+not_kept : (line : List ℕ) (b : ℕ) → get_or line 0 0 ≡ b → (b ≡ 107 → ⊥)
+    → (rest : List ℕ) → line ≡ codes "kept " ++ rest
     → ⊥
 not_kept line b first other rest is = other (sym first ∙ ap (λ (text : List ℕ). get_or text 0 0) is)
 
@@ -76,7 +79,8 @@ unharmed-stands list cost before test tail unharmed =
           ++ codes " hurt " ++ listed (map decimal (unharmed.hurt i))
           ++ codes " split " ++ span_words (unharmed.split i) ++ codes " end " ++ end) ++ codes " fault ") ++ tail
           ++ newline)
-          ∙ between before test (codes " ") (codes "left ") left (codes " hurt ") (codes "-") (codes " split ") (codes "- -")
+          ∙ between before test (codes " ") (codes "left ") left (codes " hurt ")
+          (codes "-") (codes " split ") (codes "- -")
           (codes " end ") end (codes " fault ") tail newline;
     }
 
@@ -97,7 +101,8 @@ module _ (list : Medl) (valid : IsValid list) where
     where
       by : (b : Bool) → says_yes list script ≡ b
           → StandIn (codes " hurt - split - - end ")
-          (before ++ (test_words list script ++ codes " " ++ cost_words list (summary list script).cost ++ codes " fault ")
+          (before ++ (test_words list script ++ codes " "
+          ++ cost_words list (summary list script).cost ++ codes " fault ")
           ++ tail ++ newline)
       by true says =
           unharmed-stands list (summary list script).cost before (test_words list script) tail
@@ -112,13 +117,15 @@ module _ (list : Medl) (valid : IsValid list) where
     kept = λ rest is. absurd (not_kept _ 115 refl (λ same. omega (arith, same)) rest is);
   }
 
-  fault-safe : (more : Script) (e : Event) → IsValidScript list more → IsSafeLine (fault_line list e (summary list more))
+  fault-safe : (more : Script) (e : Event) → IsValidScript list more
+      → IsSafeLine (fault_line list e (summary list more))
   fault-safe more e script_valid = record {
     yes = run-yes more (place_words e) (fault_words e) script_valid (place-yless e) (fault-yless e);
     kept = λ rest is. absurd (not_kept _ 115 refl (λ same. omega (arith, same)) rest is);
   }
 
-  module _ (script : Script) (script_valid : IsValidScript list script) (room : length script.events < EVENT_LIMIT) where
+  module _ (script : Script) (script_valid : IsValidScript list script)
+      (room : length script.events < EVENT_LIMIT) where
     runs-safe : (faults : List Event) → All (MayStand list script) faults
         → All IsSafeLine (map (run_line list script) faults)
     runs-safe [] stand = All-nil IsSafeLine
@@ -164,7 +171,8 @@ module _ (list : Medl) (valid : IsValid list) where
           kept = λ rest is.
               kept-stands counts
               (none-counted list script valid script_valid room has_hurt unharmed-unhurt faults stand)
-              (none-counted list script valid script_valid room (λ cost. is_some cost.split) unharmed-unsplit faults stand);
+              (none-counted list script valid script_valid room
+              (λ cost. is_some cost.split) unharmed-unsplit faults stand);
         }
 
     broken-safe : (counts : Counts) → IsSafeLine (counts_line (codes "broken ") counts)

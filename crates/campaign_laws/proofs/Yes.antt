@@ -143,12 +143,14 @@ unhurt list script slot k e stays = by (is_sound script (faulty_by_test list scr
     by false not_sound = unsound e not_sound
 
 calm-unsplit : (list : Medl) (script : Script) (history : History)
-    → IsCalm list script history (faulty_by_test list script (newest_slot history)) → is_split list script history ≡ false
+    → IsCalm list script history (faulty_by_test list script (newest_slot history))
+    → is_split list script history ≡ false
 calm-unsplit list script history calm =
     one-set (filter_map f (nodes_of list))
     (given-each (λ s. AllByRecursion (λ t. bytes_eq s t ≡ true) (filter_map f (nodes_of list))) f n (nodes_of list)
     (λ j s one gave. given-each (λ t. bytes_eq s t ≡ true) f n (nodes_of list)
-    (λ k t other gave_too. same j k s t one other (gives list history among j s gave) (gives list history among k t gave_too))
+    (λ k t other gave_too. same j k s t one other (gives list history among j s gave)
+    (gives list history among k t gave_too))
     (below-lt n))
     (below-lt n))
   where

@@ -38,7 +38,8 @@ bus_of_five drift error window = record {
   error = error;
   window = window;
   modes = 1;
-  slots = one_kind_slot true ∷ one_kind_slot false ∷ one_kind_slot false ∷ one_kind_slot false ∷ one_kind_slot false ∷ [];
+  slots = one_kind_slot true ∷ one_kind_slot false ∷ one_kind_slot false
+      ∷ one_kind_slot false ∷ one_kind_slot false ∷ [];
 }
 
 abbrev pub bare_five : Medl
@@ -58,7 +59,8 @@ mixed = record {
   error = pos 0;
   window = pos 1;
   modes = 1;
-  slots = two_kind_slot true ∷ two_kind_slot true ∷ two_kind_slot false ∷ two_kind_slot false ∷ two_kind_slot false ∷ [];
+  slots = two_kind_slot true ∷ two_kind_slot true ∷ two_kind_slot false
+      ∷ two_kind_slot false ∷ two_kind_slot false ∷ [];
 }
 
 -- Scripts that switch all five nodes on in slot 0, by lines 3 to 7.

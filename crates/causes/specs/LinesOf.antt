@@ -132,7 +132,8 @@ has_frames (sent ∷ others) = true
 -- what spoils both channels to node k in a slot
 abbrev pub spoilt_in : ℕ → RunSlot → Sources
 spoilt_in k s = elim (has_frames s.frames) [
-  | true ↦ with_sources (spoilt_by k s channel.A (heard_in k s channel.A)) (spoilt_by k s channel.B (heard_in k s channel.B))
+  | true ↦ with_sources (spoilt_by k s channel.A (heard_in k s channel.A))
+      (spoilt_by k s channel.B (heard_in k s channel.B))
   | false ↦ no_sources
 ]
 

@@ -98,7 +98,8 @@ oldest [] = None
 oldest (s ∷ []) = Some s
 oldest (s ∷ others) = oldest others
 
--- the first correct frame since its own, where it came in no doubt, its sender sent, and the node's own entry is no join
+-- the first correct frame since its own, where it came in no doubt, its sender sent, and the node's own entry is no
+-- join
 abbrev pub answers_node : ℕ → RunSlot → Bool
 answers_node k u = not (is_some (doubted_in k u)) && is_sent (entry_in_slot (place_of_node k u).slot u)
 
@@ -113,7 +114,8 @@ answer_of k before =
       | false ↦ if_answer k (oldest (judged_so is_correct k (since_own k before)))
     ]
 
--- the nodes that node k was told that it lacks, or whose frames it rejected, and that the sender of that frame lacks too
+-- the nodes that node k was told that it lacks, or whose frames it rejected, and that the sender of that frame lacks
+-- too
 abbrev pub lacked_too : ℕ → RunSlots → RunSlot → List ℕ
 lacked_too k before u =
     let told = lacked_since_own k before ++ rejected_peers k before u.begun.number in

@@ -231,7 +231,8 @@ alone_line e false = codes "alone no " ++ entry_word e ++ newline
 
 -- The whole.
 
--- by the story of an entry of node k in a slot, its lines in the order of the file, and the entry in the run of these alone
+-- by the story of an entry of node k in a slot, its lines in the order of the file, and the entry in the run of these
+-- alone
 abbrev pub why_lines_of : Medl → Script → LineNumbers → RunSlots → ℕ → ℕ → Story → List ScriptLine → Entry → Lines
 why_lines_of list script numbers run k slot s lines alone =
     let e = newest_entry_of k run in

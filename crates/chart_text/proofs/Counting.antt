@@ -9,7 +9,8 @@ use Rattle.std.proofs.lemmas.List.FromFn.{length-map-range_with_len, get_or-map-
 use Rattle.chart_text.specs.Sums.{counts_by}
 use Rattle.chart_text.specs.Steps.{AreFaultsCounted}
 
-pub counted-start : {X : Type 0} (number : X → ℕ) (k : ℕ) (all : List X) → AreFaultsCounted number (replicate k 0) all all
+pub counted-start : {X : Type 0} (number : X → ℕ) (k : ℕ) (all : List X)
+    → AreFaultsCounted number (replicate k 0) all all
 counted-start number k all i less =
     let inside : i < k = omega (arith, length-replicate {A = ℕ}) in
     omega (arith, get_or-replicate {A = ℕ} k i 0 0 inside)
@@ -35,7 +36,8 @@ counted-few number counts left all most few counted i less =
 
 -- one was counted
 
-count-moved : (is : Bool) (before after left all : ℕ) → after ≡ before + as_count is → before + (cond is 1 0 + left) ≡ all
+count-moved : (is : Bool) (before after left all : ℕ) → after ≡ before
+    + as_count is → before + (cond is 1 0 + left) ≡ all
     → after + left ≡ all
 count-moved true before after left all more known = omega (arith, more, known)
 count-moved false before after left all more known = omega (arith, more, known)

@@ -1,5 +1,6 @@
 -- The worst faults, as a list of what is told.
-use Rattle.chart_text.proofs.Words.{◌≡◌, ◌∙◌, ℕ, ◌+◌, ◌<◌, Bool, true, false, not, List, [], ◌∷◌, ◌++◌, length, get_or, map, take, drop}
+use Rattle.chart_text.proofs.Words.{◌≡◌, ◌∙◌, ℕ, ◌+◌, ◌<◌, Bool, true, false, not, List}
+use Rattle.chart_text.proofs.Words.{[], ◌∷◌, ◌++◌, length, get_or, map, take, drop}
 use Rattle.chart_text.proofs.Words.{sym, ap, subst, arith, cond, told_of, FaultTold}
 use Rattle.std.proofs.Common.{zero, suc, add-one}
 use Rattle.std.specs.Prelude.{insert}
@@ -24,7 +25,8 @@ pub told-view : (lines : List FaultLine) (view : List FaultTold) (n : ℕ) (x : 
 told-view lines view n x same less is =
     subst (λ (ys : List FaultTold). drop n ys ≡ told_of x ∷ drop (n + 1) ys) same (told-at lines n x less is)
 
-pub length-view : (lines : List FaultLine) (view : List FaultTold) → map told_of lines ≡ view → length view ≡ length lines
+pub length-view : (lines : List FaultLine) (view : List FaultTold)
+    → map told_of lines ≡ view → length view ≡ length lines
 length-view lines view same = sym (ap length same) ∙ length-map lines told_of
 
 -- one more that is not the first of its kind

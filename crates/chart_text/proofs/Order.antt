@@ -55,7 +55,8 @@ pub none-here : (s : ℕ) (x : FaultTold) (rest : List FaultTold) → in_order_f
     → faults_told_in s (x ∷ rest) ≡ []
 none-here s x rest order other =
     let parts = order-first s x rest order in
-    none-before s (s + 1) (x ∷ rest) (omega arith) (order-reached s (s + 1) x rest order (omega (arith, parts.0, other)))
+    none-before s (s + 1) (x ∷ rest) (omega arith)
+    (order-reached s (s + 1) x rest order (omega (arith, parts.0, other)))
 
 -- The same faults from a slot on.
 

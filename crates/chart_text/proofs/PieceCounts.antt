@@ -1,5 +1,6 @@
 -- Slots and counts of pieces, one after another.
-use Rattle.chart_text.proofs.Words.{◌≡◌, ◌∙◌, ℕ, ◌+◌, ◌<◌, ◌^◌, nat_lt, Bool, true, false, ◌&&◌, ◌||◌, List, [], ◌∷◌, map, ap, sym}
+use Rattle.chart_text.proofs.Words.{◌≡◌, ◌∙◌, ℕ, ◌+◌, ◌<◌, ◌^◌, nat_lt, Bool, true}
+use Rattle.chart_text.proofs.Words.{false, ◌&&◌, ◌||◌, List, [], ◌∷◌, map, ap, sym}
 use Rattle.chart_text.proofs.Words.{refl, arith, counts_sum, Piece, is_tried}
 use Rattle.std.proofs.Common.{add-zero, zero-add, add_assoc}
 use Rattle.std.proofs.lemmas.Bool.{lt-ltb, ltb-true}
@@ -22,7 +23,8 @@ piece-marked t before after all left rest piece is more known =
     ∙ ap (λ (pieces : List Piece). before || is_tried pieces t) (sym is)
     ∙ known
 
-pub none-marked : (t : ℕ) (mark all : Bool) (left : List Piece) → left ≡ [] → (mark || is_tried left t) ≡ all → mark ≡ all
+pub none-marked : (t : ℕ) (mark all : Bool) (left : List Piece) → left ≡ []
+    → (mark || is_tried left t) ≡ all → mark ≡ all
 none-marked t true all left is known = known
 none-marked t false all left is known = ap (λ (pieces : List Piece). is_tried pieces t) (sym is) ∙ known
 

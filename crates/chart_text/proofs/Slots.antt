@@ -74,12 +74,14 @@ asked-marks old new asked same each =
     ∙ sym (filter-filter (has_mark old) (is_asked asked) (below (length old)))
 
 -- one number more, and how many they are
-pub count-next : (p : ℕ → Bool) (n : ℕ) → length (filter p (below (n + 1))) ≡ length (filter p (below n)) + as_count (p n)
+pub count-next : (p : ℕ → Bool) (n : ℕ) → length (filter p (below (n + 1)))
+    ≡ length (filter p (below n)) + as_count (p n)
 count-next p n = go (p n) refl
   where
     go : (b : Bool) → p n ≡ b → length (filter p (below (n + 1))) ≡ length (filter p (below n)) + as_count b
     go true is = count-passes p n is
-    go false is = ap length (fails p n is) ∙ (let same : length (filter p (below n)) ≡ length (filter p (below n)) + 0 = omega arith in same)
+    go false is = ap length (fails p n is)
+        ∙ (let same : length (filter p (below n)) ≡ length (filter p (below n)) + 0 = omega arith in same)
 
 -- Those of a list from a place on, where one more is behind it.
 
@@ -94,7 +96,8 @@ window-within : (first most x : ℕ) (xs : List ℕ) → first ≤ length xs →
     → take most (drop first (xs ++ x ∷ [])) ≡ take most (drop first xs) ++ x ∷ []
 window-within first most x xs begun more =
     ap (take most) (drop-append-le first xs (x ∷ []) begun)
-    ∙ take_all most (drop first xs ++ x ∷ []) (omega (arith, length-append (drop first xs) (x ∷ []), length-drop first xs))
+    ∙ take_all most (drop first xs ++ x ∷ [])
+    (omega (arith, length-append (drop first xs) (x ∷ []), length-drop first xs))
     ∙ ap (λ (ys : List ℕ). ys ++ x ∷ []) (sym (take_all most (drop first xs) (omega (arith, length-drop first xs))))
 
 window-behind : (first most x : ℕ) (xs : List ℕ) → first + most ≤ length xs

@@ -2,7 +2,8 @@
 use Rattle.chart_text.proofs.Words.{◌≡◌, ◌∙◌, ℕ, ◌+◌, ◌^◌, ◌<◌, Bool, true, false, cond, List, [], ◌∷◌, length}
 use Rattle.chart_text.proofs.Words.{refl, sym, ap, subst, arith, ◌==◌, Option, Some, None, FaultTold, Size, as_count}
 use Rattle.chart_text.proofs.Words.{does_harm, look_number, fault_look, look_counts, first_doing, harmful_among}
-use Rattle.chart_text.proofs.Words.{faults_told_of, IsTally, AreTallies, CanNote, Tally, Tallies, no_tally, tally_of, worst_of}
+use Rattle.chart_text.proofs.Words.{faults_told_of, IsTally, AreTallies, CanNote}
+use Rattle.chart_text.proofs.Words.{Tally, Tallies, no_tally, tally_of, worst_of}
 use Rattle.chart_text.proofs.Words.{count_by-le-length, length-filter}
 use Rattle.std.specs.Option.{option_or}
 use Rattle.std.proofs.Common.{suc, add-zero, set}
@@ -40,7 +41,8 @@ or-none : (first : Option Doing) → first ≡ option_or first None
 or-none None = refl
 or-none (Some d) = refl
 
-pub tallied : (size : Size) (tally : Tally) (all : List FaultTold) → IsTally size tally [] all → IsTallied size tally all
+pub tallied : (size : Size) (tally : Tally) (all : List FaultTold)
+    → IsTally size tally [] all → IsTallied size tally all
 tallied size tally all is = record {
   counts = counted-all (λ fault. look_number (fault_look size fault.shown)) 9 tally.counts all is.long is.counted;
   many = sym (add-zero tally.many) ∙ is.many;
@@ -55,7 +57,8 @@ pub tally-room : (size : Size) (tally : Tally) (left all : List FaultTold) → l
 tally-room size tally left all few is = record {
   many = omega (arith, is.many, few);
   harmful = omega (arith, is.harmful, few, count_by-le-length (λ fault. does_harm size fault.shown) all);
-  counts = counted-few (λ fault. look_number (fault_look size fault.shown)) tally.counts left all (2 ^ 63) few is.counted;
+  counts = counted-few (λ fault. look_number (fault_look size fault.shown))
+      tally.counts left all (2 ^ 63) few is.counted;
 }
 
 pub few-of-node : (k : ℕ) (all : List FaultTold) → length all < 2 ^ 63 → length (faults_told_of k all) < 2 ^ 63

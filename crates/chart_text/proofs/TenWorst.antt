@@ -1,6 +1,8 @@
 -- How many the ten worst faults are, and how long their lines.
-use Rattle.chart_text.proofs.Words.{◌≡◌, ◌∙◌, ℕ, ◌+◌, ◌≤◌, Bool, true, false, cond, List, [], ◌∷◌, ◌++◌, length, take, drop}
-use Rattle.chart_text.proofs.Words.{refl, sym, ap, not, arith, FaultTold, Size, does_harm, harmful_among, longest_text, ten_with, ten_worst}
+use Rattle.chart_text.proofs.Words.{◌≡◌, ◌∙◌, ℕ, ◌+◌, ◌≤◌, Bool, true, false, cond}
+use Rattle.chart_text.proofs.Words.{List, [], ◌∷◌, ◌++◌, length, take, drop}
+use Rattle.chart_text.proofs.Words.{refl, sym, ap, not, arith, FaultTold, Size, does_harm}
+use Rattle.chart_text.proofs.Words.{harmful_among, longest_text, ten_with, ten_worst}
 use Rattle.std.proofs.Common.{zero, suc}
 use Rattle.std.specs.Prelude.{fold, insert, min, max}
 use Rattle.std.specs.List.{position_or_len}
@@ -92,7 +94,8 @@ fold-longest size worst (x ∷ faults) =
         → longest_text (fold (ten_with size) (take 10 (insert worst (place_for size x.shown worst) x)) faults)
         ≤ max (longest_text (take 10 (insert worst (place_for size x.shown worst) x))) (longest_text faults)
         → longest_text (fold (ten_with size) worst faults) ≤ max (longest_text worst) (longest_text faults)
-        → longest_text (fold (ten_with size) (cond b (take 10 (insert worst (place_for size x.shown worst) x)) worst) faults)
+        → longest_text (fold (ten_with size)
+        (cond b (take 10 (insert worst (place_for size x.shown worst) x)) worst) faults)
         ≤ max (longest_text worst) (longest_text (x ∷ faults))
     step true with_it without = omega (arith, with_it, with-longest worst (place_for size x.shown worst) x)
     step false with_it without = omega (arith, without)

@@ -8,7 +8,8 @@ pub use Rattle.chart_text.specs.Looks.{does_harm, doing_word, fault_look, look_n
 pub use Rattle.chart_text.specs.Steps.{SameFrom, has_mark, longest_text, marked_slots}
 pub use Rattle.chart_text.specs.Sums.{faults_told_of, first_doing, harmful_among, look_counts, look_told}
 pub use Rattle.chart_text.specs.Walks.{AreTallies, CanNote, IsSurvey, IsTally, no_tally, tally_of}
-pub use Rattle.chart_text.specs.Worst.{fault_in_line, hurt_word, is_worse, list_lines, most_lost, ten_with, ten_worst, worst_of, worst_with}
+pub use Rattle.chart_text.specs.Worst.{fault_in_line, hurt_word, is_worse, list_lines, most_lost}
+pub use Rattle.chart_text.specs.Worst.{ten_with, ten_worst, worst_of, worst_with}
 pub use Rattle.chart_text.specs.declared.size.Size.{Size}
 pub use Rattle.chart_text.specs.declared.tally.Tallies.{Tallies}
 pub use Rattle.chart_text.specs.declared.tally.Tally.{Tally}

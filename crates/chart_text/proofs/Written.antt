@@ -1,6 +1,7 @@
 -- Lines that were put, in the order of a chart.
 use Rattle.chart_text.proofs.Words.{◌≡◌, ℕ, ◌+◌, Bool, false, List, [], ◌∷◌, subst, sym, Result, OnOk}
-use Rattle.chart_text.proofs.Words.{flat_map, Output, WroteLines, Lines, lines_below, Puts, puts_below, FaultTold, Size, list_lines}
+use Rattle.chart_text.proofs.Words.{flat_map, Output, WroteLines, Lines, lines_below}
+use Rattle.chart_text.proofs.Words.{Puts, puts_below, FaultTold, Size, list_lines}
 use Rattle.chart_text.specs.Worst.{listed_lines}
 use Rattle.std.proofs.Common.{Ok, Err, ◌↔◌}
 use Rattle.std.specs.Result.{IsOk, OnErr}

@@ -38,7 +38,8 @@ chart_ground height = codes "<rect width=\"1320\" height=\"" ++ decimal height +
 
 abbrev pub chart_title : Size → List ℕ
 chart_title size =
-    ended (title_element (codes "ttplab campaign 1 nodes " ++ decimal size.nodes ++ codes " slots " ++ decimal size.slots))
+    ended (title_element (codes "ttplab campaign 1 nodes " ++ decimal size.nodes
+    ++ codes " slots " ++ decimal size.slots))
 
 abbrev pub look_style : Look → List ℕ
 look_style look =
@@ -65,7 +66,8 @@ chart_styles =
 -- how many of all faults are harmful, and what the worst of them costs
 abbrev pub harm_text : ℕ → ℕ → ℕ → ℕ → List ℕ
 harm_text harmful all most nodes =
-    decimal harmful ++ codes " of " ++ decimal all ++ codes " faults are harmful; the most healthy nodes that one of them costs: "
+    decimal harmful ++ codes " of " ++ decimal all
+    ++ codes " faults are harmful; the most healthy nodes that one of them costs: "
     ++ decimal most ++ codes " of " ++ decimal nodes
 
 -- that faults of a slot that is not shown are harmful too

@@ -82,7 +82,8 @@ slot_sum_lines size c t faults =
 abbrev pub column_of : Size → ℕ → Option ℕ → ℕ → List FaultTold → Lines
 column_of size c before t faults =
     number_line size.nodes c before t ++ gap_line size.nodes c before t
-    ++ lines_below (block_lines size c t faults) size.nodes ++ flat_map (mark_lines size c) faults ++ slot_sum_lines size c t faults
+    ++ lines_below (block_lines size c t faults) size.nodes
+    ++ flat_map (mark_lines size c) faults ++ slot_sum_lines size c t faults
 
 abbrev pub column_lines : Size → List ℕ → List FaultTold → ℕ → Lines
 column_lines size shown faults c =

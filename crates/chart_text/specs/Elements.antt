@@ -22,5 +22,6 @@ fault_shape = codes "h2v4h-2z"
 -- an upright line of this class and height
 abbrev pub pole : List ℕ → ℕ → ℕ → ℕ → List ℕ
 pole class x y height =
-    codes "<path class=\"" ++ class ++ codes "\" d=\"M" ++ decimal x ++ codes " " ++ decimal y ++ codes "v" ++ decimal height
+    codes "<path class=\"" ++ class ++ codes "\" d=\"M" ++ decimal x ++ codes " "
+    ++ decimal y ++ codes "v" ++ decimal height
     ++ codes "\"/>\n"

@@ -22,18 +22,25 @@ use Rattle.chart_text.specs.Looks.{channels_said, loss_said, marks_left, marks_a
 abbrev pub how_to_read : ℕ → Lines
 how_to_read top =
     text_line (class_of (codes "said")) 12 (top + 8) (codes "how to read it")
-    ∷ text_line [] 12 (top + 28) (codes "A cell is a node in a slot: up to sixteen faults that begin there, each tried in a run of its own. Its colour says what the worst of them does, its number how")
-    ∷ text_line [] 12 (top + 44) (codes "many healthy nodes that one costs. A blue frame: the node sends in this slot. Below a cell stands a mark for each fault that changed something; the pointer over")
-    ∷ text_line [] 12 (top + 60) (codes "it shows its line. harmful: hurt, split, torn or dead. healthy: not faulty by the rules of the hypothesis; it may be the fault's own node. worst: dead before")
+    ∷ text_line [] 12 (top + 28)
+    (codes "A cell is a node in a slot: up to sixteen faults that begin there, each tried in a run of its own. Its colour says what the worst of them does, its number how")
+    ∷ text_line [] 12 (top + 44)
+    (codes "many healthy nodes that one costs. A blue frame: the node sends in this slot. Below a cell stands a mark for each fault that changed something; the pointer over")
+    ∷ text_line [] 12 (top + 60)
+    (codes "it shows its line. harmful: hurt, split, torn or dead. healthy: not faulty by the rules of the hypothesis; it may be the fault's own node. worst: dead before")
     ∷ text_line [] 12 (top + 76) (codes "torn, split and hurt, and then by the number of healthy nodes lost.")
     ∷ []
 
 abbrev pub words_meant : ℕ → Lines
 words_meant top =
-    text_line [] 12 (top + 152) (codes "silence: a frame is lost. noise: it comes spoilt. AB, A, B: on both channels, or on one. If the node sends in the slot, for all; otherwise for this node alone.")
-    ∷ text_line [] 12 (top + 168) (codes "jump: the clock of the node jumps ahead, or back (-). W: the window of the list; a frame that is further from its receiver's clock is not taken.")
-    ∷ text_line [] 12 (top + 184) (codes "without any of them: left: who left, as NODE:SLOT:WHY; hurt: the healthy ones of them; split: first and last slot in which healthy nodes held different members;")
-    ∷ text_line [] 12 (top + 200) (codes "end: the memberships at the end, each as a number in base 16, in which bit k is node k.")
+    text_line [] 12 (top + 152)
+    (codes "silence: a frame is lost. noise: it comes spoilt. AB, A, B: on both channels, or on one. If the node sends in the slot, for all; otherwise for this node alone.")
+    ∷ text_line [] 12 (top + 168)
+    (codes "jump: the clock of the node jumps ahead, or back (-). W: the window of the list; a frame that is further from its receiver's clock is not taken.")
+    ∷ text_line [] 12 (top + 184)
+    (codes "without any of them: left: who left, as NODE:SLOT:WHY; hurt: the healthy ones of them; split: first and last slot in which healthy nodes held different members;")
+    ∷ text_line [] 12 (top + 200)
+    (codes "end: the memberships at the end, each as a number in base 16, in which bit k is node k.")
     ∷ []
 
 -- the left edge of the square of a place, and its upper one

@@ -1,5 +1,6 @@
 -- What came of a fault, how that looks in a chart, and the kinds of faults.
-use Rattle.std.specs.Prelude.{ℕ, ◌+◌, ◌-◌, ◌*◌, ◌/◌, ◌%◌, ◌==◌, nat_le, nat_lt, Bool, true, false, ◌&&◌, not, if◌then◌else◌}
+use Rattle.std.specs.Prelude.{ℕ, ◌+◌, ◌-◌, ◌*◌, ◌/◌, ◌%◌, ◌==◌, nat_le, nat_lt}
+use Rattle.std.specs.Prelude.{Bool, true, false, ◌&&◌, not, if◌then◌else◌}
 use Rattle.std.specs.Prelude.{List, [], ◌∷◌, ◌++◌, get_or, codes}
 use Rattle.whole_campaign.specs.declared.shown.Doing.{Doing}
 use Rattle.whole_campaign.specs.declared.shown.Doing.TheVariants as doing
@@ -165,7 +166,8 @@ abbrev pub kind_said : ℕ → List ℕ
 kind_said p =
     if nat_lt p 12 then channels_said p ++ codes " " ++ loss_said p ++ stays_said p else jump_said p
 
--- The marks below a cell: eight beside each other, those in the slot alone above those to the end, jumps behind the losses.
+-- The marks below a cell: eight beside each other, those in the slot alone above those to the end, jumps behind the
+-- losses.
 
 -- how many marks are to the left of that of a place, and how many above it
 abbrev pub marks_left : ℕ → ℕ

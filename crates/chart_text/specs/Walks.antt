@@ -1,5 +1,6 @@
 -- What the walks over the faults of a campaign have found so far.
-use Rattle.std.specs.Prelude.{◌≡◌, ℕ, ◌+◌, ◌^◌, ◌<◌, max, List, [], ◌∷◌, length, get_or, replicate, fold, Option, Some, None}
+use Rattle.std.specs.Prelude.{◌≡◌, ℕ, ◌+◌, ◌^◌, ◌<◌, max, List, [], ◌∷◌, length}
+use Rattle.std.specs.Prelude.{get_or, replicate, fold, Option, Some, None}
 use Rattle.std.specs.Option.{option_or}
 use Rattle.whole_campaign.specs.declared.shown.FaultLine.{FaultLine}
 use Rattle.whole_campaign.specs.Steps.{told_of}

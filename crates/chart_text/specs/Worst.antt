@@ -1,5 +1,6 @@
 -- Which faults are worse than others, and the ten worst of a campaign.
-use Rattle.std.specs.Prelude.{ℕ, zero, suc, ◌+◌, ◌==◌, max, nat_lt, Bool, ◌&&◌, ◌||◌, List, [], ◌∷◌, ◌++◌, take, drop, insert}
+use Rattle.std.specs.Prelude.{ℕ, zero, suc, ◌+◌, ◌==◌, max, nat_lt, Bool, ◌&&◌}
+use Rattle.std.specs.Prelude.{◌||◌, List, [], ◌∷◌, ◌++◌, take, drop, insert}
 use Rattle.std.specs.Prelude.{fold, codes, decimal, Option, Some, None, if◌then◌else◌}
 use Rattle.std.specs.List.{position_or_len}
 use Rattle.ttp_base.specs.Text.{Lines}
@@ -13,7 +14,8 @@ use Rattle.chart_text.specs.Looks.{does_harm, fault_look, look_number, look_text
 
 -- The worst.
 
--- one fault is worse than another: its look stands lower in the table, or it costs more healthy nodes with the same look
+-- one fault is worse than another: its look stands lower in the table, or it costs more healthy nodes with the same
+-- look
 abbrev pub is_worse : Size → FaultShown → FaultShown → Bool
 is_worse size one other =
     nat_lt (look_number (fault_look size other)) (look_number (fault_look size one))
@@ -71,12 +73,14 @@ lost_nodes fault =
 
 abbrev pub lost_said : Size → FaultTold → List ℕ
 lost_said size fault =
-    look_text (fault_look size fault.shown) ++ codes ", healthy nodes lost: " ++ decimal fault.shown.hurt ++ lost_nodes fault
+    look_text (fault_look size fault.shown) ++ codes ", healthy nodes lost: "
+    ++ decimal fault.shown.hurt ++ lost_nodes fault
 
 -- the lines of one of them, whose upper edge is y
 abbrev pub listed_lines : Size → ℕ → FaultTold → Lines
 listed_lines size y fault =
-    wide_cell (look_text (fault_look size fault.shown)) 12 y (look_text (fault_look size fault.shown)) (decimal fault.shown.hurt)
+    wide_cell (look_text (fault_look size fault.shown)) 12 y
+    (look_text (fault_look size fault.shown)) (decimal fault.shown.hurt)
     ∷ text_line [] 44 (y + 12) (fault_in_line fault.text)
     ∷ text_line [] 300 (y + 12) (lost_said size fault)
     ∷ []
@@ -88,7 +92,8 @@ list_lines size y (fault ∷ faults) = listed_lines size y fault ++ list_lines s
 
 abbrev pub list_title : ℕ → List ℕ
 list_title harmful =
-    if harmful == 0 then codes "no fault is harmful" else codes "the worst of " ++ decimal harmful ++ codes " harmful faults"
+    if harmful == 0 then codes "no fault is harmful" else codes "the worst of "
+    ++ decimal harmful ++ codes " harmful faults"
 
 -- the ten worst of so many harmful faults, below this upper edge
 abbrev pub worst_lines : Size → ℕ → ℕ → List FaultTold → Lines

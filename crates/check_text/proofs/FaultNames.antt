@@ -1,5 +1,6 @@
 -- The first fault of a list is called what `ttpbench` calls it.
-use Rattle.std.proofs.Common.{◌≡◌, ℕ, ℤ, suc, ◌≤◌, Bool, true, false, cond, List, [], ◌∷◌, length, map, nat_lt, refl, sym, subst, ◌∙◌}
+use Rattle.std.proofs.Common.{◌≡◌, ℕ, ℤ, suc, ◌≤◌, Bool, true, false, cond, List, []}
+use Rattle.std.proofs.Common.{◌∷◌, length, map, nat_lt, refl, sym, subst, ◌∙◌}
 use Rattle.std.proofs.Common.{Option, Some, None, Result, Ok, Err}
 use Rattle.std.specs.Prelude.{◌-◌, ◌&&◌, ◌==◌, nat_le, take, slice_index, if◌then◌else◌}
 use Rattle.std.specs.List.{AllByRecursion, list_all}
@@ -13,7 +14,8 @@ use Rattle.ttp_world.proofs.LineLists.{each-append}
 use Rattle.medl_text.specs.declared.error.Field.{Field}
 use Rattle.medl_text.specs.declared.error.FieldName.TheVariants as names
 use Rattle.medl_text.specs.declared.error.MedlError.{MedlError}
-use Rattle.medl_text.specs.ListFile.{at_top, at_slot, held_at, is_within, is_kind, is_answer, are_tables, top_keys, slot_keys}
+use Rattle.medl_text.specs.ListFile.{at_top, at_slot, held_at, is_within, is_kind}
+use Rattle.medl_text.specs.ListFile.{is_answer, are_tables, top_keys, slot_keys}
 use Rattle.medl_text.specs.ListFile.{document_of, medl_of}
 use Rattle.commands.specs.declared.read.FileFault.{FileFault}
 use Rattle.commands.specs.declared.read.FileFault.TheVariants as refused
@@ -22,13 +24,18 @@ use Rattle.commands.specs.Read.{list_limit, list_read, list_from}
 use Rattle.list_errors.specs.declared.error.Wrong.{Wrong}
 use Rattle.list_errors.specs.declared.error.Wrong.TheVariants as wrong
 use Rattle.list_errors.specs.Agrees.{list_fault, ListAgrees}
-use Rattle.list_errors.specs.Errors.{kind_wrongs, key_wrongs, optional_wrongs, nothing_wrong, range_wrongs, number_wrongs}
-use Rattle.list_errors.specs.Errors.{flag_wrongs, has_count, letters_wrongs, kinds_wrongs, kinds_known, answers_wrongs, live_wrongs}
-use Rattle.list_errors.specs.Errors.{data_limit, data_wrongs, payload_known, request_wrongs, requests_wrongs, slot_wrongs}
+use Rattle.list_errors.specs.Errors.{kind_wrongs, key_wrongs, optional_wrongs, nothing_wrong}
+use Rattle.list_errors.specs.Errors.{range_wrongs, number_wrongs}
+use Rattle.list_errors.specs.Errors.{flag_wrongs, has_count, letters_wrongs, kinds_wrongs}
+use Rattle.list_errors.specs.Errors.{kinds_known, answers_wrongs, live_wrongs}
+use Rattle.list_errors.specs.Errors.{data_limit, data_wrongs, payload_known, request_wrongs}
+use Rattle.list_errors.specs.Errors.{requests_wrongs, slot_wrongs}
 use Rattle.list_errors.specs.Errors.{slots_wrongs, tables_wrongs, array_wrongs, elements_of, count_limit, count_wrongs}
 use Rattle.list_errors.specs.Errors.{unknown_keys, unknown_keys_at_top, unknown_keys_at_slot, unknown_keys_in_slots}
-use Rattle.list_errors.specs.Errors.{sync_count, few_syncs, sync_wrongs, modes_wrongs, version_known, rounds_known, modes_known}
-use Rattle.list_errors.specs.Errors.{top_wrongs, below_wrongs, table_wrongs, has_utf16_mark, begins_script, said_from, not_toml}
+use Rattle.list_errors.specs.Errors.{sync_count, few_syncs, sync_wrongs, modes_wrongs}
+use Rattle.list_errors.specs.Errors.{version_known, rounds_known, modes_known}
+use Rattle.list_errors.specs.Errors.{top_wrongs, below_wrongs, table_wrongs, has_utf16_mark}
+use Rattle.list_errors.specs.Errors.{begins_script, said_from, not_toml}
 use Rattle.list_errors.specs.Errors.{document_wrongs, list_wrongs}
 use Rattle.list_errors.proofs.TableAgree.{large_wrongs, small_wrongs, agrees}
 use Rattle.list_words.specs.Words.{list_fault_name}
@@ -184,14 +191,16 @@ of_top file =
     (each-append IsCalled _ _ (of_number (at_top names.Buffers) 1 16 file)
     (each-append IsCalled _ _ (of_number (at_top names.Drift) 0 1000 file)
     (each-append IsCalled _ _ (of_number (at_top names.Error) 0 1000 file)
-    (each-append IsCalled _ _ (of_number (at_top names.Window) 1 1000000 file) (each-append IsCalled _ _ (of_array file) (of_modes file))))))))
+    (each-append IsCalled _ _ (of_number (at_top names.Window) 1 1000000 file)
+    (each-append IsCalled _ _ (of_array file) (of_modes file))))))))
 
 of_below : (file : Members) (elements : Option (List Members)) → AllCalled (below_wrongs file elements)
 of_below file None = of_top_keys file
 of_below file (Some slots) =
     each-append IsCalled _ _ (of_count (version_known file) (length slots))
     (each-append IsCalled _ _ (of_slots (rounds_known file) (modes_known file) 0 (take 24 slots))
-    (each-append IsCalled _ _ (of_top_keys file) (each-append IsCalled _ _ (of_slots_keys 0 (take 24 slots)) (of_sync slots))))
+    (each-append IsCalled _ _ (of_top_keys file)
+    (each-append IsCalled _ _ (of_slots_keys 0 (take 24 slots)) (of_sync slots))))
 
 of_table : (file : Members) → AllCalled (table_wrongs file)
 unfolding table_wrongs

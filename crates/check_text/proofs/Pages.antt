@@ -1,5 +1,6 @@
 -- Lines that are put one after another.
-use Rattle.std.proofs.Common.{◌≡◌, ℕ, ◌+◌, ◌<◌, List, [], ◌∷◌, ◌++◌, length, map, take, drop, get_or, refl, ap, sym, subst, ◌∙◌, append_assoc}
+use Rattle.std.proofs.Common.{◌≡◌, ℕ, ◌+◌, ◌<◌, List, [], ◌∷◌, ◌++◌, length, map, take}
+use Rattle.std.proofs.Common.{drop, get_or, refl, ap, sym, subst, ◌∙◌, append_assoc}
 use Rattle.std.proofs.Common.{Option, Some, None, Bool, true, false, cond, arith, length-append}
 use Rattle.std.proofs.lemmas.List.{append-nil, map-append, take_more}
 use Rattle.std.proofs.lemmas.List.Concat.{flat_map-append}
@@ -74,7 +75,8 @@ some_piece (b ∷ line) some = by_feed (is_newline b) (lines_of line)
     by_feed false [] = (b ∷ [], ([], refl))
     by_feed false (l ∷ lines) = (b ∷ l, (lines, refl))
 
-pub cut_front : (text piece rest : List ℕ) → get_or (lines_of text) 0 [] ≡ piece → drop 1 (lines_of text) ≡ lines_of rest
+pub cut_front : (text piece rest : List ℕ) → get_or (lines_of text) 0 [] ≡ piece
+    → drop 1 (lines_of text) ≡ lines_of rest
     → 0 < length text → lines_of text ≡ piece ∷ lines_of rest
 cut_front text piece rest first others some =
     let has = some_piece text some in
@@ -126,7 +128,8 @@ writing_all line [] a b is none =
 writing_all line (c ∷ rest) a b is none = absurd (omega (arith, none))
 
 pub writing_cut : (line rest piece behind : List ℕ) (a b c : Output) → IsWriting line rest a b
-    → lines_of rest ≡ piece ∷ lines_of behind → CutShort b c (piece ∷ []) → PutsOn None a (Some fault.Failed) c (line ∷ [])
+    → lines_of rest ≡ piece ∷ lines_of behind → CutShort b c (piece ∷ [])
+    → PutsOn None a (Some fault.Failed) c (line ∷ [])
 writing_cut line rest piece behind a b c is cut short =
     puts_left fault.Failed a c line
     (subst (CutShort a c) (sym (is.cut ∙ ap (λ (ls : Lines). is.front ++ ls) cut))
@@ -149,7 +152,8 @@ pub puts_next : (f g h : Option CampaignFault) (a b c : Output) (line : ℕ → 
 puts_next f g h a b c line k p q = rw (map-next line k) (puts_then f g h a b c (map line (below k)) (line k ∷ []) p q)
 
 pub puts_item : {X : Type 0} (line : X → List ℕ) (xs : List X) (k : ℕ) (d : X) (f g h : Option CampaignFault)
-    (a b c : Output) → PutsOn f a g b (map line (take k xs)) → k < length xs → PutsOn g b h c (line (get_or xs k d) ∷ [])
+    (a b c : Output) → PutsOn f a g b (map line (take k xs)) → k < length xs
+    → PutsOn g b h c (line (get_or xs k d) ∷ [])
     → PutsOn f a h c (map line (take (k + 1) xs))
 puts_item {X} line xs k d f g h a b c p within q =
     subst (PutsOn f a h c)
@@ -165,5 +169,15 @@ pub all_left : (why : CampaignFault) (a b : Output) (x : Lines) → PutsOn None 
 all_left fault.Failed a b x p = p.puts a [] (Wrote-none a)
 all_left fault.Memory a b x p = p.puts a [] (Wrote-none a)
 
-pub ruleset puts =
-    (puts_then, puts_none, puts_nothing, puts_unformed, writing_none, writing_more, writing_all, writing_cut, all_wrote, all_left)
+pub ruleset puts = (
+  puts_then,
+  puts_none,
+  puts_nothing,
+  puts_unformed,
+  writing_none,
+  writing_more,
+  writing_all,
+  writing_cut,
+  all_wrote,
+  all_left,
+)

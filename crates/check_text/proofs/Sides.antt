@@ -1,5 +1,6 @@
 -- What is found is what is told.
-use Rattle.std.proofs.Common.{◌≡◌, ◌↔◌, ℕ, ◌+◌, ◌<◌, ◌≤◌, Bool, true, false, not, IsTrue, rules, List, [], ◌∷◌, ◌++◌, length, nat_lt, refl, ap, subst, ◌∙◌, arith}
+use Rattle.std.proofs.Common.{◌≡◌, ◌↔◌, ℕ, ◌+◌, ◌<◌, ◌≤◌, Bool, true, false, not, IsTrue, rules}
+use Rattle.std.proofs.Common.{List, [], ◌∷◌, ◌++◌, length, nat_lt, refl, ap, subst, ◌∙◌, arith}
 use Rattle.std.proofs.Common.{Option, Some, None, Result, Ok, Err}
 use Rattle.std.specs.Prelude.{IfSome, IfNone, String, slice_index_or}
 use Rattle.std.specs.BTreeMap.{BTreeMap}
@@ -28,7 +29,8 @@ use Rattle.check_text.specs.declared.found.Beside.{Beside}
 use Rattle.check_text.specs.declared.list_side.ListSide.{ListSide}
 use Rattle.check_text.specs.Check.{Named, Checked, read_value, both_checked, checked_by, check_found, lines_with_last}
 use Rattle.check_text.specs.Found.{IsFoundBeside}
-use Rattle.check_text.specs.Lines.{has_member, list_fault_lines, list_fault_lines_at, no_list_place, nth_place, place_at}
+use Rattle.check_text.specs.Lines.{has_member, list_fault_lines, list_fault_lines_at}
+use Rattle.check_text.specs.Lines.{no_list_place, nth_place, place_at}
 use Rattle.check_text.specs.Sides.{list_side_lines}
 
 -- A list.
@@ -75,7 +77,8 @@ side_count name side = length-map (below (length side.wrongs)) _ ∙ length-rang
 no_lines : (name : List ℕ) (side : ListSide) → side.wrongs ≡ [] → list_side_lines name side ≡ []
 no_lines name side none = rw none refl
 
-both_list : (file script : Named) (list : Medl) (right : Option Script) → [] ≡ (both_checked file script list right).list
+both_list : (file script : Named) (list : Medl) (right : Option Script) → []
+    ≡ (both_checked file script list right).list
 both_list file script list None = refl
 both_list file script list (Some right) = refl
 
@@ -109,7 +112,8 @@ found_beside file script found beside is has =
 -- A place.
 
 pub nth_is : (places : List Place) (i : ℕ) → i < length places
-    → place_at (slice_index_or places i no_list_place).line (slice_index_or places i no_list_place).column ≡ nth_place places i
+    → place_at (slice_index_or places i no_list_place).line
+    (slice_index_or places i no_list_place).column ≡ nth_place places i
 nth_is places i less = let is : nat_lt i (length places) ≡ true = grind arith in rw is refl
 
 -- A table.

@@ -1,5 +1,6 @@
 -- What is told of files, beside the answers of the readers and of the test.
-use Rattle.std.proofs.Common.{◌≡◌, ℕ, ℤ, ◌≤◌, Bool, true, false, cond, List, [], ◌∷◌, ◌++◌, length, map, nat_lt, refl, sym, ap, subst, ◌∙◌}
+use Rattle.std.proofs.Common.{◌≡◌, ℕ, ℤ, ◌≤◌, Bool, true, false, cond, List, [], ◌∷◌}
+use Rattle.std.proofs.Common.{◌++◌, length, map, nat_lt, refl, sym, ap, subst, ◌∙◌}
 use Rattle.std.proofs.Common.{append_assoc, Option, Some, None, option_map, Result, Ok, Err, inl, inr}
 use Rattle.std.specs.Option.{option_or}
 use Rattle.std.specs.List.{AllByRecursion}
@@ -45,9 +46,11 @@ use Rattle.warning_words.specs.Warnings.{clocks_line, window_line, disturbed_lin
 use Rattle.warning_words.specs.Warnings.{few_line, arm_line}
 use Rattle.check_text.specs.Check.{Named, Checked, read_value, files_with, both_checked, checked_by, check_found}
 use Rattle.check_text.specs.Check.{status_of, status_by_list}
-use Rattle.check_text.specs.Laws.{TellsFaultFirst, IsErrorLine, IsFrom, TellsErrorOf, TellsRefusal, IsRuleLine, TellsRule, ListTold, ScriptTold}
+use Rattle.check_text.specs.Laws.{TellsFaultFirst, IsErrorLine, IsFrom, TellsErrorOf, TellsRefusal}
+use Rattle.check_text.specs.Laws.{IsRuleLine, TellsRule, ListTold, ScriptTold}
 use Rattle.check_text.specs.Laws.{TestTold, AgreesWithReaders}
-use Rattle.check_text.specs.Lines.{has_member, list_fault_lines_at, list_fault_lines, script_fault_lines, script_found, script_line, too_large_line}
+use Rattle.check_text.specs.Lines.{has_member, list_fault_lines_at, list_fault_lines, script_fault_lines}
+use Rattle.check_text.specs.Lines.{script_found, script_line, too_large_line}
 use Rattle.check_text.proofs.FaultNames.{begins_as}
 use Rattle.check_text.proofs.Told.{none_broken}
 
@@ -63,7 +66,8 @@ no_errors r list file (Some other) is = rw is (by (read_value (script_from list 
     by (Some script) = refl
 
 -- the first line on some faults is on the first of them
-first_line : (name : List ℕ) (rounds modes : Option ℕ) (stop : List ℕ) (w : Wrong) (ws : List Wrong) (places : List ListPlace)
+first_line : (name : List ℕ) (rounds modes : Option ℕ) (stop : List ℕ) (w : Wrong)
+    (ws : List Wrong) (places : List ListPlace)
     (fault : List ℕ) → list_fault_name w ≡ fault
     → TellsFaultFirst name fault (list_fault_lines_at name rounds modes stop (w ∷ ws) places)
 first_line name rounds modes stop w ws places fault called = record {
@@ -82,9 +86,11 @@ first_told name text fault read =
     let wrongs = begins.first ∷ begins.rest in
     subst
     (λ (ws : List Wrong). TellsFaultFirst name (fault_text fault)
-    (list_fault_lines_at name (rounds_said text) (modes_said text) (stop_words text (stop_told text ws)) ws (found_places text ws)))
+    (list_fault_lines_at name (rounds_said text) (modes_said text)
+    (stop_words text (stop_told text ws)) ws (found_places text ws)))
     (sym begins.wrongs_are)
-    (first_line name (rounds_said text) (modes_said text) (stop_words text (stop_told text wrongs)) begins.first begins.rest
+    (first_line name (rounds_said text) (modes_said text)
+    (stop_words text (stop_told text wrongs)) begins.first begins.rest
     (found_places text wrongs) (fault_text fault) begins.called)
 
 three_of : (name fault : List ℕ) (lines script warnings : Lines) → TellsFaultFirst name fault lines
@@ -101,7 +107,8 @@ told_list file beside = record {
       (three_of file.name (fault_text fault) _ _ _ (first_told file.name file.text fault is));
   first = λ fault is.
       subst
-      (λ (r : Result Medl FileFault). TellsFaultFirst file.name (fault_text fault) (checked_by file beside (read_value r)).list)
+      (λ (r : Result Medl FileFault).
+      TellsFaultFirst file.name (fault_text fault) (checked_by file beside (read_value r)).list)
       (sym is) (first_told file.name file.text fault is);
 }
 
@@ -112,7 +119,8 @@ abbrev of_line : (name : List ℕ) (lines : List (List ℕ)) (e : ScriptError) �
 of_line name lines e = record { place = _; fault = _; said = _; is = refl }
 
 tells_of : (name : List ℕ) (lines : List (List ℕ)) (number : ℕ) (fault : LineFault) (found : List ScriptError)
-    → TellsFault number fault found → TellsErrorOf name number (line_fault_text fault) (map (script_line name lines) found)
+    → TellsFault number fault found
+    → TellsErrorOf name number (line_fault_text fault) (map (script_line name lines) found)
 tells_of name lines number fault [] tells = absurd tells
 tells_of name lines number fault (e ∷ found) (inl here) =
     inl (of_line name lines e, (here.0, ap line_fault_text here.1))
@@ -297,7 +305,8 @@ first_line_told f b r is =
     (line_if (disturbed_line f) b.conditions.disturbed) (line_if (no_start_line f) b.conditions.start) _))
     (on_rule f.armed 1 past_slot (clocks_line f) b.conditions.clocks _ _ r (clocks_rule f) (λ is2.
     on_window f b.conditions.window _ _ r (λ is3.
-    on_rule f.armed 3 (λ (d : Disturbed). d.slot) (disturbed_line f) b.conditions.disturbed _ _ r (disturbed_rule f) (λ is4.
+    on_rule f.armed 3 (λ (d : Disturbed). d.slot) (disturbed_line f)
+    b.conditions.disturbed _ _ r (disturbed_rule f) (λ is4.
     on_start f b.conditions.start _ _ r (λ is5.
     on_rule f.armed 5 (λ (l : LostFrame). l.slot) (lost_line f) b.faults.lost _ _ r (lost_rule f) (λ is6.
     on_rule f.armed 6 (λ (e : EarlyFault). e.slot) (early_line f) b.faults.early _ _ r (early_rule f) (λ is7.
@@ -309,7 +318,8 @@ zero_of : (warnings : Lines) → [] ≡ warnings → status_by_list [] [] warnin
 zero_of [] none = refl
 zero_of (w ∷ warnings) none = absurd (cc)
 
-one_of : (armed : Bool) (r : RuleSlot) (warnings : Lines) → TellsRule armed r warnings → status_by_list [] [] warnings ≡ 1
+one_of : (armed : Bool) (r : RuleSlot) (warnings : Lines)
+    → TellsRule armed r warnings → status_by_list [] [] warnings ≡ 1
 one_of armed r [] tells = let none = tells.lines_are in absurd (cc)
 one_of armed r (w ∷ warnings) tells = refl
 

@@ -1,5 +1,6 @@
 -- Each piece that `check` writes is one line, and its status is one of four.
-use Rattle.std.proofs.Common.{◌≡◌, ◌≢◌, ◌==◌, ℕ, ℤ, ◌<◌, ◌≤◌, Bool, true, false, cond, List, [], ◌∷◌, ◌++◌, length, map, nat_lt, refl, sym, ap, ◌∙◌}
+use Rattle.std.proofs.Common.{◌≡◌, ◌≢◌, ◌==◌, ℕ, ℤ, ◌<◌, ◌≤◌, Bool, true, false, cond, List}
+use Rattle.std.proofs.Common.{[], ◌∷◌, ◌++◌, length, map, nat_lt, refl, sym, ap, ◌∙◌}
 use Rattle.std.proofs.Common.{◌+◌, append_assoc, length-append, arith, Option, Some, None}
 use Rattle.std.proofs.lemmas.Bool.{eqb-true}
 use Rattle.std.proofs.lemmas.List.{append-nil}
@@ -41,9 +42,11 @@ use Rattle.check_words.specs.Lines.{last_line, counts_text}
 use Rattle.warning_words.specs.Warnings.{RightFiles, line_if, warning_lines, window_alone}
 use Rattle.warning_words.specs.Warnings.{clocks_line, window_line, disturbed_line, no_start_line, lost_line, early_line}
 use Rattle.warning_words.specs.Warnings.{few_line, arm_line}
-use Rattle.check_text.specs.Check.{Named, Checked, read_value, test_line, no_answer, files_with, both_checked, checked_by}
+use Rattle.check_text.specs.Check.{Named, Checked, read_value, test_line, no_answer}
+use Rattle.check_text.specs.Check.{files_with, both_checked, checked_by}
 use Rattle.check_text.specs.Check.{check_found, lines_with_last, check_lines, check_status, status_by_list}
-use Rattle.check_text.specs.Lines.{list_fault_lines, list_line, nth_place, script_fault_lines, script_line, script_found}
+use Rattle.check_text.specs.Lines.{list_fault_lines, list_line, nth_place, script_fault_lines}
+use Rattle.check_text.specs.Lines.{script_line, script_found}
 use Rattle.check_text.specs.Lines.{too_large_line, window_place}
 use Rattle.check_text.specs.Page.{pieces_of}
 use Rattle.std.specs.Prelude.{get_or}
@@ -104,7 +107,8 @@ all_join : (x y : Lines) → AllEnd x → AllEnd y → AllEnd (x ++ y)
 all_join [] y one other = other
 all_join (l ∷ x) y one other = (one.0, all_join x y one.1 other)
 
-all_if : {X : Type 0} (line : X → List ℕ) → ((x : X) → EndsLine (line x)) → (found : Option X) → AllEnd (line_if line found)
+all_if : {X : Type 0} (line : X → List ℕ) → ((x : X) → EndsLine (line x))
+    → (found : Option X) → AllEnd (line_if line found)
 all_if line each None = tt
 all_if line each (Some x) = (each x, tt)
 
@@ -220,8 +224,7 @@ ends_by file (Some script) None = record {
 ends_by file None (Some list) = record {
   list = tt;
   script = tt;
-  warnings =
-      all_if (window_alone list file.name (window_place file.text)) (λ due. (_, refl)) (narrow_window list);
+  warnings = all_if (window_alone list file.name (window_place file.text)) (λ due. (_, refl)) (narrow_window list);
   answer = none_ends;
 }
 ends_by file (Some script) (Some list) = both_end file script list (read_value (script_from list script.text))
@@ -230,7 +233,8 @@ all_end : (c : Checked) → Ends c → AllEnd (lines_with_last c)
 unfolding last_line
 all_end c ends =
     all_join c.list _ ends.list
-    (all_join c.script _ ends.script (all_join c.warnings _ ends.warnings (behind (counts_text _ _) c.answer ends.answer, tt)))
+    (all_join c.script _ ends.script
+    (all_join c.warnings _ ends.warnings (behind (counts_text _ _) c.answer ends.answer, tt)))
 
 pub check_lines-each : (file : Named) (script : Option Named) → AreLines (check_lines file script)
 unfolding check_found
@@ -284,6 +288,7 @@ one_by [] (e ∷ script) warnings = (omega arith, λ two. absurd (omega (arith, 
 one_by [] [] (w ∷ warnings) = (omega arith, λ two. absurd (omega (arith, two)))
 one_by [] [] [] = (omega arith, λ two. absurd (omega (arith, two)))
 
-pub check_status-one : (file : Named) (script : Option Named) → (check_status file script ≤ 4) × (check_status file script ≢ 2)
+pub check_status-one : (file : Named) (script : Option Named)
+    → (check_status file script ≤ 4) × (check_status file script ≢ 2)
 check_status-one file script =
     let c = check_found file script in one_by c.list c.script c.warnings

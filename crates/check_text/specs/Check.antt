@@ -107,7 +107,8 @@ check_found file script = checked_by file script (read_value (list_from file.tex
 -- the last line counts those above it
 abbrev pub lines_with_last : Checked → Lines
 lines_with_last c =
-    c.list ++ (c.script ++ (c.warnings ++ last_line (length c.list + length c.script) (length c.warnings) c.answer ∷ []))
+    c.list ++ (c.script ++ (c.warnings
+    ++ last_line (length c.list + length c.script) (length c.warnings) c.answer ∷ []))
 
 -- all of them, in pieces
 abbrev pub check_lines : Named → Option Named → Lines

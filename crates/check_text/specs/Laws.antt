@@ -47,7 +47,8 @@ TellsErrorOf name number fault (line ∷ lines) =
     ((error : IsErrorLine name line) × ((error.place.line ≡ number) × (error.fault ≡ fault)))
     ⊎ TellsErrorOf name number fault lines
 
--- where the reader names a line, it is the least with an error, and one of its errors is the fault that the reader names
+-- where the reader names a line, it is the least with an error, and one of its errors is the fault that the reader
+-- names
 abbrev pub TellsRefusal : (name : List ℕ) (fault : FileFault) (lines : Lines) → Type 0
 TellsRefusal name (refused.Script (script_error.Line number fault)) lines =
     TellsErrorOf name number (line_fault_text fault) lines × AllByRecursion (IsFrom name number) lines
@@ -88,8 +89,8 @@ pub record ScriptTold (file beside : Named) (list : Medl) : Type 0 where
   pub tells : (fault : FileFault) → script_from list beside.text ≡ Err fault
       → TellsRefusal beside.name fault (check_found file (Some beside)).script
 
--- of a right list and a right script the last line has the answer of the test; nothing is told where it says yes, and else
--- the first line that is told is on the rule that it names
+-- of a right list and a right script the last line has the answer of the test; nothing is told where it says yes, and
+-- else the first line that is told is on the rule that it names
 pub record TestTold (file beside : Named) (list : Medl) (script : Script) : Type 0 where
   pub answer : (check_found file (Some beside)).answer ≡ test_line (test_answer list script)
   pub kept : first_named (test_answer list script) ≡ None → check_status file (Some beside) ≡ 0

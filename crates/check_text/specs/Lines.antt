@@ -49,7 +49,8 @@ nth_place places i =
 -- the lines on faults at these places
 abbrev pub list_fault_lines_at : List ℕ → Option ℕ → Option ℕ → List ℕ → List Wrong → List ListPlace → Lines
 list_fault_lines_at name rounds modes stop wrongs places =
-    map (λ i. list_line name rounds modes stop (nth_place places i) (get_or wrongs i wrong.NotToml)) (below (length wrongs))
+    map (λ i. list_line name rounds modes stop (nth_place places i)
+    (get_or wrongs i wrong.NotToml)) (below (length wrongs))
 
 -- those of a text that is to be a list
 unfoldable pub list_fault_lines : List ℕ → List ℕ → Lines

@@ -1,5 +1,5 @@
--- What lines that are written one after another leave of a sink, where each is formed before it is written and either may
--- be refused.
+-- What lines that are written one after another leave of a sink, where each is formed before it is written and either
+-- may be refused.
 use Rattle.std.specs.Prelude.{◌++◌, Option, Some, None}
 use Rattle.std.specs.List.{flat_map}
 use Rattle.ttp_base.specs.Outside.{Output, WroteLines}
@@ -17,7 +17,8 @@ HasPutSoFar None start now lines = WroteLines start now (pieces_of lines)
 HasPutSoFar (Some why) start now lines = LeftFewerBy why start now (pieces_of lines)
 
 -- whatever lines were put before, these were put after them
-pub record PutsOn (ended : Option CampaignFault) (before : Output) (ends : Option CampaignFault) (now : Output) (lines : Lines)
+pub record PutsOn (ended : Option CampaignFault) (before : Output)
+    (ends : Option CampaignFault) (now : Output) (lines : Lines)
     : Type 0 where
   pub puts : (start : Output) (earlier : Lines) → HasPutSoFar ended start before earlier
       → HasPutSoFar ends start now (earlier ++ lines)

@@ -81,15 +81,18 @@ script_said word (wrong.WordCount words form) =
     codes "words " ++ (decimal words ++ (codes ", wanted " ++ (decimal (length (parts_of form) + 1) ++ (codes ": " ++
     form_words form))))
 script_said word (wrong.Misspelt p) = part_is p (shown_word word) (spelling p)
-script_said word (wrong.NoNumber p low high) = part_is p (shown_word word) (codes ", wanted a number " ++ low_to_high low high)
-script_said word (wrong.OutOfRange p value low high) = part_is p (signed_decimal value) (codes ", wanted " ++ low_to_high low high)
+script_said word (wrong.NoNumber p low high) =
+    part_is p (shown_word word) (codes ", wanted a number " ++ low_to_high low high)
+script_said word (wrong.OutOfRange p value low high) =
+    part_is p (signed_decimal value) (codes ", wanted " ++ low_to_high low high)
 script_said word (wrong.NoNode p node high) = part_is p (decimal node) (nodes_from p ++ decimal high)
 script_said word (wrong.NoData p node) = part_is p (decimal node) (codes ", whose data is 0 in the list")
 script_said word (wrong.NoSource high) =
     part_is part.Source (shown_word word) (codes ", wanted status or a number 0 to " ++ decimal high)
 script_said word (wrong.ReadsItself node) =
     part_is part.Source (decimal node) (codes ", the node itself, wanted status or another node")
-script_said word wrong.NoDigits = part_is part.Message (shown_word word) (codes ", wanted hexadecimal digits, two for each byte")
+script_said word wrong.NoDigits =
+    part_is part.Message (shown_word word) (codes ", wanted hexadecimal digits, two for each byte")
 script_said word (wrong.DigitCount digits due node) =
     codes "HEX has digits " ++ (decimal digits ++ (codes ", wanted " ++ (decimal due ++ (codes " for data = " ++
     (decimal (due / 2) ++ (codes " of node " ++ decimal node))))))

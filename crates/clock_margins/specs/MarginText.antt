@@ -9,7 +9,8 @@ use Rattle.campaign.specs.Lines.{own_line, summary}
 use Rattle.ttp_world.specs.ZerosWorld.{zeros_world}
 use Rattle.clock_margins.specs.declared.margin.Margin.{Margin}
 use Rattle.clock_margins.specs.declared.margin.Sweep.{Sweep}
-use Rattle.clock_margins.specs.Forms.{margins_head_form, margins_head_values, range_form, range_values, outcome_form, outcome_values}
+use Rattle.clock_margins.specs.Forms.{margins_head_form, margins_head_values, range_form}
+use Rattle.clock_margins.specs.Forms.{range_values, outcome_form, outcome_values}
 use Rattle.clock_margins.specs.Forms.{margin_form, margin_values, all_form, all_values}
 use Rattle.clock_margins.specs.Outcomes.{ValueTold, told_of_value}
 use Rattle.clock_margins.specs.Ranges.{Range, ranges_of}

@@ -1,5 +1,5 @@
--- What is told of a value: the test of its script, and what its run costs, in which the node that is swept counts as faulty in
--- every slot besides. For its clock is what is out of specification, whether a rule says so or not.
+-- What is told of a value: the test of its script, and what its run costs, in which the node that is swept counts as
+-- faulty in every slot besides. For its clock is what is out of specification, whether a rule says so or not.
 use Rattle.std.specs.Prelude.{ℕ, ◌==◌, ℤ, Bool, true, false, ◌&&◌, ◌||◌, not, List, [], ◌∷◌, map, length}
 use Rattle.ttp_base.specs.NodeSet.{has_node, without_node}
 use Rattle.ttp_world.specs.declared.medl.Medl.{Medl}

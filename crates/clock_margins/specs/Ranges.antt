@@ -41,7 +41,8 @@ abbrev pub range_alone : ValueTold → Range
 range_alone told =
     record { from = told.value; to = told.value; test = told.test; outcome = told.outcome }
 
--- those of a value and of all behind it: it joins the first range behind it where it is told as that, and else is one alone
+-- those of a value and of all behind it: it joins the first range behind it where it is told as that, and else is one
+-- alone
 abbrev pub range_before : ValueTold → List Range → List Range
 range_before told [] = range_alone told ∷ []
 range_before told (range ∷ ranges) =

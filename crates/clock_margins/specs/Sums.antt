@@ -58,7 +58,8 @@ abbrev pub before : ℕ → Option Between → ℤ
 before reach None = pos reach
 before reach (Some b) = b.least -ℤ pos 1
 
--- the values around 0 that are none of these, if 0 is none: from behind the nearest below it to before the nearest above it
+-- the values around 0 that are none of these, if 0 is none: from behind the nearest below it to before the nearest
+-- above it
 abbrev pub free_around : ℕ → List ℤ → Option Between
 free_around reach values =
     if list_any lies_at_0 values then None

@@ -47,8 +47,8 @@ values_from value (suc count) = value ∷ values_from (value +ℤ pos 1) count
 abbrev pub values : ℕ → List ℤ
 values reach = values_from (neg_ℤ (pos reach)) (suc (2 * reach))
 
--- The sweeps: without a range of slots the drift of each node that is ever on; else for each slot of the range the jump of
--- each node against whose clock others hold theirs there, or which holds its own against theirs.
+-- The sweeps: without a range of slots the drift of each node that is ever on; else for each slot of the range the jump
+-- of each node against whose clock others hold theirs there, or which holds its own against theirs.
 
 abbrev pub drift_sweep : ℕ → Sweep
 drift_sweep k = record { node = k; slot = None }

@@ -128,7 +128,8 @@ module _ (list : Medl) (script : Script) (slot k : ℕ) (valid : IsValidScript l
       rw map-append (ring_more (map words_of_payload more) _ ring) in
       let end : IsRing shape (words_written list script k (suc slot))
       (pairs ++ pair_of (source.Node k) (before ++ more) i ∷ []) (with_joined (with_messages w more) f) =
-      subst (λ ms. IsRing shape (words_written list script k (suc slot)) (pairs ++ ms) (with_joined (with_messages w more) f))
+      subst (λ ms. IsRing shape (words_written list script k (suc slot))
+      (pairs ++ ms) (with_joined (with_messages w more) f))
       got.one (settled_ring f whole (λ several. omega (arith, attempt.tries, ap length got.one)) settles.whole.1) in
       record {
         message = λ _. choice ∙ ap (λ n. message_chosen list script slot k (Some n)) (sym number);

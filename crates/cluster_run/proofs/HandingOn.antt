@@ -200,7 +200,12 @@ pub handed_ring : {list : Medl} {script : Script} {row : List Entry} {before : H
     (at_source (handed_on end outcome) from)
 handed_ring {list} {script} {row} {before} {k} {outcome} source.Status pairs end handed ring =
     let d = outcome.delivered in
-    rw (at_written (delivered_to end d) source.Status outcome.status.words, status_stays end d, map-append, ← handed.status)
+    rw (
+      at_written (delivered_to end d) source.Status outcome.status.words,
+      status_stays end d,
+      map-append,
+      ← handed.status,
+    )
     (one_more (incoming_shape list k source.Status) (words_read list script before k source.Status) pairs
     (at_source end source.Status) outcome.status.words ring)
 handed_ring {list} {script} {row} {before} {k} {outcome} (source.Node p) pairs end handed ring =
@@ -233,7 +238,8 @@ module _ {list : Medl} {script : Script} {history : History} {k : ℕ} {pairs : 
         (few_words list script history k source.Status few);
     takes = λ d is.
         let one : IsDeliverable list k d = rw is at fine in
-        ring_takes _ _ _ (at_source end (source.Node d.sender)) (length d.payload) (ring_from d.sender one.other one.some)
+        ring_takes _ _ _ (at_source end (source.Node d.sender))
+        (length d.payload) (ring_from d.sender one.other one.some)
         (omega (arith, one.size, plan_few list d.sender valid)) (ap word_count one.size);
     room = λ d is.
         let one : IsDeliverable list k d = rw is at fine in

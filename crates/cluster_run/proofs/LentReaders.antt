@@ -116,7 +116,8 @@ module _ {at : CurrentSlot} {numbers : Numbers} {ends : List ControllerState} {r
       → IsSomeAnd (reader_at readers k from) (λ (r : ReaderState). reads_from reads k from ≤ r.spare)
   room_lent k from some =
       let n = reads_from reads k from in
-      let is = read_there (IsReadOf list) k from reads (reads_of_valid list at.script.now at.slot at.valid_script) some in
+      let is = read_there (IsReadOf list) k from reads
+      (reads_of_valid list at.script.now at.slot at.valid_script) some in
       rw ((are.lent.each k (omega (arith, is.0, are.ends_count))).readers from)
       (lent_room list k from _ _ (at_source (end_at ends k) from) n is.1 (are.rings k is.0 from) some)
 

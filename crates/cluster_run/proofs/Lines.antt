@@ -57,7 +57,8 @@ map_nothing f [] same = refl
 map_nothing f (x ∷ xs) same = absurd (none_some (f x) (map f xs) (sym same))
 
 -- what is left for a host are its reads that are left
-left_due : {reads done : List HostRead} {whole now : List (List ReadLine)} {lines : List ReadLine} (rest : List HostRead)
+left_due : {reads done : List HostRead} {whole now : List (List ReadLine)}
+    {lines : List ReadLine} (rest : List HostRead)
     → reads ≡ done ++ rest → AreDue reads whole → AreInOrder done whole now lines → (k : ℕ)
     → map read_of (queue_of now k) ≡ filter (is_host k) rest
 left_due rest split due so k = grind (steps, append_cancel_left, filter-append, filter-map, map-append)
@@ -256,7 +257,8 @@ line_shown {list} {script} {row} {before} so k seat line again here near shows s
     let is = subst (λ j. IsControllerOf list IsEnded so.bound j view) (zero-add k) (so.seats_are.each k seat here) in
     let stands = stands_now (subst (λ j. StandsAfter script after j view) (zero-add k) (so.stand.each k seat here)) in
     let past = past_of view.list view.node (diary_of after k) (surroundings_of script after k) in
-    let state : line.state ≡ state_of past = shows (diary_of after k) (surroundings_of script after k) view.turn stands in
+    let state : line.state ≡ state_of past =
+    shows (diary_of after k) (surroundings_of script after k) view.turn stands in
     let state_again : again ≡ state_of past =
     shows_again (diary_of after k) (surroundings_of script after k) view.turn stands in
     let same : state_of past ≡ state_of (node_past list script after k) =

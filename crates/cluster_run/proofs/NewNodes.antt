@@ -23,7 +23,8 @@ word_of_zeros n i = ap number_in
 
 words_of_zeros : (n : ℕ) → words_of_payload (replicate n 0) ≡ replicate (word_count n) 0
 words_of_zeros n = rw length-replicate (sym (fill_by_all (payload_word (replicate n 0)) (replicate (word_count n) 0)
-    (word_count n) 0 (length-replicate (word_count n) 0) (λ i near. zero_at (word_count n) i ∙ sym (word_of_zeros n i))))
+    (word_count n) 0 (length-replicate (word_count n) 0)
+    (λ i near. zero_at (word_count n) i ∙ sym (word_of_zeros n i))))
 
 -- A new ring.
 
@@ -35,7 +36,8 @@ new_ring shape messages (Some w) zeros new = record {
   messages_are = ap (λ (v : WriterState). v.messages) new.1 ∙ ap (λ (s : Shape). replicate s.width 0 ∷ []) new.0
       ∙ sym zeros;
   pairs_are = ap joined_pairs new.1;
-  seen = subst (All (SawAtMost w.messages)) (sym (ap (λ (v : WriterState). v.joined) new.1)) (All-nil (SawAtMost w.messages));
+  seen = subst (All (SawAtMost w.messages))
+      (sym (ap (λ (v : WriterState). v.joined) new.1)) (All-nil (SawAtMost w.messages));
   once = λ more. subst (All GotEach) (sym (ap (λ (v : WriterState). v.joined) new.1)) (All-nil GotEach);
 }
 

@@ -61,7 +61,8 @@ clear_before n old mid new keeps clear = tt
 
 -- So each read got a message.
 
-intact : (n : ℕ) (old mid new : ReaderState) → KeepsReader n old mid → Reads mid.ring.shape.buffers (Some mid) (Some new)
+intact : (n : ℕ) (old mid new : ReaderState) → KeepsReader n old mid
+    → Reads mid.ring.shape.buffers (Some mid) (Some new)
     → IsClear (Some old) (Some new) → new.seen < limit new.ring.shape (new.first / 2)
 intact n old mid new keeps reads clear = grind steps
 
@@ -227,7 +228,8 @@ module _ {done : List HostRead} {r : HostRead} {start old new : List (Option Rea
       elim (cases_eq r.host k) [
         | inl own ↦ rw (← own) (own_more (λ from. rw own (clear from)))
         | inr other ↦
-            ap (λ o. reads_of_host k (calls_in o)) (is.others k other) ∙ so.calls k (λ from. was_clear k from (clear from))
+            ap (λ o. reads_of_host k (calls_in o)) (is.others k other)
+            ∙ so.calls k (λ from. was_clear k from (clear from))
             ∙ sym (host_more-other done r k other)
       ]
 

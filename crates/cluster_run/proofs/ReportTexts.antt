@@ -100,6 +100,7 @@ tells_next cluster numbers valid valid_script bytes next legal =
       nodes = omega (arith, many, valid.count.1);
       digits = rw shows.nodes (nodes_have list script row before (length list.slots) valid);
       reads = rw shows.reads
-          (reads_have list script (row ∷ before) (read_messages (reads_in script (length before)) new.read) valid reads);
+          (reads_have list script (row ∷ before)
+          (read_messages (reads_in script (length before)) new.read) valid reads);
       lines = report_told list script row before new report shows reads;
     }

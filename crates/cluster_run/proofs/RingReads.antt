@@ -24,7 +24,8 @@ pub nothing_got : (before after : List (List ℕ)) → AreGotOf before after []
 nothing_got before after = record { least = tt; are = tt; rise = tt }
 
 -- A ring in a slot. Its reader was lent before the slot's message came, `writer` is the writer then and `later` the one
--- after it; `lent` is the reader as it was lent, and `read` the one that has read, which is settled in the later writer.
+-- after it; `lent` is the reader as it was lent, and `read` the one that has read, which is settled in the later
+-- writer.
 pub record RingSlot (before after : List (List ℕ)) (pairs : List Message) (shape : Option Shape)
     (writer later : Option WriterState) (lent read : Option ReaderState) : Type 0 where
   pub some : ForSome shape (λ (s : Shape). 1 ≤ s.buffers)
@@ -81,7 +82,8 @@ ring_read (Some s) (Some w) (Some v) (Some old) (Some new) n r many clear =
     record {
       got = got_ring _ _ r.is r.be r.lent_by got r.settles;
       ring = settled_ring new r.be
-          (λ more. got.once (λ one. more (ap (λ (x : Shape). x.buffers) (sym shaped) ∙ one)) ∙ sym got.count) r.settles.1;
+          (λ more. got.once (λ one. more (ap (λ (x : Shape). x.buffers) (sym shaped) ∙ one))
+          ∙ sym got.count) r.settles.1;
     }
 ring_read (Some s) (Some w) None (Some old) (Some new) n r many clear = absurd r.be
 ring_read (Some s) None later (Some old) (Some new) n r many clear = absurd r.is

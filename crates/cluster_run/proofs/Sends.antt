@@ -195,7 +195,8 @@ module _ {at : CurrentSlot} {numbers : Numbers} {seats : List Seat} {ends : List
   s = next_slot list script numbers
 
   pub ring_loaded : (k : ℕ) → k < length list.slots → is_loaded s k ≡ true
-      → HasRing list k (words_written list script k (length numbers)) (pairs_sent list script numbers k) (host_at ends k)
+      → HasRing list k (words_written list script k (length numbers))
+      (pairs_sent list script numbers k) (host_at ends k)
   ring_loaded k node loaded =
       has_ring list k _ _ (host_at ends k) (loaded-payload list script (world list script numbers) k node loaded)
       (begun.written k node)
@@ -239,7 +240,8 @@ module _ {at : CurrentSlot} {numbers : Numbers} {seats : List Seat} {ends : List
   may_fetch_alone = record {
     lend = may_lend;
     settle = λ k near tried fetches f is.
-        fetched_may list k (is_loaded s k) (host_at ends k) tried f (ring_loaded k (omega (arith, near, count))) fetches is;
+        fetched_may list k (is_loaded s k) (host_at ends k) tried f
+        (ring_loaded k (omega (arith, near, count))) fetches is;
   }
 
   -- fetchers may be settled
@@ -260,7 +262,8 @@ module _ {at : CurrentSlot} {numbers : Numbers} {seats : List Seat} {ends : List
       → HaveChosen list script numbers chosen settled_ends
   have_chosen {settled_ends = settled_ends} {chosen = chosen} before bytes fetches =
       let each = λ (k : ℕ) (node : k < length list.slots). node_choice list script (length numbers) k at.valid_script
-      (subst (λ n. All AreBytes (messages_before list script k n)) (add-one at.slot ∙ ap suc (sym begun.count)) (bytes k))
+      (subst (λ n. All AreBytes (messages_before list script k n))
+      (add-one at.slot ∙ ap suc (sym begun.count)) (bytes k))
       (loaded-payload list script (world list script numbers) k node) (begun.written k node)
       (subst (λ n. FetchesOne (plan_at list k).payload (is_loaded s k) (host_at ends k)
       (after_writes (writes_in script n) k (host_at ends k)) (host_at settled_ends k) (get_or before k nothing_chosen)

@@ -47,7 +47,8 @@ same_many xs ys same = grind steps
 part_of_whole : {l : Medl} {sc : Script} {carried : Carried} {ss part : List Seat} {ds own : List Desk} (first : ℕ)
     → ((P : ℕ → Seat → Type 0) → EachFrom 0 P ss → EachFrom first P part)
     → ((j : ℕ) → j < length (desk_ends own) → end_at (desk_ends ds) (first + j) ≡ end_at (desk_ends own) j)
-    → first + length part ≤ length ss → length own ≡ length part → first + length (desk_ends own) ≤ length (desk_ends ds)
+    → first + length part ≤ length ss → length own ≡ length part → first
+    + length (desk_ends own) ≤ length (desk_ends ds)
     → IsPartReady l sc carried 0 ss ds → IsPartReady l sc carried first part own
 part_of_whole {l} {sc} {ds = ds} first each ends seats count desks ready =
     let may = ready.may in
@@ -72,7 +73,8 @@ part_of_whole {l} {sc} {ds = ds} first each ends seats count desks ready =
     }
 
 -- What is so of ends and outcomes at each place of both parts is so of the whole.
-joined_at : {X : Type 0} (d : X) (f : ControllerState → Outcome → X) {half : ℕ} {ends ends1 ends2 : List ControllerState}
+joined_at : {X : Type 0} (d : X) (f : ControllerState → Outcome → X) {half : ℕ}
+    {ends ends1 ends2 : List ControllerState}
     {os os1 os2 : List Outcome} {xs xs1 xs2 : List X} → AreParts half ends ends1 ends2 → AreParts half os os1 os2
     → AreParts half xs xs1 xs2
     → ((j : ℕ) → j < length ends1 → get_or xs1 j d ≡ f (end_at ends1 j) (outcome_of os1 j))

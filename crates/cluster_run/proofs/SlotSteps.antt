@@ -207,7 +207,8 @@ module _ (so : TakenSlot) where
 
   -- What was read.
 
-  ring : (k : ℕ) → k < length list.slots → (from : Source) → RingSlot (words before k from) (words (row ∷ before) k from)
+  ring : (k : ℕ) → k < length list.slots → (from : Source)
+      → RingSlot (words before k from) (words (row ∷ before) k from)
       (pairs_read list script so.numbers k from) (incoming_shape list k from)
       (at_source (end_at (desk_ends so.mid.desks.items) k) from) (at_source (end_at so.tells.handed k) from)
       (reader_at so.tells.first k from) (reader_at so.tells.last k from)
@@ -241,7 +242,8 @@ module _ (so : TakenSlot) where
   ring_is : (k : ℕ) → k < length list.slots → (from : Source) → IsRingRead (words before k from)
       (words (row ∷ before) k from) (pairs_read list script so.numbers k from) (incoming_shape list k from)
       (at_source (end_at so.tells.handed k) from) (reader_at so.tells.last k from)
-  ring_is k near from = ring_read _ _ _ _ _ (reads_from reads k from) (ring k near from) (so.tells.read.each k from) (clear k from)
+  ring_is k near from = ring_read _ _ _ _ _ (reads_from reads k from) (ring k near from)
+      (so.tells.read.each k from) (clear k from)
 
   got_of_ring : (k : ℕ) (from : Source)
       → AreGotOf (words before k from) (words (row ∷ before) k from) (pairs_of k from so.reads)
@@ -268,7 +270,8 @@ module _ (so : TakenSlot) where
   reads_shown_are : so.reads
       ≡ map (read_shown list script (row ∷ before)) (read_messages reads (numbers_told so.reads))
   reads_shown_are =
-      reads_shown list script (row ∷ before) so.reads rings_told ∙ ap (map (read_shown list script (row ∷ before))) (sym messages)
+      reads_shown list script (row ∷ before) so.reads rings_told
+      ∙ ap (map (read_shown list script (row ∷ before))) (sym messages)
 
   reads_legal : are_legal_reads list script before (row ∷ before) reads (numbers_told so.reads) ≡ true
   reads_legal =

@@ -21,7 +21,8 @@ module _ {at : CurrentSlot} {old taken : Nodes} {front back : EndJob} (h : AreHa
   back_may ready =
       rw (h.back_at.list, h.back_at.script, h.back_at.medium, h.back_at.first_is) (back_ready seats desks ready)
 
-  pub halves_ended : {front' back' : EndJob} {new : Nodes} → ArePutBack taken front' back' new → HasJobEnded front front'
+  pub halves_ended : {front' back' : EndJob} {new : Nodes}
+      → ArePutBack taken front' back' new → HasJobEnded front front'
       → HasJobEnded back back' → AllHaveEnded at old new
   halves_ended put first second = record {
     host_ends = put.host_ends ∙ h.host_ends;

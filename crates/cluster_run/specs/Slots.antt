@@ -91,7 +91,8 @@ pub record AllHaveEnded (at : CurrentSlot) (old new : Nodes) : Type 0 where
   pub ended : HasPartEnded at.list.now at.script.now old.medium 0 old.seats.items new.seats.items old.desks.items
       new.desks.items
 
--- there is a place for each node between two slots again, and the slot has ended for whatever numbers it was planned for
+-- there is a place for each node between two slots again, and the slot has ended for whatever numbers it was planned
+-- for
 pub record IsSlotEnded (at : CurrentSlot) (old new : Nodes) : Type 0 where
   pub are : AreNodesOf at.list.now (at.slot + 1) new
   pub host_ends : new.host_ends ≡ old.host_ends

@@ -99,7 +99,8 @@ module _ {Sets : Type 0} (held : List ℕ → Held) (ending : Ending Sets) (take
         behind_list l l.loads l.comes
 
 -- right files that are told come to what is next
-pub both_told : {Sets : Type 0} (list script : List ℕ) (next : Medl → Script → Plan Sets) (before now : Outside) (medl : Medl)
+pub both_told : {Sets : Type 0} (list script : List ℕ)
+    (next : Medl → Script → Plan Sets) (before now : Outside) (medl : Medl)
     (right : Script) → AreTold list script before now medl right
     → told_ending before.files.held (both_plan list script next) ≡ told_ending before.files.held (next medl right)
 both_told list script next before now medl right files =

@@ -49,7 +49,11 @@ module _ (p : Program) where
       → Refused p no_texts before now (alone status)
   silent before now status seven same = record {
     status = seven;
-    text = record { lines = []; among = refl; wrote = subst (λ (o : Output). Wrote before o []) (sym same) (Wrote-none before) };
+    text = record {
+      lines = [];
+      among = refl;
+      wrote = subst (λ (o : Output). Wrote before o []) (sym same) (Wrote-none before);
+    };
     none = refl;
   }
 
@@ -99,7 +103,8 @@ module _ (p : Program) where
             (
               d.asked,
               d.gives,
-              subst (λ (r : Result X F). Follows p (after refused next r) (outside now.files before.output) now (alone status))
+              subst (λ (r : Result X F).
+                  Follows p (after refused next r) (outside now.files before.output) now (alone status))
                   (sym d.wrong) (refl, inl told),
             ),
           ),
@@ -115,7 +120,8 @@ module _ (p : Program) where
         → CameTo (both_plan list script next) before (next medl right) now
     pair_came medl right t = λ later answer follows.
         value_came (list_file list) list_from refused_list from_list before t.between medl t.first later answer
-        (value_came (script_file script) (script_from medl) refused_script (next medl) t.between now right t.second later
+        (value_came (script_file script) (script_from medl) refused_script
+        (next medl) t.between now right t.second later
         answer follows)
 
     pub no_pair : (status : ℕ) → TookNotBoth list script before now status

@@ -5,7 +5,8 @@ use Rattle.ttp_base.specs.Outside.{Held, untold, absent, holds, Load, Gives}
 use Rattle.ttp_world.specs.declared.medl.Medl.{Medl}
 use Rattle.ttp_world.specs.declared.script.Script.{Script}
 use Rattle.commands.specs.declared.read.FileFault.{FileFault}
-use Rattle.commands.specs.Files.{list_file, refused_list, list_plan, script_file, refused_script, script_plan, both_plan}
+use Rattle.commands.specs.Files.{list_file, refused_list, list_plan, script_file}
+use Rattle.commands.specs.Files.{refused_script, script_plan, both_plan}
 use Rattle.commands.specs.Lines.{Notice}
 use Rattle.commands.specs.Plan.{Ending, File, Plan, ends, asks, said_ending, after, read_plan, Comes, AsksFirst}
 use Rattle.commands.specs.Plan.{told_ending}
@@ -25,7 +26,8 @@ all_come P Q held (ends e) (load ∷ loads) ending all comes = absurd comes
 all_come P Q held (asks file next) (load ∷ loads) ending all comes =
     all_come P Q held (next comes.1.0) loads ending (all.1 comes.1.0) comes.1.2
 
-pub file_comes : {Sets : Type 0} (P : Ending Sets → Type 0) (Q : File → Type 0) (held : List ℕ → Held) (plan : Plan Sets)
+pub file_comes : {Sets : Type 0} (P : Ending Sets → Type 0) (Q : File → Type 0)
+    (held : List ℕ → Held) (plan : Plan Sets)
     (loads : List Load) (file : File) (next : List ℕ → Plan Sets) → Every P Q plan
     → Comes held plan loads (asks file next) → Q file
 file_comes P Q held plan [] file next all comes =
@@ -47,9 +49,11 @@ pub read_every : {X F Sets : Type 0} (P : Ending Sets → Type 0) (Q : File → 
     (read : List ℕ → Result X F) (refused : F → Notice) (next : X → Plan Sets) → Q file
     → ((fault : F) → P (said_ending (refused fault))) → ((value : X) → Every P Q (next value))
     → Every P Q (read_plan file read refused next)
-read_every P Q file read refused next asked refuse all = (asked, λ bytes. after_every P Q refused next refuse all (read bytes))
+read_every P Q file read refused next asked refuse all =
+    (asked, λ bytes. after_every P Q refused next refuse all (read bytes))
 
-pub list_every : {Sets : Type 0} (P : Ending Sets → Type 0) (Q : File → Type 0) (list : List ℕ) (next : Medl → Plan Sets)
+pub list_every : {Sets : Type 0} (P : Ending Sets → Type 0) (Q : File → Type 0)
+    (list : List ℕ) (next : Medl → Plan Sets)
     → Q (list_file list) → ((fault : FileFault) → P (said_ending (refused_list fault)))
     → ((medl : Medl) → Every P Q (next medl)) → Every P Q (list_plan list next)
 list_every P Q list next asked refuse all = read_every P Q (list_file list) list_from refused_list next asked refuse all
@@ -94,7 +98,8 @@ told_next held (holds bytes) limit given next ending told gives =
 same_ending : {Sets : Type 0} (one other : Ending Sets) → Some one ≡ Some other → one ≡ other
 same_ending one other same = cc
 
-pub told_comes : {Sets : Type 0} (held : List ℕ → Held) (plan : Plan Sets) (loads : List Load) (ending told : Ending Sets)
+pub told_comes : {Sets : Type 0} (held : List ℕ → Held) (plan : Plan Sets)
+    (loads : List Load) (ending told : Ending Sets)
     → Comes held plan loads (ends ending) → told_ending held plan ≡ Some told → ending ≡ told
 told_comes {Sets = Sets} held plan [] ending told comes is =
     same_ending ending told (subst (λ (p : Plan Sets). told_ending held p ≡ Some told) comes is)

@@ -75,7 +75,8 @@ asks_held held later same (asks file next) (load ∷ (other ∷ loads)) asked = 
 )
 
 -- one load more before the loads of what follows
-asks_more : {Sets : Type 0} (held : List ℕ → Held) (file : File) (next : List ℕ → Plan Sets) (bytes : List ℕ) (loads : List Load)
+asks_more : {Sets : Type 0} (held : List ℕ → Held) (file : File)
+    (next : List ℕ → Plan Sets) (bytes : List ℕ) (loads : List Load)
     → Gives (held file.name) file.limit bytes → AsksFirst held (next bytes) loads
     → AsksFirst held (asks file next) (load_of file ∷ loads)
 asks_more held file next bytes [] gives rest = refl
@@ -129,11 +130,13 @@ module _ (p : Program) where
     pub count : NoneFell before.files now.files
     pub how : ((ending : Ending p.Sets) × Reached plan before now loads ending
         × ShowsEnding p ending before.output now.output answer)
-        ⊎ (((ending : Ending p.Sets) × Unloaded plan before now loads ending × Says p ending before.output now.output answer)
+        ⊎ (((ending : Ending p.Sets) × Unloaded plan before now loads ending
+        × Says p ending before.output now.output answer)
         ⊎ (NoneRose before.files now.files × Refused p no_texts before.output now.output answer))
 
   -- a call that went on by a file's bytes
-  goes_on : (file : File) (next : List ℕ → Plan p.Sets) (before now : Outside) (answer : Answer p.Kept) (bytes : List ℕ) (files : Files)
+  goes_on : (file : File) (next : List ℕ → Plan p.Sets) (before now : Outside)
+      (answer : Answer p.Kept) (bytes : List ℕ) (files : Files)
       → Asked file before.files files → Gives (before.files.held file.name) file.limit bytes
       → Ended (next bytes) (outside files before.output) now answer → Ended (asks file next) before now answer
   goes_on file next before now answer bytes files one gives rest =
@@ -174,7 +177,8 @@ module _ (p : Program) where
                         );
                         last = ap (λ (l : List Load). load_of file ∷ l) u.1.last;
                         risen =
-                            subst (λ n. HasRisen n (now.files.faults u.1.file.name)) (one.quiet.names u.1.file.name) u.1.risen;
+                            subst (λ n. HasRisen n (now.files.faults u.1.file.name))
+                            (one.quiet.names u.1.file.name) u.1.risen;
                         line = u.1.line;
                       },
                       u.2,
@@ -232,17 +236,21 @@ module _ (p : Program) where
   abbrev CallWays : Plan p.Sets → Outside → Outside → List Load → Answer p.Kept → Type 0
   CallWays plan before now loads answer =
       Ways answer.status
-      ((ending : Ending p.Sets) × Reached plan before now loads ending × Showed p ending before.output now.output answer)
-      ((ending : Ending p.Sets) × Unloaded plan before now loads ending × Showed p ending before.output now.output answer)
+      ((ending : Ending p.Sets) × Reached plan before now loads ending
+      × Showed p ending before.output now.output answer)
+      ((ending : Ending p.Sets) × Unloaded plan before now loads ending
+      × Showed p ending before.output now.output answer)
       ((answer.kept ≡ None)
-      × ((ending : Ending p.Sets) × IsDue plan before now loads ending × CutAmong p ending.texts before.output now.output))
+      × ((ending : Ending p.Sets) × IsDue plan before now loads ending
+      × CutAmong p ending.texts before.output now.output))
       ((answer.kept ≡ None) × (NoneRose before.files now.files × IsUnfinished p plan before now loads))
 
   -- a text without lines
   pub wrote_nothing : (before now : Output) → WroteAmong p no_texts before now → Wrote before now []
   wrote_nothing before now w = subst (Wrote before now) w.among w.wrote
 
-  ways : (plan : Plan p.Sets) (before now : Outside) (answer : Answer p.Kept) → Every (IsFinal p) SaysLine plan → (e : Ended plan before now answer)
+  ways : (plan : Plan p.Sets) (before now : Outside) (answer : Answer p.Kept)
+      → Every (IsFinal p) SaysLine plan → (e : Ended plan before now answer)
       → CallWays plan before now e.loads answer
   ways plan before now answer all e =
       elim e.how [
@@ -266,7 +274,11 @@ module _ (p : Program) where
             elim other [
               | inl u ↦
                   elim u.2 [
-                    | inl showed ↦ inr (inl (showed.status ∙ ap (λ (x : Ending p.Sets). x.status) u.1.line, (u.0, u.1, showed)))
+                    | inl showed ↦ inr (inl (
+                      showed.status
+                          ∙ ap (λ (x : Ending p.Sets). x.status) u.1.line,
+                      (u.0, u.1, showed),
+                    ))
                     | inr stopped ↦ inr (inr (inl (stopped.status, (stopped.none, (u.0, inr u.1, stopped.text)))))
                   ]
               | inr m ↦
@@ -344,7 +356,8 @@ module _ (p : Program) where
   dropped_then plan before now loads answer (inr (inr (inl c))) many = c.1.0
   dropped_then plan before now loads answer (inr (inr (inr d))) many = d.1.0
 
-  told_way : (plan : Plan p.Sets) (before now : Outside) (loads : List Load) (answer : Answer p.Kept) (ending : Ending p.Sets)
+  told_way : (plan : Plan p.Sets) (before now : Outside) (loads : List Load)
+      (answer : Answer p.Kept) (ending : Ending p.Sets)
       → CallWays plan before now loads answer
       → told_ending before.files.held plan
       ≡ Some ending → NoneAskedRose before now loads → ¬ HasRisen before.output.faults now.output.faults

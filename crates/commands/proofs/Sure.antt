@@ -1,5 +1,6 @@
--- What a call comes to whose library is sure of its files and whose sink is sure to take what is written: no count stands
--- between right files and what is due for them. For a caller, who has the promise of a call and knows what it gave it.
+-- What a call comes to whose library is sure of its files and whose sink is sure to take what is written: no count
+-- stands between right files and what is due for them. For a caller, who has the promise of a call and knows what it
+-- gave it.
 use Rattle.std.proofs.Common.{◌≡◌, ◌≢◌, ◌⊎◌, ℕ, ◌<◌, ◌≤◌, true, List, [], length}
 use Rattle.std.proofs.Common.{Option, Some, Ok, refl, ap, sym, subst, ◌∙◌, inl, inr, arith}
 use Rattle.std.specs.List.{concat}

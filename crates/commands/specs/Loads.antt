@@ -26,7 +26,8 @@ pub record Took {X F : Type 0} (file : File) (read : List ℕ → Result X F) (b
     pub taken : read bytes ≡ Ok value
 
 -- it gave bytes that are refused, and what is wrong with them was said
-pub record Denied {X F : Type 0} (file : File) (read : List ℕ → Result X F) (refused : F → Notice) (before now : Outside)
+pub record Denied {X F : Type 0} (file : File) (read : List ℕ → Result X F)
+    (refused : F → Notice) (before now : Outside)
     (status : ℕ) : Type 0 where
   pub bytes : List ℕ
   pub asked : Asked file before.files now.files

@@ -3,8 +3,8 @@ use Rattle.std.specs.Prelude.{◌≡◌, ℕ, [], Option, None}
 use Rattle.ttp_base.specs.Outside.{Output, WroteLines, CutShort}
 use Rattle.ttp_base.specs.Text.{Lines}
 
--- What is a program's own in all of this: names for sets of texts, which texts are of a set, what a call may keep for its
--- caller, and what it keeps beside a text of a set that is written whole.
+-- What is a program's own in all of this: names for sets of texts, which texts are of a set, what a call may keep for
+-- its caller, and what it keeps beside a text of a set that is written whole.
 pub record Program : Type 1 where
   pub Sets : Type 0
   pub Kept : Type 0

@@ -265,7 +265,8 @@ change_near (entry.Joined sender cstate deviation) offset s corrected w a b erro
     (furthest (offset +ℤ s.jump) (offset_of_arrival a) (offset_of_arrival b)) (omega arith) near is
 change_near _ offset s corrected w a b error near lands =
     let still = joined_near offset s.jump s.drift (pos 0) corrected w (offset +ℤ s.jump) (pos 0)
-    (furthest (offset +ℤ s.jump) (offset_of_arrival a) (offset_of_arrival b)) (omega arith) near (omega (arith, ints)) in
+    (furthest (offset +ℤ s.jump) (offset_of_arrival a) (offset_of_arrival b))
+    (omega arith) near (omega (arith, ints)) in
     omega (arith, still)
 
 pub past_after-near : {list : Medl} {k : ℕ} {past new : NodePast} {now : Turn} {sends : Intent} {a b : Arrival}

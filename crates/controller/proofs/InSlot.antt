@@ -170,7 +170,8 @@ sends-nothing old new planned same plans = record {
 -- what a pass makes of node k's seat
 abbrev pub IsSentBy : Medl → Script → List Chosen → ℕ → Seat → Seat → Type 0
 IsSentBy list script chosen k old new =
-    IsPlannedFrom old.controller new.controller × PlansIn list script k (chosen_of chosen k) old.controller new.controller
+    IsPlannedFrom old.controller new.controller
+    × PlansIn list script k (chosen_of chosen k) old.controller new.controller
     × (new.incidents ≡ old.incidents)
 
 -- the clock of each node; where there is none, 0
@@ -204,7 +205,8 @@ module _ {list : Medl} {script : Script} {slot : ℕ} {chosen : List Chosen} whe
       record {
         passed = ArePassed-more sent.passed d within (sends.planned, sends.plans, sends.incidents);
         from = sends.clocks slot (clock_in old)
-            (ap (λ (o : Option Seat). option_map_or (λ (seat : Seat). view_clock seat.controller) o (pos 0)) (sym coming))
+            (ap (λ (o : Option Seat).
+            option_map_or (λ (seat : Seat). view_clock seat.controller) o (pos 0)) (sym coming))
             sent.from;
         carries = λ history long begun.
             let s = slot_after list script history in

@@ -121,7 +121,8 @@ chosen-step {plant = plant} {script = script} {history = history} chosen valid s
       let armed = λ (t : ℕ). is_armed script k t in
       let sends : is_loaded (slot_after list script history) k ≡ true =
       ap (λ (n : BegunNode). sends_payload list n.past n.act) (node_of-slot_after list script history k node)
-      ∙ sym (loading-before list k (on (length history)) (armed (length history)) seat.controller.past diary surroundings valid node
+      ∙ sym (loading-before list k (on (length history)) (armed (length history))
+      seat.controller.past diary surroundings valid node
       past_is)
       ∙ (λ i. is_loading (intent_by (sym of.list i) seat.controller.past
       (act (sym of.list i) (sym of.node i) (on (sym stands.slot i)) (armed (sym stands.slot i)) seat.controller.past)))

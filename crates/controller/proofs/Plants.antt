@@ -24,10 +24,12 @@ pub left_at : {list : Medl} {script : Script} {history : History} {chosen : List
     → IsOutcomeOf list script history chosen k (get_or (outcomes_of seats) k no_outcome)
 left_at {list = list} {script = script} {history = history} {chosen = chosen} {seats = seats} left k less =
     let found = some_at seats k less in
-    subst (IsOutcomeOf list script history chosen k) (sym (outcome_there seats k found.0 found.1)) (each-of left k found.1)
+    subst (IsOutcomeOf list script history chosen k)
+    (sym (outcome_there seats k found.0 found.1)) (each-of left k found.1)
 
 -- So the three passes step a plant: each node stands for what the world's slot makes of the history.
-pub is-step : {list : Medl} {script : Script} {slot : ℕ} {history : History} {chosen : List Chosen} {old new : List Seat}
+pub is-step : {list : Medl} {script : Script} {slot : ℕ} {history : History}
+    {chosen : List Chosen} {old new : List Seat}
     {before after : Carried} → PlantStandsFor (plant_of list slot old before) script history
     → length new ≡ length list.slots → AreSeats list IsEnded (most_ahead (slot + 1)) 0 new
     → HaveEnded list script history chosen 0 new

@@ -27,7 +27,8 @@ module _ {one other : Script} {slot : ℕ} (alike : (k : ℕ) → SayAlike one o
   pub jump-same : (k : ℕ) → jump_of one k slot ≡ jump_of other k slot
   jump-same k = ap (λ (w : Incidents). w.jump) (alike k).incidents
 
-  send-same : (kind : Fault) (k : ℕ) (c : Channel) → has_send_fault one kind k c slot ≡ has_send_fault other kind k c slot
+  send-same : (kind : Fault) (k : ℕ) (c : Channel)
+      → has_send_fault one kind k c slot ≡ has_send_fault other kind k c slot
   send-same fault.Silence k channel.A = ap (λ (w : Incidents). w.send_silence.a) (alike k).incidents
   send-same fault.Silence k channel.B = ap (λ (w : Incidents). w.send_silence.b) (alike k).incidents
   send-same fault.Noise k channel.A = ap (λ (w : Incidents). w.send_noise.a) (alike k).incidents
@@ -67,5 +68,6 @@ module _ {one other : Script} {slot : ℕ} (alike : (k : ℕ) → SayAlike one o
       → surroundings_in one slot row k ≡ surroundings_in other slot row k
   surroundings_in-same row k drift =
       let silent : is_silent_to one slot k (senders_in row) ≡ is_silent_to other slot k (senders_in row) = λ i.
-      is_silence (heard-same k channel.A (senders_in row) i) && is_silence (heard-same k channel.B (senders_in row) i) in
+      is_silence (heard-same k channel.A (senders_in row) i)
+      && is_silence (heard-same k channel.B (senders_in row) i) in
       λ i. record { jump = jump-same k i; drift = drift i; is_silent = silent i }

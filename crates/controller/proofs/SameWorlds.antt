@@ -60,7 +60,8 @@ module _ {one other : Script} {slot : ℕ} (agree : AgreeBelow one other slot) w
       frames-same = λ i.
           frames_in (record { list = list; script = one; number = length history; nodes = nodes-same i }) chosen
 
-      hearing-same : (r : ℕ) → hearing_in (slot_after list one history) (frames_in (slot_after list one history) chosen) r
+      hearing-same : (r : ℕ) → hearing_in (slot_after list one history)
+          (frames_in (slot_after list one history) chosen) r
           ≡ hearing_in (slot_after list other history) (frames_in (slot_after list other history) chosen) r
       hearing-same r =
           let frames = frames-same in
@@ -87,7 +88,8 @@ module _ {one other : Script} {slot : ℕ} (agree : AgreeBelow one other slot) w
 
   -- The messages that hosts have written.
 
-  messages_before-same : (list : Medl) (k m : ℕ) → m ≤ slot → messages_before list one k m ≡ messages_before list other k m
+  messages_before-same : (list : Medl) (k m : ℕ) → m ≤ slot
+      → messages_before list one k m ≡ messages_before list other k m
   messages_before-same list k zero few = refl
   messages_before-same list k (suc m) few =
       let older = messages_before-same list k m (omega arith) in

@@ -200,7 +200,8 @@ pub Plans-turn : {list : Medl} {k : ℕ} {past : NodePast} {now : Turn} {sends :
     → message ≡ message_carried sends number → IsFrameOf list k past does payload planned
     → Plans (view_at list k past slots now) (view_at list k past slots (Planned does again message)) number payload
     planned
-Plans-turn {list} {k} {past} {does = does} {jumped = jumped} slots again number payload message planned within begun same
+Plans-turn {list} {k} {past} {does = does} {jumped = jumped} slots again number
+    payload message planned within begun same
     carries frames = λ diary surroundings a jump chosen stands numbered paid.
     let read = past_of list k diary surroundings in
     let turns = sym begun ∙ stands.turn in

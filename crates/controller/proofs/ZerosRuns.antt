@@ -9,7 +9,8 @@ use Rattle.controller.specs.PlantStands.{PlantStandsFor, MayStep, Steps}
 use Rattle.controller.specs.PlantView.{PlantView}
 use Rattle.controller.proofs.Payloads.{chosen-step}
 
-pub zeros-may_step : (list : Medl) (script : Script) (slot : ℕ) (plant : PlantView) (chosen : List Chosen) → IsValid list
+pub zeros-may_step : (list : Medl) (script : Script) (slot : ℕ)
+    (plant : PlantView) (chosen : List Chosen) → IsValid list
     → plant.list ≡ list → chosen ≡ all_zeros list → PlantStandsFor plant script (zeros_world list script slot)
     → MayStep plant script chosen
 zeros-may_step list script slot plant chosen valid same zeros stands =

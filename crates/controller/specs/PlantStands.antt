@@ -57,7 +57,8 @@ pub record IsStep (new : PlantView) (script : Script) (history : History) (chose
   pub stands : PlantStandsFor new script (row_in (slot_after new.list script history) chosen ∷ history)
   pub left : (k : ℕ) → k < length new.list.slots → IsOutcomeOf new.list script history chosen k (outcome_at new k)
   -- what was sent in it lies on the medium
-  pub carries : CarriesFrames (slot_after new.list script history) (frames_in (slot_after new.list script history) chosen)
+  pub carries : CarriesFrames (slot_after new.list script history)
+      (frames_in (slot_after new.list script history) chosen)
       new.carried
 
 -- whatever history it stood for

@@ -1,5 +1,5 @@
--- What contracts see of a plant: its nodes, each with what the newest slot left, how many slots there were, and what lies
--- on the medium.
+-- What contracts see of a plant: its nodes, each with what the newest slot left, how many slots there were, and what
+-- lies on the medium.
 use Rattle.std.specs.Prelude.{ℕ, List}
 use Rattle.ttp_world.specs.declared.medl.Medl.{Medl}
 use Rattle.medium.specs.Carried.{Carried}

@@ -76,7 +76,8 @@ payload_planned list past chosen Send = payload_sent list (coming_place list pas
 payload_planned list past chosen _ = []
 
 -- a plan is right of one diary: its frame, and what the controller then stands for
-pub record IsPlan (old new : ControllerView) (planned : Option (List ℕ)) (diary : Diary) (surroundings : Surroundings) (a : Act)
+pub record IsPlan (old new : ControllerView) (planned : Option (List ℕ))
+    (diary : Diary) (surroundings : Surroundings) (a : Act)
     (jump : ℤ) (chosen : Chosen) : Type 0 where
   pub frames : frames_planned old.node planned
       ≡ node_frames old.list old.node (view_past old diary surroundings) chosen a
@@ -107,7 +108,8 @@ pub record AreSurroundings (s : SlotSurroundings) (a : Act) (jumped drifts : ℤ
 
 -- what a slot ends with: the diary has the entry of the world for what was heard, and the surroundings what came from
 -- outside; what is delivered and the status are those of the world
-pub record IsEnd (old new : ControllerView) (outcome : Outcome) (diary : Diary) (surroundings : Surroundings) (e : Entry)
+pub record IsEnd (old new : ControllerView) (outcome : Outcome) (diary : Diary)
+    (surroundings : Surroundings) (e : Entry)
     (s : SlotSurroundings) (handed : Option Delivered) : Type 0 where
   pub stands : ControllerStandsFor new (e ∷ diary) (s ∷ surroundings)
   pub delivered : outcome.delivered ≡ handed

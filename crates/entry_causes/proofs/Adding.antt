@@ -12,7 +12,8 @@ use Rattle.run_looks.specs.declared.sources.Sources.{Sources}
 pub adds-none : (s : Sources) → AddsSources s s no_sources
 adds-none s = record { lines = sym (append-nil s.lines); entries = sym (append-nil s.entries) }
 
-pub adds-both : (old between new : Sources) (a b : causes.Sources) → AddsSources old between a → AddsSources between new b
+pub adds-both : (old between new : Sources) (a b : causes.Sources)
+    → AddsSources old between a → AddsSources between new b
     → AddsSources old new (with_sources a b)
 adds-both old between new a b first second = record {
   lines =

@@ -24,7 +24,8 @@ use Rattle.ttp_world.specs.declared.script.Script.{Script}
 -- What is looked for among the frames of all nodes.
 
 -- another node's frame is passed over
-skips : (list : Medl) (j : ℕ) (past : NodePast) (chosen : Chosen) (a : Act) (rest : List SentFrame) (k : ℕ) → (j ≡ k → ⊥)
+skips : (list : Medl) (j : ℕ) (past : NodePast) (chosen : Chosen) (a : Act)
+    (rest : List SentFrame) (k : ℕ) → (j ≡ k → ⊥)
     → bytes_sent (node_frames list j past chosen a ++ rest) k ≡ bytes_sent rest k
 skips list j past chosen Start rest k other =
     ap (λ (b : Bool). elim b as (λ c. List ℕ) [ true ↦ cold_start_frame list j | false ↦ bytes_sent rest k ])
@@ -86,7 +87,8 @@ bytes-started list script slot k node started =
     let s = slot_after list script (zeros_world list script slot) in
     let chosen = all_zeros list in
     bytes-range s chosen k (cold_start_frame list k) 0 (length list.slots) (omega arith) (omega (arith, node))
-    (found-started list k (node_of s k).past (chosen_of chosen k) (hearing_in s (frames_in s chosen) k) (node_of s k).act
+    (found-started list k (node_of s k).past (chosen_of chosen k)
+    (hearing_in s (frames_in s chosen) k) (node_of s k).act
     (ap is_started (sym (entry_of-row_in s chosen k node)) ∙ started))
 
 -- A frame of its own slot.
@@ -123,7 +125,8 @@ unfolding slot_in
 bytes-own list script slot k node sent =
     let s = slot_after list script (zeros_world list script slot) in
     let chosen = all_zeros list in
-    bytes-range s chosen k (own_frame list k (node_of s k).past (chosen_of chosen k)) 0 (length list.slots) (omega arith)
+    bytes-range s chosen k (own_frame list k (node_of s k).past (chosen_of chosen k)) 0
+    (length list.slots) (omega arith)
     (omega (arith, node))
     (found-sent list k (node_of s k).past (chosen_of chosen k) (hearing_in s (frames_in s chosen) k) (node_of s k).act
     (ap is_sent (sym (entry_of-row_in s chosen k node)) ∙ sent))

@@ -58,7 +58,8 @@ pub told-one : (m : Miss) (old new : Sources) (reason : ChannelReason) (cause : 
 told-one m old new reason cause is told =
     subst (IsToldBy (because.Missed m) old new) (sym is) (ap because.Missed told.0, told.1)
 
-pub told-each : (m n : Miss) (old between new : Sources) (a b : ChannelReason) (cause : Cause) → cause ≡ missed_by_each a b
+pub told-each : (m n : Miss) (old between new : Sources) (a b : ChannelReason) (cause : Cause)
+    → cause ≡ missed_by_each a b
     → (m ≡ a.miss) × AddsSources old between a.sources → (n ≡ b.miss) × AddsSources between new b.sources
     → IsToldBy (because.MissedOnEach m n) old new cause
 told-each m n old between new a b cause is first second =

@@ -1,5 +1,6 @@
 -- The end of a list.
-use Rattle.std.proofs.Common.{◌≡◌, ℕ, zero, suc, ◌+◌, ◌≤◌, List, [], ◌∷◌, ◌++◌, length, drop, Some, refl, ap, ◌∙◌, arith}
+use Rattle.std.proofs.Common.{◌≡◌, ℕ, zero, suc, ◌+◌, ◌≤◌, List, [], ◌∷◌, ◌++◌}
+use Rattle.std.proofs.Common.{length, drop, Some, refl, ap, ◌∙◌, arith}
 use Rattle.std.proofs.Common.{slice_get}
 
 -- what was added
@@ -8,7 +9,8 @@ drop-added [] more = refl
 drop-added (x ∷ old) more = drop-added old more
 
 -- from an item on
-pub drop-next : {X : Type 0} (xs : List X) (at : ℕ) (x : X) → slice_get xs at ≡ Some x → drop at xs ≡ x ∷ drop (at + 1) xs
+pub drop-next : {X : Type 0} (xs : List X) (at : ℕ) (x : X) → slice_get xs at
+    ≡ Some x → drop at xs ≡ x ∷ drop (at + 1) xs
 drop-next [] at x is = absurd cc
 drop-next (y ∷ xs) zero x is = cc
 drop-next (y ∷ xs) (suc at) x is =

@@ -1,5 +1,6 @@
 -- Bits that are flipped: one flip after another, and each bit once.
-use Rattle.std.proofs.Common.{◌≡◌, ℕ, zero, suc, ◌+◌, ◌<◌, ◌≤◌, ◌%◌, Bool, true, false, cond, not, ◌&&◌, ◌||◌, List, [], ◌∷◌, ◌++◌, Option, Some, None}
+use Rattle.std.proofs.Common.{◌≡◌, ℕ, zero, suc, ◌+◌, ◌<◌, ◌≤◌, ◌%◌, Bool, true, false, cond}
+use Rattle.std.proofs.Common.{not, ◌&&◌, ◌||◌, List, [], ◌∷◌, ◌++◌, Option, Some, None}
 use Rattle.std.proofs.Common.{length, take, drop, refl, ap, sym, ◌∙◌, arith, get_or, add-one, drop-cons}
 use Rattle.std.proofs.lemmas.Bool.Decides.{nat_tests}
 use Rattle.std.proofs.lemmas.List.{append-nil, length-take}
@@ -91,7 +92,8 @@ odd-option odd (Some b) xs bit =
     by false true = odd-suc (count_by (λ other. other == bit) xs)
     by false false = ap (λ (n : ℕ). n % 2 == 1) (none (count_by (λ other. other == bit) xs))
 
-pub odd-next : (c : Channel) (flips : List FlippedBit) (i : ℕ) (d : FlippedBit) (bit : ℕ) (odd hit : Bool) → i < length flips
+pub odd-next : (c : Channel) (flips : List FlippedBit) (i : ℕ) (d : FlippedBit)
+    (bit : ℕ) (odd hit : Bool) → i < length flips
     → hit ≡ has_node (bits_on c (get_or flips i d ∷ [])) bit
     → is_one_of odd (count_by (λ other. other == bit) (bits_on c (drop i flips)) % 2 == 1)
     ≡ is_one_of (is_one_of odd hit) (count_by (λ other. other == bit) (bits_on c (drop (i + 1) flips)) % 2 == 1)
@@ -109,20 +111,24 @@ bit_of c flip p = cond (is_among c flip.channels && p flip.bit) (flip.bit ∷ []
 one-bit : (c : Channel) (flip : FlippedBit) (p : ℕ → Bool) → filter p (bits_on c (flip ∷ [])) ≡ bit_of c flip p
 one-bit c flip p = by (is_among c flip.channels)
   where
-    by : (there : Bool) → filter p (cons_option (cond there (Some flip.bit) None) []) ≡ cond (there && p flip.bit) (flip.bit ∷ []) []
+    by : (there : Bool) → filter p (cons_option (cond there (Some flip.bit) None) [])
+        ≡ cond (there && p flip.bit) (flip.bit ∷ []) []
     by true = refl
     by false = refl
 
-taken-one : (flips : List FlippedBit) (at : ℕ) (d : FlippedBit) → at < length flips → take 1 (drop at flips) ≡ get_or flips at d ∷ []
+taken-one : (flips : List FlippedBit) (at : ℕ) (d : FlippedBit) → at < length flips
+    → take 1 (drop at flips) ≡ get_or flips at d ∷ []
 taken-one flips at d within = ap (take 1) (drop-cons flips at d within)
 
 pub first-bits : (c : Channel) (flips : List FlippedBit) (at : ℕ) (d : FlippedBit) (t : ℕ → Bool) → at < length flips
     → filter t (first_bits c flips at)
-    ≡ cond ((is_among c (get_or flips at d).channels && not (has_node (bits_on c (take at flips)) (get_or flips at d).bit))
+    ≡ cond ((is_among c (get_or flips at d).channels
+    && not (has_node (bits_on c (take at flips)) (get_or flips at d).bit))
     && t (get_or flips at d).bit) ((get_or flips at d).bit ∷ []) []
 first-bits c flips at d t within =
     let flip = get_or flips at d in
-    ap (λ (some : List FlippedBit). filter t (filter (λ bit. not (has_node (bits_on c (take at flips)) bit)) (bits_on c some)))
+    ap (λ (some : List FlippedBit).
+    filter t (filter (λ bit. not (has_node (bits_on c (take at flips)) bit)) (bits_on c some)))
     (taken-one flips at d within)
     ∙ ap (filter t) (one-bit c flip (λ bit. not (has_node (bits_on c (take at flips)) bit)))
     ∙ by (is_among c flip.channels && not (has_node (bits_on c (take at flips)) flip.bit)) flip.bit
@@ -146,22 +152,26 @@ firsts-next c flips at within =
     take-more [] zero = refl
     take-more {X = X} [] (suc i) = ap (λ (n : ℕ). take {A = X} n []) (same i)
     take-more (x ∷ xs) zero = refl
-    take-more {X = X} (x ∷ xs) (suc i) = ap (λ (n : ℕ). take n (x ∷ xs)) (same i) ∙ ap (λ (ys : List X). x ∷ ys) (take-more xs i)
+    take-more {X = X} (x ∷ xs) (suc i) = ap (λ (n : ℕ). take n (x ∷ xs)) (same i)
+        ∙ ap (λ (ys : List X). x ∷ ys) (take-more xs i)
 
     few : {X : Type 0} (xs : List X) (i : ℕ) → length (take 1 (drop i xs)) ≤ 1
     few xs i = omega (arith, length-take 1 (drop i xs))
 
     new-option : (seen : List ℕ) (o : Option ℕ)
-        → each_first (seen ++ cons_option o []) ≡ each_first seen ++ filter (λ bit. not (has_node seen bit)) (cons_option o [])
+        → each_first (seen ++ cons_option o []) ≡ each_first seen
+        ++ filter (λ bit. not (has_node seen bit)) (cons_option o [])
     new-option seen None = ap each_first (append-nil seen) ∙ sym (append-nil (each_first seen))
-    new-option seen (Some bit) = each_first-one seen bit ∙ ap (λ (bits : List ℕ). each_first seen ++ bits) (turned (has_node seen bit))
+    new-option seen (Some bit) =
+        each_first-one seen bit ∙ ap (λ (bits : List ℕ). each_first seen ++ bits) (turned (has_node seen bit))
       where
         turned : (b : Bool) → cond b [] (bit ∷ []) ≡ cond (not b) (bit ∷ []) []
         turned true = refl
         turned false = refl
 
     gained : (seen : List ℕ) (some : List FlippedBit) → length some ≤ 1
-        → each_first (seen ++ bits_on c some) ≡ each_first seen ++ filter (λ bit. not (has_node seen bit)) (bits_on c some)
+        → each_first (seen ++ bits_on c some) ≡ each_first seen
+        ++ filter (λ bit. not (has_node seen bit)) (bits_on c some)
     gained seen [] less = ap each_first (append-nil seen) ∙ sym (append-nil (each_first seen))
     gained seen (x ∷ []) less = new-option seen (bit_on c x)
     gained seen (x ∷ y ∷ others) less = absurd (omega (arith, less))

@@ -1,5 +1,6 @@
 -- Why a node listens, waits, joins and starts, by the slots of a run.
-use Rattle.std.proofs.Common.{◌≡◌, ℕ, suc, ◌+◌, ◌-◌, ◌<◌, ◌≤◌, Bool, true, false, cond, not, ◌&&◌, ◌||◌, [], ◌∷◌, length}
+use Rattle.std.proofs.Common.{◌≡◌, ℕ, suc, ◌+◌, ◌-◌, ◌<◌, ◌≤◌, Bool, true, false}
+use Rattle.std.proofs.Common.{cond, not, ◌&&◌, ◌||◌, [], ◌∷◌, length}
 use Rattle.std.proofs.Common.{filter, map, take, refl, ap, sym, ◌∙◌, arith}
 use Rattle.std.specs.List.{list_any}
 use Rattle.std.specs.Prelude.{◌==◌}
@@ -53,7 +54,8 @@ pub named-down : (list : Medl) (script : Script) (before from k : ℕ)
     ≡ is_named (entry_in_slot k (slot_in list script (from - 1)))
 named-down list script before from k is some =
     ap (λ (s : causes.Sources). not (length s.entries == 0)) (listening-down list script before from k is some)
-    ∙ named-by k (slot_in list script (from - 1) ∷ past_slots_in list script (from - 1)) (slot_in list script (from - 1))
+    ∙ named-by k (slot_in list script (from - 1) ∷ past_slots_in list script (from - 1))
+    (slot_in list script (from - 1))
     (entry_in_slot k (slot_in list script (from - 1)))
 
 -- A wait.
@@ -119,7 +121,8 @@ pub before_join-waited : (list : Medl) (script : Script) (before k : ℕ) → 0 
 before_join-waited list script before k some waited =
     before_join-down list script before k some
     ∙ ap (λ (b : Bool).
-    if_waited b (wait_sources k (past_slots_in list script before)) (listening_sources k (past_slots_in list script before)))
+    if_waited b (wait_sources k (past_slots_in list script before))
+    (listening_sources k (past_slots_in list script before)))
     waited
 
 pub before_join-other : (list : Medl) (script : Script) (before k : ℕ) → 0 < before
@@ -128,7 +131,8 @@ pub before_join-other : (list : Medl) (script : Script) (before k : ℕ) → 0 <
 before_join-other list script before k some other =
     before_join-down list script before k some
     ∙ ap (λ (b : Bool).
-    if_waited b (wait_sources k (past_slots_in list script before)) (listening_sources k (past_slots_in list script before)))
+    if_waited b (wait_sources k (past_slots_in list script before))
+    (listening_sources k (past_slots_in list script before)))
     other
 
 -- A test of some slots, from the newest on.
@@ -192,7 +196,8 @@ listening_node-none list script before q none = ap (listening_node q) (past-none
 pub listening_node-down : (list : Medl) (script : Script) (before q : ℕ) (listens : Bool) → 0 < before
     → (is_waited (entry_in_slot q (slot_in list script (before - 1)))
     || is_retried (entry_in_slot q (slot_in list script (before - 1)))) ≡ listens
-    → listening_node q (past_slots_in list script before) ≡ cond listens (record { slot = before - 1; node = q } ∷ []) []
+    → listening_node q (past_slots_in list script before)
+    ≡ cond listens (record { slot = before - 1; node = q } ∷ []) []
 listening_node-down list script before q listens some is =
     ap (listening_node q) (past_slots_in-down list script before some)
     ∙ (λ i. cond (is i) (spot-in list script (before - 1) q i ∷ []) [])

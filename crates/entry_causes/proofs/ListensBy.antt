@@ -3,7 +3,8 @@ use Rattle.std.proofs.Common.{◌≡◌, ℕ, ◌-◌, ◌<◌, true, false, ◌
 use Rattle.std.proofs.lemmas.Bool.{false≢true}
 use Rattle.causes.specs.LinesOf.{lines_where}
 use Rattle.causes.specs.Listening.{back_to_listening, left_and_armed, listening_by, listening_since, listening_sources}
-use Rattle.causes.specs.RunSlots.{RunSlot, RunSlots, entry_in_slot, is_gone_entry, is_left, is_retried, newest_departure}
+use Rattle.causes.specs.RunSlots.{RunSlot, RunSlots, entry_in_slot, is_gone_entry}
+use Rattle.causes.specs.RunSlots.{is_left, is_retried, newest_departure}
 use Rattle.causes.specs.RunSlots.{node_spot}
 use Rattle.causes.specs.Sources.{no_sources, only_entries}
 use Rattle.causes.specs.declared.cause.Spot.{Spot}
@@ -54,7 +55,8 @@ module _ (list : Medl) (script : Script) (k before from : ℕ)
       ap (listening_since k) (is ∙ down) ∙ (λ i. listening_by k (sym down i) s (entry_in_slot k s))
 
   pub listens-retried : 0 < from → is_retried (entry_in_slot k (slot_in list script (from - 1))) ≡ true
-      → listening_sources k (past_slots_in list script before) ≡ only_entries (record { slot = from - 1; node = k } ∷ [])
+      → listening_sources k (past_slots_in list script before)
+      ≡ only_entries (record { slot = from - 1; node = k } ∷ [])
   listens-retried some retried =
       listens-by some
       ∙ by-retried k (past_slots_in list script from) (slot_in list script (from - 1)) _ retried
@@ -71,7 +73,8 @@ module _ (list : Medl) (script : Script) (k before from : ℕ)
       listens-by some
       ∙ by-out k (past_slots_in list script from) (slot_in list script (from - 1)) _ out
       ∙ (λ i. record {
-        lines = take 1 (lines_where (arms k (length-past_slots_in list script from i)) (slot_in-script list script (from - 1) i));
+        lines = take 1 (lines_where (arms k (length-past_slots_in list script from i))
+            (slot_in-script list script (from - 1) i));
         entries = newest_departure k (past_slots_in list script from) ∷ [];
       })
 

@@ -97,8 +97,10 @@ doubt-of_list : (list : Medl) (script : Script) (slots k : ℕ) → IsValid list
     → IfDoubted (node_past list script (zeros_world list script slots) k).ack (λ x. x < length list.slots)
 doubt-of_list list script zero k valid node = tt
 doubt-of_list list script (suc slot) k valid node =
-    subst (λ (past : NodePast). IfDoubted past.ack (λ x. x < length list.slots)) (sym (past-suc list script slot k node))
-    (doubt-after list (node_past list script (zeros_world list script slot) k).ack (entry_of (next_row list script slot) k)
+    subst (λ (past : NodePast). IfDoubted past.ack (λ x. x < length list.slots))
+    (sym (past-suc list script slot k node))
+    (doubt-after list (node_past list script (zeros_world list script slot) k).ack
+    (entry_of (next_row list script slot) k)
     (entry_of-of_list list (next_row list script slot) k
     (row_after-of_list list script (zeros_world list script slot) (all_zeros list) valid
     (zeros-of_list list script slot valid)))

@@ -1,5 +1,6 @@
 -- What nodes judged since their own entries, one slot more at a time.
-use Rattle.std.proofs.Common.{◌≡◌, ℕ, zero, suc, ◌+◌, ◌-◌, ◌<◌, ◌≤◌, Bool, true, false, cond, not, ◌||◌, List, [], ◌∷◌, ◌++◌}
+use Rattle.std.proofs.Common.{◌≡◌, ℕ, zero, suc, ◌+◌, ◌-◌, ◌<◌, ◌≤◌, Bool, true}
+use Rattle.std.proofs.Common.{false, cond, not, ◌||◌, List, [], ◌∷◌, ◌++◌}
 use Rattle.std.proofs.Common.{Some, length, filter, map, take, refl, ap, sym, ◌∙◌, arith, inl, inr}
 use Rattle.std.proofs.lemmas.Bool.{cases_eq, eq-eqb, ne_eqb}
 use Rattle.std.proofs.lemmas.List.{append-nil}
@@ -56,13 +57,15 @@ again-down list script behind k listens some is =
 -- Entries that settled a doubt.
 
 pub settled-cons : (k : ℕ) (s : RunSlot) (rest : RunSlots)
-    → only_entries (settled_in k (s ∷ rest)) ≡ with_sources (only_entries (settled_in k (s ∷ []))) (only_entries (settled_in k rest))
+    → only_entries (settled_in k (s ∷ rest))
+    ≡ with_sources (only_entries (settled_in k (s ∷ []))) (only_entries (settled_in k rest))
 settled-cons k s rest =
     ap only_entries
     (by_tests (is_judged_so is_correct (entry_in_slot k s)) k s (judged_so is_correct k rest))
   where
     by_doubt : (doubts : Bool) (k : ℕ) (s : RunSlot) (rest : RunSlots)
-        → spots_at_node k (cond doubts (s ∷ rest) rest) ≡ spots_at_node k (cond doubts (s ∷ []) []) ++ spots_at_node k rest
+        → spots_at_node k (cond doubts (s ∷ rest) rest)
+        ≡ spots_at_node k (cond doubts (s ∷ []) []) ++ spots_at_node k rest
     by_doubt true k s rest = refl
     by_doubt false k s rest = refl
 

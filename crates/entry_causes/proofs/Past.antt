@@ -22,7 +22,8 @@ drop-past list script zero (suc d) =
     ∙ ap (past_slots_in list script) none
 drop-past list script (suc m) (suc d) =
     let same : m - d ≡ suc m - suc d = omega arith in
-    ap (drop (suc d)) (past_slots_in-suc list script m) ∙ drop-past list script m d ∙ ap (past_slots_in list script) same
+    ap (drop (suc d)) (past_slots_in-suc list script m)
+    ∙ drop-past list script m d ∙ ap (past_slots_in list script) same
 
 -- those before one of them
 pub slots_before-past : (list : Medl) (script : Script) (n slot : ℕ) → slot ≤ n

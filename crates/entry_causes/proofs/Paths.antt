@@ -74,4 +74,5 @@ path-from list script slot x p some begins from started =
     path-down list script slot x some
     ∙ (λ i. path_step list script (slot - 1) x (begins i) (from i) (spot-in list script (slot - 1) x i))
     ∙ (λ i. record { slot = slot - 1; node = x }
-    ∷ or_path (started i) (node_spot p (slot_in list script (slot - 1))) (path p (past_slots_in list script (slot - 1))))
+    ∷ or_path (started i) (node_spot p (slot_in list script (slot - 1)))
+    (path p (past_slots_in list script (slot - 1))))

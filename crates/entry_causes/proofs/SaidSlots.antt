@@ -1,5 +1,6 @@
 -- What a node said before a slot is of a slot before it.
-use Rattle.std.proofs.Common.{◌≡◌, ℕ, zero, suc, ◌-◌, ◌<◌, ◌≤◌, Bool, true, false, cond, List, [], ◌∷◌, Option, None, Some}
+use Rattle.std.proofs.Common.{◌≡◌, ℕ, zero, suc, ◌-◌, ◌<◌, ◌≤◌, Bool, true, false}
+use Rattle.std.proofs.Common.{cond, List, [], ◌∷◌, Option, None, Some}
 use Rattle.std.proofs.Common.{ap, sym, ◌∙◌, subst, arith, refl, drop}
 use Rattle.causes.specs.Members.{if_join, newest_entry_of}
 use Rattle.causes.specs.RunSlots.{RunSlot, RunSlots, entry_in_slot, is_joined, is_started, node_spot}
@@ -32,7 +33,8 @@ said-slot list script (suc n) x j =
     let past = past_slots_in list script n in
     subst (λ (run : RunSlots). (said x j run).slot ≤ suc n - 1) (sym (past_slots_in-suc list script n))
     (let within =
-    step-slot (speaks_of x j (slot_in list script n)) (joined_from x (slot_in list script n)) (slot_in list script n) x n
+    step-slot (speaks_of x j (slot_in list script n))
+    (joined_from x (slot_in list script n)) (slot_in list script n) x n
     (said x j past) (λ p. said p j past) (slot_in-number list script n)
     (let before = said-slot list script n x j in omega (arith, before))
     (λ p. let before = said-slot list script n p j in omega (arith, before)) in

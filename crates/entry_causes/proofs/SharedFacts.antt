@@ -1,5 +1,6 @@
 -- What the frame that answered a node shares with it, by sets of nodes.
-use Rattle.std.proofs.Common.{◌≡◌, ℕ, ◌<◌, ◌≤◌, Bool, ◌&&◌, ◌||◌, ◌++◌, List, length, filter, map, not, Some, ap, sym, ◌∙◌}
+use Rattle.std.proofs.Common.{◌≡◌, ℕ, ◌<◌, ◌≤◌, Bool, ◌&&◌, ◌||◌, ◌++◌, List}
+use Rattle.std.proofs.Common.{length, filter, map, not, Some, ap, sym, ◌∙◌}
 use Rattle.std.proofs.Common.{arith}
 use Rattle.causes.specs.Members.{members_sent}
 use Rattle.causes.specs.OwnSlots.{lacked_since_own, lacked_too, rejected_peers, shared_by, slots_before_one}

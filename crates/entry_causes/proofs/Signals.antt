@@ -1,5 +1,6 @@
 -- What is heard on a channel, by the nodes of whose frames something remains there.
-use Rattle.std.proofs.Common.{◌≡◌, ℕ, ◌<◌, Bool, true, false, cond, not, ◌||◌, ◌&&◌, List, [], ◌∷◌, length, refl, ap, sym, subst, ◌∙◌}
+use Rattle.std.proofs.Common.{◌≡◌, ℕ, ◌<◌, Bool, true, false, cond, not, ◌||◌, ◌&&◌}
+use Rattle.std.proofs.Common.{List, [], ◌∷◌, length, refl, ap, sym, subst, ◌∙◌}
 use Rattle.std.proofs.Common.{arith, inl, inr}
 use Rattle.std.proofs.lemmas.Bool.{and_parts, cases_eq, eq-eqb, false≢true, ne_eqb}
 use Rattle.std.specs.List.{AllByRecursion, filter}
@@ -47,7 +48,8 @@ module _ (q : ℕ → Bool) where
   one-if : (b : Bool) (sent : SentFrame) (others : List SentFrame) (p : ℕ) → q sent.sender ≡ b
       → (senders_of (filter (λ sent. q sent.sender) others) ≡ p ∷ []
       → filter (λ sent. q sent.sender) others ≡ record { sender = p; bytes = bytes_sent others p } ∷ [])
-      → senders_of (cond b (sent ∷ filter (λ sent. q sent.sender) others) (filter (λ sent. q sent.sender) others)) ≡ p ∷ []
+      → senders_of (cond b (sent ∷ filter (λ sent. q sent.sender) others) (filter (λ sent. q sent.sender) others)) ≡ p
+      ∷ []
       → cond b (sent ∷ filter (λ sent. q sent.sender) others) (filter (λ sent. q sent.sender) others)
       ≡ record { sender = p; bytes = bytes_sent (sent ∷ others) p } ∷ []
   one-if true sent others p is rest here =
@@ -174,7 +176,8 @@ alone-sends list script slot c nodes p are one =
     let both = and_parts (left p) (has_node (below n) p) there in
     record {
       node = in-all n (below n) p (below-lt n) both.1;
-      sends = (and_parts (sends_in s p) (not (has_send_fault s.begun.script fault.Silence p c s.begun.number)) both.0).0;
+      sends = (and_parts (sends_in s p)
+          (not (has_send_fault s.begun.script fault.Silence p c s.begun.number)) both.0).0;
     }
 
 pub heard-in_slot : (list : Medl) (s : RunSlot) (p : ℕ) (h : Heard) → IsSender list s p → IsHeardFrom p h

@@ -1,5 +1,6 @@
 -- The slots since a node's own entry, one after another.
-use Rattle.std.proofs.Common.{◌≡◌, ℕ, zero, suc, ◌+◌, ◌-◌, ◌<◌, ◌≤◌, Bool, true, false, cond, [], ◌∷◌, length, take, filter}
+use Rattle.std.proofs.Common.{◌≡◌, ℕ, zero, suc, ◌+◌, ◌-◌, ◌<◌, ◌≤◌, Bool, true}
+use Rattle.std.proofs.Common.{false, cond, [], ◌∷◌, length, take, filter}
 use Rattle.std.proofs.Common.{ltb, ap, sym, ◌∙◌, refl, arith, inl, inr}
 use Rattle.std.proofs.lemmas.Bool.{cases_eq, le-ltb, lt-ltb}
 use Rattle.causes.specs.RunSlots.{RunSlot, RunSlots, back_to, entry_in_slot, since_own}
@@ -33,7 +34,8 @@ since-newest k (s ∷ before) =
     step : (b : Bool) (s : RunSlot) (before since back : RunSlots) → length back ≤ length before
         → since ≡ take (length before - length back) before
         → (elim b as (λ c. RunSlots) [ true ↦ [] | false ↦ s ∷ since ])
-        ≡ take (suc (length before) - length (elim b as (λ c. RunSlots) [ true ↦ s ∷ before | false ↦ back ])) (s ∷ before)
+        ≡ take (suc (length before)
+        - length (elim b as (λ c. RunSlots) [ true ↦ s ∷ before | false ↦ back ])) (s ∷ before)
     step true s before since back less is =
         let none : suc (length before) - suc (length before) ≡ 0 = omega arith in
         sym (ap (λ (n : ℕ). take n (s ∷ before)) none)
@@ -89,7 +91,8 @@ take-limit list script slot from limit is =
 
 -- those before one of them
 keep-all : (list : Medl) (script : Script) (slot n m : ℕ) → n ≤ slot
-    → filter (λ s. ltb s.begun.number slot) (take m (past_slots_in list script n)) ≡ take m (past_slots_in list script n)
+    → filter (λ s. ltb s.begun.number slot) (take m (past_slots_in list script n))
+    ≡ take m (past_slots_in list script n)
 keep-all list script slot zero zero within =
     ap (λ run. filter (λ s. ltb s.begun.number slot) (take 0 run)) (past_slots_in-zero list script)
     ∙ sym (ap (take 0) (past_slots_in-zero list script))
@@ -106,7 +109,8 @@ keep-all list script slot (suc n) (suc m) within =
     let rest = take m (past_slots_in list script n) in
     ap (λ run. filter (λ s. ltb s.begun.number slot) (take (suc m) run)) (past_slots_in-suc list script n)
     ∙ ap (λ (b : Bool).
-    cond b (slot_in list script n ∷ filter (λ s. ltb s.begun.number slot) rest) (filter (λ s. ltb s.begun.number slot) rest))
+    cond b (slot_in list script n ∷ filter (λ s. ltb s.begun.number slot) rest)
+    (filter (λ s. ltb s.begun.number slot) rest))
     here
     ∙ ap (λ (run : RunSlots). slot_in list script n ∷ run) (keep-all list script slot n m (omega (arith, within)))
     ∙ sym (ap (take (suc m)) (past_slots_in-suc list script n))

@@ -1,5 +1,6 @@
 -- Nodes that tell, and of differences the one that was said first.
-use Rattle.std.proofs.Common.{◌≡◌, ℕ, Bool, true, false, cond, List, [], ◌∷◌, ◌++◌, None, Some, length, refl, ap, sym, ◌∙◌}
+use Rattle.std.proofs.Common.{◌≡◌, ℕ, Bool, true, false, cond, List, [], ◌∷◌}
+use Rattle.std.proofs.Common.{◌++◌, None, Some, length, refl, ap, sym, ◌∙◌}
 use Rattle.std.proofs.Common.{◌<◌, ◌≤◌, ◌&&◌, arith, filter, map, not, option_map, subst}
 use Rattle.std.specs.Prelude.{◌==◌}
 use Rattle.causes.specs.Members.{Difference, difference_of, difference_reason, doubt_reason, earliest, is_earlier}

@@ -1,12 +1,14 @@
 -- The entries of a node's newest whole round that gave no clock, and the join that began its stint.
-use Rattle.std.proofs.Common.{◌≡◌, ℕ, suc, ◌+◌, ◌-◌, ◌<◌, ◌≤◌, Bool, true, false, cond, ◌&&◌, List, [], ◌∷◌, length, refl}
+use Rattle.std.proofs.Common.{◌≡◌, ℕ, suc, ◌+◌, ◌-◌, ◌<◌, ◌≤◌, Bool, true, false}
+use Rattle.std.proofs.Common.{cond, ◌&&◌, List, [], ◌∷◌, length, refl}
 use Rattle.std.proofs.Common.{take, drop, ap, sym, ◌∙◌, arith, inl, inr}
 use Rattle.std.proofs.lemmas.Bool.{cases_lt}
 use Rattle.std.proofs.lemmas.List.{take_all}
 use Rattle.std.specs.Prelude.{None, Option, Some, filter, nat_le}
 use Rattle.causes.specs.Clocks.{is_unread, stint_join, unread_before, unread_entries, was_averaged}
 use Rattle.causes.specs.Listening.{join_cause}
-use Rattle.causes.specs.RunSlots.{RunSlot, RunSlots, back_to, entry_in_slot, is_joined, node_spot, place_of_node, spots_at_node}
+use Rattle.causes.specs.RunSlots.{RunSlot, RunSlots, back_to, entry_in_slot, is_joined}
+use Rattle.causes.specs.RunSlots.{node_spot, place_of_node, spots_at_node}
 use Rattle.causes.specs.Sources.{has_sources, sources_of}
 use Rattle.causes.specs.declared.cause.Spot.{Spot}
 use Rattle.entry_causes.proofs.Past.{drop-past, spot-in, take-down, take-none}
@@ -21,7 +23,8 @@ use Rattle.ttp_world.specs.declared.script.Script.{Script}
 -- One slot after another.
 
 spots_if : (x : ℕ) (s : RunSlot) (keeps : Bool) (rest : RunSlots)
-    → spots_at_node x (cond keeps (s ∷ rest) rest) ≡ cond keeps (node_spot x s ∷ spots_at_node x rest) (spots_at_node x rest)
+    → spots_at_node x (cond keeps (s ∷ rest) rest)
+    ≡ cond keeps (node_spot x s ∷ spots_at_node x rest) (spots_at_node x rest)
 spots_if x s true rest = refl
 spots_if x s false rest = refl
 
@@ -29,7 +32,8 @@ unread-by : (list : Medl) (script : Script) (x stint at from : ℕ) (keeps : Boo
     → keeps ≡ (nat_le stint (at - 1) && is_unread list (entry_in_slot x (slot_in list script (at - 1))))
     → unread_in list x stint (take (at - from) (past_slots_in list script at))
     ≡ cond keeps
-    (record { slot = at - 1; node = x } ∷ unread_in list x stint (take (at - 1 - from) (past_slots_in list script (at - 1))))
+    (record { slot = at - 1; node = x }
+    ∷ unread_in list x stint (take (at - 1 - from) (past_slots_in list script (at - 1))))
     (unread_in list x stint (take (at - 1 - from) (past_slots_in list script (at - 1))))
 unread-by list script x stint at from keeps some is =
     let s = slot_in list script (at - 1) in
@@ -39,13 +43,15 @@ unread-by list script x stint at from keeps some is =
     ∙ spots_if x s (tells s) (filter tells rest)
     ∙ (λ i. cond (nat_le stint (slot_in-number list script (at - 1) i) && is_unread list (entry_in_slot x s))
     (spot-in list script (at - 1) x i ∷ unread_in list x stint rest) (unread_in list x stint rest))
-    ∙ ap (λ (b : Bool). cond b (record { slot = at - 1; node = x } ∷ unread_in list x stint rest) (unread_in list x stint rest))
+    ∙ ap (λ (b : Bool). cond b (record { slot = at - 1; node = x } ∷ unread_in list x stint rest)
+    (unread_in list x stint rest))
     (sym is)
 
 pub unread-in : (list : Medl) (script : Script) (x stint at from : ℕ) (keeps : Bool) → from < at
     → keeps ≡ (nat_le stint (at - 1) && is_unread list (entry_in_slot x (slot_in list script (at - 1)))) → keeps ≡ true
     → unread_in list x stint (take (at - from) (past_slots_in list script at))
-    ≡ record { slot = at - 1; node = x } ∷ unread_in list x stint (take (at - 1 - from) (past_slots_in list script (at - 1)))
+    ≡ record { slot = at - 1; node = x }
+    ∷ unread_in list x stint (take (at - 1 - from) (past_slots_in list script (at - 1)))
 unread-in list script x stint at from keeps some is here =
     let rest = unread_in list x stint (take (at - 1 - from) (past_slots_in list script (at - 1))) in
     unread-by list script x stint at from keeps some is
@@ -108,7 +114,8 @@ unread-round : (list : Medl) (script : Script) (slot x stint back : ℕ) (averag
     → averaged ≡ was_averaged x (slot_in list script (slot - back))
     → unread_entries x (slot_in list script slot) (past_slots_in list script slot)
     ≡ unless averaged
-    (unread_in list x stint (take (slot - back - (slot - back - length list.slots)) (past_slots_in list script (slot - back))))
+    (unread_in list x stint (take (slot - back - (slot - back - length list.slots))
+    (past_slots_in list script (slot - back))))
 unread-round list script slot x stint back averaged is same late averages =
     let first = slot - back in
     let next : slot + 1 - back ≡ suc first = omega (arith, late) in
@@ -130,7 +137,8 @@ pub unread-averaged : (list : Medl) (script : Script) (slot x stint back : ℕ) 
 unread-averaged list script slot x stint back averaged is same late averages here =
     unread-round list script slot x stint back averaged is same late averages
     ∙ ap (λ (b : Bool). unless b
-    (unread_in list x stint (take (slot - back - (slot - back - length list.slots)) (past_slots_in list script (slot - back)))))
+    (unread_in list x stint (take (slot - back - (slot - back - length list.slots))
+    (past_slots_in list script (slot - back)))))
     here
 
 pub unread-here : (list : Medl) (script : Script) (slot x stint back : ℕ) (averaged : Bool)
@@ -138,11 +146,13 @@ pub unread-here : (list : Medl) (script : Script) (slot x stint back : ℕ) (ave
     → back ≡ (place_of_node x (slot_in list script slot)).slot → back ≤ slot
     → averaged ≡ was_averaged x (slot_in list script (slot - back)) → averaged ≡ false
     → unread_entries x (slot_in list script slot) (past_slots_in list script slot)
-    ≡ unread_in list x stint (take (slot - back - (slot - back - length list.slots)) (past_slots_in list script (slot - back)))
+    ≡ unread_in list x stint
+    (take (slot - back - (slot - back - length list.slots)) (past_slots_in list script (slot - back)))
 unread-here list script slot x stint back averaged is same late averages other =
     unread-round list script slot x stint back averaged is same late averages
     ∙ ap (λ (b : Bool). unless b
-    (unread_in list x stint (take (slot - back - (slot - back - length list.slots)) (past_slots_in list script (slot - back)))))
+    (unread_in list x stint (take (slot - back - (slot - back - length list.slots))
+    (past_slots_in list script (slot - back)))))
     other
 
 -- The join that began a stint.
@@ -157,7 +167,8 @@ stint_join-none list script x slot none =
 
 pub stint_join-by : (list : Medl) (script : Script) (x slot : ℕ) (joins caused : Bool) → 0 < slot
     → joins ≡ is_joined (entry_in_slot x (slot_in list script (slot - 1)))
-    → caused ≡ has_sources (sources_of (join_cause x (slot_in list script (slot - 1)) (past_slots_in list script (slot - 1))))
+    → caused ≡ has_sources (sources_of
+    (join_cause x (slot_in list script (slot - 1)) (past_slots_in list script (slot - 1))))
     → stint_join x (past_slots_in list script slot) ≡ if_at (joins && caused) (slot - 1)
 stint_join-by list script x slot joins caused some joined causes =
     ap (stint_join x) (past_slots_in-down list script slot some)

@@ -1,6 +1,7 @@
 -- What is said of two clocks, one part after another.
 use Rattle.std.specs.Prelude.{List, [], filter, flat_map, map, nat_le, ℕ, ◌&&◌, ◌++◌, ◌∷◌}
-use Rattle.causes.specs.Clocks.{NotedClock, error_lines, is_unread, jumps_borne, lower_first, noted_clock, outside_drift_lines}
+use Rattle.causes.specs.Clocks.{NotedClock, error_lines, is_unread, jumps_borne}
+use Rattle.causes.specs.Clocks.{lower_first, noted_clock, outside_drift_lines}
 use Rattle.causes.specs.RunSlots.{RunSlot, RunSlots, entry_in_slot, spots_at_node}
 use Rattle.causes.specs.declared.cause.ClockNote.{ClockNote}
 use Rattle.causes.specs.declared.cause.ScriptLine.{ScriptLine}

@@ -1,6 +1,6 @@
 -- A job goes from the giver to the worker and back. The first word says how far it is: 1 where it is given, 4 where the
--- worker has begun it, and 2 where it is done. While no job is out it is 0 or 2, and 3 once the giver has stopped. The two
--- others say whether an end sleeps, and the rule says nothing of them.
+-- worker has begun it, and 2 where it is done. While no job is out it is 0 or 2, and 3 once the giver has stopped. The
+-- two others say whether an end sleeps, and the rule says nothing of them.
 use Rattle.std.specs.Prelude.{◌≡◌, ◌≢◌, ◌⊎◌, ℕ, List, [], ◌∷◌, Option, Some, None}
 use mathlib.Core.Option.{some}
 use mathlib.Core.Option as maybe
@@ -71,15 +71,19 @@ module _ {J : Type 0} where
     Stage n h Ended a w b = ⊥
 
     abbrev pub Turns : State (Option J) (Note J) → Type 0
-    Turns s = (s ≡ alone) ⊎ ((n : ℕ) × (p : ℕ) × (q : ℕ) × (h : maybe.Option (Option J)) × (r : Role) × (a : Option J) × (w : Role) × (b : Option J) × (s ≡ paired n p q h (note r a) (note w b)) × Stage n h r a w b)
+    Turns s = (s ≡ alone) ⊎ ((n : ℕ) × (p : ℕ) × (q : ℕ) × (h : maybe.Option (Option J)) × (r : Role) × (a : Option J)
+        × (w : Role) × (b : Option J) × (s ≡ paired n p q h (note r a) (note w b)) × Stage n h r a w b)
 
     -- the giver looks: at 2 it has the slot, in which is what work made of the job
     abbrev pub fetched : Me (Option J) (Note J) → ℕ → Me (Option J) (Note J) → Type 0
-    fetched m n m' = (n ≡ 2 → (k : J) × (m' ≡ laden Gives None (Some k)) × ((j : J) → m.0.job ≡ Some j → does j k)) × (n ≢ 2 → m' ≡ m)
+    fetched m n m' = (n ≡ 2 → (k : J) × (m' ≡ laden Gives None (Some k))
+        × ((j : J) → m.0.job ≡ Some j → does j k)) × (n ≢ 2 → m' ≡ m)
 
-    -- the giver takes back a job that was not begun: at 1 it has the slot, with the job as it was given; else it was begun
+    -- the giver takes back a job that was not begun: at 1 it has the slot, with the job as it was given; else it was
+    -- begun
     abbrev pub brought : Me (Option J) (Note J) → ℕ → Me (Option J) (Note J) → Type 0
-    brought m n m' = (n ≡ 1 → (j : J) × (m.0.job ≡ Some j) × (m' ≡ laden Gives None (Some j)) × needs j) × (n ≢ 1 → m' ≡ bare Awaits m.0.job)
+    brought m n m' = (n ≡ 1 → (j : J) × (m.0.job ≡ Some j) × (m' ≡ laden Gives None (Some j)) × needs j)
+        × (n ≢ 1 → m' ≡ bare Awaits m.0.job)
 
     -- the worker begins a job: at 1 it has the slot, with the job
     abbrev pub took : Me (Option J) (Note J) → ℕ → Me (Option J) (Note J) → Type 0

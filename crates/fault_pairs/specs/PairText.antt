@@ -1,5 +1,5 @@
--- The text of all pairs: a head, the line of the script's own run, for each first fault the lines of its pairs that have one
--- and its own, and the sums.
+-- The text of all pairs: a head, the line of the script's own run, for each first fault the lines of its pairs that
+-- have one and its own, and the sums.
 use Rattle.std.specs.Prelude.{ℕ, not, List, [], ◌∷◌, ◌++◌, map, flat_map, filter, length, codes, decimal}
 use Rattle.ttp_base.specs.NodeSet.{has_node}
 use Rattle.ttp_base.specs.Text.{Lines, newline}
@@ -67,7 +67,8 @@ pair_place class slot apart one two =
 -- what its faults cost alone, and the third nodes
 abbrev pub pair_harms : ℕ → ℕ → List ℕ → List ℕ
 pair_harms one two third =
-    codes " alone " ++ decimal one ++ codes " " ++ decimal two ++ codes " third " ++ listed (map decimal third) ++ codes " "
+    codes " alone " ++ decimal one ++ codes " " ++ decimal two ++ codes " third "
+    ++ listed (map decimal third) ++ codes " "
 
 -- the two faults
 abbrev pub pair_faults : Event → Event → List ℕ

@@ -1,5 +1,5 @@
--- The pairs of faults that are tried: each fault that a campaign tries is the first of some, and what is tried behind it, in
--- its slot or up to so many slots later, is the second.
+-- The pairs of faults that are tried: each fault that a campaign tries is the first of some, and what is tried behind
+-- it, in its slot or up to so many slots later, is the second.
 use Rattle.std.specs.Prelude.{ℕ, suc, ◌+◌, ◌-◌, List, [], ◌∷◌, ◌++◌, map, flat_map}
 use Rattle.ttp_world.specs.declared.medl.Medl.{Medl}
 use Rattle.ttp_world.specs.declared.script.Event.{Event}

@@ -7,8 +7,8 @@ use Rattle.fault_pairs.specs.declared.pair.PairClass.{PairClass}
 use Rattle.fault_pairs.specs.declared.pair.PairCounts.{PairCounts}
 use Rattle.fault_pairs.specs.Classes.{is_sum, is_less, is_own, is_divided, is_third, is_torn_pair, is_dead_pair}
 
--- What is told of a pair: how many slots its faults are apart, what the test of the script with both says, its class, and the
--- line that it has where its class has one.
+-- What is told of a pair: how many slots its faults are apart, what the test of the script with both says, its class,
+-- and the line that it has where its class has one.
 pub record PairTold : Type 0 where
   pub apart : ℕ
   pub yes : Bool

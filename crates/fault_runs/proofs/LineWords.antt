@@ -62,7 +62,8 @@ fault-behind list script fault cost text words are =
     ap (λ (w : List ℕ). (w ++ fault_words fault) ++ newline) (append_assoc text (place_words fault) run)
     ∙ ap (λ (w : List ℕ). w ++ newline) (append_assoc text (place_words fault ++ run) (fault_words fault))
     ∙ append_assoc text ((place_words fault ++ run) ++ fault_words fault) newline
-    ∙ ap (λ (w : List ℕ). text ++ ((place_words fault ++ run_words (test_words list script) w) ++ fault_words fault ++ newline)) are
+    ∙ ap (λ (w : List ℕ). text
+    ++ ((place_words fault ++ run_words (test_words list script) w) ++ fault_words fault ++ newline)) are
 
 -- eight texts behind another, one after another
 pub eight-behind : (text a b c d e f g h : List ℕ)

@@ -30,7 +30,8 @@ listed-joined (word ∷ words) = sym (append-nil (joined (word ∷ words)))
 pub listed-behind : (text : List ℕ) (words : List (List ℕ))
     → (text ++ joined words) ++ dash_for (length words) ≡ text ++ listed words
 listed-behind text words =
-    append_assoc text (joined words) (dash_for (length words)) ∙ ap (λ (w : List ℕ). text ++ w) (sym (listed-joined words))
+    append_assoc text (joined words) (dash_for (length words))
+    ∙ ap (λ (w : List ℕ). text ++ w) (sym (listed-joined words))
 
 pub joined-behind : (text : List ℕ) (words : List (List ℕ)) (word : List ℕ)
     → ((text ++ joined words) ++ comma_before (length words)) ++ word ≡ text ++ joined (words ++ word ∷ [])
@@ -47,7 +48,8 @@ pub listed-step : {X : Type 0} (word : X → List ℕ) (text : List ℕ) (xs : L
     → after ≡ text ++ joined (map word (take (place + 1) xs))
 listed-step word text xs place d before comma after inside told put_comma put_word =
     let words = map word (take place xs) in
-    let count : length words ≡ place = length-map (take place xs) word ∙ length-take-le place xs (omega (arith, inside)) in
+    let count : length words ≡ place =
+    length-map (take place xs) word ∙ length-take-le place xs (omega (arith, inside)) in
     put_word
     ∙ ap (λ (w : List ℕ). w ++ word (get_or xs place d))
     (put_comma ∙ (λ i. told i ++ comma_before (sym count i)))

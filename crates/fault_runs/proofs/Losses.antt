@@ -134,8 +134,10 @@ module _ (script : Script) (slot : ℕ) (e : Event) (is : is_loss_in slot e ≡ 
 -- It begins in its slot.
 
 pub loss-begins : (slot : ℕ) (e : Event) → is_loss_in slot e ≡ true → begins_at e ≡ slot
-loss-begins slot (event.Send node channels f from to) is = eqb-true from slot (and_parts (from == slot) (to == slot) is).0
-loss-begins slot (event.Receive node channels f from to) is = eqb-true from slot (and_parts (from == slot) (to == slot) is).0
+loss-begins slot (event.Send node channels f from to) is =
+    eqb-true from slot (and_parts (from == slot) (to == slot) is).0
+loss-begins slot (event.Receive node channels f from to) is =
+    eqb-true from slot (and_parts (from == slot) (to == slot) is).0
 loss-begins slot (event.Flip node channels bit at) is = absurd (false≢true is)
 loss-begins slot (event.Error node value from to) is = absurd (false≢true is)
 loss-begins slot (event.Jump node value at) is = absurd (false≢true is)

@@ -1,5 +1,6 @@
 -- Where all nodes hold one membership, or none, so do some of them.
-use Rattle.std.proofs.Common.{◌≡◌, ℕ, Bool, true, false, cond, not, ◌&&◌, ◌||◌, List, [], ◌∷◌, Some, None, refl, ap, sym}
+use Rattle.std.proofs.Common.{◌≡◌, ℕ, Bool, true, false, cond, not, ◌&&◌, ◌||◌}
+use Rattle.std.proofs.Common.{List, [], ◌∷◌, Some, None, refl, ap, sym}
 use Rattle.std.proofs.Common.{subst, ◌∙◌}
 use Rattle.std.specs.List.{filter_map, cons_option, list_any}
 use Rattle.std.specs.Str.{bytes_eq}
@@ -64,7 +65,9 @@ module _ (list : Medl) (history : History) (among : ℕ → Bool) where
       (some-members [] (nodes_of list) (subst (AreAll []) (sym are) tt))
   by-first (m ∷ all) are none =
       not-two m (filter_map (firm_members list history among) (nodes_of list))
-      (some-members m (nodes_of list) (subst (AreAll m) (sym are) (refl, all-same m all (sym (two-others m all) ∙ none))))
+      (some-members m (nodes_of list)
+      (subst (AreAll m) (sym are) (refl, all-same m all (sym (two-others m all) ∙ none))))
 
-  pub still-one : has_two (memberships list history (λ k. true)) ≡ false → has_two (memberships list history among) ≡ false
+  pub still-one : has_two (memberships list history (λ k. true)) ≡ false
+      → has_two (memberships list history among) ≡ false
   still-one none = by-first (filter_map (firm_members list history (λ k. true)) (nodes_of list)) refl none

@@ -1,7 +1,8 @@
 -- The faults of a range of slots, slot by slot.
 use Rattle.fault_runs.proofs.Words.{◌≡◌, ℕ, ◌+◌, ◌*◌, ◌<◌, ◌≤◌, Bool, true, false, cond, ◌&&◌, List, [], ◌∷◌, ◌++◌}
 use Rattle.fault_runs.proofs.Words.{length, get_or, refl, ap, sym, subst, ◌∙◌, arith, map, filter, nat_le, IsValid}
-use Rattle.fault_runs.proofs.Words.{append-nil, list_any, length-append, inl, inr, get_or-map, length-map, below, Medl, Entry}
+use Rattle.fault_runs.proofs.Words.{append-nil, list_any, length-append, inl, inr}
+use Rattle.fault_runs.proofs.Words.{get_or-map, length-map, below, Medl, Entry}
 use Rattle.fault_runs.proofs.Words.{Script, History, faults_in, row_of, zeros_world, tried_in, tried_before, entries_of}
 use Rattle.std.proofs.Common.{zero, suc, ◌-◌}
 use Rattle.std.specs.Prelude.{All, flat_map, min}
@@ -120,7 +121,8 @@ zeros-row list script slot (suc slots) within = elim (cases_eq slot slots) [
       ∙ zeros-row list script slot slots less
 ]
 
-pub length-next_row : (list : Medl) (script : Script) (slot : ℕ) → length (next_row list script slot) ≡ length list.slots
+pub length-next_row : (list : Medl) (script : Script) (slot : ℕ)
+    → length (next_row list script slot) ≡ length list.slots
 length-next_row list script slot = length-map-range_with_len _ 0 (length list.slots)
 
 -- what is shown of the nodes after a slot says what they did in it
@@ -153,7 +155,8 @@ tried-stand list script first last slot valid inside = stand (nat_le first slot 
 
 -- No slot behind the range has any.
 
-tried-past : (list : Medl) (script : Script) (first last slot : ℕ) → last < slot → tried_in list script first last slot ≡ []
+tried-past : (list : Medl) (script : Script) (first last slot : ℕ) → last < slot
+    → tried_in list script first last slot ≡ []
 tried-past list script first last slot past =
     let faults = faults_in list script (row_of (zeros_world list script script.slots) slot) slot in
     ap (λ b. cond b faults []) (and_right (nat_le first slot) (nat_le slot last) (lt-leb slot last past))

@@ -1,5 +1,5 @@
--- A history under two scripts that differ in what is lost alone, in slots in which nobody waits: what is read of a node's
--- past is the same.
+-- A history under two scripts that differ in what is lost alone, in slots in which nobody waits: what is read of a
+-- node's past is the same.
 use Rattle.std.proofs.Common.{◌≡◌, ℕ, ◌+◌, ◌+ℤ◌, ◌-ℤ◌, ℤ, true, false, List, [], ◌∷◌, length, get_or, refl, ap, ◌∙◌}
 use Rattle.std.specs.Prelude.{map}
 use Rattle.ttp_base.specs.NodeSet.{below}
@@ -92,7 +92,8 @@ module _ (list : Medl) (one other : Script) where
     nodes-near = λ i. map (λ (k : ℕ). node_after-near k i) (below (length list.slots))
 
     frames-near : frames_in (slot_after list one history) chosen ≡ frames_in (slot_after list other history) chosen
-    frames-near = λ i. frames_in (record { list = list; script = one; number = length history; nodes = nodes-near i }) chosen
+    frames-near = λ i. frames_in
+        (record { list = list; script = one; number = length history; nodes = nodes-near i }) chosen
 
     hearing-near : (r : ℕ) → hearing_in (slot_after list one history) (frames_in (slot_after list one history) chosen) r
         ≡ hearing_in (slot_after list other history) (frames_in (slot_after list other history) chosen) r

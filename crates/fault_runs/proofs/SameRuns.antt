@@ -25,7 +25,8 @@ use Rattle.run_costs.proofs.Later.{zeros-longer}
 use Rattle.run_costs.proofs.Nodes.{filter_map_agree-below}
 use Rattle.run_costs.proofs.Rows.{next_row, zeros-next}
 use Rattle.ttp_world.proofs.ZerosWorlds.{length-zeros_world}
-use Rattle.fault_runs.specs.Merging.{has_just_left, is_waiting, is_left_entry, is_loss_in, IsSameDeed, HasSettledAt, IsSettledFrom}
+use Rattle.fault_runs.specs.Merging.{has_just_left, is_waiting, is_left_entry, is_loss_in}
+use Rattle.fault_runs.specs.Merging.{IsSameDeed, HasSettledAt, IsSettledFrom}
 use Rattle.fault_runs.proofs.Losses.{jumps-alike, alike-other}
 use Rattle.fault_runs.proofs.OneMembership.{still-one}
 use Rattle.fault_runs.proofs.Ranges.{length-next_row}
@@ -81,7 +82,8 @@ module _ (list : Medl) (script : Script) (e : Event) (slot : ℕ) (is : is_loss_
 
 -- A settled slot adds nothing to what a run costs, whoever is faulty.
 
-leave-still : (k slot : ℕ) (e : Entry) (before : Option Leave) → is_left_entry e ≡ false → leave_after k slot e before ≡ before
+leave-still : (k slot : ℕ) (e : Entry) (before : Option Leave) → is_left_entry e
+    ≡ false → leave_after k slot e before ≡ before
 leave-still k slot (entry.Left reason peer) before stays = absurd (false≢true (sym stays))
 leave-still k slot _ before stays = refl
 
@@ -90,7 +92,8 @@ hurt-still : (list : Medl) (script : Script) (slot k : ℕ) (e : Entry) → is_l
 hurt-still list script slot k (entry.Left reason peer) stays = absurd (false≢true (sym stays))
 hurt-still list script slot k _ stays = refl
 
-module _ (list : Medl) (script : Script) (row : List Entry) (history : History) (settled : HasSettledAt list (row ∷ history)) where
+module _ (list : Medl) (script : Script) (row : List Entry) (history : History)
+    (settled : HasSettledAt list (row ∷ history)) where
   leaves-still : leaves list (row ∷ history) ≡ leaves list history
   leaves-still =
       filter_map_agree-below (newest_leave (row ∷ history)) (newest_leave history) (length list.slots)
@@ -191,7 +194,8 @@ module _ (list : Medl) (script : Script) (e : Event) (slot : ℕ) (begins : slot
   rows-same =
       let own_row = length-next_row list script slot in
       let now_row = length-next_row list (with_fault script e) slot in
-      ext_get_or entry.Off (next_row list script slot) (next_row list (with_fault script e) slot) (own_row ∙ sym now_row)
+      ext_get_or entry.Off (next_row list script slot)
+      (next_row list (with_fault script e) slot) (own_row ∙ sym now_row)
       (λ k inside.
       let node : k < length list.slots = omega (arith, inside, own_row) in
       ap (λ (r : List Entry). entry_of r k) (sym own) ∙ sym (deeds k (omega (arith, node, told.count))).same
@@ -214,7 +218,8 @@ module _ (list : Medl) (script : Script) (e : Event) (slot : ℕ) (begins : slot
   ]
 
 -- So the cost of the whole run is that of the slots up to it, with the memberships that are left in the own run.
-pub merged-cost : (list : Medl) (script : Script) (e : Event) (slot settled : ℕ) (row : List Entry) (now : List NodeState)
+pub merged-cost : (list : Medl) (script : Script) (e : Event) (slot settled : ℕ)
+    (row : List Entry) (now : List NodeState)
     (end : List (List ℕ)) (cost : Cost) → is_loss_in slot e ≡ true → slot ≤ begins_at e → slot < script.slots
     → settled ≤ slot + 1 → IsSettledFrom list script settled → end ≡ (summary list script).cost.end
     → row ≡ next_row list script slot

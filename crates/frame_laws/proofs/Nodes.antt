@@ -1,5 +1,6 @@
 -- Which nodes have a line on a channel.
-use Rattle.std.proofs.Common.{◌≡◌, ℕ, ◌<◌, Bool, true, false, cond, List, [], ◌∷◌, length, map, refl, ap, sym, subst, ◌∙◌}
+use Rattle.std.proofs.Common.{◌≡◌, ℕ, ◌<◌, Bool, true, false, cond, List, []}
+use Rattle.std.proofs.Common.{◌∷◌, length, map, refl, ap, sym, subst, ◌∙◌}
 use Rattle.std.specs.Prelude.{◌&&◌, not}
 use Rattle.ttp_world.specs.declared.medl.Medl.{Medl}
 use Rattle.ttp_world.specs.declared.node.Chosen.{Chosen}
@@ -27,7 +28,8 @@ use Rattle.bus_frames.proofs.Sent.{frames-sent, sends, sends-by, silent-by}
 use Rattle.bus_frames.proofs.States.{members-nodes, state_after}
 use Rattle.bus_frames.proofs.Told.{state-by}
 
-module _ (list : Medl) (script : Script) (before : History) (chosen : List Chosen) (k : ℕ) (node : k < length list.slots)
+module _ (list : Medl) (script : Script) (before : History)
+    (chosen : List Chosen) (k : ℕ) (node : k < length list.slots)
   where
     abbrev row : List Entry
     row = row_in (slot_after list script before) chosen
@@ -77,7 +79,8 @@ module _ (list : Medl) (script : Script) (before : History) (chosen : List Chose
     counted c there false is =
         ap (λ (fs : List SentFrame). length (map (bus_line list script before c there)
         (remaining_frames script (length before) c fs)))
-        (silent-by (node_of (slot_after list script before) k).act (frames_told list script row before k) (entry_of row k)
+        (silent-by (node_of (slot_after list script before) k).act
+        (frames_told list script row before k) (entry_of row k)
         acts is)
 
     pub line-counted : (c : Channel) (there : List SentFrame)

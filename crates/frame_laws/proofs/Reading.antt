@@ -1,5 +1,6 @@
 -- A line with bytes is read back.
-use Rattle.std.proofs.Common.{◌≡◌, ℕ, zero, suc, ◌+◌, ◌-◌, ◌*◌, ◌/◌, ◌%◌, ◌^◌, ◌<◌, ◌≤◌, Bool, true, false, cond, ◌&&◌, not}
+use Rattle.std.proofs.Common.{◌≡◌, ℕ, zero, suc, ◌+◌, ◌-◌, ◌*◌, ◌/◌, ◌%◌, ◌^◌}
+use Rattle.std.proofs.Common.{◌<◌, ◌≤◌, Bool, true, false, cond, ◌&&◌, not}
 use Rattle.std.proofs.Common.{List, [], ◌∷◌, ◌++◌, length, take, drop, codes, get_or, refl, ap, sym, subst, ◌∙◌, arith}
 use Rattle.std.proofs.Common.{append_assoc, true≢false, length-append, length-take, length-drop, decimal}
 use Rattle.std.specs.Prelude.{◌==◌, nat_le, nat_lt, ℤ, unsigned_abs, if◌then◌else◌}
@@ -27,10 +28,13 @@ use Rattle.ttp_frame.specs.declared.judging.FrameMatch.{FrameMatch}
 use Rattle.ttp_frame.specs.declared.judging.FrameMatch.TheVariants.{Match, Differs, Invalid}
 use Rattle.ttp_frame.proofs.Frames.{length-cstate_bytes}
 use Rattle.bus_frames.specs.declared.sending.Sending.{Sending}
-use Rattle.bus_frames.specs.FrameText.{byte_words, channel_letter, found_word, frame_kind, line_front, match_word, signal_line}
+use Rattle.bus_frames.specs.FrameText.{byte_words, channel_letter, found_word, frame_kind}
+use Rattle.bus_frames.specs.FrameText.{line_front, match_word, signal_line}
 use Rattle.bus_frames.specs.FrameText.{spaced}
-use Rattle.frame_laws.specs.Reading.{FrameParts, IsReadBack, IsToldFrame, byte_form, byte_values, bytes_of_parts, frame_form}
-use Rattle.frame_laws.specs.Reading.{frame_values, kind_place, kinds, letter_place, letters, match_place, matches, frame_parts}
+use Rattle.frame_laws.specs.Reading.{FrameParts, IsReadBack, IsToldFrame, byte_form}
+use Rattle.frame_laws.specs.Reading.{byte_values, bytes_of_parts, frame_form}
+use Rattle.frame_laws.specs.Reading.{frame_values, kind_place, kinds, letter_place}
+use Rattle.frame_laws.specs.Reading.{letters, match_place, matches, frame_parts}
 
 -- Words.
 
@@ -74,7 +78,8 @@ match-few Invalid = refl
 
 -- Bytes.
 
-all-append : (xs ys : List ℕ) → list_all is_byte xs ≡ true → list_all is_byte ys ≡ true → list_all is_byte (xs ++ ys) ≡ true
+all-append : (xs ys : List ℕ) → list_all is_byte xs ≡ true → list_all is_byte ys
+    ≡ true → list_all is_byte (xs ++ ys) ≡ true
 all-append [] ys x y = y
 all-append (b ∷ xs) ys x y =
     let t = and_parts (is_byte b) (list_all is_byte xs) x in
@@ -108,7 +113,8 @@ state-bytes width c =
     let slot = big_endian 1 c.slot in
     let members = big_endian width (set_bits c.members) in
     all-append (time ++ round ++ slot) members
-    (all-append (time ++ round) slot (all-append time round (bytes-are 2 c.time) (bytes-are 1 c.round)) (bytes-are 1 c.slot))
+    (all-append (time ++ round) slot
+    (all-append time round (bytes-are 2 c.time) (bytes-are 1 c.round)) (bytes-are 1 c.slot))
     (bytes-are width (set_bits c.members))
 
 -- Texts.
@@ -224,7 +230,8 @@ are-parts width header size bytes long are =
 
 fits-payload : (most : ℕ) (bytes : List ℕ) → length bytes ≤ most → list_all is_byte bytes ≡ true
     → fits_kind (payload most) bytes ≡ true
-fits-payload most bytes few are = both_true (nat_le (length bytes) most) (list_all is_byte bytes) (is_le (length bytes) most few) are
+fits-payload most bytes few are =
+    both_true (nat_le (length bytes) most) (list_all is_byte bytes) (is_le (length bytes) most few) are
 
 module _ (wide : Bool) (header size : ℕ) (parts : FrameParts) (are : AreParts (member_bytes wide) header size parts)
     (few : size ≤ 240) where
@@ -263,10 +270,12 @@ module _ (list : Medl) (slot : ℕ) (c : Channel) (sending : Sending) (bytes : L
   parts : FrameParts
   parts = frame_parts (member_width list) sending.header sending.size bytes
 
-  are : AreParts (member_width list) sending.header sending.size (frame_parts (member_width list) sending.header sending.size bytes)
+  are : AreParts (member_width list) sending.header sending.size
+      (frame_parts (member_width list) sending.header sending.size bytes)
   are = are-parts (member_width list) sending.header sending.size bytes told.long told.are
 
-  fits-all : fit (frame_form (is_explicit sending.header) (not (sending.size == 0))) (frame_values list slot c sending bytes)
+  fits-all : fit (frame_form (is_explicit sending.header) (not (sending.size == 0)))
+      (frame_values list slot c sending bytes)
       ≡ true
   fits-all =
       let m = match_of (is_wide list) bytes sending.header sending.size list.schedule sending.state in
@@ -282,12 +291,14 @@ module _ (list : Medl) (slot : ℕ) (c : Channel) (sending : Sending) (bytes : L
         is_lt (unsigned_abs sending.clock) (10 ^ 18) told.clock,
         fits-payload 7 state (omega (arith, long, short)) (state-bytes (member_width list) sending.state),
         fits-parts (is_wide list) sending.header sending.size
-            (frame_parts (member_width list) sending.header sending.size bytes) are told.size (is_explicit sending.header)
+            (frame_parts (member_width list) sending.header sending.size bytes)
+            are told.size (is_explicit sending.header)
             (not (sending.size == 0)),
       ) refl
 
   text-is : (k : ℕ) → signal_line list slot c sending (Bits k bytes)
-      ≡ spelled_line (frame_form (is_explicit sending.header) (not (sending.size == 0))) (frame_values list slot c sending bytes)
+      ≡ spelled_line (frame_form (is_explicit sending.header) (not (sending.size == 0)))
+      (frame_values list slot c sending bytes)
   text-is k =
       let m = match_of (is_wide list) bytes sending.header sending.size list.schedule sending.state in
       let state = hex_bytes (cstate_bytes (member_width list) sending.state) in
@@ -315,7 +326,8 @@ module _ (list : Medl) (slot : ℕ) (c : Channel) (sending : Sending) (bytes : L
   pub read-back : (k : ℕ) → IsReadBack list slot c sending bytes (signal_line list slot c sending (Bits k bytes))
   read-back k = record {
     text = text-is k;
-    read = read_again (frame_form (is_explicit sending.header) (not (sending.size == 0))) (frame_values list slot c sending bytes)
+    read = read_again (frame_form (is_explicit sending.header) (not (sending.size == 0)))
+        (frame_values list slot c sending bytes)
         (well-form (is_explicit sending.header) (not (sending.size == 0))) fits-all;
     whole = whole-parts (carried_length (member_width list) sending.header) sending.size bytes;
   }

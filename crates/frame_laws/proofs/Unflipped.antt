@@ -1,5 +1,6 @@
 -- A frame of which no bit is flipped is a frame of the C-state with which it was sent.
-use Rattle.std.proofs.Common.{◌≡◌, ℕ, ◌<◌, Bool, true, false, cond, List, [], ◌∷◌, length, codes, refl, ap, sym, subst, ◌∙◌}
+use Rattle.std.proofs.Common.{◌≡◌, ℕ, ◌<◌, Bool, true, false, cond, List, []}
+use Rattle.std.proofs.Common.{◌∷◌, length, codes, refl, ap, sym, subst, ◌∙◌}
 use Rattle.std.proofs.Common.{suc, get_or, Option, Some, None, if◌then◌else◌, arith, true≢false}
 use Rattle.std.specs.Prelude.{◌==◌}
 use Rattle.std.proofs.lemmas.List.FromFn.{get_or-map-range_with_len}
@@ -64,7 +65,8 @@ told-size : (list : Medl) (script : Script) (slot k : ℕ) (told : Option ℕ) �
 told-size list script slot k None valid there = absurd there
 told-size list script slot k (Some i) valid there = message_sizes list script k (suc slot) valid i [] there
 
-module _ (list : Medl) (script : Script) (new : SlotNumbers) (numbers : Numbers) (valid_script : IsValidScript list script)
+module _ (list : Medl) (script : Script) (new : SlotNumbers) (numbers : Numbers)
+    (valid_script : IsValidScript list script)
     (legal : IsLegal list script (new ∷ numbers)) (k : ℕ) (node : k < length list.slots) where
   abbrev before : History
   before = world list script numbers
@@ -105,7 +107,8 @@ module _ (list : Medl) (script : Script) (new : SlotNumbers) (numbers : Numbers)
       long-payload size (size == 0) (chosen_of (messages_of list script (length before) row) k).payload refl
       (λ some. ap (λ (cs : List Chosen). length (chosen_of cs k).payload) told-chosen
       ∙ ap (λ (c : Chosen). length c.payload)
-      (get_or-map-range_with_len (λ j. message_chosen list script slot j (get_or new.sent j None)) 0 (length list.slots) k k
+      (get_or-map-range_with_len
+      (λ j. message_chosen list script slot j (get_or new.sent j None)) 0 (length list.slots) k k
       nothing_chosen node (omega arith))
       ∙ told-size list script slot k (get_or new.sent k None) valid_script
       ((legal-names list script (new ∷ numbers) legal).0 k node (loaded-by list n.past n.act acts some))

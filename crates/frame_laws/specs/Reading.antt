@@ -1,5 +1,6 @@
 -- The way back: what the words of a line with bytes say.
-use Rattle.std.specs.Prelude.{◌≡◌, ℕ, ◌+◌, ◌^◌, ◌<◌, ◌≤◌, ◌==◌, ℤ, unsigned_abs, Bool, true, false, not, List, [], ◌∷◌, ◌++◌}
+use Rattle.std.specs.Prelude.{◌≡◌, ℕ, ◌+◌, ◌^◌, ◌<◌, ◌≤◌, ◌==◌, ℤ, unsigned_abs}
+use Rattle.std.specs.Prelude.{Bool, true, false, not, List, [], ◌∷◌, ◌++◌}
 use Rattle.std.specs.Prelude.{length, take, drop, codes, Some, if◌then◌else◌}
 use Rattle.std.specs.List.{list_all}
 use Rattle.line_form.specs.Forms.{LineForm, ◌▸◌, Values, line_values, spelled, spelled_line}
@@ -84,8 +85,8 @@ byte_values true false parts = (parts.header, (parts.state, (parts.check, tt)))
 byte_values false true parts = (parts.header, (parts.load, (parts.check, tt)))
 byte_values false false parts = (parts.header, (parts.check, tt))
 
--- What a line says: the slot, the channel, the sender, its kind of frame, what the bytes are to a receiver that expects a
--- frame of this kind and size with the C-state that is told, the sender's clock and C-state, and the bytes.
+-- What a line says: the slot, the channel, the sender, its kind of frame, what the bytes are to a receiver that expects
+-- a frame of this kind and size with the C-state that is told, the sender's clock and C-state, and the bytes.
 abbrev pub frame_values : (list : Medl) → ℕ → Channel → (sending : Sending) → List ℕ
     → Values (frame_form (is_explicit sending.header) (not (sending.size == 0)))
 frame_values list slot c sending bytes = (
@@ -127,6 +128,7 @@ pub record IsReadBack (list : Medl) (slot : ℕ) (c : Channel) (sending : Sendin
       ≡ spelled_line (frame_form (is_explicit sending.header) (not (sending.size == 0)))
       (frame_values list slot c sending bytes)
   pub read : line_values (frame_form (is_explicit sending.header) (not (sending.size == 0)))
-      (spelled (frame_form (is_explicit sending.header) (not (sending.size == 0))) (frame_values list slot c sending bytes))
+      (spelled (frame_form (is_explicit sending.header) (not (sending.size == 0)))
+      (frame_values list slot c sending bytes))
       ≡ Some (frame_values list slot c sending bytes)
   pub whole : bytes_of_parts (frame_parts (member_width list) sending.header sending.size bytes) ≡ bytes

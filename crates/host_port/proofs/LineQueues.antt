@@ -68,7 +68,8 @@ pub next_some : (calls : List Source) (i : ℕ) (from : Source) (queues : List (
 next_some calls i from queues within here queued =
     let next : drop i calls ≡ from ∷ drop (i + 1) calls =
     drop_more calls i from within ∙ ap (λ f. f ∷ drop (i + 1) calls) (sym here) in
-    let counted = ap (calls_at (source_place from)) next ∙ calls_at-here (source_place from) from (drop (i + 1) calls) refl in
+    let counted = ap (calls_at (source_place from)) next
+    ∙ calls_at-here (source_place from) from (drop (i + 1) calls) refl in
     omega (arith, queued (source_place from), counted)
 
 pairs_at-here : (place : ℕ) (lines : List ReadLine) (line : ReadLine) → source_place line.source ≡ place
@@ -93,6 +94,14 @@ lined_more {calls} {whole} {before} {after} {host} {i} {lines} line so within fr
       sources = map-append (λ l. l.source) lines (line ∷ [])
           ∙ ((λ k. so.sources k ++ from k ∷ []) ∙ sym (take_more calls i line.source within));
       hosts = All-push (λ l. l.host ≡ host) lines line so.hosts hosted;
-      pairs = λ place. grind (arith, common_steps, nat_tests, append_assoc, pairs_at-here, pairs_at-other, so.pairs place);
+      pairs = λ place. grind (
+        arith,
+        common_steps,
+        nat_tests,
+        append_assoc,
+        pairs_at-here,
+        pairs_at-other,
+        so.pairs place,
+      );
       queued = λ place. grind (arith, common_steps, nat_tests, calls_at-here, calls_at-other, so.queued place, next);
     }

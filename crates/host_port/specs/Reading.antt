@@ -1,6 +1,7 @@
 -- How a host reads: by a reader of each ring that it reads in a slot, with room for its reads.
 use Rattle.std.specs.Prelude.{◌≡◌, ◌≢◌, ◌⊎◌, ℕ, ◌+◌, ◌/◌, ◌<◌, ◌≤◌, ◌==◌, ◌&&◌, Bool, true, false, List, [], ◌∷◌, ◌++◌}
-use Rattle.std.specs.Prelude.{map, filter, count_by, length, get_or, take, Option, Some, None, option_map, nat_lt, IsSome, IsSomeAnd}
+use Rattle.std.specs.Prelude.{map, filter, count_by, length, get_or, take, Option}
+use Rattle.std.specs.Prelude.{Some, None, option_map, nat_lt, IsSome, IsSomeAnd}
 use Rattle.std.specs.Prelude.{if◌then◌else◌}
 use Rattle.nbw_ring.specs.declared.view.Message.{Message}
 use Rattle.nbw_ring.specs.Attempts.{attempt_steps, RepeatSteps, Gets, GetsNothing}
@@ -122,9 +123,10 @@ all_settled [] readers = []
 all_settled (w ∷ ws) [] = w ∷ ws
 all_settled (w ∷ ws) (r ∷ rs) = settled w r ∷ all_settled ws rs
 
--- The readers of some first writers were settled, until one wanted memory: none at all, or those before a writer that has
--- a reader.
-pub record HaveSomeSettled (before : ControllerState) (readers : List (Option ReaderState)) (now : ControllerState) : Type 0
+-- The readers of some first writers were settled, until one wanted memory: none at all, or those before a writer that
+-- has a reader.
+pub record HaveSomeSettled (before : ControllerState)
+    (readers : List (Option ReaderState)) (now : ControllerState) : Type 0
   where
     pub count : ℕ
     pub settled_so : now ≡ all_settled before (take count readers)

@@ -116,7 +116,8 @@ lack-none enough from slot since none =
           let last : suc (slot - 1) ≡ slot = omega (arith, less) in
           let next : slot - 1 + 1 ≡ slot = omega (arith, less) in
           ap enough (sym last)
-          ∙ last-fine (enough from) (enough (suc (slot - 1))) (find lacks (range_with_len from (slot - 1 - from))) (slot - 1)
+          ∙ last-fine (enough from) (enough (suc (slot - 1)))
+          (find lacks (range_with_len from (slot - 1 - from))) (slot - 1)
           from (ap is_some (sym (lack-more (enough from) lacks from (slot - 1) (omega (arith, less)))
           ∙ ap (first_lack (enough from) lacks from) next) ∙ none)
       | inr last ↦

@@ -15,5 +15,6 @@ pub same-charts : (one other : WholeCampaign) (asked : Option Span) → AreAlike
 same-charts one other asked alike =
     λ i. (let size : Size = record { nodes = alike.nodes i; slots = alike.slots i } in
     let slots = filter (λ t. alike.tried t i) (below (alike.slots i)) in
-    chart_of size (alike.own i) (shown_among (alike.nodes i) (first_told_slot (does_harm size) (alike.faults i)) asked slots)
+    chart_of size (alike.own i)
+    (shown_among (alike.nodes i) (first_told_slot (does_harm size) (alike.faults i)) asked slots)
     (alike.faults i) (alike.kept i) (alike.broken i))

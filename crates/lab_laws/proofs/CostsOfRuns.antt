@@ -66,7 +66,8 @@ nodes-kept n p least a (suc m) few low high =
 abbrev IsLeaveIn : ℕ → ℕ → Leave → Type 0
 IsLeaveIn k slots leave = (leave.node ≡ k) × (leave.slot < slots)
 
-later-leave : (k slot : ℕ) (before : Option Leave) → IfSome before (IsLeaveIn k slot) → IfSome before (IsLeaveIn k (suc slot))
+later-leave : (k slot : ℕ) (before : Option Leave) → IfSome before (IsLeaveIn k slot)
+    → IfSome before (IsLeaveIn k (suc slot))
 later-leave k slot None is = tt
 later-leave k slot (Some leave) is = (is.0, omega (arith, is.1))
 
@@ -88,7 +89,8 @@ leave-word-of k n slots (Some leave) node nodes few is =
 
 -- When memberships were split.
 
-later-span : (slot : ℕ) (before : Option Span) → IfSome before (IsSpanBelow slot) → IfSome before (IsSpanBelow (suc slot))
+later-span : (slot : ℕ) (before : Option Span) → IfSome before (IsSpanBelow slot)
+    → IfSome before (IsSpanBelow (suc slot))
 later-span slot None is = tt
 later-span slot (Some span) is = (is.0, omega (arith, is.1))
 
@@ -132,7 +134,8 @@ cost-in list script history slots valid few long =
     let firm = firm_members list history (λ k. true) in
     let each = λ (k : ℕ) (node : k < n).
     cond_both (is_firm (diary_of history k) && true) (Some (members_of_node list history k)) None (λ o. IfSome o IsSet)
-    (λ is. members-are_word list n (members_of_node list history k) valid.count.1 nodes (members-of-node list history k valid))
+    (λ is. members-are_word list n (members_of_node list history k) valid.count.1
+    nodes (members-of-node list history k valid))
     (λ is_not. tt) in
     let all = filter_map-each firm (λ k. k < n) IsSet (below n) each
     (All-from_recursion (λ k. k < n) (below n) (below-lt n)) in
@@ -144,6 +147,8 @@ cost-in list script history slots valid few long =
           (λ k node. leave-word-of k n (length history) (newest_leave history k) node nodes (omega (arith, few, long))
           (newest-in history k)));
       hurt = nodes-kept n (is_hurt list script history) 0 0 n nodes (omega arith) (omega arith);
-      split = subst (λ (t : ℕ). IfSome (split_span list script history) (IsSpanBelow t)) long (split-in list script history);
-      end = recursion_from_All IsSet (memberships list history (λ k. true)) (once-all IsSet (filter_map firm (below n)) all);
+      split = subst (λ (t : ℕ). IfSome (split_span list script history) (IsSpanBelow t)) long
+          (split-in list script history);
+      end = recursion_from_All IsSet (memberships list history (λ k. true))
+          (once-all IsSet (filter_map firm (below n)) all);
     }

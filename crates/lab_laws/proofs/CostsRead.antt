@@ -150,13 +150,15 @@ members-by true n members fits few has_word =
     let same = ap length (members_in-set_bits n members has_word few) in
     let wider : 2 ^ n ≤ 2 ^ 24 = pow-le-pow_right {n = 2} (lit< tt) {i = n} {j = 24} fits in
     members-tell n true members (hex 6 (set_bits members))
-    (again (hexed_or 4 6) (true, set_bits members) refl (lt-ltb (set_bits members) (16 ^ 6) (omega (arith, small, wider)))) small same
+    (again (hexed_or 4 6) (true, set_bits members) refl
+    (lt-ltb (set_bits members) (16 ^ 6) (omega (arith, small, wider)))) small same
 members-by false n members fits few has_word =
     let small = set_bits-small n members has_word few in
     let same = ap length (members_in-set_bits n members has_word few) in
     let wider : 2 ^ n ≤ 2 ^ 16 = pow-le-pow_right {n = 2} (lit< tt) {i = n} {j = 16} fits in
     members-tell n false members (hex 4 (set_bits members))
-    (again (hexed_or 4 6) (false, set_bits members) refl (lt-ltb (set_bits members) (16 ^ 4) (omega (arith, small, wider)))) small same
+    (again (hexed_or 4 6) (false, set_bits members) refl
+    (lt-ltb (set_bits members) (16 ^ 4) (omega (arith, small, wider)))) small same
 
 pub members-are_word : (list : Medl) (n : ℕ) (members : List ℕ) → n ≤ 8 * member_bytes (is_wide list) → n ≤ most_nodes
     → HasWord n members → IsSetWord n (members_word list members) (length members)
@@ -196,7 +198,8 @@ span-words : (span : Option Span) → span_words span ≡ first_word span ++ cod
 span-words None = refl
 span-words (Some span) = refl
 
-has-number : (b : ℕ) (span : Option Span) → b < 45 → (has b (first_word span) ≡ false) × (has b (last_word span) ≡ false)
+has-number : (b : ℕ) (span : Option Span) → b < 45
+    → (has b (first_word span) ≡ false) × (has b (last_word span) ≡ false)
 has-number b None low =
     let dash : (45 == b) ≡ false = ne_eqb 45 b (λ same. omega (arith, same, low)) in (rw dash refl, rw dash refl)
 has-number b (Some span) low = (has-decimal b span.first low, has-decimal b span.last low)
@@ -279,7 +282,8 @@ bare list b cost low =
       hurt = has-list b decimal cost.hurt low (λ k. has-decimal b k less);
       first = span.0;
       last = span.1;
-      sets = has-list b (members_word list) cost.end low (λ members. has-hex b (member_digits list) (set_bits members) less);
+      sets = has-list b (members_word list) cost.end low
+          (λ members. has-hex b (member_digits list) (set_bits members) less);
     }
 
 nine-nested : (a b c d e f g h i j : List ℕ)
@@ -295,7 +299,8 @@ nine-of list cost =
     let left = listed (map leave_word cost.left) in
     let hurt = listed (map decimal cost.hurt) in
     let sets = listed (map (members_word list) cost.end) in
-    ap (λ (span : List ℕ). codes "left " ++ left ++ codes " hurt " ++ hurt ++ codes " split " ++ span ++ codes " end " ++ sets)
+    ap (λ (span : List ℕ). codes "left " ++ left ++ codes " hurt " ++ hurt
+    ++ codes " split " ++ span ++ codes " end " ++ sets)
     (span-words cost.split)
     ∙ nine-nested (codes "left ") left (codes " hurt ") hurt (codes " split ") (first_word cost.split) (codes " ")
     (last_word cost.split) (codes " end ") sets
@@ -337,4 +342,5 @@ cost-no_feed list cost =
     let words = bare list 10 cost (omega arith) in
     ap (has 10) (nine-of list cost)
     ∙ nine-bare (listed (map leave_word cost.left)) (listed (map decimal cost.hurt)) (first_word cost.split)
-    (last_word cost.split) (listed (map (members_word list) cost.end)) words.left words.hurt words.first words.last words.sets
+    (last_word cost.split) (listed (map (members_word list) cost.end)) words.left
+    words.hurt words.first words.last words.sets

@@ -99,7 +99,8 @@ module _ (list : Medl) (script : Script) where
   counts runs = counts_of list (summary list script).cost (costs_of runs)
 
   step-one : (e : Event) (c : Counts) (runs : List Summary) (b : Bool)
-      → both (with_run_if b (shown_of e) c) (counts runs) ≡ both c (counts (cond b (summary_with list script e ∷ runs) runs))
+      → both (with_run_if b (shown_of e) c) (counts runs)
+      ≡ both c (counts (cond b (summary_with list script e ∷ runs) runs))
   step-one e c runs true = run-counted e c (costs_of runs)
   step-one e c runs false = refl
 

@@ -70,7 +70,8 @@ has-kind fault.Noise = refl
 
 loss-bare : (word node channels kind from to : List ℕ) → has 10 word ≡ false → has 10 node ≡ false
     → has 10 channels ≡ false → has 10 kind ≡ false → has 10 from ≡ false → has 10 to ≡ false
-    → has 10 (word ++ node ++ codes " " ++ channels ++ codes " " ++ kind ++ codes " " ++ from ++ codes " " ++ to) ≡ false
+    → has 10 (word ++ node ++ codes " " ++ channels ++ codes " " ++ kind
+    ++ codes " " ++ from ++ codes " " ++ to) ≡ false
 loss-bare word node channels kind from to p q r s t u = simp (list_any-append (λ c. c == 10), p, q, r, s, t, u)
 
 has-loss : (word : List ℕ) (k : ℕ) (channels : Channels) (kind : Fault) (from to : ℕ) → has 10 word ≡ false
@@ -80,7 +81,8 @@ has-loss word k channels kind from to bare =
     (has-decimal 10 k (omega arith)) (has-channels channels) (has-kind kind) (has-decimal 10 from (omega arith))
     (has-decimal 10 to (omega arith))
 
-module _ (list : Medl) (script : Script) (slot k : ℕ) (node : k < length list.slots) (inside : slot < script.slots) where
+module _ (list : Medl) (script : Script) (slot k : ℕ)
+    (node : k < length list.slots) (inside : slot < script.slots) where
   sent-at : (place to : ℕ) → nat_lt place 12 ≡ true → loss_end script.slots slot place ≡ to → slot ≤ to
       → to < script.slots
       → IsTriedAt list script slot k doing.Send place (event.Send k (channels_at place) (loss_at place) slot to)
@@ -117,7 +119,31 @@ module _ (list : Medl) (script : Script) (slot k : ℕ) (node : k < length list.
       sent-at place slot early end (omega arith) inside in
       let lasting = λ (place : ℕ) (early : nat_lt place 12 ≡ true)
       (end : loss_end script.slots slot place ≡ script.slots - 1).
-      sent-at place (script.slots - 1) early end (omega (arith, inside)) (omega (arith, inside)) in (once 0 refl refl, refl, (once 1 refl refl, refl, (once 2 refl refl, refl, (once 3 refl refl, refl, (once 4 refl refl, refl, (once 5 refl refl, refl, (lasting 6 refl refl, refl, (lasting 7 refl refl, refl, (lasting 8 refl refl, refl, (lasting 9 refl refl, refl, (lasting 10 refl refl, refl, (lasting 11 refl refl, refl))))))))))))
+      sent-at place (script.slots - 1) early end (omega (arith, inside)) (omega (arith, inside)) in (
+        once 0 refl refl,
+        refl,
+        (
+          once 1 refl refl,
+          refl,
+          (
+            once 2 refl refl,
+            refl,
+            (
+              once 3 refl refl,
+              refl,
+              (
+                once 4 refl refl,
+                refl,
+                (
+                  once 5 refl refl,
+                  refl,
+                  (lasting 6 refl refl, refl, (lasting 7 refl refl, refl, (lasting 8 refl refl, refl, (lasting 9 refl refl, refl, (lasting 10 refl refl, refl, (lasting 11 refl refl, refl)))))),
+                ),
+              ),
+            ),
+          ),
+        ),
+      )
 
   pub heard-tried : AreTriedFrom list script slot k doing.Receive 11 0 (losses_from (event.Receive k) script slot)
   heard-tried =
@@ -125,7 +151,31 @@ module _ (list : Medl) (script : Script) (slot k : ℕ) (node : k < length list.
       heard-at place slot early end (omega arith) inside in
       let lasting = λ (place : ℕ) (early : nat_lt place 12 ≡ true)
       (end : loss_end script.slots slot place ≡ script.slots - 1).
-      heard-at place (script.slots - 1) early end (omega (arith, inside)) (omega (arith, inside)) in (once 0 refl refl, refl, (once 1 refl refl, refl, (once 2 refl refl, refl, (once 3 refl refl, refl, (once 4 refl refl, refl, (once 5 refl refl, refl, (lasting 6 refl refl, refl, (lasting 7 refl refl, refl, (lasting 8 refl refl, refl, (lasting 9 refl refl, refl, (lasting 10 refl refl, refl, (lasting 11 refl refl, refl))))))))))))
+      heard-at place (script.slots - 1) early end (omega (arith, inside)) (omega (arith, inside)) in (
+        once 0 refl refl,
+        refl,
+        (
+          once 1 refl refl,
+          refl,
+          (
+            once 2 refl refl,
+            refl,
+            (
+              once 3 refl refl,
+              refl,
+              (
+                once 4 refl refl,
+                refl,
+                (
+                  once 5 refl refl,
+                  refl,
+                  (lasting 6 refl refl, refl, (lasting 7 refl refl, refl, (lasting 8 refl refl, refl, (lasting 9 refl refl, refl, (lasting 10 refl refl, refl, (lasting 11 refl refl, refl)))))),
+                ),
+              ),
+            ),
+          ),
+        ),
+      )
 
 -- Jumps.
 

@@ -16,7 +16,8 @@ use Rattle.lab_laws.proofs.WordsCut.{feed-again}
 use Rattle.lab_laws.proofs.LinesRead.{IsEnded}
 
 -- these are lines, they are due from here on to the end of a campaign, and they tell these faults and pieces
-pub record GoesOn (frame : Common) (d : Due) (lines : Lines) (faults : List FaultTold) (pieces : List Piece) : Type 0 where
+pub record GoesOn (frame : Common) (d : Due) (lines : Lines)
+    (faults : List FaultTold) (pieces : List Piece) : Type 0 where
   pub are : AllByRecursion (λ line. is_line line ≡ true) lines
   pub right : wrong_line frame d lines ≡ None
   pub tells : faults_told frame d lines ≡ faults
@@ -63,7 +64,8 @@ fault-due : (frame : Common) (piece : Piece) (before : Option Spot) (line : List
 unfolding due_in_campaign
 fault-due frame piece before line f is = ap (behind_fault piece before line) is
 
-pub fault-line : (frame : Common) (piece : Piece) (before : Option Spot) (line : List ℕ) (lines : Lines) (f : FaultShown)
+pub fault-line : (frame : Common) (piece : Piece) (before : Option Spot)
+    (line : List ℕ) (lines : Lines) (f : FaultShown)
     (faults : List FaultTold) (pieces : List Piece) → is_line line ≡ true
     → fault_told frame (due.Fault piece before) line ≡ Some f
     → GoesOn frame (due.Fault (with_fault_counted f piece) (Some (spot_of f))) lines faults pieces
@@ -84,7 +86,8 @@ counts-bare : (name runs same hurt split torn dead : List ℕ) → has 10 name �
     → has 10 same ≡ false → has 10 hurt ≡ false → has 10 split ≡ false → has 10 torn ≡ false → has 10 dead ≡ false
     → has 10 (name ++ (runs ++ codes " same " ++ same ++ codes " hurt " ++ hurt ++ codes " split " ++ split
     ++ codes " torn " ++ torn ++ codes " dead " ++ dead)) ≡ false
-counts-bare name runs same hurt split torn dead p q r s t u v = simp (list_any-append (λ c. c == 10), p, q, r, s, t, u, v)
+counts-bare name runs same hurt split torn dead p q r s t u v =
+    simp (list_any-append (λ c. c == 10), p, q, r, s, t, u, v)
 
 -- behind the name
 abbrev counts_rest : Counts → List ℕ
@@ -97,7 +100,9 @@ counts-ended name c none = record {
   ends = counts-nested name (decimal c.runs) (codes " same ") (decimal c.same) (codes " hurt ") (decimal c.hurt)
       (codes " split ") (decimal c.split) (codes " torn ") (decimal c.torn) (codes " dead ") (decimal c.dead) newline;
   feed = counts-bare name (decimal c.runs) (decimal c.same) (decimal c.hurt) (decimal c.split) (decimal c.torn)
-      (decimal c.dead) none (has-decimal 10 c.runs (omega arith)) (has-decimal 10 c.same (omega arith)) (has-decimal 10 c.hurt (omega arith)) (has-decimal 10 c.split (omega arith)) (has-decimal 10 c.torn (omega arith)) (has-decimal 10 c.dead (omega arith));
+      (decimal c.dead) none (has-decimal 10 c.runs (omega arith)) (has-decimal 10 c.same (omega arith))
+      (has-decimal 10 c.hurt (omega arith)) (has-decimal 10 c.split (omega arith))
+      (has-decimal 10 c.torn (omega arith)) (has-decimal 10 c.dead (omega arith));
 }
 
 no-fault : (frame : Common) (piece : Piece) (before : Option Spot) (rest : List ℕ)
@@ -109,19 +114,23 @@ kept-no_fault : (frame : Common) (piece : Piece) (before : Option Spot) (c : Cou
     → fault_told frame (due.Fault piece before) (counts_line (codes "kept ") c) ≡ None
 unfolding fault_told
 kept-no_fault frame piece before c =
-    ap (λ (line : List ℕ). without_feed line >>= fault_line_in frame piece before) (counts-ended (codes "kept ") c refl).ends
-    ∙ ap (λ (o : Option (List ℕ)). o >>= fault_line_in frame piece before) (feed-again (codes "kept " ++ counts_rest c)).0
+    ap (λ (line : List ℕ). without_feed line >>= fault_line_in frame piece before)
+    (counts-ended (codes "kept ") c refl).ends
+    ∙ ap (λ (o : Option (List ℕ)). o >>= fault_line_in frame piece before)
+    (feed-again (codes "kept " ++ counts_rest c)).0
     ∙ no-fault frame piece before (counts_rest c)
 
 kept-due : (frame : Common) (piece : Piece) (before : Option Spot) → is_between_groups before ≡ true
     → due_in_campaign frame (due.Fault piece before) (counts_line (codes "kept ") piece.kept) ≡ Some (due.Broken piece)
 unfolding due_in_campaign
 kept-due frame piece before between =
-    ap (behind_fault piece before (counts_line (codes "kept ") piece.kept)) (kept-no_fault frame piece before piece.kept)
+    ap (behind_fault piece before (counts_line (codes "kept ") piece.kept))
+    (kept-no_fault frame piece before piece.kept)
     ∙ rw (between, bytes_eq-same (counts_line (codes "kept ") piece.kept)) refl
 
 broken-due : (frame : Common) (piece : Piece)
-    → due_in_campaign frame (due.Broken piece) (counts_line (codes "broken ") piece.broken) ≡ Some (due.Piece piece.last)
+    → due_in_campaign frame (due.Broken piece) (counts_line (codes "broken ") piece.broken)
+    ≡ Some (due.Piece piece.last)
 unfolding due_in_campaign
 broken-due frame piece = rw (bytes_eq-same (counts_line (codes "broken ") piece.broken)) refl
 
@@ -133,7 +142,8 @@ broken-no_fault frame piece line = refl
 pub counts-lines : (frame : Common) (piece : Piece) (before : Option Spot) (lines : Lines) (faults : List FaultTold)
     (pieces : List Piece) → is_between_groups before ≡ true → GoesOn frame (due.Piece piece.last) lines faults pieces
     → GoesOn frame (due.Fault piece before)
-    (counts_line (codes "kept ") piece.kept ∷ counts_line (codes "broken ") piece.broken ∷ lines) faults (piece ∷ pieces)
+    (counts_line (codes "kept ") piece.kept
+    ∷ counts_line (codes "broken ") piece.broken ∷ lines) faults (piece ∷ pieces)
 counts-lines frame piece before lines faults pieces between goes =
     let kept = counts_line (codes "kept ") piece.kept in
     let broken = counts_line (codes "broken ") piece.broken in

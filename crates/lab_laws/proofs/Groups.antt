@@ -94,7 +94,8 @@ ready-behind slot k d = record {
 abbrev IsAround : ℕ → Piece → Type 0
 IsAround slot piece = (piece.first ≤ slot) × (slot ≤ piece.last)
 
-around-one : (slot : ℕ) (f : FaultShown) (piece : Piece) → IsAround slot piece → IsAround slot (with_fault_counted f piece)
+around-one : (slot : ℕ) (f : FaultShown) (piece : Piece) → IsAround slot piece
+    → IsAround slot (with_fault_counted f piece)
 around-one slot f piece is = is
 
 module _ (list : Medl) (script : Script) (valid : IsValid list) (valid_script : IsValidScript list script) where
@@ -110,7 +111,8 @@ module _ (list : Medl) (script : Script) (valid : IsValid list) (valid_script : 
       → IsAround slot (counted list script piece es)
   around-all slot [] piece is = is
   around-all slot (e ∷ es) piece is =
-      around-all slot es (with_fault_counted (shown_of list script e) piece) (around-one slot (shown_of list script e) piece is)
+      around-all slot es (with_fault_counted (shown_of list script e) piece)
+      (around-one slot (shown_of list script e) piece is)
 
   module _ (slot k : ℕ) (node : k < length list.slots) (inside : slot < script.slots) where
     lies : (piece : Piece) (d : Doing) (place : ℕ) → IsAround slot piece
@@ -127,7 +129,8 @@ module _ (list : Medl) (script : Script) (valid : IsValid list) (valid_script : 
     one-goes : (d : Doing) (place : ℕ) (e : Event) (piece : Piece) (before : Option Spot) (rest : Lines)
         (faults : List FaultTold) (pieces : List Piece) → IsTriedAt list script slot k d place e
         → place_behind before d ≡ place → stands_behind before (spot_at slot k d place) ≡ true → IsAround slot piece
-        → Goes (due.Fault (with_fault_counted (shown_of list script e) piece) (Some (spot_at slot k d place))) rest faults
+        → Goes (due.Fault (with_fault_counted (shown_of list script e) piece)
+        (Some (spot_at slot k d place))) rest faults
         pieces
         → Goes (due.Fault piece before) (run_line list script e ∷ rest) (run_told list script place e ∷ faults) pieces
     one-goes d place e piece before rest faults pieces tried at stands around goes =
@@ -147,12 +150,14 @@ module _ (list : Medl) (script : Script) (valid : IsValid list) (valid_script : 
         (faults : List FaultTold) (pieces : List Piece) → AreTriedFrom list script slot k d last place es
         → place_behind before d ≡ place → stands_behind before (spot_at slot k d place) ≡ true → IsAround slot piece
         → Goes (due.Fault (counted list script piece es) (Some (spot_at slot k d last))) rest faults pieces
-        → Goes (due.Fault piece before) (map (run_line list script) es ++ rest) (told_from list script place es ++ faults)
+        → Goes (due.Fault piece before) (map (run_line list script) es ++ rest)
+        (told_from list script place es ++ faults)
         pieces
     group-goes d last place [] piece before rest faults pieces are at stands around goes = absurd are
     group-goes d last place (e ∷ []) piece before rest faults pieces are at stands around goes =
         one-goes d place e piece before rest faults pieces are.0 at stands around
-        (subst (λ (p : ℕ). Goes (due.Fault (with_fault_counted (shown_of list script e) piece) (Some (spot_at slot k d p)))
+        (subst (λ (p : ℕ). Goes (due.Fault
+        (with_fault_counted (shown_of list script e) piece) (Some (spot_at slot k d p)))
         rest faults pieces) (sym are.1) goes)
     group-goes d last place (e ∷ f ∷ es) piece before rest faults pieces are at stands around goes =
         one-goes d place e piece before (map (run_line list script) (f ∷ es) ++ rest)
@@ -167,7 +172,8 @@ module _ (list : Medl) (script : Script) (valid : IsValid list) (valid_script : 
       -- what is due before some faults, from this place on, where others are due behind them
       abbrev ComeFirst : (Option Spot → Type 0) → ℕ → List Event → Type 0
       ComeFirst Next place es =
-          ((after : Option Spot) → Next after → Goes (due.Fault (counted list script piece es) after) rest faults pieces)
+          ((after : Option Spot) → Next after
+          → Goes (due.Fault (counted list script piece es) after) rest faults pieces)
           → Goes (due.Fault piece before) (map (run_line list script) es ++ rest)
           (told_from list script place es ++ faults) pieces
 
@@ -177,12 +183,14 @@ module _ (list : Medl) (script : Script) (valid : IsValid list) (valid_script : 
           let heard = is_hearing (entry_of row k) && list_any is_sending row in
           cond_both (is_sending (entry_of row k)) (losses_from (event.Send k) script slot)
           (cond heard (losses_from (event.Receive k) script slot) []) P
-          (λ sends go. group-goes doing.Send 11 0 (losses_from (event.Send k) script slot) piece before rest faults pieces
+          (λ sends go. group-goes doing.Send 11 0
+          (losses_from (event.Send k) script slot) piece before rest faults pieces
           (sent-tried list script slot k node inside) (first-behind slot k doing.Send before is)
           (stands-first slot k 0 doing.Send before is) around
           (go (Some (spot_at slot k doing.Send 11)) (ready-behind slot k doing.Send)))
           (λ other. cond_both heard (losses_from (event.Receive k) script slot) [] P
-          (λ hears go. group-goes doing.Receive 11 0 (losses_from (event.Receive k) script slot) piece before rest faults
+          (λ hears go. group-goes doing.Receive 11 0
+          (losses_from (event.Receive k) script slot) piece before rest faults
           pieces (heard-tried list script slot k node inside) (first-behind slot k doing.Receive before is)
           (stands-first slot k 0 doing.Receive before is) around
           (go (Some (spot_at slot k doing.Receive 11)) (ready-behind slot k doing.Receive)))
@@ -215,7 +223,8 @@ module _ (list : Medl) (script : Script) (valid : IsValid list) (valid_script : 
         (sym (ap (λ (ls : Lines). ls ++ rest) (map-append line losses jumps)
         ∙ append_assoc (map line losses) (map line jumps) rest))
         (sym (append_assoc (told_from list script 0 losses) (told_from list script 12 jumps) faults))
-        (losses-goes row piece before (map line jumps ++ rest) (told_from list script 12 jumps ++ faults) pieces around is
+        (losses-goes row piece before (map line jumps ++ rest)
+        (told_from list script 12 jumps ++ faults) pieces around is
         (λ after ready. jumps-goes row (counted list script piece losses) after rest faults pieces
         (around-all slot losses piece around) ready
         (λ end next. subst (λ (p : Piece). Goes (due.Fault p end) rest faults pieces)
@@ -227,7 +236,8 @@ module _ (list : Medl) (script : Script) (valid : IsValid list) (valid_script : 
       (faults : List FaultTold) (pieces : List Piece) → slot < script.slots → a + m ≤ length list.slots
       → IsAround slot piece → IsEarlier slot a before
       → ((after : Option Spot) → IsEarlier slot (a + m) after
-      → Goes (due.Fault (counted list script piece (flat_map (faults_of list script row slot) (range_with_len a m))) after)
+      → Goes (due.Fault (counted list script piece
+      (flat_map (faults_of list script row slot) (range_with_len a m))) after)
       rest faults pieces)
       → Goes (due.Fault piece before)
       (map (run_line list script) (flat_map (faults_of list script row slot) (range_with_len a m)) ++ rest)
@@ -240,11 +250,13 @@ module _ (list : Medl) (script : Script) (valid : IsValid list) (valid_script : 
       let told = told_of_node list script row slot a in
       let more = flat_map (told_of_node list script row slot) (range_with_len (a + 1) m) in
       let line = run_line list script in
-      same-goes (due.Fault piece before) (map line first ++ (map line others ++ rest)) (map line (first ++ others) ++ rest)
+      same-goes (due.Fault piece before)
+      (map line first ++ (map line others ++ rest)) (map line (first ++ others) ++ rest)
       (told ++ (more ++ faults)) ((told ++ more) ++ faults) pieces
       (sym (ap (λ (ls : Lines). ls ++ rest) (map-append line first others)
       ∙ append_assoc (map line first) (map line others) rest)) (sym (append_assoc told more faults))
-      (node-goes slot a (omega (arith, few)) inside row piece before (map line others ++ rest) (more ++ faults) pieces around
+      (node-goes slot a (omega (arith, few)) inside row piece before
+      (map line others ++ rest) (more ++ faults) pieces around
       is
       (λ after next. nodes-goes row slot (a + 1) m (counted list script piece first) after rest faults pieces inside
       (omega (arith, few)) (around-all slot first piece around) next
@@ -265,7 +277,8 @@ module _ (list : Medl) (script : Script) (valid : IsValid list) (valid_script : 
         (pieces : List Piece) → a + m ≤ script.slots → ((slot : ℕ) → p slot ≡ true → IsAround slot piece)
         → IsEarlier a 0 before
         → ((after : Option Spot) → is_between_groups after ≡ true
-        → Goes (due.Fault (counted list script piece (flat_map faults_at (filter p (range_with_len a m)))) after) rest faults
+        → Goes (due.Fault (counted list script piece (flat_map faults_at (filter p (range_with_len a m)))) after) rest
+        faults
         pieces)
         → Goes (due.Fault piece before)
         (map (run_line list script) (flat_map faults_at (filter p (range_with_len a m))) ++ rest)
@@ -288,9 +301,11 @@ module _ (list : Medl) (script : Script) (valid : IsValid list) (valid_script : 
         (map line (first ++ others) ++ rest) (told ++ (more ++ faults)) ((told ++ more) ++ faults) pieces
         (sym (ap (λ (ls : Lines). ls ++ rest) (map-append line first others)
         ∙ append_assoc (map line first) (map line others) rest)) (sym (append_assoc told more faults))
-        (nodes-goes (row_of history a) a 0 (length list.slots) piece before (map line others ++ rest) (more ++ faults) pieces
+        (nodes-goes (row_of history a) a 0 (length list.slots) piece before
+        (map line others ++ rest) (more ++ faults) pieces
         (omega (arith, few)) (omega arith) (around a kept) is
-        (λ after next. slots-goes (a + 1) m (counted list script piece first) after rest faults pieces (omega (arith, few))
+        (λ after next. slots-goes (a + 1) m (counted list script piece first)
+        after rest faults pieces (omega (arith, few))
         (λ slot is_kept. around-all slot first piece (around slot is_kept))
         (earlier-slot a (0 + length list.slots) after next)
         (λ end ends. subst (λ (q : Piece). Goes (due.Fault q end) rest faults pieces)

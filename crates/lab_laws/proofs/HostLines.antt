@@ -22,7 +22,8 @@ use Rattle.ttp_world.specs.Legal.{IsLegal, ReadMessage, is_legal_read, read_mess
 use Rattle.ttp_world.specs.Medl.{IsValid, IsValidSlot, no_plan, plan_at}
 use Rattle.ttp_world.specs.Messages.{newest_number, ring_messages}
 use Rattle.ttp_world.specs.Outgoing.{messages_before, zeros_of}
-use Rattle.ttp_world.specs.Script.{HostWrite, IsSource, IsValidScript, messages_written, payload_of_host, reads_in, write_in}
+use Rattle.ttp_world.specs.Script.{HostWrite, IsSource, IsValidScript, messages_written}
+use Rattle.ttp_world.specs.Script.{payload_of_host, reads_in, write_in}
 use Rattle.ttp_world.specs.Script.{writes_in}
 use Rattle.ttp_world.specs.Trace.{read_line, write_line}
 use Rattle.ttp_world.specs.World.{Numbers, SlotNumbers, world}
@@ -75,7 +76,8 @@ writes-each list script slot (w ∷ ws) valid valid_script early are = (
   writes-each list script slot ws valid valid_script early are.1,
 )
 
-pub writes-read : (list : Medl) (script : Script) (slot : ℕ) → IsValid list → IsValidScript list script → slot < SLOT_LIMIT
+pub writes-read : (list : Medl) (script : Script) (slot : ℕ) → IsValid list
+    → IsValidScript list script → slot < SLOT_LIMIT
     → AllByRecursion (IsWriteRead list script slot HOST_EVENT_LIMIT) (writes_in script slot)
 writes-read list script slot valid valid_script early =
     writes-each list script slot (writes_in script slot) valid valid_script early
@@ -133,8 +135,13 @@ bytes_written list script (suc slot) bytes k =
 -- Messages as bytes.
 
 eight_bytes : (w : ℕ) → AllByRecursion (λ b. b < 256) (to_be_bytes w64 w)
-eight_bytes w =
-    (omega arith, (omega arith, (omega arith, (omega arith, (omega arith, (omega arith, (omega arith, (omega arith, tt))))))))
+eight_bytes w = (
+  omega arith,
+  (
+    omega arith,
+    (omega arith, (omega arith, (omega arith, (omega arith, (omega arith, (omega arith, tt)))))),
+  ),
+)
 
 record AreEights (words message : List ℕ) : Type 0 where
   bytes : AreBytes message
@@ -267,6 +274,7 @@ module _ (list : Medl) (script : Script) (new : SlotNumbers) (numbers : Numbers)
       subst (λ (at : ℕ). AllByRecursion (IsReadRead list script (length (world list script numbers)) after)
       (read_messages (reads_in script at) new.read)) (sym (length-world list script numbers))
       (reads-each (read_messages (reads_in script (length numbers)) new.read)
-      (messages_read list script new numbers legal (bytes_written list script (suc (length numbers)) bytes) valid_script)
+      (messages_read list script new numbers legal
+      (bytes_written list script (suc (length numbers)) bytes) valid_script)
       (of_rings list script (world list script numbers) after
       (read_messages (reads_in script (length numbers)) new.read) (legal-reads list script new numbers legal)))

@@ -1,5 +1,6 @@
 -- Campaigns over ranges that join are alike the one over the whole.
-use Rattle.std.proofs.Common.{◌≡◌, ℕ, zero, suc, ◌+◌, ◌^◌, ◌<◌, ◌≤◌, Bool, true, false, cond, ◌&&◌, ◌||◌, not, List, [], ◌∷◌}
+use Rattle.std.proofs.Common.{◌≡◌, ℕ, zero, suc, ◌+◌, ◌^◌, ◌<◌, ◌≤◌, Bool, true}
+use Rattle.std.proofs.Common.{false, cond, ◌&&◌, ◌||◌, not, List, [], ◌∷◌}
 use Rattle.std.proofs.Common.{◌++◌, refl, sym, ap, subst, ◌∙◌, arith, append-nil, length-append, inl, inr}
 use Rattle.std.specs.Prelude.{Ok, Result, is_some, nat_le, map, filter, flat_map, count_by}
 use Rattle.std.specs.List.{concat, range_with_len}
@@ -20,7 +21,8 @@ use Rattle.ttp_world.specs.Script.{IsValidScript}
 use Rattle.campaign.specs.declared.cost.Cost.{Cost}
 use Rattle.campaign.specs.declared.cost.Counts.{Counts}
 use Rattle.campaign.specs.declared.cost.Span.{Span}
-use Rattle.campaign.specs.Lines.{Summary, summary, is_same_cost, has_hurt, is_torn, is_dead, counts_of, costs_of, summary_with}
+use Rattle.campaign.specs.Lines.{Summary, summary, is_same_cost, has_hurt, is_torn}
+use Rattle.campaign.specs.Lines.{is_dead, counts_of, costs_of, summary_with}
 use Rattle.campaign.specs.Lines.{kept_counts, broken_counts, campaign_lines}
 use Rattle.campaign.specs.Tried.{faults_in, row_of, slots_between, faults_from}
 use Rattle.ttp_world.specs.ZerosWorld.{zeros_world}
@@ -50,7 +52,8 @@ whole-last range (next ∷ ranges) are joined =
     let order = are.2.0.order in
     omega (arith, more, order, joined.0)
 
-last-digits : (range : Span) (ranges : List Span) → AreRanges (range ∷ ranges) → (whole_range range ranges).last < 10 ^ 9
+last-digits : (range : Span) (ranges : List Span) → AreRanges (range ∷ ranges)
+    → (whole_range range ranges).last < 10 ^ 9
 last-digits range [] are = are.0.digits
 last-digits range (next ∷ ranges) are = last-digits next ranges are.2
 
@@ -81,7 +84,8 @@ lies_between first last slot = nat_le first slot && nat_le slot last
 past : (last slot : ℕ) → last < slot → nat_le slot last ≡ false
 past last slot more = lt-leb slot last more
 
-in-first : (first last end slot : ℕ) → slot ≤ last → last ≤ end → lies_between first last slot ≡ lies_between first end slot
+in-first : (first last end slot : ℕ) → slot ≤ last → last ≤ end
+    → lies_between first last slot ≡ lies_between first end slot
 in-first first last end slot within more =
     rw (le-leb slot last within, le-leb slot end (omega (arith, within, more))) refl
 
@@ -118,14 +122,16 @@ both-slots first last end a (suc m) order more =
     elim (cases_lt last a) [
       | inl less ↦
           ap (λ (l : List ℕ). l ++ filter (lies_between (last + 1) end) (range_with_len a (suc m)))
-          (filter-none (lies_between first last) a (suc m) (λ j from. not-first first last j (omega (arith, from, less))))
+          (filter-none (lies_between first last) a (suc m)
+          (λ j from. not-first first last j (omega (arith, from, less))))
           ∙ second-slots first last end a (suc m) order less
       | inr within ↦
           ap (λ (b : Bool). filter (lies_between first last) (range_with_len a (suc m)) ++ cond b (a ∷ second) second)
           (not-second last end a within)
           ∙ slot-before (lies_between first last a) a (filter (lies_between first last) range) second
           (filter (lies_between first end) range) (both-slots first last end (a + 1) m order more)
-          ∙ ap (λ (b : Bool). cond b (a ∷ filter (lies_between first end) range) (filter (lies_between first end) range))
+          ∙ ap (λ (b : Bool). cond b (a ∷ filter (lies_between first end) range)
+          (filter (lies_between first end) range))
           (in-first first last end a within more)
     ]
 
@@ -235,7 +241,8 @@ module _ (list : Medl) (script : Script) where
         of-both list (summary list script).cost (λ (s : Summary). s.yes) (summary_with list script)
         (faults_from list script own_history range.first range.last)
         (faults_from list script own_history next.first next.last)
-        ∙ ap (λ (es : List Event). kept_counts list (summary list script).cost (map (summary_with list script) es)) events-both
+        ∙ ap (λ (es : List Event).
+        kept_counts list (summary list script).cost (map (summary_with list script) es)) events-both
 
     broken-both : counts_together (piece_over list script range).broken (piece_over list script next).broken
         ≡ (piece_over list script both).broken
@@ -279,7 +286,8 @@ module _ (list : Medl) (script : Script) where
   broken-all range (next ∷ ranges) are joined =
       let others = whole_range next ranges in
       ap (counts_together (piece_over list script range).broken) (broken-all next ranges are.2 joined.1)
-      ∙ broken-both range others are.0.order (reaches range next ranges are joined) (joins-whole range next ranges joined)
+      ∙ broken-both range others are.0.order
+      (reaches range next ranges are joined) (joins-whole range next ranges joined)
 
   tried-all : (range : Span) (ranges : List Span) (t : ℕ) → AreRanges (range ∷ ranges) → AreJoined range ranges
       → is_tried (map (piece_over list script) (range ∷ ranges)) t
@@ -288,10 +296,12 @@ module _ (list : Medl) (script : Script) where
   tried-all range (next ∷ ranges) t are joined =
       let others = whole_range next ranges in
       ap (λ (b : Bool). is_of_piece t (piece_over list script range) || b) (tried-all next ranges t are.2 joined.1)
-      ∙ tried-both range others are.0.order (reaches range next ranges are joined) (joins-whole range next ranges joined) t
+      ∙ tried-both range others are.0.order (reaches range next ranges are joined)
+      (joins-whole range next ranges joined) t
 
   pub joined-alike : (range : Span) (ranges : List Span) → AreRanges (range ∷ ranges) → AreJoined range ranges
-      → AreAlike (campaign_over list script (range ∷ ranges)) (campaign_over list script (whole_range range ranges ∷ []))
+      → AreAlike (campaign_over list script (range ∷ ranges))
+      (campaign_over list script (whole_range range ranges ∷ []))
   joined-alike range ranges are joined =
       let all = whole_range range ranges in
       record {

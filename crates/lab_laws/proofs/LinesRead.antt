@@ -103,7 +103,14 @@ head-again list script first last valid valid_script order digits =
     let many : nat_le 4 (length list.slots) ≡ true = le-leb 4 (length list.slots) valid.count.0 in
     let some : nat_le 1 script.slots ≡ true = le-leb 1 script.slots slots.0 in
     let is : is_campaign_head h ≡ true =
-    rw (many, le-leb (length list.slots) 24 nodes, some, le-leb script.slots 20000 slots.1, le-leb first last order) refl in
+    rw (
+      many,
+      le-leb (length list.slots) 24 nodes,
+      some,
+      le-leb script.slots 20000
+          slots.1,
+      le-leb first last order,
+    ) refl in
     head-read h (omega (arith, nodes)) (omega (arith, slots)) (omega (arith, order, digits)) digits is
 
 -- The test.
@@ -130,7 +137,8 @@ no-words : (word : List ℕ) (letter rule slot : ℕ) → has 32 word ≡ false 
 no-words word letter rule slot none other =
     more-words 2 word (codes "no " ++ ((letter ∷ decimal rule) ++ (codes " " ++ decimal slot))) none
     (more-words 1 (codes "no") ((letter ∷ decimal rule) ++ (codes " " ++ decimal slot)) refl
-    (more-words 0 (letter ∷ decimal rule) (decimal slot) (rw other (bare rule).0) (one-word (decimal slot) (bare slot).0)))
+    (more-words 0 (letter ∷ decimal rule) (decimal slot) (rw other (bare rule).0)
+    (one-word (decimal slot) (bare slot).0)))
 
 no-bare : (label rule slot : List ℕ) → has 10 label ≡ false → has 10 rule ≡ false → has 10 slot ≡ false
     → has 10 (label ++ rule ++ codes " " ++ slot) ≡ false
@@ -144,7 +152,8 @@ keep-words (keep.No rule slot) =
 
 keep-feed : (k : Keep) → has 10 (keep_text k) ≡ false
 keep-feed (keep.Yes start) = (bare start).1
-keep-feed (keep.No rule slot) = no-bare (codes "keeps no H") (decimal rule) (decimal slot) refl (bare rule).1 (bare slot).1
+keep-feed (keep.No rule slot) =
+    no-bare (codes "keeps no H") (decimal rule) (decimal slot) refl (bare rule).1 (bare slot).1
 
 back-words : (b : Back) → IsOfWords 4 (back_text b)
 back-words (back.Yes start) = yes-words (codes "returns") start refl
@@ -172,7 +181,8 @@ test-if : (list : Medl) (script : Script) (arms : Bool) → IsValid list → Has
 test-if list script true valid slots =
     let b = returns list script in
     let fits = returns-fits list script valid slots in
-    subst (λ words. IsTestRead words (test.Back b)) (sym (ap unended (back-value b) ∙ (feed-again (back_text b)).1)) (record {
+    subst (λ words. IsTestRead words (test.Back b))
+    (sym (ap unended (back-value b) ∙ (feed-again (back_text b)).1)) (record {
       said = back-said b fits.is (line-again (line.Back b) fits.fits);
       words = back-words b;
       feed = back-feed b;
@@ -180,7 +190,8 @@ test-if list script true valid slots =
 test-if list script false valid slots =
     let k = keeps list script in
     let fits = keeps-fits list script valid slots in
-    subst (λ words. IsTestRead words (test.Keep k)) (sym (ap unended (keep-value k) ∙ (feed-again (keep_text k)).1)) (record {
+    subst (λ words. IsTestRead words (test.Keep k))
+    (sym (ap unended (keep-value k) ∙ (feed-again (keep_text k)).1)) (record {
       said = keep-said k fits.is (line-again (line.Keep k) fits.fits);
       words = keep-words k;
       feed = keep-feed k;
@@ -232,7 +243,8 @@ run-bare front test cost fault p q r s = simp (list_any-append (λ c. c == 10), 
 pub own-ended : (list : Medl) (script : Script) (s : Summary) (t : Test) → IsRunRead list script s t
     → IsEnded (own_line list s) (own_text list s)
 own-ended list script s t read = record {
-  ends = six-ended (codes "slot - node - ") s.test (codes " ") (cost_words list s.cost) (codes " fault ") (codes "-") newline;
+  ends = six-ended (codes "slot - node - ") s.test (codes " ")
+      (cost_words list s.cost) (codes " fault ") (codes "-") newline;
   feed = run-bare (codes "slot - node - ") s.test (cost_words list s.cost) (codes "-") refl read.test_feed
       (cost-no_feed list s.cost) refl;
 }
@@ -247,7 +259,8 @@ own-in-read n slots text rest run t cost is words said costs none =
     ap (after_label (codes "slot - node -")) is ∙ label-again (codes "slot - node -") rest in
     rw (begins, words, said, costs, none) refl
 
-pub own-again : (list : Medl) (script : Script) (s : Summary) (t : Test) → script.slots ≤ 20000 → IsRunRead list script s t
+pub own-again : (list : Medl) (script : Script) (s : Summary) (t : Test)
+    → script.slots ≤ 20000 → IsRunRead list script s t
     → own_in (length list.slots) script.slots (own_text list s)
     ≡ Some (record { text = own_text list s; test_text = s.test; cost = cost_words list s.cost; test = t })
 own-again list script s t few read =
@@ -276,7 +289,8 @@ place-bare slot node rest p q r = simp (list_any-append (λ c. c == 10), p, q, r
 pub fault-ended : (list : Medl) (script : Script) (fault : Event) (s : Summary) (t : Test) → IsRunRead list script s t
     → has 10 (fault_words fault) ≡ false → IsEnded (fault_line list fault s) (fault_text list fault s)
 fault-ended list script fault s t read none = record {
-  ends = ten-ended (codes "slot ") (decimal (fault_slot fault)) (codes " node ") (decimal (fault_node fault)) (codes " ")
+  ends = ten-ended (codes "slot ") (decimal (fault_slot fault)) (codes " node ")
+      (decimal (fault_node fault)) (codes " ")
       s.test (codes " ") (cost_words list s.cost) (codes " fault ") (fault_words fault) newline;
   feed = place-bare (decimal (fault_slot fault)) (decimal (fault_node fault))
       (codes " " ++ (s.test ++ (codes " " ++ (cost_words list s.cost ++ (codes " fault " ++ fault_words fault)))))
@@ -292,7 +306,8 @@ pub fault-words-read : (slot node : ℕ) (rest : List ℕ) (run : RunWords) → 
 unfolding fault_words_in
 fault-words-read slot node rest run small few words =
     rw (
-      word-behind 32 (codes "slot ") (decimal slot) (codes "node " ++ (decimal node ++ (codes " " ++ rest))) (bare slot).0,
+      word-behind 32 (codes "slot ") (decimal slot)
+          (codes "node " ++ (decimal node ++ (codes " " ++ rest))) (bare slot).0,
       word-behind 32 (codes " node ") (decimal node) rest (bare node).0,
       words,
       numeral-again slot_digits slot (omega arith) (omega arith) (omega (arith, small)),

@@ -104,7 +104,8 @@ nodes-fold : {X : Type 0} (kind : Kind) (n : ℕ) (word : X → List ℕ) (node 
     → AreNodeWords kind n word node least xs
     → (fold (with_node_word kind n) (Some (record { least = least; count = count })) (map word xs)
     >>= λ nodes. Some nodes.count) ≡ Some (count + length xs)
-nodes-fold kind n word node least count [] are = let same : count ≡ count + 0 = omega arith in ap (λ (m : ℕ). Some m) same
+nodes-fold kind n word node least count [] are = let same : count ≡ count + 0 =
+    omega arith in ap (λ (m : ℕ). Some m) same
 nodes-fold kind n word node least count (x ∷ xs) are =
     let more : count + 1 + length xs ≡ count + suc (length xs) = omega arith in
     ap (λ (o : Option NodesSoFar). fold (with_node_word kind n) o (map word xs) >>= λ nodes. Some nodes.count)

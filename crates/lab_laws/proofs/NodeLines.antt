@@ -70,7 +70,8 @@ module _ (list : Medl) (script : Script) (row : List Entry) (before : History) (
   came = delivered_of list script before row k
 
   none_named : came ≡ None → is_none (option_map (number_delivered list script (row ∷ before) k) came) ≡ true
-  none_named none = ap (λ (o : Option Delivered). is_none (option_map (number_delivered list script (row ∷ before) k) o)) none
+  none_named none = ap (λ (o : Option Delivered).
+      is_none (option_map (number_delivered list script (row ∷ before) k) o)) none
 
   word-named : (e : Entry) → DeliversIfCorrect e came
       → IsTrue (fits_word (word_of e) (peer_of k e) (message_shown list script row before k e))

@@ -49,12 +49,14 @@ module _ (list : Medl) (script : Script) (valid : IsValid list) (valid_script : 
       let kept = counts_line (codes "kept ") P.kept in
       let broken = counts_line (codes "broken ") P.broken in
       let same : counted list script begun events ≡ P = counted-begun list script range events in
-      slots-goes list script valid valid_script own_history (λ slot. nat_le range.first slot && nat_le slot range.last) 0
+      slots-goes list script valid valid_script own_history
+      (λ slot. nat_le range.first slot && nat_le slot range.last) 0
       script.slots begun None (kept ∷ broken ∷ rest) faults (P ∷ pieces) (omega arith)
       (λ slot is. let parts = and_parts (nat_le range.first slot) (nat_le slot range.last) is in
       (leb-true range.first slot parts.0, leb-true slot range.last parts.1)) tt
       (λ after ends. subst
-      (λ (p : Piece). GoesOn (common list script) (due.Fault p after) (kept ∷ broken ∷ rest) faults (P ∷ pieces)) (sym same)
+      (λ (p : Piece). GoesOn (common list script) (due.Fault p after)
+      (kept ∷ broken ∷ rest) faults (P ∷ pieces)) (sym same)
       (counts-lines (common list script) P after rest faults pieces ends goes))
 
   lines-more : (range : Span) (ranges : List Span)
@@ -78,7 +80,8 @@ module _ (list : Medl) (script : Script) (valid : IsValid list) (valid_script : 
       let more = map (piece_over list script) (next ∷ ranges) in
       let own = own-line-ended list script valid valid_script in
       range-goes range (lines_over list script (next ∷ ranges)) others more
-      (subst (λ (ls : Lines). GoesOn (common list script) (due.Piece range.last) ls others more) (lines-more next ranges)
+      (subst (λ (ls : Lines). GoesOn (common list script) (due.Piece range.last) ls others more)
+      (lines-more next ranges)
       (first-lines (common list script) range.last next.first next.last (head_line list script next.first next.last)
       (head_text list script next.first next.last) (own_line list (summary list script))
       (lines_behind next (lines_over list script ranges)) others more (head-ended list script next.first next.last)
@@ -93,7 +96,8 @@ module _ (list : Medl) (script : Script) (valid : IsValid list) (valid_script : 
   unfolding head_of_line
   head-taken range is =
       let text = head_text list script range.first range.last in
-      ap (λ (line : List ℕ). without_feed line >>= campaign_head_in) (head-ended list script range.first range.last).ends
+      ap (λ (line : List ℕ). without_feed line >>= campaign_head_in)
+      (head-ended list script range.first range.last).ends
       ∙ ap (λ (o : Option (List ℕ)). o >>= campaign_head_in) (feed-again text).0
       ∙ head-again list script range.first range.last valid valid_script is.order is.digits
 

@@ -53,7 +53,8 @@ armed-with script e unarmed =
     list_any-append is_arm script.events (e ∷ [])
     ∙ ap (λ (b : Bool). has_arm script || (b || false)) unarmed ∙ or-false (has_arm script)
 
-same-kind : (list : Medl) (a b : Script) (arms : Bool) → is_same_test (test_said_if list a arms) (test_said_if list b arms) ≡ true
+same-kind : (list : Medl) (a b : Script) (arms : Bool)
+    → is_same_test (test_said_if list a arms) (test_said_if list b arms) ≡ true
 same-kind list a b true = refl
 same-kind list a b false = refl
 
@@ -76,7 +77,8 @@ module _ (list : Medl) (script : Script) (valid : IsValid list) (valid_script : 
   own-line-ended =
       let s = summary list script in
       let ended = own-ended list script s (test_said list script) own-run in
-      let same : unended (own_line list s) ≡ own_text list s = ap unended ended.ends ∙ (feed-again (own_text list s)).1 in
+      let same : unended (own_line list s) ≡ own_text list s =
+      ap unended ended.ends ∙ (feed-again (own_text list s)).1 in
       record { ends = ended.ends ∙ ap (λ (t : List ℕ). t ++ newline) (sym same); feed = ap (has 10) same ∙ ended.feed }
 
   pub own-taken : own_of_line (length list.slots) script.slots (own_line list (summary list script))
@@ -130,7 +132,8 @@ module _ (list : Medl) (script : Script) (valid : IsValid list) (valid_script : 
         λ i. spot_at (tried.begins i) (tried.of_node i) (tried.does i) place in
         let cut = fault-words-read (fault_slot e) (fault_node e)
         (s.test ++ (codes " " ++ (cost_words list s.cost ++ (codes " fault " ++ fault_words e)))) words-of
-        (omega (arith, tried.begins, inside, valid_script.slots)) (omega (arith, tried.of_node, node, nodes-most list valid))
+        (omega (arith, tried.begins, inside, valid_script.slots))
+        (omega (arith, tried.of_node, node, nodes-most list valid))
         (run-again s.test (cost_words list s.cost) (fault_words e) read.test_words (cost-words list s.cost)) in
         let found = spot-read before (fault_slot e) (fault_node e) place (doing_of e) words-of
         (tried.first ∙ ap (λ (x : Doing). Some x) (sym tried.does)) (ap (place_behind before) tried.does ∙ at) in
@@ -138,10 +141,12 @@ module _ (list : Medl) (script : Script) (valid : IsValid list) (valid_script : 
         (cost-again list (length list.slots) script.slots s.cost valid_script.slots.1 read.cost)
         (same-test list script e tried.unarmed) in
         let due_there : is_spot_due frame piece before spot (fault_words e) ≡ true =
-        ap (λ (x : Spot). is_spot_due frame piece before x (fault_words e)) same ∙ rw (lies, stands, tried.words) refl in
+        ap (λ (x : Spot). is_spot_due frame piece before x (fault_words e)) same
+        ∙ rw (lies, stands, tried.words) refl in
         ap (λ (line : List ℕ). without_feed line >>= fault_line_in frame piece before) run-line-ended.ends
         ∙ ap (λ (o : Option (List ℕ)). o >>= fault_line_in frame piece before) (feed-again text).0
-        ∙ in-read frame piece before text (record { slot = fault_slot e; node = fault_node e; run = words-of }) spot _ cut
+        ∙ in-read frame piece before text
+        (record { slot = fault_slot e; node = fault_node e; run = words-of }) spot _ cut
         found tells due_there
         ∙ (λ i. Some (record {
           slot = fault_slot e;

@@ -1,5 +1,6 @@
 -- The lines of a run's slots are due one behind the other, and are read as those slots.
-use Rattle.std.proofs.Common.{◌≡◌, ℕ, zero, suc, ◌+◌, ◌<◌, ◌≤◌, ℤ, Bool, true, false, cond, ◌&&◌, not, List, [], ◌∷◌, ◌++◌}
+use Rattle.std.proofs.Common.{◌≡◌, ℕ, zero, suc, ◌+◌, ◌<◌, ◌≤◌, ℤ, Bool, true}
+use Rattle.std.proofs.Common.{false, cond, ◌&&◌, not, List, [], ◌∷◌, ◌++◌}
 use Rattle.std.proofs.Common.{All, length, Option, Some, None, refl, sym, ap, subst, ◌∙◌, arith, append_assoc}
 use Rattle.std.specs.Prelude.{◌==◌, count_by, map, nat_lt}
 use Rattle.std.specs.List.{AllByRecursion, range_with_len}
@@ -69,7 +70,8 @@ module _ (list : Medl) (script : Script) (row : List Entry) (before : History) (
   -- What they wrote.
 
   writes-end : (earlier ws : List HostWrite) (rest : Lines) (hosts : List HostLine)
-      → length earlier + length ws ≤ HOST_EVENT_LIMIT → AllByRecursion (IsWriteRead list script slot HOST_EVENT_LIMIT) ws
+      → length earlier + length ws ≤ HOST_EVENT_LIMIT
+      → AllByRecursion (IsWriteRead list script slot HOST_EVENT_LIMIT) ws
       → EndsWith (due.Host head slot false) rest o (fronted hosts slots)
       → EndsWith (due.Host head slot false) (more_write_lines list script slot earlier ws ++ rest) o
       (fronted (writes_listed list script slot earlier ws ++ hosts) slots)

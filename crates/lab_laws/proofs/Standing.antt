@@ -1,5 +1,5 @@
--- What the line of a node shows lies within its list: its peer and the node that it doubts are nodes of the list, and its
--- counts begin anew with its own slot, so they don't pass a round.
+-- What the line of a node shows lies within its list: its peer and the node that it doubts are nodes of the list, and
+-- its counts begin anew with its own slot, so they don't pass a round.
 use Rattle.std.proofs.Common.{◌≡◌, ◌≢◌, ℕ, ◌+◌, ◌-◌, ◌<◌, ◌≤◌, ℤ, Bool, true, false, cond, List, [], ◌∷◌, length}
 use Rattle.std.proofs.Common.{Option, Some, None, IfSome, refl, sym, subst, ◌∙◌, arith}
 use Rattle.std.specs.Prelude.{◌==◌, nat_le, nat_lt, if◌then◌else◌}

@@ -4,7 +4,8 @@ use Rattle.std.proofs.Common.{◌++◌, All, length, find, Option, Some, None, I
 use Rattle.std.specs.Prelude.{map, not, option_map, filter, nat_lt, slice_get, unwrap_or, reverse}
 use Rattle.std.specs.List.{filter_map, range_with_len, AllByRecursion}
 use Rattle.std.proofs.lemmas.Bool.{cond_both}
-use Rattle.std.proofs.lemmas.List.Elements.{All-nil, All-cons, All-append, All-head, All-tail, All-map, All-from_recursion}
+use Rattle.std.proofs.lemmas.List.Elements.{All-nil, All-cons, All-append, All-head}
+use Rattle.std.proofs.lemmas.List.Elements.{All-tail, All-map, All-from_recursion}
 use Rattle.std.proofs.lemmas.List.Elements.{recursion_from_All}
 use Rattle.ttp_base.specs.NodeSet.{below}
 use Rattle.ttp_base.proofs.Below.{below-lt}
@@ -20,7 +21,8 @@ use Rattle.ttp_world.specs.declared.script.TheConstants.{SLOT_LIMIT}
 use Rattle.ttp_world.specs.Hypothesis.{drifts_hold, errors_hold_in, clocks_broken, window_broken, outside_slot}
 use Rattle.ttp_world.specs.Hypothesis.{is_allowed_jump, lesser, least_of, outside_broken, ClusterStart, start_slot}
 use Rattle.ttp_world.specs.Hypothesis.{starts_in, are_all_on, only_starter, start_in, start_of, nodes_of, FaultyNode}
-use Rattle.ttp_world.specs.Hypothesis.{numbers_of, loss_in, nodes_made, jumpers_in, faulty_nodes_in, faulty_nodes_before}
+use Rattle.ttp_world.specs.Hypothesis.{numbers_of, loss_in, nodes_made, jumpers_in}
+use Rattle.ttp_world.specs.Hypothesis.{faulty_nodes_in, faulty_nodes_before}
 use Rattle.ttp_world.specs.Hypothesis.{breaks_in, loss_broken, first_too_early, fault_slots, distance_broken}
 use Rattle.ttp_world.specs.Hypothesis.{has_four_steady, lacks_steady_after, sync_broken, slots_since_start, unless}
 use Rattle.ttp_world.specs.Hypothesis.{started_keep, keeps}
@@ -173,7 +175,8 @@ module _ (list : Medl) (script : Script) (valid : IsValid list) (valid_script : 
   outside_in (event.Flip node channels bit slot) is = is.3
   outside_in (event.Arm node slot) is = is.1
   outside_in (event.Jump node value slot) is =
-      cond_both (is_allowed_jump list script node slot) None (Some slot) (IsIn script.slots) (λ allowed. tt) (λ other. is.2)
+      cond_both (is_allowed_jump list script node slot) None (Some slot)
+      (IsIn script.slots) (λ allowed. tt) (λ other. is.2)
   outside_in (event.Send node channels f from to) is = tt
   outside_in e is = tt
 
@@ -189,7 +192,8 @@ module _ (list : Medl) (script : Script) (valid : IsValid list) (valid_script : 
       → IfSome (disturbed_slot list script e) (λ n. n < script.slots)
   disturbed_in (event.Flip node channels bit slot) is = is.3
   disturbed_in (event.Jump node value slot) is =
-      cond_both (is_allowed_jump list script node slot) None (Some slot) (IsIn script.slots) (λ allowed. tt) (λ other. is.2)
+      cond_both (is_allowed_jump list script node slot) None (Some slot)
+      (IsIn script.slots) (λ allowed. tt) (λ other. is.2)
   disturbed_in (event.Arm node slot) is = tt
   disturbed_in e is = tt
 

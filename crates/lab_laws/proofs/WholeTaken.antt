@@ -13,7 +13,8 @@ use Rattle.ttp_world.specs.Legal.{IsLegal}
 use Rattle.ttp_world.specs.Medl.{IsValid, member_bytes}
 use Rattle.ttp_world.specs.Returning.{has_arm, returns}
 use Rattle.ttp_world.specs.Script.{IsValidScript}
-use Rattle.ttp_world.specs.Trace.{back_line, back_lines_if, history_lines, keep_line, test_lines, trace_head, trace_lines}
+use Rattle.ttp_world.specs.Trace.{back_line, back_lines_if, history_lines, keep_line}
+use Rattle.ttp_world.specs.Trace.{test_lines, trace_head, trace_lines}
 use Rattle.ttp_world.specs.World.{Numbers, world}
 use Rattle.ttp_world.proofs.Lists.{nodes-most}
 use Rattle.ttp_world.proofs.TraceLines.{trace_lines-each}

@@ -32,7 +32,8 @@ slot_0 = record {
       ∷ shown word.Correct (Some 0) None (1 ∷ 2 ∷ []) 3 1 ack.Closed (pos 0)
       ∷ shown word.Off None None ([]) 0 0 ack.Closed (pos 0)
       ∷ [];
-  hosts = (line.Write 0 5) ∷ (line.Write 0 6) ∷ (line.Read 1 (source.Node 0) 3 (10 ∷ [])) ∷ (line.Read 1 (source.Node 0) 4 (10 ∷ 11 ∷ [])) ∷ [];
+  hosts = (line.Write 0 5) ∷ (line.Write 0 6) ∷ (line.Read 1 (source.Node 0) 3 (10 ∷ []))
+      ∷ (line.Read 1 (source.Node 0) 4 (10 ∷ 11 ∷ [])) ∷ [];
 }
 
 abbrev pub slot_1 : SlotLines

@@ -44,7 +44,8 @@ abbrev pub loss_text : List ℕ → List ℕ → List ℕ → List ℕ
 loss_text answer words fault = codes "slot 8 node 1 " ++ answer ++ words ++ codes " fault send 1 " ++ fault
 
 abbrev pub jump_text : List ℕ → List ℕ → List ℕ → List ℕ
-jump_text answer words fault = codes "slot 9 node 0 " ++ answer ++ words ++ codes " fault jump 0 " ++ fault ++ codes " 9"
+jump_text answer words fault = codes "slot 9 node 0 " ++ answer ++ words
+    ++ codes " fault jump 0 " ++ fault ++ codes " 9"
 
 -- What it says.
 

@@ -1,5 +1,6 @@
 -- Each line of a campaign is one line: its one line feed is its last byte.
-use Rattle.std.proofs.Common.{◌≡◌, ℕ, zero, suc, ◌+◌, ◌-◌, Bool, true, false, cond, List, [], ◌∷◌, ◌++◌, map, length, take}
+use Rattle.std.proofs.Common.{◌≡◌, ℕ, zero, suc, ◌+◌, ◌-◌, Bool, true, false}
+use Rattle.std.proofs.Common.{cond, List, [], ◌∷◌, ◌++◌, map, length, take}
 use Rattle.std.proofs.Common.{Option, Some, None, refl, arith, codes, decimal}
 use Rattle.std.specs.Prelude.{◌==◌}
 use Rattle.std.specs.Fmt.{signed_decimal}
@@ -106,7 +107,8 @@ cost-none list cost =
     four-none (listed (map leave_word cost.left)) (listed (map decimal cost.hurt)) (span_words cost.split)
     (listed (map (members_word list) cost.end)) (listed-none leave_word leave-none cost.left)
     (listed-none decimal none-decimal cost.hurt) (span-none cost.split)
-    (listed-none (members_word list) (λ members. has-hex 10 (member_digits list) (set_bits members) (omega arith)) cost.end)
+    (listed-none (members_word list)
+    (λ members. has-hex 10 (member_digits list) (set_bits members) (omega arith)) cost.end)
 
 -- The fault.
 
@@ -127,7 +129,8 @@ loss-none word node channels kind from to p q r s t u = simp (list_any-append (�
 pub loss_words-none : (word : List ℕ) (node : ℕ) (channels : Channels) (kind : Fault) (from to : ℕ) → HasNone word
     → HasNone (loss_words word node channels kind from to)
 loss_words-none word node channels kind from to none =
-    loss-none word (decimal node) (channels_word channels) (kind_word kind) (decimal from) (decimal to) none (none-decimal node)
+    loss-none word (decimal node) (channels_word channels) (kind_word kind)
+    (decimal from) (decimal to) none (none-decimal node)
     (channels-none channels.a channels.b) (kind-none kind) (none-decimal from) (none-decimal to)
 
 pub jump-none : (node value slot : List ℕ) → HasNone node → HasNone value → HasNone slot
@@ -139,7 +142,8 @@ fault-none (event.Send node channels kind from to) = loss_words-none (codes "sen
 fault-none (event.Receive node channels kind from to) =
     loss_words-none (codes "receive ") node channels kind from to refl
 fault-none (event.Jump node value slot) =
-    jump-none (decimal node) (signed_decimal value) (decimal slot) (none-decimal node) (has-signed 10 value (omega arith)) (none-decimal slot)
+    jump-none (decimal node) (signed_decimal value) (decimal slot) (none-decimal node)
+    (has-signed 10 value (omega arith)) (none-decimal slot)
 fault-none (event.Flip node channels bit slot) = refl
 fault-none e = refl
 
@@ -149,7 +153,8 @@ head-by : (nodes slots first last : List ℕ) → HasNone nodes → HasNone slot
     → is_line (codes "ttplab campaign 1 nodes " ++ nodes ++ codes " slots " ++ slots ++ codes " from " ++ first
     ++ codes " to " ++ last ++ newline) ≡ true
 head-by nodes slots first last p q r s =
-    ended (codes "ttplab campaign 1 nodes " ++ nodes ++ codes " slots " ++ slots ++ codes " from " ++ first ++ codes " to "
+    ended (codes "ttplab campaign 1 nodes " ++ nodes ++ codes " slots " ++ slots
+    ++ codes " from " ++ first ++ codes " to "
     ++ last) (simp (list_any-append (λ c. c == 10), p, q, r, s))
 
 head-is_line : (list : Medl) (script : Script) (first last : ℕ) → is_line (head_line list script first last) ≡ true
@@ -177,7 +182,8 @@ counts-by : (name runs same hurt split torn dead : List ℕ) → HasNone name �
     → is_line (name ++ runs ++ codes " same " ++ same ++ codes " hurt " ++ hurt ++ codes " split " ++ split
     ++ codes " torn " ++ torn ++ codes " dead " ++ dead ++ newline) ≡ true
 counts-by name runs same hurt split torn dead p q r s t u v =
-    ended (name ++ runs ++ codes " same " ++ same ++ codes " hurt " ++ hurt ++ codes " split " ++ split ++ codes " torn "
+    ended (name ++ runs ++ codes " same " ++ same ++ codes " hurt " ++ hurt
+    ++ codes " split " ++ split ++ codes " torn "
     ++ torn ++ codes " dead " ++ dead) (simp (list_any-append (λ c. c == 10), p, q, r, s, t, u, v))
 
 pub own-is_line : (list : Medl) (script : Script) → is_line (own_line list (summary list script)) ≡ true
@@ -188,13 +194,15 @@ own-is_line list script =
 run-is_line : (list : Medl) (more : Script) (e : Event) → is_line (fault_line list e (summary list more)) ≡ true
 run-is_line list more e =
     run-by (decimal (fault_slot e)) (decimal (fault_node e)) (test_words list more)
-    (cost_words list (summary list more).cost) (fault_words e) (none-decimal (fault_slot e)) (none-decimal (fault_node e))
+    (cost_words list (summary list more).cost) (fault_words e)
+    (none-decimal (fault_slot e)) (none-decimal (fault_node e))
     (test-none list more) (cost-none list (summary list more).cost) (fault-none e)
 
 counts-is_line : (name : List ℕ) (counts : Counts) → HasNone name → is_line (counts_line name counts) ≡ true
 counts-is_line name counts none =
     counts-by name (decimal counts.runs) (decimal counts.same) (decimal counts.hurt) (decimal counts.split)
-    (decimal counts.torn) (decimal counts.dead) none (none-decimal counts.runs) (none-decimal counts.same) (none-decimal counts.hurt)
+    (decimal counts.torn) (decimal counts.dead) none (none-decimal counts.runs)
+    (none-decimal counts.same) (none-decimal counts.hurt)
     (none-decimal counts.split) (none-decimal counts.torn) (none-decimal counts.dead)
 
 runs-each : (list : Medl) (script : Script) (faults : List Event) → AreLines (map (run_line list script) faults)

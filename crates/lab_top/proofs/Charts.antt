@@ -1,5 +1,6 @@
 -- A call that shows no chart, since no slot is to be shown, or since memory was refused.
-use Rattle.std.proofs.Common.{◌≡◌, ℕ, ◌∙◌, Bool, arith, cond, List, [], ◌∷◌, length, rules, Option, Result, Ok, Err, refl, sym, ap, subst, inl, inr, nat_lt}
+use Rattle.std.proofs.Common.{◌≡◌, ℕ, ◌∙◌, Bool, arith, cond, List, [], ◌∷◌, length, rules, Option}
+use Rattle.std.proofs.Common.{Result, Ok, Err, refl, sym, ap, subst, inl, inr, nat_lt}
 use Rattle.std.specs.Prelude.{codes}
 use Rattle.std.proofs.lemmas.Bool.{lt-ltb}
 use Rattle.ttp_base.specs.Outside.{Output, Wrote, WroteLines, CutShort}
@@ -37,7 +38,8 @@ some-slot : (asked : Option Span) (text : List ℕ) (campaign : WholeCampaign) �
 some-slot asked text campaign read some =
     ap (if_shown (chart_view asked)) (sym read) ∙ go (slots_shown campaign asked) some
   where
-    go : (slots : List ℕ) → ¬ (slots ≡ []) → cond (nat_lt 0 (length slots)) (Ok campaign) (Err fault.NoSlot) ≡ Ok campaign
+    go : (slots : List ℕ) → ¬ (slots ≡ [])
+        → cond (nat_lt 0 (length slots)) (Ok campaign) (Err fault.NoSlot) ≡ Ok campaign
     go [] some = absurd (some refl)
     go (t ∷ slots) some =
         ap (λ (b : Bool). cond b (Ok campaign) (Err fault.NoSlot)) (lt-ltb 0 (length (t ∷ slots)) (omega arith))
@@ -55,15 +57,18 @@ pub shows_whole : (asked : Option Span) (text : List ℕ) (campaign : WholeCampa
     → WroteLines before now (chart_lines campaign asked)
     → ShowsEnding ttplab (viewed_ending (chart_view asked) (viewed (chart_view asked) text)) before now (alone 0)
 shows_whole asked text campaign before now read some wrote =
-    subst (λ (r : Result WholeCampaign TextFault). ShowsEnding ttplab (viewed_ending (chart_view asked) r) before now (alone 0))
+    subst (λ (r : Result WholeCampaign TextFault).
+    ShowsEnding ttplab (viewed_ending (chart_view asked) r) before now (alone 0))
     (sym (some-slot asked text campaign read some)) (all-written (chart_lines campaign asked) before now wrote)
 
-pub shows_cut : (asked : Option Span) (text : List ℕ) (campaign : WholeCampaign) (why : ChartFault) (before now : Output)
+pub shows_cut : (asked : Option Span) (text : List ℕ) (campaign : WholeCampaign)
+    (why : ChartFault) (before now : Output)
     → Ok campaign ≡ value_from campaign_in text → why ≡ none.Failed → ¬ (slots_shown campaign asked ≡ [])
     → LeftOfChart why (slots_shown campaign asked) before now (chart_lines campaign asked)
     → ShowsEnding ttplab (viewed_ending (chart_view asked) (viewed (chart_view asked) text)) before now (alone 6)
 shows_cut asked text campaign none.Failed before now read is some left =
-    subst (λ (r : Result WholeCampaign TextFault). ShowsEnding ttplab (viewed_ending (chart_view asked) r) before now (alone 6))
+    subst (λ (r : Result WholeCampaign TextFault).
+    ShowsEnding ttplab (viewed_ending (chart_view asked) r) before now (alone 6))
     (sym (some-slot asked text campaign read some)) (cut-short (chart_lines campaign asked) before now left)
 shows_cut asked text campaign none.NoSlot before now read is some left = absurd (cc)
 shows_cut asked text campaign none.Memory before now read is some left = absurd (cc)
@@ -90,7 +95,8 @@ unfinished-none view (Ok value) = refl
 unfinished-none view (Err fault) = refl
 
 -- nothing was written
-pub shows_nothing : {Value : Type 0} (view : View Value) (read : Result Value TextFault) (why : ChartFault) (shown : List ℕ)
+pub shows_nothing : {Value : Type 0} (view : View Value)
+    (read : Result Value TextFault) (why : ChartFault) (shown : List ℕ)
     (lines : Lines) (before now : Output) → why ≡ none.Memory → LeftOfChart why shown before now lines
     → ShowsEnding ttplab (viewed_ending view read) before now (alone 7)
 shows_nothing view read none.Memory shown lines before now is left =

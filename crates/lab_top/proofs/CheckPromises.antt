@@ -1,5 +1,6 @@
 -- The promise of `check` in its own words, from the promise of every form.
-use Rattle.std.proofs.Common.{◌≡◌, ◌⊎◌, ℕ, ◌<◌, ◌≤◌, List, [], ◌∷◌, length, Option, Some, None, refl, sym, subst, inl, inr, arith}
+use Rattle.std.proofs.Common.{◌≡◌, ◌⊎◌, ℕ, ◌<◌, ◌≤◌, List, [], ◌∷◌, length, Option}
+use Rattle.std.proofs.Common.{Some, None, refl, sym, subst, inl, inr, arith}
 use Rattle.ttp_base.specs.Outside.{Load, HasRisen, Output, Wrote, WroteLines, CutShort}
 use Rattle.ttp_base.specs.Text.{Lines}
 use Rattle.fault_runs.specs.Ends.{WroteFewer}
@@ -13,14 +14,16 @@ use Rattle.commands.specs.Read.{list_limit}
 use Rattle.commands.specs.Texts.{WroteAmong, alone}
 use Rattle.commands.proofs.Plans.{AllAsk, end_comes}
 use Rattle.commands.proofs.Told.{Quiet, told_shows, told_cut, told_leaves}
-use Rattle.lab_top.specs.CheckPromise.{GaveFile, GaveBeside, WroteCheck, BeganCheck, HoldsFile, HoldsBeside, CheckPromise}
+use Rattle.lab_top.specs.CheckPromise.{GaveFile, GaveBeside, WroteCheck, BeganCheck}
+use Rattle.lab_top.specs.CheckPromise.{HoldsFile, HoldsBeside, CheckPromise}
 use Rattle.lab_top.specs.Forms.{check_ending, check_plan}
 use Rattle.lab_top.specs.Texts.{IsProperFront, LabEnding, LabAnswer, ttplab}
 use Rattle.lab_top.proofs.LinesPromises.{fewer, none_of}
 
 -- What the call that writes leaves, as the ending of the form has it.
 
-pub check_shown : (file : Named) (beside : Option Named) (before now : Output) (status : ℕ) → status ≡ check_status file beside
+pub check_shown : (file : Named) (beside : Option Named) (before now : Output) (status : ℕ) → status
+    ≡ check_status file beside
     → WroteLines before now (check_lines file beside)
     → ShowsEnding ttplab (check_ending file beside) before now (alone status)
 check_shown file beside before now status is wrote =
@@ -102,8 +105,7 @@ module _ (list : List ℕ) (script : Option (List ℕ)) (before now : Outside) (
         script_file = c.script_file;
         answered = showed.status;
         agrees = is_told c.file c.beside;
-        wrote =
-            subst (λ (text : Lines). WroteLines before.output now.output text) showed.text.among showed.text.wrote;
+        wrote = subst (λ (text : Lines). WroteLines before.output now.output text) showed.text.among showed.text.wrote;
       }
 
   module _ (file : Named) (beside : Option Named) (holds : HoldsFile list list_limit before now file)
@@ -150,7 +152,8 @@ module _ (list : List ℕ) (script : Option (List ℕ)) (before now : Outside) (
   begun_by (inl none) = inl none
   begun_by (inr some) =
       let c = came list script before call.loads some.0 some.1.comes in
-      let left = subst (λ (e : LabEnding). WroteAmong ttplab e.unfinished before.output now.output) (sym c.same) some.2 in
+      let left = subst (λ (e : LabEnding).
+      WroteAmong ttplab e.unfinished before.output now.output) (sym c.same) some.2 in
       inr (record {
         file = c.file;
         beside = c.beside;

@@ -1,5 +1,6 @@
 -- What holds of each ending of a form: what its texts are made of, and what its status and the form tell of each other.
-use Rattle.std.proofs.Common.{◌≡◌, ℕ, true, false, ◌++◌, [], ◌∷◌, Option, Some, None, Result, Ok, Err, refl, subst, arith}
+use Rattle.std.proofs.Common.{◌≡◌, ℕ, true, false, ◌++◌, [], ◌∷◌, Option, Some}
+use Rattle.std.proofs.Common.{None, Result, Ok, Err, refl, subst, arith}
 use Rattle.std.proofs.Common.{List, Bool}
 use Rattle.std.specs.Prelude.{codes, if◌then◌else◌}
 use Rattle.ttp_base.specs.Text.{Lines, lines_of, newline, is_line}
@@ -36,7 +37,8 @@ use Rattle.lab_top.specs.Help.{help_lines, version_line}
 use Rattle.lab_top.specs.Refusals.{text_fault_line}
 use Rattle.lab_top.specs.Texts.{begun, differences, LabEnding, ttplab}
 use Rattle.lab_top.specs.Views.{View, viewed, wave_view, picture_view, chart_view}
-use Rattle.lab_top.specs.Words.{LabForm, wave, picture, campaign, chart, check, frames, margins, pairs, script_by, help, version, why}
+use Rattle.lab_top.specs.Words.{LabForm, wave, picture, campaign, chart, check, frames}
+use Rattle.lab_top.specs.Words.{margins, pairs, script_by, help, version, why}
 use Rattle.lab_top.specs.Words.{may_be_begun, tells_differences, reads_list}
 use Rattle.lab_top.proofs.CampaignLines.{campaign_lines-each}
 use Rattle.lab_top.proofs.Differences.{differences-each}
@@ -86,11 +88,13 @@ view_ends form view text (Err fault) is lines = record {
 }
 
 missing-line : (kind : List ℕ) → has 10 kind ≡ false → is_line (codes "load: " ++ kind ++ newline) ≡ true
-missing-line kind plain = is_line-append (codes "load: ") (kind ++ newline) refl (is_line-append kind newline plain refl)
+missing-line kind plain =
+    is_line-append (codes "load: ") (kind ++ newline) refl (is_line-append kind newline plain refl)
 
 of_view : {Value : Type 0} (form : Option LabForm) (view : View Value) (name : List ℕ) → IsOfLines view
     → Every (IsOfForm form) SaysLine (view_plan view name)
-of_view form view name lines = (missing-line view.kind lines.plain, λ text. view_ends form view text (viewed view text) refl lines)
+of_view form view name lines =
+    (missing-line view.kind lines.plain, λ text. view_ends form view text (viewed view text) refl lines)
 
 -- the endings of a list or a script that is refused are those of the forms that read them
 
@@ -162,7 +166,8 @@ of_check list (Some script) = (
   λ text. (
     refl,
     λ other.
-        check_ends list (Some script) (record { name = list; text = text }) (Some (record { name = script; text = other })),
+        check_ends list (Some script) (record { name = list; text = text })
+        (Some (record { name = script; text = other })),
   ),
 )
 
@@ -204,7 +209,8 @@ of_frames : (list script trace : List ℕ)
     → Every (IsOfForm (Some (frames list script trace))) SaysLine (frames_plan list script trace)
 of_frames list script trace =
     let form = Some (frames list script trace) in
-    both_every (IsOfForm form) SaysLine list script (λ medl right. trace_plan trace (λ text. ends (frames_ending medl right text)))
+    both_every (IsOfForm form) SaysLine list script
+    (λ medl right. trace_plan trace (λ text. ends (frames_ending medl right text)))
     refl refl (no_list form refl) (no_script form)
     (λ medl right. (refl, λ text. frames_ends list script trace medl right text (is_trace medl right text)))
 
@@ -257,7 +263,13 @@ of_why list script k slot =
     ))
 
 help-each : AreLines help_lines
-help-each = (refl, (refl, (refl, (refl, (refl, (refl, (refl, (refl, (refl, (refl, (refl, (refl, (refl, (refl, tt))))))))))))))
+help-each = (
+  refl,
+  (
+    refl,
+    (refl, (refl, (refl, (refl, (refl, (refl, (refl, (refl, (refl, (refl, (refl, (refl, tt)))))))))))),
+  ),
+)
 
 pub lab_forms : (form : Option LabForm) → Every (IsOfForm form) SaysLine (lab_plan_of form)
 lab_forms None = record {
@@ -284,7 +296,8 @@ lab_forms (Some (margins list script asked)) =
     of_both (Some (margins list script asked)) refl refl (λ medl right. margin_lines medl right asked)
     (λ medl right. margin_lines-each medl right asked) list script
 lab_forms (Some (pairs list script first last within)) =
-    of_both (Some (pairs list script first last within)) refl refl (λ medl right. pairs_lines medl right first last within)
+    of_both (Some (pairs list script first last within)) refl refl
+    (λ medl right. pairs_lines medl right first last within)
     (λ medl right. pairs_lines-each medl right first last within) list script
 lab_forms (Some (script_by list slots number)) = of_script list slots number
 lab_forms (Some (why list script k slot)) = of_why list script k slot

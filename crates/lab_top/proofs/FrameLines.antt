@@ -1,5 +1,6 @@
 -- Each line of the text of frames is one line: its one line feed is its last byte.
-use Rattle.std.proofs.Common.{◌≡◌, ℕ, ◌+◌, Bool, true, false, cond, List, [], ◌∷◌, ◌++◌, map, length, take, drop, refl, arith}
+use Rattle.std.proofs.Common.{◌≡◌, ℕ, ◌+◌, Bool, true, false, cond, List, [], ◌∷◌}
+use Rattle.std.proofs.Common.{◌++◌, map, length, take, drop, refl, arith}
 use Rattle.std.proofs.Common.{codes, decimal}
 use Rattle.std.specs.Prelude.{◌==◌, nat_le}
 use Rattle.std.specs.Fmt.{signed_decimal}
@@ -24,7 +25,8 @@ use Rattle.ttp_frame.specs.Match.{match_of}
 use Rattle.ttp_frame.specs.declared.judging.FrameMatch.{FrameMatch}
 use Rattle.ttp_frame.specs.declared.judging.FrameMatch.TheVariants.{Match, Differs, Invalid}
 use Rattle.bus_frames.specs.declared.sending.Sending.{Sending}
-use Rattle.bus_frames.specs.FrameText.{frame_head, channel_letter, frame_kind, match_word, spaced, byte_words, line_front}
+use Rattle.bus_frames.specs.FrameText.{frame_head, channel_letter, frame_kind, match_word}
+use Rattle.bus_frames.specs.FrameText.{spaced, byte_words, line_front}
 use Rattle.bus_frames.specs.FrameText.{found_word, signal_line, frame_line, bus_line, channel_lines, frame_slot_lines}
 use Rattle.bus_frames.specs.FrameText.{frame_history_lines, frame_lines}
 use Rattle.bus_frames.specs.Sending.{frames_sent, sending_in}
@@ -34,12 +36,14 @@ use Rattle.lab_top.proofs.CampaignLines.{ended}
 
 -- The first line.
 
-head-by : (version nodes rounds slots schedule : List ℕ) → HasNone version → HasNone nodes → HasNone rounds → HasNone slots
+head-by : (version nodes rounds slots schedule : List ℕ) → HasNone version
+    → HasNone nodes → HasNone rounds → HasNone slots
     → HasNone schedule
     → is_line (codes "ttplab frames " ++ version ++ codes " nodes " ++ nodes ++ codes " rounds " ++ rounds
     ++ codes " slots " ++ slots ++ codes " schedule " ++ schedule ++ newline) ≡ true
 head-by version nodes rounds slots schedule p q r s t =
-    ended (codes "ttplab frames " ++ version ++ codes " nodes " ++ nodes ++ codes " rounds " ++ rounds ++ codes " slots "
+    ended (codes "ttplab frames " ++ version ++ codes " nodes " ++ nodes
+    ++ codes " rounds " ++ rounds ++ codes " slots "
     ++ slots ++ codes " schedule " ++ schedule) (simp (list_any-append (λ c. c == 10), p, q, r, s, t))
 
 head-is_line : (list : Medl) (script : Script) → is_line (frame_head list script) ≡ true
@@ -91,11 +95,13 @@ byte_words-none width header size bytes =
 
 -- A line.
 
-front-by : (slot letter node kind word clock state : List ℕ) → HasNone slot → HasNone letter → HasNone node → HasNone kind
+front-by : (slot letter node kind word clock state : List ℕ) → HasNone slot
+    → HasNone letter → HasNone node → HasNone kind
     → HasNone word → HasNone clock → HasNone state
     → HasNone (codes "slot " ++ slot ++ codes " " ++ letter ++ codes " node " ++ node ++ codes " " ++ kind ++ codes " "
     ++ word ++ codes " clock " ++ clock ++ codes " state " ++ state)
-front-by slot letter node kind word clock state p q r s t u v = simp (list_any-append (λ c. c == 10), p, q, r, s, t, u, v)
+front-by slot letter node kind word clock state p q r s t u v =
+    simp (list_any-append (λ c. c == 10), p, q, r, s, t, u, v)
 
 front-none : (list : Medl) (slot : ℕ) (c : Channel) (sending : Sending) (word : List ℕ) → HasNone word
     → HasNone (line_front list slot c sending word)

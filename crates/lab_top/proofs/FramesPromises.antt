@@ -3,7 +3,8 @@ use Rattle.std.proofs.Common.{◌≡◌, ◌⊎◌, ℕ, ◌+◌, ◌≤◌, Boo
 use Rattle.std.proofs.Common.{◌∙◌, inl, inr, arith}
 use Rattle.std.specs.Prelude.{if◌then◌else◌}
 use Rattle.std.proofs.lemmas.List.{take_all}
-use Rattle.ttp_base.specs.Outside.{Held, untold, absent, holds, Load, Gives, HasRisen, Output, Wrote, WroteLines, CutShort}
+use Rattle.ttp_base.specs.Outside.{Held, untold, absent, holds, Load, Gives, HasRisen}
+use Rattle.ttp_base.specs.Outside.{Output, Wrote, WroteLines, CutShort}
 use Rattle.ttp_base.specs.Text.{Lines}
 use Rattle.ttp_world.specs.declared.medl.Medl.{Medl}
 use Rattle.ttp_world.specs.declared.script.Script.{Script}
@@ -24,7 +25,8 @@ use Rattle.commands.proofs.Told.{Quiet, told_shows, told_cut}
 use Rattle.lab_top.specs.Forms.{frames_ending, frames_plan}
 use Rattle.trace_check.specs.Difference.{IsDifference}
 use Rattle.lab_top.specs.Frames.{frames_named}
-use Rattle.lab_top.specs.FramesPromise.{MayBeAll, WroteFrames, WroteDifference, CutDifference, ToldDifference, AreAllTold}
+use Rattle.lab_top.specs.FramesPromise.{MayBeAll, WroteFrames, WroteDifference, CutDifference}
+use Rattle.lab_top.specs.FramesPromise.{ToldDifference, AreAllTold}
 use Rattle.lab_top.specs.FramesPromise.{FramesPromise}
 use Rattle.lab_top.specs.Texts.{differences, LabEnding, LabPlan, LabAnswer, ttplab}
 use Rattle.lab_top.specs.ViewPromise.{WroteOrNone}
@@ -54,7 +56,8 @@ record CutVerdict (medl : Medl) (right : Script) (text : List ℕ) (before now :
 
 abbrev ending_by : Medl → Script → List ℕ → Bool → LabEnding
 ending_by medl right text same =
-    if same then whole_ending 0 (one (frames_named medl right text)) else whole_ending 1 (those (differences medl right text))
+    if same then whole_ending 0 (one (frames_named medl right text))
+    else whole_ending 1 (those (differences medl right text))
 
 -- an ending is a verdict on the text
 ending-verdict : (medl : Medl) (right : Script) (text : List ℕ) (status : ℕ) (lines : Lines) (same : Bool)
@@ -91,12 +94,14 @@ module _ (medl : Medl) (right : Script) (limit : ℕ) (most : HaveAtMost medl ri
         lines = showed.text.lines;
         verdict =
             verdict-whole answer.status showed.text.lines
-            (ending-verdict medl right front answer.status showed.text.lines (is_trace medl right front) refl showed.status
+            (ending-verdict medl right front answer.status showed.text.lines
+            (is_trace medl right front) refl showed.status
             showed.text.among);
         wrote = showed.text.wrote;
       }
 
-  cut-verdict : (before now : Output) → CutAmong ttplab (frames_ending medl right (take (limit + 1) text)).texts before now
+  cut-verdict : (before now : Output)
+      → CutAmong ttplab (frames_ending medl right (take (limit + 1) text)).texts before now
       → CutVerdict medl right text before now
   cut-verdict before now cut =
       let front = take (limit + 1) text in

@@ -41,7 +41,8 @@ three-none word node slot last p q r s = simp (list_any-append (λ c. c == 10), 
 event-none : (e : Event) → HasNone (event_words e)
 unfolding event_words
 event-none (event.Send node channels kind from to) = loss_words-none (codes "send ") node channels kind from to refl
-event-none (event.Receive node channels kind from to) = loss_words-none (codes "receive ") node channels kind from to refl
+event-none (event.Receive node channels kind from to) =
+    loss_words-none (codes "receive ") node channels kind from to refl
 event-none (event.Flip node channels bit slot) =
     flip-none (decimal node) (channels_word channels) (decimal bit) (decimal slot) (none-decimal node)
     (channels-none channels.a channels.b) (none-decimal bit) (none-decimal slot)
@@ -49,14 +50,17 @@ event-none (event.Error node value from to) =
     error-none (decimal node) (signed_decimal value) (decimal from) (decimal to) (none-decimal node)
     (has-signed 10 value (omega arith)) (none-decimal from) (none-decimal to)
 event-none (event.Jump node value slot) =
-    jump-none (decimal node) (signed_decimal value) (decimal slot) (none-decimal node) (has-signed 10 value (omega arith))
+    jump-none (decimal node) (signed_decimal value) (decimal slot)
+    (none-decimal node) (has-signed 10 value (omega arith))
     (none-decimal slot)
 event-none (event.Arm node slot) = arm-none (decimal node) (decimal slot) (none-decimal node) (none-decimal slot)
 event-none (event.Write node slot payload) =
-    three-none (codes "write ") (decimal node) (decimal slot) (hex_bytes payload) refl (none-decimal node) (none-decimal slot)
+    three-none (codes "write ") (decimal node) (decimal slot) (hex_bytes payload)
+    refl (none-decimal node) (none-decimal slot)
     (has-hex_bytes 10 payload (omega arith))
 event-none (event.Read node slot from) =
-    three-none (codes "read ") (decimal node) (decimal slot) (source_word from) refl (none-decimal node) (none-decimal slot)
+    three-none (codes "read ") (decimal node) (decimal slot) (source_word from)
+    refl (none-decimal node) (none-decimal slot)
     (none-source from)
 
 -- The lines.
@@ -72,7 +76,8 @@ on-is_line : (k slot : ℕ) → is_line (on_line k slot) ≡ true
 unfolding on_line
 on-is_line k slot = by (decimal k) (decimal slot) (none-decimal k) (none-decimal slot)
   where
-    by : (node at : List ℕ) → HasNone node → HasNone at → is_line (codes "on " ++ node ++ codes " " ++ at ++ newline) ≡ true
+    by : (node at : List ℕ) → HasNone node → HasNone at
+        → is_line (codes "on " ++ node ++ codes " " ++ at ++ newline) ≡ true
     by node at p q = ended (codes "on " ++ node ++ codes " " ++ at) (simp (list_any-append (λ c. c == 10), p, q))
 
 drift-is_line : (k : ℕ) (value : ℤ) → is_line (drift_line k value) ≡ true
@@ -82,7 +87,8 @@ drift-is_line k value =
   where
     by : (node drift : List ℕ) → HasNone node → HasNone drift
         → is_line (codes "drift " ++ node ++ codes " " ++ drift ++ newline) ≡ true
-    by node drift p q = ended (codes "drift " ++ node ++ codes " " ++ drift) (simp (list_any-append (λ c. c == 10), p, q))
+    by node drift p q = ended (codes "drift " ++ node ++ codes " " ++ drift)
+        (simp (list_any-append (λ c. c == 10), p, q))
 
 on-each : (k : ℕ) (on : Option ℕ) → AreLines (on_lines k on)
 on-each k None = tt
@@ -102,7 +108,8 @@ events-each (e ∷ events) = (ended (event_words e) (event-none e), events-each 
 flat-each : (lines : ℕ → Lines) → ((k : ℕ) → AreLines (lines k)) → (ks : List ℕ) → AreLines (flat_map lines ks)
 flat-each lines each [] = tt
 flat-each lines each (k ∷ ks) =
-    each-append (λ (line : List ℕ). is_line line ≡ true) (lines k) (flat_map lines ks) (each k) (flat-each lines each ks)
+    each-append (λ (line : List ℕ). is_line line ≡ true) (lines k)
+    (flat_map lines ks) (each k) (flat-each lines each ks)
 
 pub script_lines-each : (script : Script) → AreLines (script_lines script)
 unfolding script_lines
@@ -111,6 +118,7 @@ script_lines-each script = (
   each-append (λ (line : List ℕ). is_line line ≡ true) (all_on_lines script) _
       (flat-each (λ k. on_lines k (on_slot script k)) (λ k. on-each k (on_slot script k)) (below (length script.on)))
       (each-append (λ (line : List ℕ). is_line line ≡ true) (all_drift_lines script) (map event_line script.events)
-      (flat-each (λ k. drift_lines k (drift_of script k)) (λ k. drift-each k (drift_of script k)) (below (length script.drift)))
+      (flat-each (λ k. drift_lines k (drift_of script k))
+      (λ k. drift-each k (drift_of script k)) (below (length script.drift)))
       (events-each script.events)),
 )

@@ -4,7 +4,8 @@ use Rattle.std.proofs.Common.{Option, Some, None, refl, ap, ◌∙◌, codes, ar
 use Rattle.std.specs.Prelude.{flat_map}
 use Rattle.std.specs.List.{list_all}
 use Rattle.std.proofs.lemmas.Bool.{and_parts}
-use Rattle.line_form.specs.Kinds.{Kind, number, signed, hexed, hexed_or, one_of, payload, or_dash, commas, named, joined, free}
+use Rattle.line_form.specs.Kinds.{Kind, number, signed, hexed, hexed_or, one_of}
+use Rattle.line_form.specs.Kinds.{payload, or_dash, commas, named, joined, free}
 use Rattle.line_form.specs.Kinds.{Value, spell, each_behind, listed_words}
 use Rattle.line_form.specs.Forms.{LineForm, Values, spelled, spelled_line}
 use Rattle.line_form.proofs.FormLaws.{spelled-more}
@@ -17,7 +18,8 @@ use Rattle.ttp_world.proofs.LineLists.{each-append}
 use Rattle.campaign.specs.declared.cost.Span.{Span}
 use Rattle.ttp_world.specs.ZerosWorld.{zeros_world}
 use Rattle.clock_margins.specs.declared.margin.Sweep.{Sweep}
-use Rattle.clock_margins.specs.Forms.{margins_head_form, margins_head_values, range_form, range_values, outcome_form, outcome_values}
+use Rattle.clock_margins.specs.Forms.{margins_head_form, margins_head_values, range_form}
+use Rattle.clock_margins.specs.Forms.{range_values, outcome_form, outcome_values}
 use Rattle.clock_margins.specs.Forms.{margin_form, margin_values, all_form, all_values}
 use Rattle.clock_margins.specs.MarginText.{tolds_of, range_line, sweep_margin, sweep_lines}
 use Rattle.clock_margins.specs.MarginText.{lines_of_sweeps, margin_lines}
@@ -102,7 +104,8 @@ abbrev AreTested : List Range → Type 0
 AreTested [] = Unit {0}
 AreTested (range ∷ ranges) = HasNone range.test × AreTested ranges
 
-before-tested : (t : ValueTold) (ranges : List Range) → HasNone t.test → AreTested ranges → AreTested (range_before t ranges)
+before-tested : (t : ValueTold) (ranges : List Range) → HasNone t.test
+    → AreTested ranges → AreTested (range_before t ranges)
 before-tested t [] none are = (none, tt)
 before-tested t (r ∷ ranges) none are = by (is_told_as t r)
   where
@@ -123,7 +126,8 @@ range-by before test left p q is =
     is_line-append (before ++ codes " " ++ test) left
     (none-append (before ++ codes " ") test (none-append before (codes " ") p refl) q) is
 
-range-is_line : (list : Medl) (sweep : Sweep) (range : Range) → HasNone range.test → is_line (range_line list sweep range) ≡ true
+range-is_line : (list : Medl) (sweep : Sweep) (range : Range) → HasNone range.test
+    → is_line (range_line list sweep range) ≡ true
 range-is_line list sweep range none =
     range-by (spelled range_form (range_values sweep range)) range.test
     (spelled_line (outcome_form list) (outcome_values list range.outcome))
@@ -159,11 +163,15 @@ with-each list script asked swept = (
   (
     own-is_line list script,
     each-append (λ (line : List ℕ). is_line line ≡ true) (flat_map (sweep_lines list script (reach list asked)) swept) _
-        (sweeps-each list script (reach list asked) swept)
-        (form-line all_form (all_values asked (total_of (map (sweep_margin list script (reach list asked)) swept))) refl, tt),
+        (sweeps-each list script (reach list asked) swept) (
+          form-line all_form (all_values asked
+              (total_of (map (sweep_margin list script (reach list asked)) swept))) refl,
+          tt,
+        ),
   ),
 )
 
-pub margin_lines-each : (list : Medl) (script : Script) (asked : Option Span) → AreLines (margin_lines list script asked)
+pub margin_lines-each : (list : Medl) (script : Script) (asked : Option Span)
+    → AreLines (margin_lines list script asked)
 margin_lines-each list script asked =
     with-each list script asked (sweeps list script (zeros_world list script script.slots) asked)

@@ -1,5 +1,6 @@
 -- The promise of `margins` in its own words, from the promise of every form.
-use Rattle.std.proofs.Common.{◌≡◌, ℕ, ◌+◌, ◌<◌, ◌≤◌, ℤ, List, [], ◌∷◌, ◌++◌, map, length, Option, Some, None, refl, ap, sym, subst, ◌∙◌, arith}
+use Rattle.std.proofs.Common.{◌≡◌, ℕ, ◌+◌, ◌<◌, ◌≤◌, ℤ, List, [], ◌∷◌, ◌++◌, map, length}
+use Rattle.std.proofs.Common.{Option, Some, None, refl, ap, sym, subst, ◌∙◌, arith}
 use Rattle.std.specs.Prelude.{flat_map, IfSome}
 use Rattle.ttp_base.specs.Text.{Lines}
 use Rattle.ttp_world.specs.declared.medl.Medl.{Medl}
@@ -47,9 +48,11 @@ swept-valid : (list : Medl) (script : Script) (asked : Option Span) (node : ℕ)
     → IsValidScript list script → length script.events < EVENT_LIMIT → node < length list.slots
     → IfSome slot (λ (s : ℕ). s < script.slots) → clock_place slot ≡ clock_place asked
     → IsWithinSpan (value_limit asked) value → IsValidScript list (with_clock_value script node slot value)
-swept-valid list script None node None value valid room has inside kind within = drift-valid list script node value valid within
+swept-valid list script None node None value valid room has inside kind within =
+    drift-valid list script node value valid within
 swept-valid list script (Some asked) node (Some slot) value valid room has inside kind within =
-    with_fault-valid list script (event.Jump node value slot) valid (record { valid = (has, within, inside); unhosted = refl }) room
+    with_fault-valid list script (event.Jump node value slot) valid
+    (record { valid = (has, within, inside); unhosted = refl }) room
 swept-valid list script None node (Some slot) value valid room has inside kind within = absurd (omega (arith, kind))
 swept-valid list script (Some asked) node None value valid room has inside kind within = absurd (omega (arith, kind))
 
@@ -125,7 +128,8 @@ pub margin_promise : (list script : List ℕ) (asked : Option Span) (before now 
     → Promise ttplab (lines_plan (λ medl right. margin_lines medl right asked) list script) before now answer
     → MarginPromise list script asked before now answer.status
 margin_promise list script asked before now answer call =
-    let text = lines_promise (lines_of asked) (λ medl right. record { next = _; rest = _; begins = refl }) list script before now
+    let text = lines_promise (lines_of asked)
+    (λ medl right. record { next = _; rest = _; begins = refl }) list script before now
     answer call in
     record {
       text = text;

@@ -18,8 +18,10 @@ use Rattle.fault_pairs.specs.declared.pair.PairClass.TheVariants as class
 use Rattle.fault_pairs.specs.declared.pair.PairCounts.{PairCounts}
 use Rattle.fault_pairs.specs.Classes.{harm_of, third_nodes, has_line}
 use Rattle.fault_pairs.specs.Pairs.{FirstFault, SecondFault, firsts_from, seconds_of}
-use Rattle.fault_pairs.specs.PairText.{class_word, counts_words, pairs_head_line, test_and_cost, newly_left, pair_place, pair_harms}
-use Rattle.fault_pairs.specs.PairText.{pair_faults, pair_line, first_fault_line, pair_counts_line, apart_line, told_of_pair}
+use Rattle.fault_pairs.specs.PairText.{class_word, counts_words, pairs_head_line, test_and_cost}
+use Rattle.fault_pairs.specs.PairText.{newly_left, pair_place, pair_harms}
+use Rattle.fault_pairs.specs.PairText.{pair_faults, pair_line, first_fault_line, pair_counts_line}
+use Rattle.fault_pairs.specs.PairText.{apart_line, told_of_pair}
 use Rattle.fault_pairs.specs.PairText.{pair_tolds, lines_of_told, first_fault_lines, sum_lines, pairs_lines}
 use Rattle.fault_pairs.specs.Sums.{PairTold, pair_counts, told_kept, told_broken, distances}
 use Rattle.wave_text.proofs.Feeds.{HasNone, none-append, none-decimal}
@@ -32,7 +34,8 @@ class-none : (k : PairClass) → HasNone (class_word k)
 class-none class.Sum = refl
 class-none k = refl
 
-counts-by : (a b c d e f g h : List ℕ) → HasNone a → HasNone b → HasNone c → HasNone d → HasNone e → HasNone f → HasNone g
+counts-by : (a b c d e f g h : List ℕ) → HasNone a → HasNone b → HasNone c
+    → HasNone d → HasNone e → HasNone f → HasNone g
     → HasNone h
     → HasNone (codes "pairs " ++ a ++ codes " sum " ++ b ++ codes " less " ++ c ++ codes " own " ++ d
     ++ codes " divided " ++ e ++ codes " third " ++ f ++ codes " torn " ++ g ++ codes " dead " ++ h)
@@ -40,8 +43,10 @@ counts-by a b c d e f g h p q r s t u v w = simp (list_any-append (λ x. x == 10
 
 counts-none : (counts : PairCounts) → HasNone (counts_words counts)
 counts-none counts =
-    counts-by (decimal counts.pairs) (decimal counts.sum) (decimal counts.less) (decimal counts.own) (decimal counts.divided)
-    (decimal counts.third) (decimal counts.torn) (decimal counts.dead) (none-decimal counts.pairs) (none-decimal counts.sum)
+    counts-by (decimal counts.pairs) (decimal counts.sum) (decimal counts.less)
+    (decimal counts.own) (decimal counts.divided)
+    (decimal counts.third) (decimal counts.torn) (decimal counts.dead)
+    (none-decimal counts.pairs) (none-decimal counts.sum)
     (none-decimal counts.less) (none-decimal counts.own) (none-decimal counts.divided) (none-decimal counts.third)
     (none-decimal counts.torn) (none-decimal counts.dead)
 
@@ -54,12 +59,14 @@ run-none list script =
     (cost-none list (summary list script).cost)
 
 place-by : (a b c d e : List ℕ) → HasNone a → HasNone b → HasNone c → HasNone d → HasNone e
-    → HasNone (codes "pair " ++ a ++ codes " slot " ++ b ++ codes " apart " ++ c ++ codes " nodes " ++ d ++ codes " " ++ e)
+    → HasNone (codes "pair " ++ a ++ codes " slot " ++ b ++ codes " apart " ++ c
+    ++ codes " nodes " ++ d ++ codes " " ++ e)
 place-by a b c d e p q r s t = simp (list_any-append (λ x. x == 10), p, q, r, s, t)
 
 place-none : (k : PairClass) (slot apart : ℕ) (one two : Event) → HasNone (pair_place k slot apart one two)
 place-none k slot apart one two =
-    place-by (class_word k) (decimal slot) (decimal apart) (decimal (fault_node one)) (decimal (fault_node two)) (class-none k)
+    place-by (class_word k) (decimal slot) (decimal apart) (decimal (fault_node one))
+    (decimal (fault_node two)) (class-none k)
     (none-decimal slot) (none-decimal apart) (none-decimal (fault_node one)) (none-decimal (fault_node two))
 
 harms-by : (a b c : List ℕ) → HasNone a → HasNone b → HasNone c
@@ -84,12 +91,15 @@ head-is_line : (list : Medl) (script : Script) (first last within : ℕ)
     → is_line (pairs_head_line list script first last within) ≡ true
 head-is_line list script first last within =
     head-by (decimal (length list.slots)) (decimal script.slots) (decimal first) (decimal last) (decimal within)
-    (none-decimal (length list.slots)) (none-decimal script.slots) (none-decimal first) (none-decimal last) (none-decimal within)
+    (none-decimal (length list.slots)) (none-decimal script.slots) (none-decimal first)
+    (none-decimal last) (none-decimal within)
 
-faults-by : (a b : List ℕ) → HasNone a → HasNone b → is_line (codes " fault " ++ a ++ codes " and " ++ b ++ newline) ≡ true
+faults-by : (a b : List ℕ) → HasNone a → HasNone b
+    → is_line (codes " fault " ++ a ++ codes " and " ++ b ++ newline) ≡ true
 faults-by a b p q = ended (codes " fault " ++ a ++ codes " and " ++ b) (simp (list_any-append (λ x. x == 10), p, q))
 
-pair-is_line : (list : Medl) (k : PairClass) (one : FirstFault) (two : SecondFault) (own first second : Harm) (both : Script)
+pair-is_line : (list : Medl) (k : PairClass) (one : FirstFault) (two : SecondFault)
+    (own first second : Harm) (both : Script)
     → is_line (pair_line list k one two own first second (summary list both)) ≡ true
 pair-is_line list k one two own first second both =
     let s = summary list both in
@@ -103,18 +113,21 @@ pair-is_line list k one two own first second both =
     (harms-none (newly_left own first) (newly_left own second) third)) (run-none list both))
     (faults-by (fault_words one.fault) (fault_words two.fault) (fault-none one.fault) (fault-none two.fault))
 
-first-by : (slot node run counts words : List ℕ) → HasNone slot → HasNone node → HasNone run → HasNone counts → HasNone words
+first-by : (slot node run counts words : List ℕ) → HasNone slot → HasNone node
+    → HasNone run → HasNone counts → HasNone words
     → is_line ((codes "slot " ++ slot ++ codes " node " ++ node ++ codes " ") ++ run ++ codes " " ++ counts
     ++ codes " fault " ++ words ++ newline) ≡ true
 first-by slot node run counts words p q r s t =
-    ended ((codes "slot " ++ slot ++ codes " node " ++ node ++ codes " ") ++ run ++ codes " " ++ counts ++ codes " fault " ++ words)
+    ended ((codes "slot " ++ slot ++ codes " node " ++ node ++ codes " ") ++ run
+    ++ codes " " ++ counts ++ codes " fault " ++ words)
     (simp (list_any-append (λ x. x == 10), p, q, r, s, t))
 
 first-is_line : (list : Medl) (one : FirstFault) (more : Script) (counts : PairCounts)
     → is_line (first_fault_line list one (summary list more) counts) ≡ true
 first-is_line list one more counts =
     first-by (decimal (fault_slot one.fault)) (decimal (fault_node one.fault)) (test_and_cost list (summary list more))
-    (counts_words counts) (fault_words one.fault) (none-decimal (fault_slot one.fault)) (none-decimal (fault_node one.fault))
+    (counts_words counts) (fault_words one.fault)
+    (none-decimal (fault_slot one.fault)) (none-decimal (fault_node one.fault))
     (run-none list more) (counts-none counts) (fault-none one.fault)
 
 sum-is_line : (name : List ℕ) (counts : PairCounts) → HasNone name → is_line (pair_counts_line name counts) ≡ true
@@ -140,10 +153,12 @@ told-each list script own one first (two ∷ seconds) =
         filter (λ (told : PairTold). has_line told.class) (map (told_of_pair list script own one first) seconds)
 
     by : (b : Bool) → AreLines (map (λ (told : PairTold). told.line) others)
-        → AreLines (map (λ (told : PairTold). told.line) (cond b (told_of_pair list script own one first two ∷ others) others))
+        → AreLines (map (λ (told : PairTold). told.line)
+        (cond b (told_of_pair list script own one first two ∷ others) others))
     by true rest = (
       pair-is_line list (told_of_pair list script own one first two).class one two own first
-          (harm_of (summary list (with_fault script two.fault)).cost) (with_fault (with_fault script one.fault) two.fault),
+          (harm_of (summary list (with_fault script two.fault)).cost)
+          (with_fault (with_fault script one.fault) two.fault),
       rest,
     )
     by false rest = rest
@@ -155,30 +170,37 @@ firsts-each list script within own (one ∷ firsts) =
     each-append IsLine (first_fault_lines list script within own one)
     (flat_map (first_fault_lines list script within own) firsts)
     (each-append IsLine (lines_of_told (pair_tolds list script within own one)) _
-    (told-each list script own one (harm_of (summary list (with_fault script one.fault)).cost) (seconds_of list script within one))
+    (told-each list script own one
+    (harm_of (summary list (with_fault script one.fault)).cost) (seconds_of list script within one))
     (first-is_line list one (with_fault script one.fault) (pair_counts (pair_tolds list script within own one)), tt))
     (firsts-each list script within own firsts)
 
 distances-each : (tolds : List PairTold) (ds : List ℕ) → AreLines (map (apart_line tolds) ds)
 distances-each tolds [] = tt
-distances-each tolds (d ∷ ds) =
-    (sum-is_line (codes "apart " ++ decimal d ++ codes " ") _ (apart-by (decimal d) (none-decimal d)), distances-each tolds ds)
+distances-each tolds (d ∷ ds) = (
+  sum-is_line (codes "apart " ++ decimal d ++ codes " ") _
+      (apart-by (decimal d) (none-decimal d)),
+  distances-each tolds ds,
+)
 
 sums-each : (script : Script) (within : ℕ) (tolds : List PairTold) → AreLines (sum_lines script within tolds)
 sums-each script within tolds =
-    each-append IsLine (map (apart_line tolds) (distances script within tolds)) _ (distances-each tolds (distances script within tolds)) (
+    each-append IsLine (map (apart_line tolds) (distances script within tolds)) _
+    (distances-each tolds (distances script within tolds)) (
       sum-is_line (codes "kept ") (pair_counts (told_kept tolds)) refl,
       (sum-is_line (codes "broken ") (pair_counts (told_broken tolds)) refl, tt),
     )
 
-pub pairs_lines-each : (list : Medl) (script : Script) (first last within : ℕ) → AreLines (pairs_lines list script first last within)
+pub pairs_lines-each : (list : Medl) (script : Script) (first last within : ℕ)
+    → AreLines (pairs_lines list script first last within)
 pairs_lines-each list script first last within =
     let own = harm_of (summary list script).cost in
     let firsts = firsts_from list script (zeros_world list script script.slots) first last in (
       head-is_line list script first last within,
       (
         own-is_line list script,
-        each-append IsLine (flat_map (first_fault_lines list script within own) firsts) _ (firsts-each list script within own firsts)
+        each-append IsLine (flat_map (first_fault_lines list script within own) firsts) _
+            (firsts-each list script within own firsts)
             (sums-each script within (flat_map (pair_tolds list script within own) firsts)),
       ),
     )

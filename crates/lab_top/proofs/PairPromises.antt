@@ -58,7 +58,8 @@ pub pair_promise : (list script : List ℕ) (first last within : ℕ) (before no
     → Promise ttplab (lines_plan (λ medl right. pairs_lines medl right first last within) list script) before now answer
     → PairPromise list script first last within before now answer.status
 pair_promise list script first last within before now answer call =
-    let text = lines_promise (lines_of first last within) (λ medl right. record { next = _; rest = _; begins = refl }) list
+    let text = lines_promise (lines_of first last within)
+    (λ medl right. record { next = _; rest = _; begins = refl }) list
     script before now answer call in
     record {
       text = text;
@@ -67,9 +68,11 @@ pair_promise list script first last within before now answer call =
           let firsts = firsts_in medl right (zeros_world medl right right.slots) in
           record {
             lines =
-                each-cut (first_fault_lines medl right within (own_harm medl right)) firsts right first middle last order more;
+                each-cut (first_fault_lines medl right within (own_harm medl right))
+                firsts right first middle last order more;
             counts =
                 counts-append (pairs_of_range medl right first middle within) _
-                ∙ ap pair_counts (each-cut (pairs_of_first medl right within) firsts right first middle last order more);
+                ∙ ap pair_counts (each-cut (pairs_of_first medl right within)
+                firsts right first middle last order more);
           };
     }

@@ -1,5 +1,6 @@
 -- What a text is read as: by its first bytes, if it is longer than a text may be. The line that refuses it is one line.
-use Rattle.std.proofs.Common.{◌≡◌, ◌⊎◌, ℕ, ◌+◌, ◌<◌, ◌≤◌, Bool, true, false, cond, List, ◌++◌, length, take, refl, ap, inl, inr}
+use Rattle.std.proofs.Common.{◌≡◌, ◌⊎◌, ℕ, ◌+◌, ◌<◌, ◌≤◌, Bool, true, false, cond}
+use Rattle.std.proofs.Common.{List, ◌++◌, length, take, refl, ap, inl, inr}
 use Rattle.std.proofs.Common.{arith, nat_lt, Result, Ok, Err, sym, ◌∙◌, IsTrue}
 use Rattle.std.specs.Prelude.{codes, decimal}
 use Rattle.std.proofs.lemmas.Bool.{lt-ltb, le-ltb, ltb-false, cases_lt}
@@ -28,7 +29,8 @@ pub text_fault_line-is_line : (kind : List ℕ) (f : TextFault) → has 10 kind 
 unfolding text_fault_line
 text_fault_line-is_line kind f plain =
     is_line-append (kind ++ codes ": " ++ text_fault f) newline
-    (has-append 10 (kind ++ codes ": ") (text_fault f) (has-append 10 kind (codes ": ") plain refl) (text_fault-lines f)) refl
+    (has-append 10 (kind ++ codes ": ") (text_fault f)
+    (has-append 10 kind (codes ": ") plain refl) (text_fault-lines f)) refl
 
 -- What stands past the limit doesn't matter.
 
@@ -86,7 +88,8 @@ module _ {Value : Type 0} (view : View Value) where
 
   pub viewed-right : (text : List ℕ) (value : Value) → CanBeShown view text value → viewed view text ≡ Ok value
   viewed-right text value can =
-      shown-right (value_from view.taken text) value (value_from-right view.taken text value can.size can.whole) can.slots
+      shown-right (value_from view.taken text) value
+      (value_from-right view.taken text value can.size can.whole) can.slots
 
   -- the other way round
 

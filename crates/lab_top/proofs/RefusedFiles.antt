@@ -1,5 +1,6 @@
 -- A call of a form that reads a list and a script, of which one is refused.
-use Rattle.std.proofs.Common.{◌≡◌, ◌⊎◌, ℕ, ◌+◌, ◌≤◌, List, [], ◌∷◌, take, Some, Result, Ok, Err, refl, ap, sym, subst, ◌∙◌}
+use Rattle.std.proofs.Common.{◌≡◌, ◌⊎◌, ℕ, ◌+◌, ◌≤◌, List, [], ◌∷◌, take, Some}
+use Rattle.std.proofs.Common.{Result, Ok, Err, refl, ap, sym, subst, ◌∙◌}
 use Rattle.std.proofs.Common.{codes, inl, inr, arith}
 use Rattle.ttp_base.specs.Outside.{Held, holds, Load, Gives, HasRisen, Wrote, WroteLines}
 use Rattle.ttp_base.specs.Text.{Lines}
@@ -81,7 +82,8 @@ module _ (list script : List ℕ) (next : Medl → List ℕ → Script → LabPl
       → (script_bytes : List ℕ) → Gives (held script) script_limit script_bytes
       → (read : Result Script FileFault) → script_from medl script_bytes ≡ read
       → (loads : List Load) (ending : LabEnding)
-      → Comes held (after refused_script (next medl script_bytes) read) loads (ends ending) → IsShown ending → CameTo ending
+      → Comes held (after refused_script (next medl script_bytes) read) loads (ends ending)
+      → IsShown ending → CameTo ending
   by_script bytes medl gives is script_bytes script_gives (Ok right) read loads ending comes showed =
       inr (inr (record {
         bytes = bytes;
@@ -147,7 +149,8 @@ module _ (list script : List ℕ) (next : Medl → List ℕ → Script → LabPl
   module _ (none : (medl : Medl) (bytes : List ℕ) (right : Script) → RefusesNone (next medl bytes right)) where
     few_behind : (ending : LabEnding) → CameBehind ending → ending.status ≤ 2
     few_behind ending c =
-        all_come (λ (e : LabEnding). e.status ≤ 2) (λ file. Unit {0}) held (next c.medl c.script_bytes c.right) c.loads ending
+        all_come (λ (e : LabEnding). e.status ≤ 2) (λ file. Unit {0}) held
+        (next c.medl c.script_bytes c.right) c.loads ending
         (none c.medl c.script_bytes c.right) c.comes
 
     list_of : (ending : LabEnding) → ending.status ≡ 3 → CameTo ending → ToldList list before now
@@ -238,8 +241,10 @@ module _ (list script : List ℕ) (next : Medl → List ℕ → Script → LabPl
       subst (λ (r : Result Medl FileFault). AsksFirst held (after refused_list from_list r) (other ∷ loads)) read
       asked.1.2 in (
         subst (λ (l : Load). Quiet before now l.name) (sym asked.0) file.quiet,
-        read_asked (Quiet before now) held (script_file script) (script_from medl) refused_script (next medl) script_bytes
-            fault script_text.file (script_from-front medl script_bytes ∙ wrong) script_text.quiet (other ∷ loads) behind,
+        read_asked (Quiet before now) held (script_file script)
+            (script_from medl) refused_script (next medl) script_bytes
+            fault script_text.file (script_from-front medl script_bytes ∙ wrong)
+            script_text.quiet (other ∷ loads) behind,
       )
 
   pub script_due : (bytes : List ℕ) (medl : Medl) (script_bytes : List ℕ) (fault : FileFault)

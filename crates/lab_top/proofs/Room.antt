@@ -1,5 +1,5 @@
--- A script that a file holds has room for one event more: the line that says the run's slots says nothing else, and takes
--- bytes as well.
+-- A script that a file holds has room for one event more: the line that says the run's slots says nothing else, and
+-- takes bytes as well.
 use Rattle.std.proofs.Common.{◌≡◌, ◌⊎◌, ℕ, ◌+◌, ◌*◌, ◌<◌, ◌≤◌, Bool, true, false, List, [], ◌∷◌, ◌++◌, length, Option}
 use Rattle.std.proofs.Common.{Some, None, Ok, refl, ap, subst, suc, arith, append-nil, inl, inr}
 use Rattle.std.specs.Prelude.{is_some, if◌then◌else◌}
@@ -15,7 +15,8 @@ use Rattle.script_text.specs.Faults.{slots_of, events_of, line_faults, keyword_s
 use Rattle.script_text.specs.Lines.{lines_of_file, words_of_line, word_at, says_nothing}
 use Rattle.script_text.specs.ScriptFile.{errors_at, script_faults, statements_of, stated_script}
 use Rattle.script_text.specs.ScriptFile.{script_or_fault, lines_script, script_of}
-use Rattle.script_text.specs.Statement.{Statement, says_slots, says_on, says_drift, says_event, keyword_of, statement_of}
+use Rattle.script_text.specs.Statement.{Statement, says_slots, says_on, says_drift}
+use Rattle.script_text.specs.Statement.{says_event, keyword_of, statement_of}
 use Rattle.script_text.proofs.RightFiles.{line_right}
 use Rattle.script_text.proofs.Sizes.{with_end, size_of, size-lines_of}
 use Rattle.script_text.proofs.Valid.{AreValid, AreValid-none}
@@ -69,7 +70,8 @@ line_room list said line None before size =
       | inl same ↦ rw (same, before) (omega arith)
       | inr one ↦
           rw one.1.0 (first_room one.0 said line before one.1.1
-          (subst (λ (after : List Statement). 8 * length (events_of after) ≤ 8 * length (events_of said) + with_end line)
+          (subst (λ (after : List Statement). 8 * length (events_of after) ≤ 8
+          * length (events_of said) + with_end line)
           one.1.0 size))
     ]
 
@@ -123,4 +125,5 @@ pub room_of : (list script : List ℕ) (before now : Outside) (medl : Medl) (rig
 room_of list script before now medl right took =
     let read = right_list took.first.bytes medl took.first.taken in
     let are = right_script took.first.bytes took.second.bytes medl right read took.second.taken in
-    script_of-room medl took.second.bytes right (medl_of-valid took.first.bytes medl are.list) are.script_size are.script
+    script_of-room medl took.second.bytes right
+    (medl_of-valid took.first.bytes medl are.list) are.script_size are.script

@@ -32,7 +32,8 @@ ending_of slots number (Err fault) = said_ending (refused_list fault)
 abbrev plan_of : ℕ → ℕ → Result Medl FileFault → LabPlan
 plan_of slots number read = after refused_list (λ medl. ends (script_ending slots number medl)) read
 
-ends_so : (slots number : ℕ) (read : Result Medl FileFault) → plan_of slots number read ≡ ends (ending_of slots number read)
+ends_so : (slots number : ℕ) (read : Result Medl FileFault)
+    → plan_of slots number read ≡ ends (ending_of slots number read)
 ends_so slots number (Ok medl) = refl
 ends_so slots number (Err fault) = refl
 
@@ -51,7 +52,8 @@ came_by list slots number held (load ∷ loads) ending comes =
       gives = comes.1.1;
       same =
           end_comes held loads (ending_of slots number (list_from bytes)) ending
-          (subst (λ (p : LabPlan). Comes held p loads (ends ending)) (ends_so slots number (list_from bytes)) comes.1.2);
+          (subst (λ (p : LabPlan). Comes held p loads (ends ending))
+          (ends_so slots number (list_from bytes)) comes.1.2);
     }
 
 module _ (list : List ℕ) (slots number : ℕ) (before now : Outside) (answer : LabAnswer)
@@ -76,7 +78,8 @@ module _ (list : List ℕ) (slots number : ℕ) (before now : Outside) (answer :
 
   wrote : (medl : Medl) → ShowedBy (Ok medl)
       → WroteLines before.output now.output (script_lines (generated medl slots number))
-  wrote medl showed = subst (λ (lines : Lines). WroteLines before.output now.output lines) showed.text.among showed.text.wrote
+  wrote medl showed = subst
+      (λ (lines : Lines). WroteLines before.output now.output lines) showed.text.among showed.text.wrote
 
   wrote_line : (fault : FileFault) → ShowedBy (Err fault)
       → WroteLines before.output now.output (file_fault_line (codes "list") fault ∷ [])
@@ -141,7 +144,8 @@ module _ (list : List ℕ) (slots number : ℕ) (before now : Outside) (answer :
     cut_script : (medl : Medl) → list_from bytes ≡ Ok medl → answer.status ≡ 6
         → CutShort before.output now.output (script_lines (generated medl slots number))
     cut_script medl is six =
-        let cut = told_cut ttplab (script_form_plan list slots number) before now answer (script_ending slots number medl)
+        let cut = told_cut ttplab (script_form_plan list slots number) before now
+        answer (script_ending slots number medl)
         call (told (Ok medl) is) quiet six in
         subst (λ (lines : Lines). CutShort before.output now.output lines) cut.among cut.cut
 

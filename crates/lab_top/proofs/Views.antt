@@ -54,7 +54,8 @@ module _ {Value : Type 0} (view : View Value) (name : List ℕ) (before now : Ou
       }
 
   wrote : (value : Value) → ShowedBy (Ok value) → WroteLines before.output now.output (view.lines value)
-  wrote value showed = subst (λ (lines : Lines). WroteLines before.output now.output lines) showed.text.among showed.text.wrote
+  wrote value showed = subst
+      (λ (lines : Lines). WroteLines before.output now.output lines) showed.text.among showed.text.wrote
 
   wrote_line : (fault : TextFault) → ShowedBy (Err fault)
       → WroteLines before.output now.output (text_fault_line view.kind fault ∷ [])
@@ -93,7 +94,8 @@ module _ {Value : Type 0} (view : View Value) (name : List ℕ) (before now : Ou
     shows : (read : Result Value TextFault) → viewed view text ≡ read
         → ¬ HasRisen before.output.faults now.output.faults → ShowedBy read ⊎ (answer.status ≡ 7)
     shows read is sink =
-        told_shows ttplab (view_plan view name) before now answer (viewed_ending view read) call (told read is) quiet sink
+        told_shows ttplab (view_plan view name) before now answer
+        (viewed_ending view read) call (told read is) quiet sink
 
     completed : (value : Value) → (answer.status ≡ 7 → Wrote before.output now.output [])
         → ¬ HasRisen before.output.faults now.output.faults → CanBeShown view text value

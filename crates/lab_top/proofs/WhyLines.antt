@@ -1,7 +1,9 @@
 -- Each line of what `why` writes is one line: its one line feed is its last byte.
-use Rattle.std.proofs.Common.{◌≡◌, ℕ, Bool, true, false, List, [], ◌∷◌, ◌++◌, Option, Some, None, map, length, refl, codes, decimal}
+use Rattle.std.proofs.Common.{◌≡◌, ℕ, Bool, true, false, List, [], ◌∷◌, ◌++◌, Option}
+use Rattle.std.proofs.Common.{Some, None, map, length, refl, codes, decimal}
 use Rattle.std.proofs.Common.{arith, sym, subst, suc, ◌-◌, ◌≤◌, ◌≢◌}
-use Rattle.std.specs.Prelude.{filter, flat_map, if◌then◌else◌, nat_lt, option_map, reverse, slice_get, unwrap_or, ℤ, ◌&&◌}
+use Rattle.std.specs.Prelude.{filter, flat_map, if◌then◌else◌, nat_lt, option_map}
+use Rattle.std.specs.Prelude.{reverse, slice_get, unwrap_or, ℤ, ◌&&◌}
 use Rattle.std.specs.Fmt.{signed_decimal}
 use Rattle.std.specs.Str.{bytes_eq}
 use Rattle.std.proofs.lemmas.List.{reverse-append}
@@ -25,9 +27,11 @@ use Rattle.causes.specs.Reduced.{entry_alone, is_needed, is_same_word}
 use Rattle.causes.specs.RunSlots.{RunSlots, slots_of_run}
 use Rattle.causes.specs.Story.{has_spot, lines_told, states_fault, story}
 use Rattle.causes.specs.WhyText.{alone_line, because_words, entry_head, in_file_order, joined_words, lacked_words}
-use Rattle.causes.specs.WhyText.{line_number_words, line_words, miss_words, named_event_words, named_line, needed_if, needed_word}
+use Rattle.causes.specs.WhyText.{line_number_words, line_words, miss_words, named_event_words}
+use Rattle.causes.specs.WhyText.{named_line, needed_if, needed_word}
 use Rattle.causes.specs.WhyText.{node_word, note_words, number_of_line, number_word, number_words, root_words}
-use Rattle.causes.specs.WhyText.{script_line_line, spot_word, story_lines, told_line, told_lines, uncorrected_words, why_head}
+use Rattle.causes.specs.WhyText.{script_line_line, spot_word, story_lines, told_line}
+use Rattle.causes.specs.WhyText.{told_lines, uncorrected_words, why_head}
 use Rattle.causes.specs.WhyText.{why_lines_of, why_text}
 use Rattle.causes.specs.declared.cause.Because.{Because}
 use Rattle.causes.specs.declared.cause.Because.TheVariants as because
@@ -40,7 +44,8 @@ use Rattle.causes.specs.declared.cause.ScriptLine.TheVariants as line
 use Rattle.causes.specs.declared.cause.Spot.{Spot}
 use Rattle.causes.specs.declared.cause.Story.{Story}
 use Rattle.causes.specs.declared.cause.Told.{Told}
-use Rattle.why_answers.specs.Answer.{answer_of_departure, answer_of_node, answer_of_slot, departure_slot, no_node_line, no_slot_line}
+use Rattle.why_answers.specs.Answer.{answer_of_departure, answer_of_node, answer_of_slot}
+use Rattle.why_answers.specs.Answer.{departure_slot, no_node_line, no_slot_line}
 use Rattle.why_answers.specs.Answer.{stays_line, why_answer, why_answered}
 use Rattle.why_answers.specs.declared.answer.WhyAnswer.{WhyAnswer}
 use Rattle.wave_text.proofs.Feeds.{HasNone, none-append, none-decimal}
@@ -58,7 +63,8 @@ none3 a b c p q r = none-append (a ++ b) c (none-append a b p q) r
 none4 : (a b c d : List ℕ) → HasNone a → HasNone b → HasNone c → HasNone d → HasNone (a ++ b ++ c ++ d)
 none4 a b c d p q r s = none-append (a ++ b ++ c) d (none3 a b c p q r) s
 
-none5 : (a b c d e : List ℕ) → HasNone a → HasNone b → HasNone c → HasNone d → HasNone e → HasNone (a ++ b ++ c ++ d ++ e)
+none5 : (a b c d e : List ℕ) → HasNone a → HasNone b → HasNone c → HasNone d
+    → HasNone e → HasNone (a ++ b ++ c ++ d ++ e)
 none5 a b c d e p q r s t = none-append (a ++ b ++ c ++ d) e (none4 a b c d p q r s) t
 
 none6 : (a b c d e f : List ℕ) → HasNone a → HasNone b → HasNone c → HasNone d → HasNone e → HasNone f
@@ -99,10 +105,12 @@ none-spot spot =
 
 none-event : (e : Event) → HasNone (named_event_words e)
 none-event (event.Flip node channels bit slot) =
-    none8 (codes "flip ") (decimal node) (codes " ") (channels_word channels) (codes " ") (decimal bit) (codes " ") (decimal slot)
+    none8 (codes "flip ") (decimal node) (codes " ") (channels_word channels) (codes " ")
+    (decimal bit) (codes " ") (decimal slot)
     refl (none-decimal node) refl (channels-none channels.a channels.b) refl (none-decimal bit) refl (none-decimal slot)
 none-event (event.Error node value from to) =
-    none8 (codes "error ") (decimal node) (codes " ") (signed_decimal value) (codes " ") (decimal from) (codes " ") (decimal to)
+    none8 (codes "error ") (decimal node) (codes " ") (signed_decimal value)
+    (codes " ") (decimal from) (codes " ") (decimal to)
     refl (none-decimal node) refl (none-signed value) refl (none-decimal from) refl (none-decimal to)
 none-event (event.Arm node slot) =
     none4 (codes "arm ") (decimal node) (codes " ") (decimal slot) refl (none-decimal node) refl (none-decimal slot)
@@ -135,18 +143,21 @@ none-uncorrected k false = refl
 none-joined : (k : ℕ) (slot : Option ℕ) → HasNone (joined_words k slot)
 none-joined k None = refl
 none-joined k (Some slot) =
-    none4 (codes ", ") (node_word k) (codes " joined in slot ") (decimal slot) refl (none-node k) refl (none-decimal slot)
+    none4 (codes ", ") (node_word k) (codes " joined in slot ") (decimal slot)
+    refl (none-node k) refl (none-decimal slot)
 
 none-notes : (notes : List ClockNote) → HasNone (flat_map note_words notes)
 none-notes [] = refl
 none-notes (note ∷ notes) =
     none-append (note_words note) (flat_map note_words notes)
-    (none-append (uncorrected_words note) (joined_words note.node note.joined) (none-uncorrected note.node note.is_uncorrected)
+    (none-append (uncorrected_words note) (joined_words note.node note.joined)
+    (none-uncorrected note.node note.is_uncorrected)
     (none-joined note.node note.joined)) (none-notes notes)
 
 none-miss : (list : Medl) (numbers : LineNumbers) (m : Miss) → HasNone (miss_words list numbers m)
 none-miss list numbers (miss.Deaf l) =
-    none-append (codes "AB silence of line ") (decimal (number_of_line numbers l)) refl (none-decimal (number_of_line numbers l))
+    none-append (codes "AB silence of line ") (decimal (number_of_line numbers l)) refl
+    (none-decimal (number_of_line numbers l))
 none-miss list numbers (miss.Off p) = none-append (node_word p) (codes " is off") (none-node p) refl
 none-miss list numbers (miss.Left p slot) =
     none3 (node_word p) (codes " left in slot ") (decimal slot) (none-node p) refl (none-decimal slot)
@@ -156,7 +167,8 @@ none-miss list numbers (miss.Elsewhere p) = none-append (node_word p) (codes " i
 none-miss list numbers (miss.Silenced lines) =
     none-append (codes "silence of line ") (line_number_words numbers lines) refl (none-numbers numbers lines)
 none-miss list numbers (miss.Noisy l) =
-    none-append (codes "noise of line ") (decimal (number_of_line numbers l)) refl (none-decimal (number_of_line numbers l))
+    none-append (codes "noise of line ") (decimal (number_of_line numbers l)) refl
+    (none-decimal (number_of_line numbers l))
 none-miss list numbers (miss.Collision nodes) =
     none-append (codes "collision of nodes ") (number_words nodes) refl (none-nodes nodes)
 none-miss list numbers (miss.Flipped lines) =
@@ -169,10 +181,12 @@ none-miss list numbers (miss.Differs holds member lacks) =
     none6 (node_word holds) (codes " holds ") (node_word member) (codes " and ") (node_word lacks) (codes " does not")
     (none-node holds) refl (none-node member) refl (none-node lacks) refl
 none-miss list numbers (miss.HoldsNeither p k x) =
-    none5 (node_word p) (codes " holds neither ") (node_word k) (codes " nor ") (node_word x) (none-node p) refl (none-node k)
+    none5 (node_word p) (codes " holds neither ") (node_word k) (codes " nor ")
+    (node_word x) (none-node p) refl (none-node k)
     refl (none-node x)
 none-miss list numbers (miss.HoldsBoth p k x) =
-    none5 (node_word p) (codes " holds ") (node_word k) (codes " and ") (node_word x) (none-node p) refl (none-node k) refl
+    none5 (node_word p) (codes " holds ") (node_word k) (codes " and ")
+    (node_word x) (none-node p) refl (none-node k) refl
     (none-node x)
 
 none-each : (a b : List ℕ) (same : Bool) → HasNone a → HasNone b
@@ -205,7 +219,8 @@ none-because list numbers (because.NoneSinceOwn slot) =
     none-append (codes "no frame accepted since its own in slot ") (decimal slot) refl (none-decimal slot)
 none-because list numbers (because.Outvoted accepted rejected since peer lacked) =
     none-append
-    (codes "accepted " ++ decimal accepted ++ codes " and rejected " ++ decimal rejected ++ codes " since slot " ++ decimal since)
+    (codes "accepted " ++ decimal accepted ++ codes " and rejected " ++ decimal rejected
+    ++ codes " since slot " ++ decimal since)
     (lacked_words peer lacked)
     (none6 (codes "accepted ") (decimal accepted) (codes " and rejected ") (decimal rejected) (codes " since slot ")
     (decimal since) refl (none-decimal accepted) refl (none-decimal rejected) refl (none-decimal since))
@@ -219,7 +234,8 @@ none-because list numbers (because.HoldsNot p lacked) =
 none-because list numbers (because.Missed why) = none-miss list numbers why
 none-because list numbers (because.MissedOnEach a b) =
     none-each (miss_words list numbers a) (miss_words list numbers b)
-    (bytes_eq (miss_words list numbers a) (miss_words list numbers b)) (none-miss list numbers a) (none-miss list numbers b)
+    (bytes_eq (miss_words list numbers a) (miss_words list numbers b))
+    (none-miss list numbers a) (none-miss list numbers b)
 
 -- Lines.
 
@@ -227,8 +243,10 @@ head-is_line : (list : Medl) (script : Script) (k slot : ℕ) → is_line (why_h
 head-is_line list script k slot =
     ended (codes "ttplab why 1 nodes " ++ decimal (length list.slots) ++ codes " slots " ++ decimal script.slots
     ++ codes " node " ++ decimal k ++ codes " slot " ++ decimal slot)
-    (none8 (codes "ttplab why 1 nodes ") (decimal (length list.slots)) (codes " slots ") (decimal script.slots) (codes " node ")
-    (decimal k) (codes " slot ") (decimal slot) refl (none-decimal (length list.slots)) refl (none-decimal script.slots) refl
+    (none8 (codes "ttplab why 1 nodes ") (decimal (length list.slots))
+    (codes " slots ") (decimal script.slots) (codes " node ")
+    (decimal k) (codes " slot ") (decimal slot) refl
+    (none-decimal (length list.slots)) refl (none-decimal script.slots) refl
     (none-decimal k) refl (none-decimal slot))
 
 none-head : (slot k : ℕ) (e : Entry) → HasNone (entry_head slot k e)
@@ -243,7 +261,8 @@ none-root run (spot ∷ spots) =
     none4 (codes ", by the ") (entry_word (entry_at_spot run spot)) (codes " of slot ") (decimal spot.slot) refl
     (none-entry (entry_at_spot run spot)) refl (none-decimal spot.slot)
 
-named-is_line : (list : Medl) (numbers : LineNumbers) (spot : Spot) (e : Entry) (lines : List ScriptLine) (entries : List Spot)
+named-is_line : (list : Medl) (numbers : LineNumbers) (spot : Spot) (e : Entry)
+    (lines : List ScriptLine) (entries : List Spot)
     (why : Because) (origin : List ℕ) → HasNone origin
     → is_line (named_line list numbers spot e lines entries why origin) ≡ true
 named-is_line list numbers spot e lines entries why origin none =
@@ -251,7 +270,8 @@ named-is_line list numbers spot e lines entries why origin none =
     ++ listed (map spot_word entries) ++ codes " because " ++ because_words list numbers why ++ origin)
     (none8 (entry_head spot.slot spot.node e) (codes " lines ") (line_number_words numbers lines) (codes " entries ")
     (listed (map spot_word entries)) (codes " because ") (because_words list numbers why) origin
-    (none-head spot.slot spot.node e) refl (none-numbers numbers lines) refl (listed-none spot_word none-spot entries) refl
+    (none-head spot.slot spot.node e) refl (none-numbers numbers lines) refl
+    (listed-none spot_word none-spot entries) refl
     (none-because list numbers why) none)
 
 told-is_line : (list : Medl) (numbers : LineNumbers) (run : RunSlots) (spots origin : List Spot) (told : Told)
@@ -292,8 +312,10 @@ none-needed list script lines slot k e suffices l = go suffices (states_fault sc
 script_line-is_line : (script : Script) (numbers : LineNumbers) (l : ScriptLine) (needed : List ℕ) → HasNone needed
     → is_line (script_line_line script numbers l needed) ≡ true
 script_line-is_line script numbers l needed none =
-    ended (codes "line " ++ decimal (number_of_line numbers l) ++ codes " needed " ++ needed ++ codes " " ++ line_words script l)
-    (none6 (codes "line ") (decimal (number_of_line numbers l)) (codes " needed ") needed (codes " ") (line_words script l)
+    ended (codes "line " ++ decimal (number_of_line numbers l) ++ codes " needed "
+    ++ needed ++ codes " " ++ line_words script l)
+    (none6 (codes "line ") (decimal (number_of_line numbers l)) (codes " needed ")
+    needed (codes " ") (line_words script l)
     refl (none-decimal (number_of_line numbers l)) refl none refl (none-line script l))
 
 alone-is_line : (e : Entry) (suffices : Bool) → is_line (alone_line e suffices) ≡ true
@@ -316,9 +338,11 @@ whole-each : (list : Medl) (script : Script) (numbers : LineNumbers) (run : RunS
 whole-each list script numbers run k slot s lines alone =
     let e = newest_entry_of k run in
     let suffices = is_same_word e alone in
-    let named = map (λ l. script_line_line script numbers l (needed_word list script lines slot k e suffices l)) lines in
+    let named = map (λ l. script_line_line script numbers l
+    (needed_word list script lines slot k e suffices l)) lines in
     let spots = reverse (map (λ (t : Told). t.spot) s.told) in
-    each-append IsLine ((why_head list script k slot ∷ named) ++ story_lines list numbers run s) (alone_line alone suffices ∷ [])
+    each-append IsLine ((why_head list script k slot ∷ named) ++ story_lines list numbers run s)
+    (alone_line alone suffices ∷ [])
     (each-append IsLine (why_head list script k slot ∷ named) (story_lines list numbers run s)
     (head-is_line list script k slot, named-each list script numbers lines slot k e suffices lines)
     (reverse-each (told_lines list numbers run spots s.root s.told) (tolds-each list numbers run spots s.root s.told)))
@@ -347,7 +371,8 @@ slot-answer list script bytes k slot = record {
   each = text-each list script _ k slot;
 }
 
-said-answer : (status : ℕ) (l : List ℕ) → status ≤ 4 → status ≢ 2 → is_line l ≡ true → IsWhyAnswer (why_answered status (l ∷ []))
+said-answer : (status : ℕ) (l : List ℕ) → status ≤ 4 → status ≢ 2 → is_line l ≡ true
+    → IsWhyAnswer (why_answered status (l ∷ []))
 said-answer status l few other is = record { few = few; not_usage = other; each = (is, tt) }
 
 departure-answer : (list : Medl) (script : Script) (bytes : List ℕ) (k : ℕ) (slot : Option ℕ)
@@ -381,4 +406,5 @@ why-answer list script bytes k slot = go (nat_lt k (length list.slots))
     go false =
         said-answer 3 (no_node_line list) (omega arith) (λ two. absurd (omega (arith, two)))
         (ended (codes "list: nodes 0 to " ++ decimal (length list.slots - 1))
-        (none-append (codes "list: nodes 0 to ") (decimal (length list.slots - 1)) refl (none-decimal (length list.slots - 1))))
+        (none-append (codes "list: nodes 0 to ") (decimal (length list.slots - 1)) refl
+        (none-decimal (length list.slots - 1))))

@@ -60,7 +60,8 @@ module _ (list script : List ℕ) (node : ℕ) (slot : Option ℕ) (before now :
           valid_script = script_of-valid c.medl c.script_bytes c.right valid are.script_size are.script;
         };
         due = sym showed.status;
-        wrote = subst (λ (lines : Lines). WroteLines before.output now.output lines) showed.text.among showed.text.wrote;
+        wrote = subst (λ (lines : Lines). WroteLines before.output now.output lines)
+            showed.text.among showed.text.wrote;
       }
 
   -- what a status says
@@ -69,7 +70,8 @@ module _ (list script : List ℕ) (node : ℕ) (slot : Option ℕ) (before now :
       ((status ≡ 3) × ToldList list before now)
       ⊎ (((status ≡ 4) × ToldScript list script before now) ⊎ WroteWhy list script node slot before now status)
 
-  says_by : (ending : LabEnding) → Showed ttplab ending before.output now.output answer → Came ending → Says answer.status
+  says_by : (ending : LabEnding)
+      → Showed ttplab ending before.output now.output answer → Came ending → Says answer.status
   says_by ending showed (inl told) = inl (showed.status ∙ told.0, told.1)
   says_by ending showed (inr (inl told)) = inr (inl (showed.status ∙ told.0, told.1))
   says_by ending showed (inr (inr behind)) = inr (inr (wrote_behind ending behind showed))
@@ -116,7 +118,8 @@ module _ (list script : List ℕ) (node : ℕ) (slot : Option ℕ) (before now :
 
     quiet : AllAsk (Quiet before now) (why_plan list script node slot)
     quiet =
-        list_every (λ (ending : LabEnding). Unit {0}) (λ file. Quiet before now file.name) list _ files.list_quiet (λ fault. tt)
+        list_every (λ (ending : LabEnding). Unit {0})
+        (λ file. Quiet before now file.name) list _ files.list_quiet (λ fault. tt)
         (λ m. (
           files.script_quiet,
           λ bytes.
@@ -125,22 +128,27 @@ module _ (list script : List ℕ) (node : ℕ) (slot : Option ℕ) (before now :
         ))
 
     completed : ¬ HasRisen before.output.faults now.output.faults
-        → WroteOrNone (why_answer medl right script_bytes node slot).status (why_answer medl right script_bytes node slot).lines
+        → WroteOrNone (why_answer medl right script_bytes node slot).status
+        (why_answer medl right script_bytes node slot).lines
         before.output now.output answer.status
     completed sink =
-        elim (told_shows ttplab (why_plan list script node slot) before now answer (ending_of medl script_bytes right) call told
+        elim (told_shows ttplab (why_plan list script node slot) before now answer
+        (ending_of medl script_bytes right) call told
         quiet sink) [
           | inl showed ↦
               inl (
                 showed.status,
-                subst (λ (lines : Lines). WroteLines before.output now.output lines) showed.text.among showed.text.wrote,
+                subst (λ (lines : Lines). WroteLines before.output now.output lines)
+                    showed.text.among showed.text.wrote,
               )
           | inr seven ↦ inr (seven, empty seven)
         ]
 
-    cut_short : answer.status ≡ 6 → CutShort before.output now.output (why_answer medl right script_bytes node slot).lines
+    cut_short : answer.status ≡ 6
+        → CutShort before.output now.output (why_answer medl right script_bytes node slot).lines
     cut_short six =
-        let cut = told_cut ttplab (why_plan list script node slot) before now answer (ending_of medl script_bytes right) call told
+        let cut = told_cut ttplab (why_plan list script node slot) before now answer
+        (ending_of medl script_bytes right) call told
         quiet six in
         subst (λ (lines : Lines). CutShort before.output now.output lines) cut.among cut.cut
 

@@ -20,8 +20,8 @@ GaveBeside None before (Some file) = ⊥
 GaveBeside (Some name) before None = ⊥
 GaveBeside (Some name) before (Some file) = GaveFile name script_limit before file
 
--- Of the files that were loaded exactly the text was written, each line as one piece where no name has a line feed, and the
--- status is theirs. What is told agrees with the readers and with the test.
+-- Of the files that were loaded exactly the text was written, each line as one piece where no name has a line feed, and
+-- the status is theirs. What is told agrees with the readers and with the test.
 pub record WroteCheck (list : List ℕ) (script : Option (List ℕ)) (before now : Outside) (status : ℕ) : Type 0 where
   pub file : Named
   pub beside : Option Named
@@ -55,8 +55,8 @@ HoldsBeside (Some name) before now (Some file) = HoldsFile name script_limit bef
 pub record CheckPromise (list : List ℕ) (script : Option (List ℕ)) (before now : Outside) (status : ℕ) : Type 0 where
   -- Status 0, 1, 3 and 4 say that exactly the text of both files was written, and the status is that of the files.
   pub told : status ≤ 4 → WroteCheck list script before now status
-  -- Files that are held give their text and status, unless the sink failed or memory was refused: then some of its first
-  -- lines stand, or none, and never all.
+  -- Files that are held give their text and status, unless the sink failed or memory was refused: then some of its
+  -- first lines stand, or none, and never all.
   pub complete : (file : Named) (beside : Option Named) → HoldsFile list list_limit before now file
       → HoldsBeside script before now beside → ¬ HasRisen before.output.faults now.output.faults
       → ((status ≡ check_status file beside) × WroteLines before.output now.output (check_lines file beside))

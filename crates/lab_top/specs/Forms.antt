@@ -19,7 +19,8 @@ use Rattle.lab_top.specs.Help.{help_lines, version_line}
 use Rattle.lab_top.specs.Refusals.{refused_text}
 use Rattle.lab_top.specs.Texts.{begun, differences, LabEnding, LabPlan}
 use Rattle.lab_top.specs.Views.{View, text_file, viewed, wave_view, picture_view, chart_view}
-use Rattle.lab_top.specs.Words.{LabForm, wave, picture, campaign, chart, check, frames, margins, pairs, script_by, help, version, why}
+use Rattle.lab_top.specs.Words.{LabForm, wave, picture, campaign, chart, check, frames}
+use Rattle.lab_top.specs.Words.{margins, pairs, script_by, help, version, why}
 use Rattle.lab_top.specs.Why.{why_plan}
 
 -- the line that answers words of no form

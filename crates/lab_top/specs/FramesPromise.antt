@@ -65,12 +65,13 @@ pub record FramesPromise (list script trace : List ℕ) (before now : Outside) (
   pub shown : status ≡ 0 → WroteFrames list script trace before now
   -- Status 1 says that it is none, and that the line was written that names its first wrong line.
   pub differs : status ≡ 1 → ToldDifference list script trace before now
-  -- Status 3 says that the first file is no list, and status 4 that the second is no script for it, and that the line was
-  -- written that says what is wrong.
+  -- Status 3 says that the first file is no list, and status 4 that the second is no script for it, and that the line
+  -- was written that says what is wrong.
   pub no_list : status ≡ 3 → ToldList list before now
   pub no_script : status ≡ 4 → ToldScript list script before now
   -- A trace gives its frames, unless a count rose or memory was refused: then nothing was written.
-  pub complete : (medl : Medl) (right : Script) (text : List ℕ) → AreAllTold list script trace before now medl right text
+  pub complete : (medl : Medl) (right : Script) (text : List ℕ)
+      → AreAllTold list script trace before now medl right text
       → ¬ HasRisen before.output.faults now.output.faults → is_trace medl right text ≡ true
       → WroteOrNone 0 (frames_named medl right text) before.output now.output status
   -- Any other text, however long, gives the line on it, and nothing of frames.

@@ -59,12 +59,13 @@ pub record ToldScript (list script : List ℕ) (before now : Outside) : Type 0 w
   pub wrote : WroteLines before.output now.output (file_fault_line (codes "script") fault ∷ [])
 
 -- a call that is asked for these lines of a list and a script promises
-pub record LinesPromise (lines : Medl → Script → Lines) (list script : List ℕ) (before now : Outside) (status : ℕ) : Type 0
+pub record LinesPromise (lines : Medl → Script → Lines) (list script : List ℕ)
+    (before now : Outside) (status : ℕ) : Type 0
   where
     -- Status 0 says that the files are a list and a script, and that exactly their lines were written.
     pub shown : status ≡ 0 → WroteAll lines list script before now
-    -- Status 3 says that the first file is no list, and status 4 that the second is no script for it, and that the line was
-    -- written that says what is wrong.
+    -- Status 3 says that the first file is no list, and status 4 that the second is no script for it, and that the line
+    -- was written that says what is wrong.
     pub no_list : status ≡ 3 → ToldList list before now
     pub no_script : status ≡ 4 → ToldScript list script before now
     -- A right list and a right script give their lines, unless a count rose or memory was refused: then some of the

@@ -32,7 +32,8 @@ pub record IsSweepOf (list : Medl) (script : Script) (asked : Option Span) (swee
   pub node : sweep.node < length list.slots
   pub slot : IfSome sweep.slot (λ slot. slot < script.slots)
 
--- What is told of a value is what a campaign tells of the script of its run, in which only node k counts as faulty besides.
+-- What is told of a value is what a campaign tells of the script of its run, in which only node k counts as faulty
+-- besides.
 pub record IsReadAs (list : Medl) (script : Script) (k : ℕ) (told : ValueTold) : Type 0 where
   pub test : told.test ≡ (summary list script).test
   pub left : told.outcome.left ≡ map (λ leave. leave.node) (summary list script).cost.left
@@ -51,24 +52,27 @@ pub record AreWorth (list : Medl) (script : Script) (asked : Option Span) : Type
   -- What is told of a value is read of the run of its script and of nothing else.
   pub read : (sweep : Sweep) (value : ℤ)
       → IsReadAs list (swept_script script sweep value) sweep.node (told_of_value list script sweep value)
-  -- What the ranges of a sweep say, value by value, is what is told of each of its values: each lies in one range. Two ranges
-  -- that follow each other differ.
+  -- What the ranges of a sweep say, value by value, is what is told of each of its values: each lies in one range. Two
+  -- ranges that follow each other differ.
   pub once : (sweep : Sweep) → flat_map told_in_range (ranges_of (tolds_of list script (reach list asked) sweep))
       ≡ tolds_of list script (reach list asked) sweep
   pub apart : (sweep : Sweep) → AreApart (ranges_of (tolds_of list script (reach list asked) sweep))
   -- The values that cost nobody, the node itself and others are all values of a sweep.
   pub counts : (sweep : Sweep)
-      → count_of_values (counts_by_cost sweep.node (tolds_of list script (reach list asked) sweep)) ≡ suc (2 * reach list asked)
+      → count_of_values (counts_by_cost sweep.node (tolds_of list script (reach list asked) sweep))
+      ≡ suc (2 * reach list asked)
   -- Where the test of a value's script says yes, it costs nobody else.
   pub yes : (sweep : Sweep) (value : ℤ) → IsSweepOf list script asked sweep → IsWithinSpan (reach list asked) value
-      → IsTrue (says_yes list (swept_script script sweep value)) → IsHarmless sweep (told_of_value list script sweep value)
+      → IsTrue (says_yes list (swept_script script sweep value))
+      → IsHarmless sweep (told_of_value list script sweep value)
 
 -- the lines of two ranges of slots, one after the other, are those of a whole, and their sums together its sums
 pub record AreInPieces (list : Medl) (script : Script) (front back : Span) (whole : Option Span) : Type 0 where
   pub lines : flat_map (sweep_lines list script (reach list whole)) (asked_sweeps list script (Some front))
       ++ flat_map (sweep_lines list script (reach list whole)) (asked_sweeps list script (Some back))
       ≡ flat_map (sweep_lines list script (reach list whole)) (asked_sweeps list script whole)
-  pub sums : totals_together (total_of (map (sweep_margin list script (reach list whole)) (asked_sweeps list script (Some front))))
+  pub sums : totals_together
+      (total_of (map (sweep_margin list script (reach list whole)) (asked_sweeps list script (Some front))))
       (total_of (map (sweep_margin list script (reach list whole)) (asked_sweeps list script (Some back))))
       ≡ total_of (map (sweep_margin list script (reach list whole)) (asked_sweeps list script whole))
 
@@ -87,8 +91,8 @@ pub record MarginPromise (list script : List ℕ) (asked : Option Span) (before 
   pub open text use *
   -- Of the text that is written with status 0 it says what its ranges, its sums and a yes are worth.
   pub worth : status ≡ 0 → WroteMargins list script asked before now
-  -- The sweeps of two ranges that join are those of the whole, one after the other, and so are their lines; what both come to
-  -- is what the whole comes to.
+  -- The sweeps of two ranges that join are those of the whole, one after the other, and so are their lines; what both
+  -- come to is what the whole comes to.
   pub pieces : (first last end : ℕ) → asked ≡ Some (record { first = first; last = end }) → first ≤ last → last ≤ end
       → (medl : Medl) (right : Script)
       → AreInPieces medl right (record { first = first; last = last }) (record { first = last + 1; last = end }) asked

@@ -11,7 +11,8 @@ use Rattle.ttp_world.specs.ZerosWorld.{zeros_world}
 use Rattle.single_faults.specs.Tried.{MayStand}
 use Rattle.fault_pairs.specs.Classes.{harm_of}
 use Rattle.fault_pairs.specs.Pairs.{FirstFault, SecondFault}
-use Rattle.fault_pairs.specs.PairText.{pairs_lines, pair_line, told_of_pair, pair_tolds, first_fault_line, first_fault_lines, lines_of_told}
+use Rattle.fault_pairs.specs.PairText.{pairs_lines, pair_line, told_of_pair, pair_tolds, first_fault_line}
+use Rattle.fault_pairs.specs.PairText.{first_fault_lines, lines_of_told}
 use Rattle.fault_pairs.specs.PairText.{summary_of_both}
 use Rattle.fault_pairs.specs.Sums.{PairTold, pair_counts, told_apart, told_kept, told_broken, distances}
 use Rattle.pair_laws.specs.Added.{counts_of_both, sum_of_counts, classes_sum}
@@ -19,15 +20,18 @@ use Rattle.pair_laws.specs.Ranges.{own_harm, firsts_of_range, pairs_of_range, li
 use Rattle.commands.specs.Plan.{Outside}
 use Rattle.lab_top.specs.LinesPromise.{MayBeBoth, LinesPromise}
 
--- What is told of a pair is read of the run of the script with both faults: its test, and in its line the words of that run,
--- which a trace of this script shows. A first fault's line is read of the run with it.
+-- What is told of a pair is read of the run of the script with both faults: its test, and in its line the words of that
+-- run, which a trace of this script shows. A first fault's line is read of the run with it.
 pub record AreRead (list : Medl) (script : Script) (within : ℕ) : Type 0 where
   pub yes : (one : FirstFault) (two : SecondFault)
-      → (told_of_pair list script (own_harm list script) one (harm_of (summary_with list script one.fault).cost) two).yes
+      → (told_of_pair list script (own_harm list script) one
+      (harm_of (summary_with list script one.fault).cost) two).yes
       ≡ (summary list (with_fault (with_fault script one.fault) two.fault)).yes
   pub line : (one : FirstFault) (two : SecondFault)
-      → let told = told_of_pair list script (own_harm list script) one (harm_of (summary_with list script one.fault).cost) two in
-      told.line ≡ pair_line list told.class one two (own_harm list script) (harm_of (summary_with list script one.fault).cost)
+      → let told = told_of_pair list script (own_harm list script) one
+      (harm_of (summary_with list script one.fault).cost) two in
+      told.line ≡ pair_line list told.class one two (own_harm list script)
+      (harm_of (summary_with list script one.fault).cost)
       (harm_of (summary_with list script two.fault).cost)
       (summary list (with_fault (with_fault script one.fault) two.fault))
   pub first : (one : FirstFault)
@@ -36,8 +40,8 @@ pub record AreRead (list : Medl) (script : Script) (within : ℕ) : Type 0 where
       ++ first_fault_line list one (summary list (with_fault script one.fault))
       (pair_counts (pair_tolds list script within (own_harm list script) one)) ∷ []
 
--- The counts of a text add up: the seven classes to the pairs, and the first faults, the distances, and both answers of the test to
--- the same.
+-- The counts of a text add up: the seven classes to the pairs, and the first faults, the distances, and both answers of
+-- the test to the same.
 pub record AddUp (list : Medl) (script : Script) (first last within : ℕ) : Type 0 where
   pub classes : (tolds : List PairTold) → classes_sum (pair_counts tolds) ≡ (pair_counts tolds).pairs
   pub firsts : sum_of_counts (map (counts_of_first list script within) (firsts_of_range list script first last))
@@ -72,7 +76,8 @@ pub record WrotePairs (list script : List ℕ) (first last within : ℕ) (before
   -- What a yes is worth, where the script has room for two events more.
   pub worth : length right.events + 1 < EVENT_LIMIT → IsWorth medl right first last within
 
--- the lines of first faults and their pairs of two ranges, one after the other, are those of a whole, and so are the pairs counted
+-- the lines of first faults and their pairs of two ranges, one after the other, are those of a whole, and so are the
+-- pairs counted
 pub record ArePiecesOf (list : Medl) (script : Script) (first middle last within : ℕ) : Type 0 where
   pub lines : lines_of_range list script first middle within ++ lines_of_range list script (middle + 1) last within
       ≡ lines_of_range list script first last within

@@ -1,4 +1,5 @@
--- The promises of `wave TRACE`, of `picture TRACE [FIRST LAST]` and of `chart CAMPAIGN [FIRST LAST]` in their own words.
+-- The promises of `wave TRACE`, of `picture TRACE [FIRST LAST]` and of `chart CAMPAIGN [FIRST LAST]` in their own
+-- words.
 use Rattle.std.specs.Prelude.{◌≡◌, ◌⊎◌, ℕ, List, [], ◌∷◌, Option, Err}
 use Rattle.ttp_base.specs.Outside.{holds, Gives, HasRisen, Output, Wrote, WroteLines, CutShort}
 use Rattle.ttp_base.specs.Text.{Lines}

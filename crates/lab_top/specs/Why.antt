@@ -25,7 +25,8 @@ why_ending answer = whole_ending answer.status (one answer.lines)
 -- a list, and then a script for it, beside the bytes that it is read from
 
 abbrev pub read_script_plan : List ℕ → (List ℕ → Script → LabPlan) → Medl → LabPlan
-read_script_plan script next list = asks (script_file script) (λ bytes. after refused_script (next bytes) (script_from list bytes))
+read_script_plan script next list =
+    asks (script_file script) (λ bytes. after refused_script (next bytes) (script_from list bytes))
 
 abbrev pub read_both_plan : List ℕ → List ℕ → (Medl → List ℕ → Script → LabPlan) → LabPlan
 read_both_plan list script next = list_plan list (λ medl. read_script_plan script (next medl) medl)

@@ -15,7 +15,8 @@ use Rattle.lab_top.specs.ViewPromise.{HoldsText, WroteOrNone}
 use Rattle.why_answers.specs.Answer.{why_answer}
 
 -- the files of these names may be a list, and a script for it of these bytes
-pub record MayBeRead (list script : List ℕ) (before : Outside) (medl : Medl) (right : Script) (script_bytes : List ℕ) : Type 0
+pub record MayBeRead (list script : List ℕ) (before : Outside) (medl : Medl)
+    (right : Script) (script_bytes : List ℕ) : Type 0
   where
     pub bytes : List ℕ
     pub list_file : MayBe (before.files.held list) bytes
@@ -25,7 +26,8 @@ pub record MayBeRead (list script : List ℕ) (before : Outside) (medl : Medl) (
     pub valid_script : IsValidScript medl right
 
 -- what is due of them with this status was written, each line as one piece
-pub record WroteWhy (list script : List ℕ) (node : ℕ) (slot : Option ℕ) (before now : Outside) (status : ℕ) : Type 0 where
+pub record WroteWhy (list script : List ℕ) (node : ℕ) (slot : Option ℕ)
+    (before now : Outside) (status : ℕ) : Type 0 where
   pub medl : Medl
   pub right : Script
   pub script_bytes : List ℕ
@@ -34,7 +36,8 @@ pub record WroteWhy (list script : List ℕ) (node : ℕ) (slot : Option ℕ) (b
   pub wrote : WroteLines before.output now.output (why_answer medl right script_bytes node slot).lines
 
 -- the files of these names hold a right list, and a right script of these bytes, and no count of a name rose
-pub record AreReadTold (list script : List ℕ) (before now : Outside) (medl : Medl) (right : Script) (script_bytes : List ℕ)
+pub record AreReadTold (list script : List ℕ) (before now : Outside) (medl : Medl)
+    (right : Script) (script_bytes : List ℕ)
     : Type 0 where
   pub bytes : List ℕ
   pub list_file : before.files.held list ≡ holds bytes
@@ -44,21 +47,23 @@ pub record AreReadTold (list script : List ℕ) (before now : Outside) (medl : M
   pub script_quiet : ¬ HasRisen (before.files.faults script) (now.files.faults script)
 
 -- a call that is asked why a node's entry is what it is promises
-pub record WhyPromise (list script : List ℕ) (node : ℕ) (slot : Option ℕ) (before now : Outside) (status : ℕ) : Type 0 where
-  -- Status 0 says that the files are a list and a script, and that exactly the lines of the entry's story were written, and
-  -- status 1 that the node never leaves, and that the line was written that says so.
+pub record WhyPromise (list script : List ℕ) (node : ℕ) (slot : Option ℕ)
+    (before now : Outside) (status : ℕ) : Type 0 where
+  -- Status 0 says that the files are a list and a script, and that exactly the lines of the entry's story were written,
+  -- and status 1 that the node never leaves, and that the line was written that says so.
   pub shown : status ≡ 0 → WroteWhy list script node slot before now 0
   pub stays : status ≡ 1 → WroteWhy list script node slot before now 1
   -- Status 3 says that the first file is no list, or that the list has no such node, and status 4 that the second is no
   -- script for it, or that its run has no such slot, and that the line was written that says which.
   pub no_list : status ≡ 3 → ToldList list before now ⊎ WroteWhy list script node slot before now 3
   pub no_script : status ≡ 4 → ToldScript list script before now ⊎ WroteWhy list script node slot before now 4
-  -- A right list and a right script give what is due of them, unless a count rose or memory was refused: then nothing was
-  -- written.
+  -- A right list and a right script give what is due of them, unless a count rose or memory was refused: then nothing
+  -- was written.
   pub complete : (medl : Medl) (right : Script) (script_bytes : List ℕ)
       → AreReadTold list script before now medl right script_bytes
       → ¬ HasRisen before.output.faults now.output.faults
-      → WroteOrNone (why_answer medl right script_bytes node slot).status (why_answer medl right script_bytes node slot).lines
+      → WroteOrNone (why_answer medl right script_bytes node slot).status
+      (why_answer medl right script_bytes node slot).lines
       before.output now.output status
   -- Any other list, however long, gives the line on it, and any other script for a right list.
   pub list_told : (bytes : List ℕ) (fault : FileFault) → HoldsText list before now bytes

@@ -17,21 +17,21 @@ pub data LabForm : Type 0 where
   picture : (trace : List ℕ) (asked : Option Span) → LabForm
   -- the campaign of the script of this name for the list of this name, over the slots from the first to the last
   campaign : (list script : List ℕ) (first last : ℕ) → LabForm
-  -- why the node's entry of a slot, or its newest departure, is what it is, in the run of the script of this name for the
-  -- list of this name
+  -- why the node's entry of a slot, or its newest departure, is what it is, in the run of the script of this name for
+  -- the list of this name
   why : (list script : List ℕ) (node : ℕ) (slot : Option ℕ) → LabForm
   -- the chart of the campaign of this name, of the slots that are asked for, or else of those that are chosen
   chart : (name : List ℕ) (asked : Option Span) → LabForm
   -- what is wrong with the list of this name, or with it and the script of this name
   check : (list : List ℕ) (script : Option (List ℕ)) → LabForm
-  -- the frames on the bus, for the text of the third name, which is to be a trace of the script of this name for the list
-  -- of this name
+  -- the frames on the bus, for the text of the third name, which is to be a trace of the script of this name for the
+  -- list of this name
   frames : (list script trace : List ℕ) → LabForm
-  -- the margins of the script of this name for the list of this name, over the drifts of all nodes, or over the jumps in the
-  -- slots that are asked for
+  -- the margins of the script of this name for the list of this name, over the drifts of all nodes, or over the jumps
+  -- in the slots that are asked for
   margins : (list script : List ℕ) (asked : Option Slots) → LabForm
-  -- the pairs of the script of this name for the list of this name, of which the first fault begins in the slots from the first
-  -- to the last, and the second up to so many slots later
+  -- the pairs of the script of this name for the list of this name, of which the first fault begins in the slots from
+  -- the first to the last, and the second up to so many slots later
   pairs : (list script : List ℕ) (first last within : ℕ) → LabForm
   -- the script that this number gives for the list of this name, in a run of so many slots
   script_by : (list : List ℕ) (slots number : ℕ) → LabForm
@@ -98,7 +98,8 @@ margins_of_range list script (Some first) (Some last) =
     if nat_le first last then Some (margins list script (Some (record { first = first; last = last }))) else None
 margins_of_range list script _ _ = None
 
--- the pairs of a range and of a distance that three words name, if each names one and the first slot is not past the last
+-- the pairs of a range and of a distance that three words name, if each names one and the first slot is not past the
+-- last
 abbrev pub pairs_asked : List ℕ → List ℕ → Option ℕ → Option ℕ → Option ℕ → Option LabForm
 pairs_asked list script (Some first) (Some last) (Some within) =
     if nat_le first last then Some (pairs list script first last within) else None
@@ -155,7 +156,8 @@ lab_form_of (verb ∷ text ∷ first ∷ last ∷ []) =
     else (if bytes_eq verb (codes "why") then why_of_node text first (bound_named last) else None))))
 lab_form_of (verb ∷ list ∷ script ∷ first ∷ last ∷ []) =
     if bytes_eq verb (codes "campaign") then campaign_of_range list script (bound_named first) (bound_named last)
-    else (if bytes_eq verb (codes "margins") then margins_of_range list script (bound_named first) (bound_named last) else (
+    else (if bytes_eq verb (codes "margins") then margins_of_range list script
+    (bound_named first) (bound_named last) else (
     if bytes_eq verb (codes "why") then why_of_slot list script (bound_named first) (bound_named last) else None))
 lab_form_of (verb ∷ list ∷ script ∷ first ∷ last ∷ within ∷ []) =
     if bytes_eq verb (codes "pairs")

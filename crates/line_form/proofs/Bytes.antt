@@ -9,7 +9,8 @@ use Rattle.std.proofs.lemmas.Bool.Decides.{nat_tests}
 use Rattle.std.proofs.lemmas.List.{append-nil}
 use Rattle.std.proofs.lemmas.List.Folds.{list_any-append}
 use Rattle.ttp_base.specs.Text.{hex_digit, hex, hex_bytes}
-use Rattle.line_form.specs.Kinds.{has_byte, front, back, parted, onto_first, each_behind, joined_by, is_no_digit, is_no_hex}
+use Rattle.line_form.specs.Kinds.{has_byte, front, back, parted, onto_first, each_behind}
+use Rattle.line_form.specs.Kinds.{joined_by, is_no_digit, is_no_hex}
 use Rattle.line_form.proofs.Tests.{is_not}
 
 pub has-append : (b : ℕ) (x y : List ℕ) → has_byte b x ≡ false → has_byte b y ≡ false → has_byte b (x ++ y) ≡ false
@@ -117,12 +118,14 @@ parted-append b [] rest lacks = go (b == b) (grind (arith, nat_tests))
     go false e = cc
 parted-append b (c ∷ x) rest lacks = go (c == b) lacks (parted-append b x rest)
   where
-    go : (is : Bool) → (is || has_byte b x) ≡ false → (has_byte b x ≡ false → parted b (x ++ b ∷ rest) ≡ x ∷ parted b rest)
+    go : (is : Bool) → (is || has_byte b x) ≡ false
+        → (has_byte b x ≡ false → parted b (x ++ b ∷ rest) ≡ x ∷ parted b rest)
         → cond is ([] ∷ parted b (x ++ b ∷ rest)) (onto_first c (parted b (x ++ b ∷ rest))) ≡ (c ∷ x) ∷ parted b rest
     go true e more = cc
     go false e more = ap (onto_first c) (more e)
 
-pub parted-again : (b : ℕ) (word : List ℕ) (words : List (List ℕ)) → list_all (λ w. not (has_byte b w)) (word ∷ words) ≡ true
+pub parted-again : (b : ℕ) (word : List ℕ) (words : List (List ℕ))
+    → list_all (λ w. not (has_byte b w)) (word ∷ words) ≡ true
     → parted b (joined_by b (word ∷ words)) ≡ word ∷ words
 parted-again b word [] lacks =
     let t = and_parts (not (has_byte b word)) true lacks in go (word ++ []) refl (is_not (has_byte b word) t.0)

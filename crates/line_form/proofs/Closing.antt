@@ -1,7 +1,9 @@
 -- What is read of a line, as a value of a type of the code.
-use Rattle.std.proofs.Common.{◌≡◌, ℕ, Bool, true, false, cond, List, [], ◌∷◌, Option, Some, None, option_map, refl, sym, ap, ◌∙◌}
+use Rattle.std.proofs.Common.{◌≡◌, ℕ, Bool, true, false, cond, List, [], ◌∷◌, Option}
+use Rattle.std.proofs.Common.{Some, None, option_map, refl, sym, ap, ◌∙◌}
 use Rattle.line_form.specs.Kinds.{Kind, Value, ◌>>=◌}
-use Rattle.line_form.specs.Forms.{LineForm, Values, past, field_value, is_end, closed_line, left_of, values_in, line_values, ◌▸◌}
+use Rattle.line_form.specs.Forms.{LineForm, Values, past, field_value, is_end, closed_line}
+use Rattle.line_form.specs.Forms.{left_of, values_in, line_values, ◌▸◌}
 
 go : {A B : Type 0} (f : A → B) (b : Bool) (v : A) → option_map f (cond b (Some v) None) ≡ cond b (Some (f v)) None
 go f true v = refl

@@ -1,5 +1,6 @@
 -- Bytes cut before the first of some bytes.
-use Rattle.std.proofs.Common.{◌≡◌, ℕ, suc, ◌+◌, ◌≤◌, Bool, true, false, cond, List, [], ◌∷◌, ◌++◌, length, take, drop, not}
+use Rattle.std.proofs.Common.{◌≡◌, ℕ, suc, ◌+◌, ◌≤◌, Bool, true, false, cond}
+use Rattle.std.proofs.Common.{List, [], ◌∷◌, ◌++◌, length, take, drop, not}
 use Rattle.std.proofs.Common.{Some, None, refl, ap, arith}
 use Rattle.std.specs.Prelude.{◌==◌, position}
 use Rattle.std.specs.List.{position_or_len}
@@ -21,7 +22,8 @@ pub front-length : (b : ℕ) (bytes : List ℕ) → length (front b bytes) ≤ l
 front-length b [] = omega arith
 front-length b (c ∷ bytes) = go (c == b) (front-length b bytes)
   where
-    go : (is : Bool) → length (front b bytes) ≤ length bytes → length (cond is [] (c ∷ front b bytes)) ≤ length (c ∷ bytes)
+    go : (is : Bool) → length (front b bytes) ≤ length bytes
+        → length (cond is [] (c ∷ front b bytes)) ≤ length (c ∷ bytes)
     go true less = omega arith
     go false less = omega arith
 

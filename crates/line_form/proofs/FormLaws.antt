@@ -1,14 +1,18 @@
 -- The laws of lines, over all descriptions.
 use Rattle.std.proofs.Common.{◌≡◌, ℕ, Bool, true, false, cond, ◌&&◌, ◌||◌, not}
-use Rattle.std.proofs.Common.{List, [], ◌∷◌, ◌++◌, length, Option, Some, None, refl, sym, ap, subst, ◌∙◌, arith, append_assoc}
+use Rattle.std.proofs.Common.{List, [], ◌∷◌, ◌++◌, length, Option, Some, None}
+use Rattle.std.proofs.Common.{refl, sym, ap, subst, ◌∙◌, arith, append_assoc}
 use Rattle.std.specs.Prelude.{◌==◌, is_some, unwrap_or, IfSome}
 use Rattle.std.proofs.lemmas.Bool.{and_parts, eqb-true}
 use Rattle.std.proofs.lemmas.List.{append-nil}
 use Rattle.ttp_base.specs.Text.{newline, is_line}
 use Rattle.ttp_base.proofs.Lines.{is_line-append}
-use Rattle.line_form.specs.Kinds.{Kind, Value, spell, read, fits_kind, sound, avoids, has_byte, behind_prefix, front, back}
-use Rattle.line_form.specs.Forms.{LineForm, Values, spelled_before, spelled, spelled_line, fit, is_free, starts_with_space}
-use Rattle.line_form.specs.Forms.{goes_on, well, labelled, next_word, left_behind, field_word, no_value, field_value, past, front_word}
+use Rattle.line_form.specs.Kinds.{Kind, Value, spell, read, fits_kind, sound, avoids}
+use Rattle.line_form.specs.Kinds.{has_byte, behind_prefix, front, back}
+use Rattle.line_form.specs.Forms.{LineForm, Values, spelled_before, spelled, spelled_line}
+use Rattle.line_form.specs.Forms.{fit, is_free, starts_with_space}
+use Rattle.line_form.specs.Forms.{goes_on, well, labelled, next_word, left_behind, field_word}
+use Rattle.line_form.specs.Forms.{no_value, field_value, past, front_word}
 use Rattle.line_form.specs.Forms.{behind_word, values_in, left_of, is_end, closed_line, line_values, ReadsLine}
 use Rattle.line_form.proofs.Tests.{both_true, is_not, some_same, behind_prefix-takes, behind_prefix-again}
 use Rattle.line_form.proofs.KindLaws.{lacks, again}
@@ -31,7 +35,8 @@ pub no_feed : (form : LineForm) (values : Values form) → well form ≡ true �
     → has_byte 10 (spelled form values) ≡ false
 no_feed [] values is fits_all = refl
 no_feed (f ∷ form) (v, vs) is fits_all =
-    let t = and_parts (sound f.kind) (avoids 10 f.kind && (not (has_byte 10 f.label) && (goes_on f.kind form && well form)))
+    let t = and_parts (sound f.kind)
+    (avoids 10 f.kind && (not (has_byte 10 f.label) && (goes_on f.kind form && well form)))
     is in
     let u = and_parts (avoids 10 f.kind) (not (has_byte 10 f.label) && (goes_on f.kind form && well form)) t.1 in
     let w = and_parts (not (has_byte 10 f.label)) (goes_on f.kind form && well form) u.1 in
@@ -50,7 +55,8 @@ one_line form values is fits_all =
 -- What is spelled is read.
 
 -- what comes behind a word
-cut_behind : (k : Kind) (form : LineForm) (v : Value k) (vs : Values form) → goes_on k form ≡ true → fits_kind k v ≡ true
+cut_behind : (k : Kind) (form : LineForm) (v : Value k) (vs : Values form)
+    → goes_on k form ≡ true → fits_kind k v ≡ true
     → (front_word (is_free k) (spell k v ++ spelled form vs) ≡ spell k v)
     × (behind_word (is_free k) (spell k v ++ spelled form vs) ≡ spelled form vs)
 cut_behind k [] v vs on fit_v = go (is_free k) on (λ a. front-all 32 (spell k v) (lacks 32 k v a fit_v))
@@ -100,7 +106,8 @@ pub all_taken : (form : LineForm) (values : Values form) → well form ≡ true 
     → AllTaken form values
 all_taken [] values is fits_all = record { values_are = refl; nothing_left = refl }
 all_taken (f ∷ form) (v, vs) is fits_all =
-    let t = and_parts (sound f.kind) (avoids 10 f.kind && (not (has_byte 10 f.label) && (goes_on f.kind form && well form)))
+    let t = and_parts (sound f.kind)
+    (avoids 10 f.kind && (not (has_byte 10 f.label) && (goes_on f.kind form && well form)))
     is in
     let u = and_parts (avoids 10 f.kind) (not (has_byte 10 f.label) && (goes_on f.kind form && well form)) t.1 in
     let w = and_parts (not (has_byte 10 f.label)) (goes_on f.kind form && well form) u.1 in
@@ -108,7 +115,8 @@ all_taken (f ∷ form) (v, vs) is fits_all =
     let g = and_parts (fits_kind f.kind v) (fit form vs) fits_all in
     let one = taken f.label f.kind form v vs t.0 x.0 g.0 in
     let more = all_taken form vs x.1 g.1 in record {
-      values_are = ap (λ (y : Value f.kind). (y, values_in form (past f.label f.kind (Some (spelled (f ∷ form) (v, vs))))))
+      values_are = ap (λ (y : Value f.kind).
+          (y, values_in form (past f.label f.kind (Some (spelled (f ∷ form) (v, vs))))))
           one.value
           ∙ ap (λ (ys : Values form). (v, ys)) (ap (values_in form) one.left ∙ more.values_are);
       nothing_left = ap (left_of form) one.left ∙ more.nothing_left;
@@ -163,7 +171,8 @@ unfolding next_word
 took-at label k bytes rest None is left =
     let none = gone (is_free k) (is_some (read k [])) in cc
 took-at label k bytes rest (Some w) is left =
-    took-read label k bytes rest (front_word (is_free k) w) w (read k (front_word (is_free k) w)) refl left (whole (is_free k) w)
+    took-read label k bytes rest (front_word (is_free k) w) w
+    (read k (front_word (is_free k) w)) refl left (whole (is_free k) w)
     (behind_prefix-takes label bytes w is)
 
 took : (label : List ℕ) (k : Kind) (bytes rest : List ℕ) → past label k (Some bytes) ≡ Some rest
@@ -184,14 +193,17 @@ all_took (f ∷ form) bytes end = go (past f.label f.kind (Some bytes)) refl end
     go : (p : Option (List ℕ)) → past f.label f.kind (Some bytes) ≡ p → is_end (left_of form p) ≡ true
         → ((rest : List ℕ) → is_end (left_of form (Some rest)) ≡ true
         → (rest ≡ spelled form (values_in form (Some rest))) × (fit form (values_in form (Some rest)) ≡ true))
-        → (bytes ≡ f.label ++ (spell f.kind (field_value f.label f.kind (Some bytes)) ++ spelled form (values_in form p)))
+        → (bytes ≡ f.label ++ (spell f.kind (field_value f.label f.kind (Some bytes))
+        ++ spelled form (values_in form p)))
         × ((fits_kind f.kind (field_value f.label f.kind (Some bytes)) && fit form (values_in form p)) ≡ true)
     go None is over more = let none = none_left form in absurd (cc (ap is_end none))
     go (Some rest) is over more =
         let one = took f.label f.kind bytes rest is in
         let others = more rest over in (
-          one.0 ∙ ap (λ (l : List ℕ). f.label ++ (spell f.kind (field_value f.label f.kind (Some bytes)) ++ l)) others.0,
-          both_true (fits_kind f.kind (field_value f.label f.kind (Some bytes))) (fit form (values_in form (Some rest))) one.1 others.1,
+          one.0 ∙ ap (λ (l : List ℕ). f.label
+              ++ (spell f.kind (field_value f.label f.kind (Some bytes)) ++ l)) others.0,
+          both_true (fits_kind f.kind (field_value f.label f.kind (Some bytes)))
+              (fit form (values_in form (Some rest))) one.1 others.1,
         )
 
 found_by : (form : LineForm) (bytes : List ℕ) (end : Bool) → is_end (left_of form (Some bytes)) ≡ end

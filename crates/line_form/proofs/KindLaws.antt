@@ -7,9 +7,12 @@ use Rattle.std.specs.List.{list_all}
 use Rattle.std.proofs.lemmas.Bool.{and_parts, leb-true, ltb-true, eqb-true, false_from_ne_true}
 use Rattle.line_form.proofs.NumberWords.{same_text}
 use Rattle.line_form.specs.declared.named.Named.TheVariants as choice
-use Rattle.line_form.specs.Kinds.{Kind, number, signed, hexed, hexed_or, one_of, payload, or_dash, commas, named, joined, free}
-use Rattle.line_form.specs.Kinds.{Value, count_of_digits, wide_number, spell, read, fits_kind, sound, avoids, has_byte, behind_prefix, parted, joined_by}
-use Rattle.line_form.specs.Kinds.{each_behind, listed_words, each, place_among, or_other, distinct_texts, is_byte, ◌>>=◌}
+use Rattle.line_form.specs.Kinds.{Kind, number, signed, hexed, hexed_or, one_of}
+use Rattle.line_form.specs.Kinds.{payload, or_dash, commas, named, joined, free}
+use Rattle.line_form.specs.Kinds.{Value, count_of_digits, wide_number, spell, read, fits_kind}
+use Rattle.line_form.specs.Kinds.{sound, avoids, has_byte, behind_prefix, parted, joined_by}
+use Rattle.line_form.specs.Kinds.{each_behind, listed_words, each, place_among}
+use Rattle.line_form.specs.Kinds.{or_other, distinct_texts, is_byte, ◌>>=◌}
 use Rattle.line_form.proofs.Tests.{both_true, gives, not_some, is_not}
 use Rattle.line_form.proofs.Tests.{behind_prefix-again}
 use Rattle.line_form.proofs.Numbers.{numeral-again, signed-again}
@@ -65,7 +68,8 @@ lacks b (commas most k) values avoid fit =
     list-lacks b (map (spell k) values) (is_not (45 == b) t.0) (is_not (44 == b) u.0)
     (all-lack b k values f.1 (λ v is. lacks b k v u.1 is))
 lacks b (named texts prefix k) (choice.Told i) avoid fit =
-    place-has b texts i (and_parts (list_all (λ text. not (has_byte b text)) texts) _ avoid).0 (ltb-true i (length texts) fit)
+    place-has b texts i (and_parts (list_all (λ text. not (has_byte b text)) texts) _ avoid).0
+    (ltb-true i (length texts) fit)
 lacks b (named texts prefix k) (choice.Other v) avoid fit =
     let t = and_parts (list_all (λ text. not (has_byte b text)) texts) (not (has_byte b prefix) && avoids b k) avoid in
     let u = and_parts (not (has_byte b prefix)) (avoids b k) t.1 in
@@ -170,7 +174,8 @@ again (named texts prefix k) (choice.Other v) so fit =
     let u = and_parts (distinct_texts texts)
     (list_all (λ text. is_none (behind_prefix prefix text >>= λ rest. read k rest)) texts) t.1 in
     let e : (behind_prefix prefix (prefix ++ spell k v) >>= λ rest. read k rest) ≡ Some v =
-    ap (λ (r : Option (List ℕ)). r >>= λ rest. read k rest) (behind_prefix-again prefix (spell k v)) ∙ again k v t.0 fit in
+    ap (λ (r : Option (List ℕ)). r >>= λ rest. read k rest)
+    (behind_prefix-again prefix (spell k v)) ∙ again k v t.0 fit in
     let none = unread texts prefix k v (place_among texts (prefix ++ spell k v)) u.1 e refl in
     ap (λ (p : Option ℕ). or_other p (behind_prefix prefix (prefix ++ spell k v) >>= λ rest. read k rest)) none
     ∙ ap (λ (r : Option (Value k)). r >>= λ x. Some (choice.Other x)) e

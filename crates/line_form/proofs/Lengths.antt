@@ -11,8 +11,10 @@ use Rattle.std.proofs.lemmas.Fmt.{length-decimal-le}
 use Rattle.ttp_base.proofs.Hex.{length-hex_bytes}
 use Rattle.ttp_base.proofs.Room.{length-hex}
 use Rattle.line_form.specs.declared.named.Named.TheVariants as choice
-use Rattle.line_form.specs.Kinds.{Kind, number, signed, hexed, hexed_or, one_of, payload, or_dash, commas, named, joined, free, Value}
-use Rattle.line_form.specs.Kinds.{spell, fits_kind, sound, avoids, has_byte, each_behind, listed_words, longest, longest_number}
+use Rattle.line_form.specs.Kinds.{Kind, number, signed, hexed, hexed_or, one_of, payload}
+use Rattle.line_form.specs.Kinds.{or_dash, commas, named, joined, free, Value}
+use Rattle.line_form.specs.Kinds.{spell, fits_kind, sound, avoids, has_byte, each_behind}
+use Rattle.line_form.specs.Kinds.{listed_words, longest, longest_number}
 use Rattle.line_form.specs.Kinds.{digits_below, is_byte}
 use Rattle.line_form.specs.Forms.{LineForm, Values, spelled, fit, well, goes_on, longest_line}
 use Rattle.line_form.proofs.PlaceLaws.{place-length}
@@ -108,7 +110,8 @@ pub text-length : (form : LineForm) (values : Values form) → well form ≡ tru
     → length (spelled form values) ≤ longest_line form
 text-length [] values is fit_all = omega arith
 text-length (f ∷ form) (v, vs) is fit_all =
-    let t = and_parts (sound f.kind) (avoids 10 f.kind && (not (has_byte 10 f.label) && (goes_on f.kind form && well form)))
+    let t = and_parts (sound f.kind)
+    (avoids 10 f.kind && (not (has_byte 10 f.label) && (goes_on f.kind form && well form)))
     is in
     let u = and_parts (avoids 10 f.kind) (not (has_byte 10 f.label) && (goes_on f.kind form && well form)) t.1 in
     let w = and_parts (not (has_byte 10 f.label)) (goes_on f.kind form && well form) u.1 in

@@ -45,7 +45,8 @@ one_more k values i d start line middle new within so_far comma word =
     ∙ ap (λ (l : List ℕ). start ++ l) (sym (push words (spell k v)))
     ∙ ap (λ (ws : List (List ℕ)). start ++ joined_by 44 ws) (sym all)
 
-pub listed_none : (k : Kind) (values : List (Value k)) → length values ≡ 0 → listed_words (map (spell k) values) ≡ 45 ∷ []
+pub listed_none : (k : Kind) (values : List (Value k)) → length values ≡ 0
+    → listed_words (map (spell k) values) ≡ 45 ∷ []
 listed_none k [] none = refl
 listed_none k (v ∷ values) none = absurd (omega (arith, none))
 

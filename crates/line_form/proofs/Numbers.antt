@@ -42,7 +42,8 @@ numeral_in-again most n some few small =
 pub numeral-again : (limit n : ℕ) → limit ≤ 10 ^ 18 → n < limit → numeral limit (decimal n) ≡ Some n
 unfolding numeral
 numeral-again limit n few small =
-    ap (λ (r : Option ℕ). r >>= λ m. given (nat_lt m limit) m) (numeral_in-again 18 n (omega arith) (omega arith) (omega (arith, few, small)))
+    ap (λ (r : Option ℕ). r >>= λ m. given (nat_lt m limit) m)
+    (numeral_in-again 18 n (omega arith) (omega arith) (omega (arith, few, small)))
     ∙ gives (nat_lt n limit) n (is_lt n limit small)
 
 pub own : IsNumeralModel (λ word. list_all is_digit word ≡ true) (fold append_digit 0)

@@ -1,10 +1,12 @@
 -- A line that begins otherwise is not read.
-use Rattle.std.proofs.Common.{◌≡◌, ℕ, Bool, true, false, cond, ◌&&◌, ◌||◌, List, [], ◌∷◌, ◌++◌, length, get_or, take, drop}
+use Rattle.std.proofs.Common.{◌≡◌, ℕ, Bool, true, false, cond, ◌&&◌, ◌||◌, List}
+use Rattle.std.proofs.Common.{[], ◌∷◌, ◌++◌, length, get_or, take, drop}
 use Rattle.std.proofs.Common.{Option, Some, None, refl, ap, ◌∙◌, arith, bytes_eq}
 use Rattle.std.specs.Prelude.{◌==◌, is_some}
 use Rattle.std.proofs.lemmas.Bool.{and_parts, eqb-true, false_from_ne_true}
 use Rattle.std.proofs.lemmas.Bool.Decides.{nat_tests}
-use Rattle.line_form.specs.Kinds.{Kind, number, signed, hexed, hexed_or, one_of, payload, or_dash, commas, named, joined, free}
+use Rattle.line_form.specs.Kinds.{Kind, number, signed, hexed, hexed_or, one_of}
+use Rattle.line_form.specs.Kinds.{payload, or_dash, commas, named, joined, free}
 use Rattle.line_form.specs.Kinds.{read, spell, fits_kind, sound, avoids, behind_prefix}
 use Rattle.line_form.specs.Forms.{LineForm, Values, spelled, fit, well, goes_on, is_free, past, left_of, left_behind}
 use Rattle.line_form.specs.Forms.{labelled, next_word, closed_line, line_values, same_number, labels_part, lines_part}
@@ -17,7 +19,8 @@ differ : (label other rest : List ℕ) → labels_part label other ≡ true → 
 differ [] other rest e is = cc
 differ (b ∷ label) [] rest e is = cc
 differ (b ∷ label) (c ∷ other) rest e is =
-    go (b == c) refl e (ap (λ (l : List ℕ). get_or l 0 0) is) (ap (λ (l : List ℕ). drop 1 l) is) (differ label other rest)
+    go (b == c) refl e (ap (λ (l : List ℕ). get_or l 0 0) is)
+    (ap (λ (l : List ℕ). drop 1 l) is) (differ label other rest)
   where
     go : (same : Bool) → (b == c) ≡ same → cond same (labels_part label other) true ≡ true → c ≡ b
         → take (length label) (other ++ rest) ≡ label
@@ -36,7 +39,8 @@ unfolding left_behind
 no_more all true = refl
 no_more all false = refl
 
-past-none : (label : List ℕ) (k : Kind) (bytes : List ℕ) → behind_prefix label bytes ≡ None → past label k (Some bytes) ≡ None
+past-none : (label : List ℕ) (k : Kind) (bytes : List ℕ) → behind_prefix label bytes
+    ≡ None → past label k (Some bytes) ≡ None
 unfolding past labelled
 past-none label k bytes none =
     ap (λ (o : Option (List ℕ)). left_behind (is_free k) (is_some (read k (next_word (is_free k) o))) o) none

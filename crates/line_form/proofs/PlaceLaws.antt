@@ -10,7 +10,8 @@ use Rattle.line_form.specs.Kinds.{place_among, ◌>>=◌, distinct_texts, has_by
 use Rattle.line_form.proofs.Tests.{is_not, not_some}
 
 -- a text that stands at a place is found
-pub found : (texts : List (List ℕ)) (i : ℕ) → i < length texts → (j : ℕ) × (place_among texts (get_or texts i []) ≡ Some j)
+pub found : (texts : List (List ℕ)) (i : ℕ) → i < length texts → (j : ℕ)
+    × (place_among texts (get_or texts i []) ≡ Some j)
 found [] i less = absurd (omega (arith, less))
 found (text ∷ texts) zero less = (0, rw (bytes_eq-same text) refl)
 found (text ∷ texts) (suc i) less =

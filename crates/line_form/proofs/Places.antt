@@ -1,5 +1,6 @@
 -- The place of a text among some, looked for from the first one on.
-use Rattle.std.proofs.Common.{◌≡◌, ℕ, zero, suc, ◌+◌, ◌<◌, ◌≤◌, Bool, true, false, cond, List, [], ◌∷◌, length, get_or, drop}
+use Rattle.std.proofs.Common.{◌≡◌, ℕ, zero, suc, ◌+◌, ◌<◌, ◌≤◌, Bool, true, false}
+use Rattle.std.proofs.Common.{cond, List, [], ◌∷◌, length, get_or, drop}
 use Rattle.std.proofs.Common.{map, Option, Some, None, Bor, refl, ap, sym, ◌∙◌, arith, add-one, drop-cons, bytes_eq}
 use Rattle.std.proofs.lemmas.List.{drop_all, length-map, get_or-map}
 use Rattle.line_form.specs.Kinds.{place_among, longest_of, ◌>>=◌}

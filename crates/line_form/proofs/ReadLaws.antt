@@ -7,8 +7,10 @@ use Rattle.std.specs.List.{list_all}
 use Rattle.line_form.proofs.NumberWords.{same_text}
 use Rattle.line_form.specs.declared.named.Named.{Named}
 use Rattle.line_form.specs.declared.named.Named.TheVariants as choice
-use Rattle.line_form.specs.Kinds.{Kind, number, signed, hexed, hexed_or, one_of, payload, or_dash, commas, named, joined, free}
-use Rattle.line_form.specs.Kinds.{Value, count_of_digits, hex_number, spell, read, fits_kind, has_byte, behind_prefix, front, back, parted, joined_by}
+use Rattle.line_form.specs.Kinds.{Kind, number, signed, hexed, hexed_or, one_of}
+use Rattle.line_form.specs.Kinds.{payload, or_dash, commas, named, joined, free}
+use Rattle.line_form.specs.Kinds.{Value, count_of_digits, hex_number, spell, read, fits_kind}
+use Rattle.line_form.specs.Kinds.{has_byte, behind_prefix, front, back, parted, joined_by}
 use Rattle.line_form.specs.Kinds.{listed_words, each, at_most, place_among, or_other, is_byte, ◌>>=◌}
 use Rattle.line_form.proofs.Tests.{both_true, some_same, was_given, bound, is_le, is_lt, behind_prefix-takes}
 use Rattle.line_form.proofs.Numbers.{numeral-takes, signed-takes}
@@ -48,7 +50,8 @@ listed_words-parted word =
     let p = parted-first 44 word in
     ap listed_words p.1.1 ∙ ap (joined_by 44) (sym p.1.1) ∙ joined_by-parted 44 word
 
-list-takes : (most : ℕ) (k : Kind) (word : List ℕ) (is : Bool) (values : List (Value k)) → bytes_eq (codes "-") word ≡ is
+list-takes : (most : ℕ) (k : Kind) (word : List ℕ) (is : Bool) (values : List (Value k))
+    → bytes_eq (codes "-") word ≡ is
     → cond is (Some []) (each (read k) (parted 44 word) >>= λ vs. at_most most vs) ≡ Some values
     → ((text : List ℕ) (v : Value k) → read k text ≡ Some v → Spells k text v) → Spells (commas most k) word values
 list-takes most k word true values same e takes =
@@ -81,7 +84,8 @@ dash-takes k word false value same e takes =
 named-takes : (texts : List (List ℕ)) (prefix : List ℕ) (k : Kind) (word : List ℕ) (p : Option ℕ)
     → (value : Named (Value k)) → place_among texts word ≡ p
     → or_other p (behind_prefix prefix word >>= λ rest. read k rest) ≡ Some value
-    → ((text : List ℕ) (v : Value k) → read k text ≡ Some v → Spells k text v) → Spells (named texts prefix k) word value
+    → ((text : List ℕ) (v : Value k) → read k text ≡ Some v → Spells k text v)
+    → Spells (named texts prefix k) word value
 named-takes texts prefix k word (Some i) value place e takes =
     let at = place-takes texts word i place in
     subst (λ (v : Named (Value k)). Spells (named texts prefix k) word v) (some_same (choice.Told i) value e)
@@ -90,7 +94,8 @@ named-takes texts prefix k word None value place e takes =
     let a = bound (behind_prefix prefix word >>= λ rest. read k rest) (λ v. Some (choice.Other v)) value e in
     let b = bound (behind_prefix prefix word) (λ rest. read k rest) a.value a.read in
     let t = takes b.value a.value b.gives in
-    subst (λ (v : Named (Value k)). Spells (named texts prefix k) word v) (some_same (choice.Other a.value) value a.gives)
+    subst (λ (v : Named (Value k)). Spells (named texts prefix k) word v)
+    (some_same (choice.Other a.value) value a.gives)
     (record {
       text = behind_prefix-takes prefix word b.value b.read ∙ ap (λ (r : List ℕ). prefix ++ r) t.text;
       fit = t.fit;
@@ -113,7 +118,10 @@ takes (one_of texts) word i e =
     let t = place-takes texts word i e in record { text = t.0; fit = is_lt i (length texts) t.1 }
 takes (payload most) word bytes e =
     let t = payload-takes most word bytes e in
-    record { text = t.0; fit = both_true (nat_le (length bytes) most) (list_all is_byte bytes) (is_le (length bytes) most t.2) t.1 }
+    record {
+      text = t.0;
+      fit = both_true (nat_le (length bytes) most) (list_all is_byte bytes) (is_le (length bytes) most t.2) t.1;
+    }
 takes (or_dash k) word value e =
     dash-takes k word (bytes_eq (codes "-") word) value refl e (λ v r. takes k word v r)
 takes (commas most k) word values e =
@@ -123,11 +131,13 @@ takes (named texts prefix k) word value e =
 takes (joined k b l) word value e =
     let p = bound (read k (front b word))
     (λ v. behind_prefix (b ∷ []) (back b word) >>= λ rest. read l rest >>= λ w. Some (v, w)) value e in
-    let q = bound (behind_prefix (b ∷ []) (back b word)) (λ rest. read l rest >>= λ w. Some (p.value, w)) value p.gives in
+    let q = bound (behind_prefix (b ∷ []) (back b word))
+    (λ rest. read l rest >>= λ w. Some (p.value, w)) value p.gives in
     let r = bound (read l q.value) (λ w. Some (p.value, w)) value q.gives in
     let one = takes k (front b word) p.value p.read in
     let other = takes l q.value r.value r.read in
-    subst (λ (v : Value k × Value l). Spells (joined k b l) word v) (some_same (p.value, r.value) value r.gives) (record {
+    subst (λ (v : Value k × Value l). Spells (joined k b l) word v)
+    (some_same (p.value, r.value) value r.gives) (record {
       text = sym (front-back b word) ∙ ap (λ (t : List ℕ). t ++ back b word) one.text
           ∙ ap (λ (t : List ℕ). spell k p.value ++ t) (behind_prefix-takes (b ∷ []) (back b word) q.value q.read)
           ∙ ap (λ (t : List ℕ). spell k p.value ++ b ∷ t) other.text;

@@ -3,10 +3,12 @@ use Rattle.std.specs.Prelude.{◌≡◌, ℕ, ◌+◌, ◌==◌, ◌<◌, pos, B
 use Rattle.std.specs.Prelude.{List, [], ◌∷◌, ◌++◌, length, Option, Some, None, unwrap_or, is_some, if◌then◌else◌}
 use Rattle.std.specs.Str.{bytes_eq}
 use Rattle.ttp_base.specs.Text.{newline}
-use Rattle.line_form.specs.Kinds.{Kind, number, signed, hexed, hexed_or, one_of, payload, or_dash, commas, named, joined, free}
+use Rattle.line_form.specs.Kinds.{Kind, number, signed, hexed, hexed_or, one_of}
+use Rattle.line_form.specs.Kinds.{payload, or_dash, commas, named, joined, free}
 use Rattle.line_form.specs.declared.named.Named.{Named}
 use Rattle.line_form.specs.declared.named.Named.TheVariants as choice
-use Rattle.line_form.specs.Kinds.{Value, spell, read, fits_kind, sound, avoids, has_byte, longest, behind_prefix, front, back, ◌>>=◌}
+use Rattle.line_form.specs.Kinds.{Value, spell, read, fits_kind, sound, avoids, has_byte}
+use Rattle.line_form.specs.Kinds.{longest, behind_prefix, front, back, ◌>>=◌}
 
 pub record Field : Type 0 where
   pub label : List ℕ

@@ -1,6 +1,8 @@
--- What a word of a line may be, as data: the values of a kind, the text of a value, the value of a text, and its length.
+-- What a word of a line may be, as data: the values of a kind, the text of a value, the value of a text, and its
+-- length.
 use Rattle.std.specs.Prelude.{ℕ, zero, suc, ◌+◌, ◌-◌, ◌*◌, ◌^◌, ◌==◌, nat_le, nat_lt, ℤ, pos, neg_ℤ}
-use Rattle.std.specs.Prelude.{Bool, true, ◌&&◌, ◌||◌, not, List, [], ◌∷◌, ◌++◌, map, length, get_or, take, drop, fold, slice_index, ◌%◌}
+use Rattle.std.specs.Prelude.{Bool, true, ◌&&◌, ◌||◌, not, List, [], ◌∷◌, ◌++◌, map}
+use Rattle.std.specs.Prelude.{length, get_or, take, drop, fold, slice_index, ◌%◌}
 use Rattle.std.specs.Prelude.{Option, Some, None, is_none, codes, decimal, unsigned_abs, max, if◌then◌else◌}
 use Rattle.std.specs.Fmt.{signed_decimal}
 use Rattle.std.specs.List.{list_all, list_any}
@@ -274,7 +276,8 @@ sound (payload most) = true
 sound (or_dash k) = sound k && is_none (read k (codes "-"))
 sound (commas most k) = sound k && (avoids 44 k && is_none (read k (codes "-")))
 sound (named texts prefix k) =
-    sound k && (distinct_texts texts && list_all (λ text. is_none (behind_prefix prefix text >>= λ rest. read k rest)) texts)
+    sound k && (distinct_texts texts
+    && list_all (λ text. is_none (behind_prefix prefix text >>= λ rest. read k rest)) texts)
 sound (joined k b l) = sound k && (sound l && avoids b k)
 sound (free most) = true
 

@@ -1,5 +1,6 @@
 -- A file that is read line by line.
-use Rattle.std.proofs.Common.{◌≡◌, ℕ, suc, ◌+◌, ◌<◌, ◌≤◌, ◌&&◌, ◌==◌, Bool, true, false, List, [], ◌∷◌, ◌++◌, length, get_or}
+use Rattle.std.proofs.Common.{◌≡◌, ℕ, suc, ◌+◌, ◌<◌, ◌≤◌, ◌&&◌, ◌==◌, Bool, true}
+use Rattle.std.proofs.Common.{false, List, [], ◌∷◌, ◌++◌, length, get_or}
 use Rattle.std.proofs.Common.{ap, sym, ◌∙◌, refl, arith, add-one, append_assoc, map}
 use Rattle.std.specs.Prelude.{vec_len, slice_index, if◌then◌else◌}
 use Rattle.std.proofs.lemmas.Bool.Decides.{nat_tests}
@@ -16,7 +17,8 @@ use Rattle.line_numbers.specs.SoFar.{KeepsLine, IsEmpty}
 
 -- The number of a line is kept for a node.
 
-past-node : (a : Bool) (node k count : ℕ) (b : Bool) → (node == k) ≡ b → (node < count → ⊥) → k < count → (a && b) ≡ false
+past-node : (a : Bool) (node k count : ℕ) (b : Bool) → (node == k) ≡ b
+    → (node < count → ⊥) → k < count → (a && b) ≡ false
 past-node true node k count true is past within =
     let same : node ≡ k = grind (arith, nat_tests) in
     absurd (past (omega (arith, same, within)))
@@ -37,7 +39,8 @@ pub record IsReading (nodes : ℕ) (text : List ℕ) (so_far : SoFar) (number : 
       ≡ lines_saying states_event 1 (lines_of_file text)
   pub count : number + length rest ≤ length text + 1
 
-pub IsReading-none : (nodes : ℕ) (text : List ℕ) (so_far : SoFar) → IsEmpty nodes so_far → IsReading nodes text so_far 1 text
+pub IsReading-none : (nodes : ℕ) (text : List ℕ) (so_far : SoFar)
+    → IsEmpty nodes so_far → IsReading nodes text so_far 1 text
 IsReading-none nodes text so_far empty = record {
   on_count = empty.on_count;
   drift_count = empty.drift_count;
@@ -51,10 +54,12 @@ IsReading-none nodes text so_far empty = record {
 last-more : (says : List (List ℕ) → Bool) (found now number : ℕ) (rest line more : List ℕ)
     → lines_of_file rest ≡ line ∷ lines_of_file more
     → now ≡ (if says (words_of_line line) then number else found)
-    → last_line_saying says now (number + 1) (lines_of_file more) ≡ last_line_saying says found number (lines_of_file rest)
+    → last_line_saying says now (number + 1) (lines_of_file more)
+    ≡ last_line_saying says found number (lines_of_file rest)
 last-more says found now number rest line more cut is =
     ap (λ (n : ℕ). last_line_saying says n (number + 1) (lines_of_file more)) is
-    ∙ (ap (λ (n : ℕ). last_line_saying says (if says (words_of_line line) then number else found) n (lines_of_file more)) (add-one number)
+    ∙ (ap (λ (n : ℕ). last_line_saying says (if says (words_of_line line) then number else found)
+    n (lines_of_file more)) (add-one number)
     ∙ sym (ap (last_line_saying says found number) cut))
 
 -- the numbers of events, with one line more
@@ -72,7 +77,8 @@ events-more found now number rest line more cut is =
     let said = states_event (words_of_line line) in
     let others = lines_saying states_event (suc number) (lines_of_file more) in
     ap (λ (f : List ℕ). f ++ lines_saying states_event (number + 1) (lines_of_file more)) is
-    ∙ (ap (λ (n : ℕ). (found ++ (if said then number ∷ [] else [])) ++ lines_saying states_event n (lines_of_file more)) (add-one number)
+    ∙ (ap (λ (n : ℕ). (found ++ (if said then number ∷ [] else []))
+    ++ lines_saying states_event n (lines_of_file more)) (add-one number)
     ∙ (numbers-if found others number said
     ∙ sym (ap (λ (lines : List (List ℕ)). found ++ lines_saying states_event number lines) cut)))
 
@@ -89,7 +95,8 @@ IsReading-more nodes text old new number rest line more reading cut shorter take
       ∙ reading.on k within;
   drift = λ k within.
       let kept = takes.drift k (omega (arith, within, reading.drift_count)) in
-      last-more (sets_drift k) (slice_index old.drift.items k) (slice_index new.drift.items k) number rest line more cut kept
+      last-more (sets_drift k) (slice_index old.drift.items k)
+      (slice_index new.drift.items k) number rest line more cut kept
       ∙ reading.drift k within;
   events = events-more old.events new.events number rest line more cut takes.events ∙ reading.events;
   count = let left = reading.count in omega (arith, left, shorter);
@@ -121,7 +128,8 @@ line_numbers_in-end nodes text so_far number rest on drift events reading done i
     let last_drift : ℕ → ℕ = λ k. last_line_saying (sets_drift k) 0 1 lines in
     let ons : on ≡ map last_on (below nodes) =
     is_on ∙ numbers-end nodes so_far.on.items last_on (omega (arith, reading.on_count, so_far.on.ok))
-    (λ k within. last-end (switches_on k) (get_or so_far.on.items k 0) number (last_on k) rest done (reading.on k within)) in
+    (λ k within. last-end (switches_on k) (get_or so_far.on.items k 0) number
+    (last_on k) rest done (reading.on k within)) in
     let drifts : drift ≡ map last_drift (below nodes) =
     is_drift ∙ numbers-end nodes so_far.drift.items last_drift (omega (arith, reading.drift_count, so_far.drift.ok))
     (λ k within. last-end (sets_drift k) (get_or so_far.drift.items k 0) number (last_drift k) rest done

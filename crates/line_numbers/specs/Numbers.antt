@@ -1,7 +1,7 @@
 -- The numbers of a script's lines.
 --
--- Lines are counted from 1, as a text editor does. An event, and when a node is on and how its clock drifts, is stated by one
--- line; where lines that no reader takes say it twice, it is the last.
+-- Lines are counted from 1, as a text editor does. An event, and when a node is on and how its clock drifts, is stated
+-- by one line; where lines that no reader takes say it twice, it is the last.
 use Rattle.std.specs.Prelude.{ℕ, suc, Bool, true, false, ◌&&◌, ◌==◌, List, [], ◌∷◌, map, codes}
 use Rattle.std.specs.Prelude.{if◌then◌else◌}
 use Rattle.std.specs.List.{list_any}
@@ -58,7 +58,8 @@ states_event words = is_event_kind (line_kind (word_at words 0))
 
 -- Numbers of lines.
 
--- the number of the last of some lines that says such a thing, of which the first has this number; else the one found before
+-- the number of the last of some lines that says such a thing, of which the first has this number; else the one found
+-- before
 abbrev pub last_line_saying : (List (List ℕ) → Bool) → ℕ → ℕ → List (List ℕ) → ℕ
 last_line_saying says found number [] = found
 last_line_saying says found number (line ∷ lines) =

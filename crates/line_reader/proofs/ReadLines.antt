@@ -15,13 +15,16 @@ use Rattle.line_form.proofs.Gathered.{spelled-gathered}
 use Rattle.line_form.proofs.Parts.{each_fits}
 use Rattle.line_form.proofs.Tests.{bound}
 use Rattle.line_reader.specs.declared.trace_line.TraceLine.{TraceLine}
-use Rattle.line_reader.specs.Reading.{head_in, node_in, write_line_in, read_line_in, kept_in, broken_in, owed_in, refused_in}
+use Rattle.line_reader.specs.Reading.{head_in, node_in, write_line_in, read_line_in}
+use Rattle.line_reader.specs.Reading.{kept_in, broken_in, owed_in, refused_in}
 use Rattle.line_reader.specs.Reading.{or_else, line_in}
 use Rattle.line_reader.specs.TraceForms.{head_form, node_form, write_form, read_form, kept_form, broken_form, owed_form}
-use Rattle.line_reader.specs.TraceForms.{refused_form, head_meaning, node_meaning, write_meaning, read_meaning, kept_meaning}
+use Rattle.line_reader.specs.TraceForms.{refused_form, head_meaning, node_meaning, write_meaning}
+use Rattle.line_reader.specs.TraceForms.{read_meaning, kept_meaning}
 use Rattle.line_reader.specs.TraceForms.{broken_meaning, owed_meaning, refused_meaning, word_at_place, source_of_named}
 use Rattle.line_reader.specs.TraceLines.{fits_word, has_size, text_of, Fits}
-use Rattle.line_reader.proofs.ValueLaws.{place-text, dash-text, dash-small, ack-text, ack-small, source-text, source-small}
+use Rattle.line_reader.proofs.ValueLaws.{place-text, dash-text, dash-small, ack-text}
+use Rattle.line_reader.proofs.ValueLaws.{ack-small, source-text, source-small}
 use Rattle.line_reader.proofs.ValueLaws.{bytes-small, offset-small, members-text, members-small}
 
 abbrev pub IsRead : List ℕ → TraceLine → Type 0
@@ -101,7 +104,8 @@ refused-says (rule, (slot, end)) v fits e =
 
 pub node-says : Says node_form node_meaning
 node-says (slot, (k, (w, (peer, (message, (members, (accepted, (rejected, (a, (offset, end)))))))))) v fits e =
-    let vs : Values node_form = (slot, (k, (w, (peer, (message, (members, (accepted, (rejected, (a, (offset, end)))))))))) in
+    let vs : Values node_form =
+    (slot, (k, (w, (peer, (message, (members, (accepted, (rejected, (a, (offset, end)))))))))) in
     let f = each_fits node_form vs fits in
     let words = f.1.1 in
     let rest = words.1.1.1 in
@@ -120,7 +124,8 @@ node-says (slot, (k, (w, (peer, (message, (members, (accepted, (rejected, (a, (o
         offset = offset-small offset rest.1.1.1.1.0;
       },
       spelled-gathered node_form vs
-          ∙ (λ i. node_line_text (decimal slot) (decimal k) (place-text w (ltb-true w 15 words.0) i) (dash-text 256 peer i)
+          ∙ (λ i. node_line_text (decimal slot) (decimal k)
+          (place-text w (ltb-true w 15 words.0) i) (dash-text 256 peer i)
           (dash-text 1000000 message i) (members-text members rest.0 i) (decimal accepted) (decimal rejected)
           (ack-text a rest.1.1.1.0 i) (signed_decimal offset)),
     )
@@ -181,7 +186,8 @@ first_of (r ∷ s ∷ others) bytes = or_else (read_by r bytes) (first_of (s ∷
 took : (r : LineReading) (bytes : List ℕ) (v : TraceLine) → read_by r bytes ≡ Some v → IsRead bytes v
 took r bytes v e =
     let b = bound (line_values r.form bytes) r.meaning v e in
-    let found = subst (λ (o : Option (Values r.form)). IfSome o (λ vs. (fit r.form vs ≡ true) × (bytes ≡ spelled r.form vs)))
+    let found = subst (λ (o : Option (Values r.form)).
+    IfSome o (λ vs. (fit r.form vs ≡ true) × (bytes ≡ spelled r.form vs)))
     b.read (reads-found r.form bytes) in
     subst (λ (t : List ℕ). IsRead t v) (sym found.1) (r.says b.value v found.0 b.gives)
 
@@ -194,7 +200,8 @@ takes : (rs : List LineReading) (bytes : List ℕ) (v : TraceLine) → first_of 
 takes [] bytes v e = cc
 takes (r ∷ []) bytes v e = took r bytes v e
 takes (r ∷ s ∷ others) bytes v e =
-    one_or (IsRead bytes v) (read_by r bytes) (first_of (s ∷ others) bytes) v (took r bytes v) (takes (s ∷ others) bytes v) e
+    one_or (IsRead bytes v) (read_by r bytes) (first_of (s ∷ others) bytes) v
+    (took r bytes v) (takes (s ∷ others) bytes v) e
 
 pub line-takes : (bytes : List ℕ) (v : TraceLine) → line_in bytes ≡ Some v → IsRead bytes v
 unfolding line_in node_in read_line_in write_line_in head_in kept_in broken_in owed_in refused_in

@@ -28,7 +28,8 @@ use Rattle.line_reader.specs.declared.trace_line.TraceLine.TheVariants as line
 use Rattle.line_reader.specs.declared.trace_line.Word.{Word}
 use Rattle.line_reader.specs.declared.trace_line.Word.TheVariants as word
 use Rattle.line_reader.specs.TraceForms.{node_words, word_place, word_at_place, ack_kind, ack_told, ack_of_named}
-use Rattle.line_reader.specs.TraceForms.{source_kind, source_told, source_of_named, node_values, node_meaning, read_meaning}
+use Rattle.line_reader.specs.TraceForms.{source_kind, source_told, source_of_named}
+use Rattle.line_reader.specs.TraceForms.{node_values, node_meaning, read_meaning}
 use Rattle.line_reader.specs.TraceLines.{word_text, fits_word, has_size, FitsAck, FitsOffset, FitsMembers, FitsSource}
 
 -- Words of nodes.
@@ -177,7 +178,8 @@ abbrev pub node_said : NodeLine → TraceLine
 node_said n =
     line.Node n.slot n.node n.word n.peer n.message n.wide n.members n.accepted n.rejected n.ack n.offset
 
-pub node-means : (slot k : ℕ) (w : Word) (peer message : Option ℕ) (members : Bool × ℕ) (set : List ℕ) (accepted rejected : ℕ)
+pub node-means : (slot k : ℕ) (w : Word) (peer message : Option ℕ)
+    (members : Bool × ℕ) (set : List ℕ) (accepted rejected : ℕ)
     → (a : Ack) (offset clock : ℤ) → fits_word w peer message ≡ true → set ≡ members_in members.1 → clock ≡ offset
     → node_meaning (node_values slot k w peer message members accepted rejected a offset)
     ≡ Some (line.Node slot k w peer message members.0 set accepted rejected a clock)

@@ -15,11 +15,13 @@ use Rattle.line_form.proofs.Parts.{other_line}
 use Rattle.line_form.proofs.Tests.{is_lt, is_le}
 use Rattle.line_reader.specs.declared.trace_line.TraceLine.{TraceLine}
 use Rattle.line_reader.specs.declared.trace_line.TraceLine.TheVariants as line
-use Rattle.line_reader.specs.Reading.{head_in, node_in, write_line_in, read_line_in, kept_in, broken_in, owed_in, refused_in}
+use Rattle.line_reader.specs.Reading.{head_in, node_in, write_line_in, read_line_in}
+use Rattle.line_reader.specs.Reading.{kept_in, broken_in, owed_in, refused_in}
 use Rattle.line_reader.specs.Reading.{or_else, line_in}
 use Rattle.line_reader.specs.TraceForms.{node_values, source_told}
 use Rattle.line_reader.specs.TraceLines.{text_of, Fits}
-use Rattle.line_reader.proofs.ReadLines.{LineReading, read_by, first_of, readings, node_reading, read_reading, write_reading}
+use Rattle.line_reader.proofs.ReadLines.{LineReading, read_by, first_of, readings, node_reading}
+use Rattle.line_reader.proofs.ReadLines.{read_reading, write_reading}
 use Rattle.line_reader.proofs.ReadLines.{head_reading, kept_reading, broken_reading, owed_reading, refused_reading}
 use Rattle.line_reader.proofs.ValueLaws.{word-back, place-fits, dash-fits, ack-back, ack-fits, source-back, source-fits}
 use Rattle.line_reader.proofs.ValueLaws.{size-right, bytes-fit, offset-fits, members-fit}
@@ -111,12 +113,14 @@ first_own : (v : TraceLine) (w : Written v) (before after : List LineReading)
     → list_all (λ (o : LineReading). lines_part o.form w.reading.form) before ≡ true
     → first_of (before ++ (w.reading ∷ after)) (text_of v) ≡ Some v
 first_own v w [] [] differs = own_line v w
-first_own v w [] (s ∷ after) differs = ap (λ (o : Option TraceLine). or_else o (first_of (s ∷ after) (text_of v))) (own_line v w)
+first_own v w [] (s ∷ after) differs =
+    ap (λ (o : Option TraceLine). or_else o (first_of (s ∷ after) (text_of v))) (own_line v w)
 first_own v w (o ∷ []) after differs =
     let p = and_parts (lines_part o.form w.reading.form) true differs in
     rw (no_line v w o p.0) (first_own v w [] after refl)
 first_own v w (o ∷ p ∷ before) after differs =
-    let parts = and_parts (lines_part o.form w.reading.form) (list_all (λ (q : LineReading). lines_part q.form w.reading.form)
+    let parts = and_parts (lines_part o.form w.reading.form)
+    (list_all (λ (q : LineReading). lines_part q.form w.reading.form)
     (p ∷ before)) differs in
     rw (no_line v w o parts.0) (first_own v w (p ∷ before) after parts.1)
 

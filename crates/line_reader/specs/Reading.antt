@@ -4,7 +4,8 @@ use Rattle.line_form.specs.Forms.{line_values}
 pub use Rattle.line_form.specs.Kinds.{◌>>=◌}
 use Rattle.line_reader.specs.declared.trace_line.TraceLine.{TraceLine}
 use Rattle.line_reader.specs.TraceForms.{head_form, node_form, write_form, read_form, kept_form, broken_form, owed_form}
-use Rattle.line_reader.specs.TraceForms.{refused_form, head_meaning, node_meaning, write_meaning, read_meaning, kept_meaning}
+use Rattle.line_reader.specs.TraceForms.{refused_form, head_meaning, node_meaning, write_meaning}
+use Rattle.line_reader.specs.TraceForms.{read_meaning, kept_meaning}
 use Rattle.line_reader.specs.TraceForms.{broken_meaning, owed_meaning, refused_meaning}
 
 -- a byte is a space

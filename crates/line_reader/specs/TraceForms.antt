@@ -1,5 +1,6 @@
 -- The lines of a trace as data: the labels and words of each, and the values of the words.
-use Rattle.std.specs.Prelude.{ℕ, zero, suc, ◌^◌, List, [], ◌∷◌, length, get_or, Option, Some, None, Bool, ℤ, codes, if◌then◌else◌}
+use Rattle.std.specs.Prelude.{ℕ, zero, suc, ◌^◌, List, [], ◌∷◌, length, get_or, Option}
+use Rattle.std.specs.Prelude.{Some, None, Bool, ℤ, codes, if◌then◌else◌}
 use Rattle.ttp_base.specs.NodeSet.{members_in}
 use Rattle.ttp_world.specs.declared.keep.Back.TheVariants as back
 use Rattle.ttp_world.specs.declared.keep.Keep.TheVariants as keep
@@ -113,7 +114,8 @@ refused_form = codes "returns no Q" ▸ number 256 ∷ codes " " ▸ number 1000
 -- What a line with these values says, where its words fit together.
 
 abbrev pub head_meaning : Values head_form → Option TraceLine
-head_meaning (version, (nodes, (rounds, (slots, (schedule, end))))) = Some (line.Header version nodes rounds slots schedule)
+head_meaning (version, (nodes, (rounds, (slots, (schedule, end))))) =
+    Some (line.Header version nodes rounds slots schedule)
 
 abbrev pub node_meaning : Values node_form → Option TraceLine
 node_meaning (slot, (k, (w, (peer, (message, (members, (accepted, (rejected, (a, (offset, end)))))))))) =

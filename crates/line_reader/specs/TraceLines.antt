@@ -1,5 +1,6 @@
 -- The lines of a trace as values: the text of each, without its line feed, and what fits into it.
-use Rattle.std.specs.Prelude.{ℕ, ◌≡◌, ◌+◌, ◌*◌, ◌^◌, ◌<◌, ◌≤◌, ◌==◌, nat_le, ◌&&◌, ◌||◌, ℤ, pos, negsuc, Bool, true, false}
+use Rattle.std.specs.Prelude.{ℕ, ◌≡◌, ◌+◌, ◌*◌, ◌^◌, ◌<◌, ◌≤◌, ◌==◌, nat_le}
+use Rattle.std.specs.Prelude.{◌&&◌, ◌||◌, ℤ, pos, negsuc, Bool, true, false}
 use Rattle.std.specs.Prelude.{List, ◌++◌, length, Option, codes, decimal, is_some, is_none, IsTrue, IfSome}
 use Rattle.std.specs.Prelude.{if◌then◌else◌}
 use Rattle.std.specs.Fmt.{signed_decimal}

@@ -44,7 +44,8 @@ cut_behind b text line rest none is = record {
     cut = ap (λ f. cond f (newline ∷ lines_of text) (before_lines b (lines_of text))) none
 
 cut_at : (text : List ℕ) (end : ℕ) → end < length text → is_newline (get_or text end 0) ≡ true
-    → ((k : ℕ) → k < end → is_newline (get_or text k 0) ≡ false) → IsCut text (take (suc end) text) (drop (suc end) text)
+    → ((k : ℕ) → k < end → is_newline (get_or text k 0) ≡ false)
+    → IsCut text (take (suc end) text) (drop (suc end) text)
 cut_at [] end within feed before = absurd (omega (arith, within))
 cut_at (b ∷ text) zero within feed before = cut_here b text feed
 cut_at (b ∷ text) (suc end) within feed before =
@@ -65,4 +66,5 @@ none_before : (text : List ℕ) → position is_newline text ≡ None → length
 none_before text is = grind (arith, common_steps)
 
 pub cut-None : (text : List ℕ) → position is_newline text ≡ None → IsCut text text []
-cut-None text is = cut_whole text (λ k less. fails_before_first is_newline text k 0 (omega (arith, less, none_before text is)))
+cut-None text is = cut_whole text
+    (λ k less. fails_before_first is_newline text k 0 (omega (arith, less, none_before text is)))

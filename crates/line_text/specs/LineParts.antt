@@ -1,5 +1,6 @@
 -- The parts of the lines of a trace, and what a line asks of the state that it shows.
-use Rattle.std.specs.Prelude.{◌≡◌, ℕ, ℤ, ◌*◌, ◌<◌, ◌≤◌, List, [], ◌∷◌, ◌++◌, length, take, codes, decimal, Option, IfSome}
+use Rattle.std.specs.Prelude.{◌≡◌, ℕ, ℤ, ◌*◌, ◌<◌, ◌≤◌, List, [], ◌∷◌, ◌++◌}
+use Rattle.std.specs.Prelude.{length, take, codes, decimal, Option, IfSome}
 use Rattle.std.specs.Fmt.{signed_decimal}
 use Rattle.ttp_base.specs.NodeSet.{set_bits}
 use Rattle.ttp_base.specs.Text.{hex, newline, gather}

@@ -15,21 +15,27 @@ use Rattle.medl_text.specs.declared.error.FieldName.TheVariants as names
 use Rattle.medl_text.specs.declared.error.Field.{Field}
 use Rattle.medl_text.specs.declared.error.MedlError.{MedlError}
 use Rattle.medl_text.specs.declared.error.MedlError.TheVariants as faults
-use Rattle.medl_text.specs.ListFile.{at_top, at_slot, held_at, kind_faults, key_faults, optional_faults, range_faults, none_of}
-use Rattle.medl_text.specs.ListFile.{is_within, is_kind, is_answer, are_tables, number_faults, flag_faults, kinds_faults}
-use Rattle.medl_text.specs.ListFile.{payload_limit, kinds_at, number_at, flag_at, requests_faults, request_faults, live_faults}
+use Rattle.medl_text.specs.ListFile.{at_top, at_slot, held_at, kind_faults, key_faults}
+use Rattle.medl_text.specs.ListFile.{optional_faults, range_faults, none_of}
+use Rattle.medl_text.specs.ListFile.{is_within, is_kind, is_answer, are_tables}
+use Rattle.medl_text.specs.ListFile.{number_faults, flag_faults, kinds_faults}
+use Rattle.medl_text.specs.ListFile.{payload_limit, kinds_at, number_at, flag_at, requests_faults}
+use Rattle.medl_text.specs.ListFile.{request_faults, live_faults}
 use Rattle.medl_text.specs.ListFile.{letters_faults, answers_faults, slot_faults, slot_plan_of, plans_of, slots_faults}
-use Rattle.medl_text.specs.ListFile.{tables_faults, array_faults, count_faults, slot_limit, is_known_key, has_only, top_keys}
+use Rattle.medl_text.specs.ListFile.{tables_faults, array_faults, count_faults, slot_limit}
+use Rattle.medl_text.specs.ListFile.{is_known_key, has_only, top_keys}
 use Rattle.medl_text.specs.ListFile.{slot_keys, sync_faults, modes_faults}
 use Rattle.medl_text.specs.ListFile.{unknown_in_slots as reader_unknown}
 use Rattle.list_errors.specs.declared.error.Wrong.{Wrong}
 use Rattle.list_errors.specs.declared.error.Wrong.TheVariants as wrong
 use Rattle.list_errors.specs.Agrees.{list_fault}
-use Rattle.list_errors.specs.Errors.{kind_wrongs, key_wrongs, optional_wrongs, nothing_wrong, range_wrongs, number_wrongs}
+use Rattle.list_errors.specs.Errors.{kind_wrongs, key_wrongs, optional_wrongs, nothing_wrong}
+use Rattle.list_errors.specs.Errors.{range_wrongs, number_wrongs}
 use Rattle.list_errors.specs.Errors.{flag_wrongs, letters_wrongs, kinds_wrongs, answers_wrongs, live_wrongs}
 use Rattle.list_errors.specs.Errors.{data_wrongs, payload_known, request_wrongs, requests_wrongs, slot_wrongs}
 use Rattle.list_errors.specs.Errors.{slots_wrongs, tables_wrongs, array_wrongs, count_wrongs, unknown_keys}
-use Rattle.list_errors.specs.Errors.{unknown_keys_at_top, unknown_keys_at_slot, unknown_keys_in_slots, sync_count, few_syncs}
+use Rattle.list_errors.specs.Errors.{unknown_keys_at_top, unknown_keys_at_slot, unknown_keys_in_slots}
+use Rattle.list_errors.specs.Errors.{sync_count, few_syncs}
 use Rattle.list_errors.specs.Errors.{sync_wrongs, modes_wrongs}
 
 -- nothing is wrong by either, or the reader's first fault is what is wrong first
@@ -114,7 +120,8 @@ array_agrees file =
 
 -- Slots.
 
-kinds_agree : (rounds k : ℕ) (table : Members) → Outcome (kinds_wrongs (Some rounds) k table) (kinds_faults rounds k table)
+kinds_agree : (rounds k : ℕ) (table : Members)
+    → Outcome (kinds_wrongs (Some rounds) k table) (kinds_faults rounds k table)
 unfolding kinds_wrongs kinds_faults
 kinds_agree rounds k table =
     key_agrees (at_slot k names.Kinds) as_str (letters_wrongs (Some rounds) k) (letters_faults rounds k)
@@ -175,7 +182,8 @@ slots_agree rounds modes k (table ∷ tables) =
 one_key : (slot : Option ℕ) (known : List FieldName) (key : List ℕ) (table : Members) (is_known : Bool)
     → Outcome (map (λ k. wrong.Unknown slot k) (unknown_keys known table))
     (if has_only known table then [] else faults.Unknown slot ∷ [])
-    → Outcome (map (λ k. wrong.Unknown slot k) (if not is_known then key ∷ unknown_keys known table else unknown_keys known table))
+    → Outcome (map (λ k. wrong.Unknown slot k)
+    (if not is_known then key ∷ unknown_keys known table else unknown_keys known table))
     (if (is_known && has_only known table) then [] else faults.Unknown slot ∷ [])
 one_key slot known key table true rest = rest
 one_key slot known key table false rest = inr (faults.Unknown slot, (refl, refl))
@@ -234,8 +242,10 @@ syncs_agree rounds modes k (table ∷ tables) none =
     let more : count_by (λ (plan : SlotPlan). plan.sync) (plans_of modes k (table ∷ tables))
     ≡ (if flag_at (at_slot k names.Sync) table then 1 else 0)
     + count_by (λ (plan : SlotPlan). plan.sync) (plans_of modes (suc k) tables) =
-    sum_by-cons (λ (plan : SlotPlan). if plan.sync then 1 else 0) (slot_plan_of modes k table) (plans_of modes (suc k) tables)
-    ∙ ap (λ (b : Bool). (if b then 1 else 0) + count_by (λ (plan : SlotPlan). plan.sync) (plans_of modes (suc k) tables))
+    sum_by-cons (λ (plan : SlotPlan). if plan.sync then 1 else 0)
+    (slot_plan_of modes k table) (plans_of modes (suc k) tables)
+    ∙ ap (λ (b : Bool). (if b then 1 else 0)
+    + count_by (λ (plan : SlotPlan). plan.sync) (plans_of modes (suc k) tables))
     (plan_syncs modes k table) in
     rw (here, rest) (ap Some (sym more))
 

@@ -1,5 +1,6 @@
 -- The keys of a table that no list has, one after another.
-use Rattle.std.proofs.Common.{◌≡◌, ℕ, Bool, true, false, Option, List, [], ◌∷◌, ◌++◌, refl, ap, ◌∙◌, sym, map, String, Global, string_bytes}
+use Rattle.std.proofs.Common.{◌≡◌, ℕ, Bool, true, false, Option, List, [], ◌∷◌, ◌++◌}
+use Rattle.std.proofs.Common.{refl, ap, ◌∙◌, sym, map, String, Global, string_bytes}
 use Rattle.std.specs.Prelude.{filter, if◌then◌else◌}
 use Rattle.std.specs.Borrow.{Bor}
 use Rattle.std.specs.Map.{keys_of}
@@ -32,7 +33,8 @@ texts_of [] = refl
 texts_of (k ∷ ks) = ap (λ (texts : List (List ℕ)). string_bytes k.now ∷ texts) (texts_of ks)
 
 -- the keys that a loop over a table went over
-pub told_all : (slot : Option ℕ) (known : List FieldName) (es : List (String Global × Value)) (ks : List (Bor (String Global)))
+pub told_all : (slot : Option ℕ) (known : List FieldName)
+    (es : List (String Global × Value)) (ks : List (Bor (String Global)))
     → map (λ k. k.now) ks ≡ keys_of es
     → told_of slot known (map (λ k. string_bytes k.now) ks) ≡ told_of slot known (keys_in (members_view es))
 told_all slot known es ks all =

@@ -13,16 +13,20 @@ use Rattle.ttp_world.specs.declared.medl.Medl.{Medl}
 use Rattle.medl_text.specs.declared.error.FieldName.TheVariants as names
 use Rattle.medl_text.specs.declared.error.MedlError.{MedlError}
 use Rattle.medl_text.specs.declared.error.MedlError.TheVariants as faults
-use Rattle.medl_text.specs.ListFile.{at_top, number_at, count_faults, slots_faults, plans_of, has_only, top_keys, sync_faults}
+use Rattle.medl_text.specs.ListFile.{at_top, number_at, count_faults, slots_faults}
+use Rattle.medl_text.specs.ListFile.{plans_of, has_only, top_keys, sync_faults}
 use Rattle.medl_text.specs.ListFile.{modes_in, slots_in, unknown_faults, file_faults}
 use Rattle.medl_text.specs.ListFile.{list_in, list_unless, medl_in, document_of, medl_of, medl_of_document}
 use Rattle.medl_text.specs.ListFile.{unknown_in_slots as reader_unknown}
 use Rattle.list_errors.specs.declared.error.Wrong.{Wrong}
 use Rattle.list_errors.specs.declared.error.Wrong.TheVariants as wrong
 use Rattle.list_errors.specs.Agrees.{list_fault, ListAgrees}
-use Rattle.list_errors.specs.Errors.{where_right, number_wrongs, array_wrongs, elements_of, count_wrongs, slots_wrongs, unknown_keys_at_top}
-use Rattle.list_errors.specs.Errors.{unknown_keys_in_slots, sync_wrongs, modes_wrongs, rounds_known, modes_known, top_wrongs}
-use Rattle.list_errors.specs.Errors.{below_wrongs, table_wrongs, list_limit, has_utf16_mark, begins_script, said_from, not_toml}
+use Rattle.list_errors.specs.Errors.{where_right, number_wrongs, array_wrongs, elements_of}
+use Rattle.list_errors.specs.Errors.{count_wrongs, slots_wrongs, unknown_keys_at_top}
+use Rattle.list_errors.specs.Errors.{unknown_keys_in_slots, sync_wrongs, modes_wrongs}
+use Rattle.list_errors.specs.Errors.{rounds_known, modes_known, top_wrongs}
+use Rattle.list_errors.specs.Errors.{below_wrongs, table_wrongs, list_limit, has_utf16_mark}
+use Rattle.list_errors.specs.Errors.{begins_script, said_from, not_toml}
 use Rattle.list_errors.specs.Errors.{document_wrongs, list_wrongs, rounds_said, modes_said}
 use Rattle.list_errors.proofs.Agree.{Outcome, both, number_agrees, array_agrees, modes_agree, count_agrees, count_right}
 use Rattle.list_errors.proofs.Agree.{slots_agree, top_unknown, slots_unknown, sync_agrees, front_right, back_right}
@@ -141,15 +145,18 @@ by_tests text false false false = refl
 toml_fault : (text : List ℕ) → list_fault (not_toml text) ≡ faults.NotToml
 toml_fault text = by_tests text (has_utf16_mark text) (begins_script (said_from false text)) (is_utf8 text)
 
-document_agrees : (text : List ℕ) (file : Option Members) → ListAgrees (document_wrongs text file) (medl_of_document file)
+document_agrees : (text : List ℕ) (file : Option Members)
+    → ListAgrees (document_wrongs text file) (medl_of_document file)
 unfolding medl_in
 document_agrees text None = ap Some (toml_fault text)
-document_agrees text (Some file) = outcome_agrees (table_wrongs file) (file_faults file) (list_in file) (table_agrees file)
+document_agrees text (Some file) =
+    outcome_agrees (table_wrongs file) (file_faults file) (list_in file) (table_agrees file)
 
 small : (text : List ℕ) → length text ≤ list_limit → nat_lt list_limit (length text) ≡ false
 small text size = grind (arith, nat_tests)
 
-pub small_wrongs : (text : List ℕ) → length text ≤ list_limit → list_wrongs text ≡ document_wrongs text (document_of text)
+pub small_wrongs : (text : List ℕ) → length text ≤ list_limit → list_wrongs text
+    ≡ document_wrongs text (document_of text)
 unfolding list_wrongs
 small_wrongs text size = rw (small text size) refl
 
@@ -199,7 +206,8 @@ pub record IsRight (list : Medl) (file : Option Members) : Type 0 where
 
 right_file : (list : Medl) (file : Members) → table_wrongs file ≡ [] → list_in file ≡ list → IsRight list (Some file)
 right_file list file right is = record {
-  rounds = number_is_known file 1 64 (rounds_right file right) ∙ ap Some (sym (list_numbers file).0 ∙ ap (λ (l : Medl). l.rounds) is);
+  rounds = number_is_known file 1 64 (rounds_right file right)
+      ∙ ap Some (sym (list_numbers file).0 ∙ ap (λ (l : Medl). l.rounds) is);
   modes = rw (modes_right file right) (ap Some (sym (list_numbers file).1 ∙ ap (λ (l : Medl). l.modes) is));
 }
 
@@ -207,21 +215,27 @@ right_document : (list : Medl) (text : List ℕ) (file : Option Members) → doc
     → medl_of_document file ≡ Ok list → IsRight list file
 unfolding medl_in
 right_document list text None right h = absurd cc
-right_document list text (Some file) right h = right_file list file right (unless_ok (file_faults file) (list_in file) list h)
+right_document list text (Some file) right h =
+    right_file list file right (unless_ok (file_faults file) (list_in file) list h)
 
-pub right_wrongs : (text : List ℕ) (list : Medl) → length text ≤ list_limit → medl_of text ≡ Ok list → list_wrongs text ≡ []
-right_wrongs text list size is = subst (λ (answer : Result Medl MedlError). ListAgrees (list_wrongs text) answer) is (agrees text size)
+pub right_wrongs : (text : List ℕ) (list : Medl) → length text ≤ list_limit
+    → medl_of text ≡ Ok list → list_wrongs text ≡ []
+right_wrongs text list size is =
+    subst (λ (answer : Result Medl MedlError). ListAgrees (list_wrongs text) answer) is (agrees text size)
 
-is_right : (text : List ℕ) (list : Medl) → length text ≤ list_limit → medl_of text ≡ Ok list → IsRight list (document_of text)
+is_right : (text : List ℕ) (list : Medl) → length text ≤ list_limit → medl_of text
+    ≡ Ok list → IsRight list (document_of text)
 unfolding medl_of
 is_right text list size is =
     right_document list text (document_of text) (sym (small_wrongs text size) ∙ right_wrongs text list size is) is
 
-pub small_rounds : (text : List ℕ) → length text ≤ list_limit → rounds_said text ≡ option_and_then rounds_known (document_of text)
+pub small_rounds : (text : List ℕ) → length text ≤ list_limit → rounds_said text
+    ≡ option_and_then rounds_known (document_of text)
 unfolding rounds_said
 small_rounds text size = rw (small text size) refl
 
-pub small_modes : (text : List ℕ) → length text ≤ list_limit → modes_said text ≡ option_and_then modes_known (document_of text)
+pub small_modes : (text : List ℕ) → length text ≤ list_limit → modes_said text
+    ≡ option_and_then modes_known (document_of text)
 unfolding modes_said
 small_modes text size = rw (small text size) refl
 
@@ -267,7 +281,8 @@ large_modes text size = rw (large text size) refl
 abbrev the_error : MedlError → Result Medl MedlError
 the_error fault = Err fault
 
-pub taken : (text : List ℕ) (list : Medl) → (Ok list ≡ Err faults.Memory) ⊎ (Ok list ≡ medl_of text) → medl_of text ≡ Ok list
+pub taken : (text : List ℕ) (list : Medl) → (Ok list ≡ Err faults.Memory)
+    ⊎ (Ok list ≡ medl_of text) → medl_of text ≡ Ok list
 taken text list (inl h) = absurd cc
 taken text list (inr h) = sym h
 

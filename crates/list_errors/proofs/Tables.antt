@@ -14,7 +14,8 @@ tables_of-take zero vs = refl
 tables_of-take (suc n) [] = refl
 tables_of-take (suc n) (v ∷ vs) = ap (λ (ms : List Members). element_of (view v) ∷ ms) (tables_of-take n vs)
 
-pub are_tables-take : (n : ℕ) (vs : List Value) → are_tables (items_view vs) ≡ true → are_tables (items_view (take n vs)) ≡ true
+pub are_tables-take : (n : ℕ) (vs : List Value) → are_tables (items_view vs) ≡ true
+    → are_tables (items_view (take n vs)) ≡ true
 are_tables-take zero vs h = refl
 are_tables-take (suc n) [] h = refl
 are_tables-take (suc n) (v ∷ vs) h =
@@ -22,7 +23,8 @@ are_tables-take (suc n) (v ∷ vs) h =
     rw (both.0, are_tables-take n vs both.1) refl
 
 -- where there are no more, these are all
-pub all_tables : (n : ℕ) (vs : List Value) → length vs ≤ n → tables_of (items_view vs) ≡ take n (tables_of (items_view vs))
+pub all_tables : (n : ℕ) (vs : List Value) → length vs ≤ n
+    → tables_of (items_view vs) ≡ take n (tables_of (items_view vs))
 all_tables n vs h = sym (take_all n (tables_of (items_view vs)) (omega (arith, length-tables_of vs)))
 
 pub ruleset looked = (tables_of-take, are_tables-take, all_tables)

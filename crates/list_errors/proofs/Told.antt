@@ -6,8 +6,10 @@ use Rattle.toml.specs.Data.{Members}
 use Rattle.medl_text.specs.declared.error.FieldName.TheVariants as names
 use Rattle.medl_text.specs.ListFile.{at_top}
 use Rattle.list_errors.specs.declared.error.Wrong.{Wrong}
-use Rattle.list_errors.specs.Errors.{number_wrongs, array_wrongs, modes_wrongs, version_known, rounds_known, modes_known, elements_of, top_wrongs, count_wrongs, slots_wrongs}
-use Rattle.list_errors.specs.Errors.{unknown_keys_at_top, unknown_keys_in_slots, sync_wrongs, below_wrongs, table_wrongs}
+use Rattle.list_errors.specs.Errors.{number_wrongs, array_wrongs, modes_wrongs, version_known, rounds_known}
+use Rattle.list_errors.specs.Errors.{modes_known, elements_of, top_wrongs, count_wrongs, slots_wrongs}
+use Rattle.list_errors.specs.Errors.{unknown_keys_at_top, unknown_keys_in_slots}
+use Rattle.list_errors.specs.Errors.{sync_wrongs, below_wrongs, table_wrongs}
 
 more : (old new next front last : List Wrong) → new ≡ old ++ front → next ≡ new ++ last → next ≡ old ++ (front ++ last)
 more old new next front last before now = now ∙ ap (λ (w : List Wrong). w ++ last) before ∙ append_assoc old front last
@@ -46,10 +48,12 @@ top_told file old a b c d e f g h i p q r s t u v w x =
 -- the parts of a whole table
 pub table_told : (file : Members) (version rounds modes : Option ℕ) (slots seen : List Members) (n : ℕ)
     (old top count keys unknown others sync : List Wrong)
-    → version ≡ version_known file → rounds ≡ rounds_known file → modes ≡ modes_known file → Some slots ≡ elements_of file
+    → version ≡ version_known file → rounds ≡ rounds_known file → modes
+    ≡ modes_known file → Some slots ≡ elements_of file
     → seen ≡ take 24 slots → n ≡ length slots → top ≡ old ++ top_wrongs file → count ≡ top ++ count_wrongs version n
     → keys ≡ count ++ slots_wrongs rounds modes 0 seen → unknown ≡ keys ++ unknown_keys_at_top file
-    → others ≡ unknown ++ unknown_keys_in_slots 0 seen → sync ≡ others ++ sync_wrongs slots → sync ≡ old ++ table_wrongs file
+    → others ≡ unknown ++ unknown_keys_in_slots 0 seen → sync ≡ others
+    ++ sync_wrongs slots → sync ≡ old ++ table_wrongs file
 unfolding table_wrongs
 table_told file version rounds modes slots seen n old top count keys unknown others sync v r m s e l a b c d f g =
     let first = more old top count _ _ a b in

@@ -7,8 +7,8 @@ use Rattle.medl_text.specs.declared.error.MedlError.TheVariants as faults
 use Rattle.list_errors.specs.declared.error.Wrong.{Wrong}
 use Rattle.list_errors.specs.declared.error.Wrong.TheVariants as wrong
 
--- The reader's word for what is wrong. It takes a file of any size, and so has none for one that is too large; of such a
--- file nothing is asked here.
+-- The reader's word for what is wrong. It takes a file of any size, and so has none for one that is too large; of such
+-- a file nothing is asked here.
 abbrev pub list_fault : Wrong → MedlError
 list_fault wrong.TooLarge = faults.NotToml
 list_fault wrong.Utf16 = faults.NotToml

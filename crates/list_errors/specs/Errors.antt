@@ -1,7 +1,8 @@
 -- All that is wrong with a list, in the order in which the reader looks for it.
 --
 -- A value is an `Option`: what a fault hides is missing, and what is measured by a missing value is not looked at.
-use Rattle.std.specs.Prelude.{ℕ, ℤ, suc, ◌+◌, ◌-◌, Bool, true, false, not, ◌&&◌, ◌||◌, ◌==◌, List, [], ◌∷◌, ◌++◌, length, take, drop}
+use Rattle.std.specs.Prelude.{ℕ, ℤ, suc, ◌+◌, ◌-◌, Bool, true, false, not, ◌&&◌, ◌||◌}
+use Rattle.std.specs.Prelude.{◌==◌, List, [], ◌∷◌, ◌++◌, length, take, drop}
 use Rattle.std.specs.Prelude.{map, filter, nat_le, nat_lt, codes, Option, Some, None, option_map, slice_index}
 use Rattle.std.specs.Prelude.{if◌then◌else◌, option_and_then}
 use Rattle.std.specs.List.{list_all}
@@ -272,7 +273,8 @@ has_utf16_mark text =
 -- a byte with which no word goes on: a space, a tab, a line feed, or a carriage return before one or at the end
 abbrev pub ends_word : ℕ → List ℕ → Bool
 ends_word b bs =
-    (b == space || b == tab) || (b == line_feed || ((b == carriage_return) && (length bs == 0 || first bs == line_feed)))
+    (b == space || b == tab)
+    || (b == line_feed || ((b == carriage_return) && (length bs == 0 || first bs == line_feed)))
 
 -- The text from the first word of the first line of a script that says something on. `inside` says that a comment has
 -- begun.

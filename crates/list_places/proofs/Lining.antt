@@ -1,5 +1,6 @@
 -- Where lines begin: which of them a byte is behind, and how far.
-use Rattle.std.proofs.Common.{◌≡◌, ℕ, zero, suc, ◌+◌, ◌-◌, ◌<◌, ◌≤◌, Bool, true, false, not, cond, ◌==◌, leb, List, [], ◌∷◌, ◌++◌, length, take, get_or, refl, sym, ap, ◌∙◌, arith}
+use Rattle.std.proofs.Common.{◌≡◌, ℕ, zero, suc, ◌+◌, ◌-◌, ◌<◌, ◌≤◌, Bool, true, false, not, cond, ◌==◌}
+use Rattle.std.proofs.Common.{leb, List, [], ◌∷◌, ◌++◌, length, take, get_or, refl, sym, ap, ◌∙◌, arith}
 use Rattle.std.proofs.lemmas.Grind.{common_steps}
 use Rattle.std.proofs.lemmas.Bool.Decides.{nat_tests}
 use Rattle.std.proofs.lemmas.List.Sums.{sum_by-cons, suffix_len-take_yes, suffix_len-take_no}
@@ -43,7 +44,8 @@ pub starts_count : (n base at : ℕ) (text : List ℕ) → base + n ≡ at
 starts_count zero base at text is = starts_low base at text (omega arith)
 starts_count (suc n) base at [] is = refl
 starts_count (suc n) base at (b ∷ bs) is =
-    let more : up_to at (starts_from (base + 1) bs) ≡ count_by is_feed (take n bs) = starts_count n (base + 1) at bs (omega arith) in
+    let more : up_to at (starts_from (base + 1) bs) ≡ count_by is_feed (take n bs) =
+    starts_count n (base + 1) at bs (omega arith) in
     count_step (b == line_feed) base at (starts_from (base + 1) bs) (omega arith)
     ∙ ap (λ k. cond (b == line_feed) 1 0 + k) more
     ∙ sym (sum_by-cons (λ x. cond (is_feed x) 1 0) b (take n bs))
@@ -72,7 +74,8 @@ tail_step true n xs low is =
 tail_step false n xs low is =
     let back : n + 1 - 1 ≡ n = omega arith in
     let other : not (is_feed (get_or xs (n + 1 - 1) 0)) ≡ true = rw back (ap not is) in
-    let more : suffix_len (λ b. not (is_feed b)) (take (n + 1) xs) ≡ 1 + suffix_len (λ b. not (is_feed b)) (take (n + 1 - 1) xs) =
+    let more : suffix_len (λ b. not (is_feed b)) (take (n + 1) xs) ≡ 1
+    + suffix_len (λ b. not (is_feed b)) (take (n + 1 - 1) xs) =
     suffix_len-take_yes (λ b. not (is_feed b)) xs (n + 1) 0 (omega arith) (omega arith) other in
     let less = rw back at more in
     omega (arith, less)
@@ -86,13 +89,16 @@ run_take (suc n) xs low =
     let pushed : run 0 (take (n + 1) xs) ≡ cond (get_or xs n 0 == line_feed) 0 (run 0 (take n xs) + 1) =
     rw whole (run_push 0 (take n xs) (get_or xs n 0)) in
     let before : run 0 (take n xs) ≡ suffix_len (λ b. not (is_feed b)) (take n xs) = run_take n xs (omega arith) in
-    rw one (pushed ∙ ap (λ k. cond (get_or xs n 0 == line_feed) 0 (k + 1)) before ∙ tail_step (get_or xs n 0 == line_feed) n xs (omega arith) refl)
+    rw one (pushed ∙ ap (λ k. cond (get_or xs n 0 == line_feed) 0 (k + 1)) before
+    ∙ tail_step (get_or xs n 0 == line_feed) n xs (omega arith) refl)
 
--- where the line begins that a byte stands in; the rest of the text is read from this byte on, in a line that began there
+-- where the line begins that a byte stands in; the rest of the text is read from this byte on, in a line that began
+-- there
 abbrev pub begun : ℕ → ℕ → List ℕ → ℕ
 begun began at starts = get_or (began ∷ starts) (up_to at starts) 0
 
-begun_next : (began next : ℕ) (rest : List ℕ) (k : ℕ) → get_or (began ∷ next ∷ rest) (1 + k) 0 ≡ get_or (next ∷ rest) k 0
+begun_next : (began next : ℕ) (rest : List ℕ) (k : ℕ)
+    → get_or (began ∷ next ∷ rest) (1 + k) 0 ≡ get_or (next ∷ rest) k 0
 begun_next began next rest k = grind (arith, common_steps)
 
 begun_step : (c : Bool) (base at began : ℕ) (rest : List ℕ) → base + 1 ≤ at
@@ -123,7 +129,8 @@ begun_far zero base at began text is low within =
     rw none (omega arith)
 begun_far (suc n) base at began [] is low within = absurd (omega arith)
 begun_far (suc n) base at began (b ∷ bs) is low within =
-    let more = begun_far n (base + 1) at (cond (b == line_feed) (base + 1) began) bs (omega arith) (began_low (b == line_feed) base began low) (omega arith) in
+    let more = begun_far n (base + 1) at (cond (b == line_feed) (base + 1) began) bs (omega arith)
+    (began_low (b == line_feed) base began low) (omega arith) in
     ap (λ k. at - k) (begun_step (b == line_feed) base at began (starts_from (base + 1) bs) (omega arith))
     ∙ more ∙ far_step (b == line_feed) base began (take n bs) low
 
@@ -168,12 +175,15 @@ pub place_is : (text : List ℕ) (at line start : ℕ) → at ≤ length text �
     → record { line = line; column = at - start + 1 } ≡ line_and_column text at
 place_is text at line start within is start_is =
     let low : leb 0 at ≡ true = grind (arith, nat_tests) in
-    let count : up_to at (starts_from 0 text) ≡ count_by is_feed (take at text) = starts_count at 0 at text (omega arith) in
+    let count : up_to at (starts_from 0 text) ≡ count_by is_feed (take at text) =
+    starts_count at 0 at text (omega arith) in
     let first : 1 + up_to at (starts_from 0 text) ≡ line = rw low at is in
     let behind : line - 1 ≡ up_to at (starts_from 0 text) = omega arith in
     let begins : start ≡ begun 0 at (starts_from 0 text) = rw behind at start_is in
-    let far : at - begun 0 at (starts_from 0 text) ≡ run 0 (take at text) = begun_far at 0 at 0 text (omega arith) (omega arith) within in
+    let far : at - begun 0 at (starts_from 0 text) ≡ run 0 (take at text) =
+    begun_far at 0 at 0 text (omega arith) (omega arith) within in
     let tail = run_take at text within in
     let lines : line ≡ 1 + count_by is_feed (take at text) = omega arith in
-    let column : at - start + 1 ≡ 1 + suffix_len (λ b. not (is_feed b)) (take at text) = omega (arith, ap (λ s. at - s) begins, far, tail) in
+    let column : at - start + 1 ≡ 1 + suffix_len (λ b. not (is_feed b)) (take at text) =
+    omega (arith, ap (λ s. at - s) begins, far, tail) in
     rw (lines, column)

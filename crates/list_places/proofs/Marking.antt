@@ -1,5 +1,7 @@
 -- Keys where they are first written, and slots one by one.
-use Rattle.std.proofs.Common.{◌≡◌, ℕ, zero, suc, ◌+◌, ◌<◌, ◌≤◌, Bool, true, false, cond, List, [], ◌∷◌, ◌++◌, length, set, get_or, Option, Some, None, is_some, Result, Ok, Err, IfOk, refl, sym, ap, ◌∙◌, arith}
+use Rattle.std.proofs.Common.{◌≡◌, ℕ, zero, suc, ◌+◌, ◌<◌, ◌≤◌, Bool, true, false, cond, List}
+use Rattle.std.proofs.Common.{[], ◌∷◌, ◌++◌, length, set, get_or, Option, Some, None}
+use Rattle.std.proofs.Common.{is_some, Result, Ok, Err, IfOk, refl, sym, ap, ◌∙◌, arith}
 use Rattle.std.proofs.lemmas.Slice.Eq.{bytes_eq-Decides}
 use Rattle.std.specs.BTreeMap.{BTreeMap, get_by_text}
 use Rattle.std.specs.List.{slice_get}
@@ -25,7 +27,8 @@ first_stays q (p ∷ places) more some =
     still_first (bytes_eq p.key q) q p places more refl some (first_stays q places more)
 
 -- nor does a place of one key move another
-other_step : (b : Bool) (p : KeyPlace) (now then : Option ℕ) → now ≡ then → cond b (Some p.left) now ≡ cond b (Some p.left) then
+other_step : (b : Bool) (p : KeyPlace) (now then : Option ℕ) → now
+    ≡ then → cond b (Some p.left) now ≡ cond b (Some p.left) then
 other_step b p now then same = ap (cond b (Some p.left)) same
 
 other_stays : (q key : List ℕ) (at : ℕ) (places : List KeyPlace) → bytes_eq key q ≡ false
@@ -99,7 +102,8 @@ empty_stays [] (p ∷ places) key at none are = absurd are
 empty_stays (s ∷ slots) places key at none are = absurd (omega arith)
 
 -- a key of the last slot
-pub last_noted : (slots : List SlotMarks) (places : List SlotPlace) (n : ℕ) (old new : SlotMarks) (key : List ℕ) (at : ℕ)
+pub last_noted : (slots : List SlotMarks) (places : List SlotPlace) (n : ℕ)
+    (old new : SlotMarks) (key : List ℕ) (at : ℕ)
     → SlotsAre slots places → length slots ≡ n + 1 → slice_get slots n ≡ Some old → new.left ≡ old.left
     → ((keys : List KeyPlace) → AreKeys old.keys keys → AreKeys new.keys (keys ++ key_place key at ∷ []))
     → SlotsAre (set slots n new) (in_last places key at)

@@ -3,10 +3,13 @@ use Rattle.std.proofs.Common.{◌≡◌, ℕ, suc, Bool, true, false, ◌==◌, 
 use Rattle.toml_parser.specs.Lexical.{first, skip_blank}
 use Rattle.toml_parser.specs.Strings.{Key}
 use Rattle.toml_walk.specs.Walk.{ReadStatement, statement, member, element}
-use Rattle.list_places.specs.Marks.{Marked, key_place, first_part, element_place, element_keys, member_places, element_places, behind_header, by_header, with_begun_slot, with_these_slots, with_top, after_header, after_statement, marks_from}
+use Rattle.list_places.specs.Marks.{Marked, key_place, first_part, element_place, element_keys, member_places}
+use Rattle.list_places.specs.Marks.{element_places, behind_header, by_header, with_begun_slot, with_these_slots}
+use Rattle.list_places.specs.Marks.{with_top, after_header, after_statement, marks_from}
 
 module _ (n : ℕ) (text : List ℕ) where
-  pub member_on : (k : Key) (rest : List ℕ) → (first (skip_blank text) == 125) ≡ false → member (skip_blank text) ≡ Ok (k, rest)
+  pub member_on : (k : Key) (rest : List ℕ) → (first (skip_blank text) == 125) ≡ false
+      → member (skip_blank text) ≡ Ok (k, rest)
       → member_places (suc n) text ≡ key_place (first_part k) (length (skip_blank text)) ∷ member_places n rest
   unfolding member_places
   member_on k rest other read = rw (other, read)
@@ -22,7 +25,8 @@ module _ (n : ℕ) (text : List ℕ) where
   unfolding marks_from
   marks_on_statement m s rest some read = rw (some, read)
 
-pub keys_inside : (text : List ℕ) → (first text == 123) ≡ true → element_keys text ≡ member_places (length text) (drop 1 text)
+pub keys_inside : (text : List ℕ) → (first text == 123) ≡ true → element_keys text
+    ≡ member_places (length text) (drop 1 text)
 keys_inside text is = rw is
 
 pub no_keys : (text : List ℕ) → (first text == 123) ≡ false → element_keys text ≡ []
@@ -33,5 +37,6 @@ pub header_of_slot : (m : Marked) (left : ℕ) (key : Key) (b : Bool) → b ≡ 
 header_of_slot m left key b is = rw is
 
 pub header_of_none : (m : Marked) (left : ℕ) (key : Key) (b : Bool) → b ≡ false
-    → after_header m left key b ≡ with_these_slots (with_top (behind_header m false) left key) (by_header m.slots key left)
+    → after_header m left key b
+    ≡ with_these_slots (with_top (behind_header m false) left key) (by_header m.slots key left)
 header_of_none m left key b is = rw is

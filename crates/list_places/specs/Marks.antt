@@ -99,7 +99,8 @@ pair_slots key text =
 
 -- marks with these slots, and with a slot more
 abbrev pub with_these_slots : Marked → List SlotPlace → Marked
-with_these_slots m places = record { top = m.top; slots = places; has_headers = m.has_headers; is_in_slot = m.is_in_slot }
+with_these_slots m places =
+    record { top = m.top; slots = places; has_headers = m.has_headers; is_in_slot = m.is_in_slot }
 
 abbrev pub with_begun_slot : Marked → ℕ → Marked
 with_begun_slot m at = with_these_slots m (m.slots ++ begun_slot at ∷ [])

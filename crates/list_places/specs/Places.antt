@@ -1,5 +1,6 @@
 -- The line and the column of each error of a list.
-use Rattle.std.specs.Prelude.{ℕ, ◌+◌, ◌-◌, Bool, true, false, not, ◌==◌, List, [], ◌∷◌, length, map, take, count_by, codes, slice_get}
+use Rattle.std.specs.Prelude.{ℕ, ◌+◌, ◌-◌, Bool, true, false, not, ◌==◌, List, []}
+use Rattle.std.specs.Prelude.{◌∷◌, length, map, take, count_by, codes, slice_get}
 use Rattle.std.specs.Prelude.{Option, Some, None, option_map, option_and_then, if◌then◌else◌}
 use Rattle.std.specs.List.{suffix_len}
 use Rattle.std.specs.Str.{is_utf8}

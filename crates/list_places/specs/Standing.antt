@@ -44,7 +44,8 @@ marks_on n m None = m
 marks_on n m (Some rest) = marks_from n m rest.now
 
 -- a turn through an inline table
-abbrev pub MembersTurn : List ℕ → Option (Bor (List ℕ)) → BTreeMap (String Global) ℕ → BTreeMap (String Global) ℕ → Type 0
+abbrev pub MembersTurn : List ℕ → Option (Bor (List ℕ))
+    → BTreeMap (String Global) ℕ → BTreeMap (String Global) ℕ → Type 0
 MembersTurn text turn old new =
     (n : ℕ) (places : List KeyPlace) → AreKeys old places
     → (more : List KeyPlace) × AreKeys new (places ++ more) × (member_places (suc n) text ≡ more ++ members_on n turn)
@@ -53,7 +54,8 @@ MembersTurn text turn old new =
 abbrev pub ElementsTurn : List ℕ → Option (Bor (List ℕ)) → List SlotMarks → List SlotMarks → Type 0
 ElementsTurn text turn old new =
     (n : ℕ) (places : List SlotPlace) → SlotsAre old places
-    → (more : List SlotPlace) × SlotsAre new (places ++ more) × (element_places (suc n) text ≡ more ++ elements_on n turn)
+    → (more : List SlotPlace) × SlotsAre new (places ++ more)
+    × (element_places (suc n) text ≡ more ++ elements_on n turn)
 
 -- a turn through the statements of a text
 abbrev pub MarksTurn : List ℕ → Option (Bor (List ℕ)) → code.Marks → code.Marks → Type 0

@@ -101,7 +101,8 @@ list_said rounds modes stop (wrong.WrongKind field found) =
     type_name found ++ (codes ", wanted " ++ wanted_value rounds modes field.name)
 list_said rounds modes stop (wrong.OutOfRange field value low high) = wanted_range low high
 list_said rounds modes stop (wrong.SlotCount found) = codes "wanted 4 to 16 for version 1, 4 to 24 for version 2"
-list_said rounds modes stop (wrong.Kinds slot letters) = shown_word letters ++ (codes ", wanted " ++ wanted_kinds rounds)
+list_said rounds modes stop (wrong.Kinds slot letters) =
+    shown_word letters ++ (codes ", wanted " ++ wanted_kinds rounds)
 list_said rounds modes stop (wrong.NoRequestData slot) = codes "requests is true and data is 0"
 list_said rounds modes stop (wrong.Live slot letters) = shown_word letters ++ (codes ", wanted " ++ wanted_live modes)
 list_said rounds modes stop (wrong.Unknown slot key) = unknown_key slot key

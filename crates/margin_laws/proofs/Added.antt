@@ -16,7 +16,8 @@ use Rattle.clock_margins.specs.declared.margin.Total.{Total}
 use Rattle.clock_margins.specs.MarginText.{tolds_of}
 use Rattle.clock_margins.specs.Outcomes.{ValueTold, whom_it_costs, is_nobody, is_itself, is_others}
 use Rattle.clock_margins.specs.Outcomes.{costs_nobody, costs_itself, costs_others, told_of_value}
-use Rattle.clock_margins.specs.Sums.{counts_by_cost, count_of_values, counts_with, common, nearer, nearest, total_of, total_with, no_sweeps}
+use Rattle.clock_margins.specs.Sums.{counts_by_cost, count_of_values, counts_with, common}
+use Rattle.clock_margins.specs.Sums.{nearer, nearest, total_of, total_with, no_sweeps}
 use Rattle.clock_margins.specs.Sweeps.{values_from}
 use Rattle.margin_laws.specs.Sums.{totals_together}
 
@@ -114,10 +115,12 @@ with-together m one other = λ i. record {
   counts = sym (counts-of_three m.counts one.counts other.counts) i;
   free = sym (common-of_three m.free one.free other.free) i;
   least = sym (nearer-of_three (nearest m) one.least other.least) i;
-  most = (let most : max m.most (max one.most other.most) ≡ max (max m.most one.most) other.most = omega arith in most) i;
+  most = (let most : max m.most (max one.most other.most)
+      ≡ max (max m.most one.most) other.most = omega arith in most) i;
 }
 
-pub together : (some others : List Margin) → total_of (some ++ others) ≡ totals_together (total_of some) (total_of others)
+pub together : (some others : List Margin) → total_of (some ++ others)
+    ≡ totals_together (total_of some) (total_of others)
 together [] others = none-together (total_of others)
 together (m ∷ some) others =
     ap (total_with m) (together some others) ∙ with-together m (total_of some) (total_of others)

@@ -1,5 +1,6 @@
 -- What is told of one value more, behind the others, and of one sweep more.
-use Rattle.std.proofs.Common.{◌≡◌, ℕ, zero, suc, ◌+◌, max, ℤ, pos, ◌+ℤ◌, Bool, true, false, ◌&&◌, ◌||◌, cond, List, [], ◌∷◌, ◌++◌}
+use Rattle.std.proofs.Common.{◌≡◌, ℕ, zero, suc, ◌+◌, max, ℤ, pos, ◌+ℤ◌, Bool, true}
+use Rattle.std.proofs.Common.{false, ◌&&◌, ◌||◌, cond, List, [], ◌∷◌, ◌++◌}
 use Rattle.std.proofs.Common.{refl, sym, ap, ◌∙◌, append_assoc, append-nil, arith, map, length, Option, Some, None}
 use Rattle.std.specs.Prelude.{filter}
 use Rattle.std.specs.Int.{int_min, int_max}
@@ -14,7 +15,8 @@ use Rattle.clock_margins.specs.declared.margin.Between.{Between}
 use Rattle.clock_margins.specs.declared.margin.Margin.{Margin}
 use Rattle.clock_margins.specs.Outcomes.{ValueTold, costs_nobody, costs_itself, costs_others}
 use Rattle.clock_margins.specs.Ranges.{Range, is_told_as, range_alone, range_before, ranges_of}
-use Rattle.clock_margins.specs.Sums.{swept_value, between_with, least_to_greatest, counts_by_cost, most_hurt, common, nearer, nearest}
+use Rattle.clock_margins.specs.Sums.{swept_value, between_with, least_to_greatest, counts_by_cost}
+use Rattle.clock_margins.specs.Sums.{most_hurt, common, nearer, nearest}
 use Rattle.clock_margins.specs.Sums.{count_of_values, counts_with, total_of}
 use Rattle.clock_margins.specs.Sweeps.{values_from}
 use Rattle.margin_laws.specs.Behind.{range_behind, closed_ranges, open_range, noted_if, total_behind}
@@ -65,11 +67,13 @@ one-range x t r false true p q =
     ap (λ (c : Bool). cond c (longer ∷ range_alone t ∷ []) (range_alone x ∷ r ∷ range_alone t ∷ [])) q
     ∙ sym (ap (λ (c : Bool). cond c (record longer { to = t.value } ∷ []) (longer ∷ range_alone t ∷ [])) p)
 one-range x t r false false p q =
-    ap (λ (c : Bool). cond c (record r { from = x.value } ∷ range_alone t ∷ []) (range_alone x ∷ r ∷ range_alone t ∷ [])) q
+    ap (λ (c : Bool). cond c (record r { from = x.value } ∷ range_alone t ∷ [])
+    (range_alone x ∷ r ∷ range_alone t ∷ [])) q
     ∙ sym (ap (λ (c : Bool). range_alone x ∷ cond c (record r { to = t.value } ∷ []) (r ∷ range_alone t ∷ [])) p)
 
 more-ranges : (x t : ValueTold) (r next : Range) (ranges : List Range) (b : Bool)
-    → cond b (record r { from = x.value } ∷ range_behind t (next ∷ ranges)) (range_alone x ∷ r ∷ range_behind t (next ∷ ranges))
+    → cond b (record r { from = x.value } ∷ range_behind t (next ∷ ranges))
+    (range_alone x ∷ r ∷ range_behind t (next ∷ ranges))
     ≡ range_behind t (cond b (record r { from = x.value } ∷ next ∷ ranges) (range_alone x ∷ r ∷ next ∷ ranges))
 more-ranges x t r next ranges true = refl
 more-ranges x t r next ranges false = refl
@@ -131,12 +135,14 @@ open-end (q ∷ next ∷ ranges) r = open-end (next ∷ ranges) r
 abbrev pub BeginsWith : List Range → List Range → Type 0
 BeginsWith front ranges = (rest : List Range) × (ranges ≡ front ++ rest)
 
-pub closed-kept : (t : ValueTold) (ranges : List Range) → BeginsWith (closed_ranges ranges) (closed_ranges (range_behind t ranges))
+pub closed-kept : (t : ValueTold) (ranges : List Range)
+    → BeginsWith (closed_ranges ranges) (closed_ranges (range_behind t ranges))
 closed-kept t [] = ([], refl)
 closed-kept t (r ∷ []) = (closed_ranges (range_behind t (r ∷ [])), refl)
 closed-kept t (r ∷ next ∷ []) = by (is_told_as t next)
   where
-    by : (b : Bool) → BeginsWith (r ∷ []) (closed_ranges (r ∷ cond b (record next { to = t.value } ∷ []) (next ∷ range_alone t ∷ [])))
+    by : (b : Bool) → BeginsWith (r ∷ [])
+        (closed_ranges (r ∷ cond b (record next { to = t.value } ∷ []) (next ∷ range_alone t ∷ [])))
     by true = ([], refl)
     by false = (next ∷ [], refl)
 closed-kept t (r ∷ next ∷ third ∷ ranges) =
@@ -161,7 +167,8 @@ closed-more tolds (t ∷ more) =
 
 -- Values, from the least to the greatest.
 
-two-ways : (w v : ℤ) (b : Option Between) → between_with w (Some (between_with v b)) ≡ between_with v (Some (between_with w b))
+two-ways : (w v : ℤ) (b : Option Between) → between_with w (Some (between_with v b))
+    ≡ between_with v (Some (between_with w b))
 two-ways w v None =
     let least : int_min w v ≡ int_min v w = grind (arith, ints) in
     let most : int_max w v ≡ int_max v w = grind (arith, ints) in
@@ -183,7 +190,8 @@ module _ (q : ValueTold → Bool) (tolds : List ValueTold) (t : ValueTold) where
 
   kept-behind : kept (tolds ++ t ∷ []) ≡ kept tolds ++ cond (q t) (t.value ∷ []) []
   kept-behind =
-      ap (map swept_value) (filter-append q tolds (t ∷ [])) ∙ map-append swept_value (filter q tolds) (filter q (t ∷ []))
+      ap (map swept_value) (filter-append q tolds (t ∷ []))
+      ∙ map-append swept_value (filter q tolds) (filter q (t ∷ []))
       ∙ ap (λ (vs : List ℤ). kept tolds ++ vs) (by (q t))
     where
       by : (b : Bool) → map swept_value (cond b (t ∷ []) []) ≡ cond b (t.value ∷ []) []
@@ -263,7 +271,8 @@ nearer-none : (least : Option ℕ) → nearer least None ≡ least
 nearer-none None = refl
 nearer-none (Some n) = refl
 
-pub total-behind : (margins : List Margin) (m : Margin) → total_of (margins ++ m ∷ []) ≡ total_behind (total_of margins) m
+pub total-behind : (margins : List Margin) (m : Margin)
+    → total_of (margins ++ m ∷ []) ≡ total_behind (total_of margins) m
 total-behind margins m =
     let sum : (x y : ℕ) → x + (y + 0) ≡ x + y = λ x y. omega arith in
     let most : (x y : ℕ) → max x (max y 0) ≡ max x y = λ x y. omega arith in

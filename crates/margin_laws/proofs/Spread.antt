@@ -140,7 +140,8 @@ spread v (told ∷ more) follow =
 
 -- What is told of a sweep follows from value to value.
 
-pub follow-told : (f : ℤ → ValueTold) → ((z : ℤ) → (f z).value ≡ z) → (v : ℤ) (n : ℕ) → FollowFrom v (map f (values_from v n))
+pub follow-told : (f : ℤ → ValueTold) → ((z : ℤ) → (f z).value ≡ z) → (v : ℤ) (n : ℕ)
+    → FollowFrom v (map f (values_from v n))
 follow-told f same v zero = refl
 follow-told f same v (suc n) = λ i. same v i ∷ follow-told f same (v +ℤ pos 1) n i
 

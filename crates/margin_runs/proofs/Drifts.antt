@@ -43,7 +43,8 @@ drift-valid list script node value valid within = record {
 
 -- A drift that is set twice is what it was set to last.
 
-set-twice : (drift : List ℤ) (node : ℕ) (first second : ℤ) → set (set drift node first) node second ≡ set drift node second
+set-twice : (drift : List ℤ) (node : ℕ) (first second : ℤ)
+    → set (set drift node first) node second ≡ set drift node second
 set-twice [] node first second = refl
 set-twice (z ∷ drift) zero first second = refl
 set-twice (z ∷ drift) (suc node) first second = ap (λ (rest : List ℤ). z ∷ rest) (set-twice drift node first second)

@@ -1,5 +1,6 @@
 -- What was written of a sweep, one value more at a time, and how it ends where it is not written whole.
-use Rattle.std.proofs.Common.{◌≡◌, ℕ, ◌+◌, ◌≤◌, List, [], ◌∷◌, ◌++◌, length, ap, sym, subst, ◌∙◌, append_assoc, length-append, arith}
+use Rattle.std.proofs.Common.{◌≡◌, ℕ, ◌+◌, ◌≤◌, List, [], ◌∷◌, ◌++◌, length, ap, sym}
+use Rattle.std.proofs.Common.{subst, ◌∙◌, append_assoc, length-append, arith}
 use Rattle.std.proofs.lemmas.List.{map-append}
 use Rattle.ttp_base.specs.Outside.{Output, WroteLines}
 use Rattle.ttp_base.specs.Text.{Lines}
@@ -64,7 +65,8 @@ counts-more m n counts less few = record {
 }
 
 -- one of those that are to be taken
-pub told-parts : (tolds : List ValueTold) (all front : List Told) (x : Told) (rest : List Told) → all ≡ front ++ x ∷ rest
+pub told-parts : (tolds : List ValueTold) (all front : List Told) (x : Told) (rest : List Told)
+    → all ≡ front ++ x ∷ rest
     → tolds ++ are_told all ≡ ((tolds ++ are_told front) ++ value_told x ∷ []) ++ are_told rest
 told-parts tolds all front x rest is =
     ap (λ (xs : List Told). tolds ++ are_told xs) is
@@ -87,7 +89,8 @@ module _ (list : Medl) (sweep : Sweep) where
       sym (map-append (range_line list sweep) (closed_ranges (ranges_of tolds)) closed)
       ∙ ap (range_lines list sweep) (sym more)
 
-  pub put-next : (start before now : Output) (tolds : List ValueTold) (told : ValueTold) (old new : Swept) (closed : List Range)
+  pub put-next : (start before now : Output) (tolds : List ValueTold)
+      (told : ValueTold) (old new : Swept) (closed : List Range)
       → IsPutOf start before list sweep tolds old → IsSweptOf (tolds ++ told ∷ []) new → new.fold.node ≡ old.fold.node
       → HasFew (length tolds + 1) new
       → closed_ranges (ranges_of (tolds ++ told ∷ [])) ≡ closed_ranges (ranges_of tolds) ++ closed
@@ -102,7 +105,8 @@ module _ (list : Medl) (sweep : Sweep) where
         (Wrote-join start before now (closed_lines list sweep tolds) (range_lines list sweep closed) put.wrote wrote);
   }
 
-  pub left-next : (why : CampaignFault) (start before now : Output) (tolds : List ValueTold) (told : ValueTold) (old : Swept)
+  pub left-next : (why : CampaignFault) (start before now : Output)
+      (tolds : List ValueTold) (told : ValueTold) (old : Swept)
       (closed : List Range) → IsPutOf start before list sweep tolds old
       → closed_ranges (ranges_of (tolds ++ told ∷ [])) ≡ closed_ranges (ranges_of tolds) ++ closed
       → LeftBy why before now (range_lines list sweep closed)
@@ -113,7 +117,8 @@ module _ (list : Medl) (sweep : Sweep) where
 
   -- with more values behind them
   pub left-more : (why : CampaignFault) (start now : Output) (tolds more : List ValueTold)
-      → LeftBy why start now (closed_lines list sweep tolds) → LeftBy why start now (closed_lines list sweep (tolds ++ more))
+      → LeftBy why start now (closed_lines list sweep tolds)
+      → LeftBy why start now (closed_lines list sweep (tolds ++ more))
   left-more why start now tolds more left =
       let front = closed-more tolds more in
       subst (λ (lines : Lines). LeftBy why start now lines)
@@ -122,7 +127,8 @@ module _ (list : Medl) (sweep : Sweep) where
       (leaves-more why start now (closed_lines list sweep tolds) (range_lines list sweep front.0) left)
 
   -- where lines stand that were written, and no more
-  pub none-left : (start now : Output) (tolds more : List ValueTold) → WroteLines start now (closed_lines list sweep tolds)
+  pub none-left : (start now : Output) (tolds more : List ValueTold)
+      → WroteLines start now (closed_lines list sweep tolds)
       → LeftBy fault.Memory start now (closed_lines list sweep (tolds ++ more))
   none-left start now tolds more wrote =
       let front = closed-more tolds more in
@@ -150,7 +156,8 @@ module _ (list : Medl) (script : Script) (reach : ℕ) (sweep : Sweep) where
   pub sweep-whole : (closed_lines list sweep tolds ++ last_lines) ++ sum_line ∷ [] ≡ sweep_lines list script reach sweep
   sweep-whole =
       ap (λ (lines : Lines). lines ++ sum_line ∷ [])
-      (sym (map-append (range_line list sweep) (closed_ranges (ranges_of tolds)) (cons_option (open_range (ranges_of tolds)) []))
+      (sym (map-append (range_line list sweep) (closed_ranges (ranges_of tolds))
+      (cons_option (open_range (ranges_of tolds)) []))
       ∙ ap (range_lines list sweep) (sym (closed-open (ranges_of tolds))))
 
   -- where it ends in those of closed ranges
@@ -162,7 +169,8 @@ module _ (list : Medl) (script : Script) (reach : ℕ) (sweep : Sweep) where
       (leaves-more why start now (closed_lines list sweep tolds) last_lines left))
 
   -- in that of the open one
-  pub last-left : (why : CampaignFault) (start before now : Output) → WroteLines start before (closed_lines list sweep tolds)
+  pub last-left : (why : CampaignFault) (start before now : Output)
+      → WroteLines start before (closed_lines list sweep tolds)
       → LeftBy why before now last_lines → LeftBy why start now (sweep_lines list script reach sweep)
   last-left why start before now wrote left =
       subst (λ (lines : Lines). LeftBy why start now lines) sweep-whole

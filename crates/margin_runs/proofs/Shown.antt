@@ -28,7 +28,8 @@ pub shown-jumps : (list : Medl) (script : Script) (slot : ℕ) (states : List No
     → jump_sweeps_of slot k (state_at states k).entry ≡ jumps_at list script slot k
 shown-jumps list script slot states within shown k inside =
     ap (jump_sweeps_of slot k)
-    (sym (get_or-map (λ (state : NodeState). state.entry) states k off_state entry.Off (omega (arith, inside, shown.count)))
+    (sym (get_or-map (λ (state : NodeState). state.entry) states k off_state
+    entry.Off (omega (arith, inside, shown.count)))
     ∙ ap (λ (row : List Entry). entry_of row k) (shown-row list script slot states within shown))
 
 pub jumps-whole : (list : Medl) (script : Script) (slot : ℕ)
@@ -40,4 +41,5 @@ jumps-whole list script slot =
 pub slots-whole : (list : Medl) (script : Script) (asked : Span)
     → all_jumps list script asked ≡ flat_map (jumps_asked list script asked) (below script.slots)
 slots-whole list script asked =
-    flat_map-filter (λ slot. nat_le asked.first slot && nat_le slot asked.last) (jumps_in list script) (below script.slots)
+    flat_map-filter (λ slot. nat_le asked.first slot && nat_le slot asked.last)
+    (jumps_in list script) (below script.slots)

@@ -1,5 +1,6 @@
 -- What was seen of a run where one node counts as faulty besides.
-use Rattle.std.proofs.Common.{◌≡◌, ℕ, ◌+◌, ◌-◌, ◌<◌, ◌≤◌, Bool, false, ◌&&◌, ◌||◌, not, List, [], ◌∷◌, length, refl, ap, sym, ◌∙◌, arith}
+use Rattle.std.proofs.Common.{◌≡◌, ℕ, ◌+◌, ◌-◌, ◌<◌, ◌≤◌, Bool, false, ◌&&◌, ◌||◌, not}
+use Rattle.std.proofs.Common.{List, [], ◌∷◌, length, refl, ap, sym, ◌∙◌, arith}
 use Rattle.std.specs.Prelude.{◌==◌}
 use Rattle.ttp_base.specs.NodeSet.{has_node, without_node}
 use Rattle.ttp_base.proofs.NodeSets.{has_node-without}
@@ -21,7 +22,8 @@ use Rattle.ttp_world.proofs.ZerosWorlds.{length-zeros_world}
 use Rattle.run_costs.proofs.Rows.{next_row, zeros-next}
 
 -- the correct nodes but one are those that count
-pub sound-beside : (list : Medl) (script : Script) (slot node : ℕ) (correct : List ℕ) → AreSound list script slot correct
+pub sound-beside : (list : Medl) (script : Script) (slot node : ℕ) (correct : List ℕ)
+    → AreSound list script slot correct
     → (k : ℕ) → k < length list.slots
     → has_node (without_node correct node) k ≡ is_sound_beside list script node slot k
 sound-beside list script slot node correct sound k within =
@@ -37,7 +39,8 @@ split-more list script slot node now before is was =
     let history = zeros_world list script slot in
     let newest : slot ≡ length (row ∷ history) - 1 = omega (arith, length-zeros_world list script slot) in
     let split : now ≡ is_split_beside list script node (row ∷ history) =
-    is ∙ ap (λ (h : History). has_two (memberships list h (is_sound_beside list script node slot))) (zeros-next list script slot)
+    is ∙ ap (λ (h : History). has_two (memberships list h (is_sound_beside list script node slot)))
+    (zeros-next list script slot)
     ∙ ap (λ (n : ℕ). has_two (memberships list (row ∷ history) (is_sound_beside list script node n))) newest in
     (λ i. split i || was i)
     ∙ ap (was_split_beside list script node) (sym (zeros-next list script slot))

@@ -1,5 +1,6 @@
 -- Sweeps that were written, one more at a time.
-use Rattle.std.proofs.Common.{◌≡◌, ℕ, ◌≤◌, Bool, true, false, cond, List, [], ◌∷◌, ◌++◌, map, refl, ap, sym, subst, ◌∙◌, append-nil, arith}
+use Rattle.std.proofs.Common.{◌≡◌, ℕ, ◌≤◌, Bool, true, false, cond, List, [], ◌∷◌, ◌++◌}
+use Rattle.std.proofs.Common.{map, refl, ap, sym, subst, ◌∙◌, append-nil, arith}
 use Rattle.std.specs.Prelude.{filter, flat_map}
 use Rattle.std.proofs.lemmas.Grind.{flat_map-append}
 use Rattle.std.proofs.lemmas.List.{map-append}
@@ -39,7 +40,8 @@ module _ (list : Medl) (script : Script) (reach : ℕ) where
       → lines_swept list script reach swept ++ sweep_lines list script reach sweep
       ≡ lines_swept list script reach (swept ++ sweep ∷ [])
   lines-next swept sweep =
-      ap (λ (lines : Lines). lines_swept list script reach swept ++ lines) (sym (append-nil (sweep_lines list script reach sweep)))
+      ap (λ (lines : Lines). lines_swept list script reach swept ++ lines)
+      (sym (append-nil (sweep_lines list script reach sweep)))
       ∙ sym (lines-both swept (sweep ∷ []))
 
   pub swept-next : (start before now : Output) (swept : List Sweep) (sweep : Sweep) (margin : Margin) (old new : Total)
@@ -52,7 +54,8 @@ module _ (list : Medl) (script : Script) (reach : ℕ) where
       record {
         wrote =
             subst (λ (lines : Lines). WroteLines start now lines) (lines-next swept sweep)
-            (Wrote-join start before now (lines_swept list script reach swept) (sweep_lines list script reach sweep) are.wrote
+            (Wrote-join start before now (lines_swept list script reach swept)
+            (sweep_lines list script reach sweep) are.wrote
             wrote);
         total =
             counted margins are.total
@@ -60,12 +63,15 @@ module _ (list : Medl) (script : Script) (reach : ℕ) where
             ∙ sym (ap total_of (map-append (sweep_margin list script reach) swept (sweep ∷ [])));
       }
 
-  pub swept-left : (why : CampaignFault) (start before now : Output) (swept : List Sweep) (sweep : Sweep) (total : Total)
-      → AreSwept start before list script reach swept total → LeftBy why before now (sweep_lines list script reach sweep)
+  pub swept-left : (why : CampaignFault) (start before now : Output)
+      (swept : List Sweep) (sweep : Sweep) (total : Total)
+      → AreSwept start before list script reach swept total
+      → LeftBy why before now (sweep_lines list script reach sweep)
       → LeftBy why start now (lines_swept list script reach (swept ++ sweep ∷ []))
   swept-left why start before now swept sweep total are left =
       subst (λ (lines : Lines). LeftBy why start now lines) (lines-next swept sweep)
-      (leaves-after why start before now (lines_swept list script reach swept) (sweep_lines list script reach sweep) are.wrote
+      (leaves-after why start before now (lines_swept list script reach swept)
+      (sweep_lines list script reach sweep) are.wrote
       left)
 
   -- with more sweeps behind them

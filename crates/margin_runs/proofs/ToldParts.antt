@@ -1,5 +1,6 @@
 -- What is told of values that follow each other.
-use Rattle.std.proofs.Common.{◌≡◌, ℕ, zero, suc, ◌+◌, ◌-◌, ◌*◌, ◌≤◌, ℤ, pos, ◌+ℤ◌, List, [], ◌∷◌, ◌++◌, map, take, drop, length, refl, ap, sym, ◌∙◌, arith}
+use Rattle.std.proofs.Common.{◌≡◌, ℕ, zero, suc, ◌+◌, ◌-◌, ◌*◌, ◌≤◌, ℤ, pos, ◌+ℤ◌, List, []}
+use Rattle.std.proofs.Common.{◌∷◌, ◌++◌, map, take, drop, length, refl, ap, sym, ◌∙◌, arith}
 use Rattle.std.specs.Prelude.{neg_ℤ}
 use Rattle.std.proofs.lemmas.List.{map-append, length-map, take-append-drop}
 use Rattle.ttp_world.specs.declared.medl.Medl.{Medl}
@@ -16,7 +17,8 @@ use Rattle.margin_runs.specs.Tries.{tolds_from, are_told}
 use Rattle.margin_runs.specs.Written.{tolds_so_far}
 
 -- that of two parts of them, one after the other, is that of all
-pub halves_told : (list : Medl) (script : Script) (sweep : Sweep) (values front back : List ℤ) (n : ℕ) (one other all : List Told)
+pub halves_told : (list : Medl) (script : Script) (sweep : Sweep)
+    (values front back : List ℤ) (n : ℕ) (one other all : List Told)
     → front ≡ take n values → back ≡ drop n values → are_told one ≡ map (told_of_value list script sweep) front
     → are_told other ≡ map (told_of_value list script sweep) back → all ≡ one ++ other
     → are_told all ≡ map (told_of_value list script sweep) values
@@ -29,7 +31,8 @@ halves_told list script sweep values front back n one other all is_front is_back
     ∙ ap (map told) ((λ i. is_front i ++ is_back i) ∙ take-append-drop n values)
 
 -- one more
-pub told-more : (list : Medl) (script : Script) (sweep : Sweep) (values : List ℤ) (i : ℕ) (value : ℤ) (before all : List Told)
+pub told-more : (list : Medl) (script : Script) (sweep : Sweep) (values : List ℤ)
+    (i : ℕ) (value : ℤ) (before all : List Told)
     (now : Told) → take i values ++ value ∷ [] ≡ take (i + 1) values → all ≡ before ++ now ∷ []
     → are_told before ≡ map (told_of_value list script sweep) (take i values)
     → value_told now ≡ told_of_value list script sweep value

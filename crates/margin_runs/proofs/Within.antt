@@ -13,7 +13,8 @@ limit-few None = omega arith
 limit-few (Some slot) = omega arith
 
 -- so many from one on, of which the last is within the limit
-values-within : (most : ℕ) (first : ℤ) (count : ℕ) → neg_ℤ (pos most) ≤ℤ first → (first +ℤ pos count) ≤ℤ (pos most +ℤ pos 1)
+values-within : (most : ℕ) (first : ℤ) (count : ℕ) → neg_ℤ (pos most) ≤ℤ first
+    → (first +ℤ pos count) ≤ℤ (pos most +ℤ pos 1)
     → All (IsWithinSpan most) (values_from first count)
 values-within most first zero least greatest = All-nil (IsWithinSpan most)
 values-within most first (suc count) least greatest =

@@ -124,7 +124,8 @@ closed-writable tolds before range are is =
     let closed = part-writable (closed_ranges ranges) (cons_option (open_range ranges) []) all in
     (rest-writable before (range ∷ []) (subst AllWritable is closed)).0
 
-pub open-writable : (tolds : List ValueTold) (range : Range) → AreWritable tolds → Some range ≡ open_range (ranges_of tolds)
+pub open-writable : (tolds : List ValueTold) (range : Range) → AreWritable tolds
+    → Some range ≡ open_range (ranges_of tolds)
     → IsWritable range.outcome
 open-writable tolds range are is =
     let ranges = ranges_of tolds in

@@ -44,7 +44,8 @@ AreWritable [] = Unit {0}
 AreWritable (told ∷ tolds) = IsWritable told.outcome × AreWritable tolds
 
 -- from one output to another these lines were written, and the values taken
-pub record IsPutOf (start now : Output) (list : Medl) (sweep : Sweep) (tolds : List ValueTold) (taken : Swept) : Type 0 where
+pub record IsPutOf (start now : Output) (list : Medl) (sweep : Sweep)
+    (tolds : List ValueTold) (taken : Swept) : Type 0 where
   pub swept : IsSweptOf tolds taken
   pub node : taken.fold.node ≡ sweep.node
   pub few : HasFew (length tolds) taken
@@ -68,7 +69,8 @@ abbrev pub lines_swept : Medl → Script → ℕ → List Sweep → Lines
 lines_swept list script reach swept = flat_map (sweep_lines list script reach) swept
 
 -- from one output to another these sweeps were written, and they come to this
-pub record AreSwept (start now : Output) (list : Medl) (script : Script) (reach : ℕ) (swept : List Sweep) (all : Total) : Type 0
+pub record AreSwept (start now : Output) (list : Medl) (script : Script) (reach : ℕ)
+    (swept : List Sweep) (all : Total) : Type 0
   where
     pub wrote : WroteLines start now (lines_swept list script reach swept)
     pub total : all ≡ total_of (map (sweep_margin list script reach) swept)

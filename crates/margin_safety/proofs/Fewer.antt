@@ -1,5 +1,6 @@
 -- Fewer nodes hold no more memberships.
-use Rattle.std.proofs.Common.{◌≡◌, ℕ, Bool, true, false, ◌&&◌, ◌||◌, not, List, [], ◌∷◌, length, Option, Some, None, refl, ap, sym, ◌∙◌}
+use Rattle.std.proofs.Common.{◌≡◌, ℕ, Bool, true, false, ◌&&◌, ◌||◌, not, List, []}
+use Rattle.std.proofs.Common.{◌∷◌, length, Option, Some, None, refl, ap, sym, ◌∙◌}
 use Rattle.std.specs.Prelude.{◌==◌, if◌then◌else◌}
 use Rattle.std.specs.List.{filter_map, cons_option, list_any}
 use Rattle.std.specs.Str.{bytes_eq}
@@ -13,7 +14,8 @@ use Rattle.ttp_world.specs.Safety.{newest_slot, members_of_node}
 use Rattle.ttp_world.proofs.NumberWords.{bytes_eq-same}
 use Rattle.ttp_world.proofs.SmallTests.{spelled as same_bytes}
 use Rattle.campaign.specs.declared.cost.Span.{Span}
-use Rattle.campaign.specs.Cost.{faulty_by_test, is_firm, firm_members, each_once, has_two, is_split, span_after, split_span}
+use Rattle.campaign.specs.Cost.{faulty_by_test, is_firm, firm_members, each_once}
+use Rattle.campaign.specs.Cost.{has_two, is_split, span_after, split_span}
 use Rattle.clock_margins.specs.Outcomes.{is_sound_beside, is_split_beside, was_split_beside, costs_by, is_others}
 use Rattle.run_costs.proofs.Distinct.{two-others}
 
@@ -36,7 +38,8 @@ or-right false b is = is
 one_only : (sets : List (List ℕ)) (m : List ℕ) → NoOther m sets → has_two (each_once sets) ≡ false
 one_only [] m none = refl
 one_only (x ∷ sets) m none =
-    let same : m ≡ x = same_bytes m x (found (bytes_eq m x) (or-left (is_other m x) (list_any (is_other m) sets) none)) in
+    let same : m ≡ x = same_bytes m x
+    (found (bytes_eq m x) (or-left (is_other m x) (list_any (is_other m) sets) none)) in
     two-others x sets ∙ ap (λ (y : List ℕ). list_any (is_other y) sets) (sym same)
     ∙ or-right (is_other m x) (list_any (is_other m) sets) none
   where
@@ -89,7 +92,8 @@ two-fewer f g fewer ks one = by (filter_map f ks) refl one
     by [] is one = ap (λ (sets : List (List ℕ)). has_two (each_once sets)) (none-at-all f g fewer ks is)
     by (m ∷ sets) is one =
         let others : NoOther m sets = sym (two-others m sets) ∙ one in
-        let all : NoOther m (m ∷ sets) = ap (λ (b : Bool). not b || list_any (is_other m) sets) (bytes_eq-same m) ∙ others in
+        let all : NoOther m (m ∷ sets) =
+        ap (λ (b : Bool). not b || list_any (is_other m) sets) (bytes_eq-same m) ∙ others in
         one_only (filter_map g ks) m (none-fewer f g fewer m ks (ap (list_any (is_other m)) is ∙ all))
 
 -- Memberships of correct nodes but one.
@@ -109,7 +113,8 @@ module _ (list : Medl) (script : Script) (k : ℕ) where
       by true false false is = absurd (cc)
       by false b c is = absurd (cc)
 
-  unsplit-here : (history : History) → is_split list script history ≡ false → is_split_beside list script k history ≡ false
+  unsplit-here : (history : History) → is_split list script history ≡ false
+      → is_split_beside list script k history ≡ false
   unsplit-here history one =
       let slot = newest_slot history in
       two-fewer (firm_members list history (is_sound script (faulty_by_test list script slot) slot))
@@ -124,7 +129,8 @@ module _ (list : Medl) (script : Script) (k : ℕ) where
       → was_split_beside list script k history ≡ false
   never-split [] none = refl
   never-split (row ∷ history) none =
-      let parts = span-none (length history) (is_split list script (row ∷ history)) (split_span list script history) none in
+      let parts = span-none (length history) (is_split list script (row ∷ history))
+      (split_span list script history) none in
       let here = unsplit-here (row ∷ history) parts.0 in
       let rest = never-split history parts.1 in
       λ i. here i || rest i

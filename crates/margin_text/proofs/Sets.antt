@@ -14,7 +14,8 @@ other-length [] [] differ = absurd (differ refl)
 other-length [] (m ∷ more) differ = refl
 other-length (m ∷ more) [] differ = refl
 other-length (members ∷ sets) (m ∷ more) differ =
-    ap (λ (b : Bool). bytes_eq members m && b) (other-length sets more (λ same. differ (ap suc same))) ∙ none (bytes_eq members m)
+    ap (λ (b : Bool). bytes_eq members m && b) (other-length sets more (λ same. differ (ap suc same)))
+    ∙ none (bytes_eq members m)
   where
     none : (b : Bool) → (b && false) ≡ false
     none true = refl

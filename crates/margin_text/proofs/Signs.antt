@@ -1,5 +1,6 @@
 -- The least and the greatest of values on one side of 0.
-use Rattle.std.proofs.Common.{◌≡◌, ℤ, pos, ◌<ℤ◌, Bool, true, false, List, [], ◌∷◌, cond, Option, Some, None, refl, arith}
+use Rattle.std.proofs.Common.{◌≡◌, ℤ, pos, ◌<ℤ◌, Bool, true, false, List, []}
+use Rattle.std.proofs.Common.{◌∷◌, cond, Option, Some, None, refl, arith}
 use Rattle.std.specs.Prelude.{filter, IfSome}
 use Rattle.std.proofs.lemmas.Int.{ints}
 use Rattle.clock_margins.specs.declared.margin.Between.{Between}
@@ -11,7 +12,8 @@ IsBelow b = b.greatest <ℤ pos 0
 abbrev IsAbove : Between → Type 0
 IsAbove b = pos 0 <ℤ b.least
 
-below-with : (v : ℤ) → lies_below_0 v ≡ true → (before : Option Between) → IfSome before IsBelow → IsBelow (between_with v before)
+below-with : (v : ℤ) → lies_below_0 v ≡ true → (before : Option Between)
+    → IfSome before IsBelow → IsBelow (between_with v before)
 below-with v is None all = grind (arith, ints)
 below-with v is (Some b) all = grind (arith, ints)
 
@@ -24,7 +26,8 @@ all-below (v ∷ vs) = by (lies_below_0 v) refl (all-below vs)
     by true is all = below-with v is (least_to_greatest (filter lies_below_0 vs)) all
     by false is all = all
 
-above-with : (v : ℤ) → lies_above_0 v ≡ true → (before : Option Between) → IfSome before IsAbove → IsAbove (between_with v before)
+above-with : (v : ℤ) → lies_above_0 v ≡ true → (before : Option Between)
+    → IfSome before IsAbove → IsAbove (between_with v before)
 above-with v is None all = grind (arith, ints)
 above-with v is (Some b) all = grind (arith, ints)
 

@@ -1,5 +1,6 @@
 -- What is known of the nodes: before the first slot, and node by node after one slot more.
-use Rattle.std.proofs.Common.{◌≡◌, ◌≢◌, ℕ, ◌+◌, ◌<◌, ◌≤◌, List, [], ◌∷◌, ◌++◌, length, get_or, set, Option, None, refl, ap}
+use Rattle.std.proofs.Common.{◌≡◌, ◌≢◌, ℕ, ◌+◌, ◌<◌, ◌≤◌, List, [], ◌∷◌, ◌++◌}
+use Rattle.std.proofs.Common.{length, get_or, set, Option, None, refl, ap}
 use Rattle.std.proofs.Common.{sym, subst, ◌∙◌, inl, inr, arith}
 use Rattle.std.proofs.lemmas.Bool.{cases_eq}
 use Rattle.std.proofs.lemmas.List.{length-set, get_or_default, get_or-set_same, get_or-set_other, length_push}
@@ -132,7 +133,8 @@ module _ (plant : PlantView) (chosen : List Chosen) (before nodes : List NodeMod
       → get_or nodes j old ≡ get_or nodes i (get_or nodes j old)
   old-is j old long is =
       let count = entering.count in
-      ap (λ k. get_or nodes k old) is ∙ get_or_default nodes i old (get_or nodes j old) (omega (arith, inside, count, long))
+      ap (λ k. get_or nodes k old) is
+      ∙ get_or_default nodes i old (get_or nodes j old) (omega (arith, inside, count, long))
 
   pub entering-next : (old new : NodeModes) → length before ≡ length list.slots → old ≡ get_or nodes i old
       → ((script : Script) (row : List Entry) (history : History) → IsPastRow plant chosen list script row history

@@ -87,7 +87,8 @@ module _ (list : Medl) (script : Script) (row : List Entry) (history : History) 
       → IfSome (delivery list k past heard e) (λ (d : Delivered). d.sender ≡ p)
   accepted-sender p (entry.Judged sender v deviation) is =
       let same : sender ≡ p = eqb-true sender p (and_parts (sender == p) (is_correct v) is).0 in
-      subst (λ q. IfSome (delivery list k past heard (entry.Judged sender v deviation)) (λ (d : Delivered). d.sender ≡ q))
+      subst (λ q. IfSome (delivery list k past heard (entry.Judged sender v deviation))
+      (λ (d : Delivered). d.sender ≡ q))
       same
       (sender-of (is_correct v && carries_payload list (coming_place list past)) sender
       (payload_taken list (expected_of list k past) heard))

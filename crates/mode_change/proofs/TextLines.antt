@@ -56,7 +56,8 @@ mode_history_lines-each list script [] = tt
 mode_history_lines-each list script (row ∷ history) =
     each-append IsLine (mode_history_lines list script history) (mode_slot_lines list script row history)
     (mode_history_lines-each list script history)
-    (map_each-below IsLine (mode_line_of list script row history) (length list.slots) (λ k node. mode_line-IsLine _ k _ _))
+    (map_each-below IsLine (mode_line_of list script row history)
+    (length list.slots) (λ k node. mode_line-IsLine _ k _ _))
 
 pub mode_lines-each : (list : Medl) (script : Script) (numbers : Numbers)
     → AllByRecursion (λ line. is_line line ≡ true) (mode_lines list script numbers)

@@ -18,7 +18,8 @@ use Rattle.mode_change.specs.ModeText.{mode_head, mode_history_lines, mode_lines
 
 -- the lines of the first slots, with the first line
 abbrev pub mode_lines_so_far : Medl → Script → Numbers → Lines
-mode_lines_so_far list script numbers = mode_head list script ∷ mode_history_lines list script (world list script numbers)
+mode_lines_so_far list script numbers =
+    mode_head list script ∷ mode_history_lines list script (world list script numbers)
 
 mode_lines-first : (list : Medl) (script : Script) (numbers : Numbers) (more : ℕ)
     → (later : Lines)

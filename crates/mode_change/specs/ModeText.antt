@@ -1,6 +1,7 @@
 -- The text of modes: for each slot and each node the mode that it runs after the slot, the mode that it runs next, and
 -- whether what it delivered was live.
-use Rattle.std.specs.Prelude.{ℕ, Bool, true, false, List, [], ◌∷◌, ◌++◌, map, length, Option, Some, None, codes, decimal}
+use Rattle.std.specs.Prelude.{ℕ, Bool, true, false, List, [], ◌∷◌, ◌++◌, map}
+use Rattle.std.specs.Prelude.{length, Option, Some, None, codes, decimal}
 use Rattle.ttp_base.specs.NodeSet.{below}
 use Rattle.ttp_base.specs.Text.{Lines, newline}
 use Rattle.ttp_world.specs.declared.medl.Medl.{Medl}

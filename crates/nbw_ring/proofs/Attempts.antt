@@ -1,5 +1,6 @@
 -- Attempts that are repeated until one gets a message.
-use Rattle.std.proofs.Common.{◌≡◌, ℕ, ◌+◌, ◌-◌, ◌*◌, ◌/◌, ◌<◌, ◌≤◌, Bool, true, false, cond, nat_lt, sym, ap, ◌∙◌, subst, arith}
+use Rattle.std.proofs.Common.{◌≡◌, ℕ, ◌+◌, ◌-◌, ◌*◌, ◌/◌, ◌<◌, ◌≤◌, Bool, true}
+use Rattle.std.proofs.Common.{false, cond, nat_lt, sym, ap, ◌∙◌, subst, arith}
 use Rattle.std.proofs.Math.Nat.{suc-mul}
 use Rattle.std.proofs.lemmas.Bool.{ltb-false, lt-ltb}
 use Rattle.nbw_ring.specs.Attempts.{attempt_steps, RepeatSteps}
@@ -62,7 +63,8 @@ module _ (old mid new : ReaderState) (still : StillReads old mid) (ring : new.ri
       let steps_before = still.steps in
       let one : new.steps ≡ mid.steps + 1 =
       made ∙ ap (λ (c : Bool). mid.steps + cond c (new.ring.shape.width + 2) 1) at_limit in
-      let buffers : new.ring.shape.buffers ≡ old.ring.shape.buffers = ap (λ (r : RingState). r.shape.buffers) same_ring in
+      let buffers : new.ring.shape.buffers ≡ old.ring.shape.buffers =
+      ap (λ (r : RingState). r.shape.buffers) same_ring in
       record {
         ring = same_ring;
         late = still.late + 1;

@@ -58,7 +58,8 @@ pub put_next : (shape key : Shape) (slots id : ℕ) (me : Sat) (w : Writing) (wo
 put_next shape key slots id me w words number start k x same is opened count wide inside begins =
     let long : length (take k words) ≡ k = length-take-le k words (omega arith) in
     let width : key.width ≡ shape.width = ap (λ (z : Shape). z.width) same in
-    puts key slots id me (record w { put = take k words; steps = w.steps + k }) (start + k) x (view_is me _ is) opened (omega arith)
+    puts key slots id me (record w { put = take k words; steps = w.steps + k }) (start + k)
+    x (view_is me _ is) opened (omega arith)
     (place_from_start shape key number start k (length w.messages) (length (take k words)) same begins count long)
 
 pub load_next : (shape key : Shape) (slots id : ℕ) (me : Sat) (y : Reading) (number start k : ℕ) → key ≡ shape
@@ -94,7 +95,8 @@ pub filled_next : (m m' m'' : Sat) (w : Writing) (words : List ℕ) → m ≡ (W
 filled_next m m' m'' w words is begun filled =
     let opened : m' ≡ (Writer (with_open w), []) = writer_next with_open m m' w is begun in
     filled
-    ∙ ap (λ (z : Writing). (Writer (record z { put = words; steps = z.steps + length words }), [])) (ap (λ (z : Sat). writing_of z.0) opened)
+    ∙ ap (λ (z : Writing). (Writer (record z { put = words; steps = z.steps + length words }), []))
+    (ap (λ (z : Sat). writing_of z.0) opened)
 
 -- an attempt whose words were loaded
 pub loaded_next : (begin : ℕ) (m m' m'' : Sat) (y : Reading) (words : List ℕ) (n : ℕ) → m ≡ (Reader y, [])
@@ -103,7 +105,8 @@ pub loaded_next : (begin : ℕ) (m m' m'' : Sat) (y : Reading) (words : List ℕ
     → m'' ≡ (Reader (record (with_first begin y) { words = words; steps = y.steps + 1 + n }), [])
 loaded_next begin m m' m'' y words n is begun loaded =
     let first : m' ≡ (Reader (with_first begin y), []) = reader_next (with_first begin) m m' y is begun in
-    loaded ∙ ap (λ (v : Reading). (Reader (record v { words = words; steps = v.steps + n }), [])) (ap (λ (z : Sat). reading_of z.0) first)
+    loaded ∙ ap (λ (v : Reading). (Reader (record v { words = words; steps = v.steps + n }), []))
+    (ap (λ (z : Sat). reading_of z.0) first)
 
 -- the writer's view once a reader was joined
 pub joined_next : (m n m' : Sat) (w : Writing) (y : Reading) → m ≡ (Writer w, []) → n ≡ (Reader y, [])

@@ -23,7 +23,8 @@ use Rattle.nbw_ring.specs.declared.view.View.TheVariants.{Writer, Reader, Spent}
 use Rattle.nbw_ring.specs.Numbers.{most_number, newest_number, limit, place, message_at, IsMessageOf, odd_part}
 use Rattle.nbw_ring.specs.Rule.{IsSettled, ReaderKnows, Knows, Kept, first_writing, first_view}
 use Rattle.nbw_ring.specs.Steps.{Sat, with_open, with_word, with_new_message, with_first, with_loaded, attempt_of}
-use Rattle.nbw_ring.specs.Steps.{with_last, new_reading, reading_settlement, with_settled, writer_stepped, as_writer, as_reader}
+use Rattle.nbw_ring.specs.Steps.{with_last, new_reading, reading_settlement, with_settled}
+use Rattle.nbw_ring.specs.Steps.{writer_stepped, as_writer, as_reader}
 use Rattle.nbw_ring.specs.Steps.{lent_view, joined_view, FollowsCounter, Confirms, tells_begin, tells_put, tells_end}
 use Rattle.nbw_ring.specs.Steps.{tells_first_load, tells_word_load, tells_last_load, tells_settle_load}
 use Rattle.nbw_ring.proofs.Places.{odd_part_small, place_inside, places_apart, words_apart, message-before}
@@ -164,7 +165,8 @@ module _ (shape : Shape) where
             (writer_beside s r id me.0 (Reader (with_first c y)) y is at),
         (
           (λ k. (as_reader (with_first c) (sym is k), me.1)),
-          subst (FollowsCounter c) (sym is) record { above_floor = omega arith; above_seen = e; small = counter_small s r },
+          subst (FollowsCounter c) (sym is) record
+              { above_floor = omega arith; above_seen = e; small = counter_small s r },
         ),
       )
 
@@ -264,7 +266,8 @@ module _ (shape : Shape) where
             (writer_beside s r id me.0 (Reader (with_last c y)) y is at),
         (
           (λ k. (as_reader (with_last c) (sym is k), me.1)),
-          subst (FollowsCounter c) (sym is) record { above_floor = omega arith; above_seen = e; small = counter_small s r },
+          subst (FollowsCounter c) (sym is) record
+              { above_floor = omega arith; above_seen = e; small = counter_small s r },
         ),
       )
 

@@ -41,8 +41,8 @@ abbrev pub OnOverrun : ReaderState → ReaderState → Try → Type 0
 OnOverrun old new (Got number) = Unit {0}
 OnOverrun old new (Overrun number begin end) = GetsNothing old new number begin end
 
--- the steps of the newest attempt: a load for each word and two of the counter, but one alone where the first load shows
--- that it is too late
+-- the steps of the newest attempt: a load for each word and two of the counter, but one alone where the first load
+-- shows that it is too late
 abbrev pub attempt_steps : ReaderState → ℕ
 attempt_steps r = if nat_lt r.first (limit r.ring.shape (r.first / 2)) then r.ring.shape.width + 2 else 1
 

@@ -88,8 +88,8 @@ pub record IsAttempting (v : Reading) (number : ℕ) : Type 0 where
   pub empty : v.words ≡ []
   pub half : v.first / 2 ≡ number
 
--- what the writer's fields say of its seat: it is the writer's of this ring, no write is open, and this is the number of
--- its newest message
+-- what the writer's fields say of its seat: it is the writer's of this ring, no write is open, and this is the number
+-- of its newest message
 pub record IsAtRest (ring : RingState) (seat : RingSeat) (number : ℕ) : Type 0 where
   pub own : ring_of seat.table_id (writing_of seat.me.0).shape ≡ ring
   pub seated : IsWriterSeat seat

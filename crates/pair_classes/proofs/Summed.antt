@@ -1,5 +1,6 @@
 -- Sums with one pair more.
-use Rattle.std.proofs.Common.{◌≡◌, ℕ, ◌+◌, ◌<◌, Bool, true, false, cond, List, [], ◌∷◌, ◌++◌, refl, ap, sym, subst, ◌∙◌, arith}
+use Rattle.std.proofs.Common.{◌≡◌, ℕ, ◌+◌, ◌<◌, Bool, true, false, cond, List}
+use Rattle.std.proofs.Common.{[], ◌∷◌, ◌++◌, refl, ap, sym, subst, ◌∙◌, arith}
 use Rattle.std.proofs.Common.{length, get_or, set, append-nil, inl, inr}
 use Rattle.std.specs.Prelude.{filter, ◌==◌}
 use Rattle.std.proofs.lemmas.Bool.{cases_eq, eq-eqb, ne_eqb}
@@ -42,10 +43,12 @@ told-one : (b : Bool) (told : PairTold) (d : ℕ) → (told.apart == d) ≡ b
     → told_apart d (told ∷ []) ≡ cond b (told ∷ []) []
 told-one b told d is = ap (λ c. cond c (told ∷ []) []) is
 
-pub told-here : (tolds : List PairTold) (told : PairTold) → told_apart told.apart (tolds ++ told ∷ []) ≡ told_apart told.apart tolds ++ told ∷ []
+pub told-here : (tolds : List PairTold) (told : PairTold) → told_apart told.apart (tolds ++ told ∷ [])
+    ≡ told_apart told.apart tolds ++ told ∷ []
 told-here tolds told =
     filter-append (are_so_far_apart told.apart) tolds (told ∷ [])
-    ∙ ap (λ more. told_apart told.apart tolds ++ more) (told-one true told told.apart (eq-eqb told.apart told.apart refl))
+    ∙ ap (λ more. told_apart told.apart tolds ++ more)
+    (told-one true told told.apart (eq-eqb told.apart told.apart refl))
 
 pub told-elsewhere : (tolds : List PairTold) (told : PairTold) (d : ℕ) → (told.apart == d) ≡ false
     → told_apart d (tolds ++ told ∷ []) ≡ told_apart d tolds

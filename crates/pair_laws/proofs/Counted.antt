@@ -86,11 +86,13 @@ module _ (p : PairTold → Bool) where
     sum_by-cons (λ t. one_if (g t)) told tolds,
   )
 
-  length-one : (b : Bool) (told : PairTold) (rest : List PairTold) → length (cond b (told ∷ rest) rest) ≡ one_if b + length rest
+  length-one : (b : Bool) (told : PairTold) (rest : List PairTold)
+      → length (cond b (told ∷ rest) rest) ≡ one_if b + length rest
   length-one true told rest = omega arith
   length-one false told rest = omega arith
 
-  length-parted : (tolds : List PairTold) → length (filter p tolds) + length (filter (λ t. not (p t)) tolds) ≡ length tolds
+  length-parted : (tolds : List PairTold) → length (filter p tolds)
+      + length (filter (λ t. not (p t)) tolds) ≡ length tolds
   length-parted [] = refl
   length-parted (told ∷ tolds) = omega (
     arith,

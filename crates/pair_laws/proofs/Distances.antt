@@ -1,5 +1,6 @@
 -- The pairs of all distances are all pairs.
-use Rattle.std.proofs.Common.{◌≡◌, ℕ, zero, suc, ◌+◌, ◌<◌, ◌≤◌, Bool, true, false, cond, List, [], ◌∷◌, refl, sym, ap, ◌∙◌}
+use Rattle.std.proofs.Common.{◌≡◌, ℕ, zero, suc, ◌+◌, ◌<◌, ◌≤◌, Bool, true, false}
+use Rattle.std.proofs.Common.{cond, List, [], ◌∷◌, refl, sym, ap, ◌∙◌}
 use Rattle.std.proofs.Common.{arith, length, map, inl, inr, min}
 use Rattle.std.specs.Prelude.{◌==◌, count_by, filter, sum_by}
 use Rattle.std.specs.List.{AllByRecursion, list_any, range_with_len}
@@ -99,14 +100,16 @@ module _ (g : PairTold → Bool) where
   none-apart d [] none = refl
   none-apart d (told ∷ tolds) none =
       let parts = or_parts (told.apart == d) (list_any (are_so_far_apart d) tolds) none in
-      ap (λ b. count_by g (cond b (told ∷ told_apart d tolds) (told_apart d tolds))) parts.0 ∙ none-apart d tolds parts.1
+      ap (λ b. count_by g (cond b (told ∷ told_apart d tolds) (told_apart d tolds))) parts.0
+      ∙ none-apart d tolds parts.1
 
   pub counted-by_distance : (script : Script) (within : ℕ) (tolds : List PairTold)
       → AllByRecursion (λ told. told.apart < min (suc within) script.slots) tolds
       → sum_by (counted_at tolds) (distances script within tolds) ≡ count_by g tolds
   counted-by_distance script within tolds each =
       let most = min (suc within) script.slots in
-      sum-filter (counted_at tolds) (λ d. list_any (are_so_far_apart d) tolds) (λ d none. none-apart d tolds none) (below most)
+      sum-filter (counted_at tolds) (λ d. list_any (are_so_far_apart d) tolds)
+      (λ d none. none-apart d tolds none) (below most)
       ∙ all-counted most tolds each
 
 -- Counts.

@@ -1,5 +1,6 @@
 -- The first faults of a range of slots, and how far their second ones are apart.
-use Rattle.std.proofs.Common.{◌≡◌, ℕ, suc, ◌+◌, ◌-◌, ◌<◌, ◌≤◌, Bool, true, false, cond, ◌&&◌, List, [], ◌∷◌, ◌++◌, refl, ap}
+use Rattle.std.proofs.Common.{◌≡◌, ℕ, suc, ◌+◌, ◌-◌, ◌<◌, ◌≤◌, Bool, true, false}
+use Rattle.std.proofs.Common.{cond, ◌&&◌, List, [], ◌∷◌, ◌++◌, refl, ap}
 use Rattle.std.proofs.Common.{◌∙◌, arith, map, min}
 use Rattle.std.specs.Prelude.{nat_le, filter, flat_map}
 use Rattle.std.specs.List.{AllByRecursion}
@@ -21,7 +22,8 @@ use Rattle.pair_laws.specs.Ranges.{firsts_of_range, pairs_of_first, pairs_of_ran
 
 -- They are the faults of a campaign.
 
-faults-among : (slot : ℕ) (faults : List Event) → map (λ (one : FirstFault). one.fault) (firsts_among slot faults) ≡ faults
+faults-among : (slot : ℕ) (faults : List Event)
+    → map (λ (one : FirstFault). one.fault) (firsts_among slot faults) ≡ faults
 faults-among slot [] = refl
 faults-among slot (fault ∷ faults) = ap (λ fs. fault ∷ fs) (faults-among slot faults)
 
@@ -32,7 +34,8 @@ faults-same list script history [] = refl
 faults-same list script history (slot ∷ slots) =
     map-append (λ (one : FirstFault). one.fault) (firsts_in list script history slot)
     (flat_map (firsts_in list script history) slots)
-    ∙ (λ i. faults-among slot (faults_in list script (row_of history slot) slot) i ++ faults-same list script history slots i)
+    ∙ (λ i. faults-among slot (faults_in list script (row_of history slot) slot) i
+    ++ faults-same list script history slots i)
 
 -- What holds of each.
 
@@ -41,7 +44,8 @@ pub each-flat : {X Y : Type 0} (P : Y → Type 0) (Q : X → Type 0) (f : X → 
 each-flat P Q f of [] each = tt
 each-flat P Q f of (x ∷ xs) each = each-append P (f x) (flat_map f xs) (of x each.0) (each-flat P Q f of xs each.1)
 
-pub each-mapped : {X Y : Type 0} (P : Y → Type 0) (Q : X → Type 0) (f : X → Y) → ((x : X) → Q x → P (f x)) → (xs : List X)
+pub each-mapped : {X Y : Type 0} (P : Y → Type 0) (Q : X → Type 0) (f : X → Y)
+    → ((x : X) → Q x → P (f x)) → (xs : List X)
     → AllByRecursion Q xs → AllByRecursion P (map f xs)
 each-mapped P Q f of [] each = tt
 each-mapped P Q f of (x ∷ xs) each = (of x each.0, each-mapped P Q f of xs each.1)

@@ -23,9 +23,11 @@ module _ (r : ℕ → Bool) (k : ℕ) where
   none-up_to a zero more = refl
   none-up_to a (suc m) more =
       let rest = none-up_to (a + 1) m (omega (arith, more)) in
-      ap (λ b. cond (r a && b) (a ∷ filter (up_to r k) (range_with_len (a + 1) m)) (filter (up_to r k) (range_with_len (a + 1) m)))
+      ap (λ b. cond (r a && b) (a ∷ filter (up_to r k) (range_with_len (a + 1) m))
+      (filter (up_to r k) (range_with_len (a + 1) m)))
       (lt-leb a k more)
-      ∙ ap (λ b. cond b (a ∷ filter (up_to r k) (range_with_len (a + 1) m)) (filter (up_to r k) (range_with_len (a + 1) m)))
+      ∙ ap (λ b. cond b (a ∷ filter (up_to r k) (range_with_len (a + 1) m))
+      (filter (up_to r k) (range_with_len (a + 1) m)))
       (and-false (r a))
       ∙ rest
 
@@ -51,15 +53,19 @@ module _ (r : ℕ → Bool) (k : ℕ) where
       let range = range_with_len (a + 1) m in
       elim (cases_lt k a) [
         | inl more ↦
-            ap (λ l. l ++ filter (behind r k) (range_with_len a (suc m))) (none-up_to a (suc m) more) ∙ all-behind a (suc m) more
+            ap (λ l. l ++ filter (behind r k) (range_with_len a (suc m))) (none-up_to a (suc m) more)
+            ∙ all-behind a (suc m) more
         | inr within ↦
             let here : up_to r k a ≡ r a = ap (λ b. r a && b) (le-leb a k within) ∙ and-true (r a) in
             let not_here : behind r k a ≡ false =
             ap (λ b. r a && b) (lt-leb (k + 1) a (omega (arith, within))) ∙ and-false (r a) in
-            ap (λ b. filter (up_to r k) (range_with_len a (suc m)) ++ cond b (a ∷ filter (behind r k) range) (filter (behind r k) range))
+            ap (λ b. filter (up_to r k) (range_with_len a (suc m))
+            ++ cond b (a ∷ filter (behind r k) range) (filter (behind r k) range))
             not_here
-            ∙ ap (λ b. cond b (a ∷ filter (up_to r k) range) (filter (up_to r k) range) ++ filter (behind r k) range) here
-            ∙ before-others (r a) a (filter (up_to r k) range) (filter (behind r k) range) (filter r range) (cut (a + 1) m)
+            ∙ ap (λ b. cond b (a ∷ filter (up_to r k) range) (filter (up_to r k) range)
+            ++ filter (behind r k) range) here
+            ∙ before-others (r a) a (filter (up_to r k) range)
+            (filter (behind r k) range) (filter r range) (cut (a + 1) m)
       ]
 
 -- The slots of two ranges.
@@ -75,16 +81,21 @@ high first middle last j order = grind (arith, order)
 -- what is told slot by slot, and then one by one
 pub each-cut : {X Y : Type 0} (g : X → List Y) (f : ℕ → List X) (script : Script) (first middle last : ℕ)
     → first ≤ middle → middle ≤ last
-    → flat_map g (flat_map f (slots_between script first middle)) ++ flat_map g (flat_map f (slots_between script (middle + 1) last))
+    → flat_map g (flat_map f (slots_between script first middle))
+    ++ flat_map g (flat_map f (slots_between script (middle + 1) last))
     ≡ flat_map g (flat_map f (slots_between script first last))
 each-cut g f script first middle last order more =
     let r : ℕ → Bool = λ s. nat_le first s && nat_le s last in
-    let slots : slots_between script first middle ++ slots_between script (middle + 1) last ≡ slots_between script first last =
+    let slots : slots_between script first middle
+    ++ slots_between script (middle + 1) last ≡ slots_between script first last =
     (λ i. filter_agree (λ j. nat_le first j && nat_le j middle) (up_to r middle) (λ j. low first middle last j more)
     (range_with_len 0 script.slots) i
-    ++ filter_agree (λ j. nat_le (middle + 1) j && nat_le j last) (behind r middle) (λ j. high first middle last j order)
+    ++ filter_agree (λ j. nat_le (middle + 1) j && nat_le j last)
+    (behind r middle) (λ j. high first middle last j order)
     (range_with_len 0 script.slots) i)
     ∙ cut r middle 0 script.slots in
-    sym (flat_map-append g (flat_map f (slots_between script first middle)) (flat_map f (slots_between script (middle + 1) last)))
-    ∙ ap (flat_map g) (sym (flat_map-append f (slots_between script first middle) (slots_between script (middle + 1) last))
+    sym (flat_map-append g (flat_map f (slots_between script first middle))
+    (flat_map f (slots_between script (middle + 1) last)))
+    ∙ ap (flat_map g) (sym (flat_map-append f (slots_between script first middle)
+    (slots_between script (middle + 1) last))
     ∙ ap (flat_map f) slots)

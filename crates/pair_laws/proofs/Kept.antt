@@ -1,5 +1,6 @@
 -- A pair whose test says yes hurts nobody and splits no memberships, so none of them is divided.
-use Rattle.std.proofs.Common.{◌≡◌, ℕ, suc, ◌+◌, ◌-◌, ◌<◌, Bool, true, false, cond, List, [], ◌∷◌, length, Option, refl, ap, ◌∙◌}
+use Rattle.std.proofs.Common.{◌≡◌, ℕ, suc, ◌+◌, ◌-◌, ◌<◌, Bool, true, false, cond}
+use Rattle.std.proofs.Common.{List, [], ◌∷◌, length, Option, refl, ap, ◌∙◌}
 use Rattle.std.proofs.Common.{arith, length-append}
 use Rattle.std.specs.Prelude.{count_by, is_some}
 use Rattle.std.specs.List.{AllByRecursion}
@@ -23,7 +24,8 @@ use Rattle.campaign_laws.proofs.Yes.{IsUnharmed, yes-line}
 use Rattle.fault_pairs.specs.declared.pair.Harm.{Harm}
 use Rattle.fault_pairs.specs.declared.pair.PairClass.TheVariants as class
 use Rattle.fault_pairs.specs.Classes.{only_both, has_third, has_own, has_less, pair_class, is_divided, harm_of}
-use Rattle.fault_pairs.specs.Pairs.{FirstFault, SecondFault, firsts_among, firsts_in, firsts_from, second_apart, seconds_beside}
+use Rattle.fault_pairs.specs.Pairs.{FirstFault, SecondFault, firsts_among, firsts_in}
+use Rattle.fault_pairs.specs.Pairs.{firsts_from, second_apart, seconds_beside}
 use Rattle.fault_pairs.specs.Pairs.{seconds_in, seconds_behind, seconds_of}
 use Rattle.fault_pairs.specs.PairText.{summary_of_both}
 use Rattle.fault_pairs.specs.Sums.{PairTold, told_kept}
@@ -123,7 +125,8 @@ module _ (list : Medl) (script : Script) (valid : IsValid list) (script_valid : 
       (seconds_in list more history one.slot)
       (λ later is.
       let faults = faults_in list more (row_of history later) later in
-      each-mapped (StandsBehind one.fault) (MayStand list more) (second_apart (later - one.slot)) (λ fault may. may) faults
+      each-mapped (StandsBehind one.fault) (MayStand list more)
+      (second_apart (later - one.slot)) (λ fault may. may) faults
       (recursion_from_All (MayStand list more) faults
       (faults_in-stand list more (row_of history later) later valid is.inside)))
       (slots_between more (suc one.slot) (one.slot + within)) (slots-within more (suc one.slot) (one.slot + within)))

@@ -1,5 +1,6 @@
 -- The faults that are tried in a slot may stand in the script, and begin in that slot.
-use Rattle.std.proofs.Common.{◌≡◌, ℕ, ◌-◌, ◌<◌, ◌≤◌, ℤ, Bool, true, false, cond, List, [], ◌∷◌, length, ap, sym, subst, arith}
+use Rattle.std.proofs.Common.{◌≡◌, ℕ, ◌-◌, ◌<◌, ◌≤◌, ℤ, Bool, true, false, cond}
+use Rattle.std.proofs.Common.{List, [], ◌∷◌, length, ap, sym, subst, arith}
 use Rattle.std.specs.Prelude.{All, flat_map, map, nat_le, ◌&&◌}
 use Rattle.std.specs.List.{AllByRecursion, list_any}
 use Rattle.std.proofs.lemmas.Bool.{le-leb}
@@ -20,7 +21,8 @@ use Rattle.ttp_world.specs.Script.{IsValidEvent}
 use Rattle.ttp_world.proofs.Lists.{nodes-most}
 use Rattle.ttp_world.proofs.LineLists.{each-append}
 use Rattle.campaign.specs.Lines.{fault_node}
-use Rattle.campaign.specs.Tried.{both_channels, only_a, only_b, is_hearing, is_timed, losses_between, losses_from, losses_of}
+use Rattle.campaign.specs.Tried.{both_channels, only_a, only_b, is_hearing, is_timed}
+use Rattle.campaign.specs.Tried.{losses_between, losses_from, losses_of}
 use Rattle.campaign.specs.Tried.{jump_sizes, jumps_of, faults_of, faults_in, with_fault, row_of}
 use Rattle.ttp_world.specs.ZerosWorld.{zeros_world}
 use Rattle.single_faults.specs.Tried.{MayStand}
@@ -55,7 +57,8 @@ module _ (slot : ℕ) where
       → AllByRecursion Begins (losses_from kind script slot)
   all-losses kind script begins =
       each-append Begins (losses_between kind slot slot) (losses_between kind slot (script.slots - 1))
-      (losses kind slot (λ c f. begins c f slot)) (losses kind (script.slots - 1) (λ c f. begins c f (script.slots - 1)))
+      (losses kind slot (λ c f. begins c f slot))
+      (losses kind (script.slots - 1) (λ c f. begins c f (script.slots - 1)))
 
   jumps : (k : ℕ) (sizes : List ℤ) → AllByRecursion Begins (map (λ z. event.Jump k z slot) sizes)
   jumps k [] = tt
@@ -65,7 +68,8 @@ module _ (slot : ℕ) where
       → AllByRecursion Begins (faults_of list script row slot k)
   of-node list script row k =
       each-append Begins (losses_of script row slot k) (jumps_of list row slot k)
-      (lost (is_sending (entry_of row k)) (is_hearing (entry_of row k) && list_any is_sending row)) (jumped (is_timed (entry_of row k)))
+      (lost (is_sending (entry_of row k)) (is_hearing (entry_of row k) && list_any is_sending row))
+      (jumped (is_timed (entry_of row k)))
     where
       lost : (a b : Bool) → AllByRecursion Begins (cond a (losses_from (event.Send k) script slot)
           (cond b (losses_from (event.Receive k) script slot) []))
@@ -94,13 +98,15 @@ faults_in-begin list script row slot valid inside =
     λ k d less. record { may = stand k d less; later = begin k d less }
 
 -- what may stand in a script may stand in one with an event more
-stands-also : (list : Medl) (script : Script) (one e : Event) → IsValidEvent list script e → IsValidEvent list (with_fault script one) e
+stands-also : (list : Medl) (script : Script) (one e : Event) → IsValidEvent list script e
+    → IsValidEvent list (with_fault script one) e
 stands-also list script one (event.Send node channels f from to) valid = valid
 stands-also list script one e valid = valid
 
 pub may-stand_also : (list : Medl) (script : Script) (one two : Event) → MayStand list script two
     → MayStand list (with_fault script one) two
-may-stand_also list script one two may = record { valid = stands-also list script one two may.valid; unhosted = may.unhosted }
+may-stand_also list script one two may =
+    record { valid = stands-also list script one two may.valid; unhosted = may.unhosted }
 
 -- its node is one of the list
 node-small : (list : Medl) (script : Script) (e : Event) → IsValid list → IsValidEvent list script e → fault_node e < 24
@@ -129,7 +135,8 @@ pub at-stand : (list : Medl) (script more : Script) (one : Event) (slot : ℕ) �
     → more ≡ with_fault script one → All (MayStand list script) (faults_at list more slot)
 at-stand list script more one slot valid inside is =
     subst (λ (s : Script). All (MayStand list script) (faults_at list s slot)) (sym is)
-    (faults_in-stand list script (row_of (zeros_world list (with_fault script one) script.slots) slot) slot valid inside)
+    (faults_in-stand list script
+    (row_of (zeros_world list (with_fault script one) script.slots) slot) slot valid inside)
 
 pub at-few : (list : Medl) (script : Script) (slot : ℕ) → IsValid list → length (faults_at list script slot) ≤ 384
 at-few list script slot valid =

@@ -45,7 +45,8 @@ sums-weaker distances m n sums has less = record {
   };
 }
 
-pub few-weaker : (distances m n : ℕ) (tally : Tally) → HasFewPairs distances m tally → m ≤ n → HasFewPairs distances n tally
+pub few-weaker : (distances m n : ℕ) (tally : Tally)
+    → HasFewPairs distances m tally → m ≤ n → HasFewPairs distances n tally
 few-weaker distances m n tally has less = record {
   sums = sums-weaker distances m n tally.sums has.sums less;
   counts = pairs-weaker m n tally.counts has.counts less;
@@ -102,14 +103,16 @@ pairs-join o p q t u v xs ys first second = record {
 -- what is known of a tally then
 pub few-after : (distances most : ℕ) (o p : Output) (t u : Tally) (xs : List PairTold) → PutPairs o p t u xs
     → HasFewPairs distances most t → HasFewPairs distances (most + length xs) u
-few-after distances most o p t u xs put has = record { sums = put.sums.few distances most has.sums; counts = put.few most has.counts }
+few-after distances most o p t u xs put has =
+    record { sums = put.sums.few distances most has.sums; counts = put.few most has.counts }
 
 -- First faults.
 
 pub firsts-none : (o : Output) (tally : Tally) → PutFirsts o o tally tally [] []
 firsts-none o tally = record { wrote = Wrote-none o; sums = adds-none tally.sums }
 
-pub firsts-join : (o p q : Output) (t u v : Tally) (xs ys : List PairTold) (lines more : Lines) → PutFirsts o p t u xs lines
+pub firsts-join : (o p q : Output) (t u v : Tally) (xs ys : List PairTold) (lines more : Lines)
+    → PutFirsts o p t u xs lines
     → PutFirsts p q u v ys more → PutFirsts o q t v (xs ++ ys) (lines ++ more)
 firsts-join o p q t u v xs ys lines more first second = record {
   wrote = Wrote-join o p q lines more first.wrote second.wrote;

@@ -1,5 +1,6 @@
 -- A first fault: the lines of its pairs, and its own.
-use Rattle.std.proofs.Common.{◌≡◌, ◌≤◌, ◌+◌, ◌-◌, suc, List, [], ◌∷◌, ◌++◌, length, refl, sym, ap, ◌∙◌, append-nil, arith}
+use Rattle.std.proofs.Common.{◌≡◌, ◌≤◌, ◌+◌, ◌-◌, suc, List, [], ◌∷◌, ◌++◌, length}
+use Rattle.std.proofs.Common.{refl, sym, ap, ◌∙◌, append-nil, arith}
 use Rattle.std.proofs.Common.{length-append}
 use Rattle.std.specs.Prelude.{map, flat_map, min}
 use Rattle.std.specs.List.{range_with_len}
@@ -36,7 +37,8 @@ left-fewer fault.Memory a c lines few = record {
 -- what is told of its pairs
 abbrev pub pairs_of : Course → List PairTold
 pairs_of course =
-    map (told_second course) (seconds_of course.common.list.now course.common.script.now course.common.within (first_of course))
+    map (told_second course)
+    (seconds_of course.common.list.now course.common.script.now course.common.within (first_of course))
 
 pub tolds-first : (course : Course)
     → course.first ≡ harm_of (summary_with course.common.list.now course.common.script.now course.one.now).cost
@@ -49,13 +51,15 @@ tolds-first course is =
     ∙ sym (append-nil (pair_tolds list script course.common.within course.common.own (first_of course)))
 
 -- there are not many
-pub pairs-few : (course : Course) → MayTryPairs course → length course.behind.now ≤ 384 → length (pairs_of course) ≤ 7680384
+pub pairs-few : (course : Course) → MayTryPairs course → length course.behind.now
+    ≤ 384 → length (pairs_of course) ≤ 7680384
 pairs-few course may few =
     let slots = ap (λ (s : Script). s.slots) may.more in
     let end = min (suc (course.slot + course.common.within)) course.more.now.slots in
     let all : map (told_pair course 0) course.behind.now
     ++ flat_map (tolds_later course) (range_with_len (course.slot + 1) (end - (course.slot + 1))) ≡ pairs_of course =
-    ap (λ ps. map (told_pair course 0) course.behind.now ++ ps) (behind-range course end refl) ∙ seconds-told course may.more in
+    ap (λ ps. map (told_pair course 0) course.behind.now ++ ps) (behind-range course end refl)
+    ∙ seconds-told course may.more in
     let long = sym (ap length all)
     ∙ length-append (map (told_pair course 0) course.behind.now)
     (flat_map (tolds_later course) (range_with_len (course.slot + 1) (end - (course.slot + 1)))) in
@@ -80,5 +84,6 @@ lines-first course is more =
     let script = course.common.script.now in
     let told = λ (harm : Harm). map (told_of_pair list script course.common.own (first_of course) harm)
     (seconds_of list script course.common.within (first_of course)) in
-    (λ i. lines_of_told (told (is i)) ++ first_fault_line list (first_of course) (summary list (more i)) (pair_counts (told (is i))) ∷ [])
+    (λ i. lines_of_told (told (is i))
+    ++ first_fault_line list (first_of course) (summary list (more i)) (pair_counts (told (is i))) ∷ [])
     ∙ sym (append-nil (first_fault_lines list script course.common.within course.common.own (first_of course)))

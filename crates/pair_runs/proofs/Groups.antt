@@ -1,5 +1,6 @@
 -- First faults of a slot, one after another, and the texts of first faults.
-use Rattle.std.proofs.Common.{◌≡◌, ℕ, zero, suc, ◌+◌, ◌-◌, ◌<◌, ◌≤◌, Bool, true, false, cond, List, [], ◌∷◌, ◌++◌, length, get_or}
+use Rattle.std.proofs.Common.{◌≡◌, ℕ, zero, suc, ◌+◌, ◌-◌, ◌<◌, ◌≤◌, Bool, true}
+use Rattle.std.proofs.Common.{false, cond, List, [], ◌∷◌, ◌++◌, length, get_or}
 use Rattle.std.proofs.Common.{take, drop, refl, sym, ap, subst, ◌∙◌, arith, length-append, add-one, not, ◌||◌, ◌*◌}
 use Rattle.std.specs.Prelude.{map, flat_map, filter, ◌==◌, min}
 use Rattle.std.specs.List.{list_any, range_with_len}
@@ -19,14 +20,16 @@ use Rattle.pair_runs.specs.declared.tried.Common.{Common}
 use Rattle.pair_runs.specs.declared.tried.Course.{Course}
 use Rattle.pair_runs.specs.Counted.{distances_of}
 use Rattle.pair_runs.specs.Tries.{told_pair}
-use Rattle.pair_runs.specs.Written.{first_with, told_second, tolds_behind, faults_at, firsts_of, firsts_between, all_firsts}
+use Rattle.pair_runs.specs.Written.{first_with, told_second, tolds_behind, faults_at}
+use Rattle.pair_runs.specs.Written.{firsts_of, firsts_between, all_firsts}
 use Rattle.pair_runs.specs.Written.{lines_at, distance_lines}
 use Rattle.pair_runs.proofs.Begins.{at-few}
 use Rattle.pair_runs.proofs.Ranges.{slots-range, from-first}
 
 -- the first faults of a slot from one of them on
 among-drop : (slot : ℕ) (faults : List Event) (i : ℕ) (d : Event) → i < length faults
-    → firsts_among slot (drop i faults) ≡ first_with slot (get_or faults i d) (drop (suc i) faults) ∷ firsts_among slot (drop (suc i) faults)
+    → firsts_among slot (drop i faults) ≡ first_with slot (get_or faults i d) (drop (suc i) faults)
+    ∷ firsts_among slot (drop (suc i) faults)
 among-drop slot [] i d inside = absurd (omega (arith, inside))
 among-drop slot (fault ∷ faults) zero d inside = refl
 among-drop slot (fault ∷ faults) (suc i) d inside = among-drop slot faults i d (omega (arith, inside))
@@ -43,13 +46,15 @@ among-split slot (fault ∷ faults) zero = refl
 among-split slot (fault ∷ faults) (suc i) = ap (λ more. first_with slot fault faults ∷ more) (among-split slot faults i)
 
 among-next : (slot : ℕ) (faults : List Event) (i : ℕ) (d : Event) → i < length faults
-    → firsts_before slot faults i ++ first_with slot (get_or faults i d) (drop (suc i) faults) ∷ [] ≡ firsts_before slot faults (suc i)
+    → firsts_before slot faults i ++ first_with slot (get_or faults i d) (drop (suc i) faults)
+    ∷ [] ≡ firsts_before slot faults (suc i)
 among-next slot [] i d inside = absurd (omega (arith, inside))
 among-next slot (fault ∷ faults) zero d inside = refl
 among-next slot (fault ∷ faults) (suc i) d inside =
     ap (λ more. first_with slot fault faults ∷ more) (among-next slot faults i d (omega (arith, inside)))
 
-pub among-all : (slot : ℕ) (faults : List Event) (i : ℕ) → length faults ≤ i → firsts_before slot faults i ≡ firsts_among slot faults
+pub among-all : (slot : ℕ) (faults : List Event) (i : ℕ) → length faults ≤ i
+    → firsts_before slot faults i ≡ firsts_among slot faults
 among-all slot [] zero all = refl
 among-all slot [] (suc i) all = refl
 among-all slot (fault ∷ faults) zero all = absurd (omega (arith, all))
@@ -57,8 +62,10 @@ among-all slot (fault ∷ faults) (suc i) all =
     ap (λ more. first_with slot fault faults ∷ more) (among-all slot faults i (omega (arith, all)))
 
 -- what a text of first faults is of some, of one and of those behind
-pub texts-split : {Y : Type 0} (f : FirstFault → List Y) (slot : ℕ) (faults : List Event) (i : ℕ) (d : Event) → i < length faults
-    → flat_map f (firsts_before slot faults i) ++ (flat_map f (first_with slot (get_or faults i d) (drop (i + 1) faults) ∷ [])
+pub texts-split : {Y : Type 0} (f : FirstFault → List Y) (slot : ℕ)
+    (faults : List Event) (i : ℕ) (d : Event) → i < length faults
+    → flat_map f (firsts_before slot faults i)
+    ++ (flat_map f (first_with slot (get_or faults i d) (drop (i + 1) faults) ∷ [])
     ++ flat_map f (firsts_among slot (drop (i + 1) faults)))
     ≡ flat_map f (firsts_among slot faults)
 texts-split f slot faults i d inside =
@@ -71,12 +78,15 @@ texts-split f slot faults i d inside =
     ∙ sym (flat_map-append f front (one ∷ rest))
     ∙ ap (flat_map f) (ap (λ more. front ++ more) (sym (among-drop slot faults i d inside)) ∙ among-split slot faults i)
 
-pub texts-next : {Y : Type 0} (f : FirstFault → List Y) (slot : ℕ) (faults : List Event) (i : ℕ) (d : Event) → i < length faults
-    → flat_map f (firsts_before slot faults i) ++ flat_map f (first_with slot (get_or faults i d) (drop (i + 1) faults) ∷ [])
+pub texts-next : {Y : Type 0} (f : FirstFault → List Y) (slot : ℕ)
+    (faults : List Event) (i : ℕ) (d : Event) → i < length faults
+    → flat_map f (firsts_before slot faults i)
+    ++ flat_map f (first_with slot (get_or faults i d) (drop (i + 1) faults) ∷ [])
     ≡ flat_map f (firsts_before slot faults (i + 1))
 texts-next f slot faults i d inside =
     let one = first_with slot (get_or faults i d) (drop (suc i) faults) in
-    ap (λ n. flat_map f (firsts_before slot faults i) ++ flat_map f (first_with slot (get_or faults i d) (drop n faults) ∷ [])) (add-one i)
+    ap (λ n. flat_map f (firsts_before slot faults i)
+    ++ flat_map f (first_with slot (get_or faults i d) (drop n faults) ∷ [])) (add-one i)
     ∙ sym (flat_map-append f (firsts_before slot faults i) (one ∷ []))
     ∙ ap (flat_map f) (among-next slot faults i d inside ∙ ap (firsts_before slot faults) (sym (add-one i)))
 
@@ -97,10 +107,12 @@ later-each course (later ∷ slots) =
     let history = zeros_world list more more.slots in
     map-append (told_second course) (seconds_in list more history course.slot later)
     (flat_map (seconds_in list more history course.slot) slots)
-    ∙ (λ i. map-map (told_second course) (second_apart (later - course.slot)) (faults_at list more later) i ++ later-each course slots i)
+    ∙ (λ i. map-map (told_second course) (second_apart (later - course.slot)) (faults_at list more later) i
+    ++ later-each course slots i)
 
 -- there are not many
-flat-few : {X : Type 0} (f : ℕ → List X) (ks : List ℕ) → ((k : ℕ) → length (f k) ≤ 384) → length (flat_map f ks) ≤ 384 * length ks
+flat-few : {X : Type 0} (f : ℕ → List X) (ks : List ℕ) → ((k : ℕ) → length (f k) ≤ 384)
+    → length (flat_map f ks) ≤ 384 * length ks
 flat-few f [] few = omega arith
 flat-few f (k ∷ ks) few = omega (arith, length-append (f k) (flat_map f ks), flat-few f ks few, few k)
 
@@ -114,12 +126,14 @@ later-few course valid a n =
     omega (arith, flat-few (tolds_later course) (range_with_len a n) each, length-range_with_len a n)
 
 -- they are those of the slots up to an end
-pub behind-range : (course : Course) (end : ℕ) → end ≡ min (suc (course.slot + course.common.within)) course.more.now.slots
+pub behind-range : (course : Course) (end : ℕ) → end
+    ≡ min (suc (course.slot + course.common.within)) course.more.now.slots
     → flat_map (tolds_later course) (range_with_len (course.slot + 1) (end - (course.slot + 1))) ≡ tolds_behind course
 behind-range course end is =
     let next : course.slot + 1 ≡ suc course.slot = omega arith in
     (λ i. flat_map (tolds_later course) (range_with_len (next i) (is i - next i)))
-    ∙ ap (flat_map (tolds_later course)) (sym (slots-range course.more.now (suc course.slot) (course.slot + course.common.within)))
+    ∙ ap (flat_map (tolds_later course))
+    (sym (slots-range course.more.now (suc course.slot) (course.slot + course.common.within)))
     ∙ sym (later-each course _)
 
 -- First faults of a range.
@@ -133,12 +147,14 @@ firsts-range common end is =
 
 -- Sums.
 
-pub some-apart : (d : ℕ) (tolds : List PairTold) → not (length (told_apart d tolds) == 0) ≡ list_any (are_so_far_apart d) tolds
+pub some-apart : (d : ℕ) (tolds : List PairTold)
+    → not (length (told_apart d tolds) == 0) ≡ list_any (are_so_far_apart d) tolds
 some-apart d [] = refl
 some-apart d (told ∷ tolds) = by (are_so_far_apart d told) (some-apart d tolds)
   where
     by : (b : Bool) → not (length (told_apart d tolds) == 0) ≡ list_any (are_so_far_apart d) tolds
-        → not (length (cond b (told ∷ told_apart d tolds) (told_apart d tolds)) == 0) ≡ (b || list_any (are_so_far_apart d) tolds)
+        → not (length (cond b (told ∷ told_apart d tolds) (told_apart d tolds)) == 0)
+        ≡ (b || list_any (are_so_far_apart d) tolds)
     by true rest = ap not (ne_eqb (suc (length (told_apart d tolds))) 0 (λ same. omega (arith, same)))
     by false rest = rest
 
@@ -157,5 +173,6 @@ lines-each tolds (d ∷ ds) = by (list_any (are_so_far_apart d) tolds) (lines-ea
 
 -- the lines of all distances are those of the distances that some pair has
 pub lines-distances : (common : Common) (tolds : List PairTold)
-    → distance_lines tolds (distances_of common) ≡ map (apart_line tolds) (distances common.script.now common.within tolds)
+    → distance_lines tolds (distances_of common)
+    ≡ map (apart_line tolds) (distances common.script.now common.within tolds)
 lines-distances common tolds = lines-each tolds (below (distances_of common))

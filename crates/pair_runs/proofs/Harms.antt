@@ -26,7 +26,8 @@ use Rattle.fault_pairs.specs.Classes.{left_nodes, harm_of}
 use Rattle.pair_classes.specs.Ordered.{IsOrdered}
 
 -- those of a run stand in their order
-summary-ordered : (list : Medl) (script : Script) → IsValid list → IsOrdered (left_nodes (summary list script).cost.left)
+summary-ordered : (list : Medl) (script : Script) → IsValid list
+    → IsOrdered (left_nodes (summary list script).cost.left)
 summary-ordered list script valid =
     let history = zeros_world list script script.slots in
     subst IsOrdered (sym (nodes-left history (nodes_of list)))
@@ -37,7 +38,8 @@ pub cost-ordered : (list : Medl) (script : Script) (cost : Cost) → IsValid lis
 cost-ordered list script cost valid is =
     subst (λ (c : Cost). IsOrdered (left_nodes c.left)) (sym is) (summary-ordered list script valid)
 
-pub harm-ordered : (list : Medl) (script : Script) (harm : Harm) → IsValid list → harm ≡ harm_of (summary list script).cost
+pub harm-ordered : (list : Medl) (script : Script) (harm : Harm) → IsValid list
+    → harm ≡ harm_of (summary list script).cost
     → IsOrdered harm.left
 harm-ordered list script harm valid is =
     subst (λ (h : Harm). IsOrdered h.left) (sym is) (summary-ordered list script valid)
@@ -67,7 +69,8 @@ put-behind (node ∷ nodes) k j =
 pub leave-small : (leaves : List Leave) (i : ℕ) (d : Leave) → IsOrdered (left_nodes leaves) → i < length leaves
     → (get_or leaves i d).node < most_nodes
 leave-small leaves i d ordered inside =
-    let small = ordered-small (left_nodes leaves) ordered i d.node (omega (arith, inside, length-map leaves (λ (l : Leave). l.node))) in
+    let small = ordered-small (left_nodes leaves) ordered i d.node
+    (omega (arith, inside, length-map leaves (λ (l : Leave). l.node))) in
     subst (λ k. k < most_nodes) (get_or-map (λ (l : Leave). l.node) leaves i d d.node inside) small
 
 pub left-more : (leaves : List Leave) (i : ℕ) (d : Leave) → IsOrdered (left_nodes leaves) → i < length leaves
@@ -80,5 +83,6 @@ left-more leaves i d ordered inside =
     sym (ap left_nodes (take_more leaves i d inside)
     ∙ map-append (λ (l : Leave). l.node) (take i leaves) (get_or leaves i d ∷ [])) in
     with_node-filter (has_node nodes) most_nodes k (leave-small leaves i d ordered inside) (omega arith)
-    ∙ same_sieve (λ j. (j == k) || has_node nodes j) (has_node (nodes ++ k ∷ [])) most_nodes (λ j less. put-behind nodes k j)
+    ∙ same_sieve (λ j. (j == k) || has_node nodes j) (has_node (nodes ++ k ∷ []))
+    most_nodes (λ j less. put-behind nodes k j)
     ∙ ap (λ (ks : List ℕ). filter (has_node ks) (below most_nodes)) more

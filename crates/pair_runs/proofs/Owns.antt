@@ -11,7 +11,8 @@ pub seen-of : (run : SeenRun) (list : Medl) (script : Script) (slots : ℕ) → 
     → IsRunOfList run.run list
 seen-of run list script slots is = record { same = is.stands.same; zeros = is.stands.zeros }
 
-pub own-of : (own : OwnRun) (list : Medl) (script : Script) (slots : ℕ) → IsOwnAfter own list script slots → IsOwnOf own list
+pub own-of : (own : OwnRun) (list : Medl) (script : Script) (slots : ℕ)
+    → IsOwnAfter own list script slots → IsOwnOf own list
 own-of own list script slots is = record {
   run = seen-of own.run list script slots is.run;
   before = seen-of own.before list script own.before.slots is.before;

@@ -24,7 +24,8 @@ module _ (a b : ℕ) where
             let here : between c ≡ false = and_right (nat_le a c) (nat_le c b) (lt-leb c b past) in
             let none : min (suc b) (c + 1 + n) - (c + 1) ≡ 0 = omega (arith, past) in
             let also : 0 ≡ min (suc b) (c + suc n) - c = omega (arith, past) in
-            ap (λ t. cond t (c ∷ others) others) here ∙ rest ∙ ap (range_with_len (c + 1)) none ∙ ap (range_with_len c) also
+            ap (λ t. cond t (c ∷ others) others) here ∙ rest
+            ∙ ap (range_with_len (c + 1)) none ∙ ap (range_with_len c) also
         | inr near ↦
             let here : between c ≡ true = (λ i. le-leb a c from i && le-leb c b near i) in
             let more : suc (min (suc b) (c + 1 + n) - (c + 1)) ≡ min (suc b) (c + suc n) - c = omega (arith, near) in
@@ -50,10 +51,12 @@ pub slots-range : (script : Script) (first last : ℕ)
     → slots_between script first last ≡ range_with_len first (min (suc last) script.slots - first)
 slots-range script first last =
     beginning first last 0 script.slots (omega arith)
-    ∙ ap (λ k. range_with_len first (min (suc last) k - first)) (let same : 0 + script.slots ≡ script.slots = omega arith in same)
+    ∙ ap (λ k. range_with_len first (min (suc last) k - first))
+    (let same : 0 + script.slots ≡ script.slots = omega arith in same)
 
 -- a range that begins behind its end is empty
-pub from-first : (first end : ℕ) → range_with_len (min first end) (end - min first end) ≡ range_with_len first (end - first)
+pub from-first : (first end : ℕ)
+    → range_with_len (min first end) (end - min first end) ≡ range_with_len first (end - first)
 from-first first end = elim (cases_lt end first) [
   | inl past ↦
       let none : end - min first end ≡ 0 = omega (arith, past) in
@@ -67,7 +70,8 @@ from-first first end = elim (cases_lt end first) [
 -- One after another.
 
 range-split : (a n m : ℕ) → range_with_len a (n + m) ≡ range_with_len a n ++ range_with_len (a + n) m
-range-split a zero m = λ i. range_with_len ((let e : a ≡ a + 0 = omega arith in e) i) ((let e : 0 + m ≡ m = omega arith in e) i)
+range-split a zero m = λ i. range_with_len ((let e : a ≡ a + 0 = omega arith in e) i)
+    ((let e : 0 + m ≡ m = omega arith in e) i)
 range-split a (suc n) m =
     let more : suc n + m ≡ suc (n + m) = omega arith in
     let next : a + 1 + n ≡ a + suc n = omega arith in
@@ -76,13 +80,16 @@ range-split a (suc n) m =
 
 module _ {X : Type 0} (f : ℕ → List X) where
   -- with one more, and as the first ones of more
-  pub range-next : (a n j : ℕ) → a + n ≡ j → flat_map f (range_with_len a (n + 1)) ≡ flat_map f (range_with_len a n) ++ f j
+  pub range-next : (a n j : ℕ) → a + n ≡ j → flat_map f (range_with_len a (n + 1))
+      ≡ flat_map f (range_with_len a n) ++ f j
   range-next a n j is =
       ap (flat_map f) (range-split a n 1 ∙ ap (λ k. range_with_len a n ++ k ∷ []) is)
-      ∙ flat_map-append f (range_with_len a n) (j ∷ []) ∙ ap (λ ys. flat_map f (range_with_len a n) ++ ys) (append-nil (f j))
+      ∙ flat_map-append f (range_with_len a n) (j ∷ [])
+      ∙ ap (λ ys. flat_map f (range_with_len a n) ++ ys) (append-nil (f j))
 
   pub range-rest : (a n m j k : ℕ) → a + n ≡ j → n + suc k ≡ m
-      → flat_map f (range_with_len a n) ++ (f j ++ flat_map f (range_with_len (j + 1) k)) ≡ flat_map f (range_with_len a m)
+      → flat_map f (range_with_len a n)
+      ++ (f j ++ flat_map f (range_with_len (j + 1) k)) ≡ flat_map f (range_with_len a m)
   range-rest a n m j k is all =
       sym (ap (flat_map f) (sym (ap (range_with_len a) all) ∙ range-split a n (suc k)
       ∙ ap (λ b. range_with_len a n ++ range_with_len b (suc k)) is)

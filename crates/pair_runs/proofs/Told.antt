@@ -1,5 +1,6 @@
 -- What is kept of a pair, and its line.
-use Rattle.std.proofs.Common.{◌≡◌, ◌+◌, ◌<◌, ℕ, Bool, true, false, cond, List, [], ◌∷◌, ◌++◌, length, get_or, take, drop}
+use Rattle.std.proofs.Common.{◌≡◌, ◌+◌, ◌<◌, ℕ, Bool, true, false, cond, List}
+use Rattle.std.proofs.Common.{[], ◌∷◌, ◌++◌, length, get_or, take, drop}
 use Rattle.std.proofs.Common.{sym, ap, ◌∙◌, append_assoc}
 use Rattle.std.specs.Prelude.{map}
 use Rattle.std.proofs.lemmas.List.{take_more, take-append-drop, map-append}
@@ -37,23 +38,27 @@ no_told = record { apart = 0; yes = false; class = class.Sum; line = [] }
 
 -- the lines of some pairs, of one and of those behind
 pub lines-split : (pairs : List PairTold) (i : ℕ) → i < length pairs
-    → lines_of_told (take i pairs) ++ (lines_of_told (get_or pairs i no_told ∷ []) ++ lines_of_told (drop (i + 1) pairs))
+    → lines_of_told (take i pairs)
+    ++ (lines_of_told (get_or pairs i no_told ∷ []) ++ lines_of_told (drop (i + 1) pairs))
     ≡ lines_of_told pairs
 lines-split pairs i inside =
     let front = take i pairs in
     let one = get_or pairs i no_told in
     let rest = drop (i + 1) pairs in
     sym (append_assoc (lines_of_told front) (lines_of_told (one ∷ [])) (lines_of_told rest))
-    ∙ ap (λ ls. ls ++ lines_of_told rest) (sym (lines-append front (one ∷ [])) ∙ ap lines_of_told (sym (take_more pairs i no_told inside)))
+    ∙ ap (λ ls. ls ++ lines_of_told rest)
+    (sym (lines-append front (one ∷ [])) ∙ ap lines_of_told (sym (take_more pairs i no_told inside)))
     ∙ sym (lines-append (take (i + 1) pairs) rest) ∙ ap lines_of_told (take-append-drop (i + 1) pairs)
 
 -- all pairs of a first fault are those of its slot and those behind
 pub seconds-told : (course : Course) → course.more.now ≡ with_fault course.common.script.now course.one.now
     → map (told_pair course 0) course.behind.now ++ tolds_behind course
-    ≡ map (told_second course) (seconds_of course.common.list.now course.common.script.now course.common.within (first_of course))
+    ≡ map (told_second course)
+    (seconds_of course.common.list.now course.common.script.now course.common.within (first_of course))
 seconds-told course is =
     let list = course.common.list.now in
     let later = λ (s : Script). seconds_behind list s (zeros_world list s s.slots) course.slot course.common.within in
-    (λ i. sym (map-map (told_second course) (second_apart 0) course.behind.now) i ++ map (told_second course) (later (is i)))
+    (λ i. sym (map-map (told_second course) (second_apart 0) course.behind.now) i
+    ++ map (told_second course) (later (is i)))
     ∙ sym (map-append (told_second course) (seconds_beside (first_of course))
     (later (with_fault course.common.script.now course.one.now)))

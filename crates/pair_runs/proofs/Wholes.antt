@@ -14,7 +14,8 @@ use Rattle.fault_pairs.specs.PairText.{pair_tolds, first_fault_lines, pair_count
 use Rattle.fault_pairs.specs.Sums.{PairTold, pair_counts, told_kept, told_broken}
 use Rattle.pair_runs.specs.declared.tried.Common.{Common}
 use Rattle.pair_runs.specs.Counted.{distances_of}
-use Rattle.pair_runs.specs.Written.{all_firsts, tolds_of_firsts, text_of_firsts, opening_lines, ending_lines, distance_lines}
+use Rattle.pair_runs.specs.Written.{all_firsts, tolds_of_firsts, text_of_firsts}
+use Rattle.pair_runs.specs.Written.{opening_lines, ending_lines, distance_lines}
 use Rattle.pair_runs.proofs.Groups.{lines-distances}
 
 abbrev pub all_tolds : Common → List PairTold

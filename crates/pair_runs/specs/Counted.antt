@@ -38,7 +38,8 @@ pub record HasFewPairs (distances most : ℕ) (tally : Tally) : Type 0 where
 -- these pairs were added to sums
 pub record AddsTo (old new : Sums) (tolds : List PairTold) : Type 0 where
   pub few : (distances most : ℕ) → HasFewSums distances most old → HasFewSums distances (most + length tolds) new
-  pub told : (distances : ℕ) (all : List PairTold) → AreSumsOf distances all old → AreSumsOf distances (all ++ tolds) new
+  pub told : (distances : ℕ) (all : List PairTold) → AreSumsOf distances all old
+      → AreSumsOf distances (all ++ tolds) new
 
 -- these pairs were counted, and their lines written
 pub record PutPairs (before now : Output) (old new : Tally) (tolds : List PairTold) : Type 0 where

@@ -11,7 +11,8 @@ use Rattle.ttp_world.specs.ZerosWorld.{zeros_world}
 use Rattle.run_costs.specs.Standing.{IsRunOfList}
 use Rattle.fault_runs.specs.Tries.{IsOwnAfter, IsOwnOf}
 use Rattle.fault_pairs.specs.Pairs.{FirstFault, SecondFault, firsts_among, firsts_from, seconds_behind}
-use Rattle.fault_pairs.specs.PairText.{pair_tolds, first_fault_lines, pairs_head_line, told_of_pair, apart_line, pair_counts_line}
+use Rattle.fault_pairs.specs.PairText.{pair_tolds, first_fault_lines, pairs_head_line}
+use Rattle.fault_pairs.specs.PairText.{told_of_pair, apart_line, pair_counts_line}
 use Rattle.fault_pairs.specs.Sums.{PairTold, pair_counts, told_kept, told_broken, are_so_far_apart}
 use Rattle.ttp_world.specs.declared.script.Event.{Event}
 use Rattle.pair_runs.specs.declared.ahead.Ahead.{Ahead}
@@ -67,7 +68,8 @@ firsts_between common from count = flat_map (firsts_of common) (range_with_len f
 
 abbrev pub all_firsts : Common → List FirstFault
 all_firsts common =
-    firsts_from common.list.now common.script.now (zeros_world common.list.now common.script.now common.script.now.slots)
+    firsts_from common.list.now common.script.now
+    (zeros_world common.list.now common.script.now common.script.now.slots)
     common.first common.last
 
 -- what is told of the pairs of some first faults, and their lines

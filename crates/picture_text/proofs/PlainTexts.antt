@@ -55,11 +55,13 @@ glyph-plain : (small : Bool) (d : ℕ) → nat_lt d 10 ≡ small → is_special 
 glyph-plain true d less = grind (arith, less)
 glyph-plain false d less = grind (arith, less)
 
-special-onto : (k n : ℕ) (text : List ℕ) → list_any is_special (digits_onto k 10 false n text) ≡ list_any is_special text
+special-onto : (k n : ℕ) (text : List ℕ)
+    → list_any is_special (digits_onto k 10 false n text) ≡ list_any is_special text
 special-onto zero n text = refl
 special-onto (suc k) n text =
     let more = digit_glyph false (n % 10) ∷ text in
-    let here : list_any is_special more ≡ list_any is_special text = rw (glyph-plain (nat_lt (n % 10) 10) (n % 10) refl) refl in
+    let here : list_any is_special more ≡ list_any is_special text =
+    rw (glyph-plain (nat_lt (n % 10) 10) (n % 10) refl) refl in
     let go : (last : Bool)
     → list_any is_special (cond last more (digits_onto k 10 false (n / 10) more)) ≡ list_any is_special text =
     elim [ true ↦ here | false ↦ special-onto k (n / 10) more ∙ here ] in
@@ -157,9 +159,11 @@ plain-before first quiet =
 plain-behind : (last slots : ℕ) → Plain (behind_text last slots)
 plain-behind last slots =
     plain-if (last + 1 == slots) []
-    (codes "; behind: ttplab picture TRACE " ++ decimal (last + 1) ++ codes " " ++ decimal (slots - 1)) refl (simp parts)
+    (codes "; behind: ttplab picture TRACE " ++ decimal (last + 1) ++ codes " "
+    ++ decimal (slots - 1)) refl (simp parts)
 
-pub plain-shown : (span : Span) (slots : ℕ) (quiet : Bool) (strange : Option ℕ) → Plain (window_text span slots quiet strange)
+pub plain-shown : (span : Span) (slots : ℕ) (quiet : Bool) (strange : Option ℕ)
+    → Plain (window_text span slots quiet strange)
 plain-shown span slots quiet strange =
     simp (parts, plain-before span.first quiet, plain-behind span.last slots, plain-more strange)
 
@@ -238,7 +242,8 @@ plain-far_text : (far : Option ℕ) → Plain (far_text far)
 plain-far_text None = refl
 plain-far_text (Some k) = simp parts
 
-pub plain-far : (t : ℕ) (far : Option ℕ) → Plain (codes "slot " ++ decimal t ++ codes " clock apart from most " ++ far_text far)
+pub plain-far : (t : ℕ) (far : Option ℕ)
+    → Plain (codes "slot " ++ decimal t ++ codes " clock apart from most " ++ far_text far)
 plain-far t far = simp (parts, plain-far_text far)
 
 pub plain-far_shown : (far : Option ℕ) → Plain (far_shown far)

@@ -37,14 +37,16 @@ ten : (h b c d k l w e m s : Lines) → h ++ (b ++ c ++ d) ++ (k ++ l ++ w ++ e 
     ≡ h ++ b ++ c ++ d ++ k ++ l ++ w ++ e ++ m ++ s
 ten h b c d k l w e m s = simp append_assoc refl
 
-pub picture_put : (trace : WholeTrace) (span : Span) (head : Head) (quiet : Bool) (strange : Option ℕ) (keep again : Keep)
+pub picture_put : (trace : WholeTrace) (span : Span) (head : Head) (quiet : Bool)
+    (strange : Option ℕ) (keep again : Keep)
     (back once : Option Back) (f g h i : Bool) (a b c d : Output) → head ≡ trace.head
     → quiet ≡ is_quiet_before span.first trace.slots
     → strange ≡ strange_past span.last trace.slots → keep ≡ trace.keep → again ≡ trace.keep → back ≡ trace.back
     → once ≡ trace.back → Puts f a g b (front_lines head span quiet strange keep back)
     → Puts g b h c (row_lines trace span head)
     → Puts h c i d (end_lines span head again once) → Puts f a i d (picture_of trace span)
-picture_put trace span head quiet strange keep again back once f g h i a b c d is calm past kept kept-too due due-too p q r =
+picture_put trace span head quiet strange keep again back once f g h i a b c d is
+    calm past kept kept-too due due-too p q r =
     let n = trace.head.nodes in
     let front : front_lines head span quiet strange keep back ≡ picture_head_lines trace span =
     λ j. front_lines (is j) span (calm j) (past j) (kept j) (due j) in

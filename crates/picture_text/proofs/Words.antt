@@ -4,7 +4,8 @@ pub use Rattle.picture_text.specs.Cells.{apart_shown, apart_text, count_of, each
 pub use Rattle.picture_text.specs.Cells.{host_of, members_title, membership_text, shown_memberships, node_cell}
 pub use Rattle.picture_text.specs.Cells.{node_class, place_attributes, title_element}
 pub use Rattle.picture_text.specs.Picture.{back_flag, band_lines, beside_lines, cell_lines, class_entries, ended}
-pub use Rattle.picture_text.specs.Picture.{keep_flag, mark_entries, more_text, no_slot_lines, picture_of, row_line, slot_at}
+pub use Rattle.picture_text.specs.Picture.{keep_flag, mark_entries, more_text, no_slot_lines}
+pub use Rattle.picture_text.specs.Picture.{picture_of, row_line, slot_at}
 pub use Rattle.picture_text.specs.Picture.{svg_line, word_entries, word_entry}
 pub use Rattle.ttp_base.specs.Sheet.{Puts}
 pub use Rattle.picture_text.specs.Tables.{keep_meaning, letter, words}

@@ -182,7 +182,8 @@ far_shown (Some k) = decimal k
 abbrev pub far_cell : ℕ → SlotLines → ℕ → ℕ → List ℕ
 far_cell t slot x y =
     let far = node_apart slot.nodes in
-    cell (codes "apart") x y (codes "slot " ++ decimal t ++ codes " clock apart from most " ++ far_text far) (far_shown far)
+    cell (codes "apart") x y
+    (codes "slot " ++ decimal t ++ codes " clock apart from most " ++ far_text far) (far_shown far)
 
 -- Hosts.
 

@@ -14,7 +14,8 @@ use Rattle.shown_slot.specs.Nodes.{is_leaving_word, is_refused, starts_round}
 use Rattle.shown_slot.specs.Trace.{node_at, first_text}
 use Rattle.picture_text.specs.declared.window.Span.{Span}
 use Rattle.picture_text.specs.Cells.{attribute, place_attributes, title_element, cell, mark, write_shape, read_shape}
-use Rattle.picture_text.specs.Cells.{status_shape, held_by_most, node_cell, members_cell, clocks_cell, far_cell, host_of}
+use Rattle.picture_text.specs.Cells.{status_shape, held_by_most, node_cell, members_cell}
+use Rattle.picture_text.specs.Cells.{clocks_cell, far_cell, host_of}
 use Rattle.picture_text.specs.Cells.{host_mark}
 use Rattle.picture_text.specs.Tables.{words, letter, cell_colour, letter_colour, word_meaning, styles, keep_meaning}
 use Rattle.picture_text.specs.Tables.{back_meaning, keep_slot, keep_name, back_slot, back_name}

@@ -64,8 +64,8 @@ strange_past last slots = option_map (λ s. last + 1 + s) (position is_strange (
 abbrev pub columns : ℕ → ℕ
 columns n = n * (48 / n)
 
--- how many whole rounds behind the quiet slots are left out, of so many slots: up to two rounds before the first strange
--- one, or as many as four bands behind them leave over
+-- how many whole rounds behind the quiet slots are left out, of so many slots: up to two rounds before the first
+-- strange one, or as many as four bands behind them leave over
 abbrev pub rounds_left_out : ℕ → ℕ → ℕ → ℕ → ℕ
 rounds_left_out n slots quiet strange =
     min ((strange - (quiet + 2 * n)) / n) ((slots - (quiet + 4 * columns n) + n - 1) / n)

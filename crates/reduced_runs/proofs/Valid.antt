@@ -35,7 +35,8 @@ all-kept P places place (e ∷ events) all =
     (not (is_fault_event e) || list_any (λ other. other == place) places) (All-head P e events all)
     (all-kept P places (suc place) events (All-tail P e events all))
 
-all-valid : (list : Medl) (script : Script) (places : List ℕ) (events : List Event) → All (IsValidEvent list script) events
+all-valid : (list : Medl) (script : Script) (places : List ℕ) (events : List Event)
+    → All (IsValidEvent list script) events
     → All (IsValidEvent list (with_faults_at places script)) events
 all-valid list script places [] all = All-nil (IsValidEvent list (with_faults_at places script))
 all-valid list script places (e ∷ events) all =
@@ -61,7 +62,8 @@ fewer places place (e ∷ events) =
 -- what an event that is dropped adds to what is found among events
 none-of : {Y : Type 0} (f : Event → Option Y) (e : Event) (all kept : List Event) (b : Bool)
     → (b ≡ false → cons_option (f e) (filter_map f all) ≡ filter_map f all) → filter_map f kept ≡ filter_map f all
-    → filter_map f (elim b as (λ c. List Event) [ true ↦ e ∷ kept | false ↦ kept ]) ≡ cons_option (f e) (filter_map f all)
+    → filter_map f (elim b as (λ c. List Event) [ true ↦ e ∷ kept | false ↦ kept ])
+    ≡ cons_option (f e) (filter_map f all)
 none-of f e all kept true none same = ap (cons_option (f e)) same
 none-of f e all kept false none same = same ∙ sym (none refl)
 
@@ -76,7 +78,8 @@ same-writes slot places place [] = refl
 same-writes slot places place (e ∷ events) =
     none-of (write_in slot) e events (events_kept places (suc place) events)
     (not (is_fault_event e) || list_any (λ other. other == place) places)
-    (λ dropped. unwritten slot e (list_any (λ other. other == place) places) dropped (filter_map (write_in slot) events))
+    (λ dropped. unwritten slot e (list_any (λ other. other == place) places)
+    dropped (filter_map (write_in slot) events))
     (same-writes slot places (suc place) events)
 
 -- no more events of hosts
@@ -112,7 +115,8 @@ with_faults_at-valid list script places valid = record {
       all-kept (IsValidEvent list (with_faults_at places script)) places 0 script.events
       (all-valid list script places script.events valid.events);
   writes = λ k slot.
-      let same = ap (λ (w : List HostWrite). length (filter_map (payload_of_host k) w)) (same-writes slot places 0 script.events) in
+      let same = ap (λ (w : List HostWrite). length (filter_map (payload_of_host k) w))
+      (same-writes slot places 0 script.events) in
       let few = valid.writes k slot in
       omega (arith, same, few);
   event_count =

@@ -48,7 +48,8 @@ is_other m x = not (bytes_eq m x)
 -- Whether there are two.
 
 filter-twice-if : {X : Type 0} (q : X → Bool) (x : X) (xs : List X) (b : Bool) → q x ≡ b
-    → filter q (filter q xs) ≡ filter q xs → filter q (cond b (x ∷ filter q xs) (filter q xs)) ≡ cond b (x ∷ filter q xs) (filter q xs)
+    → filter q (filter q xs) ≡ filter q xs → filter q (cond b (x ∷ filter q xs) (filter q xs))
+    ≡ cond b (x ∷ filter q xs) (filter q xs)
 filter-twice-if q x xs true is rest =
     ap (λ (b : Bool). cond b (x ∷ filter q (filter q xs)) (filter q (filter q xs))) is
     ∙ ap (λ (ys : List _). x ∷ ys) rest
@@ -111,7 +112,8 @@ held-next held first set (m ∷ sets) two some is holds =
 there-if : (s x : List ℕ) (sets : List (List ℕ)) (b there : Bool) → bytes_eq s x ≡ b
     → list_any (bytes_eq s) sets ≡ there
     → (x ∷ filter (λ y. not (bytes_eq x y)) (cond there sets (sets ++ s ∷ [])))
-    ≡ cond (b || list_any (bytes_eq s) (filter (λ y. not (bytes_eq x y)) sets)) (x ∷ filter (λ y. not (bytes_eq x y)) sets)
+    ≡ cond (b || list_any (bytes_eq s) (filter (λ y. not (bytes_eq x y)) sets))
+    (x ∷ filter (λ y. not (bytes_eq x y)) sets)
     ((x ∷ filter (λ y. not (bytes_eq x y)) sets) ++ s ∷ [])
 there-if s x sets true true same is = refl
 there-if s x sets true false same is =
@@ -132,7 +134,8 @@ there-if s x sets false there other is =
     kept false =
         ap (λ (ys : List (List ℕ)). x ∷ ys)
         (filter-append (λ y. not (bytes_eq x y)) sets (s ∷ [])
-        ∙ ap (λ (b : Bool). filter (λ y. not (bytes_eq x y)) sets ++ cond (not b) (s ∷ []) []) (bytes_eq-sym x s ∙ other))
+        ∙ ap (λ (b : Bool). filter (λ y. not (bytes_eq x y)) sets ++ cond (not b) (s ∷ []) [])
+        (bytes_eq-sym x s ∙ other))
 
 each_once-next : (all : List (List ℕ)) (s : List ℕ)
     → each_once (all ++ s ∷ []) ≡ cond (list_any (bytes_eq s) (each_once all)) (each_once all) (each_once all ++ s ∷ [])

@@ -40,7 +40,8 @@ module _ (list : Medl) (script : Script) (more : Event) (slots : ℕ) (later : s
       → IsRunAfter run list (with_fault script more) slots
   run-longer run was plant = record {
     same = was.same;
-    plant = subst (PlantStandsFor run.cluster.plant (with_fault script more)) (zeros-longer list script more slots later) plant;
+    plant = subst (PlantStandsFor run.cluster.plant (with_fault script more))
+        (zeros-longer list script more slots later) plant;
     zeros = was.zeros;
     room = was.room;
     states = λ some. shown-longer (take (length list.slots) run.states) (was.states some);

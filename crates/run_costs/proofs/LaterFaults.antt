@@ -1,5 +1,6 @@
 -- A script with one event more, which comes later: who is faulty after the slots before it.
-use Rattle.std.proofs.Common.{◌≡◌, ℕ, zero, suc, ◌-◌, ◌<◌, ◌≤◌, Bool, true, false, cond, not, ◌&&◌, ◌||◌, List, [], ◌∷◌, ◌++◌}
+use Rattle.std.proofs.Common.{◌≡◌, ℕ, zero, suc, ◌-◌, ◌<◌, ◌≤◌, Bool, true, false}
+use Rattle.std.proofs.Common.{cond, not, ◌&&◌, ◌||◌, List, [], ◌∷◌, ◌++◌}
 use Rattle.std.proofs.Common.{map, Option, Some, None, refl, ap, sym, ◌∙◌, arith}
 use Rattle.std.specs.Prelude.{◌==◌, nat_lt, filter, is_some, if◌then◌else◌}
 use Rattle.std.specs.List.{list_any, filter_map}
@@ -16,11 +17,13 @@ use Rattle.ttp_world.specs.declared.script.Event.{Event}
 use Rattle.ttp_world.specs.declared.script.Event.TheVariants as event
 use Rattle.ttp_world.specs.declared.script.Script.{Script}
 use Rattle.ttp_world.specs.Events.{jump_in, sum_ℤ}
-use Rattle.ttp_world.specs.Hypothesis.{nodes_of, ClusterStart, FaultyNode, numbers_of, is_covered, loses, others_in, loss_among}
+use Rattle.ttp_world.specs.Hypothesis.{nodes_of, ClusterStart, FaultyNode, numbers_of}
+use Rattle.ttp_world.specs.Hypothesis.{is_covered, loses, others_in, loss_among}
 use Rattle.ttp_world.specs.Hypothesis.{Harmless, sender_loss, expected_sender, jumpers_in, loss_in, nodes_made}
 use Rattle.ttp_world.specs.Hypothesis.{faulty_nodes_in, faulty_nodes_before, start_of, started_faulty_nodes}
 use Rattle.ttp_world.specs.Hypothesis.{is_far_jump, is_jump_before, is_allowed_jump, least_of}
-use Rattle.ttp_world.specs.Returning.{FaultySlot, faulty_since, faulty_then, four_rounds, stayed_in, slots_before, faulty_at}
+use Rattle.ttp_world.specs.Returning.{FaultySlot, faulty_since, faulty_then, four_rounds}
+use Rattle.ttp_world.specs.Returning.{stayed_in, slots_before, faulty_at}
 use Rattle.ttp_world.specs.Returning.{started_since, is_arm, has_arm, disturbed_slot, disturbance_broken}
 use Rattle.ttp_world.specs.Script.{is_on, is_ever_on, incidents_of, has_jump}
 use Rattle.controller.specs.Agreement.{AgreeBelow, begins_at}
@@ -47,7 +50,8 @@ module _ (list : Medl) (script : Script) (more : Event) where
       sym (list_any-append p script.events (more ∷ [])
       ∙ ap (λ (b : Bool). list_any p script.events || (b || false)) none ∙ or-false (list_any p script.events))
 
-  all-longer : {Y : Type 0} (f : Event → Option Y) → f more ≡ None → filter_map f script.events ≡ filter_map f longer.events
+  all-longer : {Y : Type 0} (f : Event → Option Y) → f more ≡ None
+      → filter_map f script.events ≡ filter_map f longer.events
   all-longer f none =
       sym (filter_map-append f script.events (more ∷ [])
       ∙ ap (λ (o : Option _). filter_map f script.events ++ filter_map (λ (e : Event). o) (more ∷ [])) none
@@ -175,7 +179,8 @@ module _ (list : Medl) (script : Script) (more : Event) where
       faulty_if-longer slot less (has_arm script) ∙ ap (faulty_if list longer slot) (has_arm-longer plain)
 
   -- A loss changes nothing of which jumps there are.
-  module _ (still : (k slot : ℕ) → jump_in k slot more ≡ None) (calm : (k slot : ℕ) → is_jump_before k slot more ≡ false)
+  module _ (still : (k slot : ℕ) → jump_in k slot more ≡ None)
+      (calm : (k slot : ℕ) → is_jump_before k slot more ≡ false)
       (allowed : disturbed_slot list longer more ≡ None) where
     allowed-longer : (k slot : ℕ) → is_allowed_jump list script k slot ≡ is_allowed_jump list longer k slot
     allowed-longer k slot =

@@ -24,7 +24,8 @@ with_leave k None is leaves ks same = same
 with_leave k (Some leave) is leaves ks same = λ i. is i ∷ same i
 
 pub nodes-left : (history : History) (ks : List ℕ)
-    → map (λ leave. leave.node) (filter_map (newest_leave history) ks) ≡ filter (λ k. is_some (newest_leave history k)) ks
+    → map (λ leave. leave.node) (filter_map (newest_leave history) ks)
+    ≡ filter (λ k. is_some (newest_leave history k)) ks
 nodes-left history [] = refl
 nodes-left history (k ∷ ks) =
     with_leave k (newest_leave history k) (leave-node history k) (filter_map (newest_leave history) ks)

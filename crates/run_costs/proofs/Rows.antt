@@ -102,4 +102,5 @@ split-next list script row history states slot correct long shown sound =
     ap has_two
     (shown-memberships list script (row ∷ history) states (has_node correct)
     (is_sound script (faulty_by_test list script slot) slot) shown sound)
-    ∙ ap (λ (n : ℕ). has_two (memberships list (row ∷ history) (is_sound script (faulty_by_test list script n) n))) newest
+    ∙ ap (λ (n : ℕ). has_two (memberships list (row ∷ history) (is_sound script (faulty_by_test list script n) n)))
+    newest

@@ -26,7 +26,8 @@ step-on p k s before other =
 pub back-none : (p : Entry → Bool) (k : ℕ) (list : Medl) (script : Script) (slot : ℕ) → slot ≡ 0
     → back_to p k (past_slots_in list script slot) ≡ past_slots_in list script slot
 back-none p k list script slot none =
-    let empty : past_slots_in list script slot ≡ [] = ap (past_slots_in list script) none ∙ past_slots_in-zero list script in
+    let empty : past_slots_in list script slot ≡ [] =
+    ap (past_slots_in list script) none ∙ past_slots_in-zero list script in
     ap (back_to p k) empty ∙ sym empty
 
 pub back-found : (p : Entry → Bool) (k : ℕ) (list : Medl) (script : Script) (slot : ℕ) → 0 < slot

@@ -1,5 +1,6 @@
 -- An array that is filled node by node.
-use Rattle.std.proofs.Common.{◌≡◌, ◌≢◌, ℕ, ◌+◌, ◌<◌, ◌≤◌, List, length, get_or, ap, sym, subst, ◌∙◌, arith, unsigned_abs}
+use Rattle.std.proofs.Common.{◌≡◌, ◌≢◌, ℕ, ◌+◌, ◌<◌, ◌≤◌, List, length, get_or}
+use Rattle.std.proofs.Common.{ap, sym, subst, ◌∙◌, arith, unsigned_abs}
 use Rattle.std.proofs.Common.{below_more, get_or-set_other}
 use Rattle.std.proofs.Math.ListN.{length-set}
 use Rattle.std.proofs.lemmas.List.{get_or-set_same, get_or_default}
@@ -51,7 +52,8 @@ pub begun-more : (list : Medl) (script : Script) (slot n at : ℕ) (begun : List
 begun-more list script slot n at begun one same few are is near = record {
   room = length-set begun at one ∙ are.room;
   nodes =
-      set-more (λ k. begun_shown list (node_after list script (zeros_world list script slot) k)) begun nothing_begun one at
+      set-more (λ k. begun_shown list (node_after list script (zeros_world list script slot) k))
+      begun nothing_begun one at
       n same (omega (arith, few, are.room)) is are.nodes;
   near = below_more _ _ are.near (subst (λ (b : NodeBegun). unsigned_abs b.clock ≤ most_clock) is near);
 }

@@ -61,9 +61,11 @@ run-near list script slots k run states stands shown node =
     (subst (λ (l : Medl). k < length l.slots) (sym stands.same) node) in
     let count : run.cluster.plant.slot ≡ slots = stands.plant.slot ∙ length-zeros_world list script slots in
     let ours : unsigned_abs (node_past list script (zeros_world list script slots) k).offset ≤ most_ahead slots =
-    subst (λ (n : ℕ). unsigned_abs (node_past list script (zeros_world list script slots) k).offset ≤ most_ahead n) count
+    subst (λ (n : ℕ). unsigned_abs
+    (node_past list script (zeros_world list script slots) k).offset ≤ most_ahead n) count
     (subst (λ (l : Medl).
-    unsigned_abs (node_past l script (zeros_world list script slots) k).offset ≤ most_ahead run.cluster.plant.slot) stands.same
+    unsigned_abs (node_past l script (zeros_world list script slots) k).offset
+    ≤ most_ahead run.cluster.plant.slot) stands.same
     near) in
     subst (λ (z : ℤ). unsigned_abs z ≤ most_ahead slots) (sym (ap (λ (s : NodeState). s.offset) (shown.nodes k node)))
     ours

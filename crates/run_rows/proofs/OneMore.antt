@@ -146,7 +146,8 @@ place-of_list list script (suc slot) k valid node =
 -- and by what the node did in one slot more
 pub next-of_list : (list : Medl) (script : Script) (slot k : ℕ) → IsValid list → k < length list.slots
     → IsPlaceOf list
-    (place_after list k (node_past list script (zeros_world list script slot) k).place (entry_of (next_row list script slot) k))
+    (place_after list k (node_past list script (zeros_world list script slot) k).place
+    (entry_of (next_row list script slot) k))
 next-of_list list script slot k valid node =
     place_after-of_list list k (node_past list script (zeros_world list script slot) k).place
     (entry_of (next_row list script slot) k) valid node (place-of_list list script slot k valid node)

@@ -1,5 +1,6 @@
 -- The slots of a run, one after another.
-use Rattle.std.proofs.Common.{◌≡◌, ℕ, zero, suc, ◌+◌, ◌-◌, ◌<◌, ◌≤◌, [], ◌∷◌, length, ap, sym, subst, ◌∙◌, refl, add-one, arith}
+use Rattle.std.proofs.Common.{◌≡◌, ℕ, zero, suc, ◌+◌, ◌-◌, ◌<◌, ◌≤◌, [], ◌∷◌, length}
+use Rattle.std.proofs.Common.{ap, sym, subst, ◌∙◌, refl, add-one, arith}
 use Rattle.std.proofs.Common.{inl, inr, unsigned_abs}
 use Rattle.std.proofs.Math.Nat.{eq-or-lt_of_le}
 use Rattle.controller.specs.Limits.{most_clock}
@@ -35,7 +36,8 @@ past_slots_in-down list script slot some =
     let back : slot ≡ suc (slot - 1) = omega (arith, some) in
     ap (past_slots_in list script) back ∙ past_slots_in-suc list script (slot - 1)
 
-pub length-past_slots_in : (list : Medl) (script : Script) (slots : ℕ) → length (past_slots_in list script slots) ≡ slots
+pub length-past_slots_in : (list : Medl) (script : Script) (slots : ℕ)
+    → length (past_slots_in list script slots) ≡ slots
 length-past_slots_in list script zero = ap length (past_slots_in-zero list script)
 length-past_slots_in list script (suc slot) =
     ap length (past_slots_in-suc list script slot) ∙ ap suc (length-past_slots_in list script slot)
@@ -61,14 +63,16 @@ pub node_row-slot_in : (list : Medl) (script : Script) (slot k : ℕ) (row : Nod
     → row ≡ node_row k (slot_in list script slot)
 unfolding slot_in
 node_row-slot_in list script slot k row less begun entry = λ i. record {
-  begun = (begun ∙ ap (begun_shown list) (sym (node_of-slot_after list script (zeros_world list script slot) k less))) i;
+  begun = (begun ∙ ap (begun_shown list)
+      (sym (node_of-slot_after list script (zeros_world list script slot) k less))) i;
   entry = entry i;
 }
 
 -- Clocks.
 
 pub near-next : (list : Medl) (script : Script) (slot : ℕ) → AreRowsNear list script slot
-    → ((k : ℕ) → k < length list.slots → unsigned_abs (node_after list script (zeros_world list script slot) k).clock ≤ most_clock)
+    → ((k : ℕ) → k < length list.slots
+    → unsigned_abs (node_after list script (zeros_world list script slot) k).clock ≤ most_clock)
     → AreRowsNear list script (slot + 1)
 unfolding slot_in
 near-next list script slot before here = λ t k less node.

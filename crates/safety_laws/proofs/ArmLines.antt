@@ -1,7 +1,10 @@
 -- The returns of the plan are the arm lines.
-use Rattle.safety_laws.proofs.BackWords.{◌≡◌, ℕ, zero, suc, ◌+◌, ◌-◌, Bool, true, false, ◌&&◌, ◌||◌, List, [], ◌∷◌, refl, ap}
-use Rattle.safety_laws.proofs.BackWords.{sym, subst, ◌∙◌, inl, inr, arith, ◌==◌, AllByRecursion, Contains, list_any, filter_map}
-use Rattle.safety_laws.proofs.BackWords.{and_parts, and_from, eqb-true, eq-eqb, ne_eqb, cases_eq, both_ways, Medl, Event, Script}
+use Rattle.safety_laws.proofs.BackWords.{◌≡◌, ℕ, zero, suc, ◌+◌, ◌-◌, Bool, true, false}
+use Rattle.safety_laws.proofs.BackWords.{◌&&◌, ◌||◌, List, [], ◌∷◌, refl, ap}
+use Rattle.safety_laws.proofs.BackWords.{sym, subst, ◌∙◌, inl, inr, arith, ◌==◌, AllByRecursion}
+use Rattle.safety_laws.proofs.BackWords.{Contains, list_any, filter_map}
+use Rattle.safety_laws.proofs.BackWords.{and_parts, and_from, eqb-true, eq-eqb, ne_eqb}
+use Rattle.safety_laws.proofs.BackWords.{cases_eq, both_ways, Medl, Event, Script}
 use Rattle.safety_laws.proofs.BackWords.{ClusterStart, arms, is_armed, Return, is_armed_there, is_armed_by, entry_slot}
 use Rattle.safety_laws.proofs.BackWords.{back_plan_of}
 use Rattle.safety_laws.specs.BackPlan.{return_of}

@@ -1,9 +1,13 @@
 -- What is known of an armed node, one by one.
-use Rattle.safety_laws.proofs.BackWords.{◌≡◌, ℕ, zero, suc, ◌+◌, ◌-◌, ◌<◌, ◌≤◌, Bool, true, false, not, ◌&&◌, ◌||◌, List, []}
-use Rattle.safety_laws.proofs.BackWords.{◌∷◌, length, refl, ap, subst, ◌∙◌, inl, inr, arith, ◌==◌, nat_le, AllByRecursion}
+use Rattle.safety_laws.proofs.BackWords.{◌≡◌, ℕ, zero, suc, ◌+◌, ◌-◌, ◌<◌, ◌≤◌, Bool}
+use Rattle.safety_laws.proofs.BackWords.{true, false, not, ◌&&◌, ◌||◌, List, []}
+use Rattle.safety_laws.proofs.BackWords.{◌∷◌, length, refl, ap, subst, ◌∙◌, inl, inr}
+use Rattle.safety_laws.proofs.BackWords.{arith, ◌==◌, nat_le, AllByRecursion}
 use Rattle.safety_laws.proofs.BackWords.{list_any, and_parts, and_from, eqb-true, not-true, both_ways, lt-ltb, cases_lt}
-use Rattle.safety_laws.proofs.BackWords.{and_right, or_right, false_from_ne_true, cases_eq, has_node, Medl, Script, ClusterStart}
-use Rattle.safety_laws.proofs.BackWords.{FaultyNode, numbers_of, two_rounds, four_rounds, faulty_at, slots_before, joinings}
+use Rattle.safety_laws.proofs.BackWords.{and_right, or_right, false_from_ne_true, cases_eq}
+use Rattle.safety_laws.proofs.BackWords.{has_node, Medl, Script, ClusterStart}
+use Rattle.safety_laws.proofs.BackWords.{FaultyNode, numbers_of, two_rounds, four_rounds}
+use Rattle.safety_laws.proofs.BackWords.{faulty_at, slots_before, joinings}
 use Rattle.safety_laws.proofs.BackWords.{is_arm_line, is_line_of, is_forgiven, arms, is_armed, IsValidScript, all_in}
 use Rattle.ttp_world.specs.declared.script.Event.TheVariants as event
 use Rattle.ttp_world.specs.Returning.{is_long_faulty}

@@ -1,5 +1,6 @@
 -- Clocks and bits of a script that keeps the rules on them, where nodes may be armed.
-use Rattle.safety_laws.proofs.BackWords.{◌≡◌, ℕ, ◌*◌, ◌≤◌, ℤ, List, [], ◌∷◌, length, None, refl, sym, arith, AllByRecursion}
+use Rattle.safety_laws.proofs.BackWords.{◌≡◌, ℕ, ◌*◌, ◌≤◌, ℤ, List, [], ◌∷◌, length}
+use Rattle.safety_laws.proofs.BackWords.{None, refl, sym, arith, AllByRecursion}
 use Rattle.safety_laws.proofs.BackWords.{filter_map, none-some, Medl, Channel, Event, Script, clocks_broken, IsValid}
 use Rattle.safety_laws.proofs.BackWords.{back_window_broken, disturbance_broken, flipped_bits, IsWithinBounds}
 use Rattle.std.proofs.Common.{pos, negsuc, ◌+ℤ◌, ◌*ℤ◌, ◌≤ℤ◌}

@@ -1,12 +1,17 @@
 -- The plan of a run whose armed nodes return is good.
-use Rattle.safety_laws.proofs.BackWords.{◌≡◌, ◌≢◌, ℕ, zero, suc, ◌+◌, ◌-◌, ◌*◌, ◌<◌, ◌≤◌, Bool, true, false, cond, not, ◌||◌}
-use Rattle.safety_laws.proofs.BackWords.{◌∷◌, length, Some, ◌⊎◌, refl, ap, sym, subst, ◌∙◌, inl, inr, arith, Contains, filter}
-use Rattle.safety_laws.proofs.BackWords.{range_with_len, and_parts, and_from, both_ways, cases_lt, eqb-true, eqb-false, not-true}
+use Rattle.safety_laws.proofs.BackWords.{◌≡◌, ◌≢◌, ℕ, zero, suc, ◌+◌, ◌-◌, ◌*◌, ◌<◌}
+use Rattle.safety_laws.proofs.BackWords.{◌≤◌, Bool, true, false, cond, not, ◌||◌}
+use Rattle.safety_laws.proofs.BackWords.{◌∷◌, length, Some, ◌⊎◌, refl, ap, sym, subst}
+use Rattle.safety_laws.proofs.BackWords.{◌∙◌, inl, inr, arith, Contains, filter}
+use Rattle.safety_laws.proofs.BackWords.{range_with_len, and_parts, and_from, both_ways}
+use Rattle.safety_laws.proofs.BackWords.{cases_lt, eqb-true, eqb-false, not-true}
 use Rattle.safety_laws.proofs.BackWords.{not_from_false, false_from_ne_true, leb-true, ltb-true, none-some, has_node}
-use Rattle.safety_laws.proofs.BackWords.{has_node-sieve, Medl, Script, ClusterStart, is_steady, expected_sender, two_rounds}
+use Rattle.safety_laws.proofs.BackWords.{has_node-sieve, Medl, Script, ClusterStart}
+use Rattle.safety_laws.proofs.BackWords.{is_steady, expected_sender, two_rounds}
 use Rattle.safety_laws.proofs.BackWords.{four_rounds, slots_before, is_forgiven, offers_place, Incident, Return, sender}
 use Rattle.safety_laws.proofs.BackWords.{incident_at, enters, Fate, Absent, Sound, Listening, fate_of, is_sound_after}
-use Rattle.safety_laws.proofs.BackWords.{lost_since, is_good_slot, on-ever, sender-same, sender-less, incident-made, any-of}
+use Rattle.safety_laws.proofs.BackWords.{lost_since, is_good_slot, on-ever, sender-same}
+use Rattle.safety_laws.proofs.BackWords.{sender-less, incident-made, any-of}
 use Rattle.safety_laws.proofs.BackWords.{entry_slot, back_plan_of}
 use Rattle.ttp_world.specs.Medl.{plan_at}
 use Rattle.safety_laws.specs.Fates.{Falling, Fallen, is_lost}

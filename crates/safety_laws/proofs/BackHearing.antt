@@ -1,8 +1,12 @@
 -- Who hears whom in a slot of a run whose armed nodes return.
-use Rattle.safety_laws.proofs.BackWords.{◌≡◌, ◌≢◌, ℕ, zero, suc, ◌+◌, ◌-◌, ◌<◌, ◌≤◌, Bool, true, false, cond, not, ◌&&◌, ◌||◌}
-use Rattle.safety_laws.proofs.BackWords.{◌∷◌, length, Option, Some, None, refl, ap, sym, ◌∙◌, inl, inr, arith, ◌==◌, find, min}
-use Rattle.safety_laws.proofs.BackWords.{list_any, filter, range_with_len, and_parts, and_from, or_from, or_left, both_ways}
-use Rattle.safety_laws.proofs.BackWords.{eq-eqb, eqb-false, ne_eqb, not-true, or_parts, or_cases, cases_lt, not_from_false}
+use Rattle.safety_laws.proofs.BackWords.{◌≡◌, ◌≢◌, ℕ, zero, suc, ◌+◌, ◌-◌, ◌<◌, ◌≤◌}
+use Rattle.safety_laws.proofs.BackWords.{Bool, true, false, cond, not, ◌&&◌, ◌||◌}
+use Rattle.safety_laws.proofs.BackWords.{◌∷◌, length, Option, Some, None, refl, ap, sym}
+use Rattle.safety_laws.proofs.BackWords.{◌∙◌, inl, inr, arith, ◌==◌, find, min}
+use Rattle.safety_laws.proofs.BackWords.{list_any, filter, range_with_len, and_parts}
+use Rattle.safety_laws.proofs.BackWords.{and_from, or_from, or_left, both_ways}
+use Rattle.safety_laws.proofs.BackWords.{eq-eqb, eqb-false, ne_eqb, not-true, or_parts}
+use Rattle.safety_laws.proofs.BackWords.{or_cases, cases_lt, not_from_false}
 use Rattle.safety_laws.proofs.BackWords.{false_from_ne_true, leb-true, cases_eq, below, Medl, Channel, Fault, Script}
 use Rattle.safety_laws.proofs.BackWords.{ClusterStart, loses, expected_sender, is_steady, four_rounds, has_send_fault}
 use Rattle.safety_laws.proofs.BackWords.{has_receive_fault, IsClear, clear-loses, on-now, none-found}

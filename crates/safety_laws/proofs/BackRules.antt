@@ -1,5 +1,6 @@
 -- The rules, one by one, of a script whose armed nodes are guaranteed their places.
-use Rattle.safety_laws.proofs.BackWords.{◌≡◌, ℕ, Option, Some, None, refl, Medl, Script, ClusterStart, clocks_broken, start_of}
+use Rattle.safety_laws.proofs.BackWords.{◌≡◌, ℕ, Option, Some, None, refl, Medl, Script}
+use Rattle.safety_laws.proofs.BackWords.{ClusterStart, clocks_broken, start_of}
 use Rattle.safety_laws.proofs.BackWords.{back_window_broken, disturbance_broken, returns}
 use Rattle.ttp_world.specs.declared.keep.Back.{Back}
 use Rattle.ttp_world.specs.Returning.{back_loss_broken, back_distance_broken}

@@ -1,6 +1,8 @@
 -- What the rules say of a run whose armed nodes are guaranteed their places.
-use Rattle.safety_laws.proofs.BackWords.{◌≡◌, ℕ, zero, suc, ◌<◌, ◌≤◌, true, false, [], length, ◌⊎◌, ap, sym, subst, ◌∙◌, inl}
-use Rattle.safety_laws.proofs.BackWords.{inr, arith, AllByRecursion, not-false, Medl, Channel, Script, ClusterStart, FaultyNode}
+use Rattle.safety_laws.proofs.BackWords.{◌≡◌, ℕ, zero, suc, ◌<◌, ◌≤◌, true, false, []}
+use Rattle.safety_laws.proofs.BackWords.{length, ◌⊎◌, ap, sym, subst, ◌∙◌, inl}
+use Rattle.safety_laws.proofs.BackWords.{inr, arith, AllByRecursion, not-false, Medl}
+use Rattle.safety_laws.proofs.BackWords.{Channel, Script, ClusterStart, FaultyNode}
 use Rattle.safety_laws.proofs.BackWords.{slots_before, joinings, has_four_before, breaks_arm_in, is_armed, flipped_bits}
 use Rattle.safety_laws.proofs.BackWords.{IsValidScript, IsWithinBounds, all_in}
 use Rattle.std.proofs.Math.Nat.{eq-or-lt_of_le}

@@ -1,8 +1,11 @@
 -- A slot of the plan: who hears its frame, and who is sound before it.
-use Rattle.safety_laws.proofs.BackWords.{◌≡◌, ◌≢◌, ℕ, suc, ◌+◌, ◌<◌, ◌≤◌, true, false, length, Some, refl, ap, subst, ◌∙◌, inl}
+use Rattle.safety_laws.proofs.BackWords.{◌≡◌, ◌≢◌, ℕ, suc, ◌+◌, ◌<◌, ◌≤◌, true, false}
+use Rattle.safety_laws.proofs.BackWords.{length, Some, refl, ap, subst, ◌∙◌, inl}
 use Rattle.safety_laws.proofs.BackWords.{inr, arith, both_ways, cases_lt, has_node, Medl, Script, ClusterStart, loses}
-use Rattle.safety_laws.proofs.BackWords.{expected_sender, four_rounds, is_ever_on, has_jump, Incident, FaultPlan, sender}
-use Rattle.safety_laws.proofs.BackWords.{incident_at, fate_of, is_sound_after, is_good_slot, Fate, Listening, clear-loses}
+use Rattle.safety_laws.proofs.BackWords.{expected_sender, four_rounds, is_ever_on}
+use Rattle.safety_laws.proofs.BackWords.{has_jump, Incident, FaultPlan, sender}
+use Rattle.safety_laws.proofs.BackWords.{incident_at, fate_of, is_sound_after, is_good_slot}
+use Rattle.safety_laws.proofs.BackWords.{Fate, Listening, clear-loses}
 use Rattle.safety_laws.proofs.BackWords.{incident-made, sender-less, sender-same, back_plan_of}
 use Rattle.safety_laws.specs.Plan.{Sending}
 use Rattle.safety_laws.specs.Fates.{is_sound_fate}

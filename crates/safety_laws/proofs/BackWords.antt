@@ -1,6 +1,7 @@
 -- The words of this crate's proofs, from one place.
 pub use Rattle.safety_laws.proofs.FateSteps.{sound-fate, strikes}
-pub use Rattle.safety_laws.proofs.PlanHearing.{IsClear, clear-loses, incident-made, made-was, on-ever, on-now, sender-less}
+pub use Rattle.safety_laws.proofs.PlanHearing.{IsClear, clear-loses, incident-made, made-was}
+pub use Rattle.safety_laws.proofs.PlanHearing.{on-ever, on-now, sender-less}
 pub use Rattle.safety_laws.proofs.PlanHearing.{sender-same}
 pub use Rattle.safety_laws.proofs.Incidents.{incident-slot, incident_made, strikes-slot}
 pub use Rattle.safety_laws.proofs.Returns.{any-of}

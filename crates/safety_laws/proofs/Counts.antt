@@ -1,6 +1,8 @@
 -- How much a node of a good plan has seen since its own slot.
-use Rattle.safety_laws.proofs.PlanWords.{◌≡◌, ℕ, suc, ◌+◌, ◌-◌, ◌*◌, ◌<◌, ◌≤◌, Bool, true, false, length, Some, ◌⊎◌, refl}
-use Rattle.safety_laws.proofs.PlanWords.{ap, sym, subst, ◌∙◌, inl, inr, arith, if◌then◌else◌, filter, cases_lt, cases_eq}
+use Rattle.safety_laws.proofs.PlanWords.{◌≡◌, ℕ, suc, ◌+◌, ◌-◌, ◌*◌, ◌<◌, ◌≤◌, Bool}
+use Rattle.safety_laws.proofs.PlanWords.{true, false, length, Some, ◌⊎◌, refl}
+use Rattle.safety_laws.proofs.PlanWords.{ap, sym, subst, ◌∙◌, inl, inr, arith, if◌then◌else◌}
+use Rattle.safety_laws.proofs.PlanWords.{filter, cases_lt, cases_eq}
 use Rattle.safety_laws.proofs.PlanWords.{eqb-true, both_ways, and_parts, and_from, false_from_ne_true, below, same_Some}
 use Rattle.safety_laws.proofs.PlanWords.{Change, Incident, FaultPlan, sender, incident_at, enters, Fate, Absent, Sound}
 use Rattle.safety_laws.proofs.PlanWords.{Falling, Fallen, Listening, fate_of, is_good_slot, is_first_slot, is_shown_in}

@@ -1,10 +1,15 @@
 -- The plan of a run's course is good, and the script keeps to it, where it does so slot by slot.
-use Rattle.safety_laws.proofs.PlanWords.{Bool, List, None, Option, Some, [], ap, arith, cond, false, length, map, refl, suc}
+use Rattle.safety_laws.proofs.PlanWords.{Bool, List, None, Option, Some, [], ap, arith}
+use Rattle.safety_laws.proofs.PlanWords.{cond, false, length, map, refl, suc}
 use Rattle.safety_laws.proofs.PlanWords.{sym, true, ℕ, ◌*◌, ◌+◌, ◌-◌, ◌<◌, ◌∙◌, ◌≡◌, ◌≢◌, ◌≤◌, eqb-false, eqb-true}
-use Rattle.safety_laws.proofs.PlanWords.{none-some, Contains, filter, is_some, ◌==◌, has_node-sieve, has_node, ClusterStart}
-use Rattle.safety_laws.proofs.PlanWords.{FaultyNode, expected_sender, loses, plan_at, two_rounds, flipped_bits, has_jump}
-use Rattle.safety_laws.proofs.PlanWords.{is_ever_on, is_on, on_slot, Medl, Channel, Script, is_sound_after, steady_nodes}
-use Rattle.safety_laws.proofs.PlanWords.{IsGoodPlan, FollowsPlan, IsHeardByPlan, IsWithinBounds, Incident, FaultPlan, Return}
+use Rattle.safety_laws.proofs.PlanWords.{none-some, Contains, filter, is_some, ◌==◌}
+use Rattle.safety_laws.proofs.PlanWords.{has_node-sieve, has_node, ClusterStart}
+use Rattle.safety_laws.proofs.PlanWords.{FaultyNode, expected_sender, loses, plan_at}
+use Rattle.safety_laws.proofs.PlanWords.{two_rounds, flipped_bits, has_jump}
+use Rattle.safety_laws.proofs.PlanWords.{is_ever_on, is_on, on_slot, Medl, Channel}
+use Rattle.safety_laws.proofs.PlanWords.{Script, is_sound_after, steady_nodes}
+use Rattle.safety_laws.proofs.PlanWords.{IsGoodPlan, FollowsPlan, IsHeardByPlan, IsWithinBounds}
+use Rattle.safety_laws.proofs.PlanWords.{Incident, FaultPlan, Return}
 use Rattle.safety_laws.proofs.PlanWords.{incident_at, planned_incident, sender}
 use Rattle.std.proofs.Common.{option_map}
 use Rattle.ttp_world.proofs.Lists.{nodes-most}

@@ -279,14 +279,16 @@ module _ {list : Medl} {script : Script} {start : ClusterStart} {plan : FaultPla
           ∙ ap (λ b. cond b (payload_of_frame list place bytes ∷ []) []) (eq-eqb place.slot e good-owner.own.own)
           ∙ ap (λ (p : List ℕ). p ∷ []) (payload-of_own x carries (fits carries))
           ∙ ap (λ (c : Chosen). c.payload ∷ []) (chosen_is ∙ ap (message_chosen list script (length numbers) e) told)
-          ∙ ap (λ b. payload_of_number list script (length numbers) e (cond b (Some x.chosen.number) None)) (sym carries)
+          ∙ ap (λ b. payload_of_number list script (length numbers) e
+          (cond b (Some x.chosen.number) None)) (sym carries)
       by false carries =
           let place = slot_place x in
           ap (λ b. new_messages e (cond b (Some (record {
             sender = place.slot;
             payload = payload_of_frame list place (own_frame list e x.past x.chosen);
           })) None)) carries
-          ∙ ap (λ b. payload_of_number list script (length numbers) e (cond b (Some x.chosen.number) None)) (sym carries)
+          ∙ ap (λ b. payload_of_number list script (length numbers) e
+          (cond b (Some x.chosen.number) None)) (sym carries)
 
   pub given-good : (j : ℕ) → IsSoundIn list plan (suc turn) j → sender plan (suc turn) ≢ j
       → new_messages (sender plan (suc turn)) (delivered t stay j)

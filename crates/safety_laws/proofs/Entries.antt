@@ -1,5 +1,6 @@
 -- The slot in which an armed node enters.
-use Rattle.safety_laws.proofs.BackWords.{◌≡◌, ℕ, zero, suc, ◌+◌, ◌-◌, ◌<◌, ◌≤◌, Bool, true, false, cond, ◌||◌, Option, Some}
+use Rattle.safety_laws.proofs.BackWords.{◌≡◌, ℕ, zero, suc, ◌+◌, ◌-◌, ◌<◌, ◌≤◌, Bool}
+use Rattle.safety_laws.proofs.BackWords.{true, false, cond, ◌||◌, Option, Some}
 use Rattle.safety_laws.proofs.BackWords.{None, refl, ap, sym, ◌∙◌, inl, inr, arith, min, find, list_any, range_with_len}
 use Rattle.safety_laws.proofs.BackWords.{both_ways, or_cases, ltb-true, cases_eq, none-some, Medl, Script, ClusterStart}
 use Rattle.safety_laws.proofs.BackWords.{two_rounds, offers_place, none-found, entry_slot}

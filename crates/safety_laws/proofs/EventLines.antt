@@ -1,8 +1,11 @@
 -- What lines of a script tell of a node and a slot.
-use Rattle.safety_laws.proofs.BackWords.{◌≡◌, ℕ, ◌+◌, ◌<◌, ◌≤◌, Bool, true, false, cond, ◌&&◌, ℤ, Some, None, refl, ap, sym, ◌∙◌}
-use Rattle.safety_laws.proofs.BackWords.{arith, ◌==◌, nat_le, Contains, list_any, and_parts, and_from, both_ways, eqb-true}
+use Rattle.safety_laws.proofs.BackWords.{◌≡◌, ℕ, ◌+◌, ◌<◌, ◌≤◌, Bool, true, false, cond}
+use Rattle.safety_laws.proofs.BackWords.{◌&&◌, ℤ, Some, None, refl, ap, sym, ◌∙◌}
+use Rattle.safety_laws.proofs.BackWords.{arith, ◌==◌, nat_le, Contains, list_any, and_parts}
+use Rattle.safety_laws.proofs.BackWords.{and_from, both_ways, eqb-true}
 use Rattle.safety_laws.proofs.BackWords.{leb-true, lt-ltb, Medl, Channel, Event, Fault, Script, four_rounds, is_line_of}
-use Rattle.safety_laws.proofs.BackWords.{is_arm_line, arms, is_armed, has_send_fault, has_receive_fault, has_jump, any-of}
+use Rattle.safety_laws.proofs.BackWords.{is_arm_line, arms, is_armed, has_send_fault}
+use Rattle.safety_laws.proofs.BackWords.{has_receive_fault, has_jump, any-of}
 use Rattle.std.specs.Prelude.{nat_lt, is_some}
 use Rattle.std.proofs.lemmas.Bool.{le-leb}
 use Rattle.ttp_world.specs.Returning.{touches}

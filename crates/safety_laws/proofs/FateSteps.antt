@@ -1,6 +1,8 @@
 -- What a slot makes of a fate.
-use Rattle.safety_laws.proofs.PlanWords.{◌≡◌, ℕ, Bool, true, false, cond, not, ◌&&◌, ◌||◌, Option, Some, None, refl, ap, sym}
-use Rattle.safety_laws.proofs.PlanWords.{◌∙◌, both_ways, and_parts, ◌==◌, Change, Incident, FaultPlan, sender, incident_at}
+use Rattle.safety_laws.proofs.PlanWords.{◌≡◌, ℕ, Bool, true, false, cond, not, ◌&&◌}
+use Rattle.safety_laws.proofs.PlanWords.{◌||◌, Option, Some, None, refl, ap, sym}
+use Rattle.safety_laws.proofs.PlanWords.{◌∙◌, both_ways, and_parts, ◌==◌, Change, Incident}
+use Rattle.safety_laws.proofs.PlanWords.{FaultPlan, sender, incident_at}
 use Rattle.safety_laws.proofs.PlanWords.{is_armed_by, enters, Fate, Absent, Sound, Falling, Fallen, Listening, struck}
 use Rattle.safety_laws.proofs.PlanWords.{turned, next_fate, is_sound_fate, is_lost, lost_since, and-true}
 use Rattle.safety_laws.specs.Fates.{armed_in, entered_in}

@@ -1,10 +1,13 @@
 -- What the fates of a good plan tell.
-use Rattle.safety_laws.proofs.PlanWords.{◌≡◌, ◌≢◌, ℕ, zero, suc, ◌+◌, ◌*◌, ◌<◌, ◌≤◌, Bool, true, false, cond, Option, Some}
+use Rattle.safety_laws.proofs.PlanWords.{◌≡◌, ◌≢◌, ℕ, zero, suc, ◌+◌, ◌*◌, ◌<◌, ◌≤◌}
+use Rattle.safety_laws.proofs.PlanWords.{Bool, true, false, cond, Option, Some}
 use Rattle.safety_laws.proofs.PlanWords.{None, refl, ap, sym, subst, ◌∙◌, inl, inr, arith, ◌==◌, cases_lt, cases_eq}
 use Rattle.safety_laws.proofs.PlanWords.{eqb-true, eqb-false, both_ways, ltb-true, le-ltb, false_from_ne_true, Contains}
-use Rattle.safety_laws.proofs.PlanWords.{same_Some, eq-or-lt_of_le, has_node, Change, Sending, Incident, Return, FaultPlan}
+use Rattle.safety_laws.proofs.PlanWords.{same_Some, eq-or-lt_of_le, has_node, Change}
+use Rattle.safety_laws.proofs.PlanWords.{Sending, Incident, Return, FaultPlan}
 use Rattle.safety_laws.proofs.PlanWords.{sender, incident_at, is_armed_by, enters, Fate, Absent, Sound, Falling, Fallen}
-use Rattle.safety_laws.proofs.PlanWords.{Listening, fate_at_begin, struck, turned, fate_of, is_lost, lost_since, may_stay}
+use Rattle.safety_laws.proofs.PlanWords.{Listening, fate_at_begin, struck, turned}
+use Rattle.safety_laws.proofs.PlanWords.{fate_of, is_lost, lost_since, may_stay}
 use Rattle.safety_laws.proofs.PlanWords.{IsGoodPlan, IsLossOf, IsTold}
 use Rattle.safety_laws.specs.Told.{IsFallen, IsListening}
 use Rattle.safety_laws.proofs.FateSteps.{next-same, next-entered, next-armed}

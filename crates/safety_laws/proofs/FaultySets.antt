@@ -1,5 +1,6 @@
 -- The fates of the plan of the single-fault hypothesis: lost are those that the hypothesis holds for faulty.
-use Rattle.safety_laws.proofs.PlanWords.{Bool, List, [], ap, arith, cond, false, length, not, refl, subst, suc, sym, true}
+use Rattle.safety_laws.proofs.PlanWords.{Bool, List, [], ap, arith, cond, false, length}
+use Rattle.safety_laws.proofs.PlanWords.{not, refl, subst, suc, sym, true}
 use Rattle.safety_laws.proofs.PlanWords.{zero, ℕ, ◌&&◌, ◌+◌, ◌<◌, ◌||◌, ◌∙◌, ◌≡◌, ◌≤◌, filter, has_node-sieve, below}
 use Rattle.safety_laws.proofs.PlanWords.{has_node, and-true, has_node-append, ClusterStart, faulty_nodes_before}
 use Rattle.safety_laws.proofs.PlanWords.{has_four_steady, numbers_of, flipped_bits, is_ever_on, Medl, Channel, Script}

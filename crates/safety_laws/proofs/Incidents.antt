@@ -1,5 +1,6 @@
 -- The incidents of a plan of a run's faults: each slot's is the node that it makes faulty.
-use Rattle.safety_laws.proofs.PlanWords.{◌≡◌, ◌≢◌, ℕ, zero, suc, ◌+◌, ◌-◌, ◌<◌, ◌≤◌, Bool, true, false, cond, List, [], ◌∷◌}
+use Rattle.safety_laws.proofs.PlanWords.{◌≡◌, ◌≢◌, ℕ, zero, suc, ◌+◌, ◌-◌, ◌<◌, ◌≤◌}
+use Rattle.safety_laws.proofs.PlanWords.{Bool, true, false, cond, List, [], ◌∷◌}
 use Rattle.safety_laws.proofs.PlanWords.{map, Option, Some, None, refl, ap, sym, ◌∙◌, inl, inr, arith, subst, ◌++◌, ◌⊎◌}
 use Rattle.safety_laws.proofs.PlanWords.{◌==◌, AllByRecursion, cases_eq, eq-eqb, eqb-true, ne_eqb, none-some, same_Some}
 use Rattle.safety_laws.proofs.PlanWords.{eq-or-lt_of_le, has_node, Medl, Script, ClusterStart, FaultyNode, Incident}

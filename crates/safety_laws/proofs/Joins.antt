@@ -166,7 +166,8 @@ pub listening_entry-passes : (list : Medl) (h : Hearing) (sent : SentFrame) → 
 unfolding listening_by
 listening_entry-passes list h sent (OnBoth a b) none =
     (λ i. listening_by (channel_join list h.deviation (a i)) (channel_join list h.deviation (b i)))
-    ∙ (λ i. listening_by (join_entry (h.deviation sent.sender) (none i)) (join_entry (h.deviation sent.sender) (none i)))
+    ∙ (λ i. listening_by (join_entry (h.deviation sent.sender) (none i))
+    (join_entry (h.deviation sent.sender) (none i)))
 listening_entry-passes list h sent (OnA a less) none =
     (λ i. listening_by (channel_join list h.deviation (a i)) (frameless-join list h.deviation h.b less i))
     ∙ (λ i. listening_by (join_entry (h.deviation sent.sender) (none i)) None)

@@ -1,9 +1,13 @@
 -- The plan of a script that keeps the single-fault hypothesis is good, and the script keeps to it.
-use Rattle.safety_laws.proofs.PlanWords.{◌≡◌, ℕ, zero, suc, ◌+◌, ◌-◌, ◌<◌, ◌≤◌, true, false, not, ◌&&◌, ◌||◌, List, [], ◌∷◌}
+use Rattle.safety_laws.proofs.PlanWords.{◌≡◌, ℕ, zero, suc, ◌+◌, ◌-◌, ◌<◌, ◌≤◌, true}
+use Rattle.safety_laws.proofs.PlanWords.{false, not, ◌&&◌, ◌||◌, List, [], ◌∷◌}
 use Rattle.safety_laws.proofs.PlanWords.{◌++◌, length, Some, refl, ap, sym, subst, ◌∙◌, inl, inr, arith, ◌==◌}
-use Rattle.safety_laws.proofs.PlanWords.{AllByRecursion, filter, leb-true, not-false, or_parts, eqb-false, ne_eqb, eq-eqb}
-use Rattle.safety_laws.proofs.PlanWords.{has_node, below, has_node-sieve, same_sieve, Medl, Script, ClusterStart, FaultyNode}
-use Rattle.safety_laws.proofs.PlanWords.{numbers_of, faulty_nodes_before, start_of, has_four_steady, keeps, IsValid, plan_at}
+use Rattle.safety_laws.proofs.PlanWords.{AllByRecursion, filter, leb-true, not-false}
+use Rattle.safety_laws.proofs.PlanWords.{or_parts, eqb-false, ne_eqb, eq-eqb}
+use Rattle.safety_laws.proofs.PlanWords.{has_node, below, has_node-sieve, same_sieve}
+use Rattle.safety_laws.proofs.PlanWords.{Medl, Script, ClusterStart, FaultyNode}
+use Rattle.safety_laws.proofs.PlanWords.{numbers_of, faulty_nodes_before, start_of}
+use Rattle.safety_laws.proofs.PlanWords.{has_four_steady, keeps, IsValid, plan_at}
 use Rattle.safety_laws.proofs.PlanWords.{is_on, fault_plan_of, FaultPlan, fate_of, is_sound_after, is_steady_after}
 use Rattle.safety_laws.proofs.PlanWords.{steady_nodes, lost_since, FollowsPlan, and-true, two_rounds}
 use Rattle.ttp_world.specs.Hypothesis.{faulty_nodes_after}

@@ -1,6 +1,8 @@
 -- What the ledgers of a good plan tell.
-use Rattle.safety_laws.proofs.PlanWords.{◌≡◌, ◌≢◌, ℕ, zero, suc, ◌+◌, ◌-◌, ◌<◌, ◌≤◌, Bool, true, false, cond, refl, ap, sym}
-use Rattle.safety_laws.proofs.PlanWords.{◌∙◌, inl, inr, arith, ◌==◌, if◌then◌else◌, cases_lt, eqb-true, eqb-false, both_ways}
+use Rattle.safety_laws.proofs.PlanWords.{◌≡◌, ◌≢◌, ℕ, zero, suc, ◌+◌, ◌-◌, ◌<◌, ◌≤◌}
+use Rattle.safety_laws.proofs.PlanWords.{Bool, true, false, cond, refl, ap, sym}
+use Rattle.safety_laws.proofs.PlanWords.{◌∙◌, inl, inr, arith, ◌==◌, if◌then◌else◌}
+use Rattle.safety_laws.proofs.PlanWords.{cases_lt, eqb-true, eqb-false, both_ways}
 use Rattle.safety_laws.proofs.PlanWords.{eq-or-lt_of_le, FaultPlan, sender, enters, is_good_slot, is_first_slot, tally}
 use Rattle.safety_laws.proofs.PlanWords.{IsGoodPlan, opened, with_slot, ledger_of, IsLedgerOf}
 use Rattle.safety_laws.specs.Ledger.{Ledger}

@@ -194,7 +194,8 @@ module _ (plan : FaultPlan) (turn k since : ℕ) (good : IsGoodPlan plan) (is : 
       by (fate_of plan was.0 is.return.node) refl was.1.1 (fate-told plan was.0 is.return.node good)
       (omega (arith, was.1.0, is.armed))
     where
-      by : {slot : ℕ} (fate : Fate) → fate_of plan slot is.return.node ≡ fate → is_lost (fate_of plan slot is.return.node) ≡ true
+      by : {slot : ℕ} (fate : Fate) → fate_of plan slot is.return.node ≡ fate
+          → is_lost (fate_of plan slot is.return.node) ≡ true
           → IsTold plan slot is.return.node fate → since ≡ suc slot → 2 * plan.nodes < since
       by Absent same lost told at = let both = ap is_lost (sym same) ∙ lost in cc
       by Sound same lost told at = let both = ap is_lost (sym same) ∙ lost in cc

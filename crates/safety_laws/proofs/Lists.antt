@@ -1,6 +1,8 @@
 -- What tests of lists tell.
-use Rattle.safety_laws.proofs.BackWords.{◌≡◌, ℕ, ◌+◌, ◌<◌, ◌≤◌, Bool, true, false, cond, ◌||◌, List, [], ◌∷◌, refl, ap, ◌∙◌, ◌⊎◌}
-use Rattle.safety_laws.proofs.BackWords.{inl, inr, arith, AllByRecursion, list_any, or_parts, both_ways, or_cases, below}
+use Rattle.safety_laws.proofs.BackWords.{◌≡◌, ℕ, ◌+◌, ◌<◌, ◌≤◌, Bool, true, false, cond}
+use Rattle.safety_laws.proofs.BackWords.{◌||◌, List, [], ◌∷◌, refl, ap, ◌∙◌, ◌⊎◌}
+use Rattle.safety_laws.proofs.BackWords.{inl, inr, arith, AllByRecursion, list_any}
+use Rattle.safety_laws.proofs.BackWords.{or_parts, both_ways, or_cases, below}
 use Rattle.std.specs.Prelude.{count_by}
 use Rattle.std.proofs.lemmas.List.Sums.{sum_by-cons}
 use Rattle.ttp_base.proofs.NodeSets.{has_node-below}

@@ -1,8 +1,12 @@
 -- What the loss of a slot tells of the other nodes.
-use Rattle.safety_laws.proofs.PlanWords.{◌≡◌, ℕ, ◌<◌, Bool, true, false, cond, not, ◌||◌, List, [], ◌∷◌, length, ◌⊎◌, refl}
-use Rattle.safety_laws.proofs.PlanWords.{ap, sym, subst, ◌∙◌, inl, inr, arith, ◌==◌, if◌then◌else◌, AllByRecursion, filter}
-use Rattle.safety_laws.proofs.PlanWords.{eqb-true, both_ways, or_parts, and_parts, not-false, eq-eqb, and_from, has_node}
-use Rattle.safety_laws.proofs.PlanWords.{has_node-sieve, Medl, Script, Loss, Harmless, Makes, Breaks, is_breaking, loses}
+use Rattle.safety_laws.proofs.PlanWords.{◌≡◌, ℕ, ◌<◌, Bool, true, false, cond, not}
+use Rattle.safety_laws.proofs.PlanWords.{◌||◌, List, [], ◌∷◌, length, ◌⊎◌, refl}
+use Rattle.safety_laws.proofs.PlanWords.{ap, sym, subst, ◌∙◌, inl, inr, arith, ◌==◌}
+use Rattle.safety_laws.proofs.PlanWords.{if◌then◌else◌, AllByRecursion, filter}
+use Rattle.safety_laws.proofs.PlanWords.{eqb-true, both_ways, or_parts, and_parts}
+use Rattle.safety_laws.proofs.PlanWords.{not-false, eq-eqb, and_from, has_node}
+use Rattle.safety_laws.proofs.PlanWords.{has_node-sieve, Medl, Script, Loss, Harmless}
+use Rattle.safety_laws.proofs.PlanWords.{Makes, Breaks, is_breaking, loses}
 use Rattle.safety_laws.proofs.PlanWords.{is_other, others_in, sender_loss, is_ever_on, each-sieve, sender}
 use Rattle.ttp_base.proofs.NodeSets.{has_node-filter}
 use Rattle.ttp_world.specs.Hypothesis.{loss_among}

@@ -175,7 +175,8 @@ module _ {plan : FaultPlan} {turn : ℕ} {x : NodeSlot} (is : IsSoundJudge plan 
           shown,
           let same : y ≡ owner_of x = let both : ack.Doubt y ≡ ack.Doubt (owner_of x) = sym doubt ∙ holds.1 in cc in
               ap (fate_of plan (suc turn)) same ∙ fallen
-              ∙ ap (λ (l : Ledger). Fallen Receiving l.base shown) (sym (ledger-other plan turn x.node others-slot is.entered)),
+              ∙ ap (λ (l : Ledger). Fallen Receiving l.base shown)
+              (sym (ledger-other plan turn x.node others-slot is.entered)),
         );
         fresh = λ own. absurd (others-slot own);
       }

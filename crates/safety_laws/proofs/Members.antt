@@ -1,10 +1,14 @@
 -- Who is a member by a good plan.
 use Rattle.safety_laws.proofs.PlanWords.{◌≡◌, ◌≢◌, ℕ, zero, suc, ◌+◌, ◌%◌, ◌<◌, ◌≤◌, Bool, true, false, cond, not, ◌&&◌}
-use Rattle.safety_laws.proofs.PlanWords.{◌||◌, refl, ap, sym, subst, ◌∙◌, inl, inr, mod-lt, arith, List, [], ◌∷◌, Option}
-use Rattle.safety_laws.proofs.PlanWords.{Some, None, ◌==◌, cases_eq, eq-eqb, ne_eqb, mod-eq_of_lt, below, has_node, filter}
+use Rattle.safety_laws.proofs.PlanWords.{◌||◌, refl, ap, sym, subst, ◌∙◌, inl, inr}
+use Rattle.safety_laws.proofs.PlanWords.{mod-lt, arith, List, [], ◌∷◌, Option}
+use Rattle.safety_laws.proofs.PlanWords.{Some, None, ◌==◌, cases_eq, eq-eqb, ne_eqb}
+use Rattle.safety_laws.proofs.PlanWords.{mod-eq_of_lt, below, has_node, filter}
 use Rattle.safety_laws.proofs.PlanWords.{has_node-sieve, same_sieve, Change, Receiving, Incident, FaultPlan, sender}
-use Rattle.safety_laws.proofs.PlanWords.{incident_at, is_armed_by, enters, Fate, Absent, Sound, Falling, Fallen, Listening}
-use Rattle.safety_laws.proofs.PlanWords.{fate_at_begin, struck, turned, fate_of, is_sound_fate, is_sound_after, is_good_slot}
+use Rattle.safety_laws.proofs.PlanWords.{incident_at, is_armed_by, enters, Fate, Absent}
+use Rattle.safety_laws.proofs.PlanWords.{Sound, Falling, Fallen, Listening}
+use Rattle.safety_laws.proofs.PlanWords.{fate_at_begin, struck, turned, fate_of, is_sound_fate}
+use Rattle.safety_laws.proofs.PlanWords.{is_sound_after, is_good_slot}
 use Rattle.safety_laws.proofs.PlanWords.{is_first_slot, IsGoodPlan, opened, with_slot, ledger_of, IsLossOf, IsTold}
 use Rattle.safety_laws.proofs.PlanWords.{IsLedgerOf}
 use Rattle.ttp_base.specs.NodeSet.{most_nodes, with_node, without_node}

@@ -1,8 +1,12 @@
 -- An armed node enters by the first frame of a sound node that carries a place.
-use Rattle.safety_laws.proofs.BackWords.{◌≡◌, ◌≢◌, ℕ, zero, suc, ◌+◌, ◌-◌, ◌*◌, ◌<◌, ◌≤◌, Bool, true, false, cond, length, refl}
-use Rattle.safety_laws.proofs.BackWords.{ap, sym, subst, ◌∙◌, inl, inr, arith, ◌==◌, Contains, and_parts, and_from, both_ways}
-use Rattle.safety_laws.proofs.BackWords.{ne_eqb, eqb-true, eqb-false, false_from_ne_true, not_from_false, cases_lt, has_node}
-use Rattle.safety_laws.proofs.BackWords.{Medl, Script, ClusterStart, expected_sender, two_rounds, is_on, Return, FaultPlan}
+use Rattle.safety_laws.proofs.BackWords.{◌≡◌, ◌≢◌, ℕ, zero, suc, ◌+◌, ◌-◌, ◌*◌, ◌<◌}
+use Rattle.safety_laws.proofs.BackWords.{◌≤◌, Bool, true, false, cond, length, refl}
+use Rattle.safety_laws.proofs.BackWords.{ap, sym, subst, ◌∙◌, inl, inr, arith, ◌==◌}
+use Rattle.safety_laws.proofs.BackWords.{Contains, and_parts, and_from, both_ways}
+use Rattle.safety_laws.proofs.BackWords.{ne_eqb, eqb-true, eqb-false, false_from_ne_true}
+use Rattle.safety_laws.proofs.BackWords.{not_from_false, cases_lt, has_node}
+use Rattle.safety_laws.proofs.BackWords.{Medl, Script, ClusterStart, expected_sender}
+use Rattle.safety_laws.proofs.BackWords.{two_rounds, is_on, Return, FaultPlan}
 use Rattle.safety_laws.proofs.BackWords.{is_sound_after, is_good_slot, on-now, sender-less, sender-same, entry_slot}
 use Rattle.safety_laws.proofs.BackWords.{back_plan_of}
 use Rattle.std.proofs.Common.{◌/◌, ◌%◌}

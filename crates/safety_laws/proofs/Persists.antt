@@ -1,9 +1,13 @@
 -- Fates of a good plan from slot to slot: who is sound was so before, back to its entry, and stays so where no incident
 -- strikes it.
-use Rattle.safety_laws.proofs.PlanWords.{◌≡◌, ℕ, zero, suc, ◌+◌, ◌<◌, ◌≤◌, Bool, true, false, cond, not, ◌&&◌, Option, Some}
-use Rattle.safety_laws.proofs.PlanWords.{None, refl, ap, sym, subst, ◌∙◌, inl, inr, arith, [], ◌==◌, and_parts, and_from}
-use Rattle.safety_laws.proofs.PlanWords.{not_from_false, not-true, eqb-true, eq-eqb, both_ways, false_from_ne_true, le-leb}
-use Rattle.safety_laws.proofs.PlanWords.{lt-ltb, eq-or-lt_of_le, has_node, Incident, FaultPlan, incident_at, is_armed_by}
+use Rattle.safety_laws.proofs.PlanWords.{◌≡◌, ℕ, zero, suc, ◌+◌, ◌<◌, ◌≤◌, Bool, true}
+use Rattle.safety_laws.proofs.PlanWords.{false, cond, not, ◌&&◌, Option, Some}
+use Rattle.safety_laws.proofs.PlanWords.{None, refl, ap, sym, subst, ◌∙◌, inl, inr}
+use Rattle.safety_laws.proofs.PlanWords.{arith, [], ◌==◌, and_parts, and_from}
+use Rattle.safety_laws.proofs.PlanWords.{not_from_false, not-true, eqb-true, eq-eqb}
+use Rattle.safety_laws.proofs.PlanWords.{both_ways, false_from_ne_true, le-leb}
+use Rattle.safety_laws.proofs.PlanWords.{lt-ltb, eq-or-lt_of_le, has_node, Incident}
+use Rattle.safety_laws.proofs.PlanWords.{FaultPlan, incident_at, is_armed_by}
 use Rattle.safety_laws.proofs.PlanWords.{enters, sender, Fate, Absent, Sound, Falling, Fallen, Listening, fate_at_begin}
 use Rattle.safety_laws.proofs.PlanWords.{struck, fate_of, is_sound_fate, is_sound_after, is_lost, is_lasting_after}
 use Rattle.safety_laws.proofs.PlanWords.{IsGoodPlan, and-true}

@@ -1,13 +1,17 @@
 -- A slot of a run's course: whom it makes faulty, and who hears whom in it.
 use Rattle.safety_laws.proofs.PlanWords.{Bool, List, None, Option, Some, [], ap, arith, cond, false, inl, inr, length}
-use Rattle.safety_laws.proofs.PlanWords.{mod-lt, refl, subst, sym, true, ℕ, ◌%◌, ◌++◌, ◌+◌, ◌-◌, ◌<◌, ◌||◌, ◌∙◌, ◌∷◌, ◌≡◌}
-use Rattle.safety_laws.proofs.PlanWords.{◌≢◌, ◌≤◌, and_from, and_parts, both_ways, cases_lt, eq-eqb, eqb-false, eqb-true}
+use Rattle.safety_laws.proofs.PlanWords.{mod-lt, refl, subst, sym, true, ℕ, ◌%◌, ◌++◌}
+use Rattle.safety_laws.proofs.PlanWords.{◌+◌, ◌-◌, ◌<◌, ◌||◌, ◌∙◌, ◌∷◌, ◌≡◌}
+use Rattle.safety_laws.proofs.PlanWords.{◌≢◌, ◌≤◌, and_from, and_parts, both_ways}
+use Rattle.safety_laws.proofs.PlanWords.{cases_lt, eq-eqb, eqb-false, eqb-true}
 use Rattle.safety_laws.proofs.PlanWords.{false_from_ne_true, le-leb, le-ltb, leb-true, lt-ltb, ne_eqb, not-true}
-use Rattle.safety_laws.proofs.PlanWords.{not_from_false, or_cases, or_parts, none-some, same_Some, is_some, nat_lt, ◌==◌}
+use Rattle.safety_laws.proofs.PlanWords.{not_from_false, or_cases, or_parts, none-some}
+use Rattle.safety_laws.proofs.PlanWords.{same_Some, is_some, nat_lt, ◌==◌}
 use Rattle.safety_laws.proofs.PlanWords.{has_node-sieve, has_node, each-sieve, has_node-append, Breaks, ClusterStart}
 use Rattle.safety_laws.proofs.PlanWords.{FaultyNode, Harmless, Loss, Makes, expected_sender, is_breaking, is_other}
 use Rattle.safety_laws.proofs.PlanWords.{jumpers_in, loses, loss_in, nodes_made, others_in, sender_loss, has_jump}
-use Rattle.safety_laws.proofs.PlanWords.{is_ever_on, is_on, on_slot, Medl, Script, Incident, Jumping, Receiving, Sending}
+use Rattle.safety_laws.proofs.PlanWords.{is_ever_on, is_on, on_slot, Medl, Script}
+use Rattle.safety_laws.proofs.PlanWords.{Incident, Jumping, Receiving, Sending}
 use Rattle.safety_laws.proofs.PlanWords.{planned_incident}
 use Rattle.std.proofs.lemmas.Bool.{or_from}
 use Rattle.ttp_world.specs.Hypothesis.{jumps_now}

@@ -1,5 +1,6 @@
 -- A script whose armed nodes get their places again, by its plan.
-use Rattle.safety_laws.proofs.BackWords.{◌≡◌, ℕ, suc, ◌+◌, ◌-◌, ◌<◌, ◌≤◌, length, ◌∙◌, arith, Medl, Script, IsValid, returns}
+use Rattle.safety_laws.proofs.BackWords.{◌≡◌, ℕ, suc, ◌+◌, ◌-◌, ◌<◌, ◌≤◌, length, ◌∙◌}
+use Rattle.safety_laws.proofs.BackWords.{arith, Medl, Script, IsValid, returns}
 use Rattle.safety_laws.proofs.BackWords.{IsValidScript, back_plan_of, ReturnsByPlan}
 use Rattle.ttp_world.specs.BackSafety.{IsBackSafe}
 use Rattle.ttp_world.specs.Legal.{IsLegal}

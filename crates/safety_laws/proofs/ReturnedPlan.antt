@@ -1,10 +1,14 @@
 -- The plan of a run whose armed nodes return is that of its faulty nodes and its arm lines.
-use Rattle.safety_laws.proofs.BackWords.{◌≡◌, ◌≢◌, ℕ, zero, suc, ◌+◌, ◌-◌, ◌<◌, ◌≤◌, true, false, not, ◌&&◌, ◌||◌, List, [], ◌∷◌}
-use Rattle.safety_laws.proofs.BackWords.{◌++◌, length, Some, ◌⊎◌, refl, ap, sym, subst, ◌∙◌, inl, inr, arith, AllByRecursion}
+use Rattle.safety_laws.proofs.BackWords.{◌≡◌, ◌≢◌, ℕ, zero, suc, ◌+◌, ◌-◌, ◌<◌, ◌≤◌, true}
+use Rattle.safety_laws.proofs.BackWords.{false, not, ◌&&◌, ◌||◌, List, [], ◌∷◌}
+use Rattle.safety_laws.proofs.BackWords.{◌++◌, length, Some, ◌⊎◌, refl, ap, sym, subst}
+use Rattle.safety_laws.proofs.BackWords.{◌∙◌, inl, inr, arith, AllByRecursion}
 use Rattle.safety_laws.proofs.BackWords.{and_parts, and_from, or_left, or_right, both_ways, cases_lt, cases_eq, eq-eqb}
 use Rattle.safety_laws.proofs.BackWords.{false_from_ne_true, not-true, has_node, Medl, Script, ClusterStart, FaultyNode}
-use Rattle.safety_laws.proofs.BackWords.{numbers_of, start_of, four_rounds, slots_before, faulty_since, is_forgiven, is_armed}
-use Rattle.safety_laws.proofs.BackWords.{is_on, fate_of, is_sound_after, lost_since, FaultPlan, on-ever, made-was, incident_made}
+use Rattle.safety_laws.proofs.BackWords.{numbers_of, start_of, four_rounds, slots_before}
+use Rattle.safety_laws.proofs.BackWords.{faulty_since, is_forgiven, is_armed}
+use Rattle.safety_laws.proofs.BackWords.{is_on, fate_of, is_sound_after, lost_since, FaultPlan}
+use Rattle.safety_laws.proofs.BackWords.{on-ever, made-was, incident_made}
 use Rattle.safety_laws.proofs.BackWords.{incident-slot, all_in, back_plan_of}
 use Rattle.ttp_world.specs.BackSafety.{is_armed_among}
 use Rattle.ttp_world.specs.Returning.{started_since}
@@ -15,7 +19,8 @@ use Rattle.safety_laws.specs.Returned.{IsSoundAgain, IsPlanOfReturns}
 use Rattle.safety_laws.proofs.Arms.{IsArmedIn, armed-in, arm-quiet, arm-only, arm-stays, armed-after}
 use Rattle.safety_laws.proofs.Entries.{entry-of}
 use Rattle.safety_laws.proofs.BackRuns.{IsBackRun}
-use Rattle.safety_laws.proofs.Standing.{Standing, Clear, LostSince, ArmedSince, standing, entry-by, arm-late, clear-sound}
+use Rattle.safety_laws.proofs.Standing.{Standing, Clear, LostSince, ArmedSince, standing}
+use Rattle.safety_laws.proofs.Standing.{entry-by, arm-late, clear-sound}
 use Rattle.safety_laws.proofs.Walk.{at, made, after, after-has, at-next}
 use Rattle.ttp_world.proofs.RangeFacts.{any-range}
 use Rattle.safety_laws.proofs.Sounds.{IsEverNode, faulty-node, made-node}

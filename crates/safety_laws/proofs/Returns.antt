@@ -1,9 +1,12 @@
 -- The returns of a good plan: no loss comes near one, and a node listens from its arm slot until it enters.
 use Rattle.safety_laws.proofs.PlanWords.{◌≡◌, ◌≢◌, ℕ, zero, suc, ◌+◌, ◌*◌, ◌<◌, ◌≤◌, Bool, true, false, ◌&&◌, List, []}
-use Rattle.safety_laws.proofs.PlanWords.{Option, cond, Some, None, ◌⊎◌, refl, ap, sym, ◌∙◌, inl, inr, arith, length, ◌==◌}
-use Rattle.safety_laws.proofs.PlanWords.{nat_lt, Contains, list_any, and_parts, and_from, eqb-true, eq-eqb, ltb-true, lt-ltb}
+use Rattle.safety_laws.proofs.PlanWords.{Option, cond, Some, None, ◌⊎◌, refl, ap}
+use Rattle.safety_laws.proofs.PlanWords.{sym, ◌∙◌, inl, inr, arith, length, ◌==◌}
+use Rattle.safety_laws.proofs.PlanWords.{nat_lt, Contains, list_any, and_parts, and_from}
+use Rattle.safety_laws.proofs.PlanWords.{eqb-true, eq-eqb, ltb-true, lt-ltb}
 use Rattle.safety_laws.proofs.PlanWords.{false_from_ne_true, both_ways, eq-or-lt_of_le, has_node, Incident, Return}
-use Rattle.safety_laws.proofs.PlanWords.{FaultPlan, sender, incident_at, is_armed_by, enters, Fate, Absent, Sound, Falling}
+use Rattle.safety_laws.proofs.PlanWords.{FaultPlan, sender, incident_at, is_armed_by}
+use Rattle.safety_laws.proofs.PlanWords.{enters, Fate, Absent, Sound, Falling}
 use Rattle.safety_laws.proofs.PlanWords.{Listening, fate_at_begin, struck, next_fate, fate_of, is_good_slot, is_lost}
 use Rattle.safety_laws.proofs.PlanWords.{IsGoodPlan}
 use Rattle.std.proofs.lemmas.List.Folds.{Any-from_list_any, list_any_at}

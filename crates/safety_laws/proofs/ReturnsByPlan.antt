@@ -1,7 +1,10 @@
 -- A script whose test says that its armed nodes are guaranteed their places follows its plan.
-use Rattle.safety_laws.proofs.BackWords.{◌≡◌, ℕ, suc, ◌+◌, ◌-◌, ◌<◌, ◌≤◌, false, length, refl, sym, inr, arith, not-false}
-use Rattle.safety_laws.proofs.BackWords.{false_from_ne_true, Medl, Script, ClusterStart, IsValid, two_rounds, slots_before}
-use Rattle.safety_laws.proofs.BackWords.{joinings, has_four_before, breaks_arm_in, returns, is_armed, IsValidScript, arms}
+use Rattle.safety_laws.proofs.BackWords.{◌≡◌, ℕ, suc, ◌+◌, ◌-◌, ◌<◌, ◌≤◌, false, length}
+use Rattle.safety_laws.proofs.BackWords.{refl, sym, inr, arith, not-false}
+use Rattle.safety_laws.proofs.BackWords.{false_from_ne_true, Medl, Script, ClusterStart}
+use Rattle.safety_laws.proofs.BackWords.{IsValid, two_rounds, slots_before}
+use Rattle.safety_laws.proofs.BackWords.{joinings, has_four_before, breaks_arm_in}
+use Rattle.safety_laws.proofs.BackWords.{returns, is_armed, IsValidScript, arms}
 use Rattle.safety_laws.proofs.BackWords.{none-found, back_plan_of, ReturnsByPlan}
 use Rattle.ttp_world.specs.Returning.{breaks_back_in}
 use Rattle.ttp_world.specs.Returning.{lacks_four_after}

@@ -1,4 +1,5 @@
--- All notes of a tight round that began after the start: they lie near 0, and tell of frames near each sound node's clock.
+-- All notes of a tight round that began after the start: they lie near 0, and tell of frames near each sound node's
+-- clock.
 use Rattle.safety_laws.proofs.Words.{◌≡◌, ℕ, zero, suc, ◌<◌, ◌≤◌, ℤ, ◌+ℤ◌, ◌-ℤ◌, Bool, true, false, cond, List, [], ◌∷◌}
 use Rattle.safety_laws.proofs.Words.{◌++◌, length, refl, ap, sym, subst, ◌∙◌, arith, ◌==◌, All, All-nil, All-append}
 use Rattle.safety_laws.proofs.Words.{Medl, Entry, Script, notes_in, History, entry_of, continues_stint, ClusterStart}

@@ -160,7 +160,8 @@ counted-next list script start plan slot row history follows noted before = reco
         → length (notes_in list (planned_place list plan (suc slot)) (entry_of row k))
         ≡ cond (is_measured plan (suc slot)) 1 0
     fresh k p none =
-        new-notes list script start plan (suc slot) k row history (is_good_slot plan (suc slot)) refl follows noted p none
+        new-notes list script start plan (suc slot) k row history
+        (is_good_slot plan (suc slot)) refl follows noted p none
 
     notes : (k from : ℕ) → IsSoundIn list plan (suc slot) k → 0 < from → from + sender plan (suc slot) ≡ suc slot
         → ((turn : ℕ) → from ≤ turn → turn ≤ suc slot → enters plan turn k ≡ false)

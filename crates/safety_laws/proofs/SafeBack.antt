@@ -55,7 +55,8 @@ module _ (list : Medl) (script : Script) (start : ClusterStart) (plan : FaultPla
       (is_in_among list history (back_correct_nodes list script history)) (back_senders list script history) (λ j of_j.
       in-sound is.stands (back_correct_nodes list script history) corrects j of_j.0
       (is.stands.holds.sent j of_j.0.0 of_j.0.1 of_j.1))
-      (each-filter Sound (λ j. has_sent_in_stint (diary_of history j)) (back_correct_nodes list script history) corrects)
+      (each-filter Sound (λ j. has_sent_in_stint (diary_of history j))
+      (back_correct_nodes list script history) corrects)
 
   -- none has left since it was armed last
   stay : none_has_left_since_arm list script history ≡ true

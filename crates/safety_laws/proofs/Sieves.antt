@@ -1,5 +1,6 @@
 -- Where none of a range is found, none passes.
-use Rattle.safety_laws.proofs.PlanWords.{◌≡◌, ℕ, zero, suc, ◌+◌, ◌<◌, ◌≤◌, Bool, true, false, cond, Some, None, refl, ap}
+use Rattle.safety_laws.proofs.PlanWords.{◌≡◌, ℕ, zero, suc, ◌+◌, ◌<◌, ◌≤◌, Bool, true}
+use Rattle.safety_laws.proofs.PlanWords.{false, cond, Some, None, refl, ap}
 use Rattle.safety_laws.proofs.PlanWords.{sym, ◌∙◌, inl, inr, arith, cases_eq, none-some}
 use Rattle.std.specs.List.{find, range_with_len}
 

@@ -1,10 +1,13 @@
 -- A slot of the plan of the single-fault hypothesis: who hears its frame, and who is sound before it.
 use Rattle.safety_laws.proofs.PlanWords.{ap, arith, false, length, refl, subst, suc, sym, true, ℕ, ◌+◌, ◌<◌, ◌∙◌, ◌≡◌}
-use Rattle.safety_laws.proofs.PlanWords.{and_from, and_parts, not-true, not_from_false, or_parts, has_node, ClusterStart}
-use Rattle.safety_laws.proofs.PlanWords.{expected_sender, loses, is_ever_on, Medl, Script, is_sound_after, IsHeardByPlan}
+use Rattle.safety_laws.proofs.PlanWords.{and_from, and_parts, not-true, not_from_false}
+use Rattle.safety_laws.proofs.PlanWords.{or_parts, has_node, ClusterStart}
+use Rattle.safety_laws.proofs.PlanWords.{expected_sender, loses, is_ever_on, Medl}
+use Rattle.safety_laws.proofs.PlanWords.{Script, is_sound_after, IsHeardByPlan}
 use Rattle.safety_laws.proofs.PlanWords.{FaultPlan, fault_plan_of, sender}
 use Rattle.safety_laws.proofs.FaultySets.{IsSingleFault, fates-known, faulty-next, faulty_before}
-use Rattle.safety_laws.proofs.PlanHearing.{IsClear, clear-still, clear-after, clear-loses, sender-less, deaf-in, jumps-in}
+use Rattle.safety_laws.proofs.PlanHearing.{IsClear, clear-still, clear-after, clear-loses}
+use Rattle.safety_laws.proofs.PlanHearing.{sender-less, deaf-in, jumps-in}
 use Rattle.safety_laws.proofs.PlanHearing.{sender-same, unheard-in}
 use Rattle.safety_laws.proofs.Returns.{never-listens}
 

@@ -1,10 +1,15 @@
 -- What the kind of a slot of a good plan tells.
-use Rattle.safety_laws.proofs.PlanWords.{◌≡◌, ◌≢◌, ℕ, suc, ◌+◌, ◌≤◌, Bool, true, false, cond, Option, Some, None, refl, ap}
-use Rattle.safety_laws.proofs.PlanWords.{sym, subst, ◌∙◌, arith, ◌⊎◌, inl, inr, ◌==◌, nat_lt, eqb-true, eqb-false, eq-eqb}
-use Rattle.safety_laws.proofs.PlanWords.{ne_eqb, both_ways, lt-ltb, le-ltb, false_from_ne_true, none-some, Change, Sending}
-use Rattle.safety_laws.proofs.PlanWords.{Receiving, Jumping, Incident, FaultPlan, sender, incident_at, is_armed_by, enters}
+use Rattle.safety_laws.proofs.PlanWords.{◌≡◌, ◌≢◌, ℕ, suc, ◌+◌, ◌≤◌, Bool, true, false}
+use Rattle.safety_laws.proofs.PlanWords.{cond, Option, Some, None, refl, ap}
+use Rattle.safety_laws.proofs.PlanWords.{sym, subst, ◌∙◌, arith, ◌⊎◌, inl, inr, ◌==◌}
+use Rattle.safety_laws.proofs.PlanWords.{nat_lt, eqb-true, eqb-false, eq-eqb}
+use Rattle.safety_laws.proofs.PlanWords.{ne_eqb, both_ways, lt-ltb, le-ltb, false_from_ne_true}
+use Rattle.safety_laws.proofs.PlanWords.{none-some, Change, Sending}
+use Rattle.safety_laws.proofs.PlanWords.{Receiving, Jumping, Incident, FaultPlan, sender}
+use Rattle.safety_laws.proofs.PlanWords.{incident_at, is_armed_by, enters}
 use Rattle.safety_laws.proofs.PlanWords.{Fate, Absent, Sound, Falling, Fallen, Listening, struck, turned, fate_of}
-use Rattle.safety_laws.proofs.PlanWords.{is_sound_fate, is_sound_after, is_shown_in, is_good_slot, is_first_slot, may_stay}
+use Rattle.safety_laws.proofs.PlanWords.{is_sound_fate, is_sound_after, is_shown_in}
+use Rattle.safety_laws.proofs.PlanWords.{is_good_slot, is_first_slot, may_stay}
 use Rattle.safety_laws.proofs.PlanWords.{lost_since, IsGoodPlan, IsTold}
 use Rattle.safety_laws.specs.Fates.{shown_in}
 use Rattle.safety_laws.specs.SlotKind.{SlotKind, Good, Idle, Lost, Shown, Last, kind_if_lost, kind_by_fate, slot_kind}

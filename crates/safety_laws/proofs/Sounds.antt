@@ -1,9 +1,14 @@
 -- Who is sound after a slot: a node that is not faulty, or one that was armed less than four rounds ago.
-use Rattle.safety_laws.proofs.BackWords.{◌≡◌, ◌≢◌, ℕ, zero, suc, ◌+◌, ◌-◌, ◌<◌, ◌≤◌, Bool, true, false, cond, length, Some, ◌⊎◌}
-use Rattle.safety_laws.proofs.BackWords.{refl, ap, sym, ◌∙◌, inl, inr, arith, ◌==◌, and_parts, or_parts, or_cases, both_ways}
-use Rattle.safety_laws.proofs.BackWords.{cases_lt, false_from_ne_true, or_right, none-some, has_node, has_node-sieve, Medl}
-use Rattle.safety_laws.proofs.BackWords.{Script, ClusterStart, four_rounds, is_ever_on, incident_at, is_armed_by, enters, sender}
-use Rattle.safety_laws.proofs.BackWords.{Fate, Absent, Sound, Listening, fate_of, fate_at_begin, next_fate, is_sound_after}
+use Rattle.safety_laws.proofs.BackWords.{◌≡◌, ◌≢◌, ℕ, zero, suc, ◌+◌, ◌-◌, ◌<◌, ◌≤◌}
+use Rattle.safety_laws.proofs.BackWords.{Bool, true, false, cond, length, Some, ◌⊎◌}
+use Rattle.safety_laws.proofs.BackWords.{refl, ap, sym, ◌∙◌, inl, inr, arith, ◌==◌}
+use Rattle.safety_laws.proofs.BackWords.{and_parts, or_parts, or_cases, both_ways}
+use Rattle.safety_laws.proofs.BackWords.{cases_lt, false_from_ne_true, or_right, none-some}
+use Rattle.safety_laws.proofs.BackWords.{has_node, has_node-sieve, Medl}
+use Rattle.safety_laws.proofs.BackWords.{Script, ClusterStart, four_rounds, is_ever_on}
+use Rattle.safety_laws.proofs.BackWords.{incident_at, is_armed_by, enters, sender}
+use Rattle.safety_laws.proofs.BackWords.{Fate, Absent, Sound, Listening, fate_of, fate_at_begin}
+use Rattle.safety_laws.proofs.BackWords.{next_fate, is_sound_after}
 use Rattle.safety_laws.proofs.BackWords.{lost_since, strikes, sound-fate, IsClear, made-was, strikes-slot, entry_slot}
 use Rattle.safety_laws.proofs.BackWords.{back_plan_of}
 use Rattle.std.proofs.lemmas.Bool.{true_from_ne_false}

@@ -1,6 +1,8 @@
 -- The faulty nodes of a script that keeps the rule on distances.
-use Rattle.safety_laws.proofs.PlanWords.{◌≡◌, ℕ, ◌+◌, ◌<◌, ◌≤◌, Bool, true, false, cond, List, [], ◌∷◌, ◌++◌, map, Option}
-use Rattle.safety_laws.proofs.PlanWords.{Some, None, ◌⊎◌, refl, ap, sym, subst, ◌∙◌, inl, inr, arith, nat_lt, AllByRecursion}
+use Rattle.safety_laws.proofs.PlanWords.{◌≡◌, ℕ, ◌+◌, ◌<◌, ◌≤◌, Bool, true, false}
+use Rattle.safety_laws.proofs.PlanWords.{cond, List, [], ◌∷◌, ◌++◌, map, Option}
+use Rattle.safety_laws.proofs.PlanWords.{Some, None, ◌⊎◌, refl, ap, sym, subst, ◌∙◌}
+use Rattle.safety_laws.proofs.PlanWords.{inl, inr, arith, nat_lt, AllByRecursion}
 use Rattle.safety_laws.proofs.PlanWords.{none-some, FaultyNode, numbers_of}
 use Rattle.std.proofs.Common.{reverse}
 use Rattle.std.proofs.lemmas.Bool.{ltb-false}

@@ -1,14 +1,19 @@
 -- How a node stands after each slot: it is sound, lost since a slot, or armed less than four rounds ago.
-use Rattle.safety_laws.proofs.BackWords.{◌≡◌, ℕ, zero, suc, ◌+◌, ◌-◌, ◌<◌, ◌≤◌, Bool, true, false, cond, not, ◌&&◌, List, []}
-use Rattle.safety_laws.proofs.BackWords.{◌∷◌, ◌++◌, length, Some, None, refl, ap, sym, subst, ◌∙◌, inl, inr, arith, ◌==◌, nat_le}
-use Rattle.safety_laws.proofs.BackWords.{AllByRecursion, list_any, filter, Contains, and_parts, and_from, and_right, or_from}
+use Rattle.safety_laws.proofs.BackWords.{◌≡◌, ℕ, zero, suc, ◌+◌, ◌-◌, ◌<◌, ◌≤◌, Bool}
+use Rattle.safety_laws.proofs.BackWords.{true, false, cond, not, ◌&&◌, List, []}
+use Rattle.safety_laws.proofs.BackWords.{◌∷◌, ◌++◌, length, Some, None, refl, ap, sym}
+use Rattle.safety_laws.proofs.BackWords.{subst, ◌∙◌, inl, inr, arith, ◌==◌, nat_le}
+use Rattle.safety_laws.proofs.BackWords.{AllByRecursion, list_any, filter, Contains}
+use Rattle.safety_laws.proofs.BackWords.{and_parts, and_from, and_right, or_from}
 use Rattle.safety_laws.proofs.BackWords.{or_left, or_right, both_ways, cases_lt, cases_eq, false_from_ne_true, eqb-true}
 use Rattle.safety_laws.proofs.BackWords.{not_from_false, leb-true, has_node, has_node-sieve, Medl, Script, ClusterStart}
-use Rattle.safety_laws.proofs.BackWords.{FaultyNode, numbers_of, two_rounds, four_rounds, slots_before, faulty_at, faulty_since}
+use Rattle.safety_laws.proofs.BackWords.{FaultyNode, numbers_of, two_rounds, four_rounds}
+use Rattle.safety_laws.proofs.BackWords.{slots_before, faulty_at, faulty_since}
 use Rattle.safety_laws.proofs.BackWords.{is_forgiven, is_armed, is_ever_on, Return, FaultPlan, incident_at, is_armed_by}
 use Rattle.safety_laws.proofs.BackWords.{is_armed_there, enters, Fate, Absent, Sound, Listening, fate_of, fate_at_begin}
 use Rattle.safety_laws.proofs.BackWords.{next_fate, lost_since, is_sound_after, strikes, sound-fate, incident_made}
-use Rattle.safety_laws.proofs.BackWords.{incident-slot, strikes-slot, any-of, all_in, made-was, entry_slot, back_plan_of}
+use Rattle.safety_laws.proofs.BackWords.{incident-slot, strikes-slot, any-of, all_in}
+use Rattle.safety_laws.proofs.BackWords.{made-was, entry_slot, back_plan_of}
 use Rattle.std.proofs.lemmas.Bool.{and_left}
 use Rattle.safety_laws.specs.Plan.{enters_there}
 use Rattle.safety_laws.specs.Fates.{is_sound_fate}

@@ -1,5 +1,6 @@
 -- Counts of slots in a row.
-use Rattle.safety_laws.proofs.PlanWords.{◌≡◌, ℕ, zero, suc, ◌+◌, ◌%◌, ◌<◌, ◌≤◌, Bool, true, false, [], ◌∷◌, ◌++◌, length}
+use Rattle.safety_laws.proofs.PlanWords.{◌≡◌, ℕ, zero, suc, ◌+◌, ◌%◌, ◌<◌, ◌≤◌, Bool}
+use Rattle.safety_laws.proofs.PlanWords.{true, false, [], ◌∷◌, ◌++◌, length}
 use Rattle.safety_laws.proofs.PlanWords.{refl, ap, subst, ◌∙◌, arith, filter, if◌then◌else◌, mod-eq_of_lt, both_ways}
 use Rattle.safety_laws.proofs.PlanWords.{false_from_ne_true, below, FaultPlan, sender, tally}
 use Rattle.std.proofs.Common.{add-one}

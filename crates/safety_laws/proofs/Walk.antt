@@ -1,7 +1,10 @@
 -- The slots of a run in which faulty nodes may be forgiven: who is faulty in them.
-use Rattle.safety_laws.proofs.BackWords.{◌≡◌, ℕ, zero, suc, ◌+◌, ◌-◌, ◌<◌, Bool, true, false, cond, not, ◌&&◌, ◌||◌, List, []}
-use Rattle.safety_laws.proofs.BackWords.{◌∷◌, refl, ap, sym, ◌∙◌, arith, ◌==◌, filter, eqb-true, and_right, has_node, Medl}
-use Rattle.safety_laws.proofs.BackWords.{Script, ClusterStart, FaultyNode, numbers_of, faulty_since, four_rounds, is_forgiven}
+use Rattle.safety_laws.proofs.BackWords.{◌≡◌, ℕ, zero, suc, ◌+◌, ◌-◌, ◌<◌, Bool, true}
+use Rattle.safety_laws.proofs.BackWords.{false, cond, not, ◌&&◌, ◌||◌, List, []}
+use Rattle.safety_laws.proofs.BackWords.{◌∷◌, refl, ap, sym, ◌∙◌, arith, ◌==◌, filter}
+use Rattle.safety_laws.proofs.BackWords.{eqb-true, and_right, has_node, Medl}
+use Rattle.safety_laws.proofs.BackWords.{Script, ClusterStart, FaultyNode, numbers_of}
+use Rattle.safety_laws.proofs.BackWords.{faulty_since, four_rounds, is_forgiven}
 use Rattle.safety_laws.proofs.BackWords.{slots_before, faulty_at, is_armed}
 use Rattle.std.proofs.Common.{get_or}
 use Rattle.ttp_world.specs.Returning.{no_slot, faulty_slot}

@@ -11,7 +11,8 @@ pub use Rattle.safety_laws.proofs.Returns.{armed-lost, enters-by, entry-from, en
 pub use Rattle.safety_laws.proofs.SlotKinds.{sender-stays}
 pub use Rattle.safety_laws.proofs.Turns.{turns_apart}
 pub use Rattle.safety_laws.specs.Fates.{Absent, Fallen, Falling, Fate, Listening, Sound, fate_of, is_absent}
-pub use Rattle.safety_laws.specs.Fates.{is_first_slot, is_good_slot, is_lost, is_measured, is_sound_fate, is_sound_after}
+pub use Rattle.safety_laws.specs.Fates.{is_first_slot, is_good_slot, is_lost, is_measured}
+pub use Rattle.safety_laws.specs.Fates.{is_sound_fate, is_sound_after}
 pub use Rattle.safety_laws.specs.Fates.{lost_since, may_stay, struck, tally, turned}
 pub use Rattle.safety_laws.specs.GoodPlan.{IsGoodPlan}
 pub use Rattle.safety_laws.specs.Kept.{FollowsPlan, FollowsWithin, KeepsByPlan}

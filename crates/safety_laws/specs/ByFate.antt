@@ -1,7 +1,8 @@
 -- What a node is after a turn of a plan, by its fate.
 --
 -- A turn is a slot, counted from the start as a plan counts.
-use Rattle.std.specs.Prelude.{◌≡◌, Bool, ℕ, suc, ◌+◌, ◌-◌, ◌*◌, ◌<◌, ◌≤◌, false, true, length, if◌then◌else◌, ◌⊎◌, IsTrue}
+use Rattle.std.specs.Prelude.{◌≡◌, Bool, ℕ, suc, ◌+◌, ◌-◌, ◌*◌, ◌<◌, ◌≤◌, false}
+use Rattle.std.specs.Prelude.{true, length, if◌then◌else◌, ◌⊎◌, IsTrue}
 use Rattle.ttp_base.specs.NodeSet.{has_node}
 use Rattle.ttp_world.specs.declared.medl.Medl.{Medl}
 use Rattle.ttp_world.specs.declared.node.Ack.{Ack}

@@ -37,8 +37,8 @@ NotesNothing (entry.Judged sender v deviation) = is_correct v ≡ false
 NotesNothing _ = ⊥
 
 -- A later slot of the plan, which is that of a row after a history. Where it is good, the entry of each sound node
--- tells of the frame of the slot's sender, or the node enters on it, and in every other slot a sound node notes nothing.
--- Nor does a node whose clock has jumped, until its own slot comes.
+-- tells of the frame of the slot's sender, or the node enters on it, and in every other slot a sound node notes
+-- nothing. Nor does a node whose clock has jumped, until its own slot comes.
 pub record NotedInSlot (list : Medl) (script : Script) (plan : FaultPlan) (slot : ℕ) (row : List Entry)
     (history : History)
     : Type 0 where

@@ -53,4 +53,5 @@ pub word_errors_end : (list : Option Medl) (slots : ℕ) (node : Option ℕ) (nu
     → word_errors list slots node number line (drop i parts) (drop i words) ≡ []
 word_errors_end list slots node number line parts words i same end =
     let none : drop i words ≡ [] = drop_of_length-le words (omega arith) in
-    ap (word_errors list slots node number line (drop i parts)) none ∙ no_words list slots node number line (drop i parts)
+    ap (word_errors list slots node number line (drop i parts)) none
+    ∙ no_words list slots node number line (drop i parts)

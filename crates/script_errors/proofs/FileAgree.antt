@@ -9,7 +9,8 @@ use Rattle.ttp_world.specs.declared.script.Script.{Script}
 use Rattle.script_text.specs.Lines.{lines_of_file, words_of_line, is_comment}
 use Rattle.script_text.specs.Statement.{Statement}
 use Rattle.script_text.specs.Faults.{slots_of, statements_after}
-use Rattle.script_text.specs.ScriptFile.{script_faults, end_faults, errors_at, script_or_fault, stated_script, statements_of}
+use Rattle.script_text.specs.ScriptFile.{script_faults, end_faults, errors_at, script_or_fault}
+use Rattle.script_text.specs.ScriptFile.{stated_script, statements_of}
 use Rattle.script_text.specs.ScriptFile.{script_of, lines_script}
 use Rattle.script_text.specs.declared.error.LineFault.{LineFault}
 use Rattle.script_text.specs.declared.error.LineFault.TheVariants as faults
@@ -22,8 +23,10 @@ use Rattle.script_errors.specs.declared.spots.Spot.{Spot}
 use Rattle.script_errors.specs.Spots.{spots_of, spot_text, behind_mark}
 use Rattle.script_errors.specs.Words.{form_named}
 use Rattle.script_errors.specs.Errors.{Before, stated, no_line_before, slots_or_most, unless_told}
-use Rattle.script_errors.specs.Errors.{full_errors, stated_wrong, line_states, slots_errors, length_errors, count_errors, comment_of}
-use Rattle.script_errors.specs.Errors.{is_full, words_before_comment, form_errors, named_errors, said_errors, is_marked, mark_errors}
+use Rattle.script_errors.specs.Errors.{full_errors, stated_wrong, line_states, slots_errors}
+use Rattle.script_errors.specs.Errors.{length_errors, count_errors, comment_of}
+use Rattle.script_errors.specs.Errors.{is_full, words_before_comment, form_errors, named_errors}
+use Rattle.script_errors.specs.Errors.{said_errors, is_marked, mark_errors}
 use Rattle.script_errors.specs.Errors.{line_errors, before_next, end_errors, lines_errors, says_something}
 use Rattle.script_errors.specs.Agrees.{TellsFirst, Agrees}
 use Rattle.script_errors.proofs.WordsAgree.{AllOn, on_append, on_word, on_own, tells_front}
@@ -128,7 +131,8 @@ from_later : (number : ℕ) (es : List ScriptError) → AllFrom (number + 1) es 
 from_later number [] from = tt
 from_later number (e ∷ es) from = (omega (arith, from.0), from_later number es from.1)
 
-from_append : (number : ℕ) (xs ys : List ScriptError) → AllFrom number xs → AllFrom number ys → AllFrom number (xs ++ ys)
+from_append : (number : ℕ) (xs ys : List ScriptError) → AllFrom number xs
+    → AllFrom number ys → AllFrom number (xs ++ ys)
 from_append number [] ys xs_from ys_from = ys_from
 from_append number (x ∷ xs) ys xs_from ys_from = (xs_from.0, from_append number xs ys xs_from.1 ys_from)
 
@@ -172,7 +176,8 @@ end_outcome number before false is = inr (record {
   tells = record { none_before = (omega arith, tt); tells = inl (refl, refl) };
 })
 
-pub first_at : (number : ℕ) (found : List LineFault) (fault : LineFault) (more : List Refused) → first_fault found ≡ Some fault
+pub first_at : (number : ℕ) (found : List LineFault) (fault : LineFault) (more : List Refused)
+    → first_fault found ≡ Some fault
     → first_fault (errors_at number found ++ more) ≡ Some (refused.Line number fault)
 first_at number [] fault more is = cc
 first_at number (f ∷ found) fault more is = let same : Some f ≡ Some fault = is in cc

@@ -1,5 +1,6 @@
 -- A line of a form: its errors agree with the faults that the reader of scripts looks for.
-use Rattle.std.proofs.Common.{◌≡◌, ℕ, suc, ◌+◌, ◌≤◌, ◌&&◌, ◌==◌, Bool, true, false, List, [], ◌∷◌, ◌++◌, Option, Some, None}
+use Rattle.std.proofs.Common.{◌≡◌, ℕ, suc, ◌+◌, ◌≤◌, ◌&&◌, ◌==◌, Bool, true, false}
+use Rattle.std.proofs.Common.{List, [], ◌∷◌, ◌++◌, Option, Some, None}
 use Rattle.std.proofs.Common.{is_some, unwrap_or, refl, ap, ◌∙◌, sym, inl, inr, arith, subst, length}
 use Rattle.std.specs.Prelude.{if◌then◌else◌, IfSome}
 use Rattle.std.proofs.lemmas.Bool.Decides.{nat_tests}
@@ -8,7 +9,8 @@ use Rattle.ttp_base.specs.Faults.{first_fault}
 use Rattle.ttp_world.specs.declared.medl.Medl.{Medl}
 use Rattle.ttp_world.specs.declared.script.TheConstants.{SLOT_LIMIT}
 use Rattle.script_text.specs.Statement.{Statement, has_channels, statement_of, is_spelled}
-use Rattle.script_text.specs.Faults.{slots_of, stated_slots, is_after_slots, statement_faults, further_faults, stated_faults}
+use Rattle.script_text.specs.Faults.{slots_of, stated_slots, is_after_slots, statement_faults}
+use Rattle.script_text.specs.Faults.{further_faults, stated_faults}
 use Rattle.script_text.specs.Faults.{form_faults, keyword_statements}
 use Rattle.script_text.specs.declared.error.LineFault.{LineFault}
 use Rattle.script_text.specs.declared.error.LineFault.TheVariants as faults
@@ -120,7 +122,8 @@ full_outcome list before number line f first words follows full spelled after =
     let texts = spot_texts line (first ∷ words) in
     both_outcomes number (statement_faults list (stated_slots (stated before)) texts (key f)) _
     (own_errors (Some list) (slots_or_most before) number line f words) _
-    (subst (λ (fs : List LineFault). Outcome number fs (own_errors (Some list) (slots_or_most before) number line f words))
+    (subst (λ (fs : List LineFault).
+    Outcome number fs (own_errors (Some list) (slots_or_most before) number line f words))
     (sym (same_faults list before f texts after))
     (own_outcome list (slots_or_most before) number line f words texts full
     (texts_behind line first words) (some_run (slots_of (stated before)) follows.some) spelled))
@@ -152,12 +155,15 @@ count_step line f words true full =
     let same : length (spot_texts line words) ≡ length words = length-map words (spot_text line) in
     let is : length words ≡ length (parts_of f) = grind (arith, nat_tests) in grind (arith, nat_tests)
 count_step line f words false full =
-    let same : length (spot_texts line words) ≡ length words = length-map words (spot_text line) in grind (arith, nat_tests)
+    let same : length (spot_texts line words) ≡ length words =
+    length-map words (spot_text line) in grind (arith, nat_tests)
 
 spelled_is : (line : List ℕ) (f : Form) (first : Spot) (words : List Spot) (b : Bool) → is_full f words ≡ b
-    → is_spelled (key f) (spot_texts line (first ∷ words)) ≡ (b && has_channels (key f) (spot_texts line (first ∷ words)))
+    → is_spelled (key f) (spot_texts line (first ∷ words))
+    ≡ (b && has_channels (key f) (spot_texts line (first ∷ words)))
 spelled_is line f first words b full =
-    ap (λ (n : ℕ). (length (spot_texts line (first ∷ words)) == n) && has_channels (key f) (spot_texts line (first ∷ words)))
+    ap (λ (n : ℕ). (length (spot_texts line (first ∷ words)) == n)
+    && has_channels (key f) (spot_texts line (first ∷ words)))
     (count_is f)
     ∙ ap (λ (c : Bool). c && has_channels (key f) (spot_texts line (first ∷ words)))
     (count_step line f words b full)
@@ -189,7 +195,8 @@ form_stages list before number line f first words false spelled after follows fu
         tells_back number faults.Word (slots_errors before number f first) (length_errors number line f first words
             ++ (if is_full f (words_before_comment line f words)
             then full_errors (Some list) before number line f first (words_before_comment line f words) else []))
-            (tells_front number faults.Word (length_errors number line f first words) (if is_full f (words_before_comment line f words)
+            (tells_front number faults.Word (length_errors number line f first words)
+            (if is_full f (words_before_comment line f words)
             then full_errors (Some list) before number line f first (words_before_comment line f words) else [])
             (rw full (count_told number f first words (comment_of line words)))),
       ),

@@ -1,5 +1,6 @@
 -- What the reader of scripts asks of the words of a form, by what holds of each of them.
-use Rattle.std.proofs.Common.{◌≡◌, ℕ, suc, ◌+◌, ◌-◌, ◌≤◌, ◌==◌, ◌&&◌, ◌||◌, not, Bool, true, false, List, [], ◌∷◌, Option}
+use Rattle.std.proofs.Common.{◌≡◌, ℕ, suc, ◌+◌, ◌-◌, ◌≤◌, ◌==◌, ◌&&◌, ◌||◌, not}
+use Rattle.std.proofs.Common.{Bool, true, false, List, [], ◌∷◌, Option}
 use Rattle.std.proofs.Common.{Some, None, refl, ap, sym, arith, nat_le, nat_lt, length, is_some}
 use Rattle.std.specs.Prelude.{codes, if◌then◌else◌}
 use Rattle.std.specs.List.{list_all}
@@ -59,7 +60,8 @@ form_flags list slots owner f texts = flags_from list slots owner (parts_of f) 1
 
 -- a source by whether it is `status`
 
-source_spelled : (list : Medl) (owner : Option ℕ) (word : List ℕ) (b : Bool) → (source_flags list owner word b).spelled ≡ true
+source_spelled : (list : Medl) (owner : Option ℕ) (word : List ℕ) (b : Bool)
+    → (source_flags list owner word b).spelled ≡ true
 source_spelled list owner word true = refl
 source_spelled list owner word false = refl
 
@@ -91,7 +93,8 @@ pub spelled_agree : (list : Medl) (slots : ℕ) (owner : Option ℕ) (f : Form) 
 spelled_agree list slots owner form.Send texts = simp and-true refl
 spelled_agree list slots owner form.Receive texts = simp and-true refl
 spelled_agree list slots owner form.Flip texts = simp and-true refl
-spelled_agree list slots owner form.Read texts = rw (source_spelled list owner (word_at texts 3) (is_text (codes "status") (word_at texts 3))) refl
+spelled_agree list slots owner form.Read texts =
+    rw (source_spelled list owner (word_at texts 3) (is_text (codes "status") (word_at texts 3))) refl
 spelled_agree list slots owner f texts = refl
 
 pub numbers_agree : (list : Medl) (slots : ℕ) (owner : Option ℕ) (f : Form) (texts : List (List ℕ))
@@ -154,27 +157,52 @@ in_order _ texts = true
 
 pub range_agrees : (list : Medl) (slots : ℕ) (f : Form) (texts : List (List ℕ)) → 1 ≤ slots
     → is_in_range list slots texts (statement_of (key f) texts)
-    ≡ (list_all (λ g. g.range) (form_flags list slots (Some (decimal_value (word_at texts 1))) f texts) && in_order f texts)
+    ≡ (list_all (λ g. g.range)
+    (form_flags list slots (Some (decimal_value (word_at texts 1))) f texts) && in_order f texts)
 range_agrees list slots form.Slots texts some = simp and-true refl
-range_agrees list slots form.On texts some = simp (and-true, slot_range slots (decimal_value (word_at texts 2)) some) refl
+range_agrees list slots form.On texts some =
+    simp (and-true, slot_range slots (decimal_value (word_at texts 2)) some) refl
 range_agrees list slots form.Drift texts some = simp and-true refl
 range_agrees list slots form.Send texts some =
-    simp (and-true, slot_range slots (decimal_value (word_at texts 4)) some, slot_range slots (decimal_value (word_at texts 5)) some) (sym (and_assoc (nat_lt (decimal_value (word_at texts 4)) slots) (nat_lt (decimal_value (word_at texts 5)) slots)
+    simp (
+      and-true,
+      slot_range slots (decimal_value (word_at texts 4)) some,
+      slot_range slots
+          (decimal_value (word_at texts 5)) some,
+    ) (sym
+    (and_assoc (nat_lt (decimal_value (word_at texts 4)) slots) (nat_lt (decimal_value (word_at texts 5)) slots)
     (nat_le (decimal_value (word_at texts 4)) (decimal_value (word_at texts 5)))))
 range_agrees list slots form.Receive texts some =
-    simp (and-true, slot_range slots (decimal_value (word_at texts 4)) some, slot_range slots (decimal_value (word_at texts 5)) some) (sym (and_assoc (nat_lt (decimal_value (word_at texts 4)) slots) (nat_lt (decimal_value (word_at texts 5)) slots)
+    simp (
+      and-true,
+      slot_range slots (decimal_value (word_at texts 4)) some,
+      slot_range slots
+          (decimal_value (word_at texts 5)) some,
+    ) (sym
+    (and_assoc (nat_lt (decimal_value (word_at texts 4)) slots) (nat_lt (decimal_value (word_at texts 5)) slots)
     (nat_le (decimal_value (word_at texts 4)) (decimal_value (word_at texts 5)))))
-range_agrees list slots form.Flip texts some = simp (and-true, slot_range slots (decimal_value (word_at texts 4)) some) refl
+range_agrees list slots form.Flip texts some =
+    simp (and-true, slot_range slots (decimal_value (word_at texts 4)) some) refl
 range_agrees list slots form.Error texts some =
-    simp (and-true, slot_range slots (decimal_value (word_at texts 3)) some, slot_range slots (decimal_value (word_at texts 4)) some, and_assoc) refl
-range_agrees list slots form.Jump texts some = simp (and-true, slot_range slots (decimal_value (word_at texts 3)) some) refl
-range_agrees list slots form.Arm texts some = simp (and-true, slot_range slots (decimal_value (word_at texts 2)) some) refl
-range_agrees list slots form.Write texts some = simp (and-true, slot_range slots (decimal_value (word_at texts 2)) some) refl
+    simp (
+      and-true,
+      slot_range slots (decimal_value (word_at texts 3)) some,
+      slot_range slots
+          (decimal_value (word_at texts 4)) some,
+      and_assoc,
+    ) refl
+range_agrees list slots form.Jump texts some =
+    simp (and-true, slot_range slots (decimal_value (word_at texts 3)) some) refl
+range_agrees list slots form.Arm texts some =
+    simp (and-true, slot_range slots (decimal_value (word_at texts 2)) some) refl
+range_agrees list slots form.Write texts some =
+    simp (and-true, slot_range slots (decimal_value (word_at texts 2)) some) refl
 range_agrees list slots form.Read texts some =
     simp (
       and-true,
       slot_range slots (decimal_value (word_at texts 2)) some,
-      source_range list (decimal_value (word_at texts 1)) (word_at texts 3) (is_text (codes "status") (word_at texts 3)),
+      source_range list (decimal_value (word_at texts 1)) (word_at texts 3)
+          (is_text (codes "status") (word_at texts 3)),
     ) refl
 
 -- The node of a line is asked of messages and sources alone.

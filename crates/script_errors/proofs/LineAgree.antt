@@ -135,7 +135,8 @@ form_next list before number line f first words false full follows none =
     absurd (count_some number f first words (comment_of line words) (rw full at count))
 form_next list before number line f first words true full follows none =
     let slots = front_none (slots_errors before number f first) _ none in
-    let told = back_none (length_errors number line f first words) _ (back_none (slots_errors before number f first) _ none) in
+    let told = back_none (length_errors number line f first words) _
+    (back_none (slots_errors before number f first) _ none) in
     let right : full_errors list before number line f first words ≡ [] = rw (full, full) at told in
     let next = taken_next list before number line f first words follows slots (length_of f words full)
     (full_none list before number line f first words right) in
@@ -171,9 +172,11 @@ find_none p y ys is = none_at p y ys (p y) refl is
 pub keyword_none : (name : List ℕ) → form_named name ≡ None → keyword_of name ≡ None
 keyword_none name none =
     let a0 = find_none (λ f. is_text (form_word f) name) form.Slots
-    (form.On ∷ form.Drift ∷ form.Send ∷ form.Receive ∷ form.Flip ∷ form.Error ∷ form.Jump ∷ form.Arm ∷ form.Write ∷ form.Read ∷ []) none in
+    (form.On ∷ form.Drift ∷ form.Send ∷ form.Receive ∷ form.Flip ∷ form.Error ∷ form.Jump
+    ∷ form.Arm ∷ form.Write ∷ form.Read ∷ []) none in
     let a1 = find_none (λ f. is_text (form_word f) name) form.On
-    (form.Drift ∷ form.Send ∷ form.Receive ∷ form.Flip ∷ form.Error ∷ form.Jump ∷ form.Arm ∷ form.Write ∷ form.Read ∷ []) a0.1 in
+    (form.Drift ∷ form.Send ∷ form.Receive ∷ form.Flip ∷ form.Error ∷ form.Jump
+    ∷ form.Arm ∷ form.Write ∷ form.Read ∷ []) a0.1 in
     let a2 = find_none (λ f. is_text (form_word f) name) form.Drift
     (form.Send ∷ form.Receive ∷ form.Flip ∷ form.Error ∷ form.Jump ∷ form.Arm ∷ form.Write ∷ form.Read ∷ []) a1.1 in
     let a3 = find_none (λ f. is_text (form_word f) name) form.Send
@@ -244,7 +247,14 @@ said_named : (list : Medl) (before : Before) (number : ℕ) (line : List ℕ) (f
     → form_named (spot_text line first) ≡ o → SaidOutcome list before number line (first ∷ words)
 unfolding line_faults
 said_named list before number line first words None follows plain names =
-    inr (faults.Word, (rw (plain, keyword_none (spot_text line first) names) refl, rw (plain, names) (inl (refl, refl))))
+    inr (
+      faults.Word,
+      (
+        rw (plain, keyword_none (spot_text line first) names)
+            refl,
+        rw (plain, names) (inl (refl, refl)),
+      ),
+    )
 said_named list before number line first words (Some f) follows plain names =
     form_said list before number line f first words follows plain names
     (form_stages list before number line f first words _ _ _ follows refl refl refl)
@@ -307,7 +317,8 @@ and_first false b h = cc
 
 marked_word : (name : List ℕ) → begins_with_mark name ≡ true → is_comment name ≡ false
 marked_word name marked =
-    let first = and_first (slice_index name 0 == 239) ((slice_index name 1 == 187) && (slice_index name 2 == 191)) marked in grind (arith, nat_tests, first)
+    let first = and_first (slice_index name 0 == 239) ((slice_index name 1 == 187) && (slice_index name 2 == 191))
+    marked in grind (arith, nat_tests, first)
 
 and_second : (a b : Bool) → (a && b) ≡ true → b ≡ true
 and_second true b h = h

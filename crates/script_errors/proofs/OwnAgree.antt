@@ -10,7 +10,8 @@ use Rattle.ttp_world.specs.declared.medl.Medl.{Medl}
 use Rattle.script_text.specs.Lines.{word_at}
 use Rattle.script_text.specs.Numbers.{is_number, decimal_value, is_value, value_in}
 use Rattle.script_text.specs.Statement.{has_channels, has_numbers, statement_of}
-use Rattle.script_text.specs.Faults.{statement_faults, has_nodes, statement_has_payload, is_in_range, is_node, node_sends_payload}
+use Rattle.script_text.specs.Faults.{statement_faults, has_nodes, statement_has_payload}
+use Rattle.script_text.specs.Faults.{is_in_range, is_node, node_sends_payload}
 use Rattle.script_text.specs.Faults.{payload_size, is_within_limit}
 use Rattle.ttp_world.specs.declared.script.TheConstants.{ERROR_LIMIT}
 use Rattle.script_text.specs.declared.error.LineFault.{LineFault}
@@ -22,13 +23,16 @@ use Rattle.script_errors.specs.declared.error.ScriptError.{ScriptError}
 use Rattle.script_errors.specs.declared.spots.Spot.{Spot}
 use Rattle.script_errors.specs.Spots.{spot, spot_text}
 use Rattle.script_errors.specs.Words.{parts_of, right_node, word_wrong}
-use Rattle.script_errors.specs.Errors.{errors_of_word, word_errors, line_node, span_errors, own_errors, backwards, is_slot_word}
+use Rattle.script_errors.specs.Errors.{errors_of_word, word_errors, line_node, span_errors}
+use Rattle.script_errors.specs.Errors.{own_errors, backwards, is_slot_word}
 use Rattle.script_errors.specs.Agrees.{TellsFault}
 use Rattle.script_errors.proofs.Spans.{span_five, span_four}
-use Rattle.script_errors.proofs.Stages.{Flags, all_told, Has, not_spelled, no_number, no_node, no_data, out_of_range, all_right}
+use Rattle.script_errors.proofs.Stages.{Flags, all_told, Has, not_spelled, no_number}
+use Rattle.script_errors.proofs.Stages.{no_node, no_data, out_of_range, all_right}
 use Rattle.script_errors.proofs.FormFlags.{Key, key, form_flags, spelled_agree, numbers_agree, nodes_agree, data_agree}
 use Rattle.script_errors.proofs.FormFlags.{range_agrees, in_order, asks_node, flags_at_node}
-use Rattle.script_errors.proofs.WordsAgree.{class_at, AreTexts, tells_class, tells_front, tells_back, told_words, on_words}
+use Rattle.script_errors.proofs.WordsAgree.{class_at, AreTexts, tells_class, tells_front}
+use Rattle.script_errors.proofs.WordsAgree.{tells_back, told_words, on_words}
 use Rattle.script_errors.proofs.WordsAgree.{map_none, span_none, text_here, backwards_class, backwards_none, word_tells}
 
 -- nothing is wrong by either, or the reader's first fault is told
@@ -155,14 +159,16 @@ span_tells list slots number owner line form.Send words texts full are n r order
     rw (span_five slots number line words full) (two_tell slots number (get_or words 4 (spot 0 0))
     (spot_text line (get_or words 3 (spot 0 0))) (spot_text line (get_or words 4 (spot 0 0)))
     (word_at texts 4) (word_at texts 5)
-    (text_here line words texts 1 3 are (omega (arith, full))) (text_here line words texts 1 4 are (omega (arith, full)))
+    (text_here line words texts 1 3 are (omega (arith, full)))
+    (text_here line words texts 1 4 are (omega (arith, full)))
     both_words.0 both_words.1 order)
 span_tells list slots number owner line form.Receive words texts full are n r order =
     let both_words = two_words slots (is_number (word_at texts 1)) (word_at texts 4) (word_at texts 5) n r in
     rw (span_five slots number line words full) (two_tell slots number (get_or words 4 (spot 0 0))
     (spot_text line (get_or words 3 (spot 0 0))) (spot_text line (get_or words 4 (spot 0 0)))
     (word_at texts 4) (word_at texts 5)
-    (text_here line words texts 1 3 are (omega (arith, full))) (text_here line words texts 1 4 are (omega (arith, full)))
+    (text_here line words texts 1 3 are (omega (arith, full)))
+    (text_here line words texts 1 4 are (omega (arith, full)))
     both_words.0 both_words.1 order)
 span_tells list slots number owner line form.Flip words texts full are n r order = cc
 span_tells list slots number owner line form.Error words texts full are n r order =
@@ -174,7 +180,8 @@ span_tells list slots number owner line form.Error words texts full are n r orde
     rw (span_four slots number line words full) (two_tell slots number (get_or words 3 (spot 0 0))
     (spot_text line (get_or words 2 (spot 0 0))) (spot_text line (get_or words 3 (spot 0 0)))
     (word_at texts 3) (word_at texts 4)
-    (text_here line words texts 1 2 are (omega (arith, full))) (text_here line words texts 1 3 are (omega (arith, full)))
+    (text_here line words texts 1 2 are (omega (arith, full)))
+    (text_here line words texts 1 3 are (omega (arith, full)))
     both_words.0 both_words.1 order)
 span_tells list slots number owner line form.Jump words texts full are n r order = cc
 span_tells list slots number owner line f words texts full are n r order = cc
@@ -189,20 +196,23 @@ span_right slots number line form.Send words texts full are order =
     rw (span_five slots number line words full) (two_none slots number (get_or words 4 (spot 0 0))
     (spot_text line (get_or words 3 (spot 0 0))) (spot_text line (get_or words 4 (spot 0 0)))
     (word_at texts 4) (word_at texts 5)
-    (text_here line words texts 1 3 are (omega (arith, full))) (text_here line words texts 1 4 are (omega (arith, full)))
+    (text_here line words texts 1 3 are (omega (arith, full)))
+    (text_here line words texts 1 4 are (omega (arith, full)))
     order)
 span_right slots number line form.Receive words texts full are order =
     rw (span_five slots number line words full) (two_none slots number (get_or words 4 (spot 0 0))
     (spot_text line (get_or words 3 (spot 0 0))) (spot_text line (get_or words 4 (spot 0 0)))
     (word_at texts 4) (word_at texts 5)
-    (text_here line words texts 1 3 are (omega (arith, full))) (text_here line words texts 1 4 are (omega (arith, full)))
+    (text_here line words texts 1 3 are (omega (arith, full)))
+    (text_here line words texts 1 4 are (omega (arith, full)))
     order)
 span_right slots number line form.Flip words texts full are order = span_none slots number line form.Flip words refl
 span_right slots number line form.Error words texts full are order =
     rw (span_four slots number line words full) (two_none slots number (get_or words 3 (spot 0 0))
     (spot_text line (get_or words 2 (spot 0 0))) (spot_text line (get_or words 3 (spot 0 0)))
     (word_at texts 3) (word_at texts 4)
-    (text_here line words texts 1 2 are (omega (arith, full))) (text_here line words texts 1 3 are (omega (arith, full)))
+    (text_here line words texts 1 2 are (omega (arith, full)))
+    (text_here line words texts 1 3 are (omega (arith, full)))
     order)
 span_right slots number line form.Jump words texts full are order = span_none slots number line form.Jump words refl
 span_right slots number line form.Arm words texts full are order = span_none slots number line form.Arm words refl
@@ -233,7 +243,8 @@ flags_tell : (list : Medl) (slots number : ℕ) (line : List ℕ) (f : Form) (wo
     → length words ≡ length (parts_of f) → AreTexts line words texts 1
     → Has fault (all_told (form_flags list slots owner f texts))
     → TellsFault number fault
-    (word_errors (Some list) slots owner number line (parts_of f) words ++ span_errors slots number line (parts_of f) words)
+    (word_errors (Some list) slots owner number line (parts_of f) words
+    ++ span_errors slots number line (parts_of f) words)
 flags_tell list slots number line f words texts owner fault full are has =
     tells_front number fault _ (span_errors slots number line (parts_of f) words) (tells_class number fault
     (word_errors (Some list) slots owner number line (parts_of f) words)
@@ -273,7 +284,8 @@ own_stages : (list : Medl) (slots number : ℕ) (line : List ℕ) (f : Form) (wo
     → list_all (λ g. g.range) (form_flags list slots owner f texts) ≡ r
     → in_order f texts ≡ o
     → Outcome number (statement_faults list slots texts (key f))
-    (word_errors (Some list) slots owner number line (parts_of f) words ++ span_errors slots number line (parts_of f) words)
+    (word_errors (Some list) slots owner number line (parts_of f) words
+    ++ span_errors slots number line (parts_of f) words)
 own_stages list slots number line f words texts owner false d p r o full are some is spelled ns ds ps rs order =
     inr (
       faults.Number,
@@ -303,7 +315,8 @@ own_stages list slots number line f words texts owner true true false r o full a
             (no_data (form_flags list slots owner f texts) spelled ns ds ps),
       ),
     )
-own_stages list slots number line f words texts owner true true true false o full are some is spelled ns ds ps rs order =
+own_stages list slots number line f words texts owner true true true false o
+    full are some is spelled ns ds ps rs order =
     inr (
       faults.Range,
       (
@@ -314,7 +327,8 @@ own_stages list slots number line f words texts owner true true true false o ful
             (out_of_range (form_flags list slots owner f texts) spelled ns ds ps rs),
       ),
     )
-own_stages list slots number line f words texts owner true true true true false full are some is spelled ns ds ps rs order =
+own_stages list slots number line f words texts owner true true true true false
+    full are some is spelled ns ds ps rs order =
     inr (
       faults.Range,
       (
@@ -325,7 +339,8 @@ own_stages list slots number line f words texts owner true true true true false 
             (span_tells list slots number owner line f words texts full are ns rs order),
       ),
     )
-own_stages list slots number line f words texts owner true true true true true full are some is spelled ns ds ps rs order =
+own_stages list slots number line f words texts owner true true true true true
+    full are some is spelled ns ds ps rs order =
     let none : word_errors (Some list) slots owner number line (parts_of f) words ≡ [] =
     map_none _ (told_words list slots owner number line (parts_of f) words texts 1 full are
     ∙ all_right (form_flags list slots owner f texts) spelled ns ds ps rs) in

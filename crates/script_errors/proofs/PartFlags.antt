@@ -1,5 +1,6 @@
 -- What holds of a word that says a part of a line, and what is told of it.
-use Rattle.std.proofs.Common.{◌≡◌, ℕ, ◌-◌, ◌*◌, ◌==◌, ◌&&◌, not, Bool, true, false, List, Option, Some, None, refl, length}
+use Rattle.std.proofs.Common.{◌≡◌, ℕ, ◌-◌, ◌*◌, ◌==◌, ◌&&◌, not, Bool, true}
+use Rattle.std.proofs.Common.{false, List, Option, Some, None, refl, length}
 use Rattle.std.proofs.Common.{nat_le, arith}
 use Rattle.std.proofs.lemmas.Bool.Decides.{nat_tests}
 use Rattle.std.specs.Prelude.{codes, if◌then◌else◌, ℤ}
@@ -9,7 +10,8 @@ use Rattle.ttp_world.specs.declared.script.TheConstants.{SLOT_LIMIT, DRIFT_LIMIT
 use Rattle.ttp_world.specs.declared.script.TheConstants.{FIRST_FLIPPED_BIT, LAST_FLIPPED_BIT}
 use Rattle.script_text.specs.declared.error.LineFault.{LineFault}
 use Rattle.script_text.specs.Faults.{is_node, payload_size, node_sends_payload, is_within_limit}
-use Rattle.script_text.specs.Numbers.{is_text, is_number, decimal_value, is_value, value_in, is_hex_word, is_channels, is_fault}
+use Rattle.script_text.specs.Numbers.{is_text, is_number, decimal_value, is_value, value_in}
+use Rattle.script_text.specs.Numbers.{is_hex_word, is_channels, is_fault}
 use Rattle.script_errors.specs.declared.error.Part.{Part}
 use Rattle.script_errors.specs.declared.error.Part.TheVariants as part
 use Rattle.script_errors.specs.declared.error.Wrong.{Wrong}
@@ -95,7 +97,8 @@ some_payload : (payload : ℕ) → nat_le 1 payload ≡ not (payload == 0)
 some_payload payload = grind (arith, nat_tests)
 
 of_writer : (a b z : Bool) (payload : ℕ) (p : Part) (v w high : ℕ) (l h : ℤ) → (payload == 0) ≡ z
-    → classes (first_wrong (if a then (if b then None else Some (wrong.NoNode p v high)) else Some (wrong.NoNumber p l h))
+    → classes (first_wrong (if a
+    then (if b then None else Some (wrong.NoNode p v high)) else Some (wrong.NoNumber p l h))
     (data_wrong p w (Some payload)))
     ≡ told_by (node_flags a b (not (payload == 0)) true)
 of_writer true true true payload p v w high l h is = rw is refl
@@ -130,7 +133,8 @@ of_message : (a : Bool) (list : Medl) (owner : Option ℕ) (digits : ℕ)
 of_message true list owner digits = of_length list owner digits (is_long list owner digits) refl
 of_message false list owner digits = refl
 
-of_source_word : (list : Medl) (owner : Option ℕ) (word : List ℕ) (status : Bool) → is_text (codes "status") word ≡ status
+of_source_word : (list : Medl) (owner : Option ℕ) (word : List ℕ) (status : Bool)
+    → is_text (codes "status") word ≡ status
     → classes (source_wrong (Some list) owner word) ≡ told_by (source_flags list owner word status)
 of_source_word list owner word true is = rw is refl
 of_source_word list owner word false is =

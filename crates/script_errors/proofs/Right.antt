@@ -1,5 +1,6 @@
 -- Lines whose words are right by themselves.
-use Rattle.std.proofs.Common.{◌≡◌, ℕ, true, false, Bool, ◌+◌, ◌-◌, ◌<◌, ◌≤◌, ◌^◌, List, [], ◌∷◌, ◌++◌, length, get_or, Option}
+use Rattle.std.proofs.Common.{◌≡◌, ℕ, true, false, Bool, ◌+◌, ◌-◌, ◌<◌, ◌≤◌, ◌^◌}
+use Rattle.std.proofs.Common.{List, [], ◌∷◌, ◌++◌, length, get_or, Option}
 use Rattle.std.proofs.Common.{Some, None, arith, refl, ap, ◌∙◌, sym, nat_le, nat_lt, ◌&&◌}
 use Rattle.std.specs.Prelude.{if◌then◌else◌, IfSome}
 use Rattle.std.proofs.lemmas.Bool.Decides.{nat_tests}
@@ -42,8 +43,10 @@ or_none (Some v) w none = none
 
 -- nothing is wrong with the first word behind the one that names the form, and with the second
 pub first_right : (list : Option Medl) (slots number : ℕ) (line : List ℕ) (f : Form) (p : Part) (parts : List Part)
-    (words : List Spot) → parts_of f ≡ p ∷ parts → length words ≡ length (parts_of f) → own_errors list slots number line f words ≡ []
-    → word_wrong list slots (line_node list line (parts_of f) words) p (spot_text line (get_or words 0 (spot 0 0))) ≡ None
+    (words : List Spot) → parts_of f ≡ p ∷ parts → length words ≡ length (parts_of f)
+    → own_errors list slots number line f words ≡ []
+    → word_wrong list slots (line_node list line (parts_of f) words) p
+    (spot_text line (get_or words 0 (spot 0 0))) ≡ None
 unfolding own_errors
 first_right list slots number line f p parts [] is full none = absurd (omega (arith, full, ap length is))
 first_right list slots number line f p parts (w ∷ words) is full none =
@@ -55,7 +58,8 @@ first_right list slots number line f p parts (w ∷ words) is full none =
 pub second_right : (list : Option Medl) (slots number : ℕ) (line : List ℕ) (f : Form) (p q : Part) (parts : List Part)
     (words : List Spot) → parts_of f ≡ p ∷ q ∷ parts → length words ≡ length (parts_of f)
     → own_errors list slots number line f words ≡ []
-    → word_wrong list slots (line_node list line (parts_of f) words) q (spot_text line (get_or words 1 (spot 0 0))) ≡ None
+    → word_wrong list slots (line_node list line (parts_of f) words) q
+    (spot_text line (get_or words 1 (spot 0 0))) ≡ None
 unfolding own_errors
 second_right list slots number line f p q parts [] is full none = absurd (omega (arith, full, ap length is))
 second_right list slots number line f p q parts (w ∷ []) is full none = absurd (omega (arith, full, ap length is))
@@ -99,7 +103,8 @@ few_nodes (Some list) valid = grind (arith, nodes)
 
 pub node_few : (list : Option Medl) (k : ℕ) → IfSome list IsValid → nat_lt k (node_count list) ≡ true → k < most_nodes
 node_few list k valid within =
-    let few = few_nodes list valid in let below : k < node_count list = grind (arith, nat_tests) in omega (arith, few, below)
+    let few = few_nodes list valid in let below : k < node_count list =
+    grind (arith, nat_tests) in omega (arith, few, below)
 
 pub slot_fits : (slot slots : ℕ) → slots < 2 ^ 32 → nat_le slot (slots - 1) ≡ true → slot + 1 < 2 ^ 32
 slot_fits slot slots fits within =

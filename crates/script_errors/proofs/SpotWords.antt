@@ -1,5 +1,6 @@
 -- The words with their places are those that the reader of scripts cuts.
-use Rattle.std.proofs.Common.{◌≡◌, ℕ, zero, suc, ◌+◌, ◌-◌, ◌<◌, Bool, true, false, not, List, [], ◌∷◌, length, take, drop}
+use Rattle.std.proofs.Common.{◌≡◌, ℕ, zero, suc, ◌+◌, ◌-◌, ◌<◌, Bool, true, false}
+use Rattle.std.proofs.Common.{not, List, [], ◌∷◌, length, take, drop}
 use Rattle.std.proofs.Common.{map, get_or, Option, Some, None, arith, refl, ap, sym, ◌∙◌, filter, add-one, drop-cons}
 use Rattle.std.specs.List.{list_all}
 use Rattle.std.proofs.lemmas.List.{get_or-drop, drop-drop, length-drop}

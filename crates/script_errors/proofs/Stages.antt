@@ -1,7 +1,7 @@
 -- The faults of a line in stages, as the reader of scripts looks for them, and by words.
 --
--- The reader asks of all words first whether they are spelled as they are due, then whether numbers stand where they are due,
--- then for nodes, for payload and for ranges. For each word the first of these that fails is told.
+-- The reader asks of all words first whether they are spelled as they are due, then whether numbers stand where they
+-- are due, then for nodes, for payload and for ranges. For each word the first of these that fails is told.
 use Rattle.std.proofs.Common.{◌≡◌, Bool, true, false, List, [], ◌∷◌, ◌++◌, Option, Some, None, refl}
 use Rattle.std.specs.Prelude.{option_to_list, ◌⊎◌, if◌then◌else◌}
 use Rattle.std.specs.List.{list_all}
@@ -105,7 +105,8 @@ pub out_of_range : (fs : List Flags) → list_all (λ f. f.spelled) fs ≡ true 
     → Has faults.Range (all_told fs)
 out_of_range [] spelled number node sends h = cc
 out_of_range (f ∷ fs) spelled number node sends h =
-    let s = and_parts _ _ spelled in let n = and_parts _ _ number in let k = and_parts _ _ node in let d = and_parts _ _ sends in
+    let s = and_parts _ _ spelled in let n = and_parts _ _ number in
+    let k = and_parts _ _ node in let d = and_parts _ _ sends in
     out_of_range_at f fs s.0 n.0 k.0 d.0 (out_of_range fs s.1 n.1 k.1 d.1) (one _ _ h)
 
 pub all_right : (fs : List Flags) → list_all (λ f. f.spelled) fs ≡ true → list_all (λ f. f.number) fs ≡ true

@@ -1,5 +1,6 @@
 -- What a line states beside the lines before.
-use Rattle.std.proofs.Common.{◌≡◌, ℕ, Bool, true, false, subst, ◌+◌, ◌<◌, count_by, List, [], ◌∷◌, ◌++◌, length, get_or, Option, Some, None, arith, refl, ap, ◌∙◌, sym}
+use Rattle.std.proofs.Common.{◌≡◌, ℕ, Bool, true, false, subst, ◌+◌, ◌<◌, count_by, List, [], ◌∷◌}
+use Rattle.std.proofs.Common.{◌++◌, length, get_or, Option, Some, None, arith, refl, ap, ◌∙◌, sym}
 use Rattle.std.proofs.lemmas.List.{append-nil}
 use Rattle.ttp_world.specs.declared.medl.Medl.{Medl}
 use Rattle.ttp_world.specs.declared.script.Event.{Event}
@@ -22,14 +23,16 @@ use Rattle.ttp_base.specs.NodeSet.{most_nodes}
 -- What lines state, by their words.
 
 pub states_slots : (line : List ℕ) (first : Spot) (words : List Spot) → length words ≡ 1
-    → line_states line form.Slots (first ∷ words) ≡ says_slots (decimal_value (spot_text line (get_or words 0 (spot 0 0))))
+    → line_states line form.Slots (first ∷ words)
+    ≡ says_slots (decimal_value (spot_text line (get_or words 0 (spot 0 0))))
 states_slots line first [] full = absurd (omega arith)
 states_slots line first (w ∷ []) full = refl
 states_slots line first (w ∷ v ∷ words) full = absurd (omega arith)
 
 pub states_on : (line : List ℕ) (first : Spot) (words : List Spot) → length words ≡ 2
     → line_states line form.On (first ∷ words)
-    ≡ says_on (decimal_value (spot_text line (get_or words 0 (spot 0 0)))) (decimal_value (spot_text line (get_or words 1 (spot 0 0))))
+    ≡ says_on (decimal_value (spot_text line (get_or words 0 (spot 0 0))))
+    (decimal_value (spot_text line (get_or words 1 (spot 0 0))))
 states_on line first [] full = absurd (omega arith)
 states_on line first (w ∷ []) full = absurd (omega arith)
 states_on line first (w ∷ v ∷ []) full = refl
@@ -37,7 +40,8 @@ states_on line first (w ∷ v ∷ u ∷ words) full = absurd (omega arith)
 
 pub states_drift : (line : List ℕ) (first : Spot) (words : List Spot) → length words ≡ 2
     → line_states line form.Drift (first ∷ words)
-    ≡ says_drift (decimal_value (spot_text line (get_or words 0 (spot 0 0)))) (value_in (spot_text line (get_or words 1 (spot 0 0))))
+    ≡ says_drift (decimal_value (spot_text line (get_or words 0 (spot 0 0))))
+    (value_in (spot_text line (get_or words 1 (spot 0 0))))
 states_drift line first [] full = absurd (omega arith)
 states_drift line first (w ∷ []) full = absurd (omega arith)
 states_drift line first (w ∷ v ∷ []) full = refl
@@ -46,7 +50,8 @@ states_drift line first (w ∷ v ∷ u ∷ words) full = absurd (omega arith)
 pub states_write : (line : List ℕ) (first : Spot) (words : List Spot) → length words ≡ 3
     → line_states line form.Write (first ∷ words)
     ≡ says_event (event.Write (decimal_value (spot_text line (get_or words 0 (spot 0 0))))
-    (decimal_value (spot_text line (get_or words 1 (spot 0 0)))) (digit_bytes_in (spot_text line (get_or words 2 (spot 0 0)))))
+    (decimal_value (spot_text line (get_or words 1 (spot 0 0))))
+    (digit_bytes_in (spot_text line (get_or words 2 (spot 0 0)))))
 states_write line first [] full = absurd (omega arith)
 states_write line first (w ∷ []) full = absurd (omega arith)
 states_write line first (w ∷ v ∷ []) full = absurd (omega arith)

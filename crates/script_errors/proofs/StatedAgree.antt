@@ -1,5 +1,6 @@
 -- What a line states beside the lines before: the errors agree with the faults that the reader of scripts looks for.
-use Rattle.std.proofs.Common.{◌≡◌, ℕ, ◌+◌, ◌==◌, Bool, true, false, List, [], ◌∷◌, ◌++◌, Option, Some, None, is_some, map}
+use Rattle.std.proofs.Common.{◌≡◌, ℕ, ◌+◌, ◌==◌, Bool, true, false, List, []}
+use Rattle.std.proofs.Common.{◌∷◌, ◌++◌, Option, Some, None, is_some, map}
 use Rattle.std.proofs.Common.{refl, inl, inr, count_by, nat_le}
 use Rattle.std.specs.Prelude.{if◌then◌else◌}
 use Rattle.std.specs.Option.{option_or}
@@ -12,7 +13,8 @@ use Rattle.script_text.specs.declared.error.LineFault.TheVariants as faults
 use Rattle.script_errors.specs.declared.error.Wrong.{Wrong}
 use Rattle.script_errors.specs.declared.error.Wrong.TheVariants as wrong
 use Rattle.script_errors.specs.declared.spots.Spot.{Spot}
-use Rattle.script_errors.specs.Errors.{Before, Taken, stated, line_stating, line_stating_slots, line_stating_on, line_stating_drift, again, buffer_wrong}
+use Rattle.script_errors.specs.Errors.{Before, Taken, stated, line_stating, line_stating_slots, line_stating_on}
+use Rattle.script_errors.specs.Errors.{line_stating_drift, again, buffer_wrong}
 use Rattle.script_errors.specs.Errors.{stated_wrong, errors_of_word}
 use Rattle.script_errors.specs.Agrees.{reader_fault}
 use Rattle.script_errors.proofs.OwnAgree.{Outcome}
@@ -44,7 +46,8 @@ buffer_outcome : (number : ℕ) (at : Spot) (list : Medl) (node slot count : ℕ
     → (list.buffers == 1) ≡ one → nat_le list.buffers count ≡ many
     → Outcome number (when one faults.NoBuffer ++ when many faults.TooMany)
     (errors_of_word number at (buffer_wrong (Some list) node slot count))
-buffer_outcome number at list node slot count true many is at_most = rw is (inr (faults.NoBuffer, (refl, inl (refl, refl))))
+buffer_outcome number at list node slot count true many is at_most =
+    rw is (inr (faults.NoBuffer, (refl, inl (refl, refl))))
 buffer_outcome number at list node slot count false true is at_most =
     rw (is, at_most) (inr (faults.TooMany, (refl, inl (refl, refl))))
 buffer_outcome number at list node slot count false false is at_most = rw (is, at_most) (inl (refl, refl))
@@ -68,7 +71,8 @@ pub stated_outcome : (number : ℕ) (at : Spot) (list : Medl) (before : Before) 
 stated_outcome number at list before (says_slots count) =
     repeat_outcome number at wrong.SlotsAgain (line_stating_slots before) _ (λ n. refl) (found slots_said before.taken)
 stated_outcome number at list before (says_on node slot) =
-    repeat_outcome number at (wrong.OnAgain node) (line_stating_on before node) _ (λ n. refl) (found (on_said node) before.taken)
+    repeat_outcome number at (wrong.OnAgain node) (line_stating_on before node) _
+    (λ n. refl) (found (on_said node) before.taken)
 stated_outcome number at list before (says_drift node value) =
     repeat_outcome number at (wrong.DriftAgain node) (line_stating_drift before node) _ (λ n. refl)
     (found (drift_said node) before.taken)

@@ -1,5 +1,6 @@
 -- What becomes of a line of a form.
-use Rattle.std.proofs.Common.{◌≡◌, ℕ, zero, suc, get_or, true, false, ◌+◌, ◌<◌, ◌≤◌, List, [], ◌∷◌, ◌++◌, length, Option, Some, None, arith, refl}
+use Rattle.std.proofs.Common.{◌≡◌, ℕ, zero, suc, get_or, true, false, ◌+◌, ◌<◌, ◌≤◌, List}
+use Rattle.std.proofs.Common.{[], ◌∷◌, ◌++◌, length, Option, Some, None, arith, refl}
 use Rattle.std.proofs.Common.{ap, ◌∙◌, sym, subst, append_assoc, length-append}
 use Rattle.std.proofs.lemmas.List.{append-nil}
 use Rattle.std.specs.Prelude.{if◌then◌else◌, slice_get}
@@ -10,7 +11,8 @@ use Rattle.script_errors.specs.declared.error.Wrong.TheVariants as wrong
 use Rattle.script_errors.specs.declared.error.ScriptError.{ScriptError}
 use Rattle.script_errors.specs.declared.so_far.SoFar.{SoFar}
 use Rattle.script_errors.specs.declared.spots.Spot.{Spot}
-use Rattle.script_errors.specs.Errors.{Before, slots_or_most, own_errors, error_of_word, errors_of_word, stated_wrong, line_states}
+use Rattle.script_errors.specs.Errors.{Before, slots_or_most, own_errors, error_of_word}
+use Rattle.script_errors.specs.Errors.{errors_of_word, stated_wrong, line_states}
 use Rattle.script_errors.specs.Errors.{unless_told, full_errors, taken_unless, is_full, before_comment, comment_of}
 use Rattle.script_errors.specs.Errors.{form_errors, form_after, slots_errors, length_errors, words_before_comment}
 use Rattle.script_errors.specs.Errors.{is_marked, line_errors, before_next, said_errors, said_after}
@@ -28,7 +30,8 @@ own_none old (e ∷ es) new is short = absurd (omega (arith, ap length is, lengt
 
 told_own : (old own new more : List ScriptError) (before : Before) (number : ℕ) (s : Statement) → new ≡ old ++ own
     → length old < length new
-    → (unless_told own more ≡ own) × (taken_unless (unless_told own more) before number s ≡ record before { named = true })
+    → (unless_told own more ≡ own)
+    × (taken_unless (unless_told own more) before number s ≡ record before { named = true })
 told_own old [] new more before number s is long = absurd (omega (arith, ap length is, length-append old []))
 told_own old (e ∷ es) new more before number s is long = (refl, refl)
 
@@ -130,7 +133,8 @@ pub takes_form_full : (list : Option Medl) (before : Before) (number : ℕ) (lin
 unfolding form_errors form_after
 takes_form_full list before number line f first words so_far old mid new full now takes = record {
   found = rw (full, full) (takes.found
-      ∙ ap (λ (es : List ScriptError). es ++ full_errors list before number line f first words) now ∙ assoc old (slots_errors before number f first)
+      ∙ ap (λ (es : List ScriptError). es ++ full_errors list before number line f first words) now
+      ∙ assoc old (slots_errors before number f first)
       (full_errors list before number line f first words));
   after = rw (full, full) takes.after;
 }
@@ -146,7 +150,8 @@ takes_form_other list before number line f first words so_far old mid new other 
     ++ (if is_full f (before_comment line words)
     then full_errors list before number line f first (before_comment line words) else []) in
     let found : new ≡ old ++ (slots_errors before number f first ++ tail) =
-    takes.found ∙ ap (λ (es : List ScriptError). es ++ tail) now ∙ assoc old (slots_errors before number f first) tail in
+    takes.found ∙ ap (λ (es : List ScriptError). es ++ tail) now
+    ∙ assoc old (slots_errors before number f first) tail in
     let here : words_before_comment line f words ≡ before_comment line words = rw other refl in
     record {
       found = subst (λ (ws : List Spot). new ≡ old ++ (slots_errors before number f first

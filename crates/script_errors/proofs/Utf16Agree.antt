@@ -6,7 +6,8 @@ use Rattle.std.proofs.lemmas.Bool.Decides.{nat_tests}
 use Rattle.std.proofs.lemmas.List.Quantifiers.{position-Some}
 use Rattle.ttp_base.specs.Faults.{first_fault}
 use Rattle.ttp_world.specs.declared.medl.Medl.{Medl}
-use Rattle.script_text.specs.Lines.{lines_of_file, words_of_line, is_blank, is_line_feed, without_return, without_empty_end}
+use Rattle.script_text.specs.Lines.{lines_of_file, words_of_line, is_blank, is_line_feed}
+use Rattle.script_text.specs.Lines.{without_return, without_empty_end}
 use Rattle.script_text.proofs.Cuts.{lines_of-cut, lines_of-rest}
 use Rattle.script_text.specs.Faults.{line_faults}
 use Rattle.script_text.specs.ScriptFile.{script_faults, stated_script, statements_of, script_of, lines_script}
@@ -122,7 +123,8 @@ word_254 list word words = refl
 
 refused_line : (list : Medl) (b c : ℕ) (xs : List ℕ) → is_line_feed b ≡ false → is_line_feed c ≡ false
     → is_blank b ≡ false
-    → ((word : List ℕ) (words : List (List ℕ)) → first_fault (line_faults list [] ((b ∷ word) ∷ words)) ≡ Some faults.Word)
+    → ((word : List ℕ) (words : List (List ℕ))
+    → first_fault (line_faults list [] ((b ∷ word) ∷ words)) ≡ Some faults.Word)
     → Agrees (error_of_word 1 (spot 0 0) wrong.Utf16 ∷ []) (script_of list (b ∷ c ∷ xs))
 unfolding script_of lines_script
 refused_line list b c xs b_off c_off plain none =

@@ -7,7 +7,8 @@ use Rattle.ttp_world.specs.declared.medl.Medl.{Medl}
 use Rattle.script_text.specs.Lines.{lines_of_file, words_of_line, is_comment, says_nothing}
 use Rattle.script_text.specs.Statement.{Statement}
 use Rattle.script_text.specs.Faults.{line_faults, statements_after}
-use Rattle.script_text.specs.ScriptFile.{script_faults, errors_at, stated_script, statements_of, script_of, lines_script}
+use Rattle.script_text.specs.ScriptFile.{script_faults, errors_at, stated_script}
+use Rattle.script_text.specs.ScriptFile.{statements_of, script_of, lines_script}
 use Rattle.script_text.specs.declared.error.LineFault.{LineFault}
 use Rattle.script_text.specs.declared.error.LineFault.TheVariants as faults
 use Rattle.script_text.specs.declared.error.ScriptError.{ScriptError as Refused}
@@ -16,7 +17,8 @@ use Rattle.script_errors.specs.declared.error.ScriptError.{ScriptError}
 use Rattle.script_errors.specs.declared.spots.Spot.{Spot}
 use Rattle.script_errors.specs.Spots.{spots_of, spot_text, spot_texts}
 use Rattle.script_errors.specs.Words.{form_named}
-use Rattle.script_errors.specs.Errors.{no_line_before, unless_told, lines_errors, list_errors, list_errors_by, is_utf16, script_errors}
+use Rattle.script_errors.specs.Errors.{no_line_before, unless_told, lines_errors, list_errors}
+use Rattle.script_errors.specs.Errors.{list_errors_by, is_utf16, script_errors}
 use Rattle.script_errors.specs.Agrees.{Agrees}
 use Rattle.script_errors.proofs.SpotWords.{texts_are_words}
 use Rattle.script_errors.proofs.LineAgree.{keyword_none}
@@ -49,7 +51,8 @@ quiet_line list number said line lines quiet =
 abbrev ListOutcome : List Refused → List ScriptError → Type 0
 ListOutcome found told = (told ≡ []) ⊎ Refuses found told
 
-moved : (found now : List Refused) (told : List ScriptError) → found ≡ now → ListOutcome now told → ListOutcome found told
+moved : (found now : List Refused) (told : List ScriptError) → found ≡ now
+    → ListOutcome now told → ListOutcome found told
 moved found now told is outcome = subst (λ (fs : List Refused). ListOutcome fs told) (sym is) outcome
 
 none_named : (list : Medl) (said : List Statement) (name : List ℕ) (words : List (List ℕ)) → is_comment name ≡ false

@@ -9,7 +9,8 @@ use Rattle.script_errors.specs.declared.writes.WriteCounts.{WriteCounts}
 use Rattle.script_errors.specs.declared.error.Form.{Form}
 use Rattle.script_errors.specs.declared.error.ScriptError.{ScriptError}
 use Rattle.script_errors.specs.declared.spots.Spot.{Spot}
-use Rattle.script_errors.specs.Errors.{Before, stated, line_stating_slots, line_stating_on, line_stating_drift, errors_of_word, stated_wrong}
+use Rattle.script_errors.specs.Errors.{Before, stated, line_stating_slots, line_stating_on}
+use Rattle.script_errors.specs.Errors.{line_stating_drift, errors_of_word, stated_wrong}
 use Rattle.script_errors.specs.Errors.{line_states, taken_unless, full_errors, form_errors, form_after, said_errors}
 use Rattle.script_errors.specs.Errors.{said_after, line_errors, before_next, length_errors, is_full, before_comment}
 

@@ -36,7 +36,8 @@ struck-slots : (list : Medl) (number c : ℕ)
 struck-slots list number zero = refl
 struck-slots list number (suc c) =
     let slots = map (λ (f : FaultyNode). f.slot) (struck list number c) in
-    let next : map (fault_slot_of list) (below (suc c)) ≡ map (fault_slot_of list) (below c) ++ fault_slot_of list c ∷ [] =
+    let next : map (fault_slot_of list) (below (suc c))
+    ≡ map (fault_slot_of list) (below c) ++ fault_slot_of list c ∷ [] =
     subst (λ m. map (fault_slot_of list) (below m) ≡ map (fault_slot_of list) (below c) ++ fault_slot_of list c ∷ [])
     (add-one c) (map-next (fault_slot_of list) c) in
     reverse_onto slots (fault_slot_of list c) []

@@ -309,7 +309,8 @@ struck-before list slot c before less at = record {
   few = omega arith;
   done = λ j small. elim (cases_lt j c) [
     | inl past ↦ let done = before.done j past in omega arith
-    | inr from ↦ let same : fault_slot_of list j ≡ fault_slot_of list c = ap (fault_slot_of list) (omega arith) in omega arith
+    | inr from ↦ let same : fault_slot_of list j ≡ fault_slot_of list c =
+        ap (fault_slot_of list) (omega arith) in omega arith
   ];
   left = λ j from small. let apart = faults-apart list c j (omega arith) in omega arith;
 }

@@ -15,7 +15,8 @@ writes_at k t e = is_write_at k t (says_event e)
 abbrev messages : ℕ → ℕ → List Event → List (List ℕ)
 messages k t events = filter_map (payload_of_host k) (filter_map (write_in t) events)
 
-one_write : (k t node slot : ℕ) (payload : List ℕ) (events : List Event) (is_node is_slot : Bool) → (node == k) ≡ is_node
+one_write : (k t node slot : ℕ) (payload : List ℕ) (events : List Event)
+    (is_node is_slot : Bool) → (node == k) ≡ is_node
     → (slot == t) ≡ is_slot
     → length (messages k t (event.Write node slot payload ∷ events))
     ≡ length (messages k t events) + cond (is_node && is_slot) 1 0

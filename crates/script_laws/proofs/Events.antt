@@ -113,7 +113,8 @@ module _ (list : Medl) (script : Script) (before : List Statement) (stands : Sta
         feeds = line.feeds;
         returns = line.returns;
         read =
-            read_line list before _ _ _ (says_event (event.Send node both_channels fault.Noise from to)) line.cut refl refl
+            read_line list before _ _ _
+            (says_event (event.Send node both_channels fault.Noise from to)) line.cut refl refl
             (record {
               spelled = refl;
               slots = rw stands.slots refl;
@@ -128,7 +129,8 @@ module _ (list : Medl) (script : Script) (before : List Statement) (stands : Sta
             });
       })
 
-  pub receive_read : (node from to : ℕ) → IsValidEvent list script (event.Receive node both_channels fault.Noise from to)
+  pub receive_read : (node from to : ℕ)
+      → IsValidEvent list script (event.Receive node both_channels fault.Noise from to)
       → IsLine list before (event_words (event.Receive node both_channels fault.Noise from to))
       (says_event (event.Receive node both_channels fault.Noise from to))
   unfolding event_words
@@ -147,7 +149,8 @@ module _ (list : Medl) (script : Script) (before : List Statement) (stands : Sta
         feeds = line.feeds;
         returns = line.returns;
         read =
-            read_line list before _ _ _ (says_event (event.Receive node both_channels fault.Noise from to)) line.cut refl refl
+            read_line list before _ _ _
+            (says_event (event.Receive node both_channels fault.Noise from to)) line.cut refl refl
             (record {
               spelled = refl;
               slots = rw stands.slots refl;
@@ -200,7 +203,8 @@ module _ (list : Medl) (script : Script) (before : List Statement) (stands : Sta
   -- a host reads its status, or a node
 
   pub status_read : (node slot : ℕ) → IsValidEvent list script (event.Read node slot source.Status)
-      → IsLine list before (event_words (event.Read node slot source.Status)) (says_event (event.Read node slot source.Status))
+      → IsLine list before (event_words (event.Read node slot source.Status))
+      (says_event (event.Read node slot source.Status))
   unfolding event_words
   status_read node slot valid =
       let n = number-word node (omega (arith, valid.0, stands.nodes)) in

@@ -1,5 +1,6 @@
 -- The lines before the events: the slots, who is switched on, and whose clock drifts.
-use Rattle.std.proofs.Common.{◌≡◌, ℕ, ◌<◌, ◌≤◌, ℤ, List, [], ◌++◌, length, None, refl, sym, subst, arith, decimal, codes}
+use Rattle.std.proofs.Common.{◌≡◌, ℕ, ◌<◌, ◌≤◌, ℤ, List, [], ◌++◌, length, None}
+use Rattle.std.proofs.Common.{refl, sym, subst, arith, decimal, codes}
 use Rattle.std.specs.Prelude.{nat_abs}
 use Rattle.std.specs.Fmt.{signed_decimal}
 use Rattle.std.proofs.lemmas.Bool.{lt-ltb, le-leb}

@@ -1,5 +1,6 @@
 -- The events of a generated script, as they are written.
-use Rattle.std.proofs.Common.{◌≡◌, ℕ, zero, suc, ◌+◌, ◌*◌, ◌%◌, ◌<◌, ◌==◌, Bool, true, false, cond, List, [], ◌∷◌, ◌++◌, map}
+use Rattle.std.proofs.Common.{◌≡◌, ℕ, zero, suc, ◌+◌, ◌*◌, ◌%◌, ◌<◌, ◌==◌, Bool}
+use Rattle.std.proofs.Common.{true, false, cond, List, [], ◌∷◌, ◌++◌, map}
 use Rattle.std.proofs.Common.{length, refl, arith, replicate, nat_lt}
 use Rattle.std.specs.List.{AllByRecursion, flat_map}
 use Rattle.ttp_base.specs.NodeSet.{below}
@@ -11,8 +12,10 @@ use Rattle.ttp_world.specs.declared.script.Source.TheVariants as source
 use Rattle.ttp_world.specs.Medl.{plan_at}
 use Rattle.ttp_world.proofs.LineLists.{each-append}
 use Rattle.script_gen.specs.Draws.{drawn}
-use Rattle.script_gen.specs.Generator.{both_channels, error_by, fault_by, fault_within, fault_slot_of, starter_of, most_faults}
-use Rattle.script_gen.specs.Generator.{has_payload, write_by, reads_by, host_events_in, error_events, fault_events, host_events}
+use Rattle.script_gen.specs.Generator.{both_channels, error_by, fault_by, fault_within}
+use Rattle.script_gen.specs.Generator.{fault_slot_of, starter_of, most_faults}
+use Rattle.script_gen.specs.Generator.{has_payload, write_by, reads_by, host_events_in}
+use Rattle.script_gen.specs.Generator.{error_events, fault_events, host_events}
 use Rattle.script_gen.specs.Generator.{all_events}
 
 -- an event of a kind that is made: faults are noise on both channels, and messages are of bytes

@@ -1,5 +1,6 @@
 -- What the lines of nodes state, the newest first: all are on from slot 0, and some clocks drift.
-use Rattle.std.proofs.Common.{◌≡◌, ℕ, zero, suc, ◌+◌, ◌<◌, ◌≤◌, ◌==◌, ℤ, pos, negsuc, Bool, true, false, cond, List, [], ◌∷◌, ◌++◌}
+use Rattle.std.proofs.Common.{◌≡◌, ℕ, zero, suc, ◌+◌, ◌<◌, ◌≤◌, ◌==◌, ℤ, pos, negsuc}
+use Rattle.std.proofs.Common.{Bool, true, false, cond, List, [], ◌∷◌, ◌++◌}
 use Rattle.std.proofs.Common.{length, count_by, Option, Some, None, unwrap_or, refl, ap, ◌∙◌, sym, subst, arith}
 use Rattle.std.specs.Prelude.{nat_abs}
 use Rattle.std.specs.Option.{option_or}
@@ -67,7 +68,8 @@ module _ (list : Medl) (script : Script) (few : script.slots ≤ SLOT_LIMIT) (no
   on-stands k = record { slots = ons-slots script.slots k; few = few; nodes = nodes }
 
   pub on-reads : (k : ℕ) → k ≤ length list.slots → ((j : ℕ) → j < k → on_slot script j ≡ Some 0)
-      → Reads list (says_slots script.slots ∷ []) (lines_below (λ j. on_lines j (on_slot script j)) k) (ons script.slots k)
+      → Reads list (says_slots script.slots ∷ [])
+      (lines_below (λ j. on_lines j (on_slot script j)) k) (ons script.slots k)
   unfolding on_line
   on-reads zero within on = reads_none list (says_slots script.slots ∷ [])
   on-reads (suc k) within on =
@@ -113,21 +115,25 @@ or-other false before k value j other = rw other refl
 
 pub drifts-slots : (slots n : ℕ) (drift : ℕ → ℤ) (k : ℕ) → slots_of (drifts slots n drift k) ≡ Some slots
 drifts-slots slots n drift zero = ons-slots slots n
-drifts-slots slots n drift (suc k) = or-slots (nat_abs (drift k) == 0) (drifts slots n drift k) k (drift k) ∙ drifts-slots slots n drift k
+drifts-slots slots n drift (suc k) =
+    or-slots (nat_abs (drift k) == 0) (drifts slots n drift k) k (drift k) ∙ drifts-slots slots n drift k
 
 pub drifts-on : (slots n : ℕ) (drift : ℕ → ℤ) (k j : ℕ) → on_of (drifts slots n drift k) j ≡ on_of (ons slots n) j
 drifts-on slots n drift zero j = refl
-drifts-on slots n drift (suc k) j = or-on (nat_abs (drift k) == 0) (drifts slots n drift k) k (drift k) j ∙ drifts-on slots n drift k j
+drifts-on slots n drift (suc k) j =
+    or-on (nat_abs (drift k) == 0) (drifts slots n drift k) k (drift k) j ∙ drifts-on slots n drift k j
 
 pub drifts-events : (slots n : ℕ) (drift : ℕ → ℤ) (k : ℕ) → events_of (drifts slots n drift k) ≡ []
 drifts-events slots n drift zero = ons-events slots n
-drifts-events slots n drift (suc k) = or-events (nat_abs (drift k) == 0) (drifts slots n drift k) k (drift k) ∙ drifts-events slots n drift k
+drifts-events slots n drift (suc k) =
+    or-events (nat_abs (drift k) == 0) (drifts slots n drift k) k (drift k) ∙ drifts-events slots n drift k
 
 pub drifts-later : (slots n : ℕ) (drift : ℕ → ℤ) (k j : ℕ) → k ≤ j → drift_stated (drifts slots n drift k) j ≡ None
 drifts-later slots n drift zero j le = ons-drift slots n j
 drifts-later slots n drift (suc k) j le =
     let other : (k == j) ≡ false = grind (arith, nat_tests, le) in
-    or-other (nat_abs (drift k) == 0) (drifts slots n drift k) k (drift k) j other ∙ drifts-later slots n drift k j (omega (arith, le))
+    or-other (nat_abs (drift k) == 0) (drifts slots n drift k) k (drift k) j other
+    ∙ drifts-later slots n drift k j (omega (arith, le))
 
 or-writes : (none : Bool) (before : List Statement) (node : ℕ) (value : ℤ) (k t : ℕ)
     → count_by (is_write_at k t) (or_drift none before node value) ≡ count_by (is_write_at k t) before
@@ -166,7 +172,8 @@ drifts-before slots n drift (suc k) j less = by_same (k == j) refl (drifts-befor
         (or-here (nat_abs (drift k) == 0) (drifts slots n drift k) k (drift k) refl
         (drifts-later slots n drift k k (omega arith)))
     by_same false is earlier =
-        ap (λ (o : Option ℤ). unwrap_or o (pos 0)) (or-other (nat_abs (drift k) == 0) (drifts slots n drift k) k (drift k) j is)
+        ap (λ (o : Option ℤ). unwrap_or o (pos 0))
+        (or-other (nat_abs (drift k) == 0) (drifts slots n drift k) k (drift k) j is)
         ∙ earlier (grind (arith, nat_tests, is, less))
 
 module _ (list : Medl) (script : Script) (few : script.slots ≤ SLOT_LIMIT) (nodes : length list.slots ≤ 24)
@@ -198,4 +205,5 @@ module _ (list : Medl) (script : Script) (few : script.slots ≤ SLOT_LIMIT) (no
       subst (λ (text : Lines). Reads list (ons script.slots n) text (after (suc k)))
       (sym (below-next (λ j. drift_lines j (drift_of script j)) k))
       (reads_then list (ons script.slots n) (after k) (after (suc k)) _ _
-      (drift-reads k (omega (arith, within)) (λ j less. is j (omega (arith, less))) (λ j less. spans j (omega (arith, less)))) here)
+      (drift-reads k (omega (arith, within)) (λ j less. is j (omega (arith, less)))
+      (λ j less. spans j (omega (arith, less)))) here)

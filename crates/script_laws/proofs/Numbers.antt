@@ -84,7 +84,8 @@ hex-word (b ∷ bytes) small =
     let rest = hex-word bytes small.1 in
     let high = hex-value (b / 16) (omega (arith, small.0)) in
     let low = hex-value (b % 16) (omega arith) in
-    let byte : 16 * digit_value (hex_digit (b / 16)) + digit_value (hex_digit (b % 16)) ≡ b = omega (arith, high, low) in
+    let byte : 16 * digit_value (hex_digit (b / 16)) + digit_value (hex_digit (b % 16)) ≡ b =
+    omega (arith, high, low) in
     record {
       value = rw (byte, rest.value) refl;
       is = rw (high, low, lt-ltb (b / 16) 16 (omega (arith, small.0)), lt-ltb (b % 16) 16 (omega arith), rest.is) refl;

@@ -36,7 +36,8 @@ reads_more list before after w text s is tail =
           ∙ rw (is.read.faults, is.read.after) (tail.faults (suc number) rest more);
       said = λ rest.
           ap (statements_of before) (cut rest)
-          ∙ ap (λ (b : List Statement). statements_of b (lines_of_file (concat text ++ rest))) is.read.after ∙ tail.said rest;
+          ∙ ap (λ (b : List Statement). statements_of b (lines_of_file (concat text ++ rest)))
+          is.read.after ∙ tail.said rest;
     }
 
 joined : (x y : Lines) (rest : List ℕ) → concat (x ++ y) ++ rest ≡ concat x ++ (concat y ++ rest)
@@ -49,5 +50,6 @@ reads_then list before between after x y p q = record {
       ap (λ (t : List ℕ). script_faults list number before (lines_of_file t)) (joined x y rest)
       ∙ p.faults number (concat y ++ rest) (λ m. q.faults m rest more);
   said = λ rest.
-      ap (λ (t : List ℕ). statements_of before (lines_of_file t)) (joined x y rest) ∙ p.said (concat y ++ rest) ∙ q.said rest;
+      ap (λ (t : List ℕ). statements_of before (lines_of_file t)) (joined x y rest)
+      ∙ p.said (concat y ++ rest) ∙ q.said rest;
 }

@@ -22,7 +22,8 @@ use Rattle.ttp_world.specs.Script.{IsValidEvent, IsWithinSpan, on_slot, drift_of
 use Rattle.script_gen.specs.Generator.{both_channels, drift_by, all_events, generated}
 use Rattle.ttp_world.proofs.Lists.{nodes-most}
 use Rattle.script_gen.proofs.Valid.{all-valid}
-use Rattle.script_lines.specs.ScriptLines.{event_words, event_line, slots_line, script_lines, all_on_lines, all_drift_lines}
+use Rattle.script_lines.specs.ScriptLines.{event_words, event_line, slots_line, script_lines}
+use Rattle.script_lines.specs.ScriptLines.{all_on_lines, all_drift_lines}
 use Rattle.script_text.specs.Faults.{slots_of, stated_slots, on_of, drift_stated, events_of, is_write_at}
 use Rattle.script_text.specs.Lines.{lines_of_file}
 use Rattle.script_text.specs.ScriptFile.{script_of, lines_script, script_faults, statements_of, stated_script}
@@ -33,7 +34,8 @@ use Rattle.script_laws.proofs.Counts.{writes_at, messages-counted}
 use Rattle.script_laws.proofs.Events.{Stands, error_read, send_read, receive_read, write_read, status_read, node_read}
 use Rattle.script_laws.proofs.Heads.{slots_read}
 use Rattle.script_laws.proofs.Made.{IsMade, AreMade, all-made}
-use Rattle.script_laws.proofs.Nodes.{ons, ons-before, on-reads, drifts, drifts-slots, drifts-on, drifts-events, drifts-before}
+use Rattle.script_laws.proofs.Nodes.{ons, ons-before, on-reads, drifts, drifts-slots}
+use Rattle.script_laws.proofs.Nodes.{drifts-on, drifts-events, drifts-before}
 use Rattle.script_laws.proofs.Nodes.{drifts-writes, drift-stands, drift-reads}
 use Rattle.script_laws.proofs.Reading.{Reads, reads_none, reads_more, reads_then}
 use Rattle.script_laws.proofs.Statements.{IsLine}
@@ -58,7 +60,8 @@ said-drift : (before : List Statement) (events : List Event) (j : ℕ)
 said-drift before [] j = refl
 said-drift before (e ∷ events) j = said-drift (says_event e ∷ before) events j
 
-said-events : (before : List Statement) (events : List Event) → events_of (said before events) ≡ events_of before ++ events
+said-events : (before : List Statement) (events : List Event)
+    → events_of (said before events) ≡ events_of before ++ events
 said-events before [] = sym (append-nil (events_of before))
 said-events before (e ∷ events) =
     said-events (says_event e ∷ before) events ∙ append_assoc (events_of before) (e ∷ []) events
@@ -163,13 +166,20 @@ module _ (list : Medl) (slots number : ℕ) (valid : IsValid list) (some : 1 ≤
       (reads_then list (ons slots n) heads all (all_drift_lines script) _
       (subst (λ (m : ℕ). Reads list (ons slots n) (all_drift_lines script) (drifts slots n (drift_by list number) m))
       right.drift_count
-      (drift-reads list script few nodes n (drift_by list number) (length script.drift) (omega (arith, right.drift_count))
+      (drift-reads list script few nodes n (drift_by list number)
+      (length script.drift) (omega (arith, right.drift_count))
       (λ j less. drift-is j (omega (arith, less, right.drift_count)))
       (λ j less. subst (IsWithinSpan DRIFT_LIMIT) (drift-is j (omega (arith, less, right.drift_count)))
       (right.drift j (pos 0) less))))
       (events-read list script heads events stands
       (recursion_from_All (IsValidEvent list script) events right.events) (all-made list slots number)
-      (λ k t. omega (arith, right.writes k t, messages-counted k t events, drifts-writes slots n (drift_by list number) n k t)))))
+      (λ k t. omega (
+        arith,
+        right.writes k t,
+        messages-counted k t events,
+        drifts-writes
+            slots n (drift_by list number) n k t,
+      )))))
 
   on-all : (j : ℕ) → j < n → on_of all j ≡ Some 0
   on-all j less = said-on heads events j ∙ drifts-on slots n (drift_by list number) n j ∙ ons-before slots n j less

@@ -2,8 +2,10 @@
 use Rattle.std.proofs.Common.{◌≡◌, ℕ, ◌&&◌, ◌==◌, true, false, List, [], ◌∷◌, Some, refl}
 use Rattle.ttp_base.proofs.Numerals.{has}
 use Rattle.ttp_world.specs.declared.medl.Medl.{Medl}
-use Rattle.script_text.specs.Faults.{slots_of, stated_slots, has_nodes, statement_has_payload, is_in_range, is_repeat, is_write}
-use Rattle.script_text.specs.Faults.{fills_buffers, is_after_slots, statement_faults, stated_faults, form_faults, line_faults}
+use Rattle.script_text.specs.Faults.{slots_of, stated_slots, has_nodes, statement_has_payload}
+use Rattle.script_text.specs.Faults.{is_in_range, is_repeat, is_write}
+use Rattle.script_text.specs.Faults.{fills_buffers, is_after_slots, statement_faults}
+use Rattle.script_text.specs.Faults.{stated_faults, form_faults, line_faults}
 use Rattle.script_text.specs.Faults.{statements_after}
 use Rattle.script_text.specs.Lines.{words_of_line, word_at, says_nothing}
 use Rattle.script_text.specs.Statement.{Statement, keyword_of, is_spelled, has_numbers, statement_of}
@@ -26,14 +28,26 @@ no_faults : (list : Medl) (before : List Statement) (words : List (List ℕ)) (f
     → AreRight list before words form s → form_faults list before words form ≡ []
 unfolding form_faults stated_faults statement_faults
 no_faults list before words form s are =
-    rw (are.spelled, are.slots, are.numbers, are.states, are.nodes, are.payload, are.range, are.once, are.buffer, are.few) refl
+    rw (
+      are.spelled,
+      are.slots,
+      are.numbers,
+      are.states,
+      are.nodes,
+      are.payload,
+      are.range,
+      are.once,
+      are.buffer,
+      are.few,
+    ) refl
 
 -- a line is read as a statement more
 pub record IsRead (list : Medl) (before : List Statement) (line : List ℕ) (s : Statement) : Type 0 where
   pub faults : line_faults list before (words_of_line line) ≡ []
   pub after : statements_after before (words_of_line line) ≡ s ∷ before
 
-pub read_line : (list : Medl) (before : List Statement) (line : List ℕ) (words : List (List ℕ)) (form : _) (s : Statement)
+pub read_line : (list : Medl) (before : List Statement) (line : List ℕ)
+    (words : List (List ℕ)) (form : _) (s : Statement)
     → words_of_line line ≡ words → says_nothing words ≡ false → keyword_of (word_at words 0) ≡ Some form
     → AreRight list before words form s → IsRead list before line s
 unfolding line_faults statements_after

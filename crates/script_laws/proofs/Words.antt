@@ -64,7 +64,8 @@ pub word_then : (word rest : List ℕ) (words : List (List ℕ)) → IsWord word
 word_then word rest words is more =
     let line = word ++ 32 ∷ rest in
     let within : length word < length line = omega (arith, length-append word (32 ∷ rest)) in
-    let parts : list_all is_part (take (length word) line) ≡ true = ap (list_all is_part) (take-front word 32 rest) ∙ is.parts in
+    let parts : list_all is_part (take (length word) line) ≡ true =
+    ap (list_all is_part) (take-front word 32 rest) ∙ is.parts in
     let blank : is_blank (get_or line (length word) 0) ≡ true = ap is_blank (at-front word 32 rest) in
     record {
       cut =
@@ -78,7 +79,8 @@ pub last_word : (word : List ℕ) → IsWord word → HasWords word (word ∷ []
 last_word word is =
     let all = take_all (length word) word (omega arith) in
     record {
-      cut = words_of-whole word (length word) is.some refl (ap (list_all is_part) all ∙ is.parts) ∙ rw (all, words_of-empty) refl;
+      cut = words_of-whole word (length word) is.some refl (ap (list_all is_part) all ∙ is.parts)
+          ∙ rw (all, words_of-empty) refl;
       feeds = is.feeds;
       returns = is.returns;
     }

@@ -1,5 +1,5 @@
--- A script as a text: a line for its slots, one for each node that is switched on, one for each node whose clock drifts,
--- and one for each event.
+-- A script as a text: a line for its slots, one for each node that is switched on, one for each node whose clock
+-- drifts, and one for each event.
 use Rattle.std.specs.Prelude.{ℕ, nat_abs, ℤ, ◌==◌, List, [], ◌∷◌, ◌++◌, map, length, Option, Some, None}
 use Rattle.std.specs.Prelude.{codes, decimal, if◌then◌else◌}
 use Rattle.std.specs.Fmt.{signed_decimal}

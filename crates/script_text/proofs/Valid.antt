@@ -78,7 +78,8 @@ said_or P false x old new before = before
 -- the tests of nodes, payload and ranges, of which the last three of these faults tell
 faults_right : (numbers nodes payload range : Bool)
     → fault_unless numbers faults.Number
-    ++ (fault_unless nodes faults.NoNode ++ (fault_unless payload faults.NoData ++ fault_unless range faults.Range)) ≡ []
+    ++ (fault_unless nodes faults.NoNode
+    ++ (fault_unless payload faults.NoData ++ fault_unless range faults.Range)) ≡ []
     → (nodes ≡ true) × (range ≡ true) × (payload ≡ true)
 faults_right true true true true none = (refl, refl, refl)
 faults_right false nodes payload range none = cc

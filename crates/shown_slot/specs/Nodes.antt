@@ -67,7 +67,8 @@ sent_too k _ = sent_by.Several
 -- who of these nodes sent; the first of them is node k
 abbrev pub sender_among : ℕ → List NodeShown → Sender
 sender_among k [] = sent_by.Nobody
-sender_among k (node ∷ nodes) = if sends node.word then sent_too k (sender_among (k + 1) nodes) else sender_among (k + 1) nodes
+sender_among k (node ∷ nodes) =
+    if sends node.word then sent_too k (sender_among (k + 1) nodes) else sender_among (k + 1) nodes
 
 -- Sets of nodes.
 

@@ -23,7 +23,8 @@ same-valid : (list : Medl) (script : Script) (fault e : Event) → IsValidEvent 
 same-valid list script fault (event.Send node channels f from to) valid = valid
 same-valid list script fault e valid = valid
 
-all-valid : (list : Medl) (script : Script) (fault : Event) (events : List Event) → All (IsValidEvent list script) events
+all-valid : (list : Medl) (script : Script) (fault : Event) (events : List Event)
+    → All (IsValidEvent list script) events
     → All (IsValidEvent list (with_fault script fault)) events
 all-valid list script fault [] all = All-nil (IsValidEvent list (with_fault script fault))
 all-valid list script fault (e ∷ events) all =
@@ -36,7 +37,8 @@ same-messages : (script : Script) (fault : Event) (k slot : ℕ) → is_host_eve
 same-messages script fault k slot none =
     ap (filter_map (payload_of_host k))
     (filter_map-append (write_in slot) script.events (fault ∷ [])
-    ∙ ap (λ (o : Option HostWrite). filter_map (write_in slot) script.events ++ cons_option o []) (unwritten slot fault none)
+    ∙ ap (λ (o : Option HostWrite). filter_map (write_in slot) script.events ++ cons_option o [])
+    (unwritten slot fault none)
     ∙ append-nil (filter_map (write_in slot) script.events))
 
 -- it is none of a host's

@@ -49,7 +49,8 @@ brackets_words true = codes ", elements of an array take double brackets"
 abbrev pub why_words : List ℕ → ℕ → Why → List ℕ
 why_words text at (why.Due d t) = due_words d ++ (codes " is due, not " ++ token_words text at t)
 why_words text at why.NoString = codes "the string that begins here has no end or a wrong character"
-why_words text at (why.NoValue len reason) = shown_there text at len ++ (codes " is no value, " ++ no_value_words reason)
+why_words text at (why.NoValue len reason) =
+    shown_there text at len ++ (codes " is no value, " ++ no_value_words reason)
 why_words text at (why.Defined key in_brackets) =
     shown_word key ++ (codes " is defined already" ++ brackets_words in_brackets)
 

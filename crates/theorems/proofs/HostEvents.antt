@@ -39,7 +39,12 @@ event_next : (slot : ℕ) (e : Event) (ws : List HostWrite) (rs : List HostRead)
     + (length (cons_option (write_in slot e) ws) + length (cons_option (read_in slot e) rs))
     ≡ cond (is_host_event_below (suc slot) e) 1 0 + (length ws + length rs)
 event_next slot (event.Write node at payload) ws rs =
-    omega (arith, one_slot at slot, length-if {X = HostWrite} (at == slot) (record { host = node; payload = payload }) ws)
+    omega (
+      arith,
+      one_slot at slot,
+      length-if {X = HostWrite} (at == slot)
+          (record { host = node; payload = payload }) ws,
+    )
 event_next slot (event.Read node at from) ws rs =
     omega (arith, one_slot at slot, length-if {X = HostRead} (at == slot) (record { host = node; source = from }) rs)
 event_next slot _ ws rs = refl

@@ -22,7 +22,8 @@ use Rattle.ttp_world.specs.World.{Numbers, world}
 use Rattle.ttp_world.proofs.Worlds.{length-world}
 use Rattle.precision.specs.Together.{IsIn}
 use Rattle.mode_change.specs.Modes.{modes_of, mode_of, live_in}
-use Rattle.mode_change.specs.ModeText.{mode_line, mode_line_of, mode_slot_lines, mode_history_lines, mode_lines, mode_head}
+use Rattle.mode_change.specs.ModeText.{mode_line, mode_line_of, mode_slot_lines, mode_history_lines}
+use Rattle.mode_change.specs.ModeText.{mode_lines, mode_head}
 use Rattle.theorems.specs.KeptRun.{RunOneMode}
 use Rattle.theorems.specs.ModeText.{ShowsMode, ShowsOneMode}
 use Rattle.theorems.specs.Since.{after_slots}
@@ -39,7 +40,8 @@ slot-has list script row before k node =
     let line = mode_line_of list script row before in
     let count = length list.slots in
     let long = length-map-range_with_len line 0 count in
-    subst (Contains (mode_slot_lines list script row before)) (get_or-map-range_with_len line 0 count k k [] node (omega arith))
+    subst (Contains (mode_slot_lines list script row before))
+    (get_or-map-range_with_len line 0 count k k [] node (omega arith))
     (Contains-get_or (mode_slot_lines list script row before) k [] (omega (arith, node, long)))
 
 -- the text has it for each of the slots

@@ -24,8 +24,8 @@ pub record AreTogether (list : Medl) (script : Script) (history : History) : Typ
   pub clocks : (j k : ℕ) → IsOn list script history j → IsOn list script history k
       → ((node_past list script history j).offset -ℤ (node_past list script history k).offset) ≤ℤ bound list
 
--- A run in which one node may be two-faced, whose cluster starts in slot `start`. In each slot after the start every node
--- judged the frame of each other node that sent correct.
+-- A run in which one node may be two-faced, whose cluster starts in slot `start`. In each slot after the start every
+-- node judged the frame of each other node that sent correct.
 pub record IsFacedRun (list : Medl) (script : Script) (start : ℕ) (history : History) : Type 0 where
   pub together : HoldsSince (AreTogether list script) start history
   pub correct : JudgedCorrectSince list script start history

@@ -13,9 +13,9 @@ use Rattle.safety_laws.specs.SameFrames.{AcceptsAlikeSince}
 use Rattle.mode_change.specs.OneMode.{RunsOneMode}
 use Rattle.theorems.specs.Since.{HoldsSince}
 
--- At the beginning of the slot after a history, where the script has it, the clocks of any two nodes that are correct in
--- it are no further apart than the list's spread, and what one of them measures of the other lies no further from 0 than
--- what the list needs. Both are in microticks.
+-- At the beginning of the slot after a history, where the script has it, the clocks of any two nodes that are correct
+-- in it are no further apart than the list's spread, and what one of them measures of the other lies no further from 0
+-- than what the list needs. Both are in microticks.
 pub record AreClocksNear (list : Medl) (script : Script) (history : History) : Type 0 where
   pub clocks : length history < script.slots → (j k : ℕ)
       → IsIn list (is_correct_after list script (length history)) j

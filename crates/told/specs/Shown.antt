@@ -1,5 +1,7 @@
--- A text within a line, where a control character can't be mistaken for the end of the line or for a command to a terminal.
-use Rattle.std.specs.Prelude.{ℕ, ◌+◌, ◌/◌, ◌%◌, Bool, ◌&&◌, ◌||◌, nat_lt, List, [], ◌∷◌, ◌++◌, encode_utf8_all, if◌then◌else◌}
+-- A text within a line, where a control character can't be mistaken for the end of the line or for a command to a
+-- terminal.
+use Rattle.std.specs.Prelude.{ℕ, ◌+◌, ◌/◌, ◌%◌, Bool, ◌&&◌, ◌||◌, nat_lt, List}
+use Rattle.std.specs.Prelude.{[], ◌∷◌, ◌++◌, encode_utf8_all, if◌then◌else◌}
 
 -- The control characters of Unicode: those of ASCII, 127, and 128 to 159.
 abbrev pub is_control : ℕ → Bool

@@ -1,5 +1,6 @@
 -- A value that is noted takes no table away.
-use Rattle.std.proofs.Common.{◌≡◌, ℕ, ◌+◌, ◌≤◌, Bool, true, false, List, [], ◌∷◌, Option, Some, None, is_some, option_and_then, if◌then◌else◌, refl, ap, arith}
+use Rattle.std.proofs.Common.{◌≡◌, ℕ, ◌+◌, ◌≤◌, Bool, true, false, List, [], ◌∷◌, Option, Some}
+use Rattle.std.proofs.Common.{None, is_some, option_and_then, if◌then◌else◌, refl, ap, arith}
 use Rattle.toml_parser.specs.Strings.{Key}
 use Rattle.toml_walk.specs.declared.names.Origin.TheVariants as origin
 use Rattle.toml_walk.specs.declared.names.Holds.{Holds}

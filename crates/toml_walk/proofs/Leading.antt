@@ -1,5 +1,7 @@
 -- Where a part of a key leads, and that the names stand for what is noted then.
-use Rattle.std.proofs.Common.{◌≡◌, ℕ, ◌+◌, ◌<◌, ◌≤◌, Bool, true, false, is_some, List, [], ◌∷◌, ◌++◌, length, get_or, drop, append_assoc, Some, None, Result, Ok, Err, IfOk, String, Global, string_bytes, sym, ◌∙◌}
+use Rattle.std.proofs.Common.{◌≡◌, ℕ, ◌+◌, ◌<◌, ◌≤◌, Bool, true, false, is_some, List, []}
+use Rattle.std.proofs.Common.{◌∷◌, ◌++◌, length, get_or, drop, append_assoc, Some, None, Result}
+use Rattle.std.proofs.Common.{Ok, Err, IfOk, String, Global, string_bytes, sym, ◌∙◌}
 use Rattle.std.proofs.lemmas.List.{at_drop_more, at_drop_all}
 use Rattle.toml_parser.specs.Strings.{Key}
 use Rattle.toml_parser.specs.Reading.{path_view}
@@ -24,7 +26,8 @@ module _ (t : ℕ) (k : List ℕ) (noted : Noted) (names : Names) where
 
   -- a dotted key
   pub dot_implicit : (n : ℕ) → held_by t k noted.names ≡ Some (holds.Table origin.Implicit n) → n < noted.tables
-      → NamesStandFor names (noting t k (holds.Table origin.Dotted n) noted) → LeadsTo (Some n) names (pass_dot t k noted)
+      → NamesStandFor names (noting t k (holds.Table origin.Dotted n) noted)
+      → LeadsTo (Some n) names (pass_dot t k noted)
   dot_implicit n held low stands = (noting t k (holds.Table origin.Dotted n) noted, rw held, stands, low)
 
   pub dot_dotted : (n : ℕ) → held_by t k noted.names ≡ Some (holds.Table origin.Dotted n) → NamesStandFor names noted
@@ -69,7 +72,8 @@ module _ (t : ℕ) (key : Key) (noted : Noted) where
   put_once at now led free = rw (led, free)
 
 module _ (key : Key) (noted : Noted) where
-  pub opened_stops : (is_element : Bool) → along pass_header key.0 0 noted ≡ None → header_opened is_element key noted ≡ None
+  pub opened_stops : (is_element : Bool) → along pass_header key.0 0 noted ≡ None
+      → header_opened is_element key noted ≡ None
   unfolding header_opened
   opened_stops is_element none = rw none
 
@@ -92,7 +96,8 @@ dotted_on bytes parts last i part low is =
     let rest = dotted (path_view (drop (i + 1) parts)) last in
     let turn : dotted (path_view (drop i parts)) last ≡ string_bytes part ++ 46 ∷ rest =
     at_drop_more (λ ys. dotted (path_view ys) last) parts i part low ∙ rw (← is) in
-    rw turn (sym (append_assoc (bytes ++ string_bytes part) (46 ∷ []) rest ∙ append_assoc bytes (string_bytes part) (46 ∷ rest)))
+    rw turn (sym (append_assoc (bytes ++ string_bytes part) (46 ∷ []) rest
+    ∙ append_assoc bytes (string_bytes part) (46 ∷ rest)))
 
 pub dotted_end : (parts : List (String Global)) (last : List ℕ) (i : ℕ) → length parts ≤ i
     → dotted (path_view (drop i parts)) last ≡ last

@@ -1,5 +1,7 @@
 -- Names stand for what is noted: what each change of the tables keeps.
-use Rattle.std.proofs.Common.{◌≡◌, ℕ, zero, suc, ◌+◌, ◌<◌, ◌≤◌, Bool, true, false, ◌&&◌, ◌==◌, cond, List, [], ◌∷◌, ◌++◌, length, length-append, length-set, get_or, set, Option, Some, None, String, Global, BTreeMap, ⊎_elim, refl, ap, ◌∙◌, arith}
+use Rattle.std.proofs.Common.{◌≡◌, ℕ, zero, suc, ◌+◌, ◌<◌, ◌≤◌, Bool, true, false, ◌&&◌, ◌==◌, cond, List}
+use Rattle.std.proofs.Common.{[], ◌∷◌, ◌++◌, length, length-append, length-set, get_or, set, Option}
+use Rattle.std.proofs.Common.{Some, None, String, Global, BTreeMap, ⊎_elim, refl, ap, ◌∙◌, arith}
 use Rattle.std.proofs.lemmas.Bool.{cases_eq}
 use Rattle.std.proofs.lemmas.Bool.Decides.{nat_tests}
 use Rattle.std.proofs.lemmas.Option.{slice_get_past, slice_get_read}
@@ -25,7 +27,8 @@ kept_more [] m t k none = one_empty m t k none
 kept_more (x ∷ tables) m zero k none = refl
 kept_more (x ∷ tables) m (suc t) k none = kept_more tables m t k none
 
-pub stands_new : (names : Names) (m : Table) → names.tables.items ≡ m ∷ [] → m.entries ≡ [] → NamesStandFor names nothing_noted
+pub stands_new : (names : Names) (m : Table) → names.tables.items ≡ m ∷ [] → m.entries
+    ≡ [] → NamesStandFor names nothing_noted
 stands_new names m items none = record {
   count = ap length items;
   root = omega arith;
@@ -37,7 +40,8 @@ pub stands_more : (old new : Names) (m : Table) (noted : Noted) → new.tables.i
     → m.entries ≡ [] → NamesStandFor old noted → NamesStandFor new (with_table noted)
 stands_more old new m noted items none stands = record {
   count =
-      let longer : length new.tables.items ≡ length old.tables.items + 1 = rw items (length-append old.tables.items (m ∷ [])) in
+      let longer : length new.tables.items ≡ length old.tables.items + 1 =
+      rw items (length-append old.tables.items (m ∷ [])) in
       omega (arith, stands.count);
   root = omega arith;
   held = λ t k. rw items (kept_more old.tables.items m t k none ∙ stands.held t k);
@@ -85,7 +89,8 @@ find_none names noted t k stands past =
     let kept : None ≡ kept_by names.tables.items t k = rw none in
     kept ∙ stands.held t k
 
-pub find_some : (names : Names) (noted : Noted) (t : ℕ) (k : List ℕ) (m : Table) (r : Option Holds) → NamesStandFor names noted
+pub find_some : (names : Names) (noted : Noted) (t : ℕ) (k : List ℕ) (m : Table) (r : Option Holds)
+    → NamesStandFor names noted
     → t < length names.tables.items → m ≡ get_or names.tables.items t m → r ≡ get_by_text m k
     → r ≡ held_by t k noted.names
 find_some names noted t k m r stands low is found =

@@ -1,5 +1,6 @@
 -- The loops of the walk, a turn at a time.
-use Rattle.std.proofs.Common.{◌≡◌, ℕ, zero, suc, ◌-◌, ◌<◌, Bool, true, false, not, ◌==◌, List, length, drop, Option, Some, None, Result, Ok, Err, MatchResult, refl, sym, ap, ◌∙◌, arith}
+use Rattle.std.proofs.Common.{◌≡◌, ℕ, zero, suc, ◌-◌, ◌<◌, Bool, true, false, not, ◌==◌, List, length, drop}
+use Rattle.std.proofs.Common.{Option, Some, None, Result, Ok, Err, MatchResult, refl, sym, ap, ◌∙◌, arith}
 use Rattle.std.specs.Result.{IsErrAnd}
 use Rattle.toml_parser.specs.Lexical.{first, skip_blank}
 use Rattle.toml_parser.specs.Strings.{Key}
@@ -19,7 +20,8 @@ use Rattle.toml_walk.specs.Turns.{Halts, Notes, Opens}
 use Rattle.toml_walk.proofs.Growing.{put_grows}
 
 -- what a `?` passes on: an error of the walk
-pub walks_err : {A B : Type 0} (f : A → B) (r : Result A Halt) (expected : Result B Halted) (e : Halt) (Q : Halt → Type 0)
+pub walks_err : {A B : Type 0} (f : A → B) (r : Result A Halt)
+    (expected : Result B Halted) (e : Halt) (Q : Halt → Type 0)
     → IsErrAnd r Q → ((y : Halt) → Q y → y ≡ e) → Halts e expected → Walks f r expected
 walks_err f (Ok a) expected e Q h same stops = absurd h
 walks_err f (Err y) expected e Q h same stops = λ x is. stops x (sym (same y h) ∙ is)
@@ -63,7 +65,8 @@ pub put_halts : (t : ℕ) (k : Key) (noted : Noted) (text : List ℕ) (h : Halt)
     → StopsAt h (spec.defined false k text) → Halts h (spec.put_at t k noted text)
 put_halts t k noted text h none stops x is = rw none (ap Err (sym (stops x is)))
 
-pub opened_ok : (b : Bool) (k : Key) (noted more : Noted) (t : ℕ) (text : List ℕ) → header_opened b k noted ≡ Some (t, more)
+pub opened_ok : (b : Bool) (k : Key) (noted more : Noted) (t : ℕ) (text : List ℕ)
+    → header_opened b k noted ≡ Some (t, more)
     → spec.opened_at b k noted text ≡ Ok (spec.section t more)
 opened_ok b k noted more t text is = rw is
 
@@ -112,14 +115,16 @@ opened_opens section names b k noted t text same table leads =
     )
 
 -- what a `?` passes on, beside what else a result says
-pub match_err : {A B : Type 0} (P : A → Type 0) (r : Result A Halt) (expected : Result B Halted) (e : Halt) (Q : Halt → Type 0)
+pub match_err : {A B : Type 0} (P : A → Type 0) (r : Result A Halt)
+    (expected : Result B Halted) (e : Halt) (Q : Halt → Type 0)
     → IsErrAnd r Q → ((y : Halt) → Q y → y ≡ e) → Halts e expected → MatchResult r P (λ h. Halts h expected)
 match_err P (Ok a) expected e Q h same stops = absurd h
 match_err P (Err y) expected e Q h same stops = λ x is. stops x (sym (same y h) ∙ is)
 
 -- a turn through an inline table
 module _ (v : List ℕ → Result (List ℕ) Halted) (n : ℕ) (noted : Noted) (text : List ℕ) where
-  pub members_end : (first (skip_blank text) == 125) ≡ true → members v (suc n) noted text ≡ Ok (drop 1 (skip_blank text))
+  pub members_end : (first (skip_blank text) == 125) ≡ true
+      → members v (suc n) noted text ≡ Ok (drop 1 (skip_blank text))
   unfolding members
   members_end closing = rw closing
 
@@ -128,7 +133,8 @@ module _ (v : List ℕ → Result (List ℕ) Halted) (n : ℕ) (noted : Noted) (
   unfolding members
   members_no_key h other read = rw (other, read)
 
-  module _ (k : Key) (at : List ℕ) (other : (first (skip_blank text) == 125) ≡ false) (read : spec.pair_key (skip_blank text) ≡ Ok (k, at)) where
+  module _ (k : Key) (at : List ℕ) (other : (first (skip_blank text) == 125) ≡ false)
+      (read : spec.pair_key (skip_blank text) ≡ Ok (k, at)) where
     pub members_no_value : (h : Halted) → v at ≡ Err h → members v (suc n) noted text ≡ Err h
     unfolding members
     members_no_value h bad = rw (other, read, bad)
@@ -168,7 +174,8 @@ module _ (n : ℕ) (sections : spec.Sections) (text : List ℕ) where
   unfolding lines
   lines_twice s rest h some read bad = rw (some, read, bad)
 
-  pub lines_on : (s : spec.ReadStatement) (rest : List ℕ) (more : spec.Sections) → (length (skip_blank text) == 0) ≡ false
+  pub lines_on : (s : spec.ReadStatement) (rest : List ℕ) (more : spec.Sections)
+      → (length (skip_blank text) == 0) ≡ false
       → spec.statement (skip_blank text) ≡ Ok (s, rest)
       → spec.define sections s.key s.what (skip_blank text) ≡ Ok more → lines (suc n) sections text ≡ lines n more rest
   unfolding lines

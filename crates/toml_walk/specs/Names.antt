@@ -2,7 +2,8 @@
 --
 -- A name is a key of a table. Tables are numbered in the order in which they come up; the root is table 0. What names
 -- hold is a diary with its newest entry first.
-use Rattle.std.specs.Prelude.{ℕ, ◌+◌, Bool, ◌&&◌, ◌==◌, List, [], ◌∷◌, Option, Some, None, option_and_then, is_some, if◌then◌else◌}
+use Rattle.std.specs.Prelude.{ℕ, ◌+◌, Bool, ◌&&◌, ◌==◌, List, [], ◌∷◌, Option, Some}
+use Rattle.std.specs.Prelude.{None, option_and_then, is_some, if◌then◌else◌}
 use Rattle.std.specs.Str.{bytes_eq}
 use Rattle.toml_parser.specs.Strings.{Key}
 use Rattle.toml_walk.specs.declared.names.Origin.{Origin}

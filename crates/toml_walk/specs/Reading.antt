@@ -1,5 +1,6 @@
 -- How a result stands to what the definitions give.
-use Rattle.std.specs.Prelude.{◌≡◌, ℕ, ◌<◌, List, length, Option, Some, None, option_and_then, Result, Ok, Err, MatchResult, IfOk, Bool, true, false, slice_get, String}
+use Rattle.std.specs.Prelude.{◌≡◌, ℕ, ◌<◌, List, length, Option, Some, None, option_and_then, Result}
+use Rattle.std.specs.Prelude.{Ok, Err, MatchResult, IfOk, Bool, true, false, slice_get, String}
 use Rattle.std.specs.Borrow.{Bor}
 use Rattle.std.specs.declared.alloc.Global.{Global}
 use Rattle.std.specs.BTreeMap.{BTreeMap, get_by_text}

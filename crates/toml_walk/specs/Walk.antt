@@ -1,5 +1,6 @@
 -- A text as TOML, statement by statement and part by part, up to the first part that can't be read.
-use Rattle.std.specs.Prelude.{ℕ, zero, suc, ◌-◌, Bool, true, false, not, ◌&&◌, ◌==◌, List, [], ◌∷◌, ◌++◌, length, drop, slice_index}
+use Rattle.std.specs.Prelude.{ℕ, zero, suc, ◌-◌, Bool, true, false, not, ◌&&◌, ◌==◌}
+use Rattle.std.specs.Prelude.{List, [], ◌∷◌, ◌++◌, length, drop, slice_index}
 use Rattle.std.specs.Prelude.{Option, Some, None, option_map, Result, Ok, Err, if◌then◌else◌}
 use Rattle.toml_parser.specs.Lexical.{first, comma, equals, left_bracket, right_bracket, left_brace, right_brace, dot}
 use Rattle.toml_parser.specs.Lexical.{skip_ws, skip_blank}

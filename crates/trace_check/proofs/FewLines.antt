@@ -41,7 +41,8 @@ abbrev acts_in : ℕ → List Event → ℕ
 acts_in slot events = length (filter_map (write_in slot) events) + length (filter_map (read_in slot) events)
 
 no_host : (slot : ℕ) (e : Event) (events : List Event) → write_in slot e ≡ None → read_in slot e ≡ None
-    → acts_in slot events ≤ count_by is_host_event events → acts_in slot (e ∷ events) ≤ count_by is_host_event (e ∷ events)
+    → acts_in slot events ≤ count_by is_host_event events
+    → acts_in slot (e ∷ events) ≤ count_by is_host_event (e ∷ events)
 no_host slot e events write read others =
     omega (
       arith,

@@ -101,7 +101,8 @@ told_not_older r (e ∷ earlier) all =
     )
 
 -- all reads are up to what there is after the slot
-pub up_to_newest : (most : HostRead → ℕ) (read : HostRead) (number : ℕ) (earlier : List ReadMessage) → most read ≤ number
+pub up_to_newest : (most : HostRead → ℕ) (read : HostRead) (number : ℕ)
+    (earlier : List ReadMessage) → most read ≤ number
     → AllByRecursion (λ r. r.number ≤ most r.read) earlier
     → AllByRecursion (λ e. e.read ≡ read → e.number ≤ number) earlier
 up_to_newest most read number [] up all = tt
@@ -241,7 +242,8 @@ module _ (list : Medl) (script : Script) (history : History) (chosen : List Chos
           (record { read = read; number = newest_before list script history read + 1 } ∷ earlier)) [
             | inl same ↦
                 let is = same_floor other ring_too same in
-                let equal : newest_before list script history other ≡ older = ap (newest_before list script history) is in (
+                let equal : newest_before list script history other ≡ older =
+                ap (newest_before list script history) is in (
                   λ less. absurd (omega (arith, less, floor_here other same, equal)),
                   λ all. absurd (omega (arith, all.0 (sym is), equal)),
                 )

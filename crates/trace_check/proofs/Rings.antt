@@ -47,7 +47,8 @@ newer_at xs message some =
     ap (λ (n : ℕ). get_or (xs ++ message ∷ []) n []) last ∙ get_or-append_seam xs message [] []
 
 pub older-message : (list : Medl) (script : Script) (row : List Entry) (history : History) (k : ℕ) (from : Source)
-    → get_or (ring_messages list script (row ∷ history) k from) (newest_number (ring_messages list script history k from)) []
+    → get_or (ring_messages list script (row ∷ history) k from)
+    (newest_number (ring_messages list script history k from)) []
     ≡ newest_message (ring_messages list script history k from)
 older-message list script row history k source.Status =
     older_at (status_messages list script history k) _ (omega (arith, status_messages-count list script history k))

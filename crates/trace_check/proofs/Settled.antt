@@ -231,7 +231,8 @@ module _ (list : Medl) (script : Script) (row : List Entry) (history : History) 
           | inr other ↦
               set_other incoming.statuses.items node k status other
               ∙ tells.statuses k there
-              ∙ ap (λ (h : History). Some (record { words = newest_message (ring_messages list script h k source.Status) }))
+              ∙ ap (λ (h : History). Some
+              (record { words = newest_message (ring_messages list script h k source.Status) }))
               (beside_it node k other)
         ];
   }

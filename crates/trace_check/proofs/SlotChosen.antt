@@ -149,7 +149,8 @@ module _ (list : Medl) (script : Script) (valid : IsValid list) (valid_script : 
       let slot = length-world list script numbers in
       let rs = λ (at : ℕ). read_messages (reads_in script at) read in
       let new : SlotNumbers = record { sent = map message_of row_chosen; read = read } in
-      let reads : are_legal_reads list script before (row_chosen ∷ before) (reads_in script (length before)) read ≡ true =
+      let reads : are_legal_reads list script before (row_chosen ∷ before)
+      (reads_in script (length before)) read ≡ true =
       ap (λ (at : ℕ). are_legal_reads list script before (row_chosen ∷ before) (reads_in script at) read) slot
       ∙ (λ i. eq-eqb (length (reads_in script (length numbers))) (length read) (sym count) i
       && each_between [] (rs (length numbers)) may i) in

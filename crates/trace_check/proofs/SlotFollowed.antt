@@ -33,7 +33,8 @@ use Rattle.trace_check.proofs.NodesDepart.{slot-lines, taken-named}
 use Rattle.trace_check.proofs.OneRead.{not_older, up_to_newest}
 use Rattle.trace_check.proofs.ReadsDepart.{count-first, has-next, length-rest, may-next, messages-rest, newest_rest}
 use Rattle.trace_check.proofs.ReadsDepart.{small-first}
-use Rattle.trace_check.proofs.SlotChosen.{begins-append, chosen-ended, chosen-sizes, goes-on, legal-chosen, lines-chosen, row-chosen}
+use Rattle.trace_check.proofs.SlotChosen.{begins-append, chosen-ended, chosen-sizes, goes-on}
+use Rattle.trace_check.proofs.SlotChosen.{legal-chosen, lines-chosen, row-chosen}
 use Rattle.trace_check.proofs.SlotChosen.{departs-early, taken-legal}
 use Rattle.trace_check.proofs.Told.{front-same, rest-same}
 
@@ -237,21 +238,22 @@ module _ (list : Medl) (script : Script) (valid : IsValid list) (valid_script : 
             };
             legal =
                 legal-chosen list script valid valid_script numbers legal chosen
-                (number_by_text list script (length numbers) text) number_legal chosen_at reads_at.numbers reads_at.count
+                (number_by_text list script (length numbers) text) number_legal
+                chosen_at reads_at.numbers reads_at.count
                 reads_at.legal;
             begins =
                 goes-on list script valid valid_script numbers legal chosen
                 (number_by_text list script (length numbers) text) number_legal chosen_at text one two rest nodes
                 (subst (λ (m : ℕ). BeginsWith one (write_lines list script m) two) count writes) reads_at;
           };
-          stands =
-              stands_next reads_at.numbers new mid plant_is outgoing incoming width floors within;
+          stands = stands_next reads_at.numbers new mid plant_is outgoing incoming width floors within;
         }
 
     -- hosts would have read the newest messages
     newest_reads : List ℕ
     newest_reads =
-        map (newest_before list script (row_after list script (world list script numbers) chosen ∷ world list script numbers))
+        map (newest_before list script
+        (row_after list script (world list script numbers) chosen ∷ world list script numbers))
         (reads_in script (length numbers))
 
     -- the text departs from the lines of what hosts write
@@ -270,24 +272,30 @@ module _ (list : Medl) (script : Script) (valid : IsValid list) (valid_script : 
         (number_by_text list script (length numbers) text) number_legal chosen_at text rest writes_at.due front
         writes_at.others newest_reads (length-map reads _)
         (newest-may list script history chosen [] reads tt)
-        (ap (λ (ls : Lines). a ++ ls) writes_at.parts ∙ sym (append_assoc a writes_at.right (writes_at.due ∷ writes_at.others)))
+        (ap (λ (ls : Lines). a ++ ls) writes_at.parts
+        ∙ sym (append_assoc a writes_at.right (writes_at.due ∷ writes_at.others)))
         (begins-append text one rest a writes_at.right nodes writes_at.begins)
         (λ other more legal_too same is.
-        let nodes_too = map (node_line_of list script (row_of_world list script other numbers) history) (below (length list.slots)) in
-        let reads_too = read_lines list script (length history) (row_of_world list script other numbers ∷ history) other.read in
+        let nodes_too = map (node_line_of list script (row_of_world list script other numbers) history)
+        (below (length list.slots)) in
+        let reads_too = read_lines list script (length history)
+        (row_of_world list script other numbers ∷ history) other.read in
         let width : length (nodes_too ++ writes_at.right) ≡ length front =
         omega (
           arith,
           length-append nodes_too writes_at.right,
           length-append a writes_at.right,
-          length-map-range_with_len (node_line_of list script (row_of_world list script other numbers) history) 0 (length list.slots),
-          length-map-range_with_len (node_line_of list script (row_after list script history chosen) history) 0 (length list.slots),
+          length-map-range_with_len
+              (node_line_of list script (row_of_world list script other numbers) history) 0 (length list.slots),
+          length-map-range_with_len
+              (node_line_of list script (row_after list script history chosen) history) 0 (length list.slots),
         ) in
         let whole : lines_of_slot list script other numbers
         ≡ (nodes_too ++ writes_at.right) ++ writes_at.due ∷ (writes_at.others ++ reads_too) =
         ap (λ (ls : Lines). (nodes_too ++ ls) ++ reads_too)
         (ap (write_lines list script) (length-world list script numbers) ∙ writes_at.parts)
-        ∙ ap (λ (ls : Lines). ls ++ reads_too) (sym (append_assoc nodes_too writes_at.right (writes_at.due ∷ writes_at.others)))
+        ∙ ap (λ (ls : Lines). ls ++ reads_too)
+        (sym (append_assoc nodes_too writes_at.right (writes_at.due ∷ writes_at.others)))
         ∙ append_assoc (nodes_too ++ writes_at.right) (writes_at.due ∷ writes_at.others) reads_too in
         let line : get_or (lines_of_slot list script other numbers) (length front) [] ≡ writes_at.due =
         (λ i. get_or (whole i) (sym width i) [])
@@ -310,7 +318,8 @@ module _ (list : Medl) (script : Script) (valid : IsValid list) (valid_script : 
         },
         named-run list script numbers valid_script (legal-names list script numbers legal),
       );
-      second = named-run list script (other ∷ numbers) valid_script (legal-names list script (other ∷ numbers) legal_too);
+      second = named-run list script (other ∷ numbers) valid_script
+          (legal-names list script (other ∷ numbers) legal_too);
       slots = refl;
     }
 
@@ -354,9 +363,11 @@ module _ (list : Medl) (script : Script) (valid : IsValid list) (valid_script : 
         let chosen_too = messages_chosen list script (length numbers) other.sent in
         let i = (chosen_of chosen_too j).number in
         let are : AreLines departs.right =
-        subst AreLines same (AreLines-take j (lines_of_slot list script other numbers) (slot-lines list script other numbers)) in
+        subst AreLines same (AreLines-take j (lines_of_slot list script other numbers)
+        (slot-lines list script other numbers)) in
         let in_text : get_or (lines_of text) j [] ≡ line =
-        line-behind text rest line more departs.right departs.begins there are (node-is_line list script other numbers j node) in
+        line-behind text rest line more departs.right departs.begins there are
+        (node-is_line list script other numbers j node) in
         let number : message_of (entry_of row j) ≡ message_of (entry_of row_too j) =
         same_message (is_loaded s j) (chosen_of chosen j).number i (message_of (entry_of row j))
         (message_of (entry_of row_too j)) (message_of-row_in s chosen j node) (message_of-row_in s chosen_too j node)
@@ -415,7 +426,8 @@ module _ (list : Medl) (script : Script) (valid : IsValid list) (valid_script : 
         let third : BeginsWith two c rest =
         amiss.begins
         ∙ ap (λ (k : ℕ). concat (map (read_line list script k (row ∷ history)) (read_messages reads m)) ++ rest) at in
-        let writes_at : BeginsWith one b two = subst (λ (k : ℕ). BeginsWith one (write_lines list script k) two) count writes in
+        let writes_at : BeginsWith one b two =
+        subst (λ (k : ℕ). BeginsWith one (write_lines list script k) two) count writes in
         record {
           new = new;
           legal = new_legal;
@@ -471,7 +483,8 @@ module _ (list : Medl) (script : Script) (valid : IsValid list) (valid_script : 
                     (legal-message list script other numbers k legal_too node) in
                     let number_is : (chosen_of chosen k).number ≡ number_by_text list script (length numbers) text k =
                     ap (λ (c : Chosen). c.number) (chosen_at k node) in
-                    let small = legal-small list script (length numbers) k (number_by_text list script (length numbers) text k) valid
+                    let small = legal-small list script (length numbers) k
+                    (number_by_text list script (length numbers) text k) valid
                     valid_script few (number_legal k) in
                     let line_k : f_too k ≡ f k =
                     sym (get_or-map-range_with_len f_too 0 n k k [] node (omega arith))
@@ -482,7 +495,8 @@ module _ (list : Medl) (script : Script) (valid : IsValid list) (valid_script : 
                     (sym (line-names list script row_too history k i told_too
                     (legal-small list script (length numbers) k i valid valid_script few ok))
                     ∙ ap number_by_line line_k
-                    ∙ line-names list script row history k (chosen_of chosen k).number told (omega (arith, small, number_is))) in
+                    ∙ line-names list script row history k (chosen_of chosen k).number
+                    told (omega (arith, small, number_is))) in
                     let sent : get_or other.sent k None ≡ Some i =
                     ap (λ (ns : List (Option ℕ)). get_or ns k None)
                     (legal-shapes list script (other ∷ numbers) legal_too).0.sent
@@ -499,18 +513,22 @@ module _ (list : Medl) (script : Script) (valid : IsValid list) (valid_script : 
               let next = has-next list script (length numbers) (row ∷ history) reads m other.read d amiss.within
               (legal-shapes list script (other ∷ numbers) legal_too).0.reads
               (small-first most reads m (omega (arith, amiss.within))
-              (legal-AreNumbersOfAll list script (new ∷ numbers) valid valid_script (omega (arith, few)) new_legal).0.small_read)
-              (legal-AreNumbersOfAll list script (other ∷ numbers) valid valid_script (omega (arith, few)) legal_too).0.small_read
+              (legal-AreNumbersOfAll list script (new ∷ numbers) valid valid_script
+              (omega (arith, few)) new_legal).0.small_read)
+              (legal-AreNumbersOfAll list script (other ∷ numbers) valid valid_script
+              (omega (arith, few)) legal_too).0.small_read
               reads_here in
               let r : ReadMessage = record { read = next.read; number = next.number } in
               let later : d ≡ line r ∷ map line next.later =
               rest-same c c d (line r ∷ map line next.later) refl
-              (sym reads_here ∙ ap (map line) next.messages ∙ map-append line (read_messages reads m) (r ∷ next.later)) in
+              (sym reads_here ∙ ap (map line) next.messages
+              ∙ map-append line (read_messages reads m) (r ∷ next.later)) in
               let due : get_or lines_too (length front) [] ≡ line_of_read list script history chosen r =
               ap (λ (ls : Lines). get_or ls (length front) []) (cut ∙ ap (λ (ls : Lines). front ++ ls) later)
               ∙ get_or-append_seam front (line r) (map line next.later) []
               ∙ ap (λ (k : ℕ). read_line list script k (row ∷ history) r) (sym at) in
-              let may = may-next list script history chosen (read_messages reads m) r next.later (all_reads script numbers)
+              let may = may-next list script history chosen
+              (read_messages reads m) r next.later (all_reads script numbers)
               (ap (list_all (is_legal_read list script history (row ∷ history))) (sym next.messages)
               ∙ ap (λ (now : List Entry). list_all (is_legal_read list script history (now ∷ history))
               (read_messages reads other.read)) (sym row_same)

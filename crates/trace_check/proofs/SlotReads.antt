@@ -203,7 +203,8 @@ module _ (list : Medl) (script : Script) (history : History) (chosen : List Chos
           (subst (λ (s : HostRead). MayRead list script history chosen
           (reverse (read_messages reads so_far.numbers)) (record { read = s; number = number })) (sym same) may)
           (sym none.same ∙ is
-          ∙ ap (λ (s : HostRead). line_of_read list script history chosen (record { read = s; number = number }) ++ more)
+          ∙ ap (λ (s : HostRead). line_of_read list script history chosen
+          (record { read = s; number = number }) ++ more)
           (sym same));
     }
 

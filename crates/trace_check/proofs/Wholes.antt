@@ -104,7 +104,8 @@ module _ (list : Medl) (script : Script) (valid : IsValid list) (valid_script : 
   same_before numbers olds one other legal legal_too long few same =
       let many = length-so_far olds legal_too ∙ ap (λ n. suc (lines_of_slots list script n)) long
       ∙ sym (length-so_far numbers legal) in
-      let fronts = front-same (lines_so_far list script olds) (lines_so_far list script numbers) other one many same in (
+      let fronts = front-same (lines_so_far list script olds)
+      (lines_so_far list script numbers) other one many same in (
         one_run list script olds numbers valid valid_script long (omega (arith, long, few)) legal_too legal
             (ap (λ (lines : Lines). drop 1 lines) fronts),
         rest-same (lines_so_far list script olds) (lines_so_far list script numbers) other one many same,

@@ -32,7 +32,8 @@ split_at h xs i d y within is =
 abbrev pub messages_by : ℕ → List HostWrite → List (List ℕ)
 messages_by host writes = filter_map (payload_of_host host) writes
 
-pub found_after : (xs : List (List ℕ)) (y : List ℕ) (ys : List (List ℕ)) → slice_get ((xs ++ y ∷ []) ++ ys) (length xs) ≡ Some y
+pub found_after : (xs : List (List ℕ)) (y : List ℕ) (ys : List (List ℕ))
+    → slice_get ((xs ++ y ∷ []) ++ ys) (length xs) ≡ Some y
 found_after [] y ys = refl
 found_after (x ∷ xs) y ys = found_after xs y ys
 
@@ -75,7 +76,8 @@ module _ (at : ℕ → Option HostWrite) (host : ℕ) (places : List ℕ) where
       let whole : messages_by host (filter_map at places)
       ≡ (messages_at i ++ y ∷ []) ++ messages_by host (filter_map at (drop (i + 1) places)) =
       ap (messages_by host) (front_and at places (i + 1))
-      ∙ filter_map-append (payload_of_host host) (filter_map at (take (i + 1) places)) (filter_map at (drop (i + 1) places))
+      ∙ filter_map-append (payload_of_host host)
+      (filter_map at (take (i + 1) places)) (filter_map at (drop (i + 1) places))
       ∙ ap (λ (front : List (List ℕ)). front ++ messages_by host (filter_map at (drop (i + 1) places)))
       (messages_at-own i w within is own) in
       subst (λ (m : ℕ). slice_get (messages_by host (filter_map at places)) m ≡ Some y) count

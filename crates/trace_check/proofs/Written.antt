@@ -238,7 +238,8 @@ unfolding onto
 counted-onto k [] earlier = omega arith
 counted-onto k (w ∷ writes) earlier =
     counted-onto k writes (w ∷ earlier)
-    ∙ ap (λ (n : ℕ). length (messages_by k writes) + n) (sum_by-cons (λ (x : HostWrite). cond (x.host == k) 1 0) w earlier)
+    ∙ ap (λ (n : ℕ). length (messages_by k writes) + n)
+    (sum_by-cons (λ (x : HostWrite). cond (x.host == k) 1 0) w earlier)
     ∙ moved (w.host == k) w.payload (messages_by k writes) (count_by (λ e. e.host == k) earlier)
   where
     moved : (own : Bool) (payload : List ℕ) (messages : List (List ℕ)) (m : ℕ)

@@ -1,5 +1,6 @@
 -- How far a text has the lines that are due.
-use Rattle.std.specs.Prelude.{◌≡◌, ◌↔◌, ℕ, ◌+◌, ◌<◌, ◌≤◌, nat_lt, true, List, [], ◌∷◌, ◌++◌, length, take, get_or, slice_get, map, reverse}
+use Rattle.std.specs.Prelude.{◌≡◌, ◌↔◌, ℕ, ◌+◌, ◌<◌, ◌≤◌, nat_lt, true, List, [], ◌∷◌}
+use Rattle.std.specs.Prelude.{◌++◌, length, take, get_or, slice_get, map, reverse}
 use Rattle.std.specs.Prelude.{Option, Some, None, IfSome, IsTrue, if◌then◌else◌}
 use Rattle.std.specs.List.{concat, list_all, AllByRecursion}
 use Rattle.ttp_base.specs.NodeSet.{below}
@@ -14,7 +15,8 @@ use Rattle.ttp_world.specs.Legal.{ReadMessage, read_messages, is_legal_read, is_
 use Rattle.ttp_world.specs.Outgoing.{message_chosen}
 use Rattle.ttp_world.specs.declared.host_lines.HostRead.{HostRead}
 use Rattle.ttp_world.specs.Trace.{node_line_of, read_line, slot_lines, trace_lines}
-use Rattle.ttp_world.specs.World.{SlotNumbers, Numbers, slot_after, is_loaded, chosen_of, messages_chosen, row_in, world}
+use Rattle.ttp_world.specs.World.{SlotNumbers, Numbers, slot_after, is_loaded}
+use Rattle.ttp_world.specs.World.{chosen_of, messages_chosen, row_in, world}
 use Rattle.controller.specs.PlantStands.{PlantStandsFor, IsStep, outcome_at}
 use Rattle.controller.specs.PlantView.{PlantView}
 use Rattle.trace_check.specs.declared.follow.Follower.{Follower}

@@ -17,7 +17,8 @@ use Rattle.ttp_world.specs.Medl.{IsValid}
 use Rattle.ttp_world.specs.Outgoing.{nothing_chosen, message_chosen}
 use Rattle.ttp_world.specs.Script.{IsValidScript}
 use Rattle.ttp_world.specs.Trace.{node_line_of, trace_lines}
-use Rattle.ttp_world.specs.World.{SlotNumbers, Numbers, chosen_of, frames_in, is_loaded, messages_chosen, row_in, slot_after, world}
+use Rattle.ttp_world.specs.World.{SlotNumbers, Numbers, chosen_of, frames_in, is_loaded}
+use Rattle.ttp_world.specs.World.{messages_chosen, row_in, slot_after, world}
 use Rattle.ttp_world.specs.Messages.{message_of}
 use Rattle.ttp_world.proofs.Carried.{AreOfHosts, frames_in-same, message_of-row_in, messages_of-row_in, row_in-same}
 use Rattle.ttp_world.proofs.LegalShapes.{legal-message, legal-older, legal-shapes}
@@ -98,7 +99,8 @@ module _ (list : Medl) (script : Script) (valid : IsValid list) (valid_script : 
       (world list script numbers)
   has-made plant same step = record {
     same = same;
-    stands = subst (λ (l : Medl). PlantStandsFor plant script (row_in (slot_after l script history) chosen ∷ history)) same
+    stands = subst (λ (l : Medl).
+        PlantStandsFor plant script (row_in (slot_after l script history) chosen ∷ history)) same
         step.stands;
     count = ap length is ∙ chooses.nodes;
     follows = refl;
@@ -112,7 +114,8 @@ module _ (list : Medl) (script : Script) (valid : IsValid list) (valid_script : 
     carries = subst (λ frames. CarriesFrames (slot_after list script (world list script numbers)) frames plant.carried)
         (frames_in-same (slot_after list script (world list script numbers)) chosen _
         (messages_of-row_in (slot_after list script (world list script numbers)) chosen of_hosts))
-        (subst (λ (l : Medl). CarriesFrames (slot_after l script history) (frames_in (slot_after l script history) chosen)
+        (subst (λ (l : Medl). CarriesFrames (slot_after l script history)
+        (frames_in (slot_after l script history) chosen)
         plant.carried) same step.carries);
   }
 
@@ -227,14 +230,16 @@ module _ (list : Medl) (script : Script) (run next_run : TraceRun) (whole : Numb
       let next = first-next script whole slot at.left.legal.count less in
       let new = next.0 in
       let legal_new : IsLegal list script (new ∷ older) =
-      subst (IsLegal list script) next.1 (legal-first list script whole (script.slots - (slot + 1)) at.left.legal.legal) in
+      subst (IsLegal list script) next.1
+      (legal-first list script whole (script.slots - (slot + 1)) at.left.legal.legal) in
       let legal = legal-older list script new older legal_new in
       let chooses_here : Chooses o list script (length older) (number_by_text list script (length older) text) =
       subst (λ n. Chooses o list script n (number_by_text list script n text)) (sym long) chooses in
       let lines = slot-lines list script whole slot new next.1 text at.left.lines in
       let made = has-made list script valid valid_script older legal o text chooses_here o.chosen.items refl
       next_run.plant (same ∙ at.stands.same) (steps (world list script older) at.stands.plant) in
-      let row_is = same-row list script valid valid_script older legal o text chooses_here o.chosen.items refl new lines.0
+      let row_is = same-row list script valid valid_script older legal o text
+      chooses_here o.chosen.items refl new lines.0
       legal_new (omega (arith, less, long)) lines.1 in
       record {
         left = at.left;
@@ -256,7 +261,8 @@ module _ (list : Medl) (script : Script) (run next_run : TraceRun) (whole : Numb
       let long_next = first-length script whole (slot + 1) made.left.legal.count (omega (arith, less)) in
       let next = first-next script whole slot made.left.legal.count less in
       let legal_new : IsLegal list script (next.0 ∷ older_numbers) =
-      subst (IsLegal list script) next.1 (legal-first list script whole (script.slots - (slot + 1)) made.left.legal.legal) in
+      subst (IsLegal list script) next.1
+      (legal-first list script whole (script.slots - (slot + 1)) made.left.legal.legal) in
       record {
         left = record {
           legal = made.left.legal;
@@ -264,7 +270,8 @@ module _ (list : Medl) (script : Script) (run next_run : TraceRun) (whole : Numb
         };
         stands = record {
           same = ap (λ (p : PlantView). p.list) same ∙ made.made.same;
-          plant = subst (λ (p : PlantView). PlantStandsFor p script (world list script (first_numbers script whole (slot + 1))))
+          plant = subst (λ (p : PlantView).
+              PlantStandsFor p script (world list script (first_numbers script whole (slot + 1))))
               (sym same) (subst (PlantStandsFor run.plant script) (sym made.next) made.made.stands);
           outgoing = subst (HoldsNewest next_run.outgoing list script) (sym long_next) holds;
         };

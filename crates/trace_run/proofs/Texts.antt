@@ -18,7 +18,8 @@ use Rattle.trace_check.proofs.OwnNumbers.{IsTrace, is_trace-numbers}
 use Rattle.trace_run.specs.declared.run.TraceRun.{TraceRun}
 use Rattle.trace_run.specs.Run.{TraceStandsFor, first_lines, first_numbers, IsTraceAt}
 
-module _ (list : Medl) (script : Script) (text : List ℕ) (valid : IsValid list) (valid_script : IsValidScript list script)
+module _ (list : Medl) (script : Script) (text : List ℕ) (valid : IsValid list)
+    (valid_script : IsValidScript list script)
     (is : is_trace list script text ≡ true) where
   trace : IsTrace list script text
   trace = is_trace-numbers list script text is
@@ -42,7 +43,8 @@ module _ (list : Medl) (script : Script) (text : List ℕ) (valid : IsValid list
       drop_all (script.slots - 0) (numbers_in list script (lines_of text)) (omega (arith, count))
 
   -- behind its first line
-  pub at-first : (run : TraceRun) (rest : List ℕ) → TraceStandsFor run list script [] → drop 1 (lines_of text) ≡ lines_of rest
+  pub at-first : (run : TraceRun) (rest : List ℕ) → TraceStandsFor run list script []
+      → drop 1 (lines_of text) ≡ lines_of rest
       → IsTraceAt run list script (numbers_in list script (lines_of text)) 0 rest
   at-first run rest stands behind = record {
     left = record {

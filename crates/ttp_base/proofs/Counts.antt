@@ -23,7 +23,8 @@ at_each never faults before name kept other same true equal =
     ∙ ap (λ (n : List ℕ). told_count never faults (before n)) ((bytes_eq-Decides name other).0 equal)
 
 -- so does each other name
-pub same_counts : (never : Bool) (faults : ℕ) (before : List ℕ → Option Kept) (name : List ℕ) (kept : Kept) (other : List ℕ)
+pub same_counts : (never : Bool) (faults : ℕ) (before : List ℕ → Option Kept)
+    (name : List ℕ) (kept : Kept) (other : List ℕ)
     → kept.faults ≡ first_count faults (before name)
     → told_count never faults (update bytes_eq before name (Some kept) other) ≡ told_count never faults (before other)
 same_counts never faults before name kept other same =

@@ -1,5 +1,6 @@
 -- What a sink was given, from one write to the next.
-use Rattle.std.proofs.Common.{◌≡◌, ℕ, ◌+◌, ◌<◌, ◌≤◌, List, [], ◌∷◌, ◌++◌, subst, sym, ◌∙◌, refl, ap, append_assoc, length, take, arith}
+use Rattle.std.proofs.Common.{◌≡◌, ℕ, ◌+◌, ◌<◌, ◌≤◌, List, [], ◌∷◌, ◌++◌, subst, sym}
+use Rattle.std.proofs.Common.{◌∙◌, refl, ap, append_assoc, length, take, arith}
 use Rattle.std.proofs.lemmas.List.{append-nil, length-append}
 use Rattle.std.proofs.lemmas.List.Folds.{concat-append}
 use Rattle.std.specs.Prelude.{map}
@@ -13,7 +14,12 @@ use Rattle.ttp_base.proofs.Written.{Appends-none, Appends-join}
 
 -- nothing was written
 pub Wrote-none : (o : Output) → Wrote o o []
-Wrote-none o = record { bytes = Appends-none o.written; given = sym (append-nil o.pieces); quiet = refl; left = omega arith }
+Wrote-none o = record {
+  bytes = Appends-none o.written;
+  given = sym (append-nil o.pieces);
+  quiet = refl;
+  left = omega arith;
+}
 
 -- pieces, and then more of them
 pub Wrote-join : (a b c : Output) (x y : List (List ℕ)) → Wrote a b x → Wrote b c y → Wrote a c (x ++ y)

@@ -4,7 +4,8 @@ use Rattle.std.proofs.lemmas.Bool.{true≢false}
 use Rattle.ttp_base.specs.Outside.{comes_up, never_fails}
 
 -- a piece that is not taken is no shorter than that
-pub not_taken : (fail : List ℕ) (call room full piece : ℕ) → (comes_up fail call ≡ true) ⊎ (room < full + piece) → full ≤ room
+pub not_taken : (fail : List ℕ) (call room full piece : ℕ)
+    → (comes_up fail call ≡ true) ⊎ (room < full + piece) → full ≤ room
     → (if never_fails fail then room - full + 1 else 0) ≤ piece
 not_taken [] call room full piece (inl comes) within = absurd (true≢false (sym comes))
 not_taken [] call room full piece (inr past) within = omega (arith, past, within)

@@ -38,9 +38,9 @@ pub record Load : Type 0 where
   pub name : List ℕ
   pub limit : ℕ
 
--- what a library tells of the names, whether it is sure of each, its counts of faults with them, its count of all faults,
--- and the loads that it was asked for so far, the first one first. Of a name that it is sure of no load fails but for want
--- of memory.
+-- what a library tells of the names, whether it is sure of each, its counts of faults with them, its count of all
+-- faults, and the loads that it was asked for so far, the first one first. Of a name that it is sure of no load fails
+-- but for want of memory.
 pub record Files : Type 0 where
   pub held : List ℕ → Held
   pub sure : List ℕ → Bool
@@ -58,8 +58,8 @@ Gives (holds all) limit given = given ≡ take (limit + 1) all
 abbrev pub AskedFor : Files → Files → List ℕ → ℕ → Type 0
 AskedFor before now name limit = now.loads ≡ before.loads ++ record { name = name; limit = limit } ∷ []
 
--- under each name the same is held, and told, as before; it is as sure of each, and counted no fault of those that it is
--- sure of
+-- under each name the same is held, and told, as before; it is as sure of each, and counted no fault of those that it
+-- is sure of
 pub record HoldsTheSame (before now : Files) : Type 0 where
   pub held : (name : List ℕ) → now.held name ≡ before.held name
   pub sure : (name : List ℕ) → now.sure name ≡ before.sure name

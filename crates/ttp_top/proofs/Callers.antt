@@ -1,5 +1,5 @@
--- What a caller of `bench` concludes whose library is sure of its files: a right list and a right script give what is due,
--- or memory was refused, or the sink cut a text short that it was not sure to take. No count is asked for.
+-- What a caller of `bench` concludes whose library is sure of its files: a right list and a right script give what is
+-- due, or memory was refused, or the sink cut a text short that it was not sure to take. No count is asked for.
 use Rattle.ttp_top.proofs.Terms.{◌≡◌, ◌⊎◌, ℕ, ◌<◌, ◌≤◌, true, List, length, refl, ap, sym, subst, ◌∙◌, inl, inr, arith}
 use Rattle.ttp_top.proofs.Terms.{concat, Lines, Medl, Script, IsLegalRun, IsValid, IsValidScript, trace_lines, Numbers}
 use Rattle.ttp_top.proofs.Terms.{is_trace, trace-short, Outside, trace_limit, AreRight, BenchAnswer, BenchPlan}

@@ -13,7 +13,8 @@ use Rattle.ttp_base.proofs.Below.{all-below}
 use Rattle.ttp_world.specs.Legal.{is_between}
 use Rattle.ttp_world.specs.Script.{HostRead}
 use Rattle.ttp_world.proofs.Carried.{message_of-row_in, AreOfHosts}
-use Rattle.ttp_world.proofs.LegalReads.{newest_of, AreUpTo, up_to-next, reads-up_to, reverse-all, same_read, not_older_if}
+use Rattle.ttp_world.proofs.LegalReads.{newest_of, AreUpTo, up_to-next, reads-up_to}
+use Rattle.ttp_world.proofs.LegalReads.{reverse-all, same_read, not_older_if}
 use Rattle.ttp_world.proofs.LegalShapes.{slots-legal, reads-never_fall}
 use Rattle.ttp_world.proofs.LineLists.{each-append}
 use Rattle.ttp_world.proofs.Rings.{newest_written, newest_read}

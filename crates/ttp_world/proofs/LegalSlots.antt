@@ -5,7 +5,8 @@ use Rattle.ttp_world.proofs.Words.{is_legal_read, is_legal_slot, are_legal_slots
 use Rattle.ttp_world.proofs.Words.{never_fall, IsLegal, reads_in, SlotNumbers, Numbers, world}
 use Rattle.std.proofs.lemmas.List.Folds.{list_all-append}
 use Rattle.ttp_world.specs.declared.host_lines.HostRead.{HostRead}
-use Rattle.ttp_world.proofs.LegalReads.{newest_of, AreUpTo, AreFrom, between, reads-up_to, reverse-all, same_read, not_older_if}
+use Rattle.ttp_world.proofs.LegalReads.{newest_of, AreUpTo, AreFrom, between, reads-up_to}
+use Rattle.ttp_world.proofs.LegalReads.{reverse-all, same_read, not_older_if}
 use Rattle.ttp_world.proofs.LegalShapes.{are_legal_slots-parts, slots-legal, reads-never_fall}
 use Rattle.ttp_world.proofs.Worlds.{row_of_world, length-world}
 

@@ -26,7 +26,8 @@ one-more p n is =
     ap (filter p) (below-next n) ∙ filter-append p (below n) (n ∷ [])
     ∙ ap (λ (b : Bool). filter p (below n) ++ cond b (n ∷ []) []) is
 
-pub nodes-length : (p : ℕ → Bool) (n : ℕ) → p n ≡ true → length (filter p (below (n + 1))) ≡ length (filter p (below n)) + 1
+pub nodes-length : (p : ℕ → Bool) (n : ℕ) → p n ≡ true
+    → length (filter p (below (n + 1))) ≡ length (filter p (below n)) + 1
 nodes-length p n is = ap length (one-more p n is) ∙ length-append (filter p (below n)) (n ∷ [])
 
 -- a place that is there is there whatever is told for others

@@ -16,7 +16,8 @@ any-range p a (suc n) slot from to passes = by (cases_eq a slot) (any-range p (a
     by (inl same) rest = or_left (p a) _ (ap p same ∙ passes)
     by (inr other) rest = or_right (p a) _ (rest (omega arith) (omega arith) passes)
 
-pub none-range : (p : ℕ → Bool) (a n : ℕ) → ((k : ℕ) → a ≤ k → k < a + n → p k ≡ false) → find p (range_with_len a n) ≡ None
+pub none-range : (p : ℕ → Bool) (a n : ℕ)
+    → ((k : ℕ) → a ≤ k → k < a + n → p k ≡ false) → find p (range_with_len a n) ≡ None
 none-range p a zero each = refl
 none-range p a (suc n) each =
     ap (λ b. cond b (Some a) (find p (range_with_len (a + 1) n))) (each a (omega arith) (omega arith))

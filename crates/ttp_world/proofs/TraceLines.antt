@@ -5,7 +5,8 @@ use Rattle.ttp_world.proofs.Words.{list_any-append, below, set_bits, newline, he
 use Rattle.ttp_world.proofs.Words.{has-hex, Back, Keep, Medl, Entry, NodeState, Script, History, keeps, ReadMessage}
 use Rattle.ttp_world.proofs.Words.{read_messages, ring_messages, messages_before, state_of, has_arm, returns, HostWrite}
 use Rattle.ttp_world.proofs.Words.{writes_in, reads_in, number_or_dash, entry_word, peer_of, ack_word, member_digits}
-use Rattle.ttp_world.proofs.Words.{message_shown, trace_head, node_pieces, node_line_text, node_line, node_line_of, write_line, more_write_lines}
+use Rattle.ttp_world.proofs.Words.{message_shown, trace_head, node_pieces, node_line_text}
+use Rattle.ttp_world.proofs.Words.{node_line, node_line_of, write_line, more_write_lines}
 use Rattle.ttp_world.proofs.Words.{write_lines, source_word, message_hex, read_line, read_lines, keep_line, back_line}
 use Rattle.ttp_world.proofs.Words.{slot_lines, history_lines, back_lines_if, test_lines, trace_lines, SlotNumbers}
 use Rattle.ttp_world.proofs.Words.{Numbers, node_past, world}
@@ -55,7 +56,8 @@ node_line-IsLine width slot k state message =
     let members = hex width (set_bits state.members) in
     ends (node_line_text (decimal slot) (decimal k) (entry_word state.entry) peer (number_or_dash message) members
     (decimal state.accepted) (decimal state.rejected) (ack_word state.ack) (signed_decimal state.offset))
-    (has-gather 10 [] (node_pieces (decimal slot) (decimal k) (entry_word state.entry) peer (number_or_dash message) members
+    (has-gather 10 [] (node_pieces (decimal slot) (decimal k)
+    (entry_word state.entry) peer (number_or_dash message) members
     (decimal state.accepted) (decimal state.rejected) (ack_word state.ack) (signed_decimal state.offset)) refl
     (simp (
       has-decimal 10 slot feed_is_low,

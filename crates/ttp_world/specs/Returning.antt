@@ -1,6 +1,6 @@
--- When a node that is armed to listen again is guaranteed its place: eight rules, of which the first that is broken is named
--- with a slot. Most are those of the single-fault hypothesis; but arm lines may stand, and four rounds after it was
--- armed a node is faulty no longer.
+-- When a node that is armed to listen again is guaranteed its place: eight rules, of which the first that is broken is
+-- named with a slot. Most are those of the single-fault hypothesis; but arm lines may stand, and four rounds after it
+-- was armed a node is faulty no longer.
 use Rattle.std.specs.Prelude.{ℕ, zero, suc, ◌+◌, ◌-◌, ◌*◌, ◌/◌, ◌%◌, min, nat_le, nat_lt, ℤ, pos, ◌+ℤ◌, ◌*ℤ◌}
 use Rattle.std.specs.Prelude.{Bool, true, false, ◌&&◌, ◌||◌, not, ◌==◌, List, [], ◌∷◌, ◌++◌, map, length, reverse}
 use Rattle.std.specs.Prelude.{filter, flat_map, find, get_or, count_by, Option, Some, None, int_le, if◌then◌else◌}

@@ -1,5 +1,5 @@
--- A run in which every frame with payload carries message 0 of its node, the zeros. Clocks, entries and costs are those of
--- every run of the script, whatever messages its frames carry.
+-- A run in which every frame with payload carries message 0 of its node, the zeros. Clocks, entries and costs are those
+-- of every run of the script, whatever messages its frames carry.
 use Rattle.std.specs.Prelude.{ℕ, zero, suc, List, [], map, length}
 use Rattle.ttp_base.specs.NodeSet.{below}
 use Rattle.ttp_world.specs.declared.medl.Medl.{Medl}

@@ -93,7 +93,8 @@ none-returns plan good none = by plan.returns refl
     by (r ∷ returns) is =
         let among : Contains plan.returns r = subst (λ rs. Contains rs r) (sym is) (0, omega arith, refl) in
         let was = (good.returns r among).was in
-        absurd (never-lost plan was.0 r.node (fate_of plan was.0 r.node) none (fate-told plan was.0 r.node good) was.1.1)
+        absurd (never-lost plan was.0 r.node (fate_of plan was.0 r.node) none
+        (fate-told plan was.0 r.node good) was.1.1)
 
 -- A script without faults of senders and receivers, flipped bits and jumps.
 

@@ -51,8 +51,9 @@ AcceptedAlike list script start history =
     AcceptsAlikeSince list script (is_correct_after list script (newest_slot history)) start history
 
 -- The bytes are a list and a script for it, and the text is that of a run of both by the protocol's rules. Where the
--- script keeps the single-fault hypothesis, the cluster is one after each slot of that run from its start on, its clocks
--- are on time, and it has judged frames alike; where armed nodes are guaranteed their places, it is safe with them.
+-- script keeps the single-fault hypothesis, the cluster is one after each slot of that run from its start on, its
+-- clocks are on time, and it has judged frames alike; where armed nodes are guaranteed their places, it is safe with
+-- them.
 pub record IsSafeTrace (list_bytes script_bytes text : List ℕ) : Type 0 where
   pub list : Medl
   pub script : Script

@@ -58,13 +58,15 @@ record CanBeDrawn (campaign : WholeCampaign) : Type 0 where
   order : AreInSlotOrder campaign.faults
   plain : ArePlain campaign.faults
 
-pub or-drawn : (whole campaign : WholeCampaign) (o : Option ℕ) → or_wrong whole (one_further (one_further o)) ≡ Ok campaign
+pub or-drawn : (whole campaign : WholeCampaign) (o : Option ℕ)
+    → or_wrong whole (one_further (one_further o)) ≡ Ok campaign
     → (o ≡ None) × (whole ≡ campaign)
 or-drawn whole campaign None e = (refl, cc)
 or-drawn whole campaign (Some n) e = cc
 
 own-drawn : (h : CampaignHead) (lines : Lines) (campaign : WholeCampaign) (line : List ℕ) (o : Option OwnShown)
-    → own_of_line h.nodes h.slots line ≡ o → (h.first ≤ h.first) × (h.first ≤ h.last) → behind_own h lines o ≡ Ok campaign
+    → own_of_line h.nodes h.slots line ≡ o → (h.first ≤ h.first)
+    × (h.first ≤ h.last) → behind_own h lines o ≡ Ok campaign
     → CanBeDrawn campaign
 own-drawn h lines campaign line None read from e = cc
 own-drawn h lines campaign line (Some own) read from e =
@@ -78,12 +80,14 @@ own-drawn h lines campaign line (Some own) read from e =
       plain = faults.plain;
     })
 
-first-drawn : (lines : Lines) (campaign : WholeCampaign) (line : List ℕ) (o : Option CampaignHead) → head_of_line line ≡ o
+first-drawn : (lines : Lines) (campaign : WholeCampaign) (line : List ℕ)
+    (o : Option CampaignHead) → head_of_line line ≡ o
     → behind_first lines o ≡ Ok campaign → CanBeDrawn campaign
 first-drawn lines campaign line None read e = cc
 first-drawn [] campaign line (Some h) read e = cc
 first-drawn (own ∷ lines) campaign line (Some h) read e =
-    own-drawn h lines campaign own (own_of_line h.nodes h.slots own) refl (line-from line h h.first read (omega arith)) e
+    own-drawn h lines campaign own (own_of_line h.nodes h.slots own) refl
+    (line-from line h h.first read (omega arith)) e
 
 whole-drawn : (lines : Lines) (campaign : WholeCampaign) → whole_of lines ≡ Ok campaign → CanBeDrawn campaign
 whole-drawn [] campaign e = cc

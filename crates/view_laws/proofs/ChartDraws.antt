@@ -18,12 +18,14 @@ use Rattle.picture_text.specs.Cells.{title_element, mark}
 use Rattle.picture_text.specs.Picture.{class_of, ended, text_line, row_line}
 use Rattle.picture_text.specs.Window.{columns}
 use Rattle.picture_text.proofs.PlainTexts.{Plain, parts, plain-append, plain-decimal}
-use Rattle.view_laws.proofs.TitlesIn.{◌▸◌, tag, plain, number, title, named, IsLineWith, closed, line_of, place-adds, bare-lines}
+use Rattle.view_laws.proofs.TitlesIn.{◌▸◌, tag, plain, number, title, named, IsLineWith}
+use Rattle.view_laws.proofs.TitlesIn.{closed, line_of, place-adds, bare-lines}
 use Rattle.view_laws.proofs.TitlesIn.{text-titles, classed-titles, mark-titles}
 use Rattle.chart_text.specs.declared.look.Look.{Look}
 use Rattle.chart_text.specs.declared.look.Look.TheVariants as look
 use Rattle.chart_text.specs.declared.size.Size.{Size}
-use Rattle.chart_text.specs.Chart.{of_all_slots_lines, chart_ground, chart_svg, chart_title, chart_styles, harm_text, many_listed, node_sum_lines}
+use Rattle.chart_text.specs.Chart.{of_all_slots_lines, chart_ground, chart_svg, chart_title}
+use Rattle.chart_text.specs.Chart.{chart_styles, harm_text, many_listed, node_sum_lines}
 use Rattle.chart_text.specs.Chart.{slots_shown_text, test_meaning, test_name, test_slot}
 use Rattle.chart_text.specs.Chart.{counts_told, counted_lines, own_lines, chart_front, row_names, test_flag, chart_head}
 use Rattle.chart_text.specs.Chart.{chart_body, chart_end, chart_of}
@@ -32,11 +34,15 @@ use Rattle.chart_text.specs.Column.{block_of, block_lines, is_plain, mark_lines,
 use Rattle.chart_text.specs.Columns.{first_told_slot, is_hidden, place_in, chart_bands, list_top, key_top, chart_height}
 use Rattle.chart_text.specs.Columns.{chart_x, chart_y, beside_x}
 use Rattle.chart_text.specs.Elements.{wide_cell, look_cell, fault_shape, pole}
-use Rattle.chart_text.specs.Key.{how_to_read, words_meant, key_x, key_y, key_said, key_square, key_lines, look_x, look_y}
-use Rattle.chart_text.specs.Key.{look_entry, all_counts, many_class, count_line, kind_number, kind_lines, many_places, part_lines}
-use Rattle.chart_text.specs.Looks.{fault_look, does_harm, looks, look_text, look_letter, look_meaning, doing_word, kind_said}
+use Rattle.chart_text.specs.Key.{how_to_read, words_meant, key_x, key_y, key_said}
+use Rattle.chart_text.specs.Key.{key_square, key_lines, look_x, look_y}
+use Rattle.chart_text.specs.Key.{look_entry, all_counts, many_class, count_line, kind_number}
+use Rattle.chart_text.specs.Key.{kind_lines, many_places, part_lines}
+use Rattle.chart_text.specs.Looks.{fault_look, does_harm, looks, look_text, look_letter}
+use Rattle.chart_text.specs.Looks.{look_meaning, doing_word, kind_said}
 use Rattle.chart_text.specs.Looks.{marks_left, marks_above}
-use Rattle.chart_text.specs.Sums.{faults_told_of, harmful_among, harmful_line, look_counts, many_shown, sends_class, sum_cell}
+use Rattle.chart_text.specs.Sums.{faults_told_of, harmful_among, harmful_line, look_counts}
+use Rattle.chart_text.specs.Sums.{many_shown, sends_class, sum_cell}
 use Rattle.chart_text.specs.Sums.{sum_told, worst_class, worst_shown}
 use Rattle.chart_text.specs.Worst.{fault_in_line, list_lines, list_title, listed_lines, lost_said, most_lost, place_for}
 use Rattle.chart_text.specs.Worst.{ten_with, ten_worst, worst_lines, worst_of}
@@ -47,7 +53,8 @@ use Rattle.view_laws.specs.Marks.{is_mark}
 use Rattle.view_laws.proofs.Draws.{Draws, nothing, ◌◃◌, untitled-line, titled-line, mark-line, map-draws}
 use Rattle.view_laws.proofs.Draws.{flat-nothing, flat-draws, if-draws}
 use Rattle.view_laws.proofs.PlainWords.{plain-look, plain-look_letter, plain-look_meaning, plain-worst_class}
-use Rattle.view_laws.proofs.PlainWords.{plain-worst_shown, plain-sends, plain-sum, plain-many_shown, plain-fault, plain-lost}
+use Rattle.view_laws.proofs.PlainWords.{plain-worst_shown, plain-sends, plain-sum}
+use Rattle.view_laws.proofs.PlainWords.{plain-many_shown, plain-fault, plain-lost}
 use Rattle.view_laws.proofs.PlainWords.{plain-list_title, plain-doing, plain-kind, plain-key, plain-many, plain-harm}
 use Rattle.view_laws.proofs.PlainWords.{plain-shown_slots, plain-test, plain-test_name, plain-counts}
 
@@ -67,7 +74,8 @@ wide-titles class x y name shown c n s =
     let all =
     named (tag (codes "<g class=\"") (λ rest. refl) refl ▸ plain class c) (plain (codes "\">") refl) name n
     (tag (codes "<rect") (λ rest. refl) refl)
-    ▸ place-adds x y ▸ tag (codes " width=\"22\" height=\"15\"/><text") (λ rest. refl) refl ▸ place-adds (x + 11) (y + 12)
+    ▸ place-adds x y ▸ tag (codes " width=\"22\" height=\"15\"/><text")
+    (λ rest. refl) refl ▸ place-adds (x + 11) (y + 12)
     ▸ tag (codes ">") (λ rest. refl) refl ▸ plain shown s in
     closed all (codes "</text></g>\n") refl refl
 
@@ -77,7 +85,8 @@ wide-draws class x y name shown c n s =
     titled-line (wide_cell class x y name shown) name (wide-titles class x y name shown c n s) refl n
 
 look-draws : (l : Look) (x y : ℕ) → Draws (look_cell l x y ∷ []) []
-look-draws l x y = wide-draws (look_text l) x y (look_text l) (look_letter l) (plain-look l) (plain-look l) (plain-look_letter l)
+look-draws l x y = wide-draws (look_text l) x y (look_text l) (look_letter l)
+    (plain-look l) (plain-look l) (plain-look_letter l)
 
 pole-draws : (class : List ℕ) (x y height : ℕ) → Plain class → Draws (pole class x y height ∷ []) []
 pole-draws class x y height c =
@@ -224,7 +233,8 @@ plain-in_slot : (t : ℕ) (faults : List FaultTold) → ArePlain faults → AreP
 plain-in_slot t [] are = tt
 plain-in_slot t (fault ∷ faults) are =
     let others = plain-in_slot t faults are.1 in
-    cond_both (fault.shown.slot == t) (fault ∷ faults_told_in t faults) (faults_told_in t faults) ArePlain (λ here. (are.0, others))
+    cond_both (fault.shown.slot == t) (fault ∷ faults_told_in t faults)
+    (faults_told_in t faults) ArePlain (λ here. (are.0, others))
     (λ there. others)
 
 same-marks : (lines a b : Lines) → a ≡ b → Draws lines a → Draws lines b
@@ -277,7 +287,8 @@ body-draws : (size : Size) (own : Test) (shown : List ℕ) (faults : List FaultT
     (flat_map (λ c. marks_in size faults (get_or shown c 0)) (below (length shown)))
 body-draws size own shown faults are =
     let marks = flat_map (λ c. marks_in size faults (get_or shown c 0)) (below (length shown)) in
-    same-marks (chart_body size own shown faults) (marks ++ [] ++ []) marks (append-nil (marks ++ []) ∙ append-nil marks)
+    same-marks (chart_body size own shown faults) (marks ++ [] ++ []) marks
+    (append-nil (marks ++ []) ∙ append-nil marks)
     (flat-nothing (row_names size.nodes) (below (chart_bands size.nodes (length shown))) (rows-draw size.nodes)
     ◃ flat-draws (column_lines size shown faults) (λ c. marks_in size faults (get_or shown c 0)) (below (length shown))
     (λ c. column-draws size shown faults c are)
@@ -290,7 +301,8 @@ key_square-draws : (top p : ℕ) → Draws (key_square top p ∷ []) []
 key_square-draws top p =
     let all =
     tag (codes "<g class=\"key\"><rect") (λ rest. refl) refl ▸ place-adds (key_x p) (key_y top p)
-    ▸ tag (codes " width=\"82\" height=\"20\"/><text") (λ rest. refl) refl ▸ place-adds (key_x p + 41) (key_y top p + 14)
+    ▸ tag (codes " width=\"82\" height=\"20\"/><text") (λ rest. refl) refl ▸
+    place-adds (key_x p + 41) (key_y top p + 14)
     ▸ tag (codes ">") (λ rest. refl) refl ▸ plain (key_said p) (plain-key p) in
     untitled-line (key_square top p) (closed all (codes "</text></g>\n") refl refl)
 
@@ -376,7 +388,8 @@ worst-draws size top faults are =
     (plain-list_title (harmful_among size faults))
     ◃ list-draws size (top + 20) (ten_worst size faults) (plain-ten size [] faults tt are)
 
-below-draws : (size : Size) (many : ℕ) (faults : List FaultTold) → ArePlain faults → Draws (chart_end size many faults) []
+below-draws : (size : Size) (many : ℕ) (faults : List FaultTold)
+    → ArePlain faults → Draws (chart_end size many faults) []
 below-draws size many faults are =
     let top = key_top size.nodes many (many_listed size faults) in
     let counts = all_counts size faults in

@@ -1,5 +1,6 @@
 -- The lines of the faults of a text that is a campaign, among its lines.
-use Rattle.std.proofs.Common.{◌≡◌, ℕ, zero, suc, ◌-◌, Bool, true, false, cond, ◌&&◌, not, List, [], ◌∷◌, ◌++◌, length, take}
+use Rattle.std.proofs.Common.{◌≡◌, ℕ, zero, suc, ◌-◌, Bool, true, false, cond}
+use Rattle.std.proofs.Common.{◌&&◌, not, List, [], ◌∷◌, ◌++◌, length, take}
 use Rattle.std.proofs.Common.{drop, get_or, map, filter, Option, Some, None, fold, refl, sym, ap, ◌∙◌, codes, bytes_eq}
 use Rattle.std.specs.Prelude.{◌==◌, Ok, is_some, nat_le}
 use Rattle.std.specs.List.{list_all}
@@ -49,7 +50,8 @@ numeral-first : (most : ℕ) (word rest : List ℕ) (n : ℕ) → numeral_in mos
 unfolding numeral_in
 numeral-first most word rest n e =
     let named = guarded (nat_le (length word) most && not (has_leading_zero word)) (number_named word) n e in
-    let tests = guarded (list_all is_digit word && not (length word == 0)) (Some (fold append_digit 0 word)) n named.1 in
+    let tests = guarded (list_all is_digit word && not (length word == 0))
+    (Some (fold append_digit 0 word)) n named.1 in
     digits-first word rest tests.0
 
 -- The line of a fault, and other lines.
@@ -65,7 +67,8 @@ words-fault bytes words e =
     let run = bound (run_words_in k.value.rest) _ words k.gives in
     let slot = bound (numeral_in slot_digits s.value.front) _ words run.gives in
     ap is_fault_line (word-cut 32 (codes "slot ") bytes s.value s.read)
-    ∙ slot-fault (s.value.front ++ s.value.rest) (numeral-first slot_digits s.value.front s.value.rest slot.value slot.read)
+    ∙ slot-fault (s.value.front ++ s.value.rest)
+    (numeral-first slot_digits s.value.front s.value.rest slot.value slot.read)
 
 line-fault : (frame : Common) (piece : Piece) (before : Option Spot) (bytes : List ℕ) (f : FaultShown)
     → fault_line_in frame piece before bytes ≡ Some f → is_fault_line bytes ≡ true
@@ -136,14 +139,16 @@ own_line-other n slots line own e =
 
 -- A line that is due.
 
-fault-marked : (frame : Common) (piece : Piece) (before : Option Spot) (line : List ℕ) (next : Due) (o : Option FaultShown)
+fault-marked : (frame : Common) (piece : Piece) (before : Option Spot)
+    (line : List ℕ) (next : Due) (o : Option FaultShown)
     → fault_told frame (due.Fault piece before) line ≡ o → behind_fault piece before line o ≡ Some next
     → is_fault_line (unended line) ≡ is_some (told_of_line line o)
 fault-marked frame piece before line next (Some f) read e = told-fault frame piece before line f read
 fault-marked frame piece before line next None read e =
     let g = guarded (is_between_groups before && bytes_eq line (counts_line (codes "kept ") piece.kept))
     (Some (due.Broken piece)) next e in
-    kept-other line piece (and_parts (is_between_groups before) (bytes_eq line (counts_line (codes "kept ") piece.kept)) g.0).1
+    kept-other line piece (and_parts (is_between_groups before)
+    (bytes_eq line (counts_line (codes "kept ") piece.kept)) g.0).1
 
 piece-marked : (frame : Common) (last : ℕ) (line : List ℕ) (next : Due) → behind_piece frame last line ≡ Some next
     → is_fault_line (unended line) ≡ false
@@ -222,7 +227,8 @@ own-lines h lines campaign line (Some own) read e =
     ∙ ap (λ (b : Bool). cond b (unended line ∷ filter is_fault_line (map unended lines))
     (filter is_fault_line (map unended lines))) (sym other.0)
 
-first-lines : (lines : Lines) (campaign : WholeCampaign) (line : List ℕ) (o : Option CampaignHead) → head_of_line line ≡ o
+first-lines : (lines : Lines) (campaign : WholeCampaign) (line : List ℕ)
+    (o : Option CampaignHead) → head_of_line line ≡ o
     → behind_first lines o ≡ Ok campaign
     → map text_of_fault campaign.faults ≡ filter is_fault_line (map unended (line ∷ lines))
 first-lines lines campaign line None read e = cc

@@ -1,5 +1,6 @@
 -- Which lines begin with a slot and a node: those of that slot and that node.
-use Rattle.std.proofs.Common.{◌≡◌, ◌≢◌, ℕ, ◌<◌, ◌^◌, Bool, true, false, ◌&&◌, ◌||◌, List, [], ◌∷◌, ◌++◌, refl, sym, ap, ◌∙◌, arith, codes, decimal}
+use Rattle.std.proofs.Common.{◌≡◌, ◌≢◌, ℕ, ◌<◌, ◌^◌, Bool, true, false, ◌&&◌, ◌||◌, List}
+use Rattle.std.proofs.Common.{[], ◌∷◌, ◌++◌, refl, sym, ap, ◌∙◌, arith, codes, decimal}
 use Rattle.std.specs.Prelude.{◌==◌}
 use Rattle.std.proofs.lemmas.Bool.{and_left, eq-eqb, ne_eqb, or_parts, or_from, eqb-true}
 use Rattle.std.proofs.lemmas.List.{append_assoc}
@@ -56,7 +57,8 @@ pub of-own : (t : ℕ) (rest : List ℕ)
 of-own t rest = λ i. begins-same (decimal t) (codes " node ") rest i || begins-same (decimal t) (codes " host ") rest i
 
 -- what a node's line begins with, cut from the front
-node_start-is : (t k : ℕ) → node_start t k ≡ codes "slot " ++ (decimal t ++ (codes " node " ++ (decimal k ++ codes " ")))
+node_start-is : (t k : ℕ) → node_start t k ≡ codes "slot "
+    ++ (decimal t ++ (codes " node " ++ (decimal k ++ codes " ")))
 node_start-is t k = cut (codes "slot ") (decimal t) (codes " node ") (decimal k) (codes " ")
   where
     cut : (a b c d e : List ℕ) → a ++ b ++ c ++ d ++ e ≡ a ++ (b ++ (c ++ (d ++ e)))
@@ -82,6 +84,7 @@ start-node t k rest =
     start-own t k (codes " node " ++ (decimal k ++ 32 ∷ rest)) ∙ begins-same (decimal k) (codes " ") (32 ∷ rest)
 
 pub start-neighbour : (t k j : ℕ) (rest : List ℕ) → k < 2 ^ 64 → j < 2 ^ 64 → j ≢ k
-    → begins_with (node_start t k) (codes "slot " ++ (decimal t ++ (codes " node " ++ (decimal j ++ 32 ∷ rest)))) ≡ false
+    → begins_with (node_start t k)
+    (codes "slot " ++ (decimal t ++ (codes " node " ++ (decimal j ++ 32 ∷ rest)))) ≡ false
 start-neighbour t k j rest few less ne =
     start-own t k (codes " node " ++ (decimal j ++ 32 ∷ rest)) ∙ numbers-differ k j [] rest few less ne

@@ -1,5 +1,6 @@
 -- The lines of a text that is a trace are the titles of its picture.
-use Rattle.std.proofs.Common.{◌≡◌, ℕ, ◌<◌, ◌≤◌, ◌^◌, true, false, List, [], ◌∷◌, length, filter, refl, sym, ap, ◌∙◌, arith}
+use Rattle.std.proofs.Common.{◌≡◌, ℕ, ◌<◌, ◌≤◌, ◌^◌, true, false, List, [], ◌∷◌}
+use Rattle.std.proofs.Common.{length, filter, refl, sym, ap, ◌∙◌, arith}
 use Rattle.std.proofs.Common.{◌||◌, nat_le, not, map, subst, ◌++◌, Option}
 use Rattle.std.specs.Prelude.{◌==◌, Ok}
 use Rattle.std.specs.List.{AllByRecursion, flat_map, list_all, list_any}
@@ -16,10 +17,13 @@ use Rattle.picture_text.specs.declared.window.Span.{Span}
 use Rattle.picture_text.specs.Cells.{shown_memberships}
 use Rattle.picture_text.specs.Picture.{slot_at, shown_slots, is_shown, picture_lines}
 use Rattle.picture_text.specs.Window.{span_shown}
-use Rattle.view_laws.specs.Titles.{begins_with, titles, is_of_slot, node_start, texts_of_lines, shown_of, picture_titles}
-use Rattle.view_laws.specs.Titles.{is_markup, texts_of_nodes, texts_of_hosts, members_said, clocks_said, far_said, cell_titles}
+use Rattle.view_laws.specs.Titles.{begins_with, titles, is_of_slot, node_start}
+use Rattle.view_laws.specs.Titles.{texts_of_lines, shown_of, picture_titles}
+use Rattle.view_laws.specs.Titles.{is_markup, texts_of_nodes, texts_of_hosts, members_said}
+use Rattle.view_laws.specs.Titles.{clocks_said, far_said, cell_titles}
 use Rattle.view_laws.specs.Titles.{legend_titles}
-use Rattle.picture_text.proofs.PlainTexts.{is_special, Plain, plain-head, plain-node, plain-host, plain-members, plain-no_members, plain-clocks}
+use Rattle.picture_text.proofs.PlainTexts.{is_special, Plain, plain-head, plain-node, plain-host}
+use Rattle.picture_text.proofs.PlainTexts.{plain-members, plain-no_members, plain-clocks}
 use Rattle.picture_text.proofs.PlainTexts.{plain-far}
 use Rattle.view_laws.proofs.TitlesIn.{HasOne}
 use Rattle.view_laws.proofs.PictureTitles.{picture_of-titles}
@@ -68,8 +72,10 @@ plain-cells trace t =
     let head = trace.head in
     let slot = slot_at trace t in
     let held = shown_memberships slot.nodes in
-    each-append Unmarked (texts_of_nodes trace t) (members_said head t slot held ∷ clocks_said t slot ∷ far_said t slot ∷ [])
-    (plain-map (λ k. node_text head t k (node_at slot k)) (below head.nodes) (λ k. plain-node head t k (node_at slot k))) (
+    each-append Unmarked (texts_of_nodes trace t)
+    (members_said head t slot held ∷ clocks_said t slot ∷ far_said t slot ∷ [])
+    (plain-map (λ k. node_text head t k (node_at slot k)) (below head.nodes)
+    (λ k. plain-node head t k (node_at slot k))) (
       unmarked (members_said head t slot held) (plain-said head t slot held),
       (
         unmarked (clocks_said t slot) (plain-clocks t (clock_range slot.nodes)),
@@ -77,10 +83,12 @@ plain-cells trace t =
       ),
     )
 
-plain-all : (texts : Lines) → list_all (λ text. not (list_any is_markup text)) texts ≡ true → AllByRecursion Unmarked texts
+plain-all : (texts : Lines)
+    → list_all (λ text. not (list_any is_markup text)) texts ≡ true → AllByRecursion Unmarked texts
 plain-all [] are = tt
 plain-all (text ∷ texts) are =
-    let parts = and_parts (not (list_any is_markup text)) (list_all (λ other. not (list_any is_markup other)) texts) are in
+    let parts = and_parts (not (list_any is_markup text))
+    (list_all (λ other. not (list_any is_markup other)) texts) are in
     (not-true (list_any is_markup text) parts.0, plain-all texts parts.1)
 
 pub picture_lines-plain : (trace : WholeTrace) (asked : Option Span)
@@ -125,7 +133,8 @@ node-line text trace asked t k is shows within =
     ap (filter (begins_with (node_start t k))) (picture_lines-titles trace asked)
     ∙ title-of_node trace asked t k whole.slots whole.nodes shows within
 
-pub hidden-lines : (text : List ℕ) (trace : WholeTrace) (asked : Option Span) (t : ℕ) → whole_in text ≡ Ok trace → t < 2 ^ 64
+pub hidden-lines : (text : List ℕ) (trace : WholeTrace) (asked : Option Span) (t : ℕ)
+    → whole_in text ≡ Ok trace → t < 2 ^ 64
     → is_shown (shown_of trace asked) t ≡ false → filter (is_of_slot t) (titles (picture_lines trace asked)) ≡ []
 hidden-lines text trace asked t is few hidden =
     ap (filter (is_of_slot t)) (picture_lines-titles trace asked)

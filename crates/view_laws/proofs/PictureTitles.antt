@@ -1,5 +1,6 @@
 -- The titles of a picture are the first line of its trace, those of the cells and marks of each slot, and the legend's.
-use Rattle.std.proofs.Common.{◌≡◌, ℕ, ◌+◌, ◌-◌, ◌*◌, List, [], ◌∷◌, ◌++◌, map, length, refl, ◌∙◌, Option, Some, None, codes, decimal}
+use Rattle.std.proofs.Common.{◌≡◌, ℕ, ◌+◌, ◌-◌, ◌*◌, List, [], ◌∷◌, ◌++◌, map, length}
+use Rattle.std.proofs.Common.{refl, ◌∙◌, Option, Some, None, codes, decimal}
 use Rattle.std.proofs.Common.{Bool}
 use Rattle.std.specs.Prelude.{◌==◌, ◌%◌}
 use Rattle.std.specs.List.{flat_map}
@@ -21,26 +22,34 @@ use Rattle.shown_slot.specs.Trace.{node_at, first_text, node_text, host_text}
 use Rattle.picture_text.specs.declared.window.Span.{Span}
 use Rattle.picture_text.specs.Cells.{title_element, cell, mark, write_shape, read_shape, status_shape}
 use Rattle.picture_text.specs.Cells.{shown_memberships, held_by_most, node_class, node_cell, members_title, count_of}
-use Rattle.picture_text.specs.Cells.{members_cell_of, members_cell, apart_text, apart_shown, clocks_cell, host_of, host_mark}
+use Rattle.picture_text.specs.Cells.{members_cell_of, members_cell, apart_text, apart_shown}
+use Rattle.picture_text.specs.Cells.{clocks_cell, host_of, host_mark}
 use Rattle.picture_text.specs.Cells.{far_text, far_shown, far_cell}
-use Rattle.picture_text.specs.Picture.{ended, class_of, text_line, svg_line, ground_line, style_lines, said_line, back_said}
-use Rattle.picture_text.specs.Picture.{window_text, picture_head_lines, row_line, band_lines, number_lines, slot_at, cell_lines}
+use Rattle.picture_text.specs.Picture.{ended, class_of, text_line, svg_line, ground_line}
+use Rattle.picture_text.specs.Picture.{style_lines, said_line, back_said}
+use Rattle.picture_text.specs.Picture.{window_text, picture_head_lines, row_line, band_lines}
+use Rattle.picture_text.specs.Picture.{number_lines, slot_at, cell_lines}
 use Rattle.picture_text.specs.Picture.{round_line, round_start_lines, round_entry}
 use Rattle.picture_text.specs.Picture.{why_lines, why_box, why_word, beside_lines, is_shown, flag_pole, flag_lines}
 use Rattle.picture_text.specs.Picture.{keep_flag, back_flag, legend_x, legend_y, legend_text, word_entries, cell_entry}
 use Rattle.picture_text.specs.Picture.{mark_entry, class_entries, mark_entries, shown_slots, picture_of}
 use Rattle.picture_text.specs.Tables.{words, letter, word_meaning, keep_meaning, back_meaning, keep_slot, keep_name}
 use Rattle.picture_text.specs.Tables.{back_slot, back_name}
-use Rattle.picture_text.specs.Window.{columns, bands, legend_top, height, column_x, row_y, is_quiet_before, strange_past}
+use Rattle.picture_text.specs.Window.{columns, bands, legend_top, height, column_x}
+use Rattle.picture_text.specs.Window.{row_y, is_quiet_before, strange_past}
 use Rattle.view_laws.specs.Titles.{texts_of_hosts, members_said, clocks_said, far_said, cell_titles}
 use Rattle.view_laws.specs.Titles.{class_titles, mark_titles, legend_titles}
-use Rattle.picture_text.proofs.PlainTexts.{Plain, parts, plain-shown, plain-decimal, plain-word, plain-letter, plain-meaning}
+use Rattle.picture_text.proofs.PlainTexts.{Plain, parts, plain-shown, plain-decimal}
+use Rattle.picture_text.proofs.PlainTexts.{plain-word, plain-letter, plain-meaning}
 use Rattle.picture_text.proofs.PlainTexts.{plain-head, plain-keep, plain-back, plain-node, plain-host}
 use Rattle.picture_text.proofs.PlainTexts.{plain-keep_meaning, plain-back_meaning, plain-class, plain-members}
-use Rattle.picture_text.proofs.PlainTexts.{plain-no_members, plain-count, plain-clocks, plain-apart_shown, plain-keep_name}
+use Rattle.picture_text.proofs.PlainTexts.{plain-no_members, plain-count, plain-clocks}
+use Rattle.picture_text.proofs.PlainTexts.{plain-apart_shown, plain-keep_name}
 use Rattle.picture_text.proofs.PlainTexts.{plain-back_name, plain-far, plain-far_shown}
-use Rattle.view_laws.proofs.TitlesIn.{◌▸◌, tag, plain, number, title, IsLineWith, closed, line_of, place-adds, text-titles, classed-titles}
-use Rattle.view_laws.proofs.TitlesIn.{cell-titles, mark-titles, Have, ◌▹◌, untitled, titled, no-lines, bare-lines, bare, map-none}
+use Rattle.view_laws.proofs.TitlesIn.{◌▸◌, tag, plain, number, title, IsLineWith, closed}
+use Rattle.view_laws.proofs.TitlesIn.{line_of, place-adds, text-titles, classed-titles}
+use Rattle.view_laws.proofs.TitlesIn.{cell-titles, mark-titles, Have, ◌▹◌, untitled}
+use Rattle.view_laws.proofs.TitlesIn.{titled, no-lines, bare-lines, bare, map-none}
 use Rattle.view_laws.proofs.TitlesIn.{map-each, flat-none, flat-each, if-none}
 
 -- The head.
@@ -89,7 +98,8 @@ head-titles trace span =
     (untitled (text_line [] 12 40 shown) (said ∷ back) []
     (text-titles [] 12 40 shown refl (plain-shown span trace.head.slots quiet strange))
     (untitled said back []
-    (said-titles 60 (keep_text trace.keep) (keep_meaning trace.keep) (plain-keep trace.keep) (plain-keep_meaning trace.keep))
+    (said-titles 60 (keep_text trace.keep) (keep_meaning trace.keep)
+    (plain-keep trace.keep) (plain-keep_meaning trace.keep))
     (back_said-titles trace.back)))) in
     record { are = all.are; once = all.once; each = all.each }
 
@@ -143,9 +153,11 @@ node-titles head t k node most refused x y =
     (plain-class node most refused) (plain-node head t k node) (plain-letter node.word)
 
 members-titles : (head : Head) (slot : SlotLines) (held : List ℕ) (t x y : ℕ)
-    → IsLineWith (members_cell_of held slot.nodes t x y (members_title head t slot)) (members_said head t slot held ∷ [])
+    → IsLineWith (members_cell_of held slot.nodes t x y (members_title head t slot))
+    (members_said head t slot held ∷ [])
 members-titles head slot [] t x y =
-    cell-titles (codes "none") x y (codes "slot " ++ decimal t ++ codes " members -") (codes "-") refl (plain-no_members t) refl
+    cell-titles (codes "none") x y (codes "slot " ++ decimal t ++ codes " members -")
+    (codes "-") refl (plain-no_members t) refl
 members-titles head slot (one ∷ []) t x y =
     cell-titles (codes "agree") x y (members_title head t slot) (count_of slot.nodes) refl (plain-members head t slot)
     (plain-count slot.nodes)
@@ -238,7 +250,8 @@ beside-titles trace span t =
 pole-titles : (n : ℕ) (span : Span) (t : ℕ) → IsLineWith (flag_pole n span t) []
 pole-titles n span t =
     let all =
-    tag (codes "<path class=\"flag\" d=\"M") (λ rest. refl) refl ▸ number (column_x n span t - 1) ▸ plain (codes " ") refl
+    tag (codes "<path class=\"flag\" d=\"M") (λ rest. refl) refl ▸ number
+    (column_x n span t - 1) ▸ plain (codes " ") refl
     ▸ number (row_y n span t 0 - 26) ▸ plain (codes "v") refl ▸ number (20 * n + 26) in
     closed all (codes "\"/>\n") refl refl
 
@@ -253,12 +266,14 @@ flag-titles n span t class x name c s =
 
 keep-titles : (n : ℕ) (span : Span) (k : Keep) → Have (keep_flag n span k) []
 keep-titles n span k =
-    flag-titles n span (keep_slot k) (codes "keep") (column_x n span (keep_slot k) - 4) (keep_name k) refl (plain-keep_name k)
+    flag-titles n span (keep_slot k) (codes "keep")
+    (column_x n span (keep_slot k) - 4) (keep_name k) refl (plain-keep_name k)
 
 back-titles : (n : ℕ) (span : Span) (b : Option Back) → Have (back_flag n span b) []
 back-titles n span None = no-lines
 back-titles n span (Some b) =
-    flag-titles n span (back_slot b) (codes "back") (column_x n span (back_slot b) + 3) (back_name b) refl (plain-back_name b)
+    flag-titles n span (back_slot b) (codes "back")
+    (column_x n span (back_slot b) + 3) (back_name b) refl (plain-back_name b)
 
 -- The legend.
 
@@ -279,7 +294,8 @@ words-titles top i (w ∷ ws) =
     let y = legend_y top i in
     let name = cell-titles (word_text w) x y (word_text w) (letter w) (plain-word w) (plain-word w) (plain-letter w) in
     let all =
-    entry (cell (word_text w) x y (word_text w) (letter w)) x y (word_text w) (word_text w ++ codes ": " ++ word_meaning w)
+    entry (cell (word_text w) x y (word_text w) (letter w)) x y (word_text w)
+    (word_text w ++ codes ": " ++ word_meaning w)
     name (plain-meaning w)
     ▹ words-titles top (i + 1) ws in
     record { are = all.are; once = all.once; each = all.each }
@@ -315,10 +331,12 @@ classes-titles top =
     ▹ cell_entry-titles top 3 (codes "none") (codes "7") (codes "clocks: microticks between them") refl refl refl
     ▹ cell_entry-titles top 4 (codes "none") (codes "12k") (codes "12k: 12000 to 12999, 1M+: 1000000 up") refl refl refl
     ▹ cell_entry-titles top 5 (codes "apart") (codes "3") (codes "apart: its clock is far from most") refl refl refl
-    ▹ cell_entry-titles top 6 (codes "correct data") (codes "c") (codes "a message was sent or delivered") refl refl refl
+    ▹ cell_entry-titles top 6 (codes "correct data") (codes "c")
+    (codes "a message was sent or delivered") refl refl refl
     ▹ cell_entry-titles top 7 (codes "correct other") (codes "c") (codes "holds other members than most") refl refl refl
     ▹ cell_entry-titles top 8 (codes "correct doubt") (codes "c") (codes "in doubt about its own frame") refl refl refl
-    ▹ cell_entry-titles top 9 (codes "send refused") (codes "s") (codes "few took the frame of this sender") refl refl refl in
+    ▹ cell_entry-titles top 9 (codes "send refused") (codes "s")
+    (codes "few took the frame of this sender") refl refl refl in
     record { are = all.are; once = all.once; each = all.each }
 
 marks-titles : (top : ℕ) → Have (mark_entries top) mark_titles
@@ -355,5 +373,6 @@ picture_of-titles trace span =
       each = all.each;
     }
   where
-    nested : (a b c d e f : Lines) → a ++ [] ++ b ++ c ++ [] ++ [] ++ d ++ e ++ f ++ [] ≡ a ++ (b ++ (c ++ (d ++ e ++ f)))
+    nested : (a b c d e f : Lines) → a ++ [] ++ b ++ c ++ [] ++ [] ++ d ++ e ++ f
+        ++ [] ≡ a ++ (b ++ (c ++ (d ++ e ++ f)))
     nested a b c d e f = simp (append_assoc, append-nil)

@@ -34,11 +34,14 @@ use Rattle.whole_campaign.specs.declared.shown.Doing.{Doing}
 use Rattle.whole_campaign.specs.declared.shown.Doing.TheVariants as doing
 use Rattle.whole_campaign.specs.declared.shown.Test.{Test}
 use Rattle.whole_campaign.specs.declared.spot.Spot.{Spot}
-use Rattle.whole_campaign.specs.Words.{Cut, cut_after, length_before, word_behind, length_of_words, words_behind, node_digits}
-use Rattle.whole_campaign.specs.Words.{is_comma, is_dash, is_reason, leaving_in, node_in_word, with_node_word, no_nodes_yet}
+use Rattle.whole_campaign.specs.Words.{Cut, cut_after, length_before, word_behind}
+use Rattle.whole_campaign.specs.Words.{length_of_words, words_behind, node_digits}
+use Rattle.whole_campaign.specs.Words.{is_comma, is_dash, is_reason, leaving_in, node_in_word}
+use Rattle.whole_campaign.specs.Words.{with_node_word, no_nodes_yet}
 use Rattle.whole_campaign.specs.Words.{nodes_listed, members_listed, with_set_word, no_sets_yet, sets_listed, split_in}
 use Rattle.whole_campaign.specs.Runs.{RunWords, run_words_in, test_of, test_in, cost_in}
-use Rattle.whole_campaign.specs.Faults.{channels_at, loss_at, loss_end, doing_label, is_loss_of, signed_in, is_jump_value, jump_sign, is_above_0}
+use Rattle.whole_campaign.specs.Faults.{channels_at, loss_at, loss_end, doing_label, is_loss_of}
+use Rattle.whole_campaign.specs.Faults.{signed_in, is_jump_value, jump_sign, is_above_0}
 use Rattle.whole_campaign.specs.Faults.{JumpWords, jump_words_in, is_jump_of, is_fault_of}
 use Rattle.picture_text.proofs.PlainTexts.{Plain, parts, plain-append, plain-decimal, plain-hex, plain-keep, plain-back}
 use Rattle.ttp_world.proofs.SmallTests.{spelled}
@@ -75,12 +78,14 @@ pub plain-number : (most : ℕ) (word : List ℕ) (n : ℕ) → most ≤ 18 → 
 plain-number most word n few e = plain-is word (decimal n) (numeral-takes most word n few e).text (plain-decimal n)
 
 -- a label, a word and the rest
-pub plain-cut : (label bytes front rest : List ℕ) → bytes ≡ label ++ (front ++ rest) → Plain label → Plain front → Plain rest
+pub plain-cut : (label bytes front rest : List ℕ) → bytes ≡ label ++ (front ++ rest)
+    → Plain label → Plain front → Plain rest
     → Plain bytes
 plain-cut label bytes front rest is p q r =
     plain-is bytes (label ++ (front ++ rest)) is (plain-append label (front ++ rest) p (plain-append front rest q r))
 
-pub plain-behind : (label bytes rest : List ℕ) → after_label label bytes ≡ Some rest → Plain label → Plain rest → Plain bytes
+pub plain-behind : (label bytes rest : List ℕ) → after_label label bytes ≡ Some rest
+    → Plain label → Plain rest → Plain bytes
 plain-behind label bytes rest e p q =
     plain-is bytes (label ++ rest) (label-takes label bytes rest e) (plain-append label rest p q)
 
@@ -138,12 +143,14 @@ plain-node kind.Hurt word k e = plain-number node_digits word k (omega arith) e
 -- Folds of readings, which read nothing behind nothing.
 
 -- what was read first, and the fold from it on
-record FoldsOn {S : Type 0} (f : Option S → List ℕ → Option S) (o : Option S) (words : List (List ℕ)) (all : S) : Type 0 where
+record FoldsOn {S : Type 0} (f : Option S → List ℕ → Option S) (o : Option S)
+    (words : List (List ℕ)) (all : S) : Type 0 where
   next : S
   is : o ≡ Some next
   folds : fold f (Some next) words ≡ Some all
 
-fold-none : {S : Type 0} (f : Option S → List ℕ → Option S) (words : List (List ℕ)) → ((word : List ℕ) → f None word ≡ None)
+fold-none : {S : Type 0} (f : Option S → List ℕ → Option S) (words : List (List ℕ))
+    → ((word : List ℕ) → f None word ≡ None)
     → fold f None words ≡ None
 fold-none f [] strict = refl
 fold-none f (word ∷ words) strict = ap (λ o. fold f o words) (strict word) ∙ fold-none f words strict
@@ -179,7 +186,8 @@ plain-nodes kind n list count e =
     chosen (λ c. Plain list) (is_dash list) 0
     (fold (with_node_word kind n) (Some no_nodes_yet) (slice_split is_comma list) >>= λ nodes. Some nodes.count) count
     (λ dash. plain-dash list dash)
-    (λ words. let all = bound (fold (with_node_word kind n) (Some no_nodes_yet) (slice_split is_comma list)) _ count words in
+    (λ words. let all = bound
+    (fold (with_node_word kind n) (Some no_nodes_yet) (slice_split is_comma list)) _ count words in
     plain-split list
     (plain-folded (with_node_word kind n) no_nodes_yet (slice_split is_comma list) all.value (node-nothing kind n)
     (plain-node_word kind n) all.read)) e
@@ -207,7 +215,8 @@ plain-sets n list all e =
     chosen (λ s. Plain list) (is_dash list) no_sets_yet
     (fold (with_set_word n) (Some no_sets_yet) (slice_split is_comma list)) all (λ dash. plain-dash list dash)
     (λ words. plain-split list
-    (plain-folded (with_set_word n) no_sets_yet (slice_split is_comma list) all (set-nothing n) (plain-set_word n) words)) e
+    (plain-folded (with_set_word n) no_sets_yet (slice_split is_comma list) all
+    (set-nothing n) (plain-set_word n) words)) e
 
 plain-span : (slots : ℕ) (first last : List ℕ) (split : Bool) → split_in slots first last ≡ Some split
     → Plain first × Plain last
@@ -219,8 +228,11 @@ plain-span slots first last split e =
     (λ dashes. let tests = and_parts (is_dash first) (is_dash last) dashes in
     (plain-dash first tests.0, plain-dash last tests.1))
     (λ numbers. let f = bound (numeral_in slot_digits first) _ split numbers in
-    let g = bound (numeral_in slot_digits last) _ split f.gives in
-    (plain-number slot_digits first f.value (omega arith) f.read, plain-number slot_digits last g.value (omega arith) g.read)) e
+    let g = bound (numeral_in slot_digits last) _ split f.gives in (
+      plain-number slot_digits first f.value (omega arith) f.read,
+      plain-number
+          slot_digits last g.value (omega arith) g.read,
+    )) e
 
 -- The words of a run.
 
@@ -237,7 +249,8 @@ plain-cost n slots words cost e =
     let split = bound (split_in slots first.value.front last.value.front) _ cost count.gives in
     let all = bound (sets_listed n sets.value) _ cost split.gives in
     let span = plain-span slots first.value.front last.value.front split.value split.read in
-    plain-cut (codes "left ") words left.value.front left.value.rest (word-cut 32 (codes "left ") words left.value left.read)
+    plain-cut (codes "left ") words left.value.front left.value.rest
+    (word-cut 32 (codes "left ") words left.value left.read)
     refl (plain-nodes (kind.Leaving slots) n left.value.front leaving.value leaving.read)
     (plain-cut (codes " hurt ") left.value.rest hurt.value.front hurt.value.rest
     (word-cut 32 (codes " hurt ") left.value.rest hurt.value hurt.read) refl
@@ -290,7 +303,8 @@ plain-label : (d : Doing) → Plain (doing_label d)
 plain-label doing.Send = refl
 plain-label d = refl
 
-six-plain : (word node channels kind from to : List ℕ) → Plain word → Plain node → Plain channels → Plain kind → Plain from
+six-plain : (word node channels kind from to : List ℕ) → Plain word → Plain node
+    → Plain channels → Plain kind → Plain from
     → Plain to
     → Plain (word ++ node ++ codes " " ++ channels ++ codes " " ++ kind ++ codes " " ++ from ++ codes " " ++ to)
 six-plain word node channels kind from to p q r s t u = simp (parts, p, q, r, s, t, u)
@@ -298,7 +312,8 @@ six-plain word node channels kind from to p q r s t u = simp (parts, p, q, r, s,
 plain-loss : (word : List ℕ) (k : ℕ) (channels : Channels) (kind : Fault) (from to : ℕ) → Plain word
     → Plain (loss_words word k channels kind from to)
 plain-loss word k channels kind from to is =
-    six-plain word (decimal k) (channels_word channels) (kind_word kind) (decimal from) (decimal to) is (plain-decimal k)
+    six-plain word (decimal k) (channels_word channels) (kind_word kind)
+    (decimal from) (decimal to) is (plain-decimal k)
     (plain-channels channels.a channels.b) (plain-lost kind) (plain-decimal from) (plain-decimal to)
 
 plain-sign : (down : Bool) → Plain (jump_sign down)
@@ -317,7 +332,8 @@ plain-value down word e =
     plain-behind (jump_sign down) word digits.value digits.read (plain-sign down)
     (plain-number 9 digits.value some.0 (omega arith) digits.gives)
 
-plain-jump_words : (words : List ℕ) (jump : JumpWords) → jump_words_in words ≡ Some jump → Plain jump.value → Plain words
+plain-jump_words : (words : List ℕ) (jump : JumpWords) → jump_words_in words
+    ≡ Some jump → Plain jump.value → Plain words
 unfolding jump_words_in
 plain-jump_words words jump e value =
     let k = bound (word_behind 32 (codes "jump ") words) _ jump e in
@@ -328,7 +344,8 @@ plain-jump_words words jump e value =
     let is = some_same _ jump slot.gives in
     plain-cut (codes "jump ") words k.value.front k.value.rest (word-cut 32 (codes "jump ") words k.value k.read) refl
     (plain-number node_digits k.value.front node.value (omega arith) node.read)
-    (plain-cut (codes " ") k.value.rest v.value.front v.value.rest (word-cut 32 (codes " ") k.value.rest v.value v.read) refl
+    (plain-cut (codes " ") k.value.rest v.value.front v.value.rest
+    (word-cut 32 (codes " ") k.value.rest v.value v.read) refl
     (subst (λ (j : JumpWords). Plain j.value) (sym is) value)
     (plain-behind (codes " ") v.value.rest t.value t.read refl
     (plain-number slot_digits t.value slot.value (omega arith) slot.read)))
@@ -337,7 +354,8 @@ plain-jump_of : (s : Spot) (words : List ℕ) (o : Option JumpWords) → jump_wo
     → Plain words
 plain-jump_of s words None read e = cc
 plain-jump_of s words (Some jump) read e =
-    let tests = and_parts ((jump.node == s.node) && (jump.slot == s.slot)) (is_jump_value (s.place % 2 == 1) jump.value) e in
+    let tests = and_parts ((jump.node == s.node) && (jump.slot == s.slot))
+    (is_jump_value (s.place % 2 == 1) jump.value) e in
     plain-jump_words words jump read (plain-value (s.place % 2 == 1) jump.value tests.1)
 
 either-test : (b x y : Bool) (P : Type 0) → cond b x y ≡ true → (x ≡ true → P) → (y ≡ true → P) → P
@@ -348,7 +366,8 @@ plain-lost_words : (slots : ℕ) (s : Spot) (words : List ℕ) → is_loss_of sl
 unfolding is_loss_of
 plain-lost_words slots s words same =
     plain-is words _ (spelled words _ same)
-    (plain-loss (doing_label s.doing) s.node (channels_at s.place) (loss_at s.place) s.slot (loss_end slots s.slot s.place)
+    (plain-loss (doing_label s.doing) s.node (channels_at s.place)
+    (loss_at s.place) s.slot (loss_end slots s.slot s.place)
     (plain-label s.doing))
 
 pub plain-fault : (slots : ℕ) (s : Spot) (words : List ℕ) → is_fault_of slots s words ≡ true → Plain words

@@ -22,7 +22,8 @@ use Rattle.chart_text.specs.Worst.{fault_in_line, hurt_word, list_title, lost_no
 use Rattle.whole_campaign.specs.Whole.{FaultTold}
 use Rattle.whole_campaign.specs.Words.{length_before}
 use Rattle.chart_text.specs.Key.{key_said, many_class}
-use Rattle.chart_text.specs.Looks.{look_text, look_letter, look_meaning, doing_word, jump_said, loss_said, channels_said}
+use Rattle.chart_text.specs.Looks.{look_text, look_letter, look_meaning, doing_word}
+use Rattle.chart_text.specs.Looks.{jump_said, loss_said, channels_said}
 use Rattle.chart_text.specs.Looks.{stays_said, kind_said, looks, fault_look, does_harm}
 use Rattle.ttp_base.specs.NodeSet.{below}
 use Rattle.campaign.specs.declared.cost.Counts.{Counts}

@@ -1,4 +1,5 @@
--- What is known of a campaign that a text is: its lines need no escapes, and its faults stand in the order of their slots.
+-- What is known of a campaign that a text is: its lines need no escapes, and its faults stand in the order of their
+-- slots.
 use Rattle.std.proofs.Common.{◌≡◌, ℕ, ◌+◌, ◌-◌, ◌≤◌, Bool, true, false, cond, ◌&&◌, ◌||◌, List, [], ◌∷◌}
 use Rattle.std.proofs.Common.{length, take, Option, Some, None, refl, sym, ap, subst, ◌∙◌, arith, codes, bytes_eq}
 use Rattle.std.specs.Prelude.{◌==◌, nat_le, nat_lt, option_map, IfSome}
@@ -22,9 +23,11 @@ use Rattle.whole_campaign.specs.Words.{without_feed, word_behind, node_digits}
 use Rattle.whole_campaign.specs.Runs.{RunWords, run_words_in, test_in, is_same_test, cost_in, range_digits}
 use Rattle.whole_campaign.specs.Runs.{campaign_head_in, head_of_line}
 use Rattle.whole_campaign.specs.Faults.{is_last_place, is_same_node, is_later, is_same_doing, is_fault_of}
-use Rattle.whole_campaign.specs.Faults.{stands_behind, lies_in, FaultWords, fault_words_in, spot_in, is_spot_due, shown_at, fault_line_in}
+use Rattle.whole_campaign.specs.Faults.{stands_behind, lies_in, FaultWords, fault_words_in}
+use Rattle.whole_campaign.specs.Faults.{spot_in, is_spot_due, shown_at, fault_line_in}
 use Rattle.whole_campaign.specs.Due.{with_fault_counted, piece_begun, spot_of, fault_told, is_between_groups}
-use Rattle.whole_campaign.specs.Due.{behind_fault, behind_kept, is_later_head, behind_piece, behind_head, due_in_campaign}
+use Rattle.whole_campaign.specs.Due.{behind_fault, behind_kept, is_later_head, behind_piece}
+use Rattle.whole_campaign.specs.Due.{behind_head, due_in_campaign}
 use Rattle.whole_campaign.specs.Own.{Common}
 use Rattle.whole_campaign.specs.Whole.{FaultTold, one_further, wrong_behind, wrong_line, told_at, faults_told, onto}
 use Rattle.whole_campaign.specs.Whole.{items_behind}
@@ -67,7 +70,8 @@ record IsShown (s : Spot) (run : RunWords) (f : FaultShown) : Type 0 where
   test : Plain run.test
   cost : Plain run.cost
 
-shown-is : (frame : Common) (s : Spot) (run : RunWords) (f : FaultShown) → shown_at frame s run ≡ Some f → IsShown s run f
+shown-is : (frame : Common) (s : Spot) (run : RunWords) (f : FaultShown)
+    → shown_at frame s run ≡ Some f → IsShown s run f
 unfolding shown_at
 shown-is frame s run f e =
     let t = bound (test_in run.test) _ f e in
@@ -103,7 +107,8 @@ line-read frame piece before bytes f e =
 -- a line with its line feed
 pub fed-is : (line bytes : List ℕ) → without_feed line ≡ Some bytes → unended line ≡ bytes
 unfolding without_feed
-fed-is line bytes e = some_same (take (length line - 1) line) bytes (guarded _ (Some (take (length line - 1) line)) bytes e).1
+fed-is line bytes e = some_same (take (length line - 1) line) bytes
+    (guarded _ (Some (take (length line - 1) line)) bytes e).1
 
 told-read : (frame : Common) (piece : Piece) (before : Option Spot) (line : List ℕ) (f : FaultShown)
     → fault_told frame (due.Fault piece before) line ≡ Some f → IsRead frame piece before (unended line) f
@@ -126,7 +131,8 @@ later-slot b s e =
     (λ both. let parts = and_parts (s.slot == b.slot) (nat_lt b.node s.node) both in
     let same : s.slot ≡ b.slot = eqb-true s.slot b.slot parts.0 in omega (arith, same))
 
-stands-slot : (last later node jumps within : Bool) (P : Type 0) → cond last (later || (node && jumps)) (node && within) ≡ true
+stands-slot : (last later node jumps within : Bool) (P : Type 0)
+    → cond last (later || (node && jumps)) (node && within) ≡ true
     → (later ≡ true → P) → (node ≡ true → P) → P
 stands-slot true true node jumps within P e one other = one refl
 stands-slot true false true jumps within P e one other = other refl
@@ -204,7 +210,8 @@ fault-passed frame piece before line low next None read e from =
     go None from = omega (arith, from.0, from.1)
     go (Some b) from = omega (arith, from.0, from.1)
 
-kept-passed : (frame : Common) (piece : Piece) (line : List ℕ) (low : ℕ) (next : Due) → behind_kept piece line ≡ Some next
+kept-passed : (frame : Common) (piece : Piece) (line : List ℕ) (low : ℕ) (next : Due)
+    → behind_kept piece line ≡ Some next
     → IsFrom low (due.Broken piece) → IsPassed low None next
 kept-passed frame piece line low next e from =
     let g = guarded (bytes_eq line (counts_line (codes "broken ") piece.broken)) (Some (due.Piece piece.last)) next e in
@@ -234,13 +241,15 @@ unfolding head_of_line
 line-from line h low e above =
     let bytes = bound (without_feed line) campaign_head_in h e in head-from bytes.value h low bytes.gives above
 
-piece-passed : (frame : Common) (last : ℕ) (line : List ℕ) (low : ℕ) (next : Due) → behind_piece frame last line ≡ Some next
+piece-passed : (frame : Common) (last : ℕ) (line : List ℕ) (low : ℕ) (next : Due)
+    → behind_piece frame last line ≡ Some next
     → IsFrom low (due.Piece last) → IsPassed low None next
 unfolding behind_piece
 piece-passed frame last line low next e from =
     let h = bound (head_of_line line) _ next e in
     let g = guarded (is_later_head frame last h.value) (Some (due.Own h.value.first h.value.last)) next h.gives in
-    let tests = and_parts ((h.value.nodes == frame.nodes) && (h.value.slots == frame.slots)) (nat_lt last h.value.first) g.0 in
+    let tests = and_parts ((h.value.nodes == frame.nodes) && (h.value.slots == frame.slots))
+    (nat_lt last h.value.first) g.0 in
     let later = ltb-true last h.value.first tests.1 in
     let begins = line-from line h.value low h.read (omega (arith, from, later)) in
     record {

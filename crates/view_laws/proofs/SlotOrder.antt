@@ -1,6 +1,8 @@
 -- Faults in the order of their slots, slot by slot.
-use Rattle.std.proofs.Common.{◌≡◌, ℕ, zero, suc, ◌+◌, ◌-◌, ◌<◌, ◌≤◌, Bool, true, false, cond, not, ◌||◌, List, [], ◌∷◌, ◌++◌}
-use Rattle.std.proofs.Common.{map, filter, length, take, drop, min, get_or, refl, sym, ap, ◌∙◌, arith, inl, inr, Option, Some, None}
+use Rattle.std.proofs.Common.{◌≡◌, ℕ, zero, suc, ◌+◌, ◌-◌, ◌<◌, ◌≤◌, Bool, true}
+use Rattle.std.proofs.Common.{false, cond, not, ◌||◌, List, [], ◌∷◌, ◌++◌}
+use Rattle.std.proofs.Common.{map, filter, length, take, drop, min, get_or, refl}
+use Rattle.std.proofs.Common.{sym, ap, ◌∙◌, arith, inl, inr, Option, Some, None}
 use Rattle.std.specs.Prelude.{◌==◌, nat_le}
 use Rattle.std.specs.List.{AllByRecursion, list_any, flat_map, range_with_len}
 use Rattle.std.proofs.lemmas.Bool.{cases_lt, cond_both, ne_eqb}
@@ -25,11 +27,13 @@ abbrev pub Ascend : List ℕ → Type 0
 Ascend [] = Unit {0}
 Ascend (t ∷ ts) = AllByRecursion (λ s. t < s) ts × Ascend ts
 
-above-filter : (p : ℕ → Bool) (t : ℕ) (ts : List ℕ) → AllByRecursion (λ s. t < s) ts → AllByRecursion (λ s. t < s) (filter p ts)
+above-filter : (p : ℕ → Bool) (t : ℕ) (ts : List ℕ) → AllByRecursion (λ s. t < s) ts
+    → AllByRecursion (λ s. t < s) (filter p ts)
 above-filter p t [] are = tt
 above-filter p t (s ∷ ts) are =
     let others = above-filter p t ts are.1 in
-    cond_both (p s) (s ∷ filter p ts) (filter p ts) (AllByRecursion (λ r. t < r)) (λ kept. (are.0, others)) (λ out. others)
+    cond_both (p s) (s ∷ filter p ts) (filter p ts) (AllByRecursion (λ r. t < r))
+    (λ kept. (are.0, others)) (λ out. others)
 
 ascend-filter : (p : ℕ → Bool) (ts : List ℕ) → Ascend ts → Ascend (filter p ts)
 ascend-filter p [] are = tt
@@ -104,7 +108,8 @@ or-nothing true b none = refl
 or-nothing false b none = none
 
 -- where all faults come later than a slot
-none-of : (t : ℕ) (faults : List FaultTold) → AllByRecursion (λ fault. t < fault.shown.slot) faults → faults_told_in t faults ≡ []
+none-of : (t : ℕ) (faults : List FaultTold)
+    → AllByRecursion (λ fault. t < fault.shown.slot) faults → faults_told_in t faults ≡ []
 none-of t [] later = refl
 none-of t (fault ∷ faults) later =
     let other : (fault.shown.slot == t) ≡ false =
@@ -146,7 +151,8 @@ first-slot t ts (fault ∷ faults) above order =
           let out : list_any (λ s. s == slot) ts ≡ false = not-among t slot ts above within in
           let turned : (t == slot) ≡ (slot == t) = grind arith in
           let here : is_among (t ∷ ts) fault ≡ is_of t fault =
-          double ((t == slot) || list_any (λ s. s == slot) ts) ∙ or-nothing (t == slot) (list_any (λ s. s == slot) ts) out
+          double ((t == slot) || list_any (λ s. s == slot) ts)
+          ∙ or-nothing (t == slot) (list_any (λ s. s == slot) ts) out
           ∙ turned in
           let there : is_among ts fault ≡ false = double (list_any (λ s. s == slot) ts) ∙ out in
           let others = shown_among_slots (t ∷ ts) faults in

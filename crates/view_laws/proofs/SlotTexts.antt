@@ -1,5 +1,6 @@
 -- The lines of a text that is a trace, slot by slot.
-use Rattle.std.proofs.Common.{◌≡◌, ◌≢◌, ℕ, ◌-◌, ◌<◌, ◌≤◌, ◌^◌, Bool, true, false, cond, List, [], ◌∷◌, ◌++◌, map, take, length}
+use Rattle.std.proofs.Common.{◌≡◌, ◌≢◌, ℕ, ◌-◌, ◌<◌, ◌≤◌, ◌^◌, Bool, true, false}
+use Rattle.std.proofs.Common.{cond, List, [], ◌∷◌, ◌++◌, map, take, length}
 use Rattle.std.proofs.Common.{filter, refl, sym, ap, ◌∙◌, arith, Option, Some, None, option_map, option_to_list}
 use Rattle.std.specs.List.{flat_map, count_by}
 use Rattle.std.specs.Str.{bytes_eq}
@@ -17,9 +18,11 @@ use Rattle.line_reader.specs.TraceLines.{keep_text, back_text}
 use Rattle.whole_trace.specs.Whole.{WholeTrace}
 use Rattle.shown_slot.specs.Trace.{first_text}
 use Rattle.picture_text.specs.Picture.{ended}
-use Rattle.view_laws.specs.Titles.{texts_of_nodes, texts_of_hosts, texts_of_slot, texts_of_trace, is_of_slot, texts_of_lines}
+use Rattle.view_laws.specs.Titles.{texts_of_nodes, texts_of_hosts, texts_of_slot}
+use Rattle.view_laws.specs.Titles.{texts_of_trace, is_of_slot, texts_of_lines}
 use Rattle.view_laws.proofs.LineStarts.{of-other}
-use Rattle.view_laws.proofs.SlotTitles.{filter-flat, one-alone, left_out, nodes-own, nodes-other, hosts-own, hosts-other}
+use Rattle.view_laws.proofs.SlotTitles.{filter-flat, one-alone, left_out, nodes-own}
+use Rattle.view_laws.proofs.SlotTitles.{nodes-other, hosts-own, hosts-other}
 use Rattle.view_laws.proofs.TextLines.{IsTextOf}
 use Rattle.ttp_world.proofs.SmallTests.{spelled}
 
@@ -38,7 +41,8 @@ bare-each : (texts : Lines) → map bare (map ended texts) ≡ texts
 bare-each [] = refl
 bare-each (text ∷ texts) = λ i. bare-ended text i ∷ bare-each texts i
 
-pub bare-text : (text : List ℕ) (trace : WholeTrace) → IsTextOf (lines_of text) trace → texts_of_lines text ≡ texts_of_trace trace
+pub bare-text : (text : List ℕ) (trace : WholeTrace) → IsTextOf (lines_of text) trace
+    → texts_of_lines text ≡ texts_of_trace trace
 bare-text text trace is = ap (map bare) is.are ∙ bare-each (texts_of_trace trace)
 
 -- The lines of a slot.
@@ -73,7 +77,8 @@ texts-of_slot trace t few within =
     left_out (p (first_text trace)) (first_text trace) (filter p (slots ++ (keep_text trace.keep ∷ ends))) refl
     ∙ filter-append p slots (keep_text trace.keep ∷ ends)
     ∙ (λ i. (filter-flat p (texts_of_slot trace) (below (length trace.slots))
-    ∙ one-alone (λ s. filter p (texts_of_slot trace s)) 0 (length trace.slots) t (omega arith) (omega (arith, within)) (λ s less ne.
+    ∙ one-alone (λ s. filter p (texts_of_slot trace s)) 0 (length trace.slots) t
+    (omega arith) (omega (arith, within)) (λ s less ne.
     slot-other trace t s (omega (arith, within, few)) (omega (arith, less, few)) ne)
     ∙ slot-own trace t) i
     ++ (left_out (p (keep_text trace.keep)) (keep_text trace.keep) (filter p ends) (keep-no t trace.keep)
@@ -86,7 +91,8 @@ filter-within : (p q : List ℕ → Bool) (lines : Lines) → ((line : List ℕ)
     → filter q lines ≡ filter q (filter p lines)
 filter-within p q [] each = refl
 filter-within p q (line ∷ lines) each =
-    by_first (p line) (q line) line (filter q lines) (filter p lines) refl refl (each line) (filter-within p q lines each)
+    by_first (p line) (q line) line (filter q lines) (filter p lines) refl refl
+    (each line) (filter-within p q lines each)
   where
     by_first : (b c : Bool) (one : List ℕ) (some others : Lines) → q one ≡ c → p one ≡ b → (q one ≡ true → p one ≡ true)
         → some ≡ filter q others

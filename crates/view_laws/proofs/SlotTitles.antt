@@ -1,6 +1,8 @@
 -- Of a slot that is shown the titles are the lines of its nodes and of its hosts.
-use Rattle.std.proofs.Common.{◌≡◌, ◌≢◌, ℕ, zero, suc, ◌+◌, ◌-◌, ◌*◌, ◌<◌, ◌≤◌, ◌^◌, Bool, true, false, cond, ◌||◌, min, map, nat_le}
-use Rattle.std.proofs.Common.{List, [], ◌∷◌, ◌++◌, length, drop, filter, refl, sym, ap, ◌∙◌, arith, codes, decimal, Option, Some, None, inl, inr}
+use Rattle.std.proofs.Common.{◌≡◌, ◌≢◌, ℕ, zero, suc, ◌+◌, ◌-◌, ◌*◌, ◌<◌, ◌≤◌, ◌^◌}
+use Rattle.std.proofs.Common.{Bool, true, false, cond, ◌||◌, min, map, nat_le}
+use Rattle.std.proofs.Common.{List, [], ◌∷◌, ◌++◌, length, drop, filter, refl, sym, ap}
+use Rattle.std.proofs.Common.{◌∙◌, arith, codes, decimal, Option, Some, None, inl, inr}
 use Rattle.std.specs.Prelude.{◌==◌}
 use Rattle.std.specs.List.{concat, flat_map, range_with_len}
 use Rattle.std.specs.Fmt.{signed_decimal}
@@ -24,7 +26,8 @@ use Rattle.picture_text.specs.declared.window.Span.{Span}
 use Rattle.picture_text.specs.Cells.{shown_memberships, membership_text, apart_text, far_text}
 use Rattle.picture_text.specs.Picture.{slot_at, shown_slots, is_shown}
 use Rattle.picture_text.specs.Window.{span_shown}
-use Rattle.view_laws.specs.Titles.{begins_with, texts_of_nodes, texts_of_hosts, is_of_slot, node_start, members_said, clocks_said}
+use Rattle.view_laws.specs.Titles.{begins_with, texts_of_nodes, texts_of_hosts, is_of_slot}
+use Rattle.view_laws.specs.Titles.{node_start, members_said, clocks_said}
 use Rattle.view_laws.specs.Titles.{far_said}
 use Rattle.view_laws.specs.Titles.{cell_titles, legend_titles, shown_of, picture_titles}
 use Rattle.view_laws.proofs.LineStarts.{of-other, of-own, start-other, start-own, start-node, start-neighbour}
@@ -57,7 +60,8 @@ filter-no p f [] none = refl
 filter-no p f (x ∷ xs) none = left_out (p (f x)) (f x) (filter p (map f xs)) (none x) ∙ filter-no p f xs none
 
 -- of numbers in a row, one alone has lines
-pub none-past : (f : ℕ → Lines) (a n : ℕ) → ((s : ℕ) → a ≤ s → s < a + n → f s ≡ []) → flat_map f (range_with_len a n) ≡ []
+pub none-past : (f : ℕ → Lines) (a n : ℕ)
+    → ((s : ℕ) → a ≤ s → s < a + n → f s ≡ []) → flat_map f (range_with_len a n) ≡ []
 none-past f a zero none = refl
 none-past f a (suc n) none =
     let rest = none-past f (a + 1) n (λ s low high. none s (omega arith) (omega arith)) in
@@ -108,7 +112,8 @@ abbrev node_rest : Head → NodeShown → List ℕ
 node_rest head node = concat (drop 5 (pieces_of_node head 0 0 node))
 
 node-begins : (head : Head) (t k : ℕ) (node : NodeShown)
-    → node_text head t k node ≡ codes "slot " ++ (decimal t ++ (codes " node " ++ (decimal k ++ 32 ∷ node_rest head node)))
+    → node_text head t k node ≡ codes "slot "
+    ++ (decimal t ++ (codes " node " ++ (decimal k ++ 32 ∷ node_rest head node)))
 node-begins head t k node = gathered [] (pieces_of_node head t k node)
 
 -- and behind the word host
@@ -120,7 +125,8 @@ host_pieces (by_host.Read host from number payload) =
 abbrev host_rest : HostLine → List ℕ
 host_rest by = concat (host_pieces by)
 
-host-begins : (t : ℕ) (by : HostLine) → host_text t by ≡ codes "slot " ++ (decimal t ++ (codes " host " ++ host_rest by))
+host-begins : (t : ℕ) (by : HostLine) → host_text t by ≡ codes "slot "
+    ++ (decimal t ++ (codes " host " ++ host_rest by))
 host-begins t (by_host.Write host number) =
     gathered [] (codes "slot " ∷ decimal t ∷ codes " host " ∷ host_pieces (by_host.Write host number))
 host-begins t (by_host.Read host from number payload) =
@@ -152,7 +158,8 @@ abbrev far_rest : SlotLines → List ℕ
 far_rest slot = codes "clock apart from most " ++ far_text (node_apart slot.nodes)
 
 far-begins : (t : ℕ) (slot : SlotLines) → far_said t slot ≡ codes "slot " ++ (decimal t ++ 32 ∷ far_rest slot)
-far-begins t slot = three (codes "slot ") (decimal t) (codes " clock apart from most ") (far_text (node_apart slot.nodes))
+far-begins t slot = three (codes "slot ") (decimal t)
+    (codes " clock apart from most ") (far_text (node_apart slot.nodes))
 
 no-node : (head : Head) (slot : SlotLines) (held bytes : List ℕ)
     → begins_with (codes " node " ++ bytes) (32 ∷ said_rest head slot held) ≡ false
@@ -190,9 +197,11 @@ cells-own trace t =
     let head = trace.head in
     let slot = slot_at trace t in
     let held = shown_memberships slot.nodes in
-    three-left (is_of_slot t) (texts_of_nodes trace t) (texts_of_nodes trace t) (members_said head t slot held) (clocks_said t slot)
+    three-left (is_of_slot t) (texts_of_nodes trace t) (texts_of_nodes trace t)
+    (members_said head t slot held) (clocks_said t slot)
     (far_said t slot) (nodes-own trace t)
-    (ap (is_of_slot t) (members-begin head t slot held) ∙ of-own t (32 ∷ said_rest head slot held) ∙ no-line head slot held)
+    (ap (is_of_slot t) (members-begin head t slot held)
+    ∙ of-own t (32 ∷ said_rest head slot held) ∙ no-line head slot held)
     (ap (is_of_slot t) (clocks-begin t slot) ∙ of-own t (32 ∷ clocks_rest slot))
     (ap (is_of_slot t) (far-begins t slot) ∙ of-own t (32 ∷ far_rest slot))
 
@@ -200,18 +209,21 @@ cells-own trace t =
 abbrev pub FailsIn : (List ℕ → Bool) → ℕ → Type 0
 FailsIn p s = (rest : List ℕ) → p (codes "slot " ++ (decimal s ++ 32 ∷ rest)) ≡ false
 
-pub nodes-other : (trace : WholeTrace) (p : List ℕ → Bool) (s : ℕ) → FailsIn p s → filter p (texts_of_nodes trace s) ≡ []
+pub nodes-other : (trace : WholeTrace) (p : List ℕ → Bool) (s : ℕ) → FailsIn p s
+    → filter p (texts_of_nodes trace s) ≡ []
 nodes-other trace p s none =
     let head = trace.head in
     let slot = slot_at trace s in
     filter-no p (λ k. node_text head s k (node_at slot k)) (below head.nodes) (λ k.
-    ap p (node-begins head s k (node_at slot k)) ∙ none (codes "node " ++ (decimal k ++ 32 ∷ node_rest head (node_at slot k))))
+    ap p (node-begins head s k (node_at slot k))
+    ∙ none (codes "node " ++ (decimal k ++ 32 ∷ node_rest head (node_at slot k))))
 
 cells-other : (trace : WholeTrace) (p : List ℕ → Bool) (s : ℕ) → FailsIn p s → filter p (cell_titles trace s) ≡ []
 cells-other trace p s none =
     let slot = slot_at trace s in
     let held = shown_memberships slot.nodes in
-    three-left p (texts_of_nodes trace s) [] (members_said trace.head s slot held) (clocks_said s slot) (far_said s slot)
+    three-left p (texts_of_nodes trace s) []
+    (members_said trace.head s slot held) (clocks_said s slot) (far_said s slot)
     (nodes-other trace p s none)
     (ap p (members-begin trace.head s slot held) ∙ none (said_rest trace.head slot held))
     (ap p (clocks-begin s slot) ∙ none (clocks_rest slot)) (ap p (far-begins s slot) ∙ none (far_rest slot))
@@ -226,7 +238,8 @@ hosts-own trace t =
     either true = refl
     either false = refl
 
-pub hosts-other : (trace : WholeTrace) (p : List ℕ → Bool) (s : ℕ) → FailsIn p s → filter p (texts_of_hosts trace s) ≡ []
+pub hosts-other : (trace : WholeTrace) (p : List ℕ → Bool) (s : ℕ) → FailsIn p s
+    → filter p (texts_of_hosts trace s) ≡ []
 hosts-other trace p s none =
     filter-no p (host_text s) (slot_at trace s).hosts (λ by.
     ap p (host-begins s by) ∙ none (codes "host " ++ host_rest by))
@@ -234,7 +247,8 @@ hosts-other trace p s none =
 -- The slots shown.
 
 -- the last of them is none past the trace
-pub last-shown : (n : ℕ) (slots : List SlotLines) (asked : Option Span) → (span_shown n slots asked).last ≤ length slots - 1
+pub last-shown : (n : ℕ) (slots : List SlotLines) (asked : Option Span)
+    → (span_shown n slots asked).last ≤ length slots - 1
 last-shown n slots None =
     at-most _ (length slots)
   where
@@ -263,12 +277,14 @@ passed trace asked p t nodes hosts few shows first legend cells marks others =
     let above : filter p upper ≡ nodes =
     filter-flat p (cell_titles trace) (shown_slots span)
     ∙ one-alone (λ s. filter p (cell_titles trace s)) span.first n t low (omega (arith, low, high)) (λ s less ne.
-    cells-other trace p s (others s (below_limit span.first span.last s t (length trace.slots) low high last few less) ne))
+    cells-other trace p s (others s
+    (below_limit span.first span.last s t (length trace.slots) low high last few less) ne))
     ∙ cells in
     let below : filter p lower ≡ hosts =
     filter-flat p (texts_of_hosts trace) (shown_slots span)
     ∙ one-alone (λ s. filter p (texts_of_hosts trace s)) span.first n t low (omega (arith, low, high)) (λ s less ne.
-    hosts-other trace p s (others s (below_limit span.first span.last s t (length trace.slots) low high last few less) ne))
+    hosts-other trace p s (others s
+    (below_limit span.first span.last s t (length trace.slots) low high last few less) ne))
     ∙ marks in
     left_out (p (first_text trace)) (first_text trace) (filter p (upper ++ (lower ++ legend_titles))) first
     ∙ filter-append p upper (lower ++ legend_titles)
@@ -289,7 +305,8 @@ none-passed trace asked p first legend others =
     let upper : Lines = flat_map (cell_titles trace) (shown_slots span) in
     let lower : Lines = flat_map (texts_of_hosts trace) (shown_slots span) in
     let is : (s : ℕ) → span.first ≤ s → s < span.first + n → is_shown span s ≡ true = λ s low high.
-    and_from (nat_le span.first s) (nat_le s span.last) (le-leb span.first s low) (le-leb s span.last (omega (arith, low, high))) in
+    and_from (nat_le span.first s) (nat_le s span.last) (le-leb span.first s low)
+    (le-leb s span.last (omega (arith, low, high))) in
     let above : filter p upper ≡ [] =
     filter-flat p (cell_titles trace) (shown_slots span)
     ∙ none-past (λ s. filter p (cell_titles trace s)) span.first n (λ s low high.
@@ -329,7 +346,8 @@ pub titles-of_slot : (trace : WholeTrace) (asked : Option Span) (t : ℕ) → le
     → is_shown (shown_of trace asked) t ≡ true
     → filter (is_of_slot t) (picture_titles trace asked) ≡ texts_of_nodes trace t ++ texts_of_hosts trace t
 titles-of_slot trace asked t few shows =
-    passed trace asked (is_of_slot t) t (texts_of_nodes trace t) (texts_of_hosts trace t) few shows refl refl (cells-own trace t)
+    passed trace asked (is_of_slot t) t (texts_of_nodes trace t)
+    (texts_of_hosts trace t) few shows refl refl (cells-own trace t)
     (hosts-own trace t) (λ s less ne rest. of-other t s rest (shown-limit trace asked t few shows) less ne)
 
 pub title-of_node : (trace : WholeTrace) (asked : Option Span) (t k : ℕ) → length trace.slots ≤ 20000
@@ -346,7 +364,8 @@ title-of_node trace asked t k few small shows within =
     one-passes p text head.nodes k within
     (ap p (node-begins head t k (node_at slot k)) ∙ start-node t k (node_rest head (node_at slot k))) (λ j less ne.
     ap p (node-begins head t j (node_at slot j))
-    ∙ start-neighbour t k j (node_rest head (node_at slot j)) (omega (arith, within, small)) (omega (arith, less, small)) ne) in
+    ∙ start-neighbour t k j (node_rest head (node_at slot j))
+    (omega (arith, within, small)) (omega (arith, less, small)) ne) in
     let cells =
     three-left p (texts_of_nodes trace t) (text k ∷ []) (members_said head t slot held) (clocks_said t slot)
     (far_said t slot) nodes
@@ -355,6 +374,7 @@ title-of_node trace asked t k few small shows within =
     (ap p (clocks-begin t slot) ∙ start-own t k (32 ∷ clocks_rest slot))
     (ap p (far-begins t slot) ∙ start-own t k (32 ∷ far_rest slot)) in
     let hosts =
-    filter-no p (host_text t) slot.hosts (λ by. ap p (host-begins t by) ∙ start-own t k (codes " host " ++ host_rest by)) in
+    filter-no p (host_text t) slot.hosts
+    (λ by. ap p (host-begins t by) ∙ start-own t k (codes " host " ++ host_rest by)) in
     passed trace asked p t (text k ∷ []) [] few shows refl refl cells hosts (λ s less ne rest.
     start-other t k s rest (shown-limit trace asked t few shows) less ne)

@@ -1,6 +1,8 @@
 -- A text that is a trace has the lines that its value gives, and no others.
-use Rattle.std.proofs.Common.{◌≡◌, ℕ, zero, suc, ◌+◌, ◌-◌, ◌<◌, ◌≤◌, Bool, true, false, cond, ◌&&◌, not, nat_lt, ℤ, map, length}
-use Rattle.std.proofs.Common.{List, [], ◌∷◌, ◌++◌, take, drop, get_or, refl, sym, ap, subst, ◌∙◌, arith, Option, Some, None}
+use Rattle.std.proofs.Common.{◌≡◌, ℕ, zero, suc, ◌+◌, ◌-◌, ◌<◌, ◌≤◌, Bool, true}
+use Rattle.std.proofs.Common.{false, cond, ◌&&◌, not, nat_lt, ℤ, map, length}
+use Rattle.std.proofs.Common.{List, [], ◌∷◌, ◌++◌, take, drop, get_or, refl, sym}
+use Rattle.std.proofs.Common.{ap, subst, ◌∙◌, arith, Option, Some, None}
 use Rattle.std.proofs.Common.{option_map, option_to_list, option_and_then}
 use Rattle.std.specs.Prelude.{◌==◌, Result, Ok, Err}
 use Rattle.std.specs.List.{flat_map, range_with_len}
@@ -26,7 +28,8 @@ use Rattle.whole_trace.specs.declared.shown.Head.{Head}
 use Rattle.whole_trace.specs.declared.shown.HostLine.{HostLine}
 use Rattle.whole_trace.specs.declared.shown.HostLine.TheVariants as by_host
 use Rattle.whole_trace.specs.declared.shown.NodeShown.{NodeShown}
-use Rattle.whole_trace.specs.Due.{is_below, source_node, has_digits, are_members, doubted, is_node_line, is_head, is_keep, is_back}
+use Rattle.whole_trace.specs.Due.{is_below, source_node, has_digits, are_members, doubted}
+use Rattle.whole_trace.specs.Due.{is_node_line, is_head, is_keep, is_back}
 use Rattle.whole_trace.specs.Due.{next_node, after_node, due_after, ending}
 use Rattle.whole_trace.specs.Whole.{SlotLines, SlotsFrom, WholeTrace, value_of, one_line_later, or_missing}
 use Rattle.whole_trace.specs.Whole.{judged_behind, judged, no_lines, no_slots, with_shown_node, with_node_line}
@@ -159,7 +162,8 @@ next-says head t k lines from o says = by (nat_lt (k + 1) head.nodes) refl says
     by false is say =
         let past = ltb-false (k + 1) head.nodes is in
         let none : 0 ≡ head.nodes - (k + 1) = omega (arith, past) in
-        subst (λ (n : ℕ). SaysSlots head lines (nodes_left head t (k + 1) n from.front.nodes ++ behind head t from o) o) none say
+        subst (λ (n : ℕ). SaysSlots head lines
+        (nodes_left head t (k + 1) n from.front.nodes ++ behind head t from o) o) none say
 
 node-says : (head : Head) (t k : ℕ) (node : NodeShown) (text : List ℕ) (lines : Lines) (from : SlotsFrom) (o : Outline)
     → k < head.nodes → text ≡ ended (node_text head t k node) → Say (next_node head t k) lines from o
@@ -186,10 +190,12 @@ say-node head t k node text lines from o within is says = by (k == 0) refl
     by : (b : Bool) → (k == 0) ≡ b
         → SaysSlots head (text ∷ lines)
         (cond b (from_slot head t (cond b
-        (let begun : SlotsFrom = record { front = no_lines; slots = with_shown_node node from.front ∷ from.slots } in begun)
+        (let begun : SlotsFrom =
+        record { front = no_lines; slots = with_shown_node node from.front ∷ from.slots } in begun)
         (record { front = with_shown_node node from.front; slots = from.slots })).slots o)
         (from_node head t k (cond b
-        (let begun : SlotsFrom = record { front = no_lines; slots = with_shown_node node from.front ∷ from.slots } in begun)
+        (let begun : SlotsFrom =
+        record { front = no_lines; slots = with_shown_node node from.front ∷ from.slots } in begun)
         (record { front = with_shown_node node from.front; slots = from.slots })) o)) o
     by false other = node-says head t k node text lines from o within is says
     by true same =
@@ -199,7 +205,8 @@ say-node head t k node text lines from o within is says = by (k == 0) refl
           of = all.of;
           are =
               all.are
-              ∙ (λ i. map ended (nodes_left head t (zero_is i) (count i) (node ∷ from.front.nodes) ++ behind head t from o))
+              ∙ (λ i. map ended (nodes_left head t (zero_is i) (count i) (node ∷ from.front.nodes)
+              ++ behind head t from o))
               ∙ ap (map ended) (nested (nodes_left head t 0 head.nodes (node ∷ from.front.nodes))
               (map (host_text t) from.front.hosts) (slots_left head (t + 1) (head.slots - (t + 1)) from.slots)
               (ends_left o));
@@ -207,12 +214,14 @@ say-node head t k node text lines from o within is says = by (k == 0) refl
 
 -- A line more.
 
-say-same : (at then : Due) (lines : Lines) (from : SlotsFrom) (o : Outline) → Some at ≡ Some then → Say then lines from o
+say-same : (at then : Due) (lines : Lines) (from : SlotsFrom) (o : Outline)
+    → Some at ≡ Some then → Say then lines from o
     → Say at lines from o
 say-same at then lines from o e says = subst (λ (d : Due). Say d lines from o) (sym (some_same at then e)) says
 
 node-step : (head : Head) (t k s j : ℕ) (w : Word) (peer message : Option ℕ) (wide : Bool) (members : List ℕ)
-    (accepted rejected : ℕ) (a : Ack) (z : ℤ) (then : Due) (text : List ℕ) (lines : Lines) (from : SlotsFrom) (o : Outline)
+    (accepted rejected : ℕ) (a : Ack) (z : ℤ) (then : Due) (text : List ℕ)
+    (lines : Lines) (from : SlotsFrom) (o : Outline)
     → text ≡ ended (text_of (line.Node s j w peer message wide members accepted rejected a z))
     → after_node head t k (line.Node s j w peer message wide members accepted rejected a z) ≡ Some then
     → Say then lines from o
@@ -237,7 +246,8 @@ node-step head t k s j w peer message wide members accepted rejected a z then te
     (say-node head t k node text lines from o n.within (is ∙ same)
     (subst (λ (d : Due). Say d lines from o) n.next says))
 
-host-step : (head : Head) (t s : ℕ) (by : HostLine) (text : List ℕ) (lines : Lines) (from : SlotsFrom) (o : Outline) → s ≡ t
+host-step : (head : Head) (t s : ℕ) (by : HostLine) (text : List ℕ) (lines : Lines)
+    (from : SlotsFrom) (o : Outline) → s ≡ t
     → text ≡ ended (host_text s by) → SaysSlots head lines (behind head t from o) o
     → SaysSlots head (text ∷ lines)
     (map (host_text t) (by ∷ from.front.hosts)
@@ -268,14 +278,17 @@ step : (at then : Due) (v : TraceLine) (text : List ℕ) (lines : Lines) (from :
     → text ≡ ended (text_of v) → due_after at v ≡ Some then → Say then lines from o
     → Say at (text ∷ lines) (with_line v from) o
 step due.First then v text lines from o is e says = tt
-step (due.Node head t k) then (line.Node s j w peer message wide members accepted rejected a z) text lines from o is e says =
+step (due.Node head t k) then (line.Node s j w peer message wide members accepted rejected a z) text
+    lines from o is e says =
     node-step head t k s j w peer message wide members accepted rejected a z then text lines from o is e says
 step (due.Node head t k) then v text lines from o is e says = cc
-step (due.Host head t r) then (line.Node s j w peer message wide members accepted rejected a z) text lines from o is e says =
+step (due.Host head t r) then (line.Node s j w peer message wide members accepted rejected a z) text
+    lines from o is e says =
     let v = line.Node s j w peer message wide members accepted rejected a z in
     let g = guarded (nat_lt (t + 1) head.slots) (after_node head (t + 1) 0 v) then e in
     let n = is-line_of head (t + 1) 0 s j w peer message wide members accepted rejected a z then g.1 in
-    let begun = node-step head (t + 1) 0 s j w peer message wide members accepted rejected a z then text lines from o is g.1
+    let begun = node-step head (t + 1) 0 s j w peer message wide members accepted
+    rejected a z then text lines from o is g.1
     says in
     let few = ltb-true (t + 1) head.slots g.0 in
     let count : suc (head.slots - (t + 1 + 1)) ≡ head.slots - (t + 1) = omega (arith, few) in
@@ -372,7 +385,8 @@ nodes-numbered : (head : Head) (t k n : ℕ) (nodes : List NodeShown)
 nodes-numbered head t k zero nodes = refl
 nodes-numbered head t k (suc n) nodes =
     let here : get_or (drop k nodes) 0 no_shown_node ≡ get_or nodes k no_shown_node =
-    get_or-drop k nodes 0 no_shown_node ∙ (let e : k + 0 ≡ k = omega arith in ap (λ (j : ℕ). get_or nodes j no_shown_node) e) in
+    get_or-drop k nodes 0 no_shown_node
+    ∙ (let e : k + 0 ≡ k = omega arith in ap (λ (j : ℕ). get_or nodes j no_shown_node) e) in
     let rest : drop 1 (drop k nodes) ≡ drop (k + 1) nodes = drop-drop 1 k nodes in
     λ i. node_text head t k (here i)
     ∷ (ap (nodes_left head t (k + 1) n) rest ∙ nodes-numbered head t (k + 1) n nodes) i
@@ -383,7 +397,8 @@ slots-numbered : (head : Head) (t n : ℕ) (slots : List SlotLines)
 slots-numbered head t zero slots = refl
 slots-numbered head t (suc n) slots =
     let here : get_or (drop t slots) 0 no_slot_lines ≡ get_or slots t no_slot_lines =
-    get_or-drop t slots 0 no_slot_lines ∙ (let e : t + 0 ≡ t = omega arith in ap (λ (j : ℕ). get_or slots j no_slot_lines) e) in
+    get_or-drop t slots 0 no_slot_lines
+    ∙ (let e : t + 0 ≡ t = omega arith in ap (λ (j : ℕ). get_or slots j no_slot_lines) e) in
     let rest : drop 1 (drop t slots) ≡ drop (t + 1) slots = drop-drop 1 t slots in
     λ i. slot_left head t (here i)
     ++ (ap (slots_left head (t + 1) n) rest ∙ slots-numbered head (t + 1) n slots) i
@@ -406,7 +421,8 @@ pub record IsTextOf (lines : Lines) (trace : WholeTrace) : Type 0 where
   pub nodes : trace.head.nodes ≤ 24
 
 header-says : (first : List ℕ) (lines : Lines) (o : Outline) (head : Head) → first ≡ ended (header_text head)
-    → is_head head ≡ true → Say (due.Node head 0 0) lines (slots_from lines) o → length (slots_from lines).slots ≡ o.head.slots
+    → is_head head ≡ true → Say (due.Node head 0 0) lines (slots_from lines) o
+    → length (slots_from lines).slots ≡ o.head.slots
     → IsTextOf (first ∷ lines) (with_slots (first ∷ lines) o)
 header-says first lines o head is right says counted =
     let whole = with_slots (first ∷ lines) o in
@@ -414,7 +430,8 @@ header-says first lines o head is right says counted =
     let few = few_slots head right in
     let same : o.head.slots ≡ head.slots = ap (λ (h : Head). h.slots) says.of in
     let count : suc (head.slots - (0 + 1)) ≡ length slots = omega (arith, few.0, counted, same) in
-    let numbered : slots_left head 0 (suc (head.slots - (0 + 1))) slots ≡ flat_map (texts_of_slot whole) (below (length slots)) =
+    let numbered : slots_left head 0 (suc (head.slots - (0 + 1))) slots
+    ≡ flat_map (texts_of_slot whole) (below (length slots)) =
     (λ i. slots_left (sym says.of i) 0 (count i) slots) ∙ slots-numbered o.head 0 (length slots) slots
     ∙ flat-same (λ s. slot_left o.head s (get_or slots s no_slot_lines)) (texts_of_slot whole) (below (length slots))
     (slot-numbered whole) in record {
@@ -458,5 +475,6 @@ text-lines text trace e = on (judged due.First (lines_of text)) refl e
     on : (r : Result Outline ℕ) → judged due.First (lines_of text) ≡ r → whole_or_line (lines_of text) r ≡ Ok trace
         → IsTextOf (lines_of text) trace
     on (Ok o) is whole =
-        subst (IsTextOf (lines_of text)) (ok_same (with_slots (lines_of text) o) trace whole) (lines-are (lines_of text) o is)
+        subst (IsTextOf (lines_of text))
+        (ok_same (with_slots (lines_of text) o) trace whole) (lines-are (lines_of text) o is)
     on (Err n) is whole = cc

@@ -1,5 +1,6 @@
 -- Lines that are put together of tags and plain texts: which titles they have, and that each is one line.
-use Rattle.std.proofs.Common.{◌≡◌, ℕ, ◌+◌, Bool, true, false, cond, ◌&&◌, ◌||◌, List, [], ◌∷◌, ◌++◌, map, drop, codes, decimal}
+use Rattle.std.proofs.Common.{◌≡◌, ℕ, ◌+◌, Bool, true, false, cond, ◌&&◌, ◌||◌}
+use Rattle.std.proofs.Common.{List, [], ◌∷◌, ◌++◌, map, drop, codes, decimal}
 use Rattle.std.proofs.Common.{refl, sym, ap, subst, ◌∙◌, ◌≤◌, length, arith}
 use Rattle.std.specs.Prelude.{◌==◌}
 use Rattle.std.specs.List.{AllByRecursion, list_all, list_any, flat_map}
@@ -91,7 +92,8 @@ pub record IsLineWith (text : List ℕ) (names : Lines) : Type 0 where
   pub one : is_line text ≡ true
 
 -- bytes and the end of their line behind them
-pub closed : {bytes : List ℕ} {names : Lines} → Adds bytes names → (last : List ℕ) → titles_in last ≡ [] → is_line last ≡ true
+pub closed : {bytes : List ℕ} {names : Lines} → Adds bytes names → (last : List ℕ)
+    → titles_in last ≡ [] → is_line last ≡ true
     → IsLineWith (bytes ++ last) names
 closed {bytes} {names} adds last none one = record {
   titled = adds.before last ∙ ap (λ (others : Lines). names ++ others) none ∙ append-nil names;
@@ -134,7 +136,8 @@ pub text-titles : (class : List ℕ) (x y : ℕ) (shown : List ℕ) → Plain cl
     → IsLineWith (text_line class x y shown) []
 text-titles class x y shown c s =
     let all =
-    tag (codes "<text") (λ rest. refl) refl ▸ plain class c ▸ place-adds x y ▸ tag (codes ">") (λ rest. refl) refl ▸ plain shown s in
+    tag (codes "<text") (λ rest. refl) refl ▸ plain class c ▸ place-adds x y ▸ tag
+    (codes ">") (λ rest. refl) refl ▸ plain shown s in
     closed all (codes "</text>\n") refl refl
 
 pub classed-titles : (class : List ℕ) (x y : ℕ) (shown : List ℕ) → Plain class → Plain shown
@@ -148,14 +151,16 @@ cell-titles class x y name shown c n s =
     let all =
     named (tag (codes "<g class=\"") (λ rest. refl) refl ▸ plain class c) (plain (codes "\">") refl) name n
     (tag (codes "<rect") (λ rest. refl) refl)
-    ▸ place-adds x y ▸ tag (codes " width=\"19\" height=\"19\"/><text") (λ rest. refl) refl ▸ place-adds (x + 9) (y + 14)
+    ▸ place-adds x y ▸ tag (codes " width=\"19\" height=\"19\"/><text")
+    (λ rest. refl) refl ▸ place-adds (x + 9) (y + 14)
     ▸ tag (codes ">") (λ rest. refl) refl ▸ plain shown s in
     closed all (codes "</text></g>\n") refl refl
 
 pub mark-titles : (class shape : List ℕ) (x y : ℕ) (name : List ℕ) → Plain class → Plain shape → Plain name
     → IsLineWith (mark class shape x y name) (name ∷ [])
 mark-titles class shape x y name c s n =
-    closed_title (tag (codes "<path class=\"") (λ rest. refl) refl ▸ plain class c ▸ plain (codes "\" d=\"M") refl ▸ number x
+    closed_title (tag (codes "<path class=\"") (λ rest. refl) refl ▸ plain class c ▸
+    plain (codes "\" d=\"M") refl ▸ number x
     ▸ plain (codes " ") refl ▸ number y ▸ plain shape s) (plain (codes "\">") refl) name n (codes "</path>\n") refl refl
 
 -- Lists of lines.

@@ -1,5 +1,6 @@
 -- The titles of a picture, as its text has them, and the lines of a trace that they are.
-use Rattle.std.specs.Prelude.{ℕ, ◌-◌, ◌==◌, Bool, true, false, ◌&&◌, ◌||◌, List, [], ◌∷◌, ◌++◌, map, flat_map, length, take, drop}
+use Rattle.std.specs.Prelude.{ℕ, ◌-◌, ◌==◌, Bool, true, false, ◌&&◌, ◌||◌, List}
+use Rattle.std.specs.Prelude.{[], ◌∷◌, ◌++◌, map, flat_map, length, take, drop}
 use Rattle.std.specs.Prelude.{Option, option_to_list, codes, decimal, if◌then◌else◌}
 use Rattle.ttp_base.specs.NodeSet.{below}
 use Rattle.ttp_base.specs.Text.{Lines, lines_of}
@@ -79,8 +80,8 @@ texts_of_lines text = map (λ line. take (length line - 1) line) (lines_of text)
 
 -- The titles that a picture has.
 
--- what the cells below those of the nodes say: which members holders of these memberships hold, how far clocks are apart, and
--- whose is far from most
+-- what the cells below those of the nodes say: which members holders of these memberships hold, how far clocks are
+-- apart, and whose is far from most
 abbrev pub members_said : Head → ℕ → SlotLines → List ℕ → List ℕ
 members_said head t slot [] = codes "slot " ++ decimal t ++ codes " members -"
 members_said head t slot (members ∷ others) = members_title head t slot

@@ -1,5 +1,6 @@
 -- The lines on rules that are not kept.
-use Rattle.std.specs.Prelude.{ℕ, ℤ, Bool, true, false, ◌&&◌, ◌==◌, List, [], ◌∷◌, ◌++◌, codes, position, Option, Some, None}
+use Rattle.std.specs.Prelude.{ℕ, ℤ, Bool, true, false, ◌&&◌, ◌==◌, List, [], ◌∷◌}
+use Rattle.std.specs.Prelude.{◌++◌, codes, position, Option, Some, None}
 use Rattle.std.specs.Fmt.{decimal}
 use Rattle.ttp_base.specs.Text.{Lines, newline}
 use Rattle.ttp_world.specs.declared.medl.Medl.{Medl}
@@ -86,9 +87,11 @@ adds_error k slot _ = false
 -- clocks past a bound: the first `drift` line of such a clock, or the first `error` line of it in the slot
 unfoldable pub clocks_line : RightFiles → PastBound → List ℕ
 clocks_line f (past.Drifts nodes) =
-    let s = first_wanted (wanted.DriftAmong nodes) f.others in warning_on f s 1 None (drift_text f.list f.script s.number)
+    let s = first_wanted (wanted.DriftAmong nodes) f.others in
+    warning_on f s 1 None (drift_text f.list f.script s.number)
 clocks_line f (past.Errors slot node sum) =
-    warning_on f (cause_line (position (adds_error node slot) f.script.events) f.events f.others) 1 (Some slot) (errors_text f.list node sum)
+    warning_on f (cause_line (position (adds_error node slot) f.script.events) f.events f.others) 1
+    (Some slot) (errors_text f.list node sum)
 
 -- a window that is to be so wide
 unfoldable pub window_line : RightFiles → ℤ → List ℕ
@@ -107,7 +110,8 @@ no_start_line f why.NobodyOn =
 no_start_line f (why.NoStarterOn starters) =
     warning_on f (first_wanted wanted.Slots f.others) 4 None (no_start_text f.script 0 (why.NoStarterOn starters))
 no_start_line f (why.Rivals slot first second) =
-    warning_on f (first_wanted (wanted.On second) f.others) 4 None (no_start_text f.script 0 (why.Rivals slot first second))
+    warning_on f (first_wanted (wanted.On second) f.others) 4 None
+    (no_start_text f.script 0 (why.Rivals slot first second))
 no_start_line f (why.Late slot nodes) =
     let s = first_wanted (wanted.OnAmong nodes) f.others in
     warning_on f s 4 None (no_start_text f.script s.number (why.Late slot nodes))

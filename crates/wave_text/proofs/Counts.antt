@@ -32,4 +32,5 @@ counted width k b n same =
       none of_node.Ack (ap node_ack_text same.ack),
       none of_node.Clock (ap clock_text same.offset),
     )
-    (ap (λ (l : Lines). of_variable width k b n of_node.Peer ++ l) (append-nil (of_variable width k b n of_node.Accepted)))
+    (ap (λ (l : Lines). of_variable width k b n of_node.Peer ++ l)
+    (append-nil (of_variable width k b n of_node.Accepted)))

@@ -162,7 +162,8 @@ returns-each trace = go trace.back
 head-each : (trace : WholeTrace) → AreLines (wave_head_lines (first_text trace) (keeps_text trace) (returns_text trace))
 head-each trace =
     each-append IsLine ((codes "$version ttplab wave $end" ++ newline) ∷ comment_line (first_text trace)
-    ∷ comment_line (keeps_text trace) ∷ comment_lines (returns_text trace)) ((codes "$timescale 1 s $end" ++ newline) ∷ []) (
+    ∷ comment_line (keeps_text trace) ∷ comment_lines (returns_text trace))
+    ((codes "$timescale 1 s $end" ++ newline) ∷ []) (
       refl,
       (
         comment-IsLine (first_text trace) (none-head trace.head),

@@ -48,7 +48,8 @@ none-binary : (digits v : ℕ) → HasNone (binary digits v)
 unfolding binary
 none-binary zero v = refl
 none-binary (suc digits) v =
-    none-append (binary digits (v / 2)) ((48 + v % 2) ∷ []) (none-binary digits (v / 2)) (none-byte (48 + v % 2) (omega arith))
+    none-append (binary digits (v / 2)) ((48 + v % 2) ∷ [])
+    (none-binary digits (v / 2)) (none-byte (48 + v % 2) (omega arith))
 
 none-binary_number : (more v : ℕ) → HasNone (binary_number more v)
 unfolding binary_number
@@ -88,7 +89,8 @@ none-spread : (range : Option ClockRange) → HasNone (spread_text range)
 none-spread None = refl
 none-spread (Some range) = none-number (spread_in range)
 
-pub none-cluster_value : (width : ℕ) (v : ClusterVariable) (nodes : List NodeShown) → HasNone (cluster_value width v nodes)
+pub none-cluster_value : (width : ℕ) (v : ClusterVariable) (nodes : List NodeShown)
+    → HasNone (cluster_value width v nodes)
 none-cluster_value width of_cluster.Agree nodes = none-agreement (agreement nodes)
 none-cluster_value width of_cluster.Sender nodes = none-sender (sender_among 0 nodes)
 none-cluster_value width of_cluster.Active nodes = none-wires width (bits_where is_active_word nodes)

@@ -22,7 +22,8 @@ pub record AreCleared (ports : List Port) (messages : List (Option Message)) (co
   pub none : (i : ℕ) (d : Port) → i < count → i < length ports
       → HasNewest messages [] (get_or ports i d).host (get_or ports i d).what
 
-pub noted-more : (ports : List Port) (before after : List (Option Message)) (all left : List HostLine) (shown : HostLine)
+pub noted-more : (ports : List Port) (before after : List (Option Message))
+    (all left : List HostLine) (shown : HostLine)
     → AreNoted ports before all (shown ∷ left) → All HasLetters ports → length after ≡ 624
     → ((k : ℕ) (does : What) (lines : List HostLine) → HasPlace k does → HasNewest before lines k does
     → HasNewest after (lines ++ shown ∷ []) k does)

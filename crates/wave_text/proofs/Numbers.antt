@@ -1,5 +1,6 @@
 -- The values of small numbers, as a table has them.
-use Rattle.wave_text.proofs.Words.{◌≡◌, ℕ, zero, suc, ◌+◌, ◌<◌, ◌≤◌, Bool, true, false, List, [], ◌∷◌, ap, ◌∙◌, refl, length, arith}
+use Rattle.wave_text.proofs.Words.{◌≡◌, ℕ, zero, suc, ◌+◌, ◌<◌, ◌≤◌, Bool, true, false}
+use Rattle.wave_text.proofs.Words.{List, [], ◌∷◌, ap, ◌∙◌, refl, length, arith}
 use Rattle.wave_text.proofs.Words.{get_or, number_text}
 use Rattle.std.specs.Borrow.{Bor}
 use Rattle.std.specs.Str.{bytes_eq}
@@ -10,7 +11,8 @@ use Rattle.std.proofs.lemmas.Bool.{leb-true}
 -- from number k on these are their texts, of at most 6 bytes
 unfoldable pub are_numbers : ℕ → List (Bor (List ℕ)) → Bool
 are_numbers k [] = true
-are_numbers k (text ∷ texts) = (bytes_eq text.now (number_text k) && nat_le (length text.now) 6) && are_numbers (suc k) texts
+are_numbers k (text ∷ texts) =
+    (bytes_eq text.now (number_text k) && nat_le (length text.now) 6) && are_numbers (suc k) texts
 
 abbrev pub IsNumber : ℕ → List ℕ → Type 0
 IsNumber v text = (text ≡ number_text v) × (length text ≤ 6)

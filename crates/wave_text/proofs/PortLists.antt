@@ -62,7 +62,8 @@ noted_host sizes lines n k are few less =
     ∙ flat_map_agree-below (λ p. by_table (node p)) (λ p. by_lines (node p)) n
     (λ p below. noted_port sizes lines k (node p) (are k (node p) (less, omega (arith, below, few))))
     ∙ sym (flat_map-map by_lines node (below n)) in
-    ap (λ (front : List Port). front ++ (by_table (what.Read source.Status) ++ flat_map by_table (map node (below n)))) write
+    ap (λ (front : List Port). front
+    ++ (by_table (what.Read source.Status) ++ flat_map by_table (map node (below n)))) write
     ∙ ap (λ (middle : List Port). by_lines what.Write ++ (middle ++ flat_map by_table (map node (below n)))) status
     ∙ ap (λ (end : List Port). by_lines what.Write ++ (by_lines (what.Read source.Status) ++ end)) nodes
 
@@ -81,7 +82,8 @@ all-flat_map P Q f each [] all = tt
 all-flat_map P Q f each (x ∷ xs) all =
     all-append P (f x) (flat_map f xs) (each x all.0) (all-flat_map P Q f each xs all.1)
 
-port_if-letters : (k : ℕ) (does : What) (size : Option ℕ) → HasPlace k does → AllByRecursion HasLetters (port_if k does size)
+port_if-letters : (k : ℕ) (does : What) (size : Option ℕ) → HasPlace k does
+    → AllByRecursion HasLetters (port_if k does size)
 port_if-letters k does None has = tt
 port_if-letters k does (Some size) has = (has, tt)
 

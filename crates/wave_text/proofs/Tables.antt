@@ -77,7 +77,8 @@ elsewhere k does shown other = by_message (message_in_line k does shown) refl
 
 -- Messages.
 
-pub newest-unplaced : (messages : List (Option Message)) (lines : List HostLine) (shown : HostLine) (k : ℕ) (does : What)
+pub newest-unplaced : (messages : List (Option Message)) (lines : List HostLine)
+    (shown : HostLine) (k : ℕ) (does : What)
     → HasPlace k does → ¬ (HasPlace (host_in shown) (what_in shown)) → HasNewest messages lines k does
     → HasNewest messages (lines ++ shown ∷ []) k does
 newest-unplaced messages lines shown k does has none is =
@@ -107,7 +108,8 @@ newest-placed messages lines shown k does has had size is =
           ap (slice_get noted) same.1 ∙ there ∙ ap (λ (m : Option Message). Some m) (sym newest))
       | inr other ↦
           (set_elsewhere messages at (table_place k does) message (newest_host_message k does lines) other.1 is
-          ∙ ap (λ (m : Option Message). Some m) (sym (newest-other k does lines shown (elsewhere k does shown other.1))))
+          ∙ ap (λ (m : Option Message). Some m)
+          (sym (newest-other k does lines shown (elsewhere k does shown other.1))))
     ]
 
 -- Sizes.
@@ -119,11 +121,13 @@ most-unplaced sizes lines shown k does has none is =
     is ∙ ap (λ (m : Option ℕ). Some m) (sym (most-other k does lines shown (unplaced k does shown has none)))
 
 -- the size that the table has of this line's port
-pub most-placed : (sizes : List (Option ℕ)) (lines : List HostLine) (shown : HostLine) (size : Option ℕ) (k : ℕ) (does : What)
+pub most-placed : (sizes : List (Option ℕ)) (lines : List HostLine)
+    (shown : HostLine) (size : Option ℕ) (k : ℕ) (does : What)
     → HasPlace k does → HasPlace (host_in shown) (what_in shown) → length sizes ≡ 624
     → slice_get sizes (table_place (host_in shown) (what_in shown)) ≡ Some size
     → HasMost sizes lines k does
-    → HasMost (set sizes (table_place (host_in shown) (what_in shown)) (larger size (Some (length (message_said shown).payload))))
+    → HasMost (set sizes (table_place (host_in shown) (what_in shown))
+    (larger size (Some (length (message_said shown).payload))))
     (lines ++ shown ∷ []) k does
 most-placed sizes lines shown size k does has had few here is =
     let at = table_place (host_in shown) (what_in shown) in

@@ -56,7 +56,8 @@ number_digits-none zero v = refl
 number_digits-none (suc most) v = go (nat_lt v 2) refl (number_digits-none most (v / 2))
   where
     go : (small : Bool) → nat_lt v 2 ≡ small → list_any is_letter (binary_number most (v / 2)) ≡ false
-        → list_any is_letter (if small then (48 + v) ∷ [] else (binary_number most (v / 2) ++ (48 + v % 2) ∷ [])) ≡ false
+        → list_any is_letter (if small then (48 + v)
+        ∷ [] else (binary_number most (v / 2) ++ (48 + v % 2) ∷ [])) ≡ false
     go true is none = no_letter v (ltb-true v 2 is)
     go false is none = none_more (binary_number most (v / 2)) (v % 2) (omega arith) none
 

@@ -93,7 +93,8 @@ cluster-each width before now =
 
 node-each : (width k : ℕ) (before : Option NodeShown) (now : NodeShown) → AreLines (node_changes width k before now)
 node-each width k before now =
-    each-flat_map _ node_variables (λ v. changes-each (node_value width v) (node_code v k) before now (none-node_value width v) (none-node_code v k))
+    each-flat_map _ node_variables (λ v. changes-each (node_value width v) (node_code v k) before now
+    (none-node_value width v) (none-node_code v k))
 
 port-each : (port : Port) (before : Option (Option Message)) (now : Option Message)
     → AreLines (port_changes port before now)

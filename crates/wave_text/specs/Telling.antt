@@ -31,8 +31,8 @@ line_told digits t k w peer message members accepted rejected a clock =
     (number_or_dash (number_shown message)) (hex digits (count_told members)) (decimal (count_told accepted))
     (decimal (count_told rejected)) (drop 1 a) (drop 1 clock)
 
--- A node of a right trace: what isn't active has no members and no counts, what is off names no peer and no message, and
--- its numbers fit their variables, with members of nodes below a number.
+-- A node of a right trace: what isn't active has no members and no counts, what is off names no peer and no message,
+-- and its numbers fit their variables, with members of nodes below a number.
 pub record IsRightNode (width : ℕ) (node : NodeShown) : Type 0 where
   pub members : is_active_word node.word ≡ false → set_bits node.members ≡ 0
   pub accepted : is_active_word node.word ≡ false → node.accepted ≡ 0

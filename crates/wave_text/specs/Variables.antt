@@ -175,7 +175,8 @@ declaration type code name range =
     codes "$var " ++ type ++ codes " " ++ code ++ codes " " ++ name ++ range ++ end_keyword
 
 abbrev pub cluster_declaration : ℕ → ClusterVariable → List ℕ
-cluster_declaration width v = declaration (cluster_type width v) (cluster_letter v) (cluster_name v) (cluster_range width v)
+cluster_declaration width v =
+    declaration (cluster_type width v) (cluster_letter v) (cluster_name v) (cluster_range width v)
 
 abbrev pub node_declaration : ℕ → ℕ → NodeVariable → List ℕ
 node_declaration width k v = declaration (node_type width v) (node_code v k) (node_name v) (node_range width v)

@@ -11,7 +11,8 @@ use Rattle.whole_trace.specs.Whole.{SlotLines, WholeTrace}
 use Rattle.shown_slot.specs.Trace.{trace_ports, node_at}
 use Rattle.shown_slot.specs.Trace.{first_text, keeps_text, returns_text, member_room}
 use Rattle.wave_text.specs.Values.{cluster_value, node_value, port_value}
-use Rattle.wave_text.specs.Variables.{cluster_variables, node_variables, data_variables, port_variables, cluster_letter, node_code}
+use Rattle.wave_text.specs.Variables.{cluster_variables, node_variables, data_variables}
+use Rattle.wave_text.specs.Variables.{port_variables, cluster_letter, node_code}
 use Rattle.wave_text.specs.Variables.{port_code, ports_at, declarations}
 
 -- Changes.
@@ -82,7 +83,8 @@ later_lines width n ports t before (now ∷ slots) =
 
 abbrev pub all_slots_lines : ℕ → ℕ → List Port → List SlotLines → Lines
 all_slots_lines width n ports [] = time_line 0 ∷ []
-all_slots_lines width n ports (now ∷ slots) = first_slot_lines width n ports now ++ later_lines width n ports 1 now slots
+all_slots_lines width n ports (now ∷ slots) = first_slot_lines width n ports now
+    ++ later_lines width n ports 1 now slots
 
 -- The whole.
 

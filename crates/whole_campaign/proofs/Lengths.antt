@@ -10,7 +10,8 @@ use Rattle.whole_campaign.specs.Words.{length_of_words}
 length-at : (n : ℕ) (bytes : List ℕ) (i : ℕ) → i < length bytes
     → length_of_words n (drop i bytes)
     ≡ cond (is_space (get_or bytes i 0))
-    (cond (nat_le n 1) 0 (length_of_words (n - 1) (drop (i + 1) bytes) + 1)) (length_of_words n (drop (i + 1) bytes) + 1)
+    (cond (nat_le n 1) 0 (length_of_words (n - 1) (drop (i + 1) bytes) + 1))
+    (length_of_words n (drop (i + 1) bytes) + 1)
 unfolding length_of_words
 length-at n bytes i within =
     ap (length_of_words n)

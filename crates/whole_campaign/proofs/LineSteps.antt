@@ -1,5 +1,6 @@
 -- Steps over the lines of a campaign.
-use Rattle.std.proofs.Common.{◌≡◌, ℕ, ◌+◌, ◌<◌, List, [], ◌∷◌, ◌++◌, length, get_or, drop, Option, Some, None, ap, sym, ◌∙◌}
+use Rattle.std.proofs.Common.{◌≡◌, ℕ, ◌+◌, ◌<◌, List, [], ◌∷◌, ◌++◌, length, get_or}
+use Rattle.std.proofs.Common.{drop, Option, Some, None, ap, sym, ◌∙◌}
 use Rattle.std.proofs.Common.{arith, length-append}
 use Rattle.std.specs.List.{concat}
 use Rattle.ttp_base.specs.Text.{Lines, lines_of}
@@ -51,12 +52,14 @@ feed-bytes [] bytes is = cc
 feed-bytes (b ∷ line) bytes is = omega arith
 
 -- a text whose first line has a line feed is that line and the others
-pub ended_line : (text line rest bytes : List ℕ) → get_or (lines_of text) 0 [] ≡ line → drop 1 (lines_of text) ≡ lines_of rest
+pub ended_line : (text line rest bytes : List ℕ) → get_or (lines_of text) 0 [] ≡ line
+    → drop 1 (lines_of text) ≡ lines_of rest
     → without_feed line ≡ Some bytes → lines_of text ≡ line ∷ lines_of rest
 ended_line text line rest bytes first others is =
     cut-front text line rest first others (some-length text line first (feed-bytes line bytes is))
 
-pub head_ended : (line : List ℕ) (h : CampaignHead) → head_of_line line ≡ Some h → Bound (without_feed line) campaign_head_in h
+pub head_ended : (line : List ℕ) (h : CampaignHead) → head_of_line line ≡ Some h
+    → Bound (without_feed line) campaign_head_in h
 unfolding head_of_line
 head_ended line h is = bound (without_feed line) campaign_head_in h is
 

@@ -1,5 +1,6 @@
 -- What every campaign that was read keeps: its faults stand by their slots, and what is counted fits its words.
-use Rattle.std.proofs.Common.{◌≡◌, ℕ, ◌+◌, ◌^◌, ◌<◌, ◌≤◌, Bool, true, false, List, [], ◌∷◌, length, map, Option, Some, None, refl, sym, ap}
+use Rattle.std.proofs.Common.{◌≡◌, ℕ, ◌+◌, ◌^◌, ◌<◌, ◌≤◌, Bool, true, false, List, []}
+use Rattle.std.proofs.Common.{◌∷◌, length, map, Option, Some, None, refl, sym, ap}
 use Rattle.std.proofs.Common.{◌∙◌, subst, arith, nat_le, nat_lt, Result, Ok, Err, cond}
 use Rattle.std.specs.Prelude.{◌&&◌, ◌==◌, not, IfSome, IfOk, codes, option_map, sum_by}
 use Rattle.std.specs.Str.{bytes_eq}
@@ -20,15 +21,20 @@ use Rattle.whole_campaign.specs.declared.head.CampaignHead.{CampaignHead}
 use Rattle.whole_campaign.specs.declared.shown.FaultShown.{FaultShown}
 use Rattle.whole_campaign.specs.declared.shown.Piece.{Piece}
 use Rattle.whole_campaign.specs.declared.spot.Spot.{Spot}
-use Rattle.whole_campaign.specs.Due.{no_runs, with_run, with_run_if, with_fault_counted, piece_begun, spot_of, fault_told}
-use Rattle.whole_campaign.specs.Due.{is_between_groups, behind_fault, behind_kept, is_later_head, behind_piece, behind_head}
+use Rattle.whole_campaign.specs.Due.{no_runs, with_run, with_run_if, with_fault_counted}
+use Rattle.whole_campaign.specs.Due.{piece_begun, spot_of, fault_told}
+use Rattle.whole_campaign.specs.Due.{is_between_groups, behind_fault, behind_kept}
+use Rattle.whole_campaign.specs.Due.{is_later_head, behind_piece, behind_head}
 use Rattle.whole_campaign.specs.Due.{due_in_campaign}
-use Rattle.whole_campaign.specs.Faults.{stands_behind, lies_in, is_spot_due, is_fault_of, fault_words_in, spot_in, shown_at}
+use Rattle.whole_campaign.specs.Faults.{stands_behind, lies_in, is_spot_due, is_fault_of}
+use Rattle.whole_campaign.specs.Faults.{fault_words_in, spot_in, shown_at}
 use Rattle.whole_campaign.specs.Faults.{fault_line_in}
 use Rattle.whole_campaign.specs.Own.{Common, OwnShown, own_of_line}
-use Rattle.whole_campaign.specs.Runs.{RunWords, head_of_line, campaign_head_in, is_campaign_head, range_digits, test_in, cost_in, is_same_test}
+use Rattle.whole_campaign.specs.Runs.{RunWords, head_of_line, campaign_head_in, is_campaign_head}
+use Rattle.whole_campaign.specs.Runs.{range_digits, test_in, cost_in, is_same_test}
 use Rattle.whole_campaign.specs.Whole.{FaultTold, WholeCampaign, one_further, wrong_line, items_behind, onto, told_at}
-use Rattle.whole_campaign.specs.Whole.{faults_told, piece_ended, pieces_from, campaign_from, or_wrong, behind_own, behind_first}
+use Rattle.whole_campaign.specs.Whole.{faults_told, piece_ended, pieces_from, campaign_from}
+use Rattle.whole_campaign.specs.Whole.{or_wrong, behind_own, behind_first}
 use Rattle.whole_campaign.specs.Whole.{whole_of, campaign_in}
 use Rattle.whole_campaign.specs.Words.{without_feed, word_behind, node_digits}
 use Rattle.whole_campaign.proofs.Rooms.{one-small}
@@ -41,7 +47,8 @@ abbrev low : Piece → Option Spot → ℕ
 low piece None = piece.first
 low piece (Some s) = s.slot
 
-shown-slot : (frame : Common) (s : Spot) (run : RunWords) (f : FaultShown) → shown_at frame s run ≡ Some f → f.slot ≡ s.slot
+shown-slot : (frame : Common) (s : Spot) (run : RunWords) (f : FaultShown)
+    → shown_at frame s run ≡ Some f → f.slot ≡ s.slot
 unfolding shown_at
 shown-slot frame s run f e =
     let answer = bound (test_in run.test) _ f e in
@@ -57,7 +64,8 @@ behind-slot piece (Some before) s first stands = grind (arith, stands)
 spot-bounds : (frame : Common) (piece : Piece) (before : Option Spot) (s : Spot) (fault : List ℕ)
     → is_spot_due frame piece before s fault ≡ true → (low piece before ≤ s.slot) × (s.slot ≤ piece.last)
 spot-bounds frame piece before s fault is =
-    let parts : (nat_le piece.first s.slot ≡ true) × (nat_le s.slot piece.last ≡ true) × (stands_behind before s ≡ true) = grind (arith, is) in
+    let parts : (nat_le piece.first s.slot ≡ true) × (nat_le s.slot piece.last ≡ true)
+    × (stands_behind before s ≡ true) = grind (arith, is) in
     (behind-slot piece before s parts.0 parts.2, leb-true s.slot piece.last parts.1)
 
 fault-bounds : (frame : Common) (piece : Piece) (before : Option Spot) (bytes : List ℕ) (f : FaultShown)
@@ -127,7 +135,8 @@ head-ordered bytes h e =
     let slots = bound (numeral_in slot_digits t.value.front) _ h nodes.gives in
     let first = bound (numeral_in range_digits f.value.front) _ h slots.gives in
     let last = bound (numeral_in range_digits l.value) _ h first.gives in
-    let made : CampaignHead = record { nodes = nodes.value; slots = slots.value; first = first.value; last = last.value } in
+    let made : CampaignHead =
+    record { nodes = nodes.value; slots = slots.value; first = first.value; last = last.value } in
     let g = guarded (is_campaign_head made) (Some made) h last.gives in
     let ordered : nat_le made.first made.last ≡ true = grind (arith, g.0) in
     subst (λ (x : CampaignHead). x.first ≤ x.last) (some_same made h g.1) (leb-true made.first made.last ordered)
@@ -260,7 +269,8 @@ module _ (c : Counter) where
       → next_held (behind_fault piece before line found) ≤ c.of piece + 1
   fault-held piece before line (Some f) = c.grows f piece
   fault-held piece before line None =
-      next_held-if (is_between_groups before && bytes_eq line (counts_line (codes "kept ") piece.kept)) (due.Broken piece)
+      next_held-if (is_between_groups before
+      && bytes_eq line (counts_line (codes "kept ") piece.kept)) (due.Broken piece)
       (c.of piece + 1) (omega arith)
 
   piece-held : (frame : Common) (last : ℕ) (line : List ℕ) (next : Option Due) → behind_piece frame last line ≡ next
@@ -287,7 +297,8 @@ module _ (c : Counter) where
   line-held frame (due.Fault piece before) line =
       omega (arith, fault-held piece before line (fault_told frame (due.Fault piece before) line))
   line-held frame (due.Broken piece) line =
-      let few = next_held-if (bytes_eq line (counts_line (codes "broken ") piece.broken)) (due.Piece piece.last) 0 (omega arith) in
+      let few = next_held-if (bytes_eq line (counts_line (codes "broken ") piece.broken))
+      (due.Piece piece.last) 0 (omega arith) in
       omega (arith, few)
   line-held frame (due.Piece last) line = omega (arith, piece-held frame last line (behind_piece frame last line) refl)
   line-held frame (due.Own first last) line =
@@ -347,19 +358,44 @@ abbrev runs_count : Count
 runs_count = record { of = λ c. c.runs; none = refl; grows = λ f counts. omega arith; together = λ one other. refl }
 
 abbrev same_count : Count
-same_count = record { of = λ c. c.same; none = refl; grows = λ f counts. omega (arith, one-small f.same); together = λ one other. refl }
+same_count = record {
+  of = λ c. c.same;
+  none = refl;
+  grows = λ f counts. omega (arith, one-small f.same);
+  together = λ one other. refl;
+}
 
 abbrev hurt_count : Count
-hurt_count = record { of = λ c. c.hurt; none = refl; grows = λ f counts. omega (arith, one-small (nat_lt 0 f.hurt)); together = λ one other. refl }
+hurt_count = record {
+  of = λ c. c.hurt;
+  none = refl;
+  grows = λ f counts. omega (arith, one-small (nat_lt 0 f.hurt));
+  together = λ one other. refl;
+}
 
 abbrev split_count : Count
-split_count = record { of = λ c. c.split; none = refl; grows = λ f counts. omega (arith, one-small f.split); together = λ one other. refl }
+split_count = record {
+  of = λ c. c.split;
+  none = refl;
+  grows = λ f counts. omega (arith, one-small f.split);
+  together = λ one other. refl;
+}
 
 abbrev torn_count : Count
-torn_count = record { of = λ c. c.torn; none = refl; grows = λ f counts. omega (arith, one-small (nat_le 2 f.memberships)); together = λ one other. refl }
+torn_count = record {
+  of = λ c. c.torn;
+  none = refl;
+  grows = λ f counts. omega (arith, one-small (nat_le 2 f.memberships));
+  together = λ one other. refl;
+}
 
 abbrev dead_count : Count
-dead_count = record { of = λ c. c.dead; none = refl; grows = λ f counts. omega (arith, one-small (not f.company)); together = λ one other. refl }
+dead_count = record {
+  of = λ c. c.dead;
+  none = refl;
+  grows = λ f counts. omega (arith, one-small (not f.company));
+  together = λ one other. refl;
+}
 
 -- of counts added up it is the sum
 added : (c : Count) (all : List Counts) → c.of (counts_sum all) ≡ sum_by c.of all
@@ -398,13 +434,27 @@ module _ (frame : Common) (first last : ℕ) (lines : Lines) where
   few-kept c =
       let few : sum_by (λ (piece : Piece). c.of piece.kept) pieces ≤ c.of no_runs + length lines =
       few-counted (kept_counter c) frame lines (piece_begun first last) in
-      omega (arith, few, added c (map (λ piece. piece.kept) pieces), mapped-sum c.of (λ (piece : Piece). piece.kept) pieces, c.none)
+      omega (
+        arith,
+        few,
+        added c (map (λ piece. piece.kept) pieces),
+        mapped-sum c.of
+            (λ (piece : Piece). piece.kept) pieces,
+        c.none,
+      )
 
   few-broken : (c : Count) → c.of (counts_sum (map (λ piece. piece.broken) pieces)) ≤ length lines
   few-broken c =
       let few : sum_by (λ (piece : Piece). c.of piece.broken) pieces ≤ c.of no_runs + length lines =
       few-counted (broken_counter c) frame lines (piece_begun first last) in
-      omega (arith, few, added c (map (λ piece. piece.broken) pieces), mapped-sum c.of (λ (piece : Piece). piece.broken) pieces, c.none)
+      omega (
+        arith,
+        few,
+        added c (map (λ piece. piece.broken) pieces),
+        mapped-sum c.of
+            (λ (piece : Piece). piece.broken) pieces,
+        c.none,
+      )
 
   from-readable : first ≤ last → length lines < 2 ^ 63 → IsReadable (campaign_from frame (piece_begun first last) lines)
   from-readable ordered few = record {
@@ -420,18 +470,21 @@ module _ (frame : Common) (first last : ℕ) (lines : Lines) where
 
 -- The whole.
 
-right-whole : (whole campaign : WholeCampaign) (wrong : Option ℕ) → or_wrong whole wrong ≡ Ok campaign → whole ≡ campaign
+right-whole : (whole campaign : WholeCampaign) (wrong : Option ℕ)
+    → or_wrong whole wrong ≡ Ok campaign → whole ≡ campaign
 right-whole whole campaign None e = cc
 right-whole whole campaign (Some n) e = absurd (cc)
 
-behind-readable : (h : CampaignHead) (lines : Lines) (own : Option OwnShown) (campaign : WholeCampaign) → h.first ≤ h.last
+behind-readable : (h : CampaignHead) (lines : Lines) (own : Option OwnShown)
+    (campaign : WholeCampaign) → h.first ≤ h.last
     → length lines < 2 ^ 63 → behind_own h lines own ≡ Ok campaign → IsReadable campaign
 behind-readable h lines None campaign ordered few e = absurd (cc)
 behind-readable h lines (Some own) campaign ordered few e =
     let frame : Common = record { nodes = h.nodes; slots = h.slots; own = own } in
     let begun = piece_begun h.first h.last in
     subst (λ (c : WholeCampaign). IsReadable c)
-    (right-whole (campaign_from frame begun lines) campaign (one_further (one_further (wrong_line frame begun lines))) e)
+    (right-whole (campaign_from frame begun lines) campaign
+    (one_further (one_further (wrong_line frame begun lines))) e)
     (from-readable frame h.first h.last lines ordered few)
 
 first-readable : (head : Option CampaignHead) (lines : Lines) (campaign : WholeCampaign)
@@ -442,7 +495,8 @@ first-readable (Some h) [] campaign ordered few e = absurd (cc)
 first-readable (Some h) (line ∷ lines) campaign ordered few e =
     behind-readable h lines (own_of_line h.nodes h.slots line) campaign ordered (omega (arith, few)) e
 
-head-found : (line : List ℕ) (head : Option CampaignHead) → head_of_line line ≡ head → IfSome head (λ h. h.first ≤ h.last)
+head-found : (line : List ℕ) (head : Option CampaignHead) → head_of_line line
+    ≡ head → IfSome head (λ h. h.first ≤ h.last)
 head-found line None e = tt
 head-found line (Some h) e = line-ordered line h e
 
@@ -456,4 +510,5 @@ lines-readable (line ∷ lines) campaign few e =
 pub result-readable : (text : List ℕ) (read : Result WholeCampaign ℕ) → length text < 2 ^ 63 → read ≡ campaign_in text
     → IfOk read (λ campaign. IsReadable campaign)
 result-readable text (Err n) few e = tt
-result-readable text (Ok campaign) few e = lines-readable (lines_of text) campaign (omega (arith, few, few-lines text)) (sym e)
+result-readable text (Ok campaign) few e =
+    lines-readable (lines_of text) campaign (omega (arith, few, few-lines text)) (sym e)

@@ -14,8 +14,10 @@ use Rattle.whole_campaign.specs.declared.spot.Spot.{Spot}
 use Rattle.whole_campaign.specs.Own.{Common}
 use Rattle.whole_campaign.specs.Runs.{head_of_line}
 use Rattle.whole_campaign.specs.Words.{without_feed}
-use Rattle.whole_campaign.specs.Due.{no_runs, as_count, with_run, with_run_if, with_fault_counted, piece_begun, spot_of, fault_told}
-use Rattle.whole_campaign.specs.Due.{is_between_groups, behind_fault, behind_kept, is_later_head, behind_piece, behind_head}
+use Rattle.whole_campaign.specs.Due.{no_runs, as_count, with_run, with_run_if, with_fault_counted}
+use Rattle.whole_campaign.specs.Due.{piece_begun, spot_of, fault_told}
+use Rattle.whole_campaign.specs.Due.{is_between_groups, behind_fault, behind_kept}
+use Rattle.whole_campaign.specs.Due.{is_later_head, behind_piece, behind_head}
 use Rattle.whole_campaign.specs.Due.{due_in_campaign}
 use Rattle.whole_campaign.specs.Steps.{CanCount, HasRoomBehind}
 
@@ -95,7 +97,8 @@ unfolding behind_piece
 piece_due n frame last line then small e =
     let b = bound (head_of_line line) _ then e in
     let g = guarded (is_later_head frame last b.value) (Some (due.Own b.value.first b.value.last)) then b.gives in
-    subst (λ (d : Due). HasRoomBehind n d) (some_same (due.Own b.value.first b.value.last) then g.1) (omega (arith, small))
+    subst (λ (d : Due). HasRoomBehind n d)
+    (some_same (due.Own b.value.first b.value.last) then g.1) (omega (arith, small))
 
 head_due : (n : ℕ) (frame : Common) (first last : ℕ) (line : List ℕ) (then : Due) → n + 1 < 2 ^ 64
     → behind_head frame first last line ≡ Some then → HasRoomBehind n then
@@ -108,7 +111,8 @@ head_due n frame first last line then small e =
 
 -- behind a line there is room for one line less
 pub due_behind_line : (n : ℕ) (frame : Common) (d : Due) (line : List ℕ) (then : Due) → HasRoomBehind (n + 1) d
-    → IfSome (fault_told frame d line) (λ f. f.place < 16) → due_in_campaign frame d line ≡ Some then → HasRoomBehind n then
+    → IfSome (fault_told frame d line) (λ f. f.place < 16)
+    → due_in_campaign frame d line ≡ Some then → HasRoomBehind n then
 unfolding due_in_campaign
 due_behind_line n frame (due.Fault piece before) line then is small e =
     fault_due n piece before line (fault_told frame (due.Fault piece before) line) then is small e

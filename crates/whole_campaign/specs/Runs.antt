@@ -13,7 +13,8 @@ use Rattle.whole_campaign.specs.declared.cost.CostShown.{CostShown}
 use Rattle.whole_campaign.specs.declared.shown.Test.{Test}
 use Rattle.whole_campaign.specs.declared.shown.Test.TheVariants as test
 use Rattle.whole_campaign.specs.declared.head.CampaignHead.{CampaignHead}
-use Rattle.whole_campaign.specs.Words.{without_feed, word_behind, words_behind, node_digits, nodes_listed, sets_listed, split_in}
+use Rattle.whole_campaign.specs.Words.{without_feed, word_behind, words_behind, node_digits}
+use Rattle.whole_campaign.specs.Words.{nodes_listed, sets_listed, split_in}
 use Rattle.whole_campaign.specs.declared.listed.Kind.TheVariants as kind
 
 -- The first line of a piece.

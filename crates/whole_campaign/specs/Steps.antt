@@ -52,11 +52,13 @@ pub record IsPassed (frame : Common) (d : Due) (text : List ℕ) (told : Option 
   pub shorter : length rest < length text
 
 -- a fault comes next, and behind it these are due and left
-pub record IsFaultNext (frame : Common) (d : Due) (text : List ℕ) (told : FaultTold) (then : Due) (rest : List ℕ) : Type 0 where
+pub record IsFaultNext (frame : Common) (d : Due) (text : List ℕ) (told : FaultTold)
+    (then : Due) (rest : List ℕ) : Type 0 where
   pub faults : faults_told frame d (lines_of text) ≡ told ∷ faults_told frame then (lines_of rest)
   pub place : IsPlace frame then rest
 
 -- a piece ends next, and behind it these are due and left
-pub record IsPieceNext (frame : Common) (d : Due) (text : List ℕ) (piece : Piece) (then : Due) (rest : List ℕ) : Type 0 where
+pub record IsPieceNext (frame : Common) (d : Due) (text : List ℕ) (piece : Piece)
+    (then : Due) (rest : List ℕ) : Type 0 where
   pub pieces : pieces_from frame d (lines_of text) ≡ piece ∷ pieces_from frame then (lines_of rest)
   pub place : IsPlace frame then rest

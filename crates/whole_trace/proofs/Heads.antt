@@ -1,5 +1,6 @@
 -- What the first line says stays what a trace is gone on with.
-use Rattle.std.proofs.Common.{◌≡◌, ℕ, ◌+◌, ◌≤◌, Bool, true, false, cond, ◌&&◌, ◌||◌, not, Some, None, inl, inr, subst, arith}
+use Rattle.std.proofs.Common.{◌≡◌, ℕ, ◌+◌, ◌≤◌, Bool, true, false, cond, ◌&&◌}
+use Rattle.std.proofs.Common.{◌||◌, not, Some, None, inl, inr, subst, arith}
 use Rattle.std.specs.Prelude.{◌==◌, nat_le, nat_lt, IsTrue}
 use Rattle.std.proofs.lemmas.Bool.{and_parts, or_cases, leb-true}
 use Rattle.line_reader.specs.declared.trace_line.TraceLine.{TraceLine}
@@ -73,7 +74,8 @@ head_kept (due.Node head slot k) then v is e = node-head head slot k v then is e
 head_kept (due.Host head slot has_read) then (line.Write t h n) is e =
     kept ((t == slot) && nat_lt h head.nodes && not has_read) (due.Host head slot false) then is e
 head_kept (due.Host head slot has_read) then (line.Read t h source n payload) is e =
-    kept ((t == slot) && nat_lt h head.nodes && is_below head.nodes (source_node source)) (due.Host head slot true) then is e
+    kept ((t == slot) && nat_lt h head.nodes && is_below head.nodes (source_node source))
+    (due.Host head slot true) then is e
 head_kept (due.Host head slot has_read) then (line.Keep k) is e =
     kept ((slot + 1 == head.slots) && is_keep k) (due.Back head k) then is e
 head_kept (due.Host head slot has_read) then v is e = next-slot head slot v then is e

@@ -37,7 +37,8 @@ begins : (slot t : ℕ) (behind text : List ℕ) → (t == slot) ≡ true → te
     → is_some (after_label (host_front slot) text) ≡ true
 begins slot t behind text same is =
     let whole : text ≡ host_front slot ++ behind = is ∙ ap (λ (n : ℕ). host_front n ++ behind) (eqb-true t slot same) in
-    ap (λ (x : List ℕ). is_some (after_label (host_front slot) x)) whole ∙ ap is_some (label-again (host_front slot) behind)
+    ap (λ (x : List ℕ). is_some (after_label (host_front slot) x)) whole
+    ∙ ap is_some (label-again (host_front slot) behind)
 
 -- where a text does not begin as the line of a host in a slot, none comes next
 pub no_hosts : (head : Head) (slot : ℕ) (has_read : Bool) (text : List ℕ)
@@ -71,13 +72,15 @@ no_hosts head slot has_read text on other = by_lines (lines_of text) refl on
         by_value (Some (line.Write t h n)) is on =
             let tests = due_here ((t == slot) && nat_lt h head.nodes && not has_read) _ on in
             never _ t _
-            (and_parts (t == slot) (nat_lt h head.nodes) (and_parts ((t == slot) && nat_lt h head.nodes) (not has_read) tests).0).0
+            (and_parts (t == slot) (nat_lt h head.nodes)
+            (and_parts ((t == slot) && nat_lt h head.nodes) (not has_read) tests).0).0
             (first_line text first lines cut
             ∙ ap (λ (x : List ℕ). x ++ concat lines) (value-text first (line.Write t h n) is)
             ∙ write-front (codes "slot ") (decimal t) (codes " host ") (decimal h) (codes " write ") (decimal n) newline
             (concat lines))
         by_value (Some (line.Read t h source n payload)) is on =
-            let tests = due_here ((t == slot) && nat_lt h head.nodes && is_below head.nodes (source_node source)) _ on in
+            let tests = due_here ((t == slot) && nat_lt h head.nodes
+            && is_below head.nodes (source_node source)) _ on in
             never _ t _
             (and_parts (t == slot) (nat_lt h head.nodes)
             (and_parts ((t == slot) && nat_lt h head.nodes) (is_below head.nodes (source_node source)) tests).0).0
@@ -90,7 +93,8 @@ no_hosts head slot has_read text on other = by_lines (lines_of text) refl on
           where
             by_due : (o : Option Due)
                 → due_after at (line.Node t j w peer message wide members accepted rejected a z) ≡ o → Goes o
-                → (with_line (line.Node t j w peer message wide members accepted rejected a z) (slots_from lines)).front.hosts ≡ []
+                → (with_line (line.Node t j w peer message wide members accepted rejected a z)
+                (slots_from lines)).front.hosts ≡ []
             by_due None e on = cc
             by_due (Some then) e on =
                 let n = is_next at then t j w peer message wide members accepted rejected a z e in rw n.node refl
@@ -114,9 +118,11 @@ step-later head slot has_read text rest v then less s = record {
   shorter = s.shorter;
 }
 
-pub node-later : (head : Head) (slot : ℕ) (has_read : Bool) (text rest : List ℕ) (v : TraceLine) (node : NodeShown) (then : Due)
+pub node-later : (head : Head) (slot : ℕ) (has_read : Bool) (text rest : List ℕ)
+    (v : TraceLine) (node : NodeShown) (then : Due)
     → nat_lt (slot + 1) head.slots ≡ true → IsLineStep (due.Node head (slot + 1) 0) text v then rest
-    → IsNodeStep (due.Node head (slot + 1) 0) text node then rest → IsNodeStep (due.Host head slot has_read) text node then rest
+    → IsNodeStep (due.Node head (slot + 1) 0) text node then rest
+    → IsNodeStep (due.Host head slot has_read) text node then rest
 node-later head slot has_read text rest v node then less s n = record {
   slots = n.slots;
   goes_on =

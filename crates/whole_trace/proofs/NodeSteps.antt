@@ -1,5 +1,6 @@
 -- The line of a node in a text: which node's it is, and what it adds to the slots behind it.
-use Rattle.std.proofs.Common.{◌≡◌, ℕ, ◌+◌, Bool, true, false, ◌&&◌, ℤ, List, [], ◌∷◌, Option, Some, None, refl, sym, ap, ◌∙◌}
+use Rattle.std.proofs.Common.{◌≡◌, ℕ, ◌+◌, Bool, true, false, ◌&&◌, ℤ, List, []}
+use Rattle.std.proofs.Common.{◌∷◌, Option, Some, None, refl, sym, ap, ◌∙◌}
 use Rattle.std.proofs.Common.{◌≤◌, IsTrue, cond, not, subst, get_or, drop, arith}
 use Rattle.std.proofs.lemmas.Bool.{and_parts}
 use Rattle.std.specs.Prelude.{◌==◌, nat_le, nat_lt, Result, Ok, Err, option_and_then}
@@ -194,7 +195,8 @@ host-nodes head slot has_read [] on = refl
 host-nodes head slot has_read (first ∷ lines) on = by_value (value_of first) on
   where
     by_value : (o : Option TraceLine)
-        → IsTrue (is_taken (judged_behind (λ d. judged d lines) (option_and_then (due_after (due.Host head slot has_read)) o)))
+        → IsTrue (is_taken (judged_behind (λ d. judged d lines)
+        (option_and_then (due_after (due.Host head slot has_read)) o)))
         → (with_value o (slots_from lines)).front.nodes ≡ []
     by_value None on = refl
     by_value (Some (line.Header version nodes rounds slots schedule)) on = refl
@@ -203,22 +205,27 @@ host-nodes head slot has_read (first ∷ lines) on = by_value (value_of first) o
     by_value (Some (line.Keep k)) on = refl
     by_value (Some (line.Back b)) on = refl
     by_value (Some (line.Node t j w peer message wide members accepted rejected a z)) on =
-        by_due (due_after (due.Host head slot has_read) (line.Node t j w peer message wide members accepted rejected a z)) refl on
+        by_due (due_after (due.Host head slot has_read)
+        (line.Node t j w peer message wide members accepted rejected a z)) refl on
       where
         by_due : (o : Option Due)
-            → due_after (due.Host head slot has_read) (line.Node t j w peer message wide members accepted rejected a z) ≡ o
+            → due_after (due.Host head slot has_read)
+            (line.Node t j w peer message wide members accepted rejected a z) ≡ o
             → IsTrue (is_taken (judged_behind (λ d. judged d lines) o))
-            → (with_line (line.Node t j w peer message wide members accepted rejected a z) (slots_from lines)).front.nodes ≡ []
+            → (with_line (line.Node t j w peer message wide members accepted rejected a z)
+            (slots_from lines)).front.nodes ≡ []
         by_due None e on = cc
         by_due (Some then) e on =
-            let n = is_next (due.Host head slot has_read) then t j w peer message wide members accepted rejected a z e in
+            let n = is_next (due.Host head slot has_read) then t j w peer
+            message wide members accepted rejected a z e in
             rw n.node refl
 
 pub nodes-ended : (at : Due) (count : ℕ) (lines : Lines)
     → ((head : Head) (slot k : ℕ) → at ≡ due.Node head slot k → ⊥)
     → IsInSlot count at lines → (slots_from lines).front.nodes ≡ []
 nodes-ended (due.Node head slot k) count lines other in_slot = absurd (other head slot k refl)
-nodes-ended (due.Host head slot has_read) count lines other in_slot = host-nodes head slot has_read lines in_slot.goes_on
+nodes-ended (due.Host head slot has_read) count lines other in_slot =
+    host-nodes head slot has_read lines in_slot.goes_on
 nodes-ended at count lines other in_slot = let no : false ≡ true = in_slot.in_slot in cc
 
 pub same-slot : (s t : SlotLines) → s.nodes ≡ t.nodes → s.hosts ≡ t.hosts → s ≡ t
@@ -255,9 +262,11 @@ next-in_slot head slot k count same less few = by_last (nat_lt (k + 1) head.node
         let next : (k + 1 == count + 1) ≡ true = eq-eqb (k + 1) (count + 1) (omega (arith, same)) in
         rw next (rw is few)
     by_last false is =
-        let most = leb-true head.nodes most_nodes (and_parts (nat_lt 0 head.nodes) (nat_le head.nodes most_nodes) few).1 in
+        let most = leb-true head.nodes most_nodes
+        (and_parts (nat_lt 0 head.nodes) (nat_le head.nodes most_nodes) few).1 in
         let below = ltb-true k head.nodes less in
-        let within : nat_le (count + 1) most_nodes ≡ true = le-leb (count + 1) most_nodes (omega (arith, same, most, below)) in
+        let within : nat_le (count + 1) most_nodes ≡ true =
+        le-leb (count + 1) most_nodes (omega (arith, same, most, below)) in
         rw within few
 
 -- what a line of a node leaves behind that of node 0
@@ -314,7 +323,8 @@ pub host-step : (at then : Due) (text rest : List ℕ) (v : TraceLine) → IsLin
     → IsTrue (is_host_line v) → IsHostStep at text then rest
 host-step at then text rest v s is = record {
   slots =
-      ap (λ (from : SlotsFrom). from.slots) (slots-step at text v then rest s) ∙ with-host v (slots_from (lines_of rest)) is;
+      ap (λ (from : SlotsFrom). from.slots) (slots-step at text v then rest s)
+      ∙ with-host v (slots_from (lines_of rest)) is;
   place = λ p. record {
     goes_on = goes-on at text v then rest s p.goes_on;
     between = is-host at then v is s.next p.between;

@@ -1,5 +1,6 @@
 -- The line of a node that is made of the pieces of another.
-use Rattle.std.proofs.Common.{◌≡◌, ℕ, ◌+◌, ◌-◌, ◌*◌, ◌/◌, ◌%◌, ◌^◌, ◌<◌, ℤ, List, [], ◌∷◌, ◌++◌, length, get_or, take, drop, Option, Some, None, IfSome, refl, sym, ap, ◌∙◌, arith}
+use Rattle.std.proofs.Common.{◌≡◌, ℕ, ◌+◌, ◌-◌, ◌*◌, ◌/◌, ◌%◌, ◌^◌, ◌<◌, ℤ, List, [], ◌∷◌, ◌++◌, length}
+use Rattle.std.proofs.Common.{get_or, take, drop, Option, Some, None, IfSome, refl, sym, ap, ◌∙◌, arith}
 use Rattle.std.proofs.Common.{append_assoc, codes, length-append}
 use Rattle.std.specs.Fmt.{decimal, signed_decimal}
 use Rattle.std.specs.Str.{bytes_eq}
@@ -70,7 +71,8 @@ two_digits h l bytes rest behind first second some high low =
 
 -- a clock with its line feed
 pub clock-takes : (bytes : List ℕ) (o : Option ℤ) → drop (length bytes - 1) bytes ≡ newline
-    → o ≡ signed_numeral (10 ^ 18) (take (length bytes - 1) bytes) → IfSome o (λ z. (bytes ≡ signed_decimal z ++ newline) × FitsOffset z)
+    → o ≡ signed_numeral (10 ^ 18) (take (length bytes - 1) bytes)
+    → IfSome o (λ z. (bytes ≡ signed_decimal z ++ newline) × FitsOffset z)
 clock-takes bytes None end is = tt
 clock-takes bytes (Some z) end is =
     let n = length bytes - 1 in
@@ -84,7 +86,8 @@ abbrev onto : List ℕ → List (List ℕ) → List ℕ
 onto more [] = more
 onto more (piece ∷ pieces) = piece ++ onto more pieces
 
-gathered-onto : (text : List ℕ) (pieces : List (List ℕ)) (more : List ℕ) → gather text pieces ++ more ≡ text ++ onto more pieces
+gathered-onto : (text : List ℕ) (pieces : List (List ℕ)) (more : List ℕ)
+    → gather text pieces ++ more ≡ text ++ onto more pieces
 gathered-onto text [] more = refl
 gathered-onto text (piece ∷ pieces) more =
     gathered-onto (text ++ piece) pieces more ∙ append_assoc text piece (onto more pieces)
@@ -92,7 +95,8 @@ gathered-onto text (piece ∷ pieces) more =
 -- the line of these pieces at the front of a text, with a node, a count of accepted frames and a clock of its own
 pub alike-front : (n : NodeLine) (k a : ℕ) (z : ℤ) (head judged behind text r1 r2 r3 r4 r5 last rest : List ℕ)
     → HasPieces n head judged behind → k < 256 → a < 256 → FitsOffset z → text ≡ head ++ r1 → r1 ≡ decimal k ++ r2
-    → r2 ≡ judged ++ r3 → r3 ≡ decimal a ++ r4 → r4 ≡ behind ++ r5 → r5 ≡ last ++ rest → last ≡ signed_decimal z ++ newline
+    → r2 ≡ judged ++ r3 → r3 ≡ decimal a ++ r4 → r4 ≡ behind ++ r5 → r5 ≡ last
+    ++ rest → last ≡ signed_decimal z ++ newline
     → IsNodeFront text (record {
       slot = n.slot;
       node = k;
@@ -108,7 +112,8 @@ pub alike-front : (n : NodeLine) (k a : ℕ) (z : ℤ) (head judged behind text 
     }) rest
 alike-front n k a z head judged behind text r1 r2 r3 r4 r5 last rest has node count clock e1 e2 e3 e4 e5 e6 e7 =
     let v = line.Node n.slot k n.word n.peer n.message n.wide n.members a n.rejected n.ack z in
-    let f : FitsNode n.slot n.node n.word n.peer n.message n.wide n.members n.accepted n.rejected n.ack n.offset = has.fits in
+    let f : FitsNode n.slot n.node n.word n.peer n.message n.wide n.members
+    n.accepted n.rejected n.ack n.offset = has.fits in
     let fits : Fits v = record {
       slot = f.slot;
       node = node;
@@ -129,9 +134,12 @@ alike-front n k a z head judged behind text r1 r2 r3 r4 r5 last rest has node co
     let one = text_of v ++ newline in
     let all : text ≡ one ++ rest =
     e1 ∙ (λ i. has.begins i ++ e2 i) ∙ gathered-onto [] front (decimal k ++ r2)
-    ∙ ap (λ (l : List ℕ). onto (decimal k ++ l) front) (e3 ∙ (λ i. has.tells i ++ e4 i) ∙ gathered-onto [] words (decimal a ++ r4)
-    ∙ ap (λ (l : List ℕ). onto (decimal a ++ l) words) (e5 ∙ (λ i. has.goes_on i ++ e6 i) ∙ gathered-onto [] last_words (last ++ rest)
-    ∙ ap (λ (l : List ℕ). onto l last_words) (ap (λ (l : List ℕ). l ++ rest) e7 ∙ append_assoc (signed_decimal z) newline rest)))
+    ∙ ap (λ (l : List ℕ). onto (decimal k ++ l) front)
+    (e3 ∙ (λ i. has.tells i ++ e4 i) ∙ gathered-onto [] words (decimal a ++ r4)
+    ∙ ap (λ (l : List ℕ). onto (decimal a ++ l) words)
+    (e5 ∙ (λ i. has.goes_on i ++ e6 i) ∙ gathered-onto [] last_words (last ++ rest)
+    ∙ ap (λ (l : List ℕ). onto l last_words)
+    (ap (λ (l : List ℕ). l ++ rest) e7 ∙ append_assoc (signed_decimal z) newline rest)))
     ∙ sym (gathered-onto [] (front ++ (decimal k ∷ words ++ (decimal a ∷ last_words ++ (signed_decimal z ∷ [])))) fed)
     ∙ sym (append_assoc (text_of v) newline rest) in record {
       line = one;

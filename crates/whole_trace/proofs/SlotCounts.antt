@@ -31,7 +31,8 @@ later k = ne_eqb (k + 1) 0 (λ e. omega (arith, e))
 next-total : (head : Head) (slot k n s : ℕ) → Totals (next_node head slot k) n s → slot + 1 + n ≡ s
 next-total head slot k n s = by_last (nat_lt (k + 1) head.nodes)
   where
-    by_last : (b : Bool) → Totals (cond b (due.Node head slot (k + 1)) (due.Host head slot false)) n s → slot + 1 + n ≡ s
+    by_last : (b : Bool) → Totals
+        (cond b (due.Node head slot (k + 1)) (due.Host head slot false)) n s → slot + 1 + n ≡ s
     by_last true is = rw (later k) at is
     by_last false is = is
 

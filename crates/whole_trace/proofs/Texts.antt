@@ -1,5 +1,6 @@
 -- The first line of a text that is left.
-use Rattle.std.proofs.Common.{◌≡◌, ℕ, suc, ◌<◌, Bool, true, false, cond, List, [], ◌∷◌, ◌++◌, length, get_or, take, drop}
+use Rattle.std.proofs.Common.{◌≡◌, ℕ, suc, ◌<◌, Bool, true, false, cond, List}
+use Rattle.std.proofs.Common.{[], ◌∷◌, ◌++◌, length, get_or, take, drop}
 use Rattle.std.proofs.Common.{Some, None, refl, sym, ap, ◌∙◌, arith, length-append}
 use Rattle.std.specs.List.{concat}
 use Rattle.std.specs.Prelude.{Option, option_map, IfSome, ◌-◌}
@@ -48,7 +49,8 @@ some-bytes (b ∷ line) v is = omega arith
 -- a text from which a line with a value is cut has some bytes
 pub text-some : (text line : List ℕ) (v : TraceLine) → get_or (lines_of text) 0 [] ≡ line → value_of line ≡ Some v
     → 0 < length text
-text-some [] line v first is = let none : value_of [] ≡ Some v = ap value_of first ∙ is in absurd (omega (arith, some-bytes [] v none))
+text-some [] line v first is = let none : value_of [] ≡ Some v = ap value_of first ∙ is in
+    absurd (omega (arith, some-bytes [] v none))
 text-some (b ∷ text) line v first is = omega arith
 
 pub rest-shorter : (text line rest : List ℕ) (v : TraceLine) → lines_of text ≡ line ∷ lines_of rest
@@ -65,7 +67,8 @@ pub cut-behind_feed : (text : List ℕ) (end : ℕ) → IsFirstByte (is_byte 10)
 cut-behind_feed text end here =
     let within = here.0.high in
     let at = position_or_len_is is_newline text end 0 (omega arith)
-    (λ k below. false_from_ne_true (is_newline (get_or text k 0)) (here.0.before k (omega arith) below)) (λ _. here.1) in
+    (λ k below. false_from_ne_true (is_newline (get_or text k 0))
+    (here.0.before k (omega arith) below)) (λ _. here.1) in
     cut-Some text end (grind (arith, nat_tests))
 
 pub cut-no_feed : (text : List ℕ) → IsFirstByte (is_byte 10) text None → IsCut text text []

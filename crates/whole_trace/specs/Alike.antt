@@ -22,8 +22,8 @@ judged_text n =
     gather [] (told_pieces (word_text n.word) (number_or_dash n.peer) (number_or_dash n.message)
     (hex (2 * member_bytes n.wide) (set_bits n.members)))
 
--- texts are the pieces of a line, if there is one: before the node's number, up to the frames that it accepted, and from
--- these up to its clock
+-- texts are the pieces of a line, if there is one: before the node's number, up to the frames that it accepted, and
+-- from these up to its clock
 pub record HasPieces (n : NodeLine) (head judged behind : List ℕ) : Type 0 where
   pub begins : head ≡ head_text n.slot
   pub tells : judged ≡ judged_text n

@@ -1,5 +1,6 @@
 -- One line more of a text, and the places from which a text is gone over again.
-use Rattle.std.specs.Prelude.{ℕ, ◌+◌, ◌≡◌, ◌<◌, ◌≤◌, ◌==◌, nat_le, nat_lt, Bool, true, false, ◌&&◌, List, ◌∷◌, ◌++◌, length, Some, codes, decimal}
+use Rattle.std.specs.Prelude.{ℕ, ◌+◌, ◌≡◌, ◌<◌, ◌≤◌, ◌==◌, nat_le, nat_lt, Bool, true, false}
+use Rattle.std.specs.Prelude.{◌&&◌, List, ◌∷◌, ◌++◌, length, Some, codes, decimal}
 use Rattle.std.specs.Prelude.{Result, Ok, Err, IsTrue}
 use Rattle.ttp_base.specs.NodeSet.{most_nodes}
 use Rattle.ttp_base.specs.Text.{Lines, lines_of}

@@ -41,8 +41,8 @@ abbrev pub judged_behind : (Due → Result Outline ℕ) → Option Due → Resul
 judged_behind others None = Err 1
 judged_behind others (Some due) = one_line_later (others due)
 
--- what the first line and the last ones of a trace say, where these lines are due behind what came before; or the first of
--- them that is not due or is missing, counted from 1
+-- what the first line and the last ones of a trace say, where these lines are due behind what came before; or the first
+-- of them that is not due or is missing, counted from 1
 abbrev pub judged : Due → Lines → Result Outline ℕ
 judged due [] = or_missing (ending due)
 judged due (line ∷ lines) = judged_behind (λ d. judged d lines) (due_behind due line)

@@ -16,7 +16,8 @@ use Rattle.causes.specs.declared.cause.Spot.{Spot}
 use Rattle.entry_causes.proofs.WhoSends.{remaining-slot_in}
 use Rattle.entry_causes.specs.Senders.{is_left_on}
 use Rattle.ttp_world.proofs.ZerosWorlds.{length-zeros_world}
-use Rattle.run_rows.proofs.Slots.{length-past_slots_in, past_slots_in-next, past_slots_in-suc, past_slots_in-zero, slot_in-number}
+use Rattle.run_rows.proofs.Slots.{length-past_slots_in, past_slots_in-next, past_slots_in-suc}
+use Rattle.run_rows.proofs.Slots.{past_slots_in-zero, slot_in-number}
 use Rattle.run_rows.specs.Rows.{past_slots_in, slot_in}
 use Rattle.ttp_world.proofs.EntriesMade.{listening_entry-holds}
 use Rattle.ttp_world.proofs.Filters.{each-sieve}
@@ -55,13 +56,16 @@ sending-rank (entry.Sent message) sends = refl
 sending-rank e sends = absurd (false≢true sends)
 
 senders-first : (list : Medl) (script : Script) (t : ℕ) (c : Channel)
-    → AllByRecursion (λ p. rank_of_entry (entry_in_slot p (slot_in list script t)) ≡ 0) (remaining_in c (slot_in list script t))
+    → AllByRecursion (λ p. rank_of_entry (entry_in_slot p (slot_in list script t)) ≡ 0)
+    (remaining_in c (slot_in list script t))
 senders-first list script t c =
     let s = slot_in list script t in
     subst (AllByRecursion (λ p. rank_of_entry (entry_in_slot p s) ≡ 0)) (remaining-slot_in list script t c)
-    (each-weaker (λ k. (k < length list.slots) × (is_left_on c s k ≡ true)) (λ p. rank_of_entry (entry_in_slot p s) ≡ 0) _
+    (each-weaker (λ k. (k < length list.slots) × (is_left_on c s k ≡ true))
+    (λ p. rank_of_entry (entry_in_slot p s) ≡ 0) _
     (λ k two. sending-rank (entry_in_slot k s)
-    (and_parts (is_sending (entry_in_slot k s)) (not (has_send_fault s.begun.script fault.Silence k c s.begun.number)) two.1).0)
+    (and_parts (is_sending (entry_in_slot k s))
+    (not (has_send_fault s.begun.script fault.Silence k c s.begun.number)) two.1).0)
     (each-sieve (is_left_on c s) (length list.slots)))
 
 -- A slot of the run, and those before it.
@@ -104,7 +108,8 @@ first-early list script k =
           (act-early list k n.past (chosen_of chosen k) (hearing_in s (frames_in s chosen) k) (is_on script k 0))
       | inr other ↦
           let long = length-row_in s chosen in
-          subst (λ (e : Entry). is_late e ≡ false) (sym (get_or_past (row_in s chosen) k entry.Off (omega (arith, long, other))))
+          subst (λ (e : Entry). is_late e ≡ false)
+          (sym (get_or_past (row_in s chosen) k entry.Off (omega (arith, long, other))))
           refl
     ]
 
@@ -138,8 +143,10 @@ causes-above list script count spot within =
           inr (same, omega (arith, low, other, self))
     ] in
     subst (λ (cause : Cause). AllByRecursion (λ e. StandsAbove run e spot) cause.entries)
-    (sym (ap (newest_cause spot.node) (past_slots_in-next list script t)) ∙ cause-at list script count t spot.node within)
-    (each-weaker (StandsIn s t (rank_of_entry own)) (λ e. StandsAbove run e spot) (entry_cause spot.node s before own).entries
+    (sym (ap (newest_cause spot.node) (past_slots_in-next list script t))
+    ∙ cause-at list script count t spot.node within)
+    (each-weaker (StandsIn s t (rank_of_entry own)) (λ e. StandsAbove run e spot)
+    (entry_cause spot.node s before own).entries
     stands
     (cause-stands spot.node s before t own (next-is list script t) (late-some list script t spot.node)))
 

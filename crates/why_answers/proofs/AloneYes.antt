@@ -4,11 +4,13 @@ use Rattle.std.proofs.Common.{codes, map, not}
 use Rattle.std.proofs.lemmas.Bool.{false≢true}
 use Rattle.std.specs.List.{list_any}
 use Rattle.causes.specs.Members.{newest_entry_of}
-use Rattle.causes.specs.Reduced.{entry_alone, entry_in_run, events_kept, is_same_word, names_all_faults, names_faults_from}
+use Rattle.causes.specs.Reduced.{entry_alone, entry_in_run, events_kept, is_same_word}
+use Rattle.causes.specs.Reduced.{names_all_faults, names_faults_from}
 use Rattle.causes.specs.Reduced.{places_of_lines}
 use Rattle.causes.specs.RunSlots.{RunSlots}
 use Rattle.causes.specs.Story.{is_fault_event, story}
-use Rattle.causes.specs.WhyText.{alone_line, needed_word, script_line_line, story_lines, why_head, why_lines_of, why_text}
+use Rattle.causes.specs.WhyText.{alone_line, needed_word, script_line_line, story_lines}
+use Rattle.causes.specs.WhyText.{why_head, why_lines_of, why_text}
 use Rattle.causes.specs.declared.cause.LineNumbers.{LineNumbers}
 use Rattle.causes.specs.declared.cause.ScriptLine.{ScriptLine}
 use Rattle.causes.specs.declared.cause.Story.{Story}
@@ -36,7 +38,8 @@ all-kept places place (e ∷ events) named =
     (not (is_fault_event e) || list_any (λ other. other == place) places) (names_faults_from places (suc place) events)
     named (all-kept places (suc place) events)
 
-alone-own : (list : Medl) (script : Script) (lines : List ScriptLine) (slot k : ℕ) → names_all_faults lines script ≡ true
+alone-own : (list : Medl) (script : Script) (lines : List ScriptLine) (slot k : ℕ)
+    → names_all_faults lines script ≡ true
     → entry_alone list script lines slot k ≡ entry_in_run list script slot k
 alone-own list script lines slot k named =
     ap (λ (events : List Event). entry_in_run list (record script { events = events }) slot k)

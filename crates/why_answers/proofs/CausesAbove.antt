@@ -1,5 +1,6 @@
 -- The causes of an entry are of earlier slots, or hang less on what is heard in its own.
-use Rattle.std.proofs.Common.{◌≡◌, ℕ, zero, suc, ◌+◌, ◌-◌, ◌<◌, ◌≤◌, ◌++◌, ◌==◌, ◌&&◌, ◌||◌, ◌⊎◌, inl, inr, Bool, true, false}
+use Rattle.std.proofs.Common.{◌≡◌, ℕ, zero, suc, ◌+◌, ◌-◌, ◌<◌, ◌≤◌, ◌++◌, ◌==◌}
+use Rattle.std.proofs.Common.{◌&&◌, ◌||◌, ◌⊎◌, inl, inr, Bool, true, false}
 use Rattle.std.proofs.Common.{List, [], ◌∷◌}
 use Rattle.std.proofs.Common.{ap, refl, arith, drop, length, map, not, take}
 use Rattle.std.proofs.lemmas.Bool.{false≢true}
@@ -7,18 +8,22 @@ use Rattle.std.proofs.lemmas.List.Elements.{All-from_recursion, All-take, recurs
 use Rattle.std.specs.List.{AllByRecursion, list_any}
 use Rattle.std.specs.Prelude.{None, Option, Some, filter, flat_map, is_some, nat_le, nat_lt}
 use Rattle.causes.specs.Causes.{entry_cause}
-use Rattle.causes.specs.Clocks.{NotedClock, clock_reason, lower_first, noted_clock, noted_clocks, spots_joined, stint_join}
+use Rattle.causes.specs.Clocks.{NotedClock, clock_reason, lower_first, noted_clock}
+use Rattle.causes.specs.Clocks.{noted_clocks, spots_joined, stint_join}
 use Rattle.causes.specs.Clocks.{is_unread, unread_before, unread_entries, was_averaged}
 use Rattle.causes.specs.Judged.{against_sources, came_as_sent, correct_by, denied_cause, doubt_entries}
 use Rattle.causes.specs.Judged.{second_channel, sender_heard, tentative_cause}
-use Rattle.causes.specs.LinesOf.{flipping_lines, has_frames, heard_in, noise_sources, noisy_in, remaining_in, silencing_in}
+use Rattle.causes.specs.LinesOf.{flipping_lines, has_frames, heard_in, noise_sources}
+use Rattle.causes.specs.LinesOf.{noisy_in, remaining_in, silencing_in}
 use Rattle.causes.specs.LinesOf.{bytes_sent, first_line, lines_where, spoilt_by, spoilt_in}
 use Rattle.causes.specs.Listening.{back_to_listening, has_joinable, hears_nothing, is_empty, join_cause, join_cause_on}
 use Rattle.causes.specs.Listening.{kept_from_joining, listening_by, listening_from, listening_node, listening_since}
-use Rattle.causes.specs.Listening.{listening_sources, missing_by, missing_node, off_cause, on_line_unless, silenced_in, silent_node}
+use Rattle.causes.specs.Listening.{listening_sources, missing_by, missing_node, off_cause}
+use Rattle.causes.specs.Listening.{on_line_unless, silenced_in, silent_node}
 use Rattle.causes.specs.Listening.{sources_before_join, start_cause, wait_cause, wait_sources, would_send}
 use Rattle.causes.specs.Members.{Difference, difference_of, differing, doubt_reason, earliest, entry_at_spot}
-use Rattle.causes.specs.Members.{if_join, is_earlier, members_due, members_reason, members_reason_of, members_sent, telling_of}
+use Rattle.causes.specs.Members.{if_join, is_earlier, members_due, members_reason}
+use Rattle.causes.specs.Members.{members_reason_of, members_sent, telling_of}
 use Rattle.causes.specs.Missed.{absence_reason, channel_reason, deafens, decides, elsewhere, frame_reason}
 use Rattle.causes.specs.Missed.{is_same_place, is_same_view, missed_by, missed_by_each, missed_cause, nobody_reason}
 use Rattle.causes.specs.Missed.{nobody_reason_by, noise_reason, reason_of_signal, signal_sent, view_of_signal}
@@ -26,7 +31,8 @@ use Rattle.causes.specs.OwnSlots.{answer_of, clique_cause, lacked_too, quiet_ent
 use Rattle.causes.specs.OwnSlots.{shared_by, slots_before_one, start_again, unanswered_entries}
 use Rattle.causes.specs.RunSlots.{RunSlot, RunSlots, back_to, doubted_in, entry_in_slot, is_gone_entry, is_joined}
 use Rattle.causes.specs.RunSlots.{is_left, is_miss, is_miss_or_tentative, is_quiet, is_rejected, is_retried, is_started}
-use Rattle.causes.specs.RunSlots.{is_tentative, is_waited, judged_since_own, judged_so, newest_departure, node_spot, past_in}
+use Rattle.causes.specs.RunSlots.{is_tentative, is_waited, judged_since_own, judged_so}
+use Rattle.causes.specs.RunSlots.{newest_departure, node_spot, past_in}
 use Rattle.causes.specs.RunSlots.{place_of_node, since_own, spots_at_node}
 use Rattle.causes.specs.Said.{JoinedFrame, frame_joined, path, said}
 use Rattle.causes.specs.Sources.{ChannelReason, Sources, all_sources, by_entries, by_lines, has_sources, no_sources}
@@ -97,7 +103,8 @@ past-spoils t u here c = each-any (λ p. IsPast t (node_spot p u)) (λ p. here) 
 
 -- Listening.
 
-listening-by : (t k : ℕ) (run : RunSlots) (s : RunSlot) (e : Entry) → s.begun.number < t → IsPast t (newest_departure k run)
+listening-by : (t k : ℕ) (run : RunSlots) (s : RunSlot) (e : Entry)
+    → s.begun.number < t → IsPast t (newest_departure k run)
     → Have (IsPast t) (listening_by k run s e)
 listening-by t k run s entry.Retried here left = (here, tt)
 listening-by t k run s (entry.Left why peer) here left = (left, tt)
@@ -107,7 +114,8 @@ listening-by t k run s e here left = tt
 listening-since : (t k : ℕ) (run : RunSlots) → ArePast t run → length run ≤ t → Have (IsPast t) (listening_since k run)
 listening-since t k [] past few = tt
 listening-since t k (s ∷ before) past few =
-    listening-by t k (s ∷ before) s (entry_in_slot k s) past.0 (departure-past k t (s ∷ before) (omega (arith, few)) few)
+    listening-by t k (s ∷ before) s (entry_in_slot k s) past.0
+    (departure-past k t (s ∷ before) (omega (arith, few)) few)
 
 listening-past : (t k : ℕ) (before : RunSlots) → ArePast t before → length before ≤ t
     → Have (IsPast t) (listening_sources k before)
@@ -134,13 +142,15 @@ wait-have P k u older listens spoils =
     let n = suc (length older) - listening_from k older in
     let slots = u ∷ older in
     let Kept : RunSlot → Type 0 = λ v. Have P (kept_from_joining k v) in
-    each-append P (listening_sources k older).entries (all_sources (map (kept_from_joining k) (take n slots))).entries listens
+    each-append P (listening_sources k older).entries
+    (all_sources (map (kept_from_joining k) (take n slots))).entries listens
     (all-have P (kept_from_joining k) (take n slots)
     (recursion_from_All Kept (take n slots)
     (All-take Kept n slots
     (All-from_recursion Kept slots (each-weaker (Spoils P) Kept slots (λ v is. kept-have P k v is) spoils)))))
 
-wait-past : (t k : ℕ) (before : RunSlots) → ArePast t before → length before ≤ t → Have (IsPast t) (wait_sources k before)
+wait-past : (t k : ℕ) (before : RunSlots) → ArePast t before → length before ≤ t
+    → Have (IsPast t) (wait_sources k before)
 wait-past t k [] past few = tt
 wait-past t k (u ∷ older) past few =
     wait-have (IsPast t) k u older (listening-past t k older past.1 (omega (arith, few)))
@@ -152,7 +162,8 @@ before-join : (t k : ℕ) (before : RunSlots) → ArePast t before → length be
     → Have (IsPast t) (sources_before_join k before)
 before-join t k [] past few = tt
 before-join t k (u ∷ older) past few =
-    elim-both (is_waited (entry_in_slot k u)) (wait_sources k (u ∷ older)) (listening_sources k (u ∷ older)) (Have (IsPast t))
+    elim-both (is_waited (entry_in_slot k u)) (wait_sources k (u ∷ older))
+    (listening_sources k (u ∷ older)) (Have (IsPast t))
     (λ is. wait-past t k (u ∷ older) past few) (λ is. listening-past t k (u ∷ older) past few)
 
 -- Starting.
@@ -163,20 +174,24 @@ on-line-none P k sources =
 
 silenced-none : (P : Spot → Type 0) (k : ℕ) (u : RunSlot) → Have P (silenced_in k u)
 silenced-none P k u =
-    elim-both (has_frames u.frames) (only_lines (silencing_in k u channel.A ++ silencing_in k u channel.B)) no_sources (Have P)
+    elim-both (has_frames u.frames)
+    (only_lines (silencing_in k u channel.A ++ silencing_in k u channel.B)) no_sources (Have P)
     (λ is. tt) (λ is. tt)
 
-missing-by : (t q : ℕ) (audible slots : RunSlots) → ArePast t slots → AllByRecursion (IsPast t) (missing_by q audible slots)
+missing-by : (t q : ℕ) (audible slots : RunSlots) → ArePast t slots
+    → AllByRecursion (IsPast t) (missing_by q audible slots)
 missing-by t q audible [] past = tt
 missing-by t q audible (left ∷ before) past =
-    if-both (list_any (would_send q left) audible) (node_spot q left ∷ []) [] (AllByRecursion (IsPast t)) (past.0, tt) tt
+    if-both (list_any (would_send q left) audible) (node_spot q left ∷ []) []
+    (AllByRecursion (IsPast t)) (past.0, tt) tt
 
 missing-node : (t q : ℕ) (s : RunSlot) (before audible : RunSlots) → ArePast t before
     → AllByRecursion (IsPast t) (missing_node q s before audible)
 missing-node t q s before audible past =
     elim-both (is_gone_entry (entry_in_slot q s)) (missing_by q audible (back_to is_left q before)) []
     (AllByRecursion (IsPast t))
-    (λ is. missing-by t q audible (back_to is_left q before) (back-each (λ u. u.begun.number < t) is_left q before past))
+    (λ is. missing-by t q audible (back_to is_left q before)
+    (back-each (λ u. u.begun.number < t) is_left q before past))
     (λ is. tt)
 
 listening-node : (t q : ℕ) (slots : RunSlots) → ArePast t slots → AllByRecursion (IsPast t) (listening_node q slots)
@@ -195,7 +210,8 @@ listening-if t q before audible past =
 silent-node : (t k : ℕ) (s : RunSlot) (before audible : RunSlots) (q : ℕ) → ArePast t before
     → AllByRecursion (IsPast t) (silent_node k s before audible q)
 silent-node t k s before audible q past =
-    let listens : List Spot = elim (is_empty audible) as (λ c. List Spot) [ true ↦ [] | false ↦ listening_node q before ] in
+    let listens : List Spot =
+    elim (is_empty audible) as (λ c. List Spot) [ true ↦ [] | false ↦ listening_node q before ] in
     elim-both (q == k) [] (missing_node q s before audible ++ listens) (AllByRecursion (IsPast t)) (λ is. tt)
     (λ is. each-append (IsPast t) (missing_node q s before audible) listens (missing-node t q s before audible past)
     (listening-if t q before audible past))
@@ -210,7 +226,8 @@ start-past t k s before past few =
     let silenced = all_sources (map (silenced_in k) silent) in
     let nodes = flat_map (silent_node k s before audible) (below (length s.begun.list.slots)) in
     each-append (IsPast t) waits.entries (on.entries ++ (silenced.entries ++ nodes)) (wait-past t k before past few)
-    (each-append (IsPast t) on.entries (silenced.entries ++ nodes) (on-line-none (IsPast t) k (listening_sources k before))
+    (each-append (IsPast t) on.entries (silenced.entries ++ nodes)
+    (on-line-none (IsPast t) k (listening_sources k before))
     (each-append (IsPast t) silenced.entries nodes
     (all-have (IsPast t) (silenced_in k) silent
     (each-any (λ u. Have (IsPast t) (silenced_in k u)) (silenced-none (IsPast t) k) silent))
@@ -229,7 +246,8 @@ start-again t k (s ∷ before) past =
 retry-past : (t k : ℕ) (before : RunSlots) → ArePast t before → HaveCauses (IsPast t) (retry_cause k before)
 retry-past t k before past =
     let own = back_to is_sent_or_joined k before in
-    each-append (IsPast t) (unanswered_entries k before) (start_again k own) (judged-past t is_miss_or_tentative k before past)
+    each-append (IsPast t) (unanswered_entries k before) (start_again k own)
+    (judged-past t is_miss_or_tentative k before past)
     (start-again t k own (back-each (λ u. u.begun.number < t) is_sent_or_joined k before past))
 
 quiet-past : (t k : ℕ) (s : RunSlot) (before : RunSlots) → ArePast t before
@@ -273,12 +291,14 @@ unread-of t x stint first older past =
     let Past : RunSlot → Type 0 = λ u. u.begun.number < t in
     let is_told : RunSlot → Bool =
     λ s. nat_le stint s.begun.number && is_unread first.begun.list (entry_in_slot x s) in
-    elim-both (was_averaged x first) [] (spots_at_node x (filter is_told (take n older))) (AllByRecursion (IsPast t)) (λ is. tt)
+    elim-both (was_averaged x first) []
+    (spots_at_node x (filter is_told (take n older))) (AllByRecursion (IsPast t)) (λ is. tt)
     (λ is. spots-past t x (filter is_told (take n older))
     (each-kept Past is_told (take n older)
     (recursion_from_All Past (take n older) (All-take Past n older (All-from_recursion Past older past)))))
 
-unread-past : (t x stint : ℕ) (slots : RunSlots) → ArePast t slots → AllByRecursion (IsPast t) (unread_before x stint slots)
+unread-past : (t x stint : ℕ) (slots : RunSlots) → ArePast t slots
+    → AllByRecursion (IsPast t) (unread_before x stint slots)
 unread-past t x stint [] past = tt
 unread-past t x stint (first ∷ older) past = unread-of t x stint first older past.1
 
@@ -288,10 +308,12 @@ unread-drop t x stint zero s before past = unread-of t x stint s before past
 unread-drop t x stint (suc n) s before past =
     unread-past t x stint (drop n before) (each-drop (λ u. u.begun.number < t) n before past)
 
-stint-past : (t x : ℕ) (slots : RunSlots) → ArePast t slots → AllByRecursion (IsPast t) (spots_joined x (stint_join x slots))
+stint-past : (t x : ℕ) (slots : RunSlots) → ArePast t slots
+    → AllByRecursion (IsPast t) (spots_joined x (stint_join x slots))
 stint-past t x [] past = tt
 stint-past t x (s ∷ before) past =
-    elim-both (is_joined (entry_in_slot x s) && has_sources (sources_of (join_cause x s before))) (Some s.begun.number) None
+    elim-both (is_joined (entry_in_slot x s) && has_sources (sources_of (join_cause x s before)))
+    (Some s.begun.number) None
     (λ joined. AllByRecursion (IsPast t) (spots_joined x joined)) (λ is. (past.0, tt)) (λ is. tt)
 
 clock-past : (t x : ℕ) (s : RunSlot) (before : RunSlots) → ArePast t before
@@ -340,7 +362,8 @@ doubt-past t p k before false (Some x) some past =
 members-of : (t p k : ℕ) (s : RunSlot) (before : RunSlots) (differences : List Difference) → 0 < t → ArePast t before
     → AllByRecursion (λ (d : Difference). IsPast t d.said) differences
     → HaveReason (IsPast t) (members_reason_of p k s before differences)
-members-of t p k s before [] some past all = doubt-past t p k before (has_node (members_sent p s) k) (doubted_in k s) some past
+members-of t p k s before [] some past all =
+    doubt-past t p k before (has_node (members_sent p s) k) (doubted_in k s) some past
 members-of t p k s before (d ∷ others) some past all =
     let first = earliest d others in (
       earliest-past t d others all.0 all.1,
@@ -373,7 +396,8 @@ past-stands : (s : RunSlot) (t rank : ℕ) (spots : List Spot) → AllByRecursio
     → AllByRecursion (StandsIn s t rank) spots
 past-stands s t rank spots past = each-weaker (IsPast t) (StandsIn s t rank) spots (λ e less. inl less) past
 
-spoils-here : (s : RunSlot) (before : RunSlots) (t rank : ℕ) → IsNext s before t → 0 < rank → Spoils (StandsIn s t rank) s
+spoils-here : (s : RunSlot) (before : RunSlots) (t rank : ℕ) → IsNext s before t
+    → 0 < rank → Spoils (StandsIn s t rank) s
 spoils-here s before t rank is some c =
     each-weaker (λ p. rank_of_entry (entry_in_slot p s) ≡ 0) (λ p. StandsIn s t rank (node_spot p s)) (remaining_in c s)
     (λ p none. inr (is.number, omega (arith, some, none))) (is.senders c)
@@ -440,7 +464,8 @@ elsewhere-stands : (p k : ℕ) (s : RunSlot) (before : RunSlots) (t : ℕ) → I
     → HaveReason (StandsIn s t 2) (elsewhere p k before)
 elsewhere-stands p k s before t is =
     past-stands s t 2 (path k before ++ path p before)
-    (each-append (IsPast t) (path k before) (path p before) (path-past t k before is.past) (path-past t p before is.past))
+    (each-append (IsPast t) (path k before) (path p before)
+    (path-past t k before is.past) (path-past t p before is.past))
 
 one-here : (p : ℕ) (s : RunSlot) (before : RunSlots) (t : ℕ) (e : Entry) → IsNext s before t → entry_in_slot p s ≡ e
     → rank_of_entry e < 2 → AllByRecursion (StandsIn s t 2) (node_spot p s ∷ [])
@@ -509,7 +534,8 @@ noise-stands s before t c (Some l) is = tt
 noise-stands s before t c None is =
     each-map (StandsIn s t 2) (λ p. node_spot p s) (remaining_in c s) (spoils-here s before t 2 is (omega arith) c)
 
-signal-stands : (k : ℕ) (s : RunSlot) (before : RunSlots) (t : ℕ) (c : Channel) (signal : Signal) → 0 < t → IsNext s before t
+signal-stands : (k : ℕ) (s : RunSlot) (before : RunSlots) (t : ℕ) (c : Channel) (signal : Signal)
+    → 0 < t → IsNext s before t
     → HaveReason (StandsIn s t 2) (reason_of_signal k s before c signal)
 signal-stands k s before t c Silence some is = tt
 signal-stands k s before t c Noise some is = noise-stands s before t c (noisy_in k s c) is
@@ -536,7 +562,8 @@ missed-stands k s before t v some is =
     let has_b : HaveReason P b = channel-stands k s before t channel.B some is in
     elim-both (has_frames s.frames) by_a (missed_by (nobody_reason k s before)) (HaveCauses P)
     (λ sent. elim-both (decides k s v channel.A) (missed_by a) by_b (HaveCauses P) (λ first. has_a)
-    (λ not_first. elim-both (decides k s v channel.B) (missed_by b) (missed_by_each a b) (HaveCauses P) (λ second. has_b)
+    (λ not_first. elim-both (decides k s v channel.B) (missed_by b)
+    (missed_by_each a b) (HaveCauses P) (λ second. has_b)
     (λ both. each-append P a.sources.entries b.sources.entries has_a has_b)))
     (λ none. nobody-stands k s before t (first_line (lines_where (deafens k s.begun.number) s.begun.script)) some is)
 
@@ -577,6 +604,7 @@ cause-stands k s before t (entry.Judged sender verdict.Incorrect deviation) is l
     missed-stands k s before t verdict.Incorrect (late refl) is
 cause-stands k s before t (entry.Left reason.Denied peer) is late = denied-stands k s before t (late refl) is
 cause-stands k s before t (entry.Left reason.Unacknowledged peer) is late =
-    past-stands s t 0 (judged_since_own is_miss_or_tentative k before) (judged-past t is_miss_or_tentative k before is.past)
+    past-stands s t 0 (judged_since_own is_miss_or_tentative k before)
+    (judged-past t is_miss_or_tentative k before is.past)
 cause-stands k s before t (entry.Left reason.Clique peer) is late =
     past-stands s t 0 (clique_cause k s before).entries (clique-past t k s before (late refl) is.past)

@@ -1,5 +1,6 @@
 -- Lines of a script in the order of its file.
-use Rattle.std.proofs.Common.{◌≡◌, ℕ, ◌<◌, ◌==◌, ◌||◌, Bool, true, false, List, [], ◌∷◌, ap, sym, subst, ◌∙◌, refl, arith, map}
+use Rattle.std.proofs.Common.{◌≡◌, ℕ, ◌<◌, ◌==◌, ◌||◌, Bool, true, false, List}
+use Rattle.std.proofs.Common.{[], ◌∷◌, ap, sym, subst, ◌∙◌, refl, arith, map}
 use Rattle.std.proofs.lemmas.Bool.{false≢true, true≢false}
 use Rattle.std.proofs.lemmas.Bool.Decides.{nat_tests}
 use Rattle.std.proofs.lemmas.List.Folds.{list_any-append}
@@ -49,7 +50,8 @@ same-number a b n same = let is : a ≡ b = grind (arith, nat_tests) in ap (λ (
 placed-has : (numbers : LineNumbers) (n : ℕ) (l other : ScriptLine) (others : List ScriptLine) (before same : Bool)
     → (number_of_line numbers l == number_of_line numbers other) ≡ same
     → has_line_number numbers n (insert_line numbers l others) ≡ has_line_number numbers n (l ∷ others)
-    → has_line_number numbers n (placed numbers l other others before same) ≡ has_line_number numbers n (l ∷ other ∷ others)
+    → has_line_number numbers n (placed numbers l other others before same)
+    ≡ has_line_number numbers n (l ∷ other ∷ others)
 unfolding placed
 placed-has numbers n l other others true same is more = refl
 placed-has numbers n l other others false true is more =
@@ -91,7 +93,8 @@ Over numbers n lines = AllByRecursion (λ m. n < m) (map (number_of_line numbers
 abbrev pub Rise : LineNumbers → List ScriptLine → Type 0
 Rise numbers lines = AreRising (map (number_of_line numbers) lines)
 
-over-less : (numbers : LineNumbers) (a b : ℕ) (lines : List ScriptLine) → a < b → Over numbers b lines → Over numbers a lines
+over-less : (numbers : LineNumbers) (a b : ℕ) (lines : List ScriptLine) → a < b
+    → Over numbers b lines → Over numbers a lines
 over-less numbers a b [] less all = tt
 over-less numbers a b (l ∷ lines) less all = (omega (arith, less, all.0), over-less numbers a b lines less all.1)
 

@@ -5,7 +5,8 @@ use Rattle.std.specs.List.{AllByRecursion}
 use Rattle.std.specs.Prelude.{None, Option, Some, filter, flat_map, if◌then◌else◌}
 use Rattle.causes.specs.Judged.{doubt_entries}
 use Rattle.causes.specs.RunSlots.{RunSlot, RunSlots, back_to, entry_in_slot, is_judged_so, is_left, is_miss, is_started}
-use Rattle.causes.specs.RunSlots.{is_tentative, judged_since_own, judged_so, newest_departure, newest_spot, node_spot, since_own}
+use Rattle.causes.specs.RunSlots.{is_tentative, judged_since_own, judged_so, newest_departure}
+use Rattle.causes.specs.RunSlots.{newest_spot, node_spot, since_own}
 use Rattle.causes.specs.RunSlots.{spots_at_node}
 use Rattle.causes.specs.Said.{joined_from, path, root, said, speaks_of}
 use Rattle.causes.specs.declared.cause.Spot.{Spot}
@@ -80,7 +81,8 @@ back-each P p k (s ∷ before) all =
 pub back-count : (p : Entry → Bool) (k t : ℕ) (run : RunSlots) → length run ≤ t → length (back_to p k run) ≤ t
 back-count p k t [] few = few
 back-count p k t (s ∷ before) few =
-    elim-both (p (entry_in_slot k s)) (s ∷ before) (back_to p k before) (λ (slots : RunSlots). length slots ≤ t) (λ is. few)
+    elim-both (p (entry_in_slot k s)) (s ∷ before) (back_to p k before)
+    (λ (slots : RunSlots). length slots ≤ t) (λ is. few)
     (λ is. back-count p k t before (omega (arith, few)))
 
 pub newest-past : (k t : ℕ) (run : RunSlots) → 0 < t → length run ≤ t → IsPast t (newest_spot k run)
@@ -91,13 +93,15 @@ departure-past k t run some few = newest-past k t (back_to is_left k run) some (
 
 -- Since its own.
 
-pub since-each : (P : RunSlot → Type 0) (k : ℕ) (run : RunSlots) → AllByRecursion P run → AllByRecursion P (since_own k run)
+pub since-each : (P : RunSlot → Type 0) (k : ℕ) (run : RunSlots)
+    → AllByRecursion P run → AllByRecursion P (since_own k run)
 since-each P k [] all = tt
 since-each P k (s ∷ before) all =
     elim-both (is_sent_or_joined (entry_in_slot k s)) [] (s ∷ since_own k before) (AllByRecursion P) (λ is. tt)
     (λ is. (all.0, since-each P k before all.1))
 
-pub judged-each : (t : ℕ) (p : Verdict → Bool) (k : ℕ) (slots : RunSlots) → ArePast t slots → ArePast t (judged_so p k slots)
+pub judged-each : (t : ℕ) (p : Verdict → Bool) (k : ℕ) (slots : RunSlots)
+    → ArePast t slots → ArePast t (judged_so p k slots)
 judged-each t p k slots past =
     each-kept (λ u. u.begun.number < t) (λ s. is_judged_so p (entry_in_slot k s)) slots past
 
@@ -135,7 +139,8 @@ or_rest s rest p = elim (is_started (entry_in_slot p s)) as (λ c. Spot) [ true 
 abbrev by_join : RunSlot → ℕ → (ℕ → Spot) → Option ℕ → Spot
 by_join s x rest from = elim from as (λ o. Spot) [ None ↦ node_spot x s | Some p ↦ or_rest s rest p ]
 
-joined-past : (t x : ℕ) (s : RunSlot) (rest : ℕ → Spot) (from : Option ℕ) → s.begun.number < t → ((p : ℕ) → IsPast t (rest p))
+joined-past : (t x : ℕ) (s : RunSlot) (rest : ℕ → Spot) (from : Option ℕ)
+    → s.begun.number < t → ((p : ℕ) → IsPast t (rest p))
     → IsPast t (by_join s x rest from)
 joined-past t x s rest from here past =
     elim-option from (node_spot x s) (or_rest s rest) (IsPast t) here
@@ -151,7 +156,8 @@ said-past t x j (s ∷ before) some past =
 pub root-past : (t x : ℕ) (before : RunSlots) → 0 < t → ArePast t before → IsPast t (root x before)
 root-past t x [] some past = some
 root-past t x (s ∷ before) some past =
-    elim-both (begins_stint (entry_in_slot x s)) (by_join s x (λ p. root p before) (joined_from x s)) (root x before) (IsPast t)
+    elim-both (begins_stint (entry_in_slot x s))
+    (by_join s x (λ p. root p before) (joined_from x s)) (root x before) (IsPast t)
     (λ is. joined-past t x s (λ p. root p before) (joined_from x s) past.0 (λ p. root-past t p before some past.1))
     (λ is. root-past t x before some past.1)
 
@@ -163,7 +169,8 @@ pub path-past : (t x : ℕ) (before : RunSlots) → ArePast t before → AllByRe
 path-past t x [] past = tt
 path-past t x (s ∷ before) past =
     elim-both (begins_stint (entry_in_slot x s))
-    (elim (joined_from x s) as (λ o. List Spot) [ None ↦ node_spot x s ∷ [] | Some p ↦ node_spot x s ∷ or_path s before p ])
+    (elim (joined_from x s) as (λ o. List Spot)
+    [ None ↦ node_spot x s ∷ [] | Some p ↦ node_spot x s ∷ or_path s before p ])
     (path x before) (AllByRecursion (IsPast t))
     (λ is. elim-option (joined_from x s) (node_spot x s ∷ []) (λ p. node_spot x s ∷ or_path s before p)
     (AllByRecursion (IsPast t)) (past.0, tt)

@@ -1,5 +1,6 @@
 -- The entries of a run, the newest first, are in an order by slot, rank and node.
-use Rattle.std.proofs.Common.{◌≡◌, ℕ, zero, suc, ◌+◌, ◌*◌, ◌<◌, ◌≤◌, ◌++◌, ◌==◌, ◌⊎◌, inl, inr, Bool, true, false, List, [], ◌∷◌}
+use Rattle.std.proofs.Common.{◌≡◌, ℕ, zero, suc, ◌+◌, ◌*◌, ◌<◌, ◌≤◌, ◌++◌, ◌==◌}
+use Rattle.std.proofs.Common.{◌⊎◌, inl, inr, Bool, true, false, List, [], ◌∷◌}
 use Rattle.std.proofs.Common.{ap, sym, subst, ◌∙◌, refl, arith, length}
 use Rattle.std.proofs.Math.Nat.{eq-or-lt_of_le}
 use Rattle.std.proofs.lemmas.Bool.{false≢true}
@@ -72,11 +73,13 @@ one-all : (run : RunSlots) (t rank k : ℕ) (rest : List Spot) (b : Bool)
 one-all run t rank k rest true is all =
     let same : rank_of_entry (entry_at_spot run (spot_at t k)) ≡ rank = grind (arith, nat_tests) in (
       (omega (arith, same), omega arith),
-      each-weaker (λ s. (level run s ≡ 3 * t + rank) × (s.node < k)) (λ s. (level run s ≡ 3 * t + rank) × (s.node < suc k)) rest
+      each-weaker (λ s. (level run s ≡ 3 * t + rank) × (s.node < k))
+          (λ s. (level run s ≡ 3 * t + rank) × (s.node < suc k)) rest
           (λ s two. (two.0, omega (arith, two.1))) all,
     )
 one-all run t rank k rest false is all =
-    each-weaker (λ s. (level run s ≡ 3 * t + rank) × (s.node < k)) (λ s. (level run s ≡ 3 * t + rank) × (s.node < suc k)) rest
+    each-weaker (λ s. (level run s ≡ 3 * t + rank) × (s.node < k))
+    (λ s. (level run s ≡ 3 * t + rank) × (s.node < suc k)) rest
     (λ s two. (two.0, omega (arith, two.1))) all
 
 rank-all : (run : RunSlots) (t rank n : ℕ) → AreOfRank run t rank n (rank_back run t rank n)
@@ -86,7 +89,8 @@ rank-all run t rank (suc k) =
     (rank-all run t rank k)
 
 one-falls : (run : RunSlots) (t rank k : ℕ) (rest : List Spot) (b : Bool)
-    → (rank_of_entry (entry_at_spot run (spot_at t k)) == rank) ≡ b → AreOfRank run t rank k rest → Falls (level run) rest
+    → (rank_of_entry (entry_at_spot run (spot_at t k)) == rank) ≡ b
+    → AreOfRank run t rank k rest → Falls (level run) rest
     → Falls (level run) ((if b then spot_at t k ∷ [] else []) ++ rest)
 one-falls run t rank k rest true is all falls =
     let same : rank_of_entry (entry_at_spot run (spot_at t k)) ≡ rank = grind (arith, nat_tests) in (
@@ -119,19 +123,22 @@ slot-all run t n =
     each-append (λ s. (3 * t < level run s + 1) × (level run s < 3 * t + 3)) (rank_back run t 2 n)
     (rank_back run t 1 n ++ rank_back run t 0 n)
     (at-rank run t 2 n (3 * t) (3 * t + 3) (omega arith) (omega arith))
-    (each-append (λ s. (3 * t < level run s + 1) × (level run s < 3 * t + 3)) (rank_back run t 1 n) (rank_back run t 0 n)
+    (each-append (λ s. (3 * t < level run s + 1) × (level run s < 3 * t + 3))
+    (rank_back run t 1 n) (rank_back run t 0 n)
     (at-rank run t 1 n (3 * t) (3 * t + 3) (omega arith) (omega arith))
     (at-rank run t 0 n (3 * t) (3 * t + 3) (omega arith) (omega arith)))
 
 over-low : (run : RunSlots) (low high : ℕ) (spots : List Spot) → AreAt run low high spots
     → AllByRecursion (λ s. low < level run s + 1) spots
 over-low run low high spots all =
-    each-weaker (λ s. (low < level run s + 1) × (level run s < high)) (λ s. low < level run s + 1) spots (λ s two. two.0) all
+    each-weaker (λ s. (low < level run s + 1) × (level run s < high))
+    (λ s. low < level run s + 1) spots (λ s two. two.0) all
 
 under-high : (run : RunSlots) (low high : ℕ) (spots : List Spot) → AreAt run low high spots
     → AllByRecursion (λ s. level run s < high) spots
 under-high run low high spots all =
-    each-weaker (λ s. (low < level run s + 1) × (level run s < high)) (λ s. level run s < high) spots (λ s two. two.1) all
+    each-weaker (λ s. (low < level run s + 1) × (level run s < high))
+    (λ s. level run s < high) spots (λ s two. two.1) all
 
 slot-falls : (run : RunSlots) (t n : ℕ) → Falls (level run) (slot_back run n t)
 slot-falls run t n =
@@ -139,12 +146,17 @@ slot-falls run t n =
     falls-between (level run) (3 * t + 2) (rank_back run t 2 n) low (rank-falls run t 2 n)
     (falls-between (level run) (3 * t + 1) (rank_back run t 1 n) (rank_back run t 0 n) (rank-falls run t 1 n)
     (rank-falls run t 0 n)
-    (over-low run (3 * t + 1) (3 * t + 2) (rank_back run t 1 n) (at-rank run t 1 n (3 * t + 1) (3 * t + 2) (omega arith) (omega arith)))
-    (under-high run (3 * t) (3 * t + 1) (rank_back run t 0 n) (at-rank run t 0 n (3 * t) (3 * t + 1) (omega arith) (omega arith))))
-    (over-low run (3 * t + 2) (3 * t + 3) (rank_back run t 2 n) (at-rank run t 2 n (3 * t + 2) (3 * t + 3) (omega arith) (omega arith)))
+    (over-low run (3 * t + 1) (3 * t + 2) (rank_back run t 1 n)
+    (at-rank run t 1 n (3 * t + 1) (3 * t + 2) (omega arith) (omega arith)))
+    (under-high run (3 * t) (3 * t + 1) (rank_back run t 0 n)
+    (at-rank run t 0 n (3 * t) (3 * t + 1) (omega arith) (omega arith))))
+    (over-low run (3 * t + 2) (3 * t + 3) (rank_back run t 2 n)
+    (at-rank run t 2 n (3 * t + 2) (3 * t + 3) (omega arith) (omega arith)))
     (each-append (λ s. level run s < 3 * t + 2) (rank_back run t 1 n) (rank_back run t 0 n)
-    (under-high run (3 * t) (3 * t + 2) (rank_back run t 1 n) (at-rank run t 1 n (3 * t) (3 * t + 2) (omega arith) (omega arith)))
-    (under-high run (3 * t) (3 * t + 2) (rank_back run t 0 n) (at-rank run t 0 n (3 * t) (3 * t + 2) (omega arith) (omega arith))))
+    (under-high run (3 * t) (3 * t + 2) (rank_back run t 1 n)
+    (at-rank run t 1 n (3 * t) (3 * t + 2) (omega arith) (omega arith)))
+    (under-high run (3 * t) (3 * t + 2) (rank_back run t 0 n)
+    (at-rank run t 0 n (3 * t) (3 * t + 2) (omega arith) (omega arith))))
 
 -- Those of a run.
 
@@ -158,9 +170,11 @@ append-order run t n older is =
       falls-between (level run) (3 * t) (slot_back run n t) older (slot-falls run t n) is.0
           (over-low run (3 * t) (3 * t + 3) (slot_back run n t) here) is.1,
       each-append (λ s. level run s < 3 * suc t) (slot_back run n t) older
-          (each-weaker (λ s. (3 * t < level run s + 1) × (level run s < 3 * t + 3)) (λ s. level run s < 3 * suc t) (slot_back run n t)
+          (each-weaker (λ s. (3 * t < level run s + 1) × (level run s < 3 * t + 3))
+          (λ s. level run s < 3 * suc t) (slot_back run n t)
           (λ s two. omega (arith, two.1)) here)
-          (each-weaker (λ s. level run s < 3 * t) (λ s. level run s < 3 * suc t) older (λ s under. omega (arith, under)) is.1),
+          (each-weaker (λ s. level run s < 3 * t) (λ s. level run s < 3 * suc t) older
+          (λ s under. omega (arith, under)) is.1),
     )
 
 first-order : (list : Medl) (script : Script) (history : History) (n : ℕ) → n ≤ length history
@@ -201,9 +215,11 @@ rank-has run t rank (suc m) k less same =
     let within : k ≤ m = omega (arith, less) in
     elim (eq-or-lt_of_le within) [
       | inl last ↦ subst (λ (j : ℕ). has_spot (rank_back run t rank (suc j)) (spot_at t k) ≡ true) last
-          (one-has run t rank k (rank_back run t rank k) (rank_of_entry (entry_at_spot run (spot_at t k)) == rank) refl same)
+          (one-has run t rank k (rank_back run t rank k)
+          (rank_of_entry (entry_at_spot run (spot_at t k)) == rank) refl same)
       | inr lower ↦ has-append-right (spot_at t k)
-          (if rank_of_entry (entry_at_spot run (spot_at t m)) == rank then spot_at t m ∷ [] else []) (rank_back run t rank m)
+          (if rank_of_entry (entry_at_spot run (spot_at t m)) == rank then spot_at t m ∷ [] else [])
+          (rank_back run t rank m)
           (rank-has run t rank m k lower same)
     ]
 
@@ -219,7 +235,8 @@ slot-has run t n k less =
       ])
     ]
 
-pub newest-has : (list : Medl) (script : Script) (history : History) (t k : ℕ) → length history ≡ suc t → k < length list.slots
+pub newest-has : (list : Medl) (script : Script) (history : History) (t k : ℕ)
+    → length history ≡ suc t → k < length list.slots
     → has_spot (spots_back (slots_of_run list script history)) (spot_at t k) ≡ true
 newest-has list script history t k count node =
     let run = slots_of_run list script history in

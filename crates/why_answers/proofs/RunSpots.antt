@@ -65,7 +65,8 @@ chosen-slot : (n : ℕ) (begins : Bool) (from : Option ℕ) (older here : Spot) 
     → (chosen begins from older here starts start rest).slot ≤ n
 chosen-slot n false from older here starts start rest a b c d = a
 chosen-slot n true None older here starts start rest a b c d = b
-chosen-slot n true (Some p) older here starts start rest a b c d = started-slot n (starts p) (start p) (rest p) (c p) (d p)
+chosen-slot n true (Some p) older here starts start rest a b c d =
+    started-slot n (starts p) (start p) (rest p) (c p) (d p)
 
 pub root-slot : (list : Medl) (script : Script) (n k : ℕ) → (root k (past_slots_in list script n)).slot ≤ n
 root-slot list script zero k =
@@ -78,7 +79,8 @@ root-slot list script (suc m) k =
     λ p. omega (arith, root-slot list script m p) in
     subst (λ (run : RunSlots). (root k run).slot ≤ suc m) (sym (past_slots_in-suc list script m))
     (chosen-slot (suc m) (begins_stint (entry_in_slot k s)) (joined_from k s) (root k (past_slots_in list script m))
-    (node_spot k s) (λ p. is_started (entry_in_slot p s)) (λ p. node_spot p s) (λ p. root p (past_slots_in list script m))
+    (node_spot k s) (λ p. is_started (entry_in_slot p s)) (λ p. node_spot p s)
+    (λ p. root p (past_slots_in list script m))
     (older k) (omega (arith, number)) (λ p. omega (arith, number)) older)
 
 -- Which run it is.

@@ -7,7 +7,8 @@ use Rattle.std.specs.Prelude.{if◌then◌else◌}
 use Rattle.causes.specs.Causes.{cause_at}
 use Rattle.causes.specs.RunSlots.{RunSlots, last_number, newest_spot, slots_of_run}
 use Rattle.causes.specs.Said.{root}
-use Rattle.causes.specs.Story.{added_root, has_spot, kept_from, leads_to_fault, reached, spots_back, story, told_spot, was_active}
+use Rattle.causes.specs.Story.{added_root, has_spot, kept_from, leads_to_fault, reached}
+use Rattle.causes.specs.Story.{spots_back, story, told_spot, was_active}
 use Rattle.causes.specs.Story.{with_entries, with_root}
 use Rattle.causes.specs.declared.cause.Spot.{Spot}
 use Rattle.causes.specs.declared.cause.Told.{Told}
@@ -21,7 +22,8 @@ use Rattle.why_story.proofs.Steps.{reached-no, reached-yes}
 use Rattle.why_story.specs.RunSource.{spot_at}
 use Rattle.why_answers.proofs.PastSpots.{root-past}
 use Rattle.why_answers.proofs.RunOrder.{level, newest-has, slot-level, spots-order}
-use Rattle.why_answers.proofs.SpotOrder.{Falls, IsBefore, each-has, each-weaker, has-cases, has-here, not-above, not-itself}
+use Rattle.why_answers.proofs.SpotOrder.{Falls, IsBefore, each-has, each-weaker, has-cases}
+use Rattle.why_answers.proofs.SpotOrder.{has-here, not-above, not-itself}
 use Rattle.why_answers.proofs.StoryOrder.{HasAbove, IsStory, kept-story}
 use Rattle.why_answers.specs.Stories.{spots_told}
 
@@ -45,9 +47,11 @@ pub reached-each : (Q : Told → Type 0) (run : RunSlots) (marks spots : List Sp
 reached-each Q run marks [] all = tt
 reached-each Q run marks (s ∷ older) all =
     reached-by (AllByRecursion Q) run marks s older
-    (all.0, reached-each Q run ((told_spot run s).cause.entries ++ marks) older all.1) (reached-each Q run marks older all.1)
+    (all.0, reached-each Q run ((told_spot run s).cause.entries ++ marks) older all.1)
+    (reached-each Q run marks older all.1)
 
-told-spots : (P : Spot → Type 0) (told : List Told) → AllByRecursion (λ t. P t.spot) told → AllByRecursion P (spots_told told)
+told-spots : (P : Spot → Type 0) (told : List Told)
+    → AllByRecursion (λ t. P t.spot) told → AllByRecursion P (spots_told told)
 told-spots P [] all = tt
 told-spots P (t ∷ older) all = (all.0, told-spots P older all.1)
 
@@ -64,7 +68,8 @@ reached-falls order run marks (s ∷ older) falls =
     (reached-falls order run marks older falls.1)
 
 -- The first is the one that is asked for, of which the others that are marked stand above.
-pub record IsFirst (P : Spot → Type 0) (order : Spot → ℕ) (run : RunSlots) (marks : List Spot) (asked : Spot) (spots : List Spot)
+pub record IsFirst (P : Spot → Type 0) (order : Spot → ℕ) (run : RunSlots)
+    (marks : List Spot) (asked : Spot) (spots : List Spot)
     : Type 0 where
   pub rest : List Spot
   pub reached : reached run marks spots
@@ -81,7 +86,8 @@ not-marked order asked s origin before above true is = elim (has-cases s asked o
 ]
 
 pub reached-first : (P : Spot → Type 0) (order : Spot → ℕ) (run : RunSlots) (origin : List Spot) (asked : Spot)
-    → AllByRecursion (λ o. order o < order asked) origin → (spots : List Spot) → Falls order spots → AllByRecursion P spots
+    → AllByRecursion (λ o. order o < order asked) origin → (spots : List Spot)
+    → Falls order spots → AllByRecursion P spots
     → has_spot spots asked ≡ true → IsFirst P order run (asked ∷ origin) asked spots
 reached-first P order run origin asked above [] falls holds has = absurd (false≢true has)
 reached-first P order run origin asked above (s ∷ older) falls holds has = elim (has-cases asked s older has) [
@@ -122,7 +128,8 @@ active-if active named leads origin =
 
 added-is : (script : Script) (k : ℕ) (before : RunSlots) (entries : List Spot)
     → added_root script k before entries
-    ≡ active-if (was_active k before) (has_spot entries (root k before)) (leads_to_fault script before (root k before)) (root k before)
+    ≡ active-if (was_active k before) (has_spot entries (root k before))
+    (leads_to_fault script before (root k before)) (root k before)
 unfolding active-if
 added-is script k before entries = refl
 
@@ -191,7 +198,8 @@ first-story run n origin asked told above causes first is =
     ) (
       each-append (λ e. level run e < level run asked) origin t.cause.entries above (causes asked first.holds.0),
       reached-each (HasAbove (level run)) run more first.rest
-          (each-weaker (λ s. s.slot < n) (λ s. HasAbove (level run) (told_spot run s)) first.rest (λ s within. causes s within)
+          (each-weaker (λ s. s.slot < n) (λ s. HasAbove (level run) (told_spot run s))
+          first.rest (λ s within. causes s within)
           first.holds.1),
     ))
 
@@ -207,13 +215,15 @@ told-story list script row history k node causes =
     let whole : (spot : Spot) → spot ≡ asked
     → IsStory asked
     (kept_of (added_root script k (slots_of_run list script history) (cause_at run spot).entries) spot
-    (reached run (spot ∷ added_root script k (slots_of_run list script history) (cause_at run spot).entries) (spots_back run))) =
+    (reached run (spot ∷ added_root script k (slots_of_run list script history)
+    (cause_at run spot).entries) (spots_back run))) =
     λ spot same.
     let origin = added_root script k (slots_of_run list script history) (cause_at run asked).entries in
     let above = root-above script list history run k (cause_at run asked).entries in
     subst (λ (s : Spot). IsStory asked
     (kept_of (added_root script k (slots_of_run list script history) (cause_at run s).entries) s
-    (reached run (s ∷ added_root script k (slots_of_run list script history) (cause_at run s).entries) (spots_back run)))) (sym same)
+    (reached run (s ∷ added_root script k (slots_of_run list script history) (cause_at run s).entries)
+    (spots_back run)))) (sym same)
     (first-story run n origin asked (reached run (asked ∷ origin) (spots_back run)) above causes
     (reached-first (λ s. s.slot < n) (level run) run origin asked above (spots_back run) order.0
     (each-weaker (λ s. level run s < 3 * n) (λ s. s.slot < n) (spots_back run) (in-slot run n) order.1)

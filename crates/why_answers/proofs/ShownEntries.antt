@@ -40,4 +40,5 @@ each-shown spots (t ∷ older) within above =
     )
 
 pub named-shown : (told : List Told) → AreNamedAbove told → AllByRecursion (ShowsNamed (reverse (spots_told told))) told
-named-shown told above = each-shown (reverse (spots_told told)) told (λ e has. has-reverse e (spots_told told) has) above
+named-shown told above =
+    each-shown (reverse (spots_told told)) told (λ e has. has-reverse e (spots_told told) has) above

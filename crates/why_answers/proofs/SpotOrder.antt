@@ -1,5 +1,6 @@
 -- Entries in an order by level and node, the newest first.
-use Rattle.std.proofs.Common.{◌≡◌, ℕ, ◌+◌, ◌<◌, ◌++◌, ◌==◌, ◌||◌, ◌⊎◌, inl, inr, Bool, true, false, List, [], ◌∷◌, ap, sym, subst}
+use Rattle.std.proofs.Common.{◌≡◌, ℕ, ◌+◌, ◌<◌, ◌++◌, ◌==◌, ◌||◌, ◌⊎◌, inl, inr}
+use Rattle.std.proofs.Common.{Bool, true, false, List, [], ◌∷◌, ap, sym, subst}
 use Rattle.std.proofs.Common.{refl, arith}
 use Rattle.std.proofs.lemmas.Bool.{and_parts, false≢true}
 use Rattle.std.proofs.lemmas.Bool.Decides.{nat_tests}
@@ -78,7 +79,8 @@ has-append-cases e (x ∷ xs) ys has = elim (has-cases e x (xs ++ ys) has) [
 ]
 
 -- what holds of each holds of one among them
-pub each-has : (P : Spot → Type 0) (spots : List Spot) (e : Spot) → AllByRecursion P spots → has_spot spots e ≡ true → P e
+pub each-has : (P : Spot → Type 0) (spots : List Spot) (e : Spot)
+    → AllByRecursion P spots → has_spot spots e ≡ true → P e
 each-has P [] e all has = absurd (false≢true has)
 each-has P (s ∷ spots) e all has = elim (has-cases e s spots has) [
   | inl same ↦ subst P (sym same) all.0
@@ -112,7 +114,8 @@ module _ (level : Spot → ℕ) where
   not-above a b (inr equal) other = let is : level a ≡ level b = equal.0 in omega (arith, is, other)
 
   -- all before each of some
-  each-before : (xs ys : List Spot) → AllByRecursion (λ x. AllByRecursion (λ y. IsBefore y x) ys) xs → Falls xs → Falls ys
+  each-before : (xs ys : List Spot)
+      → AllByRecursion (λ x. AllByRecursion (λ y. IsBefore y x) ys) xs → Falls xs → Falls ys
       → Falls (xs ++ ys)
   each-before [] ys across first second = second
   each-before (x ∷ xs) ys across first second =
@@ -124,5 +127,6 @@ module _ (level : Spot → ℕ) where
   falls-between n xs ys first second high low =
       each-before xs ys
       (each-weaker (λ x. n < level x + 1) (λ x. AllByRecursion (λ y. IsBefore y x) ys) xs
-      (λ x over. each-weaker (λ y. level y < n) (λ y. IsBefore y x) ys (λ y under. inl (omega (arith, over, under))) low) high)
+      (λ x over. each-weaker (λ y. level y < n) (λ y. IsBefore y x) ys
+      (λ y under. inl (omega (arith, over, under))) low) high)
       first second

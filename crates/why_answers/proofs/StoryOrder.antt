@@ -1,5 +1,5 @@
--- What a story tells is in the order of its entries: what is named stands above, all leads back, and nothing is told that is
--- not named.
+-- What a story tells is in the order of its entries: what is named stands above, all leads back, and nothing is told
+-- that is not named.
 use Rattle.std.proofs.Common.{◌≡◌, ℕ, ◌<◌, ◌++◌, ◌||◌, ◌⊎◌, inl, inr, Bool, true, false, List, [], ◌∷◌, ap, sym, subst}
 use Rattle.std.proofs.Common.{◌∙◌, refl, arith, filter}
 use Rattle.std.proofs.lemmas.Bool.{cond_both, false≢true}
@@ -13,7 +13,8 @@ use Rattle.ttp_world.proofs.Filters.{each-filter}
 use Rattle.why_story.proofs.Steps.{kept-no, kept-yes}
 use Rattle.why_story.specs.Named.{AreNamed}
 use Rattle.why_answers.proofs.SpotOrder.{Falls, IsBefore, each-has, each-weaker, has-append-cases, has-append-left}
-use Rattle.why_answers.proofs.SpotOrder.{has-append-right, has-cases, has-here, has-more, not-above, not-itself, or-cases}
+use Rattle.why_answers.proofs.SpotOrder.{has-append-right, has-cases, has-here, has-more}
+use Rattle.why_answers.proofs.SpotOrder.{not-above, not-itself, or-cases}
 use Rattle.why_answers.proofs.SpotOrder.{or-left, or-right}
 use Rattle.why_answers.specs.Stories.{AreNamedAbove, AreToldFrom, LeadBack, OthersLeadBack, spots_told}
 
@@ -58,7 +59,8 @@ filter-keeps p e (x ∷ xs) has passes =
     ])
 
 -- one of some that pass a test is among them
-any-with : (p : Spot → Bool) (xs : List Spot) → list_any p xs ≡ true → (e : Spot) × (has_spot xs e ≡ true) × (p e ≡ true)
+any-with : (p : Spot → Bool) (xs : List Spot) → list_any p xs ≡ true
+    → (e : Spot) × (has_spot xs e ≡ true) × (p e ≡ true)
 any-with p [] any = absurd (false≢true any)
 any-with p (x ∷ xs) any = elim (or-cases (p x) (list_any p xs) any) [
   | inl here ↦ (x, has-here x xs, here)
@@ -106,7 +108,8 @@ leading-more t older e has =
     subst (λ (spots : List Spot). has_spot spots e ≡ true) (sym (leading-is t older))
     (lead-more (leads_back (leading older) t.cause) t.spot e (leading older) has)
 
-pub leading-told : (told : List Told) (e : Spot) → has_spot (leading told) e ≡ true → has_spot (spots_told told) e ≡ true
+pub leading-told : (told : List Told) (e : Spot) → has_spot (leading told) e
+    ≡ true → has_spot (spots_told told) e ≡ true
 leading-told [] e has = has
 leading-told (t ∷ older) e has = elim (leading-cases t older e has) [
   | inl newest ↦ subst (λ (s : Spot). has_spot (s ∷ spots_told older) e ≡ true) newest.0 (has-here e (spots_told older))
@@ -169,11 +172,13 @@ module _ (level : Spot → ℕ) where
       (e : Spot) → has_spot back e ≡ true
       → (has_spot (leading told) e ≡ true) ⊎ AllByRecursion (λ o. IsBefore level o e) (spots_told told)
 
-  known-older : (back : List Spot) (t : Told) (older : List Told) → AllByRecursion (λ o. IsBefore level o t.spot) (spots_told older)
+  known-older : (back : List Spot) (t : Told) (older : List Told)
+      → AllByRecursion (λ o. IsBefore level o t.spot) (spots_told older)
       → Known back (t ∷ older) → Known back older
   known-older back t older falls known e has = elim (known e has) [
     | inl leads ↦ elim (leading-cases t older e leads) [
-      | inl newest ↦ inr (subst (λ (s : Spot). AllByRecursion (λ o. IsBefore level o s) (spots_told older)) (sym newest.0) falls)
+      | inl newest ↦ inr (subst
+          (λ (s : Spot). AllByRecursion (λ o. IsBefore level o s) (spots_told older)) (sym newest.0) falls)
       | inr more ↦ inl more
     ]
     | inr before ↦ inr before.1
@@ -201,7 +206,8 @@ module _ (level : Spot → ℕ) where
     | inl leads ↦ elim (leading-cases t older t.spot leads) [
       | inl newest ↦ newest.1
       | inr more ↦ absurd (not-itself level t.spot t.spot
-          (each-has (λ o. IsBefore level o t.spot) (spots_told older) t.spot falls (leading-told older t.spot more)) refl)
+          (each-has (λ o. IsBefore level o t.spot) (spots_told older) t.spot
+          falls (leading-told older t.spot more)) refl)
     ]
     | inr before ↦ absurd (not-itself level t.spot t.spot before.0 refl)
   ]
@@ -209,7 +215,8 @@ module _ (level : Spot → ℕ) where
   -- What is named.
 
   named-above : (back marks : List Spot) (t : Told) (older : List Told) → Known back (t ∷ older) → HasAbove t
-      → AllByRecursion (λ e. has_spot (spots_told (kept_of_told back (filter (has_spot back) t.cause.entries ++ marks) older)) e ≡ true)
+      → AllByRecursion (λ e. has_spot
+      (spots_told (kept_of_told back (filter (has_spot back) t.cause.entries ++ marks) older)) e ≡ true)
       (filter (has_spot back) t.cause.entries)
   named-above back marks t older known above =
       let named = filter (has_spot back) t.cause.entries in
@@ -237,10 +244,11 @@ module _ (level : Spot → ℕ) where
 
   marked-more : (asked : Spot) (marks back entries : List Spot) → MarkedBy asked marks back
       → MarkedBy asked (filter (has_spot back) entries ++ marks) back
-  marked-more asked marks back entries marked e has = elim (has-append-cases e (filter (has_spot back) entries) marks has) [
-    | inl named ↦ inr (filter-passes (has_spot back) e entries named)
-    | inr older ↦ marked e older
-  ]
+  marked-more asked marks back entries marked e has =
+      elim (has-append-cases e (filter (has_spot back) entries) marks has) [
+        | inl named ↦ inr (filter-passes (has_spot back) e entries named)
+        | inr older ↦ marked e older
+      ]
 
   other-marked : (asked : Spot) (marks back : List Spot) (s : Spot) → IsBefore level s asked → MarkedBy asked marks back
       → has_spot marks s ≡ true → has_spot back s ≡ true
@@ -286,7 +294,8 @@ module _ (level : Spot → ℕ) where
       (λ here. (
         kept-leads-by back marks t older known above.0 inside
             (leads-by back t older known falls.0 (other-marked asked marks back t.spot others.0 marked here)),
-        kept-leads asked back more older rest falls.1 above.1 others.1 inside (marked-more asked marks back t.cause.entries marked),
+        kept-leads asked back more older rest falls.1 above.1 others.1 inside
+            (marked-more asked marks back t.cause.entries marked),
       ))
       (λ none. kept-leads asked back marks older rest falls.1 above.1 others.1 inside marked)
 
@@ -310,7 +319,8 @@ module _ (level : Spot → ℕ) where
 
   -- All of it, of entries of which the newest is the one that is asked for.
 
-  pub kept-story : (t : Told) (older : List Told) → Falls level (spots_told (t ∷ older)) → AllByRecursion HasAbove (t ∷ older)
+  pub kept-story : (t : Told) (older : List Told)
+      → Falls level (spots_told (t ∷ older)) → AllByRecursion HasAbove (t ∷ older)
       → IsStory t.spot (kept_of_told (leading (t ∷ older)) (t.spot ∷ []) (t ∷ older))
   kept-story t older falls above =
       let back = leading (t ∷ older) in

@@ -12,7 +12,8 @@ use Rattle.causes.specs.Members.{entry_at_spot}
 use Rattle.causes.specs.Causes.{cause_at}
 use Rattle.causes.specs.RunSlots.{RunSlots, newest_spot}
 use Rattle.causes.specs.Story.{added_root, has_spot, leading, reached, spots_back, story, with_root}
-use Rattle.causes.specs.WhyText.{because_words, entry_head, in_file_order, line_number_words, root_words, spot_word, story_lines}
+use Rattle.causes.specs.WhyText.{because_words, entry_head, in_file_order, line_number_words}
+use Rattle.causes.specs.WhyText.{root_words, spot_word, story_lines}
 use Rattle.causes.specs.WhyText.{told_line, told_lines}
 use Rattle.causes.specs.declared.cause.LineNumbers.{LineNumbers}
 use Rattle.causes.specs.declared.cause.Spot.{Spot}
@@ -34,7 +35,8 @@ use Rattle.ttp_world.specs.Legal.{IsLegal}
 use Rattle.ttp_world.specs.Past.{state_of}
 use Rattle.ttp_world.specs.Script.{IsValidScript}
 use Rattle.ttp_world.specs.Trace.{ack_word, history_lines, member_digits, message_shown, node_line, node_line_of}
-use Rattle.ttp_world.specs.Trace.{number_or_dash, read_lines, slot_lines, test_lines, trace_head, trace_lines, write_lines}
+use Rattle.ttp_world.specs.Trace.{number_or_dash, read_lines, slot_lines, test_lines}
+use Rattle.ttp_world.specs.Trace.{trace_head, trace_lines, write_lines}
 use Rattle.ttp_world.specs.World.{Numbers, messages_chosen, node_past, row_in, slot_after, world}
 use Rattle.ttp_world.specs.declared.medl.Medl.{Medl}
 use Rattle.ttp_world.specs.declared.node.Entry.{Entry}
@@ -74,7 +76,8 @@ node-line : (width slot k : ℕ) (state : NodeState) (message : Option ℕ)
 node-line width slot k state message =
     let head = entry_head slot k state.entry in
     joined-begins (head ++ codes " ") (head ++ codes " msg ")
-    (number_or_dash message ∷ codes " mem " ∷ hex width (set_bits state.members) ∷ codes " acc " ∷ decimal state.accepted
+    (number_or_dash message ∷ codes " mem " ∷ hex width (set_bits state.members)
+    ∷ codes " acc " ∷ decimal state.accepted
     ∷ codes " rej " ∷ decimal state.rejected ∷ codes " ack " ∷ ack_word state.ack ∷ codes " clock "
     ∷ signed_decimal state.offset ∷ newline ∷ [])
     (spaced head (codes " msg ") (codes "msg ") refl)
@@ -102,7 +105,8 @@ begins-right head xs ys one = (
 begins-more : (head line : List ℕ) (lines : Lines) → OneBeginsWith head lines → OneBeginsWith head (line ∷ lines)
 begins-more head line lines one = (line ∷ one.0, one.1, one.2, ap (λ (more : Lines). line ∷ more) one.3, one.4)
 
-one-below : (head : List ℕ) (f : ℕ → List ℕ) (n k : ℕ) → k < n → BeginWith head (f k) → OneBeginsWith head (map f (below n))
+one-below : (head : List ℕ) (f : ℕ → List ℕ) (n k : ℕ) → k < n
+    → BeginWith head (f k) → OneBeginsWith head (map f (below n))
 one-below head f zero k less begins = absurd (omega (arith, less))
 one-below head f (suc n) k less begins =
     let within : k ≤ n = omega (arith, less) in
@@ -172,16 +176,21 @@ history-begins list script (new ∷ numbers) slot k less node runs =
     let within : slot ≤ length numbers = omega (arith, less) in
     elim (eq-or-lt_of_le within) [
       | inl last ↦
-          subst (λ (t : ℕ). OneBeginsWith (entry_head t k (made list script t k) ++ codes " ") (older_lines ++ lines)) (sym last)
+          subst (λ (t : ℕ). OneBeginsWith
+          (entry_head t k (made list script t k) ++ codes " ") (older_lines ++ lines)) (sym last)
           (begins-right (entry_head (length numbers) k (entry_of row_too k) ++ codes " ") older_lines lines
           (begins-left (entry_head (length numbers) k (entry_of row_too k) ++ codes " ")
-          (map (node_line_of list script row history) (below (length list.slots)) ++ write_lines list script (length history))
+          (map (node_line_of list script row history) (below (length list.slots))
+          ++ write_lines list script (length history))
           (read_lines list script (length history) (row ∷ history) new.read)
           (begins-left (entry_head (length numbers) k (entry_of row_too k) ++ codes " ")
-          (map (node_line_of list script row history) (below (length list.slots))) (write_lines list script (length history))
-          (one-below (entry_head (length numbers) k (entry_of row_too k) ++ codes " ") (node_line_of list script row history)
+          (map (node_line_of list script row history) (below (length list.slots)))
+          (write_lines list script (length history))
+          (one-below (entry_head (length numbers) k (entry_of row_too k) ++ codes " ")
+          (node_line_of list script row history)
           (length list.slots) k node
-          (newest-line list script row history (length numbers) k (entry_of row_too k) (length-world list script numbers)
+          (newest-line list script row history (length numbers) k
+          (entry_of row_too k) (length-world list script numbers)
           (same-head (length numbers) k row row_too
           (first-row row row_too history (zeros_world list script (length numbers))
           (runs-entries list script (row ∷ history) (row_too ∷ zeros_world list script (length numbers)) runs))))))))
@@ -197,7 +206,8 @@ trace-begins list script numbers slot k less node valid legal =
     let lines = history_lines list script (world list script numbers) numbers in
     begins-left head (trace_head list script ∷ lines) (test_lines list script)
     (begins-more head (trace_head list script) lines
-    (history-begins list script numbers slot k less node (zeros-legal list script numbers (length numbers) valid legal refl)))
+    (history-begins list script numbers slot k less node
+    (zeros-legal list script numbers (length numbers) valid legal refl)))
 
 made-at : (list : Medl) (script : Script) (n slot k : ℕ) → slot < n
     → made list script slot k ≡ entry_at_spot (first_slots list script n) (spot_at slot k)
@@ -233,7 +243,8 @@ told-part list script k slot =
 
 pub told-in_trace : (list : Medl) (script : Script) (numbers : Numbers) (k slot : ℕ) → IsValidScript list script
     → IsLegal list script numbers → slot < length numbers
-    → AllByRecursion (λ t. OneBeginsWith (head_told (first_slots list script (suc slot)) t) (trace_lines list script numbers))
+    → AllByRecursion (λ t. OneBeginsWith
+    (head_told (first_slots list script (suc slot)) t) (trace_lines list script numbers))
     (why_told list script k slot)
 told-in_trace list script numbers k slot valid legal less =
     let run = first_slots list script (suc slot) in
@@ -284,7 +295,8 @@ zip-reverse R (x ∷ xs) (y ∷ ys) all =
 
 pub text-begins : (list : Medl) (script : Script) (numbers : LineNumbers) (k slot : ℕ)
     → AllZip (λ line t. BeginWith (head_told (first_slots list script (suc slot)) t) line)
-    (story_lines list numbers (first_slots list script (suc slot)) (story script (first_slots list script (suc slot)) k))
+    (story_lines list numbers (first_slots list script (suc slot))
+    (story script (first_slots list script (suc slot)) k))
     (reverse (why_told list script k slot))
 text-begins list script numbers k slot =
     let run = first_slots list script (suc slot) in

@@ -1,6 +1,7 @@
 -- What `why LIST SCRIPT NODE [SLOT]` answers of a right list and a right script.
 use Rattle.std.specs.Fmt.{decimal}
-use Rattle.std.specs.Prelude.{List, None, Option, Some, [], codes, if◌then◌else◌, length, nat_lt, option_map, ℕ, ◌++◌, ◌-◌}
+use Rattle.std.specs.Prelude.{List, None, Option, Some, [], codes, if◌then◌else◌}
+use Rattle.std.specs.Prelude.{length, nat_lt, option_map, ℕ, ◌++◌, ◌-◌}
 use Rattle.std.specs.Prelude.{◌∷◌}
 use Rattle.campaign.specs.Cost.{newest_leave}
 use Rattle.ttp_world.specs.ZerosWorld.{zeros_world}
@@ -53,7 +54,8 @@ answer_of_departure list script bytes k (Some slot) = answer_of_slot list script
 abbrev pub answer_of_node : Medl → Script → List ℕ → ℕ → Option ℕ → WhyAnswer
 answer_of_node list script bytes k None = answer_of_departure list script bytes k (departure_slot list script k)
 answer_of_node list script bytes k (Some slot) =
-    if nat_lt slot script.slots then answer_of_slot list script bytes k slot else why_answered 4 (no_slot_line script ∷ [])
+    if nat_lt slot script.slots then answer_of_slot list script bytes k slot
+    else why_answered 4 (no_slot_line script ∷ [])
 
 -- the whole: of node k's entry in a slot, or of its newest departure
 abbrev pub why_answer : Medl → Script → List ℕ → ℕ → Option ℕ → WhyAnswer

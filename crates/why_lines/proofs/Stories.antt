@@ -22,15 +22,19 @@ turned x xs = reverse-append (x ∷ []) xs
 pub told-within : (source : RunSource) (told : List Told) (i : ℕ) (d : Told) → i < length told → d ≡ get_or told i d
     → AreRunSpots source (map (λ t. t.spot) told) → IsRunSpot source d.spot
 told-within source told i d within is all =
-    subst (IsRunSpot source) (get_or-map (λ (t : Told). t.spot) told i d d.spot within ∙ sym (ap (λ (t : Told). t.spot) is))
-    (All-get_or (IsRunSpot source) (map (λ t. t.spot) told) i d.spot (omega (arith, within, length-map told (λ (t : Told). t.spot))) all)
+    subst (IsRunSpot source)
+    (get_or-map (λ (t : Told). t.spot) told i d d.spot within ∙ sym (ap (λ (t : Told). t.spot) is))
+    (All-get_or (IsRunSpot source) (map (λ t. t.spot) told) i d.spot
+    (omega (arith, within, length-map told (λ (t : Told). t.spot))) all)
 
 -- and so is the root, wherever it is named
-pub root-within : (source : RunSource) (i : ℕ) (root : List Spot) → AreRunSpots source root → AreRunSpots source (root_at i root)
+pub root-within : (source : RunSource) (i : ℕ) (root : List Spot)
+    → AreRunSpots source root → AreRunSpots source (root_at i root)
 root-within source zero root all = all
 root-within source (suc i) root all = All-nil (IsRunSpot source)
 
-pub lines-step : (list : Medl) (numbers : LineNumbers) (run : RunSlots) (spots root : List Spot) (told : List Told) (i : ℕ) (d : Told)
+pub lines-step : (list : Medl) (numbers : LineNumbers) (run : RunSlots)
+    (spots root : List Spot) (told : List Told) (i : ℕ) (d : Told)
     (before : Lines) → i < length told
     → (before ++ reverse (told_lines list numbers run spots [] (drop (i + 1) told)))
     ++ told_line list numbers run spots root (get_or told i d) ∷ []
@@ -50,7 +54,8 @@ pub story-step : (list : Medl) (numbers : LineNumbers) (run : RunSlots) (spots s
     → line ≡ told_line list numbers run spots_here root_here t
     → lines ≡ before ++ reverse (told_lines list numbers run spots (root_at p root) (drop p told))
     → lines ++ line ∷ [] ≡ before ++ reverse (told_lines list numbers run spots (root_at i root) (drop i told))
-story-step list numbers run spots spots_here root root_here told p i t before lines line next within is all here said so_far =
+story-step list numbers run spots spots_here root root_here told p i t before lines
+    line next within is all here said so_far =
     let behind : root_at p root ≡ [] = ap (λ (n : ℕ). root_at n root) (next ∙ add-one i) in
     let older : lines ≡ before ++ reverse (told_lines list numbers run spots [] (drop (i + 1) told)) =
     so_far
@@ -62,5 +67,6 @@ story-step list numbers run spots spots_here root root_here told p i t before li
     ∙ (ap (λ (r : List Spot). told_line list numbers run spots r t) here
     ∙ ap (told_line list numbers run spots (root_at i root)) is)) in
     ap (λ (ls : Lines). ls ++ line ∷ []) older
-    ∙ (ap (λ (l : List ℕ). (before ++ reverse (told_lines list numbers run spots [] (drop (i + 1) told))) ++ l ∷ []) this
+    ∙ (ap (λ (l : List ℕ). (before ++ reverse (told_lines list numbers run spots [] (drop (i + 1) told))) ++ l ∷ [])
+    this
     ∙ lines-step list numbers run spots (root_at i root) told i t before within)

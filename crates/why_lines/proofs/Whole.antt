@@ -12,7 +12,8 @@ use Rattle.causes.specs.Members.{entry_at_spot, newest_entry_of}
 use Rattle.causes.specs.RunSlots.{RunSlots}
 use Rattle.causes.specs.Reduced.{entry_alone, is_same_word}
 use Rattle.causes.specs.Story.{lines_told, story}
-use Rattle.causes.specs.WhyText.{alone_line, in_file_order, needed_word, script_line_line, story_lines, why_head, why_lines_of}
+use Rattle.causes.specs.WhyText.{alone_line, in_file_order, needed_word, script_line_line}
+use Rattle.causes.specs.WhyText.{story_lines, why_head, why_lines_of}
 use Rattle.causes.specs.WhyText.{why_lines_in, why_lines_told, why_text}
 use Rattle.causes.specs.declared.cause.LineNumbers.{LineNumbers}
 use Rattle.causes.specs.declared.cause.ScriptLine.{ScriptLine}
@@ -40,7 +41,8 @@ pub pushed : (first second third fourth last_of named stories : Lines) (head las
 pushed first second third fourth last_of named stories head last none begun more told ended =
     ended
     ∙ ap (λ (x : Lines). x ++ last ∷ [])
-    (told ∙ ap (λ (x : Lines). x ++ stories) (more ∙ ap (λ (x : Lines). x ++ named) (begun ∙ ap (λ (x : Lines). x ++ head ∷ []) none)))
+    (told ∙ ap (λ (x : Lines). x ++ stories)
+    (more ∙ ap (λ (x : Lines). x ++ named) (begun ∙ ap (λ (x : Lines). x ++ head ∷ []) none)))
 
 -- the lines of those that a story names, by its entry and what suffices
 abbrev pub named_lines : Medl → Script → LineNumbers → ℕ → ℕ → Entry → Bool → List ScriptLine → Lines
@@ -52,7 +54,8 @@ pub told-lines : (list : Medl) (script : Script) (numbers : LineNumbers) (run : 
     (e alone : Entry) (suffices : Bool) (named : List ScriptLine) → e ≡ newest_entry_of k run
     → named ≡ in_file_order numbers (lines_told s) → alone ≡ entry_alone list script named slot k
     → suffices ≡ is_same_word e alone
-    → ((why_head list script k slot ∷ named_lines list script numbers slot k e suffices named) ++ story_lines list numbers run s)
+    → ((why_head list script k slot ∷ named_lines list script numbers slot k e suffices named)
+    ++ story_lines list numbers run s)
     ++ alone_line alone suffices ∷ []
     ≡ why_lines_told list script numbers run k slot s
 told-lines list script numbers run k slot s e alone suffices named newest order is same =
@@ -62,7 +65,8 @@ told-lines list script numbers run k slot s e alone suffices named newest order 
     ap (text e) same
     ∙ (ap (λ (x : Entry). text x (is_same_word x alone)) newest
     ∙ (ap (λ (a : Entry). why_lines_of list script numbers run k slot s named a) is
-    ∙ ap (λ (ls : List ScriptLine). why_lines_of list script numbers run k slot s ls (entry_alone list script ls slot k)) order))
+    ∙ ap (λ (ls : List ScriptLine).
+    why_lines_of list script numbers run k slot s ls (entry_alone list script ls slot k)) order))
 
 -- the text of a run's story is the whole
 pub whole-text : (list : Medl) (script : Script) (numbers : LineNumbers) (k slot : ℕ) (source : RunSource) (s : Story)

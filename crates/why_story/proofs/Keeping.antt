@@ -10,12 +10,14 @@ use Rattle.why_story.specs.Marks.{AreMarked}
 use Rattle.why_story.specs.declared.keep.Kept.{Kept}
 use Rattle.why_story.proofs.Steps.{kept-no, kept-yes}
 
-pub Keeps-none : (count : ℕ) (leading marked : List Spot) (told : List Told) (now : Kept) → AreMarked count marked now.marks
+pub Keeps-none : (count : ℕ) (leading marked : List Spot) (told : List Told) (now : Kept)
+    → AreMarked count marked now.marks
     → Keeps count leading now.told marked told told now
 Keeps-none count leading marked told now marks = record { marked_now = marked; marks = marks; kept = λ older. refl }
 
 -- one that is not marked
-pub Keeps-unmarked : (count : ℕ) (leading marked : List Spot) (one : Told) (now : Kept) → AreMarked count marked now.marks
+pub Keeps-unmarked : (count : ℕ) (leading marked : List Spot) (one : Told) (now : Kept)
+    → AreMarked count marked now.marks
     → has_spot marked one.spot ≡ false → Keeps count leading now.told marked (one ∷ []) [] now
 Keeps-unmarked count leading marked one now marks none = record {
   marked_now = marked;
@@ -47,7 +49,8 @@ Keeps-marked count leading marked one named old new here is marks told = record 
 }
 
 -- one more of those that are left
-pub Keeps-more : (count : ℕ) (leading : List Spot) (before : List Told) (marked : List Spot) (told left : List Told) (one : Told)
+pub Keeps-more : (count : ℕ) (leading : List Spot) (before : List Told)
+    (marked : List Spot) (told left : List Told) (one : Told)
     (more : List Told) (old new : Kept) → Keeps count leading before marked told left old → left ≡ one ∷ more
     → ((m : List Spot) → AreMarked count m old.marks → Keeps count leading old.told m (one ∷ []) [] new)
     → Keeps count leading before marked told more new
@@ -69,7 +72,8 @@ kept-end count leading marked told left now all none =
     ∙ (ap (λ (l : List Told). now.told ++ kept_of_told leading all.marked_now (l ++ [])) none
     ∙ append-nil now.told)))
 
-pub Keeps-init : (count : ℕ) (leading marked : List Spot) (told left : List Told) (now : Kept) → AreMarked count marked now.marks
+pub Keeps-init : (count : ℕ) (leading marked : List Spot) (told left : List Told) (now : Kept)
+    → AreMarked count marked now.marks
     → now.told ≡ [] → left ≡ told → Keeps count leading [] marked told left now
 Keeps-init count leading marked told left now marks none same = record {
   marked_now = marked;

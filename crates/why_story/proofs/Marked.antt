@@ -1,6 +1,7 @@
 -- Marks of entries.
 use Rattle.std.proofs.Common.{◌≡◌, ◌≢◌, ℕ, ◌+◌, ◌<◌, ◌==◌, ◌&&◌, ◌||◌, Bool, true, false, List, [], ◌∷◌, ◌++◌, length}
-use Rattle.std.proofs.Common.{get_or, set, take, replicate, filter, ◌≤◌, cond, ap, sym, ◌∙◌, refl, arith, get_or-set_other, subst}
+use Rattle.std.proofs.Common.{get_or, set, take, replicate, filter, ◌≤◌, cond, ap}
+use Rattle.std.proofs.Common.{sym, ◌∙◌, refl, arith, get_or-set_other, subst}
 use Rattle.std.proofs.lemmas.Bool.Decides.{nat_tests}
 use Rattle.std.proofs.lemmas.Grind.{common_steps, get_or-set_at}
 use Rattle.std.proofs.lemmas.List.{append-nil, get_or_default, take_all, take_more}
@@ -52,7 +53,8 @@ AreMarked-more count spots old new s marked within len sets = record {
   slots = len ∙ marked.slots;
   each = λ t k slot node.
       ap (λ (all : List (List ℕ)). has_node (get_or all t []) k) sets
-      ∙ (set_by old.sets.items s.slot s.node t k (t == s.slot) refl (omega (arith, within, marked.slots, old.sets.ok)) node
+      ∙ (set_by old.sets.items s.slot s.node t k (t == s.slot) refl
+      (omega (arith, within, marked.slots, old.sets.ok)) node
       ∙ ap (λ (b : Bool). ((t == s.slot) && (k == s.node)) || b) (marked.each t k slot node));
 }
 
@@ -104,7 +106,8 @@ has-at count spots marks s here d are within slot node is =
 
 -- Loops that test each of some.
 
-pub any-more : {X : Type 0} (p : X → Bool) (xs : List X) (i : ℕ) (d : X) → i < length xs → list_any p (take i xs) ≡ false
+pub any-more : {X : Type 0} (p : X → Bool) (xs : List X) (i : ℕ) (d : X) → i
+    < length xs → list_any p (take i xs) ≡ false
     → p (get_or xs i d) ≡ false → list_any p (take (i + 1) xs) ≡ false
 any-more p xs i d within none here =
     list_any_more p xs i d within
@@ -118,7 +121,8 @@ pub any-end : {X : Type 0} (p : X → Bool) (xs : List X) (i : ℕ) → length x
     → false ≡ list_any p xs
 any-end p xs i all none = sym (ap (list_any p) (sym (take_all i xs all)) ∙ none)
 
-pub filter-skip : (p : Spot → Bool) (xs found : List Spot) (i : ℕ) (d : Spot) → i < length xs → p (get_or xs i d) ≡ false
+pub filter-skip : (p : Spot → Bool) (xs found : List Spot) (i : ℕ) (d : Spot)
+    → i < length xs → p (get_or xs i d) ≡ false
     → found ≡ filter p (take i xs) → found ≡ filter p (take (i + 1) xs)
 filter-skip p xs found i d within none is =
     is

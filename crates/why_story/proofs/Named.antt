@@ -7,7 +7,8 @@ use Rattle.why_story.specs.Named.{AreNamed}
 use Rattle.why_story.proofs.Steps.{kept-no, kept-yes}
 
 named-by : (back marks : List Spot) (told : Told) (older : List Told) (b : Bool) → has_spot marks told.spot ≡ b
-    → ((m : List Spot) → AreNamed m (kept_of_told back m older)) → AreNamed marks (kept_of_told back marks (told ∷ older))
+    → ((m : List Spot) → AreNamed m (kept_of_told back m older))
+    → AreNamed marks (kept_of_told back marks (told ∷ older))
 named-by back marks told older false is rest =
     subst (AreNamed marks) (sym (kept-no back marks told older is)) (rest marks)
 named-by back marks told older true is rest =

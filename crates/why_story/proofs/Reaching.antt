@@ -18,12 +18,14 @@ use Rattle.why_story.proofs.Slots.{slots_up_to-none, spots_back-next}
 
 -- Passes in pieces.
 
-pub Reaches-none : (run : RunSlots) (count : ℕ) (marked spots : List Spot) (now : Reach) → AreMarked count marked now.marks
+pub Reaches-none : (run : RunSlots) (count : ℕ) (marked spots : List Spot) (now : Reach)
+    → AreMarked count marked now.marks
     → Reaches run count now.told marked spots spots now
 Reaches-none run count marked spots now marks = record { marked_now = marked; marks = marks; told = λ older. refl }
 
 -- what is left begins with a piece, which is gone over
-pub Reaches-piece : (run : RunSlots) (count : ℕ) (before : List Told) (marked spots left piece more : List Spot) (old new : Reach)
+pub Reaches-piece : (run : RunSlots) (count : ℕ) (before : List Told)
+    (marked spots left piece more : List Spot) (old new : Reach)
     → Reaches run count before marked spots left old → left ≡ piece ++ more
     → ((m : List Spot) → AreMarked count m old.marks → Reaches run count old.told m piece [] new)
     → Reaches run count before marked spots more new
@@ -73,7 +75,8 @@ Reaches-other run count rank marked s now marks other = record {
 }
 
 -- one that is told
-told_here : (run : RunSlots) (before : List Told) (marked : List Spot) (s : Spot) (older : List Spot) (b : Bool) → b ≡ true
+told_here : (run : RunSlots) (before : List Told) (marked : List Spot) (s : Spot)
+    (older : List Spot) (b : Bool) → b ≡ true
     → has_spot marked s ≡ true
     → before ++ reached run marked ((if b then s ∷ [] else []) ++ older)
     ≡ (before ++ told_spot run s ∷ []) ++ reached run ((cause_at run s).entries ++ marked) older
@@ -104,7 +107,8 @@ rank_back-next run slot rank n k is = ap (rank_back run slot rank) (is ∙ add-o
 
 -- All slots.
 
-pub Reaches-slot : (source : RunSource) (count : ℕ) (before : List Told) (marked spots : List Spot) (slot t nodes : ℕ) (old new : Reach)
+pub Reaches-slot : (source : RunSource) (count : ℕ) (before : List Told)
+    (marked spots : List Spot) (slot t nodes : ℕ) (old new : Reach)
     → Reaches (source_slots source) count before marked spots (spots_back (slots_up_to (source_slots source) slot)) old
     → slot ≡ t + 1 → t < length source.history → nodes ≡ length source.list.slots
     → ((m : List Spot) → AreMarked count m old.marks
@@ -130,7 +134,8 @@ reached-end run count slot marked spots now none all =
 
 -- The beginning and the end of a pass.
 
-pub Reaches-init : (run : RunSlots) (count : ℕ) (marked spots : List Spot) (now : Reach) → AreMarked count (marked ++ []) now.marks
+pub Reaches-init : (run : RunSlots) (count : ℕ) (marked spots : List Spot) (now : Reach)
+    → AreMarked count (marked ++ []) now.marks
     → now.told ≡ [] → Reaches run count [] marked spots spots now
 Reaches-init run count marked spots now marks none = record {
   marked_now = marked;

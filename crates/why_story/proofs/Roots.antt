@@ -72,7 +72,8 @@ causes-same run n (s ∷ older) within all =
 
 pub leads-before : (source : RunSource) (script : Script) (nodes slot : ℕ) (from : Spot) → slot ≤ length source.history
     → nodes ≡ length source.list.slots → nodes ≤ 24
-    → list_any (has_fault_line script) (reached (source_slots source) (from ∷ []) (spots_back (slots_up_to (source_slots source) slot)))
+    → list_any (has_fault_line script)
+    (reached (source_slots source) (from ∷ []) (spots_back (slots_up_to (source_slots source) slot)))
     ≡ leads_to_fault script (slots_up_to (source_slots source) slot) from
 leads-before source script nodes slot from within same few =
     let run = source_slots source in
@@ -107,7 +108,8 @@ story-at : (script : Script) (run before : RunSlots) (k slot : ℕ) → slot ≡
 story-at script run before k slot at behind origin is =
     let made : ℕ → List Spot → Story = λ n o. record { root = o; told = told_from run (spot_at n k) o run } in
     let P : ℕ → RunSlots → Type 0 =
-    λ n b. (o : List Spot) → o ≡ added_root script k b (cause_at run (spot_at n k)).entries → made n o ≡ story script run k in
+    λ n b. (o : List Spot) → o
+    ≡ added_root script k b (cause_at run (spot_at n k)).entries → made n o ≡ story script run k in
     let base : P (length run - 1) (drop 1 run) = λ o e. ap (made (length run - 1)) e in
     subst (λ n. P n before) (sym at) (subst (λ b. P (length run - 1) b) (sym behind) base) origin is
 
@@ -119,4 +121,5 @@ story-is script run k slots slot all is origin added told kept =
     let one : length run - slot ≡ 1 = omega (arith, all, is) in
     ap (λ (t : List Told). record { root = origin; told = t })
     (kept ∙ ap (told_from run (spot_at slot k) origin) (slots_up_to-all run slots all))
-    ∙ story-at script run (slots_up_to run slot) k slot (omega (arith, all, is)) (ap (λ (n : ℕ). drop n run) one) origin added
+    ∙ story-at script run (slots_up_to run slot) k slot (omega (arith, all, is))
+    (ap (λ (n : ℕ). drop n run) one) origin added

@@ -66,7 +66,8 @@ row_at history t within =
     let at = length history - suc t in
     let next : suc at ≡ length history - t = omega (arith, within) in record {
       row = get_or history at [];
-      next = drop-cons history at [] (omega (arith, within)) ∙ ap (λ (n : ℕ). get_or history at [] ∷ drop n history) next;
+      next = drop-cons history at [] (omega (arith, within))
+          ∙ ap (λ (n : ℕ). get_or history at [] ∷ drop n history) next;
       count = length-drop (length history - t) history ∙ omega (arith, within);
     }
 
@@ -79,7 +80,8 @@ one_back f p n true is = rw is refl
 one_back f p n false is = rw is refl
 
 more_back : (f : ℕ → Spot) (p : ℕ → Bool) (n : ℕ)
-    → reverse (map f (filter p (below (suc n)))) ≡ (if p n then f n ∷ [] else []) ++ reverse (map f (filter p (below n)))
+    → reverse (map f (filter p (below (suc n))))
+    ≡ (if p n then f n ∷ [] else []) ++ reverse (map f (filter p (below n)))
 more_back f p n =
     ap (λ (ks : List ℕ). reverse (map f (filter p ks))) (ap below (sym (add-one n)) ∙ below-next n)
     ∙ (ap (λ (ks : List ℕ). reverse (map f ks)) (filter-append p (below n) (n ∷ []))
@@ -99,7 +101,8 @@ rank_back-slot run t s rank (suc n) is =
     more_back (λ k. node_spot k s) (λ k. rank_of_entry (entry_in_slot k s) == rank) n
     ∙ (ap (λ (e : Entry). (if rank_of_entry e == rank then node_spot n s ∷ [] else [])
     ++ reverse (spots_in s (filter (λ k. rank_of_entry (entry_in_slot k s) == rank) (below n)))) (sym (is.entries n))
-    ∙ (ap (λ (number : ℕ). (if rank_of_entry (entry_at_spot run (spot_at t n)) == rank then spot_at number n ∷ [] else [])
+    ∙ (ap (λ (number : ℕ). (if rank_of_entry (entry_at_spot run (spot_at t n)) ==
+    rank then spot_at number n ∷ [] else [])
     ++ reverse (spots_in s (filter (λ k. rank_of_entry (entry_in_slot k s) == rank) (below n)))) is.number
     ∙ ap (λ (rest : List Spot). of_rank run rank (spot_at t n) ++ rest) (rank_back-slot run t s rank n is)))
 

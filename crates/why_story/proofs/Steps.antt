@@ -1,11 +1,13 @@
 -- One entry of a pass, by whether it is marked.
-use Rattle.std.proofs.Common.{◌≡◌, ℕ, Bool, true, false, List, [], ◌∷◌, ◌++◌, ap, sym, ◌∙◌, filter, arith, ◌==◌, ◌≢◌, Result, Ok, Err}
+use Rattle.std.proofs.Common.{◌≡◌, ℕ, Bool, true, false, List, [], ◌∷◌, ◌++◌, ap, sym}
+use Rattle.std.proofs.Common.{◌∙◌, filter, arith, ◌==◌, ◌≢◌, Result, Ok, Err}
 use Rattle.std.proofs.lemmas.Bool.Decides.{nat_tests}
 use Rattle.std.specs.Result.{OnOk}
 use Rattle.std.specs.Prelude.{if◌then◌else◌}
 use Rattle.causes.specs.RunSlots.{RunSlots}
 use Rattle.causes.specs.Said.{root}
-use Rattle.causes.specs.Story.{added_root, has_spot, kept_of_told, leads_to_fault, rank_of_entry, reached, told_spot, was_active, with_entries}
+use Rattle.causes.specs.Story.{added_root, has_spot, kept_of_told, leads_to_fault, rank_of_entry}
+use Rattle.causes.specs.Story.{reached, told_spot, was_active, with_entries}
 use Rattle.causes.specs.declared.cause.Spot.{Spot}
 use Rattle.causes.specs.declared.cause.Told.{Told}
 use Rattle.ttp_world.specs.declared.node.Entry.{Entry}

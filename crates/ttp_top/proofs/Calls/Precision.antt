@@ -70,7 +70,8 @@ broken_line-is list script node rule slot numbers answers =
 pub precision-said : (list : Medl) (script : Script) (node : ℕ) (line : List ℕ) (before now : Output)
     (answer : BenchAnswer)
     → ((numbers : Numbers) → IsLegalRun list script numbers → line ≡ precision_line list script node numbers)
-    → Says ttpbench (line_ending 0 line) before now answer → Says ttpbench (precision_ending node list script) before now answer
+    → Says ttpbench (line_ending 0 line) before now answer
+    → Says ttpbench (precision_ending node list script) before now answer
 precision-said list script node line before now answer is (inl showed) =
     inl (record {
       status = showed.status;

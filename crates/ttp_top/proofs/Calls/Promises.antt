@@ -29,7 +29,8 @@ module _ (form : Option Form) (before now : Outside) (answer : BenchAnswer)
 
   kept_of : (4 < answer.status) ⊎ (answer.status ≤ 4)
       → is_some answer.kept ≡ (runs_cluster form && (answer.status == 0))
-  kept_of (inl many) = none_kept form answer.status answer.kept (call.dropped (omega (arith, many))) (omega (arith, many))
+  kept_of (inl many) = none_kept form answer.status answer.kept
+      (call.dropped (omega (arith, many))) (omega (arith, many))
   kept_of (inr few) =
       let showed = (call.ended few).2 in
       (ended_of few).keeps showed.text.lines answer.kept showed.kept
@@ -40,7 +41,8 @@ pub promise : (form : Option Form) (before now : Outside) (answer : BenchAnswer)
     → BenchPromise form before now answer
 promise form before now answer follows never =
     let call = call_promise ttpbench (plan_of form) before now answer
-    (every_weaker (IsOfForm form) (IsFinal ttpbench) SaysLine (λ ending is. is.final) (plan_of form) (forms form)) follows in
+    (every_weaker (IsOfForm form) (IsFinal ttpbench) SaysLine
+    (λ ending is. is.final) (plan_of form) (forms form)) follows in
     record {
       call = call;
       empty = λ seven other. empty_of form before now answer call (call.refused seven).1 other;

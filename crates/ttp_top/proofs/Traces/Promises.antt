@@ -39,7 +39,8 @@ judged_plan said list script trace = both_plan list script (from_script said tra
 -- an ending is a verdict on the text
 ending_verdict : (said : OfTrace) (medl : Medl) (right : Script) (text : List ℕ) (status : ℕ) (lines : Lines)
     (same : Bool) → is_trace medl right text ≡ same → status ≡ (judged_ending said medl right text same).status
-    → IsAmong ttpbench (judged_ending said medl right text same).texts lines → IsVerdict said medl right text status lines
+    → IsAmong ttpbench (judged_ending said medl right text same).texts lines
+    → IsVerdict said medl right text status lines
 ending_verdict said medl right text status lines true is end among = inl (end, (is, among))
 ending_verdict said medl right text status lines false is end among = inr (end, (is, among))
 
@@ -77,7 +78,8 @@ module _ (said : OfTrace) (medl : Medl) (right : Script) (limit : ℕ) (most : H
         wrote = showed.text.wrote;
       }
 
-  cut-verdict : (before now : Output) → CutAmong ttpbench (ending_of said medl right (take (limit + 1) text)).texts before now
+  cut-verdict : (before now : Output)
+      → CutAmong ttpbench (ending_of said medl right (take (limit + 1) text)).texts before now
       → CutVerdict said medl right text before now
   cut-verdict before now cut =
       let front = take (limit + 1) text in
@@ -177,7 +179,8 @@ module _ (said : OfTrace) (form : Option Form) (list script trace : List ℕ)
     quiet : AllAsk (Quiet before now) (plan_of form)
     quiet =
         subst (AllAsk (Quiet before now)) (sym is)
-        (both_ask (Quiet before now) list script (from_script said trace) files.files.list_quiet files.files.script_quiet
+        (both_ask (Quiet before now) list script (from_script said trace)
+        files.files.list_quiet files.files.script_quiet
         (λ m s. (files.trace_quiet, λ bytes. tt)))
 
     complete : is_run form ≡ false → ¬ HasRisen before.output.faults now.output.faults

@@ -35,8 +35,8 @@ abbrev pub kept_after : ℕ → ClusterView → Option ClusterView
 kept_after status c = if status == 0 then Some c else None
 
 -- What is kept beside a text of a set that is written whole: beside a trace the cluster that ran, which stands for the
--- message numbers that the trace names; beside the lines on a generated run the cluster that ran, which stands for legal
--- ones; and no cluster beside any other text.
+-- message numbers that the trace names; beside the lines on a generated run the cluster that ran, which stands for
+-- legal ones; and no cluster beside any other text.
 abbrev pub IsBeside : Sets → Lines → Option ClusterView → Type 0
 IsBeside (traces list script) lines kept = IsSomeAnd kept (λ c. HasRun list script (numbers_in list script lines) c)
 IsBeside (fronts list script) lines kept = kept ≡ None

@@ -25,8 +25,8 @@ pub data Form : Type 0 where
   precision : (list script : List ℕ) (node : ℕ) → Form
   -- the summary of a run of the list of this name, of so many slots, by the script that this number gives
   sample : (list : List ℕ) (slots number : ℕ) → Form
-  -- which mode each node runs, for the text of the third name, which is to be a trace of the script of this name for the
-  -- list of this name
+  -- which mode each node runs, for the text of the third name, which is to be a trace of the script of this name for
+  -- the list of this name
   modes : (list script trace : List ℕ) → Form
 
 -- a form is that of `run`

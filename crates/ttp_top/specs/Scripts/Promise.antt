@@ -22,10 +22,10 @@ use Rattle.ttp_top.specs.Calls.Answer.{BenchAnswer, HasRun, WroteOf, CutOf}
 use Rattle.ttp_top.specs.Calls.Texts.{traces, fronts}
 
 -- A text was written that is the trace of the world's run for the numbers that its own lines name, and they are legal;
--- the list and the script are valid. Where the script keeps the single-fault hypothesis, after each slot of that run from
--- its start on it is safe, clocks of correct nodes are near, and they have judged the same frames and run one mode; where
--- armed nodes are guaranteed their places, it is safe with armed nodes. The cluster that ran is kept, and stands for the
--- same numbers.
+-- the list and the script are valid. Where the script keeps the single-fault hypothesis, after each slot of that run
+-- from its start on it is safe, clocks of correct nodes are near, and they have judged the same frames and run one
+-- mode; where armed nodes are guaranteed their places, it is safe with armed nodes. The cluster that ran is kept, and
+-- stands for the same numbers.
 pub record WroteTraceOf (medl : Medl) (right : Script) (before now : Output) (kept : Option ClusterView) : Type 0 where
   pub lines : Lines
   pub wrote : WroteLines before now lines

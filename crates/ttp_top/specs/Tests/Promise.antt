@@ -71,8 +71,8 @@ pub record ShowsBound (medl : Medl) (node start : ℕ) (lines : Lines) : Type 0 
   pub within : seen.value ≤ℤ bound medl
 
 -- The line of the test for one two-faced sender, which is the same for all legal message numbers, and there are such.
--- Where the node may be one, it shows the bound, and after each slot from the start on, in every run by legal numbers, all
--- nodes that are on are active, hold one membership, and have clocks within that bound.
+-- Where the node may be one, it shows the bound, and after each slot from the start on, in every run by legal numbers,
+-- all nodes that are on are active, hold one membership, and have clocks within that bound.
 pub record IsPrecisionLine (node : ℕ) (medl : Medl) (right : Script) (lines : Lines) : Type 0 where
   pub text : (numbers : Numbers) → IsLegalRun medl right numbers
       → lines ≡ precision_line medl right node numbers ∷ []

@@ -92,8 +92,8 @@ pub record TextPromise (said : OfTrace) (list script trace : List ℕ) (before n
 abbrev pub VerifyPromise : (list script trace : List ℕ) (before now : Outside) (answer : BenchAnswer) → Type 0
 VerifyPromise list script trace before now answer = TextPromise said_same list script trace before now answer
 
--- a text of modes of a script that keeps the single-fault hypothesis shows one mode for all correct nodes after each slot
--- from the start on
+-- a text of modes of a script that keeps the single-fault hypothesis shows one mode for all correct nodes after each
+-- slot from the start on
 abbrev pub ShowOneMode : Medl → Script → Lines → Type 0
 ShowOneMode medl right lines =
     (start : ℕ) → keeps medl right ≡ keep.Yes start → (slot : ℕ) → start ≤ slot → slot < right.slots

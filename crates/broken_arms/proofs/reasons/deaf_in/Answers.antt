@@ -16,7 +16,8 @@ returns-then-is_deaf c =
     let script = c.args.script.now in
     let faulty = faulty_in list script (told_start c.args.start) c.args.slot in
     let few : length list.slots ≤ most_nodes = search rules in
-    let here : is_deaf script c.args.faulty c.args.slot c.loop-node.node ≡ true = sym c.is_deaf.ensures ∙ search rules in
+    let here : is_deaf script c.args.faulty c.args.slot c.loop-node.node
+    ≡ true = sym c.is_deaf.ensures ∙ search rules in
     sym (first-below (is_deaf script faulty c.args.slot) (length list.slots) c.loop-node.node (omega arith)
     (λ k less. sym (same-deaf script c.args.faulty faulty c.args.slot k c.requires.faulty (omega (arith, less)))
     ∙ c.loop-node.invariant k less)

@@ -21,5 +21,6 @@ returns c =
     let gap : c.two_rounds.result ≡ two_rounds list = search rules in
     let long : c.args.since + two_rounds list ≤ c.args.slot = omega (arith, gap) in
     c.long_faulty_fails.ensures
-    ∙ is-long list c.args.script.now (told_start c.args.start) c.args.node c.args.slot (Some c.args.since) c.requires.since
+    ∙ is-long list c.args.script.now (told_start c.args.start) c.args.node
+    c.args.slot (Some c.args.since) c.requires.since
     (le-leb (c.args.since + two_rounds list) c.args.slot long)

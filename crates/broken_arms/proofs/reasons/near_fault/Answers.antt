@@ -20,10 +20,12 @@ pub loop-at-preserved : goal.loop-at-preserved
 loop-at-preserved c =
     let start = told_start c.args.start in
     let made = c.step_faults-faults.ensures.faults start c.requires.start in
-    let none : slice_get (c.step_faults-faults.result.jumped ++ c.step_faults-faults.result.made) 0 ≡ None = search rules in
+    let none : slice_get (c.step_faults-faults.result.jumped ++ c.step_faults-faults.result.made) 0
+    ≡ None = search rules in
     record {
       walk = c.step_faults-faults.ensures.at;
-      away = next-none c.args.list.now c.args.script.now start c.args.slot c.loop-at.at c.step_faults-faults.result.jumped
+      away = next-none c.args.list.now c.args.script.now start c.args.slot
+          c.loop-at.at c.step_faults-faults.result.jumped
           c.step_faults-faults.result.made c.loop-at.invariant.away made.jumped made.made none;
     }
 
@@ -41,7 +43,8 @@ returns-in-Some c =
     let found = next-found list script start slot c.loop-at.at c.in-Some.node c.step_faults-faults.result.jumped
     c.step_faults-faults.result.made c.loop-at.invariant.away made.jumped made.made first (omega (arith, from))
     (omega (arith, last)) (omega (arith, last)) in
-    (λ i. Some (why.Joins c.in-Some.node c.loop-at.at (from i) (last i - 1))) ∙ sym (ap (option_map (joins list script slot)) found)
+    (λ i. Some (why.Joins c.in-Some.node c.loop-at.at (from i) (last i - 1)))
+    ∙ sym (ap (option_map (joins list script slot)) found)
 
 pub returns : goal.returns
 returns c =

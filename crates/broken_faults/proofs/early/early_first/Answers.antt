@@ -63,7 +63,8 @@ returns-in-Some-clause-early c =
     let jumped = c.args.faults.now.jumped in
     let jumps : ℕ → Bool = jumps_now script (faulty_in list script start slot) slot in
     let others : without_node jumped node ≡ drop 1 jumped =
-    ap (λ s. without_node s node) c.requires.faults.jumped ∙ without-first jumps (length list.slots) node (drop 1 jumped)
+    ap (λ s. without_node s node) c.requires.faults.jumped
+    ∙ without-first jumps (length list.slots) node (drop 1 jumped)
     (sym c.requires.faults.jumped ∙ headed jumped node c.requires.first) in
     let next : slice_get (without_node jumped node) 0 ≡ Some c.in-Some.next = search rules in
     let second : slice_get (drop 1 jumped) 0 ≡ Some c.in-Some.next = ap (λ s. slice_get s 0) (sym others) ∙ next in
@@ -71,8 +72,10 @@ returns-in-Some-clause-early c =
     c.early_with-early.ensures.since
     ∙ (λ i. since.Fault (c.by_jump-fault.ensures.slot i) (c.by_jump-fault.ensures.node i)) in
     jump-second list script start c.args.since.now c.early_with.new.since slot node c.in-Some.next jumped
-    c.early_with-early.result c.early_with.result (omega (arith, c.requires.valid.count)) c.requires.first second (search rules)
-    (subst (λ n. LooksOver list script start c.args.since.now (all_in slot (node ∷ [])) c.early_with-early.result n) since
+    c.early_with-early.result c.early_with.result
+    (omega (arith, c.requires.valid.count)) c.requires.first second (search rules)
+    (subst (λ n. LooksOver list script start c.args.since.now
+    (all_in slot (node ∷ [])) c.early_with-early.result n) since
     (over-same list script start c.args.since.now c.early_with-early.new.since c.by_jump-fault.result.slot slot
     c.by_jump-fault.result.node node c.early_with-early.result c.by_jump-fault.ensures.slot
     c.by_jump-fault.ensures.node c.early_with-early.ensures.early))
@@ -92,11 +95,13 @@ returns-in-None-clause-early c =
     let jumped = c.args.faults.now.jumped in
     let jumps : ℕ → Bool = jumps_now script (faulty_in list script start slot) slot in
     let others : without_node jumped node ≡ drop 1 jumped =
-    ap (λ s. without_node s node) c.requires.faults.jumped ∙ without-first jumps (length list.slots) node (drop 1 jumped)
+    ap (λ s. without_node s node) c.requires.faults.jumped
+    ∙ without-first jumps (length list.slots) node (drop 1 jumped)
     (sym c.requires.faults.jumped ∙ headed jumped node c.requires.first) in
     let none : slice_get (without_node jumped node) 0 ≡ None = search rules in
     let nobody : drop 1 jumped ≡ [] = nil_from_first (drop 1 jumped) (ap (λ s. slice_get s 0) (sym others) ∙ none) in
-    jump-alone list script start c.args.since.now c.early_with-early.new.since slot node jumped c.early_with-early.result
+    jump-alone list script start c.args.since.now c.early_with-early.new.since
+    slot node jumped c.early_with-early.result
     c.requires.first nobody (search rules)
     (over-same list script start c.args.since.now c.early_with-early.new.since c.by_jump-fault.result.slot slot
     c.by_jump-fault.result.node node c.early_with-early.result c.by_jump-fault.ensures.slot

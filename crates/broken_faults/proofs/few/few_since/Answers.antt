@@ -1,4 +1,5 @@
-use Rattle.std.proofs.Common.{◌≡◌, ◌+◌, ◌-◌, suc, true, false, not, ap, sym, ◌∙◌, inl, inr, rules, arith, option_map, Some}
+use Rattle.std.proofs.Common.{◌≡◌, ◌+◌, ◌-◌, suc, true, false, not, ap, sym}
+use Rattle.std.proofs.Common.{◌∙◌, inl, inr, rules, arith, option_map, Some}
 use Rattle.std.proofs.lemmas.Bool.{cases_lt}
 use Rattle.ttp_world.proofs.RangeFacts.{none-range}
 use Rattle.ttp_world.specs.Returning.{has_four_before, lacks_four_after}
@@ -39,7 +40,8 @@ returns-then-not-has_four_steady c =
     ∙ sym c.has_four_steady.ensures ∙ search rules in
     let lacks : lacks_four_after list script start slot ≡ true =
     ap (λ n. not (has_four_before list script start n)) next ∙ ap not four in
-    ap Some (c.few_after.ensures (slot + 1) c.see_slot.ensures ∙ in-slot list script start slot (slot + 1) c.requires.enough next)
+    ap Some (c.few_after.ensures (slot + 1) c.see_slot.ensures
+    ∙ in-slot list script start slot (slot + 1) c.requires.enough next)
     ∙ sym (ap (option_map (few_in list script start)) (first-range (lacks_four_after list script start) start.slot
     (script.slots - start.slot) slot (omega arith) (omega arith) c.loop-slot.invariant.enough lacks))
 

@@ -27,7 +27,8 @@ loop-node-preserved c =
         known = subst (λ f. IfSome f (IsFault list script start)) (sym w.newest-is) w.by_jump-fault.ensures.known;
       }
       | else-has w ↦ record {
-        told = ap told_fault w.newest-is ∙ c.loop-node.invariant.told ∙ sym (newest-out before slot jumps node (search rules));
+        told = ap told_fault w.newest-is ∙ c.loop-node.invariant.told
+            ∙ sym (newest-out before slot jumps node (search rules));
         known = subst (λ f. IfSome f (IsFault list script start)) (sym w.newest-is) c.loop-node.invariant.known;
       }
     ]
@@ -38,7 +39,8 @@ returns-clause-told c =
     let script = c.args.script.now in
     let all : c.loop-node.node ≡ length list.slots = omega arith in
     c.loop-node.invariant.told
-    ∙ ap (λ n. newest_fault (told_fault c.args.before) (all_in c.args.slot (filter (has_node c.args.faults.now.jumped) (below n)))) all
+    ∙ ap (λ n. newest_fault (told_fault c.args.before)
+    (all_in c.args.slot (filter (has_node c.args.faults.now.jumped) (below n)))) all
     ∙ ap (λ ks. newest_fault (told_fault c.args.before) (all_in c.args.slot ks))
     (sieved (jumps_now script (faulty_in list script (told_start c.args.start) c.args.slot) c.args.slot)
     (length list.slots) c.args.faults.now.jumped c.requires.faults.jumped)

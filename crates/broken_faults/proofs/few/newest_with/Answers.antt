@@ -28,4 +28,5 @@ returns-in-None-clause-told c =
     c.newest_jump.ensures.told
     ∙ ap (λ js. newest_fault (told_fault c.args.before) (all_in slot js)) c.requires.faults.jumped
     ∙ newest-jumps (told_fault c.args.before) slot (jumpers_in list script faulty slot)
-    (nodes_made (loss_in list script start faulty slot)) (c.in-None.ensures.told ∙ ap (all_in slot) c.requires.faults.made)
+    (nodes_made (loss_in list script start faulty slot))
+    (c.in-None.ensures.told ∙ ap (all_in slot) c.requires.faults.made)

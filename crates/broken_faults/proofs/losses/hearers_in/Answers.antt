@@ -12,7 +12,8 @@ loop-node-preserved c =
     let list = c.args.list.now in
     let script = c.args.script.now in
     let faulty = faulty_in list script (told_start c.args.start) c.args.slot in
-    let is_in : ℕ → Bool = λ r. is_to_hear list script faulty c.args.sender c.args.slot r && not (loses script c.args.sender c.args.slot r) in
+    let is_in : ℕ → Bool = λ r. is_to_hear list script faulty c.args.sender c.args.slot r
+    && not (loses script c.args.sender c.args.slot r) in
     let node = c.loop-node.node in
     let small : node < most_nodes = search rules in
     elim c.if-is_hearer.branch [

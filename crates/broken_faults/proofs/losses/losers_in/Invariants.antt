@@ -9,5 +9,6 @@ use Rattle.broken_faults.proofs.losses.losers_in.Given as goal
 -- those of the nodes so far
 abbrev pub invariant-loop-node : goal.invariant-loop-node
 invariant-loop-node l =
-    l.lost ≡ filter (λ r. is_to_hear l.list l.script (faulty_in l.list l.script (told_start l.start) l.slot) l.sender l.slot r
+    l.lost ≡ filter (λ r. is_to_hear l.list l.script
+    (faulty_in l.list l.script (told_start l.start) l.slot) l.sender l.slot r
     && loses l.script l.sender l.slot r) (below l.node)

@@ -20,7 +20,8 @@ loop-event-preserved c =
       | in-Jump w ↦ ap length w.slots-is ∙ length-set old _ _ ∙ c.loop-event.invariant.room
       | in_default w ↦ ap length w.slots-is ∙ c.loop-event.invariant.room
     ] in
-    let new : (k : ℕ) → get_or c.match-event.slots k None ≡ with_found (jump_slot k c.event-item.result) (get_or old k None) =
+    let new : (k : ℕ) → get_or c.match-event.slots k None
+    ≡ with_found (jump_slot k c.event-item.result) (get_or old k None) =
     λ k. elim c.match-event.branch [
       | in-Jump w ↦
           let small : w.in-Jump.node < most_nodes = search (rules, nodes) in
@@ -30,10 +31,12 @@ loop-event-preserved c =
           ∙ ap (λ e. with_found (jump_slot k e) (get_or old k None)) (sym w.in-Jump.is)
       | in_default w ↦
           ap (λ s. get_or s k None) w.slots-is
-          ∙ ap (λ found. with_found found (get_or old k None)) (sym (no_jump c.event-item.result w.in_default.not-Jump k))
+          ∙ ap (λ found. with_found found (get_or old k None))
+          (sym (no_jump c.event-item.result w.in_default.not-Jump k))
     ] in
     record {
       room = room;
-      left = λ k small. jumps-next k events i c.event-item.result (get_or old k None) (get_or c.match-event.slots k None) _
+      left = λ k small. jumps-next k events i c.event-item.result
+          (get_or old k None) (get_or c.match-event.slots k None) _
           less here (new k) (c.loop-event.invariant.left k small);
     }

@@ -17,7 +17,8 @@ returns-then-says_yes c =
     let answer : c.answer_by-answer.result ≡ test_answer list script =
     c.answer_by-answer.ensures ∙ ap (answer_by list script) c.has_arm-armed.ensures in
     let none : first_named (test_answer list script) ≡ None =
-    ap first_named (sym answer) ∙ not-named (first_named c.answer_by-answer.result) (sym c.says_yes.ensures ∙ search rules) in
+    ap first_named (sym answer)
+    ∙ not-named (first_named c.answer_by-answer.result) (sym c.says_yes.ensures ∙ search rules) in
     let whole : rules_of c.answer_by-answer.result c.broken_conditions-conditions.result c.no_faults.result None
     ≡ defined.broken_rules list script =
     (λ i. rules_of (answer i) (c.broken_conditions-conditions.ensures i) (c.no_faults.ensures i) None)

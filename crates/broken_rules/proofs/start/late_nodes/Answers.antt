@@ -3,7 +3,9 @@ use Rattle.ttp_base.proofs.NodeLists.{with_node-next, filter-next}
 use Rattle.ttp_base.specs.NodeSet.{most_nodes, with_node}
 use Rattle.broken_rules.specs.Start.{is_late}
 use Rattle.broken_rules.proofs.start.late_nodes.Goals as goal
-use Rattle.broken_rules.proofs.start.late_nodes.Goals.{then-is_ever_on+then-not-is_on, else-is_ever_on, else-is_ever_on-via-then-is_ever_on+else-not-is_on, else-is_ever_on-via-else-is_ever_on}
+use Rattle.broken_rules.proofs.start.late_nodes.Goals.{then-is_ever_on+then-not-is_on, else-is_ever_on}
+use Rattle.broken_rules.proofs.start.late_nodes.Goals.{else-is_ever_on-via-then-is_ever_on+else-not-is_on}
+use Rattle.broken_rules.proofs.start.late_nodes.Goals.{else-is_ever_on-via-else-is_ever_on}
 
 pub loop-node-preserved : goal.loop-node-preserved
 loop-node-preserved c =

@@ -11,9 +11,11 @@ use Rattle.broken_rules.proofs.start.why_at.Goals.{in-Some+in_default-first, in_
 pub without-requires : goal.without-requires
 without-requires c =
     let few : length c.args.list.now.slots ≤ most_nodes = search rules in
-    let first : slice_get (filter (starts_in c.args.list.now c.args.script.now c.args.slot) (below (length c.args.list.now.slots))) 0
+    let first : slice_get (filter (starts_in c.args.list.now c.args.script.now c.args.slot)
+    (below (length c.args.list.now.slots))) 0
     ≡ Some c.in-Some.first = search rules in
-    first-small (starts_in c.args.list.now c.args.script.now c.args.slot) (length c.args.list.now.slots) c.in-Some.first few
+    first-small (starts_in c.args.list.now c.args.script.now c.args.slot)
+    (length c.args.list.now.slots) c.in-Some.first few
     first
 
 pub returns-in-Some-first : goal.returns-in-Some-first

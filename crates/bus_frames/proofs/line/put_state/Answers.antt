@@ -15,7 +15,8 @@ returns-then-wide-clause-text c =
 
 pub returns-else-wide-clause-text : goal.returns-else-wide-clause-text
 returns-else-wide-clause-text c =
-    narrow-line c.args.line.now c.put_hex.new.self c.put_hex-2.new.self c.put_hex-3.new.self c.put_hex-else-wide.new.self
+    narrow-line c.args.line.now c.put_hex.new.self c.put_hex-2.new.self
+    c.put_hex-3.new.self c.put_hex-else-wide.new.self
     c.from.result c.from-2.result c.from-3.result c.from-else-wide.result c.args.c.now c.put_hex.ensures c.from.ensures
     c.put_hex-2.ensures c.from-2.ensures c.put_hex-3.ensures c.from-3.ensures
     (c.from-else-wide.ensures ∙ c.bits-else-wide.ensures) c.put_hex-else-wide.ensures

@@ -16,5 +16,6 @@ returns-in-Bits c s clock shows =
     let words = ap (λ b. byte_words (member_bytes b) sending.header sending.size bytes) c.is_wide.ensures in
     c.put_text-in-Bits.ensures
     ∙ ap (λ l. l ++ newline) (c.put_bytes.ensures.text ∙ (λ i. front i ++ words i))
-    ∙ ap (λ (b : List ℕ). signal_line list c.args.slot c.args.channel sending (Bits 0 b)) (sym (ap bytes_of c.in-Bits.is))
+    ∙ ap (λ (b : List ℕ). signal_line list c.args.slot c.args.channel sending (Bits 0 b))
+    (sym (ap bytes_of c.in-Bits.is))
     ∙ came-line list c.args.slot c.args.channel sending c.args.there.now s clock (ap is_bits c.in-Bits.is) shows

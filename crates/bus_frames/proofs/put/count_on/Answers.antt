@@ -37,7 +37,8 @@ loop-node-preserved c =
             counted = λ chosen offsets row before stands.
                 let before_it = c.loop-node.invariant.counted chosen offsets row before stands in
                 let is = sym (c.lies_on.ensures chosen offsets row before stands) ∙ w.if-lies_on.false in
-                let none = ap length (nothing-there c.args.plant.now chosen offsets list script c.args.slot row before stands
+                let none = ap length (nothing-there c.args.plant.now chosen offsets
+                list script c.args.slot row before stands
                 c.requires.list i inside c.args.channel is) in
                 let next = one-more list script row before c.args.channel i in
                 omega (arith, same, before_it, none, next);

@@ -13,7 +13,8 @@ returns-then-is_sending c chosen offsets row before stands =
     let script = c.args.script.now in
     let silenced = c.is_among.ensures ∙ ap (λ i. is_among c.args.channel i.send_silence) c.incidents.ensures.value
     ∙ is_among-where (λ ch. has_send_fault script fault.Silence c.args.node ch c.args.slot) c.args.channel in
-    let sent = ap is_sending (sym (entry-is c.args.plant.now chosen offsets c.args.list.now script c.args.slot row before stands
+    let sent = ap is_sending
+    (sym (entry-is c.args.plant.now chosen offsets c.args.list.now script c.args.slot row before stands
     c.requires.list c.args.node c.requires.node c.node.result c.node.ensures.shows)) ∙ sym c.is_sending.ensures
     ∙ c.if-is_sending.true in
     ap not silenced

@@ -16,5 +16,6 @@ loop-node-preserved c =
     let early = c.requires.early in
     let close : unsigned_abs c.node.result.offset ≤ 2 ^ 60 = omega (arith, near, early) in
     let same = signed-same c.node.result.offset (omega (arith, close)) in
-    noted-next c.loop-node.offsets c.args.plant.now c.args.list.now c.loop-node.node _ c.node.result _ c.loop-node.invariant
+    noted-next c.loop-node.offsets c.args.plant.now c.args.list.now
+    c.loop-node.node _ c.node.result _ c.loop-node.invariant
     (omega arith) c.from.ensures c.node.ensures.shows same (subst (λ (z : ℤ). unsigned_abs z ≤ 2 ^ 60) (sym same) close)

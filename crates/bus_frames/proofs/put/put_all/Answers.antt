@@ -72,7 +72,8 @@ returns-in_err-put_slot-clause-failed g c =
     rw failed.1 (cut-next c.make.new.self list script whole slot c.loop-slot.rest.now made c.requires.list
     (g.K.Sink.output c.args.out.now) (g.K.Sink.output c.loop-slot.out) (g.K.Sink.output c.put_slot.new.out)
     c.loop-slot.invariant.wrote
-    (c.in_err-put_slot.ensures.failed c.make.new.self.outgoing.chosen.items made.row (world list script (first_numbers script whole slot))
+    (c.in_err-put_slot.ensures.failed c.make.new.self.outgoing.chosen.items made.row
+    (world list script (first_numbers script whole slot))
     (rw (c.plant.ensures, c.deref.ensures.value)
     (slot-stands c.make.new.self list script whole slot c.loop-slot.rest.now made c.requires.list
     c.loop-slot.offsets.items c.loop-slot.invariant.are))))
@@ -94,16 +95,19 @@ loop-slot-preserved g c =
       wrote = wrote-next run list script whole slot rest made c.requires.list
           (g.K.Sink.output c.args.out.now) (g.K.Sink.output c.loop-slot.out) (g.K.Sink.output c.put_slot.new.out)
           c.loop-slot.invariant.wrote
-          (c.in_ok-put_slot.ensures.ok run.outgoing.chosen.items made.row (world list script (first_numbers script whole slot))
+          (c.in_ok-put_slot.ensures.ok run.outgoing.chosen.items made.row
+          (world list script (first_numbers script whole slot))
           (rw (c.plant.ensures, c.deref.ensures.value)
           (slot-stands run list script whole slot rest made c.requires.list
           c.loop-slot.offsets.items c.loop-slot.invariant.are)));
       count = ap length items_is ∙ c.note_offsets.ensures.count ∙ ap length c.deref_mut.ensures.value
           ∙ c.loop-slot.invariant.count;
-      are = subst (λ (xs : List ℤ). AreOffsets xs list script (world list script (first_numbers script whole (slot + 1))))
+      are = subst (λ (xs : List ℤ).
+          AreOffsets xs list script (world list script (first_numbers script whole (slot + 1))))
           (sym items_is)
           (offsets-next run list script whole slot rest made c.requires.list noted
-          (subst (λ (p : PlantView). AreClocksShown noted p) c.plant-in-loop-slot.ensures c.note_offsets.ensures.shown));
+          (subst (λ (p : PlantView). AreClocksShown noted p)
+          c.plant-in-loop-slot.ensures c.note_offsets.ensures.shown));
       near = subst AreNear (sym items_is) c.note_offsets.ensures.near;
     }
 

@@ -19,9 +19,11 @@ put_node-requires-clause-past g c =
       chosen = p.chosen;
       offsets = c.args.offsets.now;
       some = p.some;
-      offset_is = signed-same _ (let close = c.requires.near c.from-k.result (omega (arith, at, inside, many)) in omega (arith, close))
+      offset_is = signed-same _
+          (let close = c.requires.near c.from-k.result (omega (arith, at, inside, many)) in omega (arith, close))
           ∙ ap (λ j. get_or c.args.offsets.now j (pos 0)) at;
-      meets_is = ap (nat_le 2) (c.count_on-meets.ensures p.chosen c.args.offsets.now p.some.row p.some.before p.some.stands);
+      meets_is = ap (nat_le 2)
+          (c.count_on-meets.ensures p.chosen c.args.offsets.now p.some.row p.some.before p.some.stands);
     }
 
 pub loop-node-preserved : goal.loop-node-preserved
@@ -36,7 +38,8 @@ loop-node-preserved g c chosen row before stands =
     WroteLines-below _ _ _ [] (lines_of_node list script row before c.args.channel there) i
     (c.loop-node.invariant chosen row before stands)
     (c.in_ok-put_node.ensures.ok chosen c.args.offsets.now row before stands
-    (signed-same _ (let close = c.requires.near c.from-k.result (omega (arith, at, inside, many)) in omega (arith, close))
+    (signed-same _ (let close =
+    c.requires.near c.from-k.result (omega (arith, at, inside, many)) in omega (arith, close))
     ∙ ap (λ j. get_or c.args.offsets.now j (pos 0)) at)
     (ap (nat_le 2) (c.count_on-meets.ensures chosen c.args.offsets.now row before stands)))
 
@@ -50,12 +53,14 @@ returns-in_err-put_node-clause-failed g c chosen row before stands =
     let inside : i < length list.slots = omega arith in
     let many = c.requires.count in
     let at = c.from-k.ensures in
-    rw failed.1 (subst (λ (ls : Lines). CutShort (g.K.Sink.output c.args.out.now) (g.K.Sink.output c.put_node.new.out) ls)
+    rw failed.1 (subst (λ (ls : Lines).
+    CutShort (g.K.Sink.output c.args.out.now) (g.K.Sink.output c.put_node.new.out) ls)
     (sym (lines-by-nodes list script row before c.args.channel))
     (CutShort-below _ _ _ [] (lines_of_node list script row before c.args.channel there) i (length list.slots) inside
     (c.loop-node.invariant chosen row before stands)
     (c.in_err-put_node.ensures.failed chosen c.args.offsets.now row before stands
-    (signed-same _ (let close = c.requires.near c.from-k.result (omega (arith, at, inside, many)) in omega (arith, close))
+    (signed-same _ (let close =
+    c.requires.near c.from-k.result (omega (arith, at, inside, many)) in omega (arith, close))
     ∙ ap (λ j. get_or c.args.offsets.now j (pos 0)) at)
     (ap (nat_le 2) (c.count_on-meets.ensures chosen c.args.offsets.now row before stands)))))
 

@@ -10,7 +10,9 @@ use Rattle.bus_frames.proofs.put.put_channel.Given as goal
 -- the lines of the nodes so far were written
 abbrev pub invariant-loop-node : goal.invariant-loop-node
 invariant-loop-node g l =
-    (chosen : List Chosen) (row : List Entry) (before : History) → SlotStands l.plant chosen l.offsets l.list l.script l.slot row before
+    (chosen : List Chosen) (row : List Entry) (before : History)
+    → SlotStands l.plant chosen l.offsets l.list l.script l.slot row before
     → WroteLines (g.K.Sink.output l.fn.out) (g.K.Sink.output l.out)
-    (lines_below (lines_of_node l.list l.script row before l.channel (frames_there l.list l.script row before l.channel))
+    (lines_below (lines_of_node l.list l.script row before l.channel
+    (frames_there l.list l.script row before l.channel))
     l.node)

@@ -39,12 +39,15 @@ form_line-requires-clause-long g c few =
     let clock = signed-same c.clock_of.result ahead in
     let lying = sym (c.lies_on.ensures p.chosen p.offsets p.some.row p.some.before p.some.stands)
     ∙ c.if-not-lies_on.false in
-    let told = got c.args.plant.now p.chosen p.offsets c.args.list.now c.args.script.now c.args.slot p.some.row p.some.before
+    let told = got c.args.plant.now p.chosen p.offsets c.args.list.now
+    c.args.script.now c.args.slot p.some.row p.some.before
     p.some.stands c.requires.list c.args.node c.requires.node c.args.channel lying
     c.args.offset _ _ c.incidents-incidents.result c.sending_of.result p.offset_is off
     c.incidents-incidents.ensures.value (clock ∙ c.clock_of.ensures.value)
-    (c.sending_of.ensures.told p.chosen p.offsets c.args.script.now c.args.slot p.some.row p.some.before p.some.stands) in
-    long-alone c.args.plant.now p.chosen p.offsets c.args.list.now c.args.script.now c.args.slot p.some.row p.some.before
+    (c.sending_of.ensures.told p.chosen p.offsets c.args.script.now c.args.slot
+    p.some.row p.some.before p.some.stands) in
+    long-alone c.args.plant.now p.chosen p.offsets c.args.list.now
+    c.args.script.now c.args.slot p.some.row p.some.before
     p.some.stands c.requires.list c.args.node c.requires.node c.args.channel lying c.carried.result c.in-Some.sending
     c.carried.ensures (sym p.meets_is ∙ few) (some_same c.in-Some.sending _ (sym c.in-Some.is ∙ told))
 
@@ -64,7 +67,8 @@ returns-clause-ok g c all offsets row before stands offset meets =
     c.requires.list c.args.node c.requires.node c.args.channel lying c.carried.result c.args.meets c.in-Some.sending
     c.form_line.new.line c.carried.ensures (some_same c.in-Some.sending _ (sym c.in-Some.is ∙ told)) meets
     c.form_line.ensures in
-    subst (λ (ls : Lines). OnOk c.write.result (WroteLines (g.K.Sink.output c.args.out.now) (g.K.Sink.output c.write.new.self) ls))
+    subst (λ (ls : Lines). OnOk c.write.result
+    (WroteLines (g.K.Sink.output c.args.out.now) (g.K.Sink.output c.write.new.self) ls))
     (ap (λ (l : List ℕ). l ∷ []) c.bytes.ensures ∙ sym lines) c.write.ensures.ok
 
 pub returns-clause-failed : goal.returns-clause-failed
@@ -83,5 +87,6 @@ returns-clause-failed g c all offsets row before stands offset meets =
     c.requires.list c.args.node c.requires.node c.args.channel lying c.carried.result c.args.meets c.in-Some.sending
     c.form_line.new.line c.carried.ensures (some_same c.in-Some.sending _ (sym c.in-Some.is ∙ told)) meets
     c.form_line.ensures in
-    subst (λ (ls : Lines). OnErr c.write.result (CutShort (g.K.Sink.output c.args.out.now) (g.K.Sink.output c.write.new.self) ls))
+    subst (λ (ls : Lines). OnErr c.write.result
+    (CutShort (g.K.Sink.output c.args.out.now) (g.K.Sink.output c.write.new.self) ls))
     (ap (λ (l : List ℕ). l ∷ []) c.bytes.ensures ∙ sym lines) c.write.ensures.failed

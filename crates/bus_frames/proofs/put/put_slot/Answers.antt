@@ -26,5 +26,6 @@ returns-clause-failed g c chosen row before stands =
     let list = c.args.list.now in
     let script = c.args.script.now in
     on-err c.put_channel-2.result
-    (CutShort-after _ _ _ (channel_lines list script row before channel.A) (channel_lines list script row before channel.B)
+    (CutShort-after _ _ _ (channel_lines list script row before channel.A)
+    (channel_lines list script row before channel.B)
     (c.in_ok-put_channel.ensures.ok chosen row before stands)) (c.put_channel-2.ensures.failed chosen row before stands)

@@ -22,10 +22,12 @@ use Rattle.bus_frames.proofs.Told.{IsOfPlace, entry-is, place-is, sending-is, st
 use Rattle.bus_frames.proofs.sending.sending_of.Goals as goal
 
 -- what was read is the C-state of a node that has sent
-module _ (plant : PlantView) (list : Medl) (k : ℕ) (p : IsPastSlot plant list) (valid : IsValid list) (node : k < length list.slots)
+module _ (plant : PlantView) (list : Medl) (k : ℕ) (p : IsPastSlot plant list)
+    (valid : IsValid list) (node : k < length list.slots)
     (state : NodeState) (shows : ShowsNode plant k state) (is : is_sending state.entry ≡ true) where
   sent : is_sending (entry_of p.some.row k) ≡ true
-  sent = ap is_sending (sym (entry-is plant p.chosen p.offsets list p.script p.slot p.some.row p.some.before p.some.stands
+  sent = ap is_sending (sym
+      (entry-is plant p.chosen p.offsets list p.script p.slot p.some.row p.some.before p.some.stands
       valid k node state shows)) ∙ is
 
   read : (result : CState) (words : StatusWords) (d : ℕ) → words ≡ (outcome_at plant k).status
@@ -38,7 +40,8 @@ module _ (plant : PlantView) (list : Medl) (k : ℕ) (p : IsPastSlot plant list)
       (ap (λ (s : StatusWords). get_or s.words 2 d) told) reads))
       (place-is plant p.chosen p.offsets list p.script p.slot p.some.row p.some.before p.some.stands valid k node sent)
 
-  state-read : (chosen : List Chosen) (offsets : List ℤ) (script : Script) (slot : ℕ) (row : List Entry) (before : History)
+  state-read : (chosen : List Chosen) (offsets : List ℤ) (script : Script)
+      (slot : ℕ) (row : List Entry) (before : History)
       → SlotStands plant chosen offsets list script slot row before
       → (result : CState) (words : StatusWords) (d : ℕ) → words ≡ (outcome_at plant k).status
       → ((c : CState) → HasByteRoom list c → c.members ≡ state.members
@@ -46,25 +49,29 @@ module _ (plant : PlantView) (list : Medl) (k : ℕ) (p : IsPastSlot plant list)
       → result ≡ (sending_in (slot_after list script before) k).state
   state-read chosen offsets script slot row before stands result words d told reads =
       state-told plant chosen offsets list script slot row before stands valid k node state result
-      (get_or words.words 2 d) d shows (ap is_sending (sym (entry-is plant chosen offsets list script slot row before stands
+      (get_or words.words 2 d) d shows
+      (ap is_sending (sym (entry-is plant chosen offsets list script slot row before stands
       valid k node state shows)) ∙ is)
       (ap (λ (s : StatusWords). get_or s.words 2 d) told) reads
 
 pub sending_by-requires-clause-round : goal.sending_by-requires-clause-round
 sending_by-requires-clause-round c =
-    (read c.args.plant.now c.args.list.now c.args.node c.requires.past c.requires.valid c.requires.node c.node-shown.result
+    (read c.args.plant.now c.args.list.now c.args.node c.requires.past
+    c.requires.valid c.requires.node c.node-shown.result
     c.node-shown.ensures.shows (sym c.is_sending.ensures ∙ c.if-not-is_sending.false) c.state_told-state.result
     c.status.result _ c.status.ensures c.state_told-state.ensures).round
 
 pub sending_by-requires-clause-slot : goal.sending_by-requires-clause-slot
 sending_by-requires-clause-slot c =
-    (read c.args.plant.now c.args.list.now c.args.node c.requires.past c.requires.valid c.requires.node c.node-shown.result
+    (read c.args.plant.now c.args.list.now c.args.node c.requires.past
+    c.requires.valid c.requires.node c.node-shown.result
     c.node-shown.ensures.shows (sym c.is_sending.ensures ∙ c.if-not-is_sending.false) c.state_told-state.result
     c.status.result _ c.status.ensures c.state_told-state.ensures).slot
 
 pub sending_by-requires-clause-room : goal.sending_by-requires-clause-room
 sending_by-requires-clause-room c =
-    (read c.args.plant.now c.args.list.now c.args.node c.requires.past c.requires.valid c.requires.node c.node-shown.result
+    (read c.args.plant.now c.args.list.now c.args.node c.requires.past
+    c.requires.valid c.requires.node c.node-shown.result
     c.node-shown.ensures.shows (sym c.is_sending.ensures ∙ c.if-not-is_sending.false) c.state_told-state.result
     c.status.result _ c.status.ensures c.state_told-state.ensures).has.members
 

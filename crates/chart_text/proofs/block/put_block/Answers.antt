@@ -10,5 +10,9 @@ returns-then-tally-ne0 g c faults is =
     along
     (block-some size c.args.column c.args.slot c.args.node c.args.tally.now these
     (tallied size c.args.tally.now these is) c.if-tally-ne0.true)
-    (puts_one (rw (c.sends_class.ensures.text, c.chart_corner-at.ensures.x, c.chart_corner-at.ensures.y) at c.make_sum.ensures)
+    (puts_one (rw (
+      c.sends_class.ensures.text,
+      c.chart_corner-at.ensures.x,
+      c.chart_corner-at.ensures.y,
+    ) at c.make_sum.ensures)
     c.write.ensures)

@@ -19,7 +19,9 @@ returns-clause-puts g c =
     (along
     (λ i. lines_below (column_lines size shown ((c.new-ahead.ensures ∙ c.faults.ensures) i)) (length shown))
     c.put_columns.ensures.puts))
-    (along (ap (λ (n : ℕ). of_all_slots_lines size n faults) c.requires.shown) (c.put_beside.ensures faults c.requires.tallies)))
+    (along (ap (λ (n : ℕ). of_all_slots_lines size n faults) c.requires.shown)
+    (c.put_beside.ensures faults c.requires.tallies)))
     (along
-    (λ i. test_flag size.nodes ((c.place_in-column.ensures ∙ ap (place_in shown) (c.test_slot.ensures ∙ ap test_slot own)) i)
+    (λ i. test_flag size.nodes
+    ((c.place_in-column.ensures ∙ ap (place_in shown) (c.test_slot.ensures ∙ ap test_slot own)) i)
     (own i)) c.put_flag.ensures)

@@ -18,7 +18,8 @@ returns-clause-ok g c =
 pub returns-clause-left : goal.returns-clause-left
 returns-clause-left g c =
     let shown = ap marked_slots c.deref-2.ensures.value ∙ c.in-Ok-shown_marks.ensures.marks in
-    left-whole c.put_with_room.result _ _ (g.K.Sink.output c.args.out.now) (g.K.Sink.output c.put_with_room.new.out) _ _ shown
+    left-whole c.put_with_room.result _ _ (g.K.Sink.output c.args.out.now)
+    (g.K.Sink.output c.put_with_room.new.out) _ _ shown
     (chart-whole c.args.campaign.now c.args.asked c.size_of_campaign-size.result (marked_slots c.deref-2.result.now)
     c.size_of_campaign-size.ensures.size shown)
     c.put_with_room.ensures.failed

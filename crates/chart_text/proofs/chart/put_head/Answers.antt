@@ -24,7 +24,8 @@ returns-clause-puts g c =
     c.put_front.ensures)
     (puts_first
     (c.make_harm.ensures
-    ∙ (λ i. text_line (class_of (codes "said")) 12 20 (harm_text (t.harmful i) (t.many i) (c.requires.most i) size.nodes)))
+    ∙ (λ i. text_line (class_of (codes "said")) 12 20
+    (harm_text (t.harmful i) (t.many i) (c.requires.most i) size.nodes)))
     c.write.ensures
     (puts_first
     (c.make_shown.ensures ∙ (λ i. text_line [] 12 40 (slots_shown_text size shown (hidden i))))

@@ -14,6 +14,7 @@ returns-in-Ok-clause-marks c =
     let harm =
     c.requires.harm ∙ ap (λ (size : Size). first_told_slot (does_harm size) campaign.faults) c.requires.size in
     let tried =
-    ap marked_slots c.deref_mut.ensures.value ∙ c.in-Ok.ensures.marks ∙ (λ i. tried_slots (slots i) (c.pieces.ensures i)) in
+    ap marked_slots c.deref_mut.ensures.value ∙ c.in-Ok.ensures.marks
+    ∙ (λ i. tried_slots (slots i) (c.pieces.ensures i)) in
     ap marked_slots (written-over new c.in-Ok.marks.items c.in-Ok.marks.len long) ∙ c.keep_shown.ensures
     ∙ (λ i. shown_among (nodes i) (harm i) c.args.asked (tried i))

@@ -9,7 +9,8 @@ loop-fault-preserved c =
     let few = passed-few old c.pass.new.self (drop 1 old) x c.in-Some.ensures.some c.pass.ensures in
     record {
       same =
-          passed-same c.args.slot c.args.ahead.now old c.pass.new.self (drop 1 old) x c.in-Some.ensures.some c.pass.ensures
+          passed-same c.args.slot c.args.ahead.now old c.pass.new.self
+          (drop 1 old) x c.in-Some.ensures.some c.pass.ensures
           (omega arith) c.loop-fault.invariant.same;
       order =
           passed-order_from 0 0 old c.pass.new.self (drop 1 old) x c.in-Some.ensures.some c.pass.ensures

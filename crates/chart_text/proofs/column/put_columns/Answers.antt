@@ -22,12 +22,15 @@ loop-slot-preserved g c =
           let within : t < length c.args.marks.now = omega arith in
           let at : get_or shown n 0 ≡ t =
           ap (λ (k : ℕ). get_or shown k 0) c.loop-slot.invariant.count ∙ marked-at c.args.marks.now t within is in
-          let here : faults_told_in t all ≡ faults_told_in t c.loop-slot.ahead = c.loop-slot.invariant.same t (omega arith) in
-          let these : column_of size n c.loop-slot.before t (faults_told_in t c.loop-slot.ahead) ≡ column_lines size shown all n =
+          let here : faults_told_in t all ≡ faults_told_in t c.loop-slot.ahead =
+          c.loop-slot.invariant.same t (omega arith) in
+          let these : column_of size n c.loop-slot.before t (faults_told_in t c.loop-slot.ahead)
+          ≡ column_lines size shown all n =
           ap (column_of size n c.loop-slot.before t) (sym here)
           ∙ (λ i. column_of size n (c.loop-slot.invariant.before i) (sym at i) (faults_told_in (sym at i) all)) in
           let later = same-then (t + 1) all c.loop-slot.ahead w.put_column.new.ahead
-          (same-later t (t + 1) all c.loop-slot.ahead c.loop-slot.invariant.same (omega arith)) w.put_column.ensures.same in
+          (same-later t (t + 1) all c.loop-slot.ahead c.loop-slot.invariant.same (omega arith))
+          w.put_column.ensures.same in
           record {
             count = w.number-is ∙ count-marked c.args.marks.now t n is c.loop-slot.invariant.count;
             low = omega (arith, w.number-is);
@@ -41,8 +44,7 @@ loop-slot-preserved g c =
             order = ap (in_order_from 0) w.ahead-is ∙ w.put_column.ensures.order;
             few = omega (arith, ap length w.ahead-is, w.put_column.ensures.few);
             short = omega (arith, ap longest_text w.ahead-is, w.put_column.ensures.short);
-            room =
-                ap (λ (b : Roomy). b.room) w.buffer-is ∙ w.put_column.ensures.room ∙ c.loop-slot.invariant.room;
+            room = ap (λ (b : Roomy). b.room) w.buffer-is ∙ w.put_column.ensures.room ∙ c.loop-slot.invariant.room;
           }
       | else-has_mark w ↦
           let none = sym c.has_mark.ensures ∙ w.if-has_mark.false in

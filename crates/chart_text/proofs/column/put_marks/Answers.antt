@@ -16,13 +16,15 @@ loop-fault-preserved g c =
     record {
       puts = λ fails now p.
           c.loop-fault.invariant.puts fails now
-          (left_first (mark_lines c.args.frame.size c.args.column.number) (faults_told_in slot old) (faults_told_in slot new) x _ _ _
+          (left_first (mark_lines c.args.frame.size c.args.column.number)
+          (faults_told_in slot old) (faults_told_in slot new) x _ _ _
           _ _ _ here c.put_fault_mark.ensures.puts p);
       same =
           passed-same (slot + 1) c.args.ahead.now old new (drop 1 old) x is c.pass.ensures (omega arith)
           c.loop-fault.invariant.same;
       order =
-          passed-order_from slot slot old new (drop 1 old) x is c.pass.ensures c.loop-fault.invariant.order (omega arith);
+          passed-order_from slot slot old new (drop 1 old) x is c.pass.ensures
+          c.loop-fault.invariant.order (omega arith);
       few = omega (arith, few.0);
       short = omega (arith, few.1);
       room = c.put_fault_mark.ensures.room ∙ c.loop-fault.invariant.room;

@@ -11,4 +11,5 @@ returns-then-has_number g c =
 
 pub returns-else-has_number : goal.returns-else-has_number
 returns-else-has_number g c =
-    puts_unless (has_number c.args.column.before c.args.column.slot) _ (sym c.has_number.ensures ∙ c.if-has_number.false)
+    puts_unless (has_number c.args.column.before c.args.column.slot) _
+    (sym c.has_number.ensures ∙ c.if-has_number.false)

@@ -39,7 +39,8 @@ loop-fault-preserved c =
           (subst (λ (ys : List FaultTold). AreTallies c.args.size c.loop-fault.tallies ys
           (faults_told_in slot c.args.from.now)) here c.loop-fault.invariant.tallies);
       order =
-          passed-order_from slot slot old new (drop 1 old) x is c.pass.ensures c.loop-fault.invariant.order (omega arith);
+          passed-order_from slot slot old new (drop 1 old) x is c.pass.ensures
+          c.loop-fault.invariant.order (omega arith);
       few = omega (arith, few.0);
     }
 

@@ -1,10 +1,12 @@
-use Rattle.chart_text.proofs.Words.{◌++◌, ◌≡◌, ◌≢◌, ◌∙◌, ℕ, List, Bool, cond, ap, sym, codes, decimal, append_assoc, refl, ne_eqb}
+use Rattle.chart_text.proofs.Words.{◌++◌, ◌≡◌, ◌≢◌, ◌∙◌, ℕ, List, Bool, cond, ap, sym}
+use Rattle.chart_text.proofs.Words.{codes, decimal, append_assoc, refl, ne_eqb}
 use Rattle.chart_text.specs.Worst.{list_title}
 use Rattle.chart_text.proofs.listed.put_list_title.Goals as goal
 
 title-some : (n : ℕ) → n ≢ 0 → list_title n ≡ codes "the worst of " ++ decimal n ++ codes " harmful faults"
 title-some n some =
-    ap (λ (b : Bool). cond b (codes "no fault is harmful") (codes "the worst of " ++ decimal n ++ codes " harmful faults"))
+    ap (λ (b : Bool). cond b (codes "no fault is harmful")
+    (codes "the worst of " ++ decimal n ++ codes " harmful faults"))
     (ne_eqb n 0 some)
 
 title-parts : (o a n b : List ℕ) → o ++ a ++ n ++ b ≡ o ++ (a ++ n ++ b)

@@ -11,4 +11,5 @@ returns-then-hurt-ne0-clause-text c =
     ∙ (λ i. c.put_bytes.ensures.text i ++ c.hurt_word.ensures.value i))
     ∙ ap (λ (t : List ℕ). t ++ codes ")") (append_assoc old (codes " (") word)
     ∙ append_assoc old (codes " (" ++ word) (codes ")")
-    ∙ ap (λ (b : Bool). old ++ cond b [] (codes " (" ++ word ++ codes ")")) (sym (ne_eqb c.args.hurt 0 c.if-hurt-ne0.true))
+    ∙ ap (λ (b : Bool). old ++ cond b [] (codes " (" ++ word ++ codes ")"))
+    (sym (ne_eqb c.args.hurt 0 c.if-hurt-ne0.true))

@@ -16,7 +16,8 @@ loop-t-preserved c =
           ∙ sym (count-next (has_mark c.args.marks.now) t);
       low = omega (arith, c.one_more-number.ensures, one-small is);
       kept =
-          kept-next c.args.marks.now c.loop-t.marks c.args.first c.args.most t c.loop-t.number is c.stays_of.result within
+          kept-next c.args.marks.now c.loop-t.marks c.args.first c.args.most t
+          c.loop-t.number is c.stays_of.result within
           (sym later) c.loop-t.invariant.count c.stays_of.ensures c.loop-t.invariant.kept;
       later = λ s from.
           let other : s ≢ t = omega (arith, from) in

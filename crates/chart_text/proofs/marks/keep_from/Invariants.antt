@@ -7,6 +7,7 @@ invariant-loop-t l =
     record {
       count : l.number ≡ length (filter (has_mark l.fn.marks) (below l.t));
       low : l.number ≤ l.t;
-      kept : filter (has_mark l.marks) (below l.t) ≡ take l.most (drop l.first (filter (has_mark l.fn.marks) (below l.t)));
+      kept : filter (has_mark l.marks) (below l.t)
+          ≡ take l.most (drop l.first (filter (has_mark l.fn.marks) (below l.t)));
       later : (s : ℕ) → l.t ≤ s → has_mark l.marks s ≡ has_mark l.fn.marks s;
     }

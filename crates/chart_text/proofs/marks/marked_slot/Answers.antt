@@ -6,7 +6,8 @@ use Rattle.chart_text.proofs.marks.marked_slot.Goals as goal
 
 pub returns-then-is_it : goal.returns-then-is_it
 returns-then-is_it c =
-    let parts = and_parts c.has_mark-is_marked.result (c.loop-t.passed == c.args.number) (sym c.is_it.ensures ∙ c.if-is_it.true) in
+    let parts = and_parts c.has_mark-is_marked.result (c.loop-t.passed == c.args.number)
+    (sym c.is_it.ensures ∙ c.if-is_it.true) in
     let here = sym c.has_mark-is_marked.ensures ∙ parts.0 in
     sym (ap (λ (n : ℕ). get_or (marked_slots c.args.marks.now) n 0)
     (sym (eqb-true c.loop-t.passed c.args.number parts.1) ∙ c.loop-t.invariant.count)
@@ -15,7 +16,8 @@ returns-then-is_it c =
 pub loop-t-preserved : goal.loop-t-preserved
 loop-t-preserved c =
     let is = ap as_count c.has_mark-is_marked.ensures in
-    let next = low-next c.has_mark-is_marked.result c.loop-t.passed c.args.number (sym c.is_it.ensures ∙ c.if-is_it.false)
+    let next = low-next c.has_mark-is_marked.result c.loop-t.passed c.args.number
+    (sym c.is_it.ensures ∙ c.if-is_it.false)
     c.loop-t.invariant.low in
     record {
       count =

@@ -32,14 +32,16 @@ loop-piece-preserved c =
     record {
       marks = λ t less.
           piece-marked t (has_mark c.loop-piece.marks t) (has_mark c.mark_piece.new.marks t) _ c.loop-piece.left rest
-          c.in-Some.piece c.in-Some.ensures.some (c.mark_piece.ensures t (omega arith)) (c.loop-piece.invariant.marks t less);
+          c.in-Some.piece c.in-Some.ensures.some
+          (c.mark_piece.ensures t (omega arith)) (c.loop-piece.invariant.marks t less);
       kept =
           ap (λ (sum : Counts). counts_together sum (counts_sum (map (λ piece. piece.kept) rest))) c.added.ensures
           ∙ piece-added (λ piece. piece.kept) c.loop-piece.sums.kept
           (counts_sum (map (λ piece. piece.kept) c.args.pieces)) c.loop-piece.left rest c.in-Some.piece
           c.in-Some.ensures.some c.loop-piece.invariant.kept;
       broken =
-          ap (λ (sum : Counts). counts_together sum (counts_sum (map (λ piece. piece.broken) rest))) c.added-in-Some.ensures
+          ap (λ (sum : Counts). counts_together sum
+          (counts_sum (map (λ piece. piece.broken) rest))) c.added-in-Some.ensures
           ∙ piece-added (λ piece. piece.broken) c.loop-piece.sums.broken
           (counts_sum (map (λ piece. piece.broken) c.args.pieces)) c.loop-piece.left rest c.in-Some.piece
           c.in-Some.ensures.some c.loop-piece.invariant.broken;

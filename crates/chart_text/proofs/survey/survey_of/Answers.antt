@@ -94,4 +94,5 @@ returns-clause-tallies c =
 
 pub returns-clause-worst : goal.returns-clause-worst
 returns-clause-worst c =
-    ap (fold (ten_with c.args.size) c.loop-fault.worst) (sym (c.in_default.ensures.none refl)) ∙ c.loop-fault.invariant.worst
+    ap (fold (ten_with c.args.size) c.loop-fault.worst) (sym (c.in_default.ensures.none refl))
+    ∙ c.loop-fault.invariant.worst

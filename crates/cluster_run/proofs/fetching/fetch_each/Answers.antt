@@ -30,7 +30,8 @@ loop-k-preserved g c =
     let seat = slice_get-get_or c.args.seats.now k c.index-seats-k.result
     (omega (arith, c.requires.seats, so.first.count, near)) in
     let plan = plan_there c.args.list.now k c.get.result.now c.get.ensures in
-    both_more c.index-ends-k.result c.fetch_for.new.end c.index-chosen-k.result c.fetch_for.new.chosen so near chosen_near
+    both_more c.index-ends-k.result c.fetch_for.new.end c.index-chosen-k.result
+    c.fetch_for.new.chosen so near chosen_near
     c.index-ends-k.is c.index-chosen-k.is
     (λ s begun.
     rw (plan, ← c.is_loaded-loaded.ensures s k (each-of begun k seat), c.index-ends-k.is, c.index-chosen-k.is)

@@ -8,7 +8,8 @@ first = record { host = 0; source = source.Status }
 
 pub bounds-readers-k : goal.bounds-readers-k
 bounds-readers-k g c =
-    let next : IsNextRead c.args.reads.now c.loop-read.read-index first c.args.readers.now c.loop-read.readers c.from-k.result =
+    let next : IsNextRead c.args.reads.now c.loop-read.read-index first
+    c.args.readers.now c.loop-read.readers c.from-k.result =
     record { near = c.loop-read-test.true; host = c.from-k.ensures; may = c.requires; so = c.loop-read.invariant } in
     within_at next
 
@@ -23,6 +24,7 @@ read_one-requires-after_bounds g c κs within =
 
 pub loop-read-preserved : goal.loop-read-preserved
 loop-read-preserved g c =
-    let next : IsNextRead c.args.reads.now c.loop-read.read-index first c.args.readers.now c.loop-read.readers c.from-k.result =
+    let next : IsNextRead c.args.reads.now c.loop-read.read-index first
+    c.args.readers.now c.loop-read.readers c.from-k.result =
     record { near = c.loop-read-test.true; host = c.from-k.ensures; may = c.requires; so = c.loop-read.invariant } in
     read_next next c.index-readers-k.result c.read_one.new.readers c.read_one.ensures

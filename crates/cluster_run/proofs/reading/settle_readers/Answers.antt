@@ -52,12 +52,14 @@ loop-k-preserved c =
         numbers = read_alike (λ (d : Desk). d.delivered) c.loop-k.desks k desk new c.index-desks-k.is
             (ap (λ (d : Desk). d.delivered) (sym c.index-desks-k.is)) ∙ so.numbers;
         desks_are =
-            changed_more desk new so.desks_are (omega (arith, so.desks_are.count, c.loop-k-test.true)) c.index-desks-k.is
+            changed_more desk new so.desks_are
+            (omega (arith, so.desks_are.count, c.loop-k-test.true)) c.index-desks-k.is
             (rw (own, ← c.index-desks-k.is) at ok.settles);
         readers_are =
             changed_more c.index_mut.result.now c.take-own.new.self so.readers_are near c.index_mut.ensures.value tt;
         queues_are = rw queues
-            (pushed_more (λ i. AreLinesBy i (readers_at c.args.readers.items i)) [] k (map into_iter_items c.loop-k.queues.items)
+            (pushed_more (λ i. AreLinesBy i (readers_at c.args.readers.items i)) [] k
+            (map into_iter_items c.loop-k.queues.items)
             queue so.queues_count so.queues_are (subst (λ o. AreLinesBy k o queue) own ok.lines));
         queues_count = ap length queues ∙ length-append (map into_iter_items c.loop-k.queues.items) (queue ∷ [])
             ∙ (omega (arith, so.queues_count));

@@ -17,7 +17,8 @@ settle_one-requires-clause-fetcher c = λ x is.
     let was : get_or c.args.fetchers.items k None ≡ _ =
     sym (c.index_mut.ensures.value ∙ at_any c.loop-k.fetchers.items k c.index_mut.result.now None near
     ∙ so.taken.rest k (omega arith)) ∙ sym c.take-fetcher.ensures.value ∙ is in
-    let end = c.index_mut-in-loop-k.ensures.value ∙ at_any c.loop-k.ends.items k c.index_mut-in-loop-k.result.now None now
+    let end = c.index_mut-in-loop-k.ensures.value
+    ∙ at_any c.loop-k.ends.items k c.index_mut-in-loop-k.result.now None now
     ∙ so.settled.first.rest k (omega arith) in
     rw (← plan_there c.args.list.now k c.get.result.now c.get.ensures, end)
     (c.requires.fetchers k (omega (arith, so.settled.first.count, now)) x was)
@@ -36,7 +37,8 @@ loop-k-preserved c =
     record {
       taken = changed_more c.index_mut.result.now c.take-fetcher.new.self so.taken near c.index_mut.ensures.value tt;
       settled =
-          both_more c.index_mut-in-loop-k.result.now c.settle_one.new.end c.index-chosen-k.result c.settle_one.new.chosen so.settled
+          both_more c.index_mut-in-loop-k.result.now c.settle_one.new.end
+          c.index-chosen-k.result c.settle_one.new.chosen so.settled
           now chosen_near c.index_mut-in-loop-k.ensures.value c.index-chosen-k.is
           (rw (← fetcher, plan_there c.args.list.now k c.get.result.now c.get.ensures, c.index-chosen-k.is)
           c.settle_one.ensures);

@@ -49,7 +49,8 @@ loop-place-preserved g c =
           (takes_after x.host (filter_map at (take i places)) (host_at old x.host) (length x.payload) may.takes) in
           let one = taken_some at places i place x c.loop-place-test.true here is in
           let ends_are = ap (λ v. v.items) w.ends-is
-          ∙ with_items_is c.loop-place.ends _ (w.write_one.auto.ends ∙ w.as_mut_slice.ensures.len) ∙ w.write_one.ensures.ends in
+          ∙ with_items_is c.loop-place.ends _ (w.write_one.auto.ends ∙ w.as_mut_slice.ensures.len)
+          ∙ w.write_one.ensures.ends in
           let lines_are = ap (λ v. v.items) w.lines-is ∙ w.push_reserved.ensures.items
           ∙ ap (λ l. lines ++ l ∷ []) w.write_one.ensures.line in
           record {

@@ -6,7 +6,8 @@ use Rattle.cluster_run.proofs.slot.end_read.Goals as goal
 
 pub end_and_read-requires-clause-ready : goal.end_and_read-requires-clause-ready
 end_and_read-requires-clause-ready g c κs within =
-    rw (kept_items c.args.nodes.now.desks c.deref_mut.ensures.value c.deref_mut.ensures.len c.lend_readers.ensures.desks)
+    rw (kept_items c.args.nodes.now.desks c.deref_mut.ensures.value
+    c.deref_mut.ensures.len c.lend_readers.ensures.desks)
     (part_ready c.args.at.now c.args.nodes.now c.requires.may)
 
 pub end_and_read-requires-clause-left : goal.end_and_read-requires-clause-left
@@ -42,7 +43,8 @@ returns-clause-ends g c =
     let are = c.requires.may.are in
     let all = c.in_ok-readers.ensures.ended in
     let lent = kept_items nodes.desks c.deref_mut.ensures.value c.deref_mut.ensures.len c.lend_readers.ensures.desks in
-    let settled = with_items_is c.end_and_read.new.nodes.desks _ (c.read_lines.ensures.count ∙ c.deref_mut-2.ensures.len) in
+    let settled = with_items_is c.end_and_read.new.nodes.desks _
+    (c.read_lines.ensures.count ∙ c.deref_mut-2.ensures.len) in
     ends_slot c.args.at.now nodes _ are all.host_ends all.chosen all.ended
     (ap length settled ∙ c.read_lines.ensures.count ∙ ap length c.deref_mut-2.ensures.value
     ∙ same_many _ _ all.ended.rings ∙ ap length lent ∙ are.desks)

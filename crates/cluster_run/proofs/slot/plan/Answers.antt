@@ -38,7 +38,8 @@ returns g c =
     let chosen = with_items_is c.args.nodes.now.chosen _ (c.choose.auto.chosen ∙ c.as_mut_slice-chosen.ensures.len) in
     record {
       are = record {
-        seats_count = ap length seats ∙ c.plan_all.ensures.count ∙ c.begin_all.ensures.count ∙ ap length was ∙ are.seats_count;
+        seats_count = ap length seats ∙ c.plan_all.ensures.count
+            ∙ c.begin_all.ensures.count ∙ ap length was ∙ are.seats_count;
         seats = rw seats c.plan_all.ensures.seats;
         incidents = rw seats c.plan_all.ensures.incidents;
         desks = are.desks;

@@ -21,7 +21,8 @@ returns-clause-steps g c = λ numbers stands.
     } in
     let row = row_taken so in
     let before = world_before so in
-    let there : HaveEndedSlot at.list.now at.script.now row before c.deref.result.now (desk_numbers c.deref-2.result.now) =
+    let there : HaveEndedSlot at.list.now at.script.now row before
+    c.deref.result.now (desk_numbers c.deref-2.result.now) =
     rw (c.deref.ensures.value, c.deref-2.ensures.value) (has_ended so) in
     let lines = rw (ap length c.deref.ensures.value ∙ so.ends.are.seats_count)
     at (c.in_ok-lines.ensures at.list.now at.script.now row before there) in

@@ -9,8 +9,12 @@ begin_one-requires-clause-controller c =
 
 pub loop-j-preserved : goal.loop-j-preserved
 loop-j-preserved c =
-    ArePassed-more c.loop-j.invariant c.index-seats-j.result (omega arith)
-    (c.begin_one.ensures.incidents, c.begin_one.ensures.controller, c.begin_one.ensures.begins, c.begin_one.ensures.payload)
+    ArePassed-more c.loop-j.invariant c.index-seats-j.result (omega arith) (
+      c.begin_one.ensures.incidents,
+      c.begin_one.ensures.controller,
+      c.begin_one.ensures.begins,
+      c.begin_one.ensures.payload,
+    )
 
 pub returns-clause-incidents : goal.returns-clause-incidents
 returns-clause-incidents c = each-new c.loop-j.invariant (omega arith) c.requires.seats (λ j x y of _. of.0)

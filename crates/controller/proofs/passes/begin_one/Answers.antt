@@ -8,7 +8,8 @@ pub returns-clause-controller : goal.returns-clause-controller
 returns-clause-controller c =
     let begun = c.begin.ensures in
     rw c.keep_look_up.ensures
-    (begun-controller c.args.slot c.requires.controller c.incidents_after-seat.ensures.bounds begun.same begun.clock begun.turn)
+    (begun-controller c.args.slot c.requires.controller
+    c.incidents_after-seat.ensures.bounds begun.same begun.clock begun.turn)
 
 pub returns-clause-begins : goal.returns-clause-begins
 returns-clause-begins c history long stands =

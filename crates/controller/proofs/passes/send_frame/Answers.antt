@@ -8,7 +8,8 @@ returns-in-Some c =
     let script = c.args.script.now in
     let k = c.args.k in
     let of = c.in-Some.ensures in
-    let clock = to_z-of_z w64 c.clock.result (record { sfits = c.clock.type_inv }) ∙ c.clock.ensures ∙ of.planned.clock in
+    let clock = to_z-of_z w64 c.clock.result (record { sfits = c.clock.type_inv })
+    ∙ c.clock.ensures ∙ of.planned.clock in
     record {
       planned = of.planned;
       plans = λ history begun. (of.plans list script history k c.requires.node begun).0;

@@ -11,7 +11,8 @@ loop-k-preserved c =
     let invariant = c.loop-k.invariant in
     rw c.in_ok-push.ensures.ok (record {
       count = length_push c.loop-k.seats _ ∙ ap (λ n. n + 1) invariant.count;
-      seats = each-push _ _ invariant.seats (first-controller new.list (omega (arith, new.node, invariant.count)) new.stands);
+      seats = each-push _ _ invariant.seats
+          (first-controller new.list (omega (arith, new.node, invariant.count)) new.stands);
       stand = each-push _ _ invariant.stand new.stands;
       outcomes = map-append (λ (seat : Seat). seat.outcome) c.loop-k.seats _
           ∙ ap (λ (os : List Outcome). os ++ no_outcome ∷ []) invariant.outcomes

@@ -17,7 +17,8 @@ returns c =
     let s = run_slot c.args.run.now c.args.slot in
     let k = c.args.node in
     let both =
-    with_sources (spoilt_by k s channel.A (heard_in k s channel.A)) (spoilt_by k s channel.B (heard_in k s channel.B)) in
+    with_sources (spoilt_by k s channel.A (heard_in k s channel.A))
+    (spoilt_by k s channel.B (heard_in k s channel.B)) in
     subst (λ (sources : causes.Sources). AddsSources c.args.out.now c.args.out.now sources)
     (ap (λ (b : Bool). if_sent b both) (sym (sym c.has_frames.ensures ∙ c.if-has_frames.false)))
     (adds-none c.args.out.now)
@@ -27,10 +28,12 @@ returns-then-has_frames c =
     let s = run_slot c.args.run.now c.args.slot in
     let k = c.args.node in
     let both =
-    with_sources (spoilt_by k s channel.A (heard_in k s channel.A)) (spoilt_by k s channel.B (heard_in k s channel.B)) in
+    with_sources (spoilt_by k s channel.A (heard_in k s channel.A))
+    (spoilt_by k s channel.B (heard_in k s channel.B)) in
     let sent = sym c.has_frames.ensures ∙ c.if-has_frames.true in
     on-ok c.add_spoilt_on-then-has_frames.result (λ added.
     subst (λ (sources : causes.Sources). AddsSources c.args.out.now c.add_spoilt_on-then-has_frames.new.out sources)
     (ap (λ (b : Bool). if_sent b both) (sym sent))
-    (adds-both c.args.out.now c.add_spoilt_on.new.out c.add_spoilt_on-then-has_frames.new.out _ _ c.in_ok-add_spoilt_on.ensures added))
+    (adds-both c.args.out.now c.add_spoilt_on.new.out c.add_spoilt_on-then-has_frames.new.out
+    _ _ c.in_ok-add_spoilt_on.ensures added))
     c.add_spoilt_on-then-has_frames.ensures

@@ -36,7 +36,8 @@ returns-in-Bits c =
     let numbers = sym (slot_in-number run.list run.script c.args.slot) in
     subst (λ (sources : causes.Sources).
     OnOk c.add_flipping.result (AddsSources c.args.out.now c.add_flipping.new.out sources))
-    ((λ i. only_lines (flipping_lines (scripts i) c.in-Bits.sender c.args.channel (numbers i) (c.size_of.ensures.value i)))
+    ((λ i. only_lines (flipping_lines (scripts i) c.in-Bits.sender c.args.channel
+    (numbers i) (c.size_of.ensures.value i)))
     ∙ ap (λ (h : Signal). spoilt_by c.args.node s c.args.channel h)
     (ap signal_heard (sym c.in-Bits.is) ∙ c.heard_in.ensures.signal))
     c.add_flipping.ensures

@@ -8,5 +8,6 @@ pub returns-clause-signal : goal.returns-clause-signal
 returns-clause-signal c =
     let ch = c.args.channel in
     let flips =
-    c.flips.ensures ch ∙ ap (λ (script : Script). flipped_bits script c.args.sender ch c.args.slot) c.script.ensures.value in
+    c.flips.ensures ch ∙ ap (λ (script : Script). flipped_bits script c.args.sender ch c.args.slot)
+    c.script.ensures.value in
     ap (Bits c.args.sender) (c.flip_frame.ensures ∙ (λ i. flip_bits (c.frame_sent-frame.ensures i) (flips i)))

@@ -19,7 +19,8 @@ returns-then-is_some-clause-value c = λ s same.
     let as_sent : c.in-Bits.is_as_sent ≡ is_as_sent s sender bytes =
     ap is_heard_as_sent (sym c.in-Bits.is) ∙ same ∙ ap (λ (h : Heard). came_as_sent s (signal_heard h)) c.in-Bits.is in
     let reads = ap is_some (c.read_explicit.ensures ∙ ap (joinable c.args.list.now) c.as_slice.ensures) in
-    let joins : is_some (joinable c.args.list.now bytes) ≡ true = sym reads ∙ sym c.is_some.ensures ∙ c.if-is_some.true in
+    let joins : is_some (joinable c.args.list.now bytes) ≡ true =
+    sym reads ∙ sym c.is_some.ensures ∙ c.if-is_some.true in
     (λ i. joined_if (sym joins i) (record { sender = sender; is_as_sent = as_sent i }))
     ∙ ap (λ (h : Heard). frame_to_join c.args.list.now s (signal_heard h)) (sym c.in-Bits.is)
 
@@ -28,7 +29,8 @@ returns-else-is_some-clause-value c = λ s same.
     let sender = c.in-Bits.sender in
     let bytes = c.in-Bits.frame in
     let reads = ap is_some (c.read_explicit.ensures ∙ ap (joinable c.args.list.now) c.as_slice.ensures) in
-    let joins : is_some (joinable c.args.list.now bytes) ≡ false = sym reads ∙ sym c.is_some.ensures ∙ c.if-is_some.false in
+    let joins : is_some (joinable c.args.list.now bytes) ≡ false =
+    sym reads ∙ sym c.is_some.ensures ∙ c.if-is_some.false in
     ap (λ (b : Bool). joined_if b (record { sender = sender; is_as_sent = is_as_sent s sender bytes })) (sym joins)
     ∙ ap (λ (h : Heard). frame_to_join c.args.list.now s (signal_heard h)) (sym c.in-Bits.is)
 

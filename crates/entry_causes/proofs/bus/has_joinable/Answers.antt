@@ -14,7 +14,8 @@ loop-node-preserved c =
 pub returns-then-sends_joinable : goal.returns-then-sends_joinable
 returns-then-sends_joinable c =
     let run = c.args.run.now in
-    let less : c.loop-node.node < length run.list.slots = omega (arith, c.loop-node-test.true, c.nodes-node-end.ensures) in
+    let less : c.loop-node.node < length run.list.slots =
+    omega (arith, c.loop-node-test.true, c.nodes-node-end.ensures) in
     sym (any-below (sends_joinable (run_slot run c.args.slot)) (length run.list.slots) c.loop-node.node less
     (sym c.sends_joinable.ensures ∙ c.if-sends_joinable.true))
     ∙ has_joinable-slot_in run.list run.script c.args.slot
@@ -24,5 +25,6 @@ returns c =
     let run = c.args.run.now in
     let all : c.loop-node.node ≡ length run.list.slots =
     omega (arith, c.loop-node-test.false, c.loop-node.auto.node-end, c.nodes-node-end.ensures) in
-    sym (sym (ap (λ (n : ℕ). list_any (sends_joinable (run_slot run c.args.slot)) (below n)) all) ∙ c.loop-node.invariant)
+    sym (sym (ap (λ (n : ℕ). list_any (sends_joinable (run_slot run c.args.slot)) (below n)) all)
+    ∙ c.loop-node.invariant)
     ∙ has_joinable-slot_in run.list run.script c.args.slot

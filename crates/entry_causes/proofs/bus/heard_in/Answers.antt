@@ -78,7 +78,8 @@ returns-in-Some-clause-signal c = heard ((goal.at.returns-in-Some-clause-signal 
 
 pub returns-in-Some-clause-as_sent : goal.returns-in-Some-clause-as_sent
 returns-in-Some-clause-as_sent c =
-    c.heard_of.ensures.as_sent ∙ ap (came_as_sent (run_slot c.args.run.now c.args.slot)) (heard ((goal.at.returns-in-Some-clause-as_sent c).After-heard_of))
+    c.heard_of.ensures.as_sent ∙ ap (came_as_sent (run_slot c.args.run.now c.args.slot))
+    (heard ((goal.at.returns-in-Some-clause-as_sent c).After-heard_of))
 
 pub returns-in-Some-clause-sender : goal.returns-in-Some-clause-sender
 returns-in-Some-clause-sender c =

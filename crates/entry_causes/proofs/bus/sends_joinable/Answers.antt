@@ -32,4 +32,5 @@ returns-else-is_sending c =
     let k = c.args.node in
     c.if-is_sending.false
     ∙ ap (λ (b : Bool). b && is_some (joinable s.begun.list (bytes_sent s.frames k)))
-    (sym (ap (λ (r : NodeRow). is_sending r.entry) (sym c.row.ensures) ∙ sym c.is_sending.ensures ∙ c.if-is_sending.false))
+    (sym (ap (λ (r : NodeRow). is_sending r.entry) (sym c.row.ensures)
+    ∙ sym c.is_sending.ensures ∙ c.if-is_sending.false))

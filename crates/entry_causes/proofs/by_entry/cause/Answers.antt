@@ -16,7 +16,8 @@ use Rattle.ttp_world.specs.declared.script.Script.{Script}
 use Rattle.entry_causes.proofs.by_entry.cause.Goals as goal
 
 -- by what the row of the slot says
-by-row : (list : Medl) (script : Script) (slot k : ℕ) (row : NodeRow) (e : Entry) → row ≡ node_row k (slot_in list script slot)
+by-row : (list : Medl) (script : Script) (slot k : ℕ) (row : NodeRow) (e : Entry)
+    → row ≡ node_row k (slot_in list script slot)
     → row.entry ≡ e
     → newest_cause k (past_slots_in list script (slot + 1))
     ≡ entry_cause k (slot_in list script slot) (past_slots_in list script slot) e
@@ -29,43 +30,50 @@ pub returns-in-Waited : goal.returns-in-Waited
 returns-in-Waited c =
     let run = c.args.run.now in
     subst (λ (told : Cause). IfOk c.wait_cause.result (λ cause. cause ≡ told))
-    (sym (by-row run.list run.script c.args.slot c.args.node c.row.result.now _ c.row.ensures c.in-Waited.is)) c.wait_cause.ensures
+    (sym (by-row run.list run.script c.args.slot c.args.node c.row.result.now _ c.row.ensures c.in-Waited.is))
+    c.wait_cause.ensures
 
 pub returns-in-Retried : goal.returns-in-Retried
 returns-in-Retried c =
     let run = c.args.run.now in
     subst (λ (told : Cause). IfOk c.retry_cause.result (λ cause. cause ≡ told))
-    (sym (by-row run.list run.script c.args.slot c.args.node c.row.result.now _ c.row.ensures c.in-Retried.is)) c.retry_cause.ensures
+    (sym (by-row run.list run.script c.args.slot c.args.node c.row.result.now _ c.row.ensures c.in-Retried.is))
+    c.retry_cause.ensures
 
 pub returns-in-Gone : goal.returns-in-Gone
 returns-in-Gone c =
     let run = c.args.run.now in
     subst (λ (told : Cause). IfOk c.gone_cause.result (λ cause. cause ≡ told))
-    (sym (by-row run.list run.script c.args.slot c.args.node c.row.result.now _ c.row.ensures c.in-Gone.is)) c.gone_cause.ensures
+    (sym (by-row run.list run.script c.args.slot c.args.node c.row.result.now _ c.row.ensures c.in-Gone.is))
+    c.gone_cause.ensures
 
 pub returns-in-Started : goal.returns-in-Started
 returns-in-Started c =
     let run = c.args.run.now in
     subst (λ (told : Cause). IfOk c.start_cause.result (λ cause. cause ≡ told))
-    (sym (by-row run.list run.script c.args.slot c.args.node c.row.result.now _ c.row.ensures c.in-Started.is)) c.start_cause.ensures
+    (sym (by-row run.list run.script c.args.slot c.args.node c.row.result.now _ c.row.ensures c.in-Started.is))
+    c.start_cause.ensures
 
 pub returns-in-Joined : goal.returns-in-Joined
 returns-in-Joined c =
     let run = c.args.run.now in
     subst (λ (told : Cause). IfOk c.join_cause.result (λ cause. cause ≡ told))
-    (sym (by-row run.list run.script c.args.slot c.args.node c.row.result.now _ c.row.ensures c.in-Joined.is)) c.join_cause.ensures
+    (sym (by-row run.list run.script c.args.slot c.args.node c.row.result.now _ c.row.ensures c.in-Joined.is))
+    c.join_cause.ensures
 
 pub returns-in-Judged : goal.returns-in-Judged
 returns-in-Judged c =
     let run = c.args.run.now in
     subst (λ (told : Cause). IfOk c.judged_cause.result (λ cause. cause ≡ told))
-    (sym (by-row run.list run.script c.args.slot c.args.node c.row.result.now _ c.row.ensures c.in-Judged.is)) c.judged_cause.ensures
+    (sym (by-row run.list run.script c.args.slot c.args.node c.row.result.now _ c.row.ensures c.in-Judged.is))
+    c.judged_cause.ensures
 
 pub returns-in-Left : goal.returns-in-Left
 returns-in-Left c =
     let run = c.args.run.now in
     subst (λ (told : Cause). IfOk c.left_cause.result (λ cause. cause ≡ told))
-    (sym (by-row run.list run.script c.args.slot c.args.node c.row.result.now _ c.row.ensures c.in-Left.is)) c.left_cause.ensures
+    (sym (by-row run.list run.script c.args.slot c.args.node c.row.result.now _ c.row.ensures c.in-Left.is))
+    c.left_cause.ensures
 
 pub returns-in-Off : goal.returns-in-Off
 returns-in-Off c =
@@ -73,7 +81,8 @@ returns-in-Off c =
     subst (λ (told : Cause). IfOk c.off_cause.result (λ cause. cause ≡ told))
     (ap (λ (script : Script). listening.off_cause c.args.node (on_slot script c.args.node))
     (sym (slot_in-script run.list run.script c.args.slot))
-    ∙ sym (by-row run.list run.script c.args.slot c.args.node c.row.result.now _ c.row.ensures c.in-Off.is)) c.off_cause.ensures
+    ∙ sym (by-row run.list run.script c.args.slot c.args.node c.row.result.now _ c.row.ensures c.in-Off.is))
+    c.off_cause.ensures
 
 pub returns-in-Sent : goal.returns-in-Sent
 returns-in-Sent c =

@@ -9,19 +9,22 @@ pub returns-in-Denied : goal.returns-in-Denied
 returns-in-Denied c =
     let run = c.args.run.now in
     subst (λ (why : Reason).
-    IfOk c.denied_cause.result (λ cause. cause ≡ left_cause c.args.node (run_slot run c.args.slot) (past_slots run c.args.slot) why))
+    IfOk c.denied_cause.result
+    (λ cause. cause ≡ left_cause c.args.node (run_slot run c.args.slot) (past_slots run c.args.slot) why))
     (sym c.in-Denied.is) c.denied_cause.ensures
 
 pub returns-in-Unacknowledged : goal.returns-in-Unacknowledged
 returns-in-Unacknowledged c =
     let run = c.args.run.now in
     subst (λ (why : Reason).
-    IfOk c.unacknowledged_cause.result (λ cause. cause ≡ left_cause c.args.node (run_slot run c.args.slot) (past_slots run c.args.slot) why))
+    IfOk c.unacknowledged_cause.result
+    (λ cause. cause ≡ left_cause c.args.node (run_slot run c.args.slot) (past_slots run c.args.slot) why))
     (sym c.in-Unacknowledged.is) c.unacknowledged_cause.ensures
 
 pub returns-in-Clique : goal.returns-in-Clique
 returns-in-Clique c =
     let run = c.args.run.now in
     subst (λ (why : Reason).
-    IfOk c.clique_cause.result (λ cause. cause ≡ left_cause c.args.node (run_slot run c.args.slot) (past_slots run c.args.slot) why))
+    IfOk c.clique_cause.result
+    (λ cause. cause ≡ left_cause c.args.node (run_slot run c.args.slot) (past_slots run c.args.slot) why))
     (sym c.in-Clique.is) c.clique_cause.ensures

@@ -16,7 +16,8 @@ pub returns-then-sender-node-clause-entries : goal.returns-then-sender-node-clau
 returns-then-sender-node-clause-entries c =
     let run = c.args.run.now in
     subst (λ (noted : List NotedClock).
-    OnOk c.add_two_noted.result (AddsSources c.args.out.now c.add_two_noted.new.out (only_entries (entries_noted noted))))
+    OnOk c.add_two_noted.result
+    (AddsSources c.args.out.now c.add_two_noted.new.out (only_entries (entries_noted noted))))
     (ap (noted_if c.args.sender c.args.node (run_slot run c.args.slot) (past_slots run c.args.slot))
     (sym (lt-ltb c.args.sender c.args.node c.if-sender-node.true)))
     c.add_two_noted.ensures.entries
@@ -33,7 +34,8 @@ pub returns-else-sender-node-clause-entries : goal.returns-else-sender-node-clau
 returns-else-sender-node-clause-entries c =
     let run = c.args.run.now in
     subst (λ (noted : List NotedClock).
-    OnOk c.add_two_noted-else-sender-node.result (AddsSources c.args.out.now c.add_two_noted-else-sender-node.new.out (only_entries (entries_noted noted))))
+    OnOk c.add_two_noted-else-sender-node.result
+    (AddsSources c.args.out.now c.add_two_noted-else-sender-node.new.out (only_entries (entries_noted noted))))
     (ap (noted_if c.args.sender c.args.node (run_slot run c.args.slot) (past_slots run c.args.slot))
     (sym (le-ltb c.args.sender c.args.node c.if-sender-node.false)))
     c.add_two_noted-else-sender-node.ensures.entries
@@ -41,7 +43,8 @@ returns-else-sender-node-clause-entries c =
 pub returns-else-sender-node-clause-notes : goal.returns-else-sender-node-clause-notes
 returns-else-sender-node-clause-notes c =
     let run = c.args.run.now in
-    subst (λ (noted : List NotedClock). IfOk c.add_two_noted-else-sender-node.result (λ notes. notes ≡ notes_noted noted))
+    subst (λ (noted : List NotedClock).
+    IfOk c.add_two_noted-else-sender-node.result (λ notes. notes ≡ notes_noted noted))
     (ap (noted_if c.args.sender c.args.node (run_slot run c.args.slot) (past_slots run c.args.slot))
     (sym (le-ltb c.args.sender c.args.node c.if-sender-node.false)))
     c.add_two_noted-else-sender-node.ensures.notes

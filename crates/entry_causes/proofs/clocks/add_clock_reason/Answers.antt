@@ -1,4 +1,5 @@
-use Rattle.std.proofs.Common.{◌≡◌, ℕ, ◌-◌, ◌++◌, [], ◌∷◌, Bool, cond, not, List, length, length-append, refl, ap, subst, sym, ◌∙◌, arith, rules, w64, FitsSigned}
+use Rattle.std.proofs.Common.{◌≡◌, ℕ, ◌-◌, ◌++◌, [], ◌∷◌, Bool, cond, not, List, length, length-append}
+use Rattle.std.proofs.Common.{refl, ap, subst, sym, ◌∙◌, arith, rules, w64, FitsSigned}
 use Rattle.std.proofs.lemmas.Bool.{ne_eqb}
 use Rattle.std.proofs.lemmas.Int.{to_z-of_z}
 use Rattle.std.proofs.lemmas.List.{append-nil}
@@ -15,7 +16,8 @@ use Rattle.run_rows.specs.Rows.{past_slots, run_slot}
 use Rattle.entry_causes.proofs.clocks.add_clock_reason.Goals as goal
 
 -- what is said where there is no jump
-noted-by : {X : Type 0} (f : List NotedClock → List X) (p k : ℕ) (s : RunSlot) (before : RunSlots) (jumps : List ScriptLine)
+noted-by : {X : Type 0} (f : List NotedClock → List X) (p k : ℕ) (s : RunSlot)
+    (before : RunSlots) (jumps : List ScriptLine)
     → f [] ≡ []
     → cond (not (length jumps == 0)) [] (f (both_noted p k s before)) ≡ f (noted_clocks p k s before jumps)
 noted-by f p k s before [] none = refl
@@ -56,7 +58,8 @@ returns c =
     (adds-both c.add_jumps.new.out c.add_out_of_bounds.new.out c.add_notes.new.out _ _ c.in_ok-add_out_of_bounds.ensures
     c.in_ok-notes.ensures.entries) in (
       λ i. miss.Clock (deviation i) (notes i),
-      subst (λ (spots : List Spot). AddsSources c.args.out.now c.add_notes.new.out (record { lines = jumps ++ lines; entries = spots }))
+      subst (λ (spots : List Spot).
+          AddsSources c.args.out.now c.add_notes.new.out (record { lines = jumps ++ lines; entries = spots }))
           entries
           (subst (λ (more : List ScriptLine). AddsSources c.args.out.now c.add_notes.new.out (record {
             lines = jumps ++ more;

@@ -22,7 +22,8 @@ pub returns-then-joins : goal.returns-then-joins
 returns-then-joins c =
     let run = c.args.run.now in
     let behind = c.back_to-behind.result in
-    let caused = has_sources (sources_of (join_cause c.args.node (run_slot run (behind - 1)) (past_slots run (behind - 1)))) in
+    let caused = has_sources
+    (sources_of (join_cause c.args.node (run_slot run (behind - 1)) (past_slots run (behind - 1)))) in
     c.caused_at.ensures
     ∙ at_if (has_sources (sources_of c.in_ok-cause.cause)) (behind - 1)
     ∙ ap (λ (cause : Cause). if_at (has_sources (sources_of cause)) (behind - 1)) c.in_ok-cause.ensures
@@ -35,7 +36,8 @@ pub returns : goal.returns
 returns c =
     let run = c.args.run.now in
     let behind = c.back_to-behind.result in
-    let caused = has_sources (sources_of (join_cause c.args.node (run_slot run (behind - 1)) (past_slots run (behind - 1)))) in
+    let caused = has_sources
+    (sources_of (join_cause c.args.node (run_slot run (behind - 1)) (past_slots run (behind - 1)))) in
     sym (ap (stint_join c.args.node) c.back_to-behind.ensures.is
     ∙ stint_join-by run.list run.script c.args.node behind c.joins.result caused (omega (arith, c.if-behind-eq0.false))
     c.joins.ensures refl

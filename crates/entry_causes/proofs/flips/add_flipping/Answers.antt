@@ -16,7 +16,8 @@ use Rattle.ttp_world.specs.declared.script.Channel.{Channel}
 use Rattle.entry_causes.proofs.flips.add_flipping.Goals as goal
 
 -- the lines with those of one flip more
-more : (f : ℕ → Option ScriptLine) (c : Channel) (flips : List FlippedBit) (size at : ℕ) (o : Option ℕ) (old lines : List ScriptLine)
+more : (f : ℕ → Option ScriptLine) (c : Channel) (flips : List FlippedBit) (size at : ℕ)
+    (o : Option ℕ) (old lines : List ScriptLine)
     → at < length flips
     → option_to_list o ≡ filter (is_turned (bits_on c flips) size) (first_bits c flips at)
     → lines ≡ old ++ filter_map f (filter (is_turned (bits_on c flips) size) (each_first (bits_on c (take at flips))))
@@ -35,12 +36,14 @@ more f c flips size at o old lines within is are =
 pub loop-at-preserved : goal.loop-at-preserved
 loop-at-preserved c =
     let run = c.args.run.now in
-    let f = λ (turned : ℕ). first_line (lines_where (flips_bit c.args.sender c.args.channel c.args.slot turned) run.script) in
+    let f = λ (turned : ℕ). first_line
+    (lines_where (flips_bit c.args.sender c.args.channel c.args.slot turned) run.script) in
     record {
       lines =
           c.in_ok-add_turned.ensures.lines
           ∙ more f c.args.channel c.flips-flips.result.now c.args.size c.loop-at.at c.turned_bit-bit.result
-          c.args.out.now.lines c.loop-at.out.lines c.loop-at-test.true c.turned_bit-bit.ensures c.loop-at.invariant.lines;
+          c.args.out.now.lines c.loop-at.out.lines c.loop-at-test.true
+          c.turned_bit-bit.ensures c.loop-at.invariant.lines;
       entries = c.in_ok-add_turned.ensures.entries ∙ append-nil c.loop-at.out.entries ∙ c.loop-at.invariant.entries;
     }
 
@@ -58,7 +61,8 @@ returns c =
       lines =
           c.loop-at.invariant.lines
           ∙ ap (λ (some : List FlippedBit).
-          c.args.out.now.lines ++ filter_map f (filter (is_turned (bits_on ch flips) c.args.size) (each_first (bits_on ch some))))
+          c.args.out.now.lines ++ filter_map f
+          (filter (is_turned (bits_on ch flips) c.args.size) (each_first (bits_on ch some))))
           (take_all c.loop-at.at flips all)
           ∙ ap (λ (bits : List ℕ).
           c.args.out.now.lines ++ filter_map f (filter (is_turned bits c.args.size) (each_first bits))) bits;

@@ -17,7 +17,8 @@ kept false = refl
 pub loop-flip-preserved : goal.loop-flip-preserved
 loop-flip-preserved c =
     let flips = c.args.flips.now in
-    let rest = count_by (λ other. other == c.args.bit) (bits_on c.args.channel (drop (c.loop-flip.flip-index + 1) flips)) % 2 == 1 in
+    let rest = count_by (λ other. other == c.args.bit)
+    (bits_on c.args.channel (drop (c.loop-flip.flip-index + 1) flips)) % 2 == 1 in
     let next = c.loop-flip.invariant
     ∙ odd-next c.args.channel flips c.loop-flip.flip-index _ c.args.bit c.loop-flip.odd c.is_of_bit.result (omega arith)
     c.is_of_bit.ensures in

@@ -1,4 +1,5 @@
-use Rattle.std.proofs.Common.{◌≡◌, ℕ, ◌<◌, Bool, false, cond, ◌&&◌, not, List, [], ◌∷◌, get_or, length, take, ap, refl, sym, ◌∙◌, subst}
+use Rattle.std.proofs.Common.{◌≡◌, ℕ, ◌<◌, Bool, false, cond, ◌&&◌, not, List, [], ◌∷◌}
+use Rattle.std.proofs.Common.{get_or, length, take, ap, refl, sym, ◌∙◌, subst}
 use Rattle.std.specs.Prelude.{IfSome, Option, filter, slice_get}
 use Rattle.std.proofs.lemmas.Option.{slice_get-get_or}
 use Rattle.causes.specs.LinesOf.{is_turned}
@@ -16,12 +17,14 @@ is_new c flips at flip = is_among c flip.channels && not (has_node (bits_on c (t
 known : (c : Channel) (flips : List FlippedBit) (at : ℕ) (d : FlippedBit) (is : Bool) → at < length flips
     → IfSome (slice_get flips at) (λ flip. is ≡ is_new c flips at flip) → is ≡ is_new c flips at (get_or flips at d)
 known c flips at d is within told =
-    subst (λ (o : Option FlippedBit). IfSome o (λ flip. is ≡ is_new c flips at flip)) (slice_get-get_or flips at d within) told
+    subst (λ (o : Option FlippedBit). IfSome o (λ flip. is ≡ is_new c flips at flip))
+    (slice_get-get_or flips at d within) told
 
 found : (c : Channel) (flips : List FlippedBit) (at size : ℕ) (d : FlippedBit) (first turned : Bool) → at < length flips
     → IfSome (slice_get flips at) (λ flip. first ≡ is_new c flips at flip)
     → turned ≡ is_turned (bits_on c flips) size (get_or flips at d).bit
-    → cond (first && turned) ((get_or flips at d).bit ∷ []) [] ≡ filter (is_turned (bits_on c flips) size) (first_bits c flips at)
+    → cond (first && turned) ((get_or flips at d).bit ∷ []) []
+    ≡ filter (is_turned (bits_on c flips) size) (first_bits c flips at)
 found c flips at size d first turned within told is =
     (λ i. cond (known c flips at d first within told i && is i) ((get_or flips at d).bit ∷ []) [])
     ∙ sym (first-bits c flips at d (is_turned (bits_on c flips) size) within)

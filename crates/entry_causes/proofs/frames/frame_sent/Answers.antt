@@ -45,7 +45,8 @@ own_frame-requires-clause-members c =
     let run = c.args.run.now in
     let past = past_in c.args.node (run_slot run c.args.slot) in
     subst (λ (l : Medl). HaveRoom (is_wide l) c.cstate_in-cstate.result.members) (sym c.list-list.ensures.value)
-    (subst (λ (s : CState). HaveRoom (is_wide run.list) s.members) (sym (own_cstate_is ((goal.at.own_frame-requires-clause-members c).After-cstate_in-cstate)))
+    (subst (λ (s : CState). HaveRoom (is_wide run.list) s.members)
+    (sym (own_cstate_is ((goal.at.own_frame-requires-clause-members c).After-cstate_in-cstate)))
     (with_node-room run.list c.list-list.ensures.valid past.members c.args.node
     (members-in run.list run.script c.args.slot c.args.node c.requires.node) c.requires.node))
 

@@ -1,4 +1,5 @@
-use Rattle.std.proofs.Common.{◌≡◌, ◌<◌, ◌≤◌, ℕ, Bool, true, false, cond, [], take, replicate, length, ap, refl, sym, ◌∙◌, zero-add}
+use Rattle.std.proofs.Common.{◌≡◌, ◌<◌, ◌≤◌, ℕ, Bool, true, false, cond, [], take}
+use Rattle.std.proofs.Common.{replicate, length, ap, refl, sym, ◌∙◌, zero-add}
 use Rattle.std.proofs.lemmas.List.{take-replicate}
 use Rattle.std.proofs.lemmas.List.FromFn.{get_or-map-range_with_len}
 use Rattle.ttp_world.specs.ZerosWorld.{all_zeros, zeros_chosen}
@@ -13,9 +14,11 @@ use Rattle.ttp_world.specs.declared.node.Chosen.{Chosen}
 use Rattle.entry_causes.proofs.frames.own_frame.Goals as goal
 
 zeros-of : (list : Medl) (k : ℕ) → k < length list.slots → chosen_of (all_zeros list) k ≡ zeros_chosen list k
-zeros-of list k node = get_or-map-range_with_len (zeros_chosen list) 0 (length list.slots) k k nothing_chosen node (zero-add k)
+zeros-of list k node = get_or-map-range_with_len (zeros_chosen list) 0
+    (length list.slots) k k nothing_chosen node (zero-add k)
 
-paid-if : (carries : Bool) (size : ℕ) → replicate {A = ℕ} (cond carries size 0) 0 ≡ cond carries (replicate {A = ℕ} size 0) []
+paid-if : (carries : Bool) (size : ℕ) → replicate {A = ℕ} (cond carries size 0) 0
+    ≡ cond carries (replicate {A = ℕ} size 0) []
 paid-if true size = refl
 paid-if false size = refl
 

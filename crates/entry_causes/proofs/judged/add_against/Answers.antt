@@ -35,6 +35,7 @@ returns c =
           (cond c.came_as_sent.result (only_entries (said p k before ∷ [])) (spoilt_in k s))
           (against_sources k s before (heard_in k s ch))
           ((λ i. cond (as_sent i) (only_entries (said (heard i) k before ∷ [])) (spoilt_in k s))
-          ∙ cond-elim (came_as_sent s (heard_in k s ch)) (only_entries (said (sender_heard (heard_in k s ch)) k before ∷ []))
+          ∙ cond-elim (came_as_sent s (heard_in k s ch))
+          (only_entries (said (sender_heard (heard_in k s ch)) k before ∷ []))
           (spoilt_in k s)) c.in_ok-add_said.ensures,
     )

@@ -20,6 +20,7 @@ returns c =
     let all = with_sources (against_sources k s before signal) (only_entries (judged_since_own is_miss k before)) in
     c.cause_by.ensures
     ∙ caused c.none-out.result c.add_judged_since_own.new.out _ all c.none-out.ensures
-    (adds-both c.none-out.result c.add_against.new.out c.add_judged_since_own.new.out (against_sources k s before signal)
+    (adds-both c.none-out.result c.add_against.new.out
+    c.add_judged_since_own.new.out (against_sources k s before signal)
     (only_entries (judged_since_own is_miss k before)) against.1 c.in_ok-add_judged_since_own.ensures)
     ∙ (λ i. cause_by (because.HoldsNot (against.0 i) k) all)

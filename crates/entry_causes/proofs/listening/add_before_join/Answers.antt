@@ -13,7 +13,8 @@ pub returns-then-before-eq0 : goal.returns-then-before-eq0
 returns-then-before-eq0 c =
     let run = c.args.run.now in
     adds-same c.args.out.now c.args.out.now no_sources (sources_before_join c.args.node (past_slots run c.args.before))
-    (sym (before_join-none run.list run.script c.args.before c.args.node c.if-before-eq0.true)) (adds-none c.args.out.now)
+    (sym (before_join-none run.list run.script c.args.before c.args.node c.if-before-eq0.true))
+    (adds-none c.args.out.now)
 
 pub returns-then-is_waited : goal.returns-then-is_waited
 returns-then-is_waited c =

@@ -25,7 +25,8 @@ returns-then-listens_by_entry c =
     let k = c.args.node in
     let listens = listening_sources k (past_slots c.args.run.now c.args.before) in
     adds-same c.args.out.now c.args.out.now no_sources (on_line_unless k listens)
-    (on_line-unless true k listens (sym c.listens_by_entry.ensures ∙ c.if-listens_by_entry.true)) (adds-none c.args.out.now)
+    (on_line-unless true k listens (sym c.listens_by_entry.ensures ∙ c.if-listens_by_entry.true))
+    (adds-none c.args.out.now)
 
 pub returns-else-listens_by_entry : goal.returns-else-listens_by_entry
 returns-else-listens_by_entry c =

@@ -32,7 +32,9 @@ returns c =
       | false ↦ no_sources
     ]) (sym (sym c.has_frames.ensures ∙ c.if-not-has_frames.false)) in
     on-ok c.add_silencing-2.result (λ added.
-    adds-same c.args.out.now c.add_silencing-2.new.out (only_lines (silencing_in k s channel.A ++ silencing_in k s channel.B))
+    adds-same c.args.out.now c.add_silencing-2.new.out
+    (only_lines (silencing_in k s channel.A ++ silencing_in k s channel.B))
     (silenced_in k s) is
-    (adds-both c.args.out.now c.add_silencing.new.out c.add_silencing-2.new.out a b c.in_ok-add_silencing.ensures added))
+    (adds-both c.args.out.now c.add_silencing.new.out c.add_silencing-2.new.out
+    a b c.in_ok-add_silencing.ensures added))
     c.add_silencing-2.ensures

@@ -12,7 +12,8 @@ loop-at-init c =
     record {
       adds =
           but-all c.args.out.now
-          (all_sources (map (silenced_in c.args.node) (take (c.args.before - c.args.from) (past_slots run c.args.before))));
+          (all_sources (map (silenced_in c.args.node)
+          (take (c.args.before - c.args.from) (past_slots run c.args.before))));
       within = omega arith;
     }
 

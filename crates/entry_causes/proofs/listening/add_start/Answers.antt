@@ -1,6 +1,7 @@
 use Rattle.std.proofs.Common.{◌-◌, ◌≡◌, filter, length, map, not, take, ap, sym, ◌∙◌}
 use Rattle.std.specs.List.{flat_map}
-use Rattle.causes.specs.Listening.{hears_nothing, listening_sources, on_line_unless, silent_node, silenced_in, start_cause}
+use Rattle.causes.specs.Listening.{hears_nothing, listening_sources, on_line_unless}
+use Rattle.causes.specs.Listening.{silent_node, silenced_in, start_cause}
 use Rattle.causes.specs.Listening.{wait_sources}
 use Rattle.causes.specs.RunSlots.{RunSlot, RunSlots, past_in}
 use Rattle.causes.specs.Sources.{all_sources, only_entries, sources_of, with_sources}
@@ -26,10 +27,12 @@ returns c =
     let silenced = λ (silent : RunSlots). all_sources (map (silenced_in k) silent) in
     let silent_nodes = λ (list : Medl) (silent : RunSlots).
     only_entries
-    (flat_map (silent_node k s before (filter (λ (u : RunSlot). not (hears_nothing k u)) silent)) (below (length list.slots))) in
+    (flat_map (silent_node k s before (filter (λ (u : RunSlot). not (hears_nothing k u)) silent))
+    (below (length list.slots))) in
     let silent = take (slot - from) before in
     let same : silent ≡ take (past_in k s).limit before =
-    take-limit run.list run.script slot from (past_in k s).limit (c.saturating_sub-from.ensures ∙ ap (λ n. slot - n) c.requires.limit) in
+    take-limit run.list run.script slot from (past_in k s).limit
+    (c.saturating_sub-from.ensures ∙ ap (λ n. slot - n) c.requires.limit) in
     let listed = sym (slot_in-list run.list run.script slot) in
     on-ok c.add_silent_nodes.result (λ added.
     adds-same c.args.out.now c.add_silent_nodes.new.out

@@ -22,5 +22,6 @@ returns c =
     (sym (wait-next run.list run.script slot from k c.listening_from.ensures.within c.listening_from.ensures.value))
     (adds-both c.args.out.now c.add_listening.new.out c.add_kept.new.out listens (with_sources here kept)
     c.in_ok-add_listening.ensures
-    (adds-both c.add_listening.new.out c.add_kept_in.new.out c.add_kept.new.out here kept c.in_ok-add_kept_in.ensures added)))
+    (adds-both c.add_listening.new.out c.add_kept_in.new.out c.add_kept.new.out here
+    kept c.in_ok-add_kept_in.ensures added)))
     c.add_kept.ensures

@@ -9,7 +9,13 @@ use Rattle.entry_causes.proofs.listening.would_send.Goals as goal
 
 pub nonzero_rem-result : goal.nonzero_rem-result
 nonzero_rem-result c =
-    omega (arith, c.list.ensures.valid.count, ap (λ (l : Medl). length l.slots) c.list.ensures.value, c.nodes-nodes.ensures)
+    omega (
+      arith,
+      c.list.ensures.valid.count,
+      ap (λ (l : Medl). length l.slots)
+          c.list.ensures.value,
+      c.nodes-nodes.ensures,
+    )
 
 pub returns-then-left-later : goal.returns-then-left-later
 returns-then-left-later c =
@@ -20,7 +26,8 @@ returns-then-left-later c =
     let comes = ((place_of_node q l).slot + (later.begun.number - l.begun.number)) % length l.begun.list.slots == q in
     sym
     (ap (λ (b : Bool). b && comes)
-    ((λ i. nat_le (slot_in-number run.list run.script c.args.left i) (slot_in-number run.list run.script c.args.later i))
+    ((λ i. nat_le (slot_in-number run.list run.script c.args.left i)
+    (slot_in-number run.list run.script c.args.later i))
     ∙ lt-leb c.args.left c.args.later c.if-left-later.true))
 
 pub returns : goal.returns

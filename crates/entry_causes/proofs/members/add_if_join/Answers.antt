@@ -12,7 +12,8 @@ use Rattle.entry_causes.proofs.members.add_if_join.Goals as goal
 pub returns-then-before-eq0 : goal.returns-then-before-eq0
 returns-then-before-eq0 c =
     let run = c.args.run.now in
-    adds-same c.args.out.now c.args.out.now no_sources (only_entries (if_join (past_slots run c.args.before) c.args.spot))
+    adds-same c.args.out.now c.args.out.now no_sources
+    (only_entries (if_join (past_slots run c.args.before) c.args.spot))
     (ap only_entries (sym (if_join-none run.list run.script c.args.before c.args.spot c.if-before-eq0.true)))
     (adds-none c.args.out.now)
 

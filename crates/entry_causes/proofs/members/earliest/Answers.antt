@@ -42,7 +42,8 @@ loop-member-preserved c =
             ∙ ap (λ (nodes : List ℕ). said_first (map f nodes))
             (sym (node-out h m (sym c.has.ensures ∙ w.if-has.false)));
         holds =
-            subst (λ (o : Option Difference). IfSome o (λ d. d.holds < n)) (sym w.first-is) c.loop-member.invariant.holds;
+            subst (λ (o : Option Difference). IfSome o (λ d. d.holds < n))
+            (sym w.first-is) c.loop-member.invariant.holds;
       }
     ]
 
@@ -50,7 +51,8 @@ pub returns-clause-value : goal.returns-clause-value
 returns-clause-value c =
     let run = c.args.run.now in
     let h = has_node c.args.telling in
-    let f = λ (j : ℕ). difference_of c.args.sender c.args.node (past_slots run c.args.before) (has_node c.args.sent j) j in
+    let f = λ (j : ℕ). difference_of c.args.sender c.args.node
+    (past_slots run c.args.before) (has_node c.args.sent j) j in
     let same = ap (λ (l : Medl). length l.slots) c.list.ensures.value in
     let end : c.loop-member.member ≡ length run.list.slots =
     omega (arith, c.loop-member-test.false, c.loop-member.auto.member-end, c.nodes-member-end.ensures, same) in

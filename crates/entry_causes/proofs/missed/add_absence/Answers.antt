@@ -33,7 +33,8 @@ returns-in-Gone c =
     let here = ap (λ (r : NodeRow). r.entry) (sym c.row.ensures) ∙ c.in-Gone.is in
     let reason = absence_reason p k s before (entry_in_slot p s) in
     let left = c.newest_departure.result in
-    tells-same c.add_absence_since.result c.args.out.now c.add_absence_since.new.out (absence_since left.node left) reason
+    tells-same c.add_absence_since.result c.args.out.now
+    c.add_absence_since.new.out (absence_since left.node left) reason
     (ap (λ (spot : Spot). absence_since spot.node spot) c.newest_departure.ensures
     ∙ ap (absence_reason p k s before) (sym here)) c.add_absence_since.ensures
 
@@ -98,7 +99,8 @@ returns-in-Sent c =
     let before = past_slots run c.args.slot in
     let here = ap (λ (r : NodeRow). r.entry) (sym c.row.ensures) ∙ c.in-Sent.is in
     let reason = absence_reason p k s before (entry_in_slot p s) in
-    tells-same c.add_elsewhere-in-Sent.result c.args.out.now c.add_elsewhere-in-Sent.new.out (elsewhere p k before) reason
+    tells-same c.add_elsewhere-in-Sent.result c.args.out.now
+    c.add_elsewhere-in-Sent.new.out (elsewhere p k before) reason
     (ap (absence_reason p k s before) (sym here)) c.add_elsewhere-in-Sent.ensures
 
 pub returns-in-Joined : goal.returns-in-Joined
@@ -110,7 +112,8 @@ returns-in-Joined c =
     let before = past_slots run c.args.slot in
     let here = ap (λ (r : NodeRow). r.entry) (sym c.row.ensures) ∙ c.in-Joined.is in
     let reason = absence_reason p k s before (entry_in_slot p s) in
-    tells-same c.add_elsewhere-in-Joined.result c.args.out.now c.add_elsewhere-in-Joined.new.out (elsewhere p k before) reason
+    tells-same c.add_elsewhere-in-Joined.result c.args.out.now
+    c.add_elsewhere-in-Joined.new.out (elsewhere p k before) reason
     (ap (absence_reason p k s before) (sym here)) c.add_elsewhere-in-Joined.ensures
 
 pub returns-in-Judged : goal.returns-in-Judged
@@ -122,5 +125,6 @@ returns-in-Judged c =
     let before = past_slots run c.args.slot in
     let here = ap (λ (r : NodeRow). r.entry) (sym c.row.ensures) ∙ c.in-Judged.is in
     let reason = absence_reason p k s before (entry_in_slot p s) in
-    tells-same c.add_elsewhere-in-Judged.result c.args.out.now c.add_elsewhere-in-Judged.new.out (elsewhere p k before) reason
+    tells-same c.add_elsewhere-in-Judged.result c.args.out.now
+    c.add_elsewhere-in-Judged.new.out (elsewhere p k before) reason
     (ap (absence_reason p k s before) (sym here)) c.add_elsewhere-in-Judged.ensures

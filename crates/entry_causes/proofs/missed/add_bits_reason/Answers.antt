@@ -57,7 +57,8 @@ returns c =
     let is : c.in_ok-lines_from.field-0 ≡ lines =
     c.in_ok-lines_from.ensures ∙ (λ i. drop (c.len-from.ensures i) (c.in_ok-add_flipping.ensures.lines i))
     ∙ drop-added c.args.out.now.lines _ ∙ (λ i. flipping_lines (scripts i) p ch (numbers i) (size i)) in
-    reason-same _ c.args.out.now c.add_flipping.new.out (by_lines miss.Flipped lines) (bits_reason k s before ch p signal)
+    reason-same _ c.args.out.now c.add_flipping.new.out
+    (by_lines miss.Flipped lines) (bits_reason k s before ch p signal)
     (ap (λ (b : Bool). bits_if b (frame_reason p k s before) lines) (sym same)) (
       (λ i. miss.Flipped (is i)),
       subst (λ (all : List ScriptLine). AddsSources c.args.out.now c.add_flipping.new.out (only_lines all))

@@ -17,7 +17,8 @@ returns-in-Denied c = λ to.
     let before = past_slots run c.args.slot in
     tells-same c.add_elsewhere.result c.args.out.now c.add_elsewhere.new.out (elsewhere p k before)
     (absence_reason p k s before (entry.Left c.args.reason to))
-    (ap (λ (why : Reason). absence_reason p k s before (entry.Left why to)) (sym c.in-Denied.is)) c.add_elsewhere.ensures
+    (ap (λ (why : Reason). absence_reason p k s before (entry.Left why to))
+    (sym c.in-Denied.is)) c.add_elsewhere.ensures
 
 pub returns-in-Unacknowledged : goal.returns-in-Unacknowledged
 returns-in-Unacknowledged c = λ to.
@@ -26,10 +27,12 @@ returns-in-Unacknowledged c = λ to.
     let k = c.args.node in
     let s = run_slot run c.args.slot in
     let before = past_slots run c.args.slot in
-    tells-same c.add_absence_since.result c.args.out.now c.add_absence_since.new.out (absence_since p (record { slot = c.args.slot; node = p }))
+    tells-same c.add_absence_since.result c.args.out.now c.add_absence_since.new.out
+    (absence_since p (record { slot = c.args.slot; node = p }))
     (absence_reason p k s before (entry.Left c.args.reason to))
     (ap (λ (spot : Spot). absence_since p spot) (sym (spot-in run.list run.script c.args.slot p))
-    ∙ ap (λ (why : Reason). absence_reason p k s before (entry.Left why to)) (sym c.in-Unacknowledged.is)) c.add_absence_since.ensures
+    ∙ ap (λ (why : Reason). absence_reason p k s before (entry.Left why to)) (sym c.in-Unacknowledged.is))
+    c.add_absence_since.ensures
 
 pub returns-in-Clique : goal.returns-in-Clique
 returns-in-Clique c = λ to.
@@ -38,7 +41,9 @@ returns-in-Clique c = λ to.
     let k = c.args.node in
     let s = run_slot run c.args.slot in
     let before = past_slots run c.args.slot in
-    tells-same c.add_absence_since-in-Clique.result c.args.out.now c.add_absence_since-in-Clique.new.out (absence_since p (record { slot = c.args.slot; node = p }))
+    tells-same c.add_absence_since-in-Clique.result c.args.out.now c.add_absence_since-in-Clique.new.out
+    (absence_since p (record { slot = c.args.slot; node = p }))
     (absence_reason p k s before (entry.Left c.args.reason to))
     (ap (λ (spot : Spot). absence_since p spot) (sym (spot-in run.list run.script c.args.slot p))
-    ∙ ap (λ (why : Reason). absence_reason p k s before (entry.Left why to)) (sym c.in-Clique.is)) c.add_absence_since-in-Clique.ensures
+    ∙ ap (λ (why : Reason). absence_reason p k s before (entry.Left why to)) (sym c.in-Clique.is))
+    c.add_absence_since-in-Clique.ensures

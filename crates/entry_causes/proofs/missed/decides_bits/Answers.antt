@@ -12,7 +12,8 @@ returns-then-not-is_seen_as c =
     let as_sent = is_seen_as c.args.verdict (view_of_signal c.args.node s (Bits p (bytes_sent s.frames p))) in
     sym
     (ap (λ (b : Bool). b && as_sent)
-    (ap (is_seen_as c.args.verdict) (sym c.view_of_bytes.ensures) ∙ sym c.is_seen_as.ensures ∙ c.if-not-is_seen_as.true))
+    (ap (is_seen_as c.args.verdict) (sym c.view_of_bytes.ensures)
+    ∙ sym c.is_seen_as.ensures ∙ c.if-not-is_seen_as.true))
 
 pub returns : goal.returns
 returns c =
@@ -22,4 +23,5 @@ returns c =
     c.is_seen_as-2.ensures ∙ ap (is_seen_as c.args.verdict) c.view_of_sent.ensures
     ∙ sym
     (ap (λ (b : Bool). b && as_sent)
-    (ap (is_seen_as c.args.verdict) (sym c.view_of_bytes.ensures) ∙ sym c.is_seen_as.ensures ∙ c.if-not-is_seen_as.false))
+    (ap (is_seen_as c.args.verdict) (sym c.view_of_bytes.ensures)
+    ∙ sym c.is_seen_as.ensures ∙ c.if-not-is_seen_as.false))

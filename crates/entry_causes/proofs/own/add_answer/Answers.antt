@@ -25,5 +25,6 @@ returns-in-None c =
     let k = c.args.node in
     let before = past_slots c.args.run.now c.args.before in
     let shared : Shared = record { peer = k; lacked = c.new.result } in
-    subst (λ (o : Option RunSlot). AnswersBy shared c.args.out.now c.args.out.now (shared_by k before o)) c.in-None.ensures.value
+    subst (λ (o : Option RunSlot).
+    AnswersBy shared c.args.out.now c.args.out.now (shared_by k before o)) c.in-None.ensures.value
     (record { peer = refl; lacked = c.new.ensures; adds = adds-none c.args.out.now })

@@ -22,7 +22,8 @@ returns-then-not-lacks_too-clause-entries c =
     let m = c.args.member in
     adds-same c.args.out.now c.args.out.now no_sources
     (only_entries (map f (cond (has_node c.args.told m && not (has_node c.args.sent m)) (m ∷ []) [])))
-    (ap (λ (b : Bool). only_entries (map f (cond b (m ∷ []) []))) (sym (sym c.lacks_too.ensures ∙ c.if-not-lacks_too.true)))
+    (ap (λ (b : Bool). only_entries (map f (cond b (m ∷ []) [])))
+    (sym (sym c.lacks_too.ensures ∙ c.if-not-lacks_too.true)))
     (adds-none c.args.out.now)
 
 pub returns-clause-lacked : goal.returns-clause-lacked

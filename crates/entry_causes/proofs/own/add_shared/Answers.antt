@@ -11,7 +11,10 @@ returns c =
     subst (λ (shared : own.Shared).
     IfOk c.add_lacked.result (λ lacked. (lacked ≡ shared.lacked)
     × AddsSources c.args.out.now c.add_lacked.new.out (only_entries shared.entries)))
-    (shared-told run.list run.script c.args.before c.args.slot c.args.node c.place_slot-peer.result c.in_ok-lacked.lacked
-    c.with_rejected_peers-told.result c.members_sent-sent.result c.add_lacked.ensures.few (omega (arith, c.requires.slot))
-    c.place_slot-peer.ensures.value c.members_sent-sent.ensures c.in_ok-lacked.ensures c.with_rejected_peers-told.ensures)
+    (shared-told run.list run.script c.args.before c.args.slot c.args.node
+    c.place_slot-peer.result c.in_ok-lacked.lacked
+    c.with_rejected_peers-told.result c.members_sent-sent.result
+    c.add_lacked.ensures.few (omega (arith, c.requires.slot))
+    c.place_slot-peer.ensures.value c.members_sent-sent.ensures
+    c.in_ok-lacked.ensures c.with_rejected_peers-told.ensures)
     c.add_lacked.ensures.told

@@ -26,7 +26,8 @@ returns c =
     (with_sources settled (with_sources quiet shared)) c.in_ok-add_judged_since_own.ensures
     (adds-both c.add_judged_since_own.new.out c.add_settled_doubts.new.out c.add_answer.new.out settled
     (with_sources quiet shared) c.in_ok-add_settled_doubts.ensures
-    (adds-both c.add_settled_doubts.new.out c.add_quiet.new.out c.add_answer.new.out quiet shared c.in_ok-add_quiet.ensures
+    (adds-both c.add_settled_doubts.new.out c.add_quiet.new.out
+    c.add_answer.new.out quiet shared c.in_ok-add_quiet.ensures
     answer.adds)))
     ∙ (λ i. cause_by
     (because.Outvoted (c.row.ensures i).begun.accepted (c.row.ensures i).begun.rejected (c.own_slot.ensures i)

@@ -34,7 +34,8 @@ loop-at-preserved c = λ j few.
     ∙ ap (λ (xs : List ℕ). has_node xs j || has_node c.loop-at.lacked j)
     (told-same g f is_incorrect k s (sym (lacked-at run.list run.script c.args.before at k (omega arith))))
     ∙ ap (λ (b : Bool). has_node (flat_map f (judged_so is_incorrect k (s ∷ []))) j || b) (c.loop-at.invariant j few)
-    ∙ sym (has_node-append (flat_map f (judged_so is_incorrect k (s ∷ []))) (flat_map f (judged_so is_incorrect k rest)) j)
+    ∙ sym (has_node-append (flat_map f (judged_so is_incorrect k (s ∷ [])))
+    (flat_map f (judged_so is_incorrect k rest)) j)
     ∙ ap (λ (xs : List ℕ). has_node xs j)
     (sym
     (ap (λ (slots : RunSlots). flat_map f (judged_so is_incorrect k slots))

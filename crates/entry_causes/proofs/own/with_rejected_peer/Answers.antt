@@ -20,7 +20,8 @@ returns-then-is_judged_so c = λ j few.
     ap (λ (set : List ℕ). has_node set j) c.with.ensures
     ∙ has_node-with c.args.set p j few
     ∙ ap (λ (b : Bool). b || has_node c.args.set j) (sym (has_node-one p j))
-    ∙ ap (λ (q : ℕ). has_node (q ∷ []) j || has_node c.args.set j) (ap (λ (at : CState). at.slot) c.cstate_in.ensures.value)
+    ∙ ap (λ (q : ℕ). has_node (q ∷ []) j || has_node c.args.set j)
+    (ap (λ (at : CState). at.slot) c.cstate_in.ensures.value)
     ∙ ap (λ (slots : RunSlots). has_node (map f slots) j || has_node c.args.set j)
     (sym (judged-is is_rejected k s true judged))
 
@@ -31,5 +32,6 @@ returns-else-is_judged_so c = λ j few.
     let judged =
     ap (λ (r : NodeRow). is_judged_so is_rejected r.entry) (sym c.row.ensures) ∙ sym c.is_judged_so.ensures
     ∙ c.if-is_judged_so.false in
-    ap (λ (slots : RunSlots). has_node (map (λ (s : RunSlot). (place_of_node k s).slot) slots) j || has_node c.args.set j)
+    ap (λ (slots : RunSlots). has_node (map (λ (s : RunSlot). (place_of_node k s).slot) slots) j
+    || has_node c.args.set j)
     (sym (judged-is is_rejected k s false judged))

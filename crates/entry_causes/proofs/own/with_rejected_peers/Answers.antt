@@ -1,4 +1,5 @@
-use Rattle.std.proofs.Common.{◌≡◌, ℕ, ◌-◌, Bool, true, false, ◌||◌, List, [], ◌∷◌, filter, ltb, map, take, refl, ap, sym}
+use Rattle.std.proofs.Common.{◌≡◌, ℕ, ◌-◌, Bool, true, false, ◌||◌, List, []}
+use Rattle.std.proofs.Common.{◌∷◌, filter, ltb, map, take, refl, ap, sym}
 use Rattle.std.proofs.Common.{◌∙◌, arith}
 use Rattle.causes.specs.RunSlots.{RunSlot, RunSlots, entry_in_slot, is_judged_so, is_rejected, judged_so, place_of_node}
 use Rattle.causes.specs.RunSlots.{since_own}
@@ -29,7 +30,8 @@ loop-at-init c =
           or-none (has_node c.args.told j)
           ∙ sym (ap (λ (slots : RunSlots).
           has_node c.args.told j
-          || has_node (map (λ (s : RunSlot). (place_of_node c.args.node s).slot) (judged_so is_rejected c.args.node slots)) j)
+          || has_node (map (λ (s : RunSlot). (place_of_node c.args.node s).slot)
+          (judged_so is_rejected c.args.node slots)) j)
           (take-none run.list run.script from from (omega arith)));
       within = omega arith;
     }

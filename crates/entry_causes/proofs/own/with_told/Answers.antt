@@ -12,10 +12,12 @@ pub returns-then-member-lt24 : goal.returns-then-member-lt24
 returns-then-member-lt24 c = λ j few.
     ap (λ (set : List ℕ). has_node set j) c.with.ensures ∙ has_node-with c.args.set c.args.member j few
     ∙ ap (λ (b : Bool). b || has_node c.args.set j) (sym (has_node-one c.args.member j))
-    ∙ ap (λ (b : Bool). has_node (cond b (c.args.member ∷ []) []) j || has_node c.args.set j) (sym c.if-not-is_told.false)
+    ∙ ap (λ (b : Bool). has_node (cond b (c.args.member ∷ []) []) j || has_node c.args.set j)
+    (sym c.if-not-is_told.false)
 
 pub returns : goal.returns
 returns c = λ j few.
     ap (λ (b : Bool). b || has_node c.args.set j)
     (sym (has_node-other c.args.member j 24 few (omega (arith, c.if-member-lt24.false))))
-    ∙ ap (λ (b : Bool). has_node (cond b (c.args.member ∷ []) []) j || has_node c.args.set j) (sym c.if-not-is_told.false)
+    ∙ ap (λ (b : Bool). has_node (cond b (c.args.member ∷ []) []) j || has_node c.args.set j)
+    (sym c.if-not-is_told.false)

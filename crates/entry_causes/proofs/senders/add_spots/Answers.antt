@@ -26,7 +26,8 @@ loop-node-preserved c =
             ∙ c.loop-node.invariant.lines;
         entries =
             ap (λ (o : Sources). o.entries) w.out-is ∙ w.in_ok-add_entry.ensures.entries
-            ∙ ap (λ (spots : List Spot). spots ++ record { slot = c.args.slot; node = k } ∷ []) c.loop-node.invariant.entries
+            ∙ ap (λ (spots : List Spot). spots ++ record { slot = c.args.slot; node = k } ∷ [])
+            c.loop-node.invariant.entries
             ∙ append_assoc old so_far (record { slot = c.args.slot; node = k } ∷ [])
             ∙ ap (λ (spots : List Spot). old ++ spots)
             (spots-next run.list run.script c.args.slot h k (sym c.has.ensures ∙ w.if-has.true));

@@ -33,11 +33,13 @@ loop-node-preserved c =
 pub loop-node-init : goal.loop-node-init
 loop-node-init c =
     let run = c.args.run.now in
-    c.empty-remaining.ensures ∙ sieve-start (is_left_on c.args.channel (run_slot run c.args.slot)) (length run.list.slots)
+    c.empty-remaining.ensures
+    ∙ sieve-start (is_left_on c.args.channel (run_slot run c.args.slot)) (length run.list.slots)
 
 -- those of all nodes
 gathered : (c : goal.After-loop-node)
-    → c.loop-node.remaining ≡ filter (is_left_on c.args.channel (run_slot c.args.run.now c.args.slot)) (below (length c.args.run.now.list.slots))
+    → c.loop-node.remaining ≡ filter (is_left_on c.args.channel (run_slot c.args.run.now c.args.slot))
+    (below (length c.args.run.now.list.slots))
 gathered c =
     let run = c.args.run.now in
     let same = ap (λ (l : Medl). length l.slots) c.list.ensures.value in
@@ -53,4 +55,5 @@ returns-clause-value c =
 pub returns-clause-nodes : goal.returns-clause-nodes
 returns-clause-nodes c =
     let run = c.args.run.now in
-    subst (AreNodes run.list) (sym (gathered c)) (AreNodes-filter run.list (is_left_on c.args.channel (run_slot run c.args.slot)))
+    subst (AreNodes run.list) (sym (gathered c))
+    (AreNodes-filter run.list (is_left_on c.args.channel (run_slot run c.args.slot)))

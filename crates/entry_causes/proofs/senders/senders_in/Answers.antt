@@ -39,7 +39,8 @@ loop-node-init c =
 
 -- those of all nodes
 gathered : (c : goal.After-loop-node)
-    → c.loop-node.senders ≡ filter (sends_in (run_slot c.args.run.now c.args.slot)) (below (length c.args.run.now.list.slots))
+    → c.loop-node.senders ≡ filter (sends_in (run_slot c.args.run.now c.args.slot))
+    (below (length c.args.run.now.list.slots))
 gathered c =
     let run = c.args.run.now in
     let same = ap (λ (l : Medl). length l.slots) c.list.ensures.value in

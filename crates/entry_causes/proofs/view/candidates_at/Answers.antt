@@ -23,7 +23,8 @@ candidates-requires-clause-doubt c =
     (doubted-less _ (length run.list.slots) 24 (nodes-most run.list c.requires.valid)
     (doubt-in run.list run.script c.args.slot c.args.node c.requires.valid c.requires.node))
 
-rooms : (c : After-candidates) → HaveRooms c.args.run.now.list (record { first = c.candidates.result.0; second = c.candidates.result.1 })
+rooms : (c : After-candidates)
+    → HaveRooms c.args.run.now.list (record { first = c.candidates.result.0; second = c.candidates.result.1 })
 rooms c =
     let run = c.args.run.now in
     let row = c.row.result.now in
@@ -35,12 +36,14 @@ rooms c =
     (members-in run.list run.script c.args.slot c.args.node c.requires.node) in
     subst (λ (some : Candidates). HaveRooms run.list some) (sym c.candidates.ensures)
     (candidates-room run.list row.begun.ack c.args.node c.requires.valid c.requires.node
-    (doubt-of row.begun.ack (length run.list.slots) doubt) row.begun.cstate.members c.args.sender c.requires.sender members)
+    (doubt-of row.begun.ack (length run.list.slots) doubt) row.begun.cstate.members
+    c.args.sender c.requires.sender members)
 
 pub returns-clause-value : goal.returns-clause-value
 returns-clause-value c =
     c.candidates.ensures
-    ∙ (λ i. candidates (c.row.ensures i).begun.ack c.args.node (c.row.ensures i).begun.cstate.members (c.requires.place i))
+    ∙ (λ i. candidates (c.row.ensures i).begun.ack c.args.node
+    (c.row.ensures i).begun.cstate.members (c.requires.place i))
 
 pub returns-clause-first : goal.returns-clause-first
 returns-clause-first c = (rooms ((goal.at.returns-clause-first c).After-candidates)).first

@@ -16,7 +16,8 @@ deviation_of-requires c =
       arith,
       c.clock-from.ensures.near,
       c.clock-own.ensures.near,
-      span-abs (EVENT_LIMIT * ERROR_LIMIT) c.incidents-incidents.result.error c.incidents-incidents.ensures.bounds.error,
+      span-abs (EVENT_LIMIT * ERROR_LIMIT) c.incidents-incidents.result.error
+          c.incidents-incidents.ensures.bounds.error,
     ))
 
 pub returns : goal.returns

@@ -15,5 +15,6 @@ pub returns-clause-formed : goal.returns-clause-formed
 returns-clause-formed c =
     let list = c.args.list.now in
     let place = joined_place c.args.place.now in
-    Invalid-formed c.found.result (is_wide list) c.args.bytes.now (expected_header list place) (expected_length list place)
+    Invalid-formed c.found.result (is_wide list) c.args.bytes.now
+    (expected_header list place) (expected_length list place)
     list.schedule (cstate_at place c.args.members) c.found.ensures

@@ -14,5 +14,8 @@ returns c =
     let lists = c.list.ensures.value ∙ sym (slot_in-list run.list run.script c.args.slot) in
     c.view_of_frame.ensures
     ∙ (λ i. view_within (lists i)
-    (record { place = joined_place (c.cstate_in-place.ensures.value i); candidates = c.candidates_at-first.ensures.value i })
+    (record {
+      place = joined_place (c.cstate_in-place.ensures.value i);
+      candidates = c.candidates_at-first.ensures.value i;
+    })
     c.args.bytes.now)

@@ -8,11 +8,13 @@ use Rattle.entry_causes.proofs.view.view_of.Goals as goal
 
 pub returns-in-Silence : goal.returns-in-Silence
 returns-in-Silence c =
-    ap (λ (h : Heard). view_of_signal c.args.node (run_slot c.args.run.now c.args.slot) (signal_heard h)) (sym c.in-Silence.is)
+    ap (λ (h : Heard). view_of_signal c.args.node
+    (run_slot c.args.run.now c.args.slot) (signal_heard h)) (sym c.in-Silence.is)
 
 pub returns-in-Noise : goal.returns-in-Noise
 returns-in-Noise c =
-    ap (λ (h : Heard). view_of_signal c.args.node (run_slot c.args.run.now c.args.slot) (signal_heard h)) (sym c.in-Noise.is)
+    ap (λ (h : Heard). view_of_signal c.args.node
+    (run_slot c.args.run.now c.args.slot) (signal_heard h)) (sym c.in-Noise.is)
 
 pub view_of_bytes-requires-clause-sender : goal.view_of_bytes-requires-clause-sender
 view_of_bytes-requires-clause-sender c =

@@ -1,4 +1,5 @@
-use Rattle.fault_runs.proofs.Words.{◌≡◌, ◌≤◌, ◌+◌, ℕ, true, ap, sym, subst, ◌∙◌, arith, Script, zeros_world, Cost, summary}
+use Rattle.fault_runs.proofs.Words.{◌≡◌, ◌≤◌, ◌+◌, ℕ, true, ap, sym, subst, ◌∙◌}
+use Rattle.fault_runs.proofs.Words.{arith, Script, zeros_world, Cost, summary}
 use Rattle.fault_runs.proofs.Words.{length}
 use Rattle.std.specs.Prelude.{IfOk}
 use Rattle.campaign.specs.Cost.{cost_of}
@@ -63,7 +64,8 @@ returns-then-did_same-clause-cost c =
     let begins : slot ≤ begins_at event = omega (arith, loss-begins slot event c.requires.loss) in
     let own : c.args.row.now ≡ next_row list script slot =
     c.requires.own.does ∙ zeros-row list script slot script.slots c.requires.own.inside in
-    let now : AreShown list (with_fault script event) (zeros_world list (with_fault script event) (slot + 1)) c.states.result.now =
+    let now : AreShown list (with_fault script event)
+    (zeros_world list (with_fault script event) (slot + 1)) c.states.result.now =
     subst (λ (s : Script). AreShown list s (zeros_world list s (slot + 1)) c.states.result.now) is
     (c.states.ensures more (slot + 1) c.step.ensures.run (omega arith)) in
     let told : cost ≡ cost_of list (with_fault script event) (zeros_world list (with_fault script event) (slot + 1)) =
@@ -71,7 +73,8 @@ returns-then-did_same-clause-cost c =
     ∙ ap (λ (s : Script). cost_of list s (zeros_world list s (slot + 1))) is in
     let may = c.requires.may in
     let whole =
-    merged-cost list script event slot c.args.common.now.settled c.args.row.now c.states.result.now c.args.common.now.end.now cost
+    merged-cost list script event slot c.args.common.now.settled c.args.row.now
+    c.states.result.now c.args.common.now.end.now cost
     c.requires.loss begins c.requires.own.inside c.requires.settled may.settled may.end own now
     (c.did_same.ensures c.if-did_same.true) told
     ∙ ap (λ (s : Script). (summary list s).cost) (sym is) in

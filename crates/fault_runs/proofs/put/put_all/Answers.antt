@@ -41,7 +41,8 @@ loop-tried-preserved g c =
           (c.in_default.ensures.few (most_tried * c.args.slot + i) c.loop-tried.invariant.1),
       subst (λ (lines : Lines). WroteLines (g.K.Sink.output c.args.out.now) (g.K.Sink.output c.put_tried.new.out) lines)
           (sym (map-append (λ (t : Tried). t.line) (take i all) (tried ∷ [])) ∙ ap tried_lines more)
-          (Wrote-join _ _ _ (tried_lines (take i all)) (tried.line ∷ []) c.loop-tried.invariant.2 c.in_default.ensures.ok),
+          (Wrote-join _ _ _ (tried_lines (take i all)) (tried.line ∷ [])
+          c.loop-tried.invariant.2 c.in_default.ensures.ok),
     )
 
 pub returns-in-Err-clause-err : goal.returns-in-Err-clause-err

@@ -1,4 +1,5 @@
-use Rattle.fault_runs.proofs.Words.{◌≡◌, ℕ, ◌≤◌, ◌+◌, arith, length, ap, sym, subst, ◌∙◌, length-map, map, OnOk, IfErr, WroteLines}
+use Rattle.fault_runs.proofs.Words.{◌≡◌, ℕ, ◌≤◌, ◌+◌, arith, length, ap, sym, subst}
+use Rattle.fault_runs.proofs.Words.{◌∙◌, length-map, map, OnOk, IfErr, WroteLines}
 use Rattle.fault_runs.proofs.Words.{Lines, nodes-most, CampaignFault, LeftBy, tried_in, most_tried, tried_of}
 use Rattle.fault_runs.proofs.Ranges.{shown-row, tried-few, tried-stand}
 use Rattle.fault_runs.proofs.Tries.{lines-of}
@@ -21,7 +22,8 @@ try_beside-requires-clause-own g c κs within =
     record {
       inside = c.requires.slot;
       before = c.step.ensures.before;
-      does = c.as_slice-row.ensures ∙ c.in-Ok.ensures ∙ shown-row list script slot c.states.result.now c.requires.slot shown;
+      does = c.as_slice-row.ensures ∙ c.in-Ok.ensures
+          ∙ shown-row list script slot c.states.result.now c.requires.slot shown;
     }
 
 pub try_beside-requires-clause-faults : goal.try_beside-requires-clause-faults

@@ -1,4 +1,5 @@
-use Rattle.fault_runs.proofs.Words.{◌≡◌, ◌<◌, ◌≤◌, ◌+◌, ◌++◌, List, arith, ap, sym, subst, ◌∙◌, append_assoc, map-append, WroteLines}
+use Rattle.fault_runs.proofs.Words.{◌≡◌, ◌<◌, ◌≤◌, ◌+◌, ◌++◌, List, arith, ap, sym, subst}
+use Rattle.fault_runs.proofs.Words.{◌∙◌, append_assoc, map-append, WroteLines}
 use Rattle.fault_runs.proofs.Words.{Lines, LeftBy, Wrote-none, Wrote-join, Event, run_line, fault_lines, tried_in}
 use Rattle.fault_runs.proofs.Words.{tried_before, IsTallyOf}
 use Rattle.ttp_base.proofs.Below.{flat_map-next, flat_map-split}
@@ -62,7 +63,8 @@ returns-clause-told g c =
     let script = c.args.common.now.script.now in
     let past : c.end_of-slot-end.result ≤ c.loop-slot.slot = omega (arith, c.loop-slot-test.false) in
     let same =
-    tried-to list script c.args.first c.args.last c.end_of-slot-end.result c.loop-slot.slot c.end_of-slot-end.ensures past
+    tried-to list script c.args.first c.args.last c.end_of-slot-end.result
+    c.loop-slot.slot c.end_of-slot-end.ensures past
     c.loop-slot.invariant.0.run.within in
     subst (λ (fs : List Event). IsTallyOf list script fs c.loop-slot.tally) same c.loop-slot.invariant.1
 
@@ -72,8 +74,10 @@ returns-clause-ok g c =
     let script = c.args.common.now.script.now in
     let past : c.end_of-slot-end.result ≤ c.loop-slot.slot = omega (arith, c.loop-slot-test.false) in
     let same =
-    tried-to list script c.args.first c.args.last c.end_of-slot-end.result c.loop-slot.slot c.end_of-slot-end.ensures past
+    tried-to list script c.args.first c.args.last c.end_of-slot-end.result
+    c.loop-slot.slot c.end_of-slot-end.ensures past
     c.loop-slot.invariant.0.run.within in
     subst
-    (λ (fs : List Event). WroteLines (g.K.Sink.output c.args.out.now) (g.K.Sink.output c.loop-slot.out) (fault_lines list script fs))
+    (λ (fs : List Event). WroteLines (g.K.Sink.output c.args.out.now)
+    (g.K.Sink.output c.loop-slot.out) (fault_lines list script fs))
     same c.loop-slot.invariant.3

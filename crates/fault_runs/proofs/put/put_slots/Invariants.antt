@@ -6,7 +6,9 @@ use Rattle.fault_runs.proofs.put.put_slots.Given as goal
 abbrev pub invariant-loop-slot : goal.invariant-loop-slot
 invariant-loop-slot g l =
     IsOwnAfter l.own l.common.list.now l.common.script.now l.slot
-    × IsTallyOf l.common.list.now l.common.script.now (tried_before l.common.list.now l.common.script.now l.first l.last l.slot) l.tally
+    × IsTallyOf l.common.list.now l.common.script.now
+    (tried_before l.common.list.now l.common.script.now l.first l.last l.slot) l.tally
     × HasAtMost (most_tried * l.slot) l.tally
     × WroteLines (g.K.Sink.output l.initial.out) (g.K.Sink.output l.out)
-    (fault_lines l.common.list.now l.common.script.now (tried_before l.common.list.now l.common.script.now l.first l.last l.slot))
+    (fault_lines l.common.list.now l.common.script.now
+    (tried_before l.common.list.now l.common.script.now l.first l.last l.slot))

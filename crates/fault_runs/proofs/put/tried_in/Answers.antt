@@ -1,4 +1,5 @@
-use Rattle.fault_runs.proofs.Words.{◌≡◌, length, Bool, cond, List, [], ap, sym, subst, ◌∙◌, Entry, Event, faults_in, row_of}
+use Rattle.fault_runs.proofs.Words.{◌≡◌, length, Bool, cond, List, [], ap, sym, subst}
+use Rattle.fault_runs.proofs.Words.{◌∙◌, Entry, Event, faults_in, row_of}
 use Rattle.fault_runs.proofs.Words.{zeros_world, tried_in}
 use Rattle.std.specs.Prelude.{IfOk}
 use Rattle.fault_runs.proofs.Ranges.{length-next_row, zeros-row}

@@ -10,4 +10,5 @@ pub returns : goal.returns
 returns c =
     let armed : c.args.armed ≡ true = search rules in
     ap not c.may_return.ensures
-    ∙ sym (ap (fails_if_armed c.args.list.now c.args.script.now (told_start c.args.start) c.args.node c.args.slot) armed)
+    ∙ sym (ap (fails_if_armed c.args.list.now c.args.script.now
+    (told_start c.args.start) c.args.node c.args.slot) armed)

@@ -13,7 +13,8 @@ returns-then-is_deaf c = λ faulties same.
     let node = c.loop-node.node in
     let few = nodes-most c.args.list.now c.requires.valid in
     let deaf : is_deaf script c.args.faulty c.args.slot node ≡ true = search rules in
-    sym (one-passes (is_deaf script faulties c.args.slot) 0 (length c.args.list.now.slots) node (omega arith) (omega arith)
+    sym (one-passes (is_deaf script faulties c.args.slot) 0
+    (length c.args.list.now.slots) node (omega arith) (omega arith)
     (sym (deaf-same script c.args.faulty faulties c.args.slot node (omega (arith, few)) same) ∙ deaf))
 
 pub returns : goal.returns

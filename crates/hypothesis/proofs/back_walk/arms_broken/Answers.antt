@@ -13,7 +13,8 @@ pub breaks_arm_in-requires-clause-kept : goal.breaks_arm_in-requires-clause-kept
 breaks_arm_in-requires-clause-kept c = λ t from. c.loop-slot.invariant.arms t (omega (arith, from))
 
 pub back_faults_in-faulty-requires-clause-kept : goal.back_faults_in-faulty-requires-clause-kept
-back_faults_in-faulty-requires-clause-kept c = λ t from. c.loop-slot.invariant.kept t (omega (arith, from, c.loop-slot.invariant.end))
+back_faults_in-faulty-requires-clause-kept c =
+    λ t from. c.loop-slot.invariant.kept t (omega (arith, from, c.loop-slot.invariant.end))
 
 pub late_arms_broken-requires-clause-kept : goal.late_arms_broken-requires-clause-kept
 late_arms_broken-requires-clause-kept c = λ t from. c.loop-slot.invariant.arms t (omega (arith, from))

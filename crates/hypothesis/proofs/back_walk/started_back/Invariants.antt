@@ -6,6 +6,7 @@ abbrev pub invariant-loop-slot : goal.invariant-loop-slot
 invariant-loop-slot l = record {
   end : l.newest.end ≡ l.slot;
   newest : AreNewest l.list l.script (told_start l.start) l.newest;
-  walked : HasWalked l.list l.script (told_start l.start) (back_course l.list l.script (told_start l.start)) l.slot l.walk;
+  walked : HasWalked l.list l.script (told_start l.start)
+      (back_course l.list l.script (told_start l.start)) l.slot l.walk;
   kept : AreKeptFrom l.list l.script l.slot l.kept;
 }

@@ -14,7 +14,8 @@ pub returns-then-not-errors_hold_in : goal.returns-then-not-errors_hold_in
 returns-then-not-errors_hold_in c =
     let fails : ℕ → Bool = λ slot. not (errors_hold_in c.args.list.now c.args.script.now slot) in
     sym (ap (λ b. cond b (find fails (below c.args.script.now.slots)) (Some 0)) c.loop-slot.invariant.drifts
-    ∙ first-below fails c.args.script.now.slots c.loop-slot.slot (omega arith) c.loop-slot.invariant.fine (search rules))
+    ∙ first-below fails c.args.script.now.slots c.loop-slot.slot (omega arith)
+    c.loop-slot.invariant.fine (search rules))
 
 pub returns : goal.returns
 returns c =

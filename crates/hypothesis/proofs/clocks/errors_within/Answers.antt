@@ -34,5 +34,6 @@ returns c =
     ∙ rw (to_z-of_z w64 c.args.bound c.ranges.bound) at (c.loop-node.invariant.within k (omega (arith, less))))) in
     record {
       value = all slot (λ k less. refl);
-      stands = λ t from before. sym (all t (λ k less. c.loop-node.invariant.stands k t (omega (arith, less)) from before));
+      stands = λ t from before.
+          sym (all t (λ k less. c.loop-node.invariant.stands k t (omega (arith, less)) from before));
     }

@@ -63,7 +63,8 @@ loop-node-preserved c =
       least = λ k nothing less. put-more nodes Least node new within
           (λ j other low. omega (arith, least, c.loop-node.invariant.least j other low)) least_new k nothing less;
       kinds = below_more (λ k. IsOfKinds c.kinds_with-kinds.result (incidents_of script k slot)) node
-          (λ k less. c.kinds_with-kinds.ensures.others (incidents_of script k slot) (c.loop-node.invariant.kinds k less))
+          (λ k less. c.kinds_with-kinds.ensures.others
+          (incidents_of script k slot) (c.loop-node.invariant.kinds k less))
           (subst (IsOfKinds c.kinds_with-kinds.result) (sym here) c.kinds_with-kinds.ensures.added);
     }
 

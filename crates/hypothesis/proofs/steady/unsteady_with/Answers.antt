@@ -85,4 +85,5 @@ returns-then-eq c = λ course were are so_far.
     let same : c.args.before ≡ c.args.faulty = search rules in
     nothing c.args.unsteady none
     ∙ sym (unsteady-still list script start course slot c.args.before c.requires.valid were
-    (λ k small. ap (λ nodes. has_node nodes k) same ∙ are k small) c.if-start-slot.true (ap is_some (sym so_far) ∙ none))
+    (λ k small. ap (λ nodes. has_node nodes k) same ∙ are k small)
+    c.if-start-slot.true (ap is_some (sym so_far) ∙ none))

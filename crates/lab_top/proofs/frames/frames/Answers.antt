@@ -10,7 +10,8 @@ pub returns-in-Ok : goal.returns-in-Ok
 returns-in-Ok g c =
     let later = outside (g.L.Library.files c.judge.new.library) (g.K.Sink.output c.judge.new.out) in
     pair_came ttplab c.args.list.now c.args.script.now
-    (λ medl right. trace_plan c.args.trace.now (λ text. ends (frames_ending medl right text))) _ _ c.in-Ok.medl c.in-Ok.right
+    (λ medl right. trace_plan c.args.trace.now (λ text. ends (frames_ending medl right text))) _ _
+    c.in-Ok.medl c.in-Ok.right
     c.in-Ok.ensures.ok later (alone c.judge.result) c.judge.ensures
 
 pub returns-in-Err : goal.returns-in-Err

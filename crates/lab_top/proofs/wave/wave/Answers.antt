@@ -11,10 +11,12 @@ pub returns-in-Ok : goal.returns-in-Ok
 returns-in-Ok g c =
     let later = outside (g.L.Library.files c.load_trace.new.library) (g.K.Sink.output c.show_wave.new.out) in
     let shown = rw c.as_slice.ensures.value at c.show_wave.ensures in
-    bytes_came ttplab (text_file (codes "trace") c.args.trace.now) (λ text. ends (viewed_ending wave_view (viewed wave_view text))) _ _
+    bytes_came ttplab (text_file (codes "trace") c.args.trace.now)
+    (λ text. ends (viewed_ending wave_view (viewed wave_view text))) _ _
     c.in-Ok.text.items c.in-Ok.ensures.ok later (alone c.show_wave.result) (refl, shown)
 
 pub returns-in-Err : goal.returns-in-Err
 returns-in-Err g c =
-    no_bytes ttplab (text_file (codes "trace") c.args.trace.now) (λ text. ends (viewed_ending wave_view (viewed wave_view text))) _ _
+    no_bytes ttplab (text_file (codes "trace") c.args.trace.now)
+    (λ text. ends (viewed_ending wave_view (viewed wave_view text))) _ _
     c.in-Err.status c.in-Err.ensures.err

@@ -8,8 +8,13 @@ use Rattle.line_reader.proofs.read.head_in.Goals as goal
 pub returns : goal.returns
 unfolding head_in
 returns c =
-    let vs : Values head_form =
-    (c.byte-version.result, (c.byte-nodes.result, (c.byte-rounds.result, (c.number-slots.result, (c.hexed-schedule.result, tt))))) in
+    let vs : Values head_form = (
+      c.byte-version.result,
+      (
+        c.byte-nodes.result,
+        (c.byte-rounds.result, (c.number-slots.result, (c.hexed-schedule.result, tt))),
+      ),
+    ) in
     closes_with head_form head_meaning c.args.bytes.now _ vs _ c.close.result c.close.ensures refl
     (subst (λ before. ReadAs head_form before c.hexed-schedule.new.self vs) c.of-line.ensures
     (read_word _ _ _ _ _ _ _ _ c.byte-version.ensures.value c.byte-version.ensures.left

@@ -2,7 +2,8 @@ use Rattle.std.proofs.Common.{List, sym, ◌∙◌, subst}
 use Rattle.medl_text.specs.ListFile.{medl_of}
 use Rattle.list_errors.specs.declared.error.Wrong.{Wrong}
 use Rattle.list_errors.specs.Agrees.{ListAgrees}
-use Rattle.list_errors.proofs.TableAgree.{large_wrongs, large_rounds, large_modes, right_wrongs, right_rounds, right_modes, taken}
+use Rattle.list_errors.proofs.TableAgree.{large_wrongs, large_rounds, large_modes, right_wrongs}
+use Rattle.list_errors.proofs.TableAgree.{right_rounds, right_modes, taken}
 use Rattle.list_errors.proofs.TableAgree.{small_wrongs, small_rounds, small_modes, agrees, told_fault, refused_wrongs}
 use Rattle.list_errors.proofs.read.list_errors.Goals as goal
 

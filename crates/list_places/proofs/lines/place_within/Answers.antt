@@ -13,7 +13,8 @@ returns c =
     let lines : starts ≡ 0 ∷ starts_from 0 text = c.requires.lines in
     let rise : IsNonDecreasingBy (λ s. s) starts = rw lines (lines_rise text) in
     let parted = IsPartitionedBy-leb (λ s. s) starts c.args.at rise in
-    let point = IsPartitionPoint-from_clause (λ s. leb s c.args.at) starts _ c.partition_point-line.ensures.partitioned parted (λ a r q k. search rules) in
+    let point = IsPartitionPoint-from_clause (λ s. leb s c.args.at) starts _
+    c.partition_point-line.ensures.partitioned parted (λ a r q k. search rules) in
     let count : up_to c.args.at starts ≡ c.partition_point-line.result =
     prefix_len_is (λ s. leb s c.args.at) starts _ 0 c.partition_point-line.ensures.bound
     (λ k l. point.0 k 0 (omega arith) l) (λ l. point.1 _ 0 (omega arith) l) in
@@ -21,4 +22,5 @@ returns c =
     let read : c.unwrap_or-start.result ≡ get_or starts (c.partition_point-line.result - 1) 0 =
     rw (c.unwrap_or-start.ensures, c.copied.ensures) (rw c.saturating_sub.ensures at got) in
     rw c.saturating_sub-2.ensures
-    (place_is text c.args.at c.partition_point-line.result c.unwrap_or-start.result c.requires.within (rw lines at count) (rw lines at read))
+    (place_is text c.args.at c.partition_point-line.result c.unwrap_or-start.result
+    c.requires.within (rw lines at count) (rw lines at read))

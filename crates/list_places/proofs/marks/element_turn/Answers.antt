@@ -14,6 +14,7 @@ returns-in-Ok-clause-value c n places are =
     let read = rw start_is at c.in-Ok.ensures.value in
     let is = rw start_is at c.in_ok-slot-in-Ok.ensures in (
       element_place (skip_blank text) ∷ [],
-      rw c.in_ok-push-in-Ok.ensures.items (slots_push c.args.slots.now.items places c.in_ok-slot-in-Ok.slot (element_place (skip_blank text)) are is),
+      rw c.in_ok-push-in-Ok.ensures.items
+          (slots_push c.args.slots.now.items places c.in_ok-slot-in-Ok.slot (element_place (skip_blank text)) are is),
       element_on n text c.in-Ok.after.now other read,
     )

@@ -9,7 +9,8 @@ pub returns-then-first-eq123 : goal.returns-then-first-eq123
 returns-then-first-eq123 c =
     let s = c.args.s.now in
     let is : (first s == 123) ≡ true = grind (arith, common_steps) in
-    let keys = rw c.skip.ensures.rest at (c.in_ok-note_members.ensures (length s) [] c.skip.ensures.shorter (empty_keys c.new-keys.result c.new-keys.ensures.empty)) in
+    let keys = rw c.skip.ensures.rest at (c.in_ok-note_members.ensures (length s) [] c.skip.ensures.shorter
+    (empty_keys c.new-keys.result c.new-keys.ensures.empty)) in
     rw (keys_inside s is) keys
 
 pub returns : goal.returns

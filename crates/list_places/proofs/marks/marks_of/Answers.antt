@@ -20,8 +20,16 @@ lines-preserved c =
     let room = l.invariant.3 in
     let up : suc (m - 1) ≡ m = omega (arith, room) in
     let shorter = rw c.in-Some.is at c.in_ok-turn.ensures.shorter in
-    let (more, now, on) = rw (up, c.in-Some.is) at (c.in_ok-turn.ensures.value (m - 1) l.invariant.4 l.invariant.5) in
-    (search rules, omega (arith, l.invariant.1, shorter), m - 1, omega (arith, shorter, room), more, now, l.invariant.6 ∙ on)
+    let (more, now, on) = rw (up, c.in-Some.is) at (c.in_ok-turn.ensures.value (m - 1) l.invariant.4 l.invariant.5) in (
+      search rules,
+      omega (arith, l.invariant.1, shorter),
+      m
+          - 1,
+      omega (arith, shorter, room),
+      more,
+      now,
+      l.invariant.6 ∙ on,
+    )
 
 pub returns-in-None : goal.returns-in-None
 unfolding marks_of

@@ -13,5 +13,9 @@ returns-in-Ok-clause-value c n places are =
     let other : (first (skip_blank text) == 125) ≡ false = grind (arith, common_steps) in
     let key = key_view c.in-Ok.key in
     let read = rw start_is at c.in-Ok.ensures.value in
-    let noted = rw (c.first_part.ensures, start_is) at (c.in_ok-note-in-Ok.ensures places are) in
-    (key_place (first_part key) (length (skip_blank text)) ∷ [], noted, member_on n text key c.in-Ok.after.now other read)
+    let noted = rw (c.first_part.ensures, start_is) at (c.in_ok-note-in-Ok.ensures places are) in (
+      key_place (first_part key) (length (skip_blank text))
+          ∷ [],
+      noted,
+      member_on n text key c.in-Ok.after.now other read,
+    )

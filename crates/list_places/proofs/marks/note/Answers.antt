@@ -18,4 +18,5 @@ returns c places are =
     let n = c.insert.new.self in
     keys_noted m n c.args.key.now c.args.left places are
     (no_value (get_by_text m c.args.key.now) c.contains_key.result c.contains_key.ensures (grind (arith, common_steps)))
-    (rw c.in_ok-text.ensures.ok at (btree_map_updates_text (string_bytes c.in_ok-text.text) m n _ c.in_ok-insert.ensures.updates))
+    (rw c.in_ok-text.ensures.ok at
+    (btree_map_updates_text (string_bytes c.in_ok-text.text) m n _ c.in_ok-insert.ensures.updates))

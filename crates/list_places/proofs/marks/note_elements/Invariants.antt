@@ -9,7 +9,8 @@ use Rattle.list_places.proofs.marks.note_elements.Given as goal
 abbrev pub invariant-items : goal.invariant-items
 invariant-items l =
     shadow (Utf8 l.rest) × (length l.rest ≤ length l.fn.s)
-    × ((n : ℕ) (places : List SlotPlace) → length l.fn.s < n → SlotsAre l.fn.slots.items places → (m : ℕ) × (length l.rest < m)
+    × ((n : ℕ) (places : List SlotPlace) → length l.fn.s < n
+    → SlotsAre l.fn.slots.items places → (m : ℕ) × (length l.rest < m)
     × (before : List SlotPlace) × SlotsAre l.slots.items before
     × (places ++ element_places n l.fn.s ≡ before ++ element_places m l.rest))
 

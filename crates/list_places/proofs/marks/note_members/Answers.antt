@@ -21,5 +21,6 @@ returns-in-None c n places h are =
     let (m, room, before, so_far, loop) = l.invariant.2 n places h are in
     let up : suc (m - 1) ≡ m = omega arith in
     let (more, now, on) = rw (up, c.in-None.is) at (c.in_ok-turn.ensures.value (m - 1) before so_far) in
-    let all : places ++ member_places n c.args.s.now ≡ before ++ more = loop ∙ ap (λ t. before ++ t) (on ∙ append-nil more) in
+    let all : places ++ member_places n c.args.s.now ≡ before ++ more =
+    loop ∙ ap (λ t. before ++ t) (on ∙ append-nil more) in
     rw all now

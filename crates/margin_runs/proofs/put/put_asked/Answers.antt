@@ -16,11 +16,11 @@ returns-then-not-is_in_range g c =
     let off = sym c.is_in_range.ensures ∙ c.if-not-is_in_range.true in
     record {
       own = c.step.ensures;
-      few =
-          total-more (most_in_slot * slot) (most_in_slot * (slot + 1)) c.args.total.now (omega arith) c.requires.few;
+      few = total-more (most_in_slot * slot) (most_in_slot * (slot + 1)) c.args.total.now (omega arith) c.requires.few;
       ok = λ begin swept are.
           subst
-          (λ (xs : List Sweep). AreSwept begin (g.K.Sink.output c.args.out.now) list script c.args.reach xs c.args.total.now)
+          (λ (xs : List Sweep). AreSwept begin (g.K.Sink.output c.args.out.now) list
+          script c.args.reach xs c.args.total.now)
           (sym (ap (λ (b : Bool). swept ++ cond b (jumps_in list script slot) []) off ∙ append-nil swept)) are;
       err = λ begin swept are. tt;
     }

@@ -31,10 +31,12 @@ loop-node-preserved g c =
           (c.in_default.ensures.few (node * most_in_sweep) c.loop-node.invariant.few);
       swept = λ begin none.
           subst
-          (λ (xs : List Sweep). AreSwept begin (g.K.Sink.output c.put_drift.new.out) c.args.list.now script c.args.reach xs
+          (λ (xs : List Sweep). AreSwept begin
+          (g.K.Sink.output c.put_drift.new.out) c.args.list.now script c.args.reach xs
           c.put_drift.new.total)
           (sym (flat_map-next (drifts_of script) node))
-          (c.in_default.ensures.ok begin (flat_map (drifts_of script) (below node)) (c.loop-node.invariant.swept begin none));
+          (c.in_default.ensures.ok begin (flat_map (drifts_of script) (below node))
+          (c.loop-node.invariant.swept begin none));
     }
 
 pub returns-in-Err-clause-err : goal.returns-in-Err-clause-err
@@ -66,5 +68,6 @@ returns-clause-ok g c = λ begin none.
     ap (λ (n : ℕ). flat_map (drifts_of script) (below n)) last
     ∙ sym (picked drift_sweep (is_ever_on script) (below (length list.slots))) in
     subst
-    (λ (xs : List Sweep). AreSwept begin (g.K.Sink.output c.loop-node.out) list script c.args.reach xs c.loop-node.total) all
+    (λ (xs : List Sweep). AreSwept begin (g.K.Sink.output c.loop-node.out) list
+    script c.args.reach xs c.loop-node.total) all
     (c.loop-node.invariant.swept begin none)

@@ -32,7 +32,8 @@ returns g c =
     subst (λ (text : List ℕ). WroteLines a b (text ∷ [])) c.form_head.ensures c.in_default.ensures.ok in
     record {
       ok =
-          ok-weaker (WroteLines b d (own ∷ [])) (WroteLines a d (lines_in_front list script c.args.asked)) c.put_own_line.result
+          ok-weaker (WroteLines b d (own ∷ []))
+          (WroteLines a d (lines_in_front list script c.args.asked)) c.put_own_line.result
           (λ more. Wrote-join a b d (head ∷ []) (own ∷ []) wrote more) c.put_own_line.ensures.ok;
       err =
           err-weaker (λ (why : CampaignFault). LeftFewerBy why b d (own ∷ []))

@@ -1,4 +1,5 @@
-use Rattle.std.proofs.Common.{◌≡◌, ◌+◌, Bool, true, false, cond, List, [], ◌∷◌, ◌++◌, ap, sym, subst, ◌∙◌, append-nil, arith}
+use Rattle.std.proofs.Common.{◌≡◌, ◌+◌, Bool, true, false, cond, List, [], ◌∷◌}
+use Rattle.std.proofs.Common.{◌++◌, ap, sym, subst, ◌∙◌, append-nil, arith}
 use Rattle.std.specs.Prelude.{OnOk, IfErr}
 use Rattle.campaign.specs.Tried.{is_timed}
 use Rattle.clock_margins.specs.declared.margin.Sweep.{Sweep}
@@ -19,9 +20,11 @@ returns-then-not-is_timed g c =
       few = λ most few. total-more most (most + most_in_sweep) c.args.total.now (omega arith) few;
       ok = λ begin swept are.
           subst
-          (λ (xs : List Sweep). AreSwept begin (g.K.Sink.output c.args.out.now) c.args.list.now c.args.script.now c.args.reach xs
+          (λ (xs : List Sweep). AreSwept begin (g.K.Sink.output c.args.out.now)
+          c.args.list.now c.args.script.now c.args.reach xs
           c.args.total.now)
-          (sym (ap (λ (b : Bool). swept ++ cond b (jump_sweep c.args.slot c.args.node ∷ []) []) off ∙ append-nil swept)) are;
+          (sym (ap (λ (b : Bool). swept ++ cond b (jump_sweep c.args.slot c.args.node ∷ []) []) off ∙ append-nil swept))
+          are;
       err = λ begin swept are. tt;
     }
 
@@ -34,7 +37,8 @@ returns-in_default-clause-err g c = λ begin swept are.
     let out = g.K.Sink.output c.args.out.now in
     let on : is_timed c.args.entry.now ≡ true = sym c.is_timed.ensures ∙ c.if-not-is_timed.false in
     let sweep = jump_sweep c.args.slot c.args.node in
-    subst (λ (b : Bool). LeftBy fault.Memory begin out (lines_swept list script reach (swept ++ cond b (sweep ∷ []) [])))
+    subst (λ (b : Bool). LeftBy fault.Memory begin out
+    (lines_swept list script reach (swept ++ cond b (sweep ∷ []) [])))
     (sym on) (record {
       whole = lines_swept list script reach swept;
       rest = lines_swept list script reach (sweep ∷ []);

@@ -33,5 +33,6 @@ returns-clause-ok g c = λ start put.
     let reach = c.args.reach in
     let all : c.loop-done.done ≡ 2 * reach + 1 = omega (arith, c.loop-done-test.false, c.loop-done.invariant.within) in
     subst
-    (λ (xs : List ValueTold). IsPutOf start (g.K.Sink.output c.loop-done.out) common.list.now common.sweep xs c.loop-done.swept)
+    (λ (xs : List ValueTold).
+    IsPutOf start (g.K.Sink.output c.loop-done.out) common.list.now common.sweep xs c.loop-done.swept)
     (so-far-all common reach c.loop-done.done all) (c.loop-done.invariant.put start put)

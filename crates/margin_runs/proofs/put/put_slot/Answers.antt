@@ -1,4 +1,5 @@
-use Rattle.std.proofs.Common.{◌≡◌, ℕ, ◌+◌, ◌*◌, ◌<◌, ◌^◌, List, ◌++◌, length, ap, sym, subst, ◌∙◌, append_assoc, append-nil, arith}
+use Rattle.std.proofs.Common.{◌≡◌, ℕ, ◌+◌, ◌*◌, ◌<◌, ◌^◌, List, ◌++◌, length, ap}
+use Rattle.std.proofs.Common.{sym, subst, ◌∙◌, append_assoc, append-nil, arith}
 use Rattle.std.specs.Prelude.{flat_map}
 use Rattle.ttp_base.specs.NodeSet.{below}
 use Rattle.ttp_base.proofs.Below.{flat_map-next, flat_map-split}
@@ -18,7 +19,8 @@ loop-node-init g c =
       few = subst (λ (n : ℕ). IsFewOf n c.args.total.now) none c.requires.few;
       swept = λ begin swept are.
           subst
-          (λ (xs : List Sweep). AreSwept begin (g.K.Sink.output c.args.out.now) c.args.list.now c.args.script.now c.args.reach xs
+          (λ (xs : List Sweep). AreSwept begin (g.K.Sink.output c.args.out.now)
+          c.args.list.now c.args.script.now c.args.reach xs
           c.args.total.now)
           (sym (append-nil swept)) are;
     }

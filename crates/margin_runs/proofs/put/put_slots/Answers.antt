@@ -50,6 +50,7 @@ returns-clause-ok g c = λ begin none.
     let asked = jumps_asked list script c.args.asked in
     let last : c.loop-slot.slot ≡ script.slots = omega (arith, c.loop-slot-test.false, c.loop-slot.auto.slot-end) in
     subst
-    (λ (xs : List Sweep). AreSwept begin (g.K.Sink.output c.loop-slot.out) list script c.args.reach xs c.loop-slot.total)
+    (λ (xs : List Sweep). AreSwept begin (g.K.Sink.output c.loop-slot.out) list
+    script c.args.reach xs c.loop-slot.total)
     (ap (λ (n : ℕ). flat_map asked (below n)) last ∙ sym (slots-whole list script c.args.asked))
     (c.loop-slot.invariant.swept begin none)

@@ -30,7 +30,8 @@ returns-in-Some-clause-ok g c = λ start tolds put.
     let new = c.take.new.self in
     let before = g.K.Sink.output c.args.out.now in
     let now = g.K.Sink.output c.put_line.new.out in
-    ok-weaker (WroteLines before now (c.form_range.new.line ∷ [])) (IsPutOf start now list sweep (tolds ++ told ∷ []) new)
+    ok-weaker (WroteLines before now (c.form_range.new.line ∷ []))
+    (IsPutOf start now list sweep (tolds ++ told ∷ []) new)
     c.put_line.result
     (λ wrote. put-next list sweep start before now tolds told old new (range_of c.in-Some.range ∷ []) put
     (c.in-Some.ensures.swept tolds put.swept) c.in-Some.ensures.node (c.in-Some.ensures.few (length tolds) put.few)
@@ -48,7 +49,8 @@ returns-in-Some-clause-err g c = λ start tolds put.
     let line = c.form_range.new.line in
     err-weaker (λ (why : CampaignFault). LeftFewerBy why before now (line ∷ []))
     (λ (why : CampaignFault). LeftBy why start now (closed_lines list sweep (tolds ++ told ∷ []))) c.put_line.result
-    (λ why few. left-next list sweep why start before now tolds told c.args.swept.now (range_of c.in-Some.range ∷ []) put
+    (λ why few. left-next list sweep why start before now tolds told
+    c.args.swept.now (range_of c.in-Some.range ∷ []) put
     (c.in-Some.ensures.closed tolds put.swept)
     (subst (λ (text : List ℕ). LeftBy why before now (text ∷ [])) c.form_range.ensures
     (fewer-left why before now (line ∷ []) few)))
@@ -57,6 +59,8 @@ returns-in-Some-clause-err g c = λ start tolds put.
 pub returns-in-None-clause-ok : goal.returns-in-None-clause-ok
 returns-in-None-clause-ok g c = λ start tolds put.
     let before = g.K.Sink.output c.args.out.now in
-    put-next c.args.list.now c.args.sweep start before before tolds (value_told c.args.told) c.args.swept.now c.take.new.self
-    [] put (c.in-None.ensures.swept tolds put.swept) c.in-None.ensures.node (c.in-None.ensures.few (length tolds) put.few)
+    put-next c.args.list.now c.args.sweep start before before tolds
+    (value_told c.args.told) c.args.swept.now c.take.new.self
+    [] put (c.in-None.ensures.swept tolds put.swept) c.in-None.ensures.node
+    (c.in-None.ensures.few (length tolds) put.few)
     (c.in-None.ensures.closed tolds put.swept) (Wrote-none before)

@@ -1,4 +1,5 @@
-use Rattle.std.proofs.Common.{◌≡◌, ℕ, ◌+◌, ◌≤◌, ◌^◌, List, [], ◌∷◌, ◌++◌, length, refl, ap, sym, subst, ◌∙◌, append_assoc, append-nil, length-append, arith, rules}
+use Rattle.std.proofs.Common.{◌≡◌, ℕ, ◌+◌, ◌≤◌, ◌^◌, List, [], ◌∷◌, ◌++◌, length, refl, ap, sym}
+use Rattle.std.proofs.Common.{subst, ◌∙◌, append_assoc, append-nil, length-append, arith, rules}
 use Rattle.std.specs.Vec.Iter.{into_iter_items}
 use Rattle.std.proofs.lemmas.List.{nil_from_length}
 use Rattle.clock_margins.specs.Outcomes.{ValueTold}
@@ -16,7 +17,8 @@ loop-told-init g c = (
   refl,
   search rules,
   λ start tolds put.
-      subst (λ (xs : List ValueTold). IsPutOf start (g.K.Sink.output c.args.out.now) c.args.list.now c.args.sweep xs c.args.swept.now)
+      subst (λ (xs : List ValueTold).
+      IsPutOf start (g.K.Sink.output c.args.out.now) c.args.list.now c.args.sweep xs c.args.swept.now)
       (sym (append-nil tolds)) put,
 )
 
@@ -100,5 +102,6 @@ returns-clause-ok g c = λ start tolds put.
     sym (append-nil at.yielded) ∙ ap (λ (xs : List Told). at.yielded ++ xs) (sym empty) ∙ at.invariant.0
     ∙ c.into_iter-told-iterator.ensures.into_iter_gives.0 in
     subst
-    (λ (xs : List Told). IsPutOf start (g.K.Sink.output at.out) c.args.list.now c.args.sweep (tolds ++ are_told xs) at.swept)
+    (λ (xs : List Told). IsPutOf start (g.K.Sink.output at.out) c.args.list.now
+    c.args.sweep (tolds ++ are_told xs) at.swept)
     all (at.invariant.2 start tolds put)

@@ -52,7 +52,8 @@ put_tolds-requires-clause-put g c =
       before,
       c.requires.put.1,
       subst AreWritable (sym all)
-          (tolds-writable list script sweep (values_from (neg_ℤ (pos reach)) (c.args.done + c.args.some)) c.requires.may.valid),
+          (tolds-writable list script sweep
+          (values_from (neg_ℤ (pos reach)) (c.args.done + c.args.some)) c.requires.may.valid),
       omega (arith, count, few, c.requires.reach, c.requires.count),
     )
 

@@ -23,7 +23,8 @@ loop-value-init c = (
   c.requires.node,
   (
     pos 0,
-    c.with_drift-more.ensures ∙ ap (λ (s : Script). with_drift s c.args.common.now.sweep.node (pos 0)) c.in_ok-copy.ensures,
+    c.with_drift-more.ensures
+        ∙ ap (λ (s : Script). with_drift s c.args.common.now.sweep.node (pos 0)) c.in_ok-copy.ensures,
   ),
 )
 

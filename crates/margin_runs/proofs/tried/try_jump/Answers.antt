@@ -47,7 +47,8 @@ try_script-requires c =
     let may = c.requires.may in
     let slot = c.args.slot in
     let inside = subst (λ (o : Option ℕ). IfSome o (λ (slot : ℕ). slot < script.slots)) c.requires.slot may.slot in
-    let at = subst (λ (o : Option ℕ). IfSome o (λ (slot : ℕ). past.run.slots ≡ slot)) c.requires.slot c.requires.past.slot in
+    let at = subst (λ (o : Option ℕ). IfSome o (λ (slot : ℕ). past.run.slots ≡ slot))
+    c.requires.slot c.requires.past.slot in
     let slots : c.in_ok-more.more.slots ≡ script.slots = ap (λ (s : Script). s.slots) c.in_ok-more.ensures in
     let near : past.run.slots ≤ slot = omega (arith, at) in
     let later = ap (λ (b : Bool). b && true) (le-leb past.run.slots slot near) in
@@ -73,6 +74,7 @@ returns-clause-told c =
     ∙ ap (λ (s : Script). told_by_script list s node value) c.in_ok-more.ensures
     ∙ ap (λ (z : ℤ). told_by_script list (with_fault script (event.Jump node z c.args.slot)) node value)
     (same-within 1000000 value (omega arith) c.requires.value)
-    ∙ sym (ap (λ (o : Option ℕ). told_by_script list (with_clock_value script node o value) node value) c.requires.slot) in
+    ∙ sym (ap (λ (o : Option ℕ).
+    told_by_script list (with_clock_value script node o value) node value) c.requires.slot) in
     subst (λ (t : ValueTold). IfOk c.try_script.result (λ (told : Told). value_told told ≡ t)) same
     c.try_script.ensures.told

@@ -1,5 +1,6 @@
 use Rattle.std.proofs.Common.{◌∙◌, ◌+◌, ◌<◌, sym, subst, length, get_or, set, arith}
-use Rattle.mode_change.proofs.Nodes.{IsEntering, chosen-is, entering-all, entering-first, entering-next, entry-shown, knows-next, old-is}
+use Rattle.mode_change.proofs.Nodes.{IsEntering, chosen-is, entering-all, entering-first}
+use Rattle.mode_change.proofs.Nodes.{entering-next, entry-shown, knows-next, old-is}
 use Rattle.mode_change.proofs.all_nodes.know_slot.Goals as goal
 
 pub loop-node-init : goal.loop-node-init

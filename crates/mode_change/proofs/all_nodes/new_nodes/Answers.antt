@@ -4,7 +4,8 @@ use Rattle.mode_change.proofs.Nodes.{AreNew, new-more}
 use Rattle.mode_change.proofs.all_nodes.new_nodes.Goals as goal
 
 pub loop-init : goal.loop-init
-loop-init c = rw c.new-nodes.ensures (record { count = refl; each = λ script k node less is. absurd (omega (arith, less)) })
+loop-init c = rw c.new-nodes.ensures
+    (record { count = refl; each = λ script k node less is. absurd (omega (arith, less)) })
 
 pub loop-preserved : goal.loop-preserved
 loop-preserved c =

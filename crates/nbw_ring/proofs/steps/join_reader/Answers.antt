@@ -18,7 +18,8 @@ join_seat-requires c =
       c.requires.reader,
       ap (λ m. m.1) c.requires.reads,
       c.requires.words,
-      joins c.args.cells.now.key seat.id seat.me.0 w other.id other.me.0 y (view_is seat.me (Writer w) c.requires.writes)
+      joins c.args.cells.now.key seat.id seat.me.0 w other.id other.me.0 y
+          (view_is seat.me (Writer w) c.requires.writes)
           (view_is other.me (Reader y) c.requires.reads),
     )
 

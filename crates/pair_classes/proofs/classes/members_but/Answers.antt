@@ -16,7 +16,8 @@ loop-node-preserved c =
           w.members-is ∙ w.with-members.ensures ∙ ap (λ (s : List ℕ). with_node s node) c.loop-node.invariant
           ∙ with_node-next p node small (sym c.is_member_but.ensures ∙ w.if-is_member_but.true)
       | else-is_member_but w ↦
-          w.members-is ∙ c.loop-node.invariant ∙ filter-next p node small (sym c.is_member_but.ensures ∙ w.if-is_member_but.false)
+          w.members-is ∙ c.loop-node.invariant
+          ∙ filter-next p node small (sym c.is_member_but.ensures ∙ w.if-is_member_but.false)
     ]
 
 pub returns : goal.returns

@@ -11,7 +11,9 @@ use Rattle.pair_classes.proofs.classes.third_nodes.Goals.{then-is_third, else-is
 pub loop-node-preserved : goal.loop-node-preserved
 loop-node-preserved c =
     let node = c.loop-node.node in
-    let p : ℕ → Bool = λ k. has_node c.args.harms.now.both.left k && ((not (k == c.args.first) && not (k == c.args.second)) && leaves_by_both c.args.harms.now.both c.args.harms.now.one c.args.harms.now.two k) in
+    let p : ℕ → Bool = λ k. has_node c.args.harms.now.both.left k
+    && ((not (k == c.args.first) && not (k == c.args.second))
+    && leaves_by_both c.args.harms.now.both c.args.harms.now.one c.args.harms.now.two k) in
     let small : node < most_nodes = omega (arith, c.loop-node-test.true) in
     elim c.if-is_third.branch [
       | then-is_third w ↦
@@ -23,10 +25,13 @@ loop-node-preserved c =
 
 pub returns : goal.returns
 returns c =
-    let p : ℕ → Bool = λ k. has_node c.args.harms.now.both.left k && ((not (k == c.args.first) && not (k == c.args.second)) && leaves_by_both c.args.harms.now.both c.args.harms.now.one c.args.harms.now.two k) in
+    let p : ℕ → Bool = λ k. has_node c.args.harms.now.both.left k
+    && ((not (k == c.args.first) && not (k == c.args.second))
+    && leaves_by_both c.args.harms.now.both c.args.harms.now.one c.args.harms.now.two k) in
     let end : c.loop-node.node ≡ most_nodes = search rules in
     let all = c.loop-node.invariant ∙ ap (λ (n : ℕ). filter p (below n)) end in
     record {
-      third = all ∙ members-taken (λ k. (not (k == c.args.first) && not (k == c.args.second)) && leaves_by_both c.args.harms.now.both c.args.harms.now.one c.args.harms.now.two k) c.args.harms.now.both.left c.requires.both;
+      third = all ∙ members-taken (λ k. (not (k == c.args.first) && not (k == c.args.second)) && leaves_by_both
+          c.args.harms.now.both c.args.harms.now.one c.args.harms.now.two k) c.args.harms.now.both.left c.requires.both;
       ordered = subst IsOrdered (sym all) (sieve-ordered p);
     }

@@ -17,7 +17,8 @@ returns c =
     record {
       text = λ first last within. refl;
       lines = λ first middle last within order more.
-          each-cut (first_fault_lines list script within (own_harm list script)) firsts script first middle last order more;
+          each-cut (first_fault_lines list script within (own_harm list script))
+          firsts script first middle last order more;
       pairs = λ first middle last within order more.
           each-cut (pairs_of_first list script within) firsts script first middle last order more;
       apart = λ some others d. sym (filter-append (are_so_far_apart d) some others);

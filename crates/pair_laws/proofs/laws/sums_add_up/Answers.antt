@@ -10,7 +10,8 @@ returns c =
     let list = c.args.list.now in
     let script = c.args.script.now in
     record {
-      firsts = λ first last within. counts-flat (pairs_of_first list script within) (firsts_of_range list script first last);
+      firsts = λ first last within.
+          counts-flat (pairs_of_first list script within) (firsts_of_range list script first last);
       apart = λ first last within.
           counts-by_distance script within (pairs_of_range list script first last within)
           (pairs-near list script first last within);

@@ -7,7 +7,8 @@ use Rattle.pair_classes.specs.Ordered.{IsOrdered}
 use Rattle.pair_runs.proofs.harm.harm_of.Goals as goal
 
 pub left_nodes-requires : goal.left_nodes-requires
-left_nodes-requires c = subst (λ (leaves : List Leave). IsOrdered (left_nodes leaves)) (sym c.as_slice.ensures) c.requires
+left_nodes-requires c = subst
+    (λ (leaves : List Leave). IsOrdered (left_nodes leaves)) (sym c.as_slice.ensures) c.requires
 
 pub returns : goal.returns
 returns c =

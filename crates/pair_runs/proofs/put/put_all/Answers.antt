@@ -15,19 +15,23 @@ put_lines-requires-clause-none g c κs within =
 pub returns-in_default-clause-err : goal.returns-in_default-clause-err
 returns-in_default-clause-err g c =
     let common = c.args.common.now in
-    none-written common.list.now common.script.now common.first common.last common.within (g.K.Sink.output c.args.out.now)
+    none-written common.list.now common.script.now common.first common.last
+    common.within (g.K.Sink.output c.args.out.now)
 
 pub returns-in_default-new-clause-err : goal.returns-in_default-new-clause-err
 returns-in_default-new-clause-err g c =
     let common = c.args.common.now in
-    none-written common.list.now common.script.now common.first common.last common.within (g.K.Sink.output c.args.out.now)
+    none-written common.list.now common.script.now common.first common.last
+    common.within (g.K.Sink.output c.args.out.now)
 
 pub returns-in_default-new_work-clause-err : goal.returns-in_default-new_work-clause-err
 returns-in_default-new_work-clause-err g c =
     let common = c.args.common.now in
-    none-written common.list.now common.script.now common.first common.last common.within (g.K.Sink.output c.args.out.now)
+    none-written common.list.now common.script.now common.first common.last
+    common.within (g.K.Sink.output c.args.out.now)
 
 pub returns-in_default-new-2-clause-err : goal.returns-in_default-new-2-clause-err
 returns-in_default-new-2-clause-err g c =
     let common = c.args.common.now in
-    none-written common.list.now common.script.now common.first common.last common.within (g.K.Sink.output c.args.out.now)
+    none-written common.list.now common.script.now common.first common.last
+    common.within (g.K.Sink.output c.args.out.now)

@@ -22,7 +22,8 @@ loop-later-init g c =
     let none : 0 ≡ course.slot + 1 - (course.slot + 1) = omega arith in
     record {
       past = c.requires.past;
-      put = subst (λ (n : ℕ). PutPairs (g.K.Sink.output c.args.out.now) (g.K.Sink.output c.args.out.now) c.args.tally.now
+      put = subst (λ (n : ℕ). PutPairs (g.K.Sink.output c.args.out.now)
+          (g.K.Sink.output c.args.out.now) c.args.tally.now
           c.args.tally.now (so_far course n)) none (pairs-none (g.K.Sink.output c.args.out.now) c.args.tally.now);
     }
 
@@ -34,7 +35,8 @@ put_later-requires-clause-few g c κs within =
     let slots = c.requires.may.may.script.slots in
     let end = c.end_behind-later-end.ensures in (
       most + done,
-      few-after (distances_of course.common) most (g.K.Sink.output c.args.out.now) (g.K.Sink.output c.loop-later.out) c.args.tally.now
+      few-after (distances_of course.common) most (g.K.Sink.output c.args.out.now)
+          (g.K.Sink.output c.loop-later.out) c.args.tally.now
           c.loop-later.tally _ c.loop-later.invariant.put c.requires.few.1,
       omega (
         arith,
@@ -66,9 +68,11 @@ loop-later-preserved g c =
     sym (range-next (tolds_later course) (course.slot + 1) count later here) ∙ ap (so_far course) next in
     record {
       past = c.in_default.ensures.past;
-      put = subst (λ (ps : List PairTold). PutPairs (g.K.Sink.output c.args.out.now) (g.K.Sink.output c.put_later.new.out)
+      put = subst (λ (ps : List PairTold).
+          PutPairs (g.K.Sink.output c.args.out.now) (g.K.Sink.output c.put_later.new.out)
           c.args.tally.now c.put_later.new.tally ps) more
-          (pairs-join (g.K.Sink.output c.args.out.now) (g.K.Sink.output c.loop-later.out) (g.K.Sink.output c.put_later.new.out)
+          (pairs-join (g.K.Sink.output c.args.out.now)
+          (g.K.Sink.output c.loop-later.out) (g.K.Sink.output c.put_later.new.out)
           c.args.tally.now c.loop-later.tally c.put_later.new.tally (so_far course count) now c.loop-later.invariant.put
           c.in_default.ensures.ok);
     }
@@ -88,12 +92,15 @@ returns-in-Err-clause-err g c =
     let now = tolds_later course later in
     let from : course.slot + 1 ≤ later = c.loop-later.auto.later in
     let here : course.slot + 1 + count ≡ later = omega (arith, from) in
-    let left : count + suc (end - (later + 1)) ≡ end - (course.slot + 1) = omega (arith, from, c.loop-later-test.true) in
+    let left : count + suc (end - (later + 1)) ≡ end - (course.slot + 1) =
+    omega (arith, from, c.loop-later-test.true) in
     let rest = flat_map (tolds_later course) (range_with_len (later + 1) (end - (later + 1))) in
     let whole : so_far course count ++ (now ++ rest) ≡ tolds_behind course =
-    range-rest (tolds_later course) (course.slot + 1) count (end - (course.slot + 1)) later (end - (later + 1)) here left
+    range-rest (tolds_later course) (course.slot + 1) count
+    (end - (course.slot + 1)) later (end - (later + 1)) here left
     ∙ all-of course end (ap (λ (s : Script). s.slots) c.requires.may.more) c.end_behind-later-end.ensures in
-    left-in c.in-Err.why (g.K.Sink.output c.args.out.now) (g.K.Sink.output c.loop-later.out) (g.K.Sink.output c.put_later.new.out)
+    left-in c.in-Err.why (g.K.Sink.output c.args.out.now)
+    (g.K.Sink.output c.loop-later.out) (g.K.Sink.output c.put_later.new.out)
     (lines_of_told (so_far course count)) (lines_of_told now) (lines_of_told rest) (lines_of_told (tolds_behind course))
     (ap (λ ls. lines_of_told (so_far course count) ++ ls) (sym (lines-append now rest))
     ∙ sym (lines-append (so_far course count) (now ++ rest)) ∙ ap lines_of_told whole)
@@ -101,15 +108,25 @@ returns-in-Err-clause-err g c =
 
 pub returns-clause-past : goal.returns-clause-past
 returns-clause-past g c =
-    own-of c.loop-later.past c.args.course.now.common.list.now c.args.course.now.more.now c.loop-later.later c.loop-later.invariant.past
+    own-of c.loop-later.past c.args.course.now.common.list.now c.args.course.now.more.now
+    c.loop-later.later c.loop-later.invariant.past
 
 pub returns-clause-ok : goal.returns-clause-ok
 returns-clause-ok g c =
     let course = c.args.course.now in
     let end : c.loop-later.later ≡ c.end_behind-later-end.result =
-    omega (arith, c.loop-later.auto.later, c.loop-later.auto.later-end, c.loop-later-test.false, c.end_behind-later-end.ensures, c.requires.may.slot) in
-    subst (λ (ps : List PairTold). PutPairs (g.K.Sink.output c.args.out.now) (g.K.Sink.output c.loop-later.out) c.args.tally.now
+    omega (
+      arith,
+      c.loop-later.auto.later,
+      c.loop-later.auto.later-end,
+      c.loop-later-test.false,
+      c.end_behind-later-end.ensures,
+      c.requires.may.slot,
+    ) in
+    subst (λ (ps : List PairTold).
+    PutPairs (g.K.Sink.output c.args.out.now) (g.K.Sink.output c.loop-later.out) c.args.tally.now
     c.loop-later.tally ps)
     (ap (λ (n : ℕ). so_far course (n - (course.slot + 1))) end
-    ∙ all-of course c.end_behind-later-end.result (ap (λ (s : Script). s.slots) c.requires.may.more) c.end_behind-later-end.ensures)
+    ∙ all-of course c.end_behind-later-end.result
+    (ap (λ (s : Script). s.slots) c.requires.may.more) c.end_behind-later-end.ensures)
     c.loop-later.invariant.put

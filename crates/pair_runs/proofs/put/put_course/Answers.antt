@@ -52,7 +52,8 @@ put_pairs_of-requires-clause-few g c κs within =
     let distances = distances_of c.args.course.now.common in (
       c.requires.few.0,
       record {
-        sums = subst (λ (s : Sums). HasFewSums distances c.requires.few.0 s) (sym c.begin.ensures.sums) c.requires.few.1;
+        sums = subst (λ (s : Sums). HasFewSums distances c.requires.few.0 s)
+            (sym c.begin.ensures.sums) c.requires.few.1;
         counts = pairs-weaker 0 c.requires.few.0 c.begin.new.self.counts c.begin.ensures.few (omega arith);
       },
       c.requires.few.2,
@@ -61,9 +62,11 @@ put_pairs_of-requires-clause-few g c κs within =
 pub returns-in-Err-clause-err : goal.returns-in-Err-clause-err
 returns-in-Err-clause-err g c =
     let course = c.args.course.now in
-    subst (λ (lines : Lines). LeftBy c.in-Err.why (g.K.Sink.output c.args.out.now) (g.K.Sink.output c.put_pairs_of.new.out) lines)
+    subst (λ (lines : Lines). LeftBy c.in-Err.why (g.K.Sink.output c.args.out.now)
+    (g.K.Sink.output c.put_pairs_of.new.out) lines)
     (lines-first course c.requires.may.first c.requires.may.more)
-    (leaves-more c.in-Err.why (g.K.Sink.output c.args.out.now) (g.K.Sink.output c.put_pairs_of.new.out) _ _ c.in-Err.ensures.err)
+    (leaves-more c.in-Err.why (g.K.Sink.output c.args.out.now)
+    (g.K.Sink.output c.put_pairs_of.new.out) _ _ c.in-Err.ensures.err)
 
 pub returns-clause-work : goal.returns-clause-work
 returns-clause-work g c =
@@ -73,7 +76,8 @@ pub returns-clause-ok : goal.returns-clause-ok
 returns-clause-ok g c =
     let course = c.args.course.now in
     let list = course.common.list.now in
-    let told = map (told_second course) (seconds_of list course.common.script.now course.common.within (first_of course)) in
+    let told = map (told_second course)
+    (seconds_of list course.common.script.now course.common.within (first_of course)) in
     let o = g.K.Sink.output c.args.out.now in
     let p = g.K.Sink.output c.put_pairs_of.new.out in
     let q = g.K.Sink.output c.put_first_line.new.out in
@@ -84,9 +88,11 @@ returns-clause-ok g c =
     ok-weaker (WroteLines p q (line u.counts ∷ [])) (PutFirsts o q c.args.tally.now u _ _) c.put_first_line.result
     (λ wrote. record {
       wrote = subst (λ (lines : Lines). WroteLines o q lines)
-          (ap (λ (counts : PairCounts). lines_of_told told ++ line counts ∷ []) counted ∙ lines-first course c.requires.may.first c.requires.may.more)
+          (ap (λ (counts : PairCounts). lines_of_told told ++ line counts ∷ []) counted
+          ∙ lines-first course c.requires.may.first c.requires.may.more)
           (Wrote-join o p q (lines_of_told told) (line u.counts ∷ []) put.wrote wrote);
-      sums = subst (λ (ps : List PairTold). AddsTo c.args.tally.now.sums u.sums ps) (tolds-first course c.requires.may.first)
+      sums = subst (λ (ps : List PairTold). AddsTo c.args.tally.now.sums u.sums ps)
+          (tolds-first course c.requires.may.first)
           (subst (λ (s : Sums). AddsTo s u.sums told) c.begin.ensures.sums put.sums);
     })
     (c.put_first_line.ensures.ok (first_of course) refl)
@@ -95,7 +101,8 @@ pub returns-clause-err : goal.returns-clause-err
 returns-clause-err g c =
     let course = c.args.course.now in
     let list = course.common.list.now in
-    let told = map (told_second course) (seconds_of list course.common.script.now course.common.within (first_of course)) in
+    let told = map (told_second course)
+    (seconds_of list course.common.script.now course.common.within (first_of course)) in
     let o = g.K.Sink.output c.args.out.now in
     let p = g.K.Sink.output c.put_pairs_of.new.out in
     let q = g.K.Sink.output c.put_first_line.new.out in
@@ -103,10 +110,12 @@ returns-clause-err g c =
     let put = c.in_default.ensures.ok in
     let line = λ (counts : PairCounts). first_fault_line list (first_of course) (summary list course.more.now) counts in
     let counted = put.counts [] c.begin.ensures.counts in
-    err-weaker (λ (why : CampaignFault). LeftFewerBy why p q (line u.counts ∷ [])) (λ (why : CampaignFault). LeftBy why o q _)
+    err-weaker (λ (why : CampaignFault). LeftFewerBy why p q (line u.counts ∷ []))
+    (λ (why : CampaignFault). LeftBy why o q _)
     c.put_first_line.result
     (λ why few. subst (λ (lines : Lines). LeftBy why o q lines)
-    (ap (λ (counts : PairCounts). lines_of_told told ++ line counts ∷ []) counted ∙ lines-first course c.requires.may.first c.requires.may.more)
+    (ap (λ (counts : PairCounts). lines_of_told told ++ line counts ∷ []) counted
+    ∙ lines-first course c.requires.may.first c.requires.may.more)
     (leaves-after why o p q (lines_of_told told) (line u.counts ∷ []) put.wrote
     (left-fewer why p q (line u.counts ∷ []) few)))
     (c.put_first_line.ensures.err (first_of course) refl)

@@ -30,5 +30,6 @@ returns-in-Err-clause-err g c = λ tolds are.
     let p = g.K.Sink.output c.loop-distance.out in
     let q = g.K.Sink.output c.put_distance.new.out in
     let split = flat_map-split (lines_at tolds) d c.args.distances c.loop-distance-test.true in
-    left-in c.in-Err.why o p q (distance_lines tolds d) (lines_at tolds d) split.0 (distance_lines tolds c.args.distances) (sym split.1)
+    left-in c.in-Err.why o p q (distance_lines tolds d) (lines_at tolds d) split.0
+    (distance_lines tolds c.args.distances) (sym split.1)
     (c.loop-distance.invariant tolds are) (c.in-Err.ensures.err c.args.distances tolds are)

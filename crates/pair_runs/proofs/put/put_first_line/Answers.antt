@@ -14,7 +14,8 @@ put_first-formed-requires-clause-hurt g c =
 pub returns-clause-ok : goal.returns-clause-ok
 returns-clause-ok g c = λ first is.
     let list = c.args.list.now in
-    let line = λ (cost : Cost). first_fault_line list first (told_summary list c.args.more.now cost) c.args.counts.now in
+    let line = λ (cost : Cost).
+    first_fault_line list first (told_summary list c.args.more.now cost) c.args.counts.now in
     c.put_formed.ensures.ok (line (summary list c.args.more.now).cost)
     (subst (λ (w : List ℕ). OnOk c.put_first-formed.result (c.put_first-formed.new.text ≡ w))
     (ap (λ (old : List ℕ). old ++ line c.args.cost.now) c.clear.ensures ∙ ap line c.requires.cost)
@@ -23,7 +24,8 @@ returns-clause-ok g c = λ first is.
 pub returns-clause-err : goal.returns-clause-err
 returns-clause-err g c = λ first is.
     let list = c.args.list.now in
-    let line = λ (cost : Cost). first_fault_line list first (told_summary list c.args.more.now cost) c.args.counts.now in
+    let line = λ (cost : Cost).
+    first_fault_line list first (told_summary list c.args.more.now cost) c.args.counts.now in
     c.put_formed.ensures.err (line (summary list c.args.more.now).cost)
     (subst (λ (w : List ℕ). OnOk c.put_first-formed.result (c.put_first-formed.new.text ≡ w))
     (ap (λ (old : List ℕ). old ++ line c.args.cost.now) c.clear.ensures ∙ ap line c.requires.cost)

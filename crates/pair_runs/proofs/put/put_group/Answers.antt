@@ -11,7 +11,8 @@ use Rattle.pair_runs.proofs.put.put_group.Goals as goal
 pub cost_from-requires-clause-past : goal.cost_from-requires-clause-past
 cost_from-requires-clause-past g c =
     let before = c.requires.before in
-    subst (λ (n : ℕ). IsSeenAfter c.args.before.now c.args.common.now.list.now c.args.common.now.script.now n) (sym before.count) before
+    subst (λ (n : ℕ). IsSeenAfter c.args.before.now c.args.common.now.list.now c.args.common.now.script.now n)
+    (sym before.count) before
 
 pub harm_of-requires : goal.harm_of-requires
 harm_of-requires g c =

@@ -11,5 +11,6 @@ invariant-loop-i g l = record {
   few : (most : ℕ) → HasFewSums (distances_of l.common) most l.initial.tally.sums
       → HasFewSums (distances_of l.common) (most + most_of_first * l.i) l.tally.sums;
   put : PutFirsts (g.K.Sink.output l.initial.out) (g.K.Sink.output l.out) l.initial.tally l.tally
-      (tolds_of_firsts l.common (firsts_before l.slot l.faults l.i)) (text_of_firsts l.common (firsts_before l.slot l.faults l.i));
+      (tolds_of_firsts l.common (firsts_before l.slot l.faults l.i))
+      (text_of_firsts l.common (firsts_before l.slot l.faults l.i));
 }

@@ -29,7 +29,8 @@ put_seconds-requires-clause-singles g c κs within =
     let script = c.args.course.now.common.script.now in
     subst (λ (all : List Single). All (IsSingle list script) all) (sym c.kept.ensures)
     (subst (λ (row : Singles). All (IsSingle list script) row.all.items) (sym c.index-rows-place_of.is)
-    (c.requires.rows.each c.place_of.result c.index-rows-place_of.result (omega (arith, c.place_of.ensures, c.requires.rows.count))))
+    (c.requires.rows.each c.place_of.result c.index-rows-place_of.result
+    (omega (arith, c.place_of.ensures, c.requires.rows.count))))
 
 pub put_seconds-requires-clause-faults : goal.put_seconds-requires-clause-faults
 put_seconds-requires-clause-faults g c κs within =
@@ -55,6 +56,8 @@ returns-clause-ok g c =
 pub returns-clause-err : goal.returns-clause-err
 returns-clause-err g c =
     let course = c.args.course.now in
-    subst (λ (faults : List Event). IfErr c.put_seconds.result (λ (why : CampaignFault). LeftBy why (g.K.Sink.output c.args.out.now)
-    (g.K.Sink.output c.put_seconds.new.out) (lines_of_told (map (told_pair course (c.args.later - course.slot)) faults))))
+    subst (λ (faults : List Event).
+    IfErr c.put_seconds.result (λ (why : CampaignFault). LeftBy why (g.K.Sink.output c.args.out.now)
+    (g.K.Sink.output c.put_seconds.new.out)
+    (lines_of_told (map (told_pair course (c.args.later - course.slot)) faults))))
     (c.as_slice.ensures ∙ c.in-Ok.ensures) c.put_seconds.ensures.err

@@ -32,13 +32,16 @@ returns-clause-failed g c =
 
 pub returns-clause-memory : goal.returns-clause-memory
 returns-clause-memory g c =
-    err-fewer c.put_all.result _ _ (pairs_lines c.args.list.now c.args.script.now c.args.first c.args.last c.args.within)
+    err-fewer c.put_all.result _ _
+    (pairs_lines c.args.list.now c.args.script.now c.args.first c.args.last c.args.within)
     c.put_all.ensures.err
 
 pub returns-in_default-clause-memory : goal.returns-in_default-clause-memory
 returns-in_default-clause-memory g c = λ same.
-    none-written c.args.list.now c.args.script.now c.args.first c.args.last c.args.within (g.K.Sink.output c.args.out.now)
+    none-written c.args.list.now c.args.script.now c.args.first c.args.last
+    c.args.within (g.K.Sink.output c.args.out.now)
 
 pub returns-in_default-words_of-clause-memory : goal.returns-in_default-words_of-clause-memory
 returns-in_default-words_of-clause-memory g c = λ same.
-    none-written c.args.list.now c.args.script.now c.args.first c.args.last c.args.within (g.K.Sink.output c.args.out.now)
+    none-written c.args.list.now c.args.script.now c.args.first c.args.last
+    c.args.within (g.K.Sink.output c.args.out.now)

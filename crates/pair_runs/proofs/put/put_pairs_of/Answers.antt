@@ -31,7 +31,8 @@ put_seconds-requires-clause-singles g c κs within =
     let script = c.args.course.now.common.script.now in
     subst (λ (all : List Single). All (IsSingle list script) all) (sym c.kept.ensures)
     (subst (λ (row : Singles). All (IsSingle list script) row.all.items) (sym c.index-rows-place_of.is)
-    (c.requires.rows.each c.place_of.result c.index-rows-place_of.result (omega (arith, c.place_of.ensures, c.requires.rows.count))))
+    (c.requires.rows.each c.place_of.result c.index-rows-place_of.result
+    (omega (arith, c.place_of.ensures, c.requires.rows.count))))
 
 pub put_seconds-requires-clause-apart : goal.put_seconds-requires-clause-apart
 put_seconds-requires-clause-apart g c κs within = omega (arith, c.requires.may.slot)
@@ -45,7 +46,8 @@ put_behind-requires-clause-few g c κs within =
     let told = map (told_pair course 0) course.behind.now in
     let few = length-map course.behind.now (told_pair course 0) in (
       c.requires.few.0 + length told,
-      few-after (distances_of course.common) c.requires.few.0 (g.K.Sink.output c.args.out.now) (g.K.Sink.output c.put_seconds.new.out)
+      few-after (distances_of course.common) c.requires.few.0
+          (g.K.Sink.output c.args.out.now) (g.K.Sink.output c.put_seconds.new.out)
           c.args.tally.now c.put_seconds.new.tally told c.in_default.ensures.ok c.requires.few.1,
       omega (arith, c.requires.few.2, few, c.requires.behind),
     )
@@ -54,9 +56,11 @@ pub returns-in-Err-clause-err : goal.returns-in-Err-clause-err
 returns-in-Err-clause-err g c =
     let course = c.args.course.now in
     let told = map (told_pair course 0) course.behind.now in
-    subst (λ (lines : Lines). LeftBy c.in-Err.why (g.K.Sink.output c.args.out.now) (g.K.Sink.output c.put_seconds.new.out) lines)
+    subst (λ (lines : Lines). LeftBy c.in-Err.why (g.K.Sink.output c.args.out.now)
+    (g.K.Sink.output c.put_seconds.new.out) lines)
     (sym (lines-append told (tolds_behind course)) ∙ ap lines_of_told (seconds-told course c.requires.may.more))
-    (leaves-more c.in-Err.why (g.K.Sink.output c.args.out.now) (g.K.Sink.output c.put_seconds.new.out) (lines_of_told told)
+    (leaves-more c.in-Err.why (g.K.Sink.output c.args.out.now)
+    (g.K.Sink.output c.put_seconds.new.out) (lines_of_told told)
     (lines_of_told (tolds_behind course)) c.in-Err.ensures.err)
 
 pub returns-clause-ok : goal.returns-clause-ok
@@ -84,5 +88,6 @@ returns-clause-err g c =
     (λ (why : CampaignFault). LeftBy why o q _) c.put_behind.result
     (λ why left. subst (λ (lines : Lines). LeftBy why o q lines)
     (sym (lines-append told (tolds_behind course)) ∙ ap lines_of_told (seconds-told course c.requires.may.more))
-    (leaves-after why o p q (lines_of_told told) (lines_of_told (tolds_behind course)) c.in_default.ensures.ok.wrote left))
+    (leaves-after why o p q (lines_of_told told)
+    (lines_of_told (tolds_behind course)) c.in_default.ensures.ok.wrote left))
     c.put_behind.ensures.err

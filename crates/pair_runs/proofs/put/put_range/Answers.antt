@@ -21,8 +21,10 @@ loop-slot-init g c =
       own = c.requires.own;
       ahead = c.requires.ahead;
       work = c.requires.work;
-      few = sums-weaker (distances_of common) 0 (most_of_slot * c.args.from) c.args.tally.now.sums c.requires.few (omega arith);
-      put = subst (λ (n : ℕ). PutFirsts o o c.args.tally.now c.args.tally.now (tolds_of_firsts common (firsts_between common c.args.from n))
+      few = sums-weaker (distances_of common) 0 (most_of_slot * c.args.from)
+          c.args.tally.now.sums c.requires.few (omega arith);
+      put = subst (λ (n : ℕ). PutFirsts o o c.args.tally.now c.args.tally.now
+          (tolds_of_firsts common (firsts_between common c.args.from n))
           (text_of_firsts common (firsts_between common c.args.from n))) none (firsts-none o c.args.tally.now);
     }
 
@@ -52,7 +54,8 @@ loop-slot-preserved g c =
     let v = c.put_slot.new.tally in
     let told = pair_tolds common.list.now common.script.now common.within common.own in
     let lines = first_fault_lines common.list.now common.script.now common.within common.own in
-    let more : firsts_between common from count ++ firsts_of common slot ≡ firsts_between common from (slot + 1 - from) =
+    let more : firsts_between common from count ++ firsts_of common slot
+    ≡ firsts_between common from (slot + 1 - from) =
     sym (range-next (firsts_of common) from count slot here) ∙ ap (firsts_between common from) next in
     let joined = firsts-join o p q t c.loop-slot.tally v _ _ _ _ c.loop-slot.invariant.put c.in_default.ensures.ok in
     record {
@@ -63,10 +66,12 @@ loop-slot-preserved g c =
           (c.in_default.ensures.few (most_of_slot * slot) c.loop-slot.invariant.few) (omega arith);
       put = record {
         wrote = subst (λ (ls : Lines). WroteLines o q ls)
-            (sym (flat_map-append lines (firsts_between common from count) (firsts_of common slot)) ∙ ap (flat_map lines) more)
+            (sym (flat_map-append lines (firsts_between common from count) (firsts_of common slot))
+            ∙ ap (flat_map lines) more)
             joined.wrote;
         sums = subst (λ (ps : List PairTold). AddsTo t.sums v.sums ps)
-            (sym (flat_map-append told (firsts_between common from count) (firsts_of common slot)) ∙ ap (flat_map told) more)
+            (sym (flat_map-append told (firsts_between common from count) (firsts_of common slot))
+            ∙ ap (flat_map told) more)
             joined.sums;
       };
     }
@@ -86,12 +91,16 @@ returns-in-Err-clause-err g c =
     let q = g.K.Sink.output c.put_slot.new.out in
     let lines = first_fault_lines common.list.now common.script.now common.within common.own in
     let rest = flat_map (firsts_of common) (range_with_len (slot + 1) (end - (slot + 1))) in
-    let whole : firsts_between common from count ++ (firsts_of common slot ++ rest) ≡ firsts_between common from (end - from) =
+    let whole : firsts_between common from count ++ (firsts_of common slot ++ rest)
+    ≡ firsts_between common from (end - from) =
     range-rest (firsts_of common) from count (end - from) slot (end - (slot + 1)) here left in
-    left-in c.in-Err.why o p q (text_of_firsts common (firsts_between common from count)) (text_of_firsts common (firsts_of common slot))
+    left-in c.in-Err.why o p q (text_of_firsts common (firsts_between common from count))
+    (text_of_firsts common (firsts_of common slot))
     (text_of_firsts common rest) (text_of_firsts common (firsts_between common from (end - from)))
-    (ap (λ ls. text_of_firsts common (firsts_between common from count) ++ ls) (sym (flat_map-append lines (firsts_of common slot) rest))
-    ∙ sym (flat_map-append lines (firsts_between common from count) (firsts_of common slot ++ rest)) ∙ ap (flat_map lines) whole)
+    (ap (λ ls. text_of_firsts common (firsts_between common from count) ++ ls)
+    (sym (flat_map-append lines (firsts_of common slot) rest))
+    ∙ sym (flat_map-append lines (firsts_between common from count) (firsts_of common slot ++ rest))
+    ∙ ap (flat_map lines) whole)
     c.loop-slot.invariant.put.wrote c.in-Err.ensures.err
 
 pub returns-clause-ok : goal.returns-clause-ok
@@ -100,6 +109,8 @@ returns-clause-ok g c =
     let from = c.args.from in
     let end : c.loop-slot.slot ≡ c.args.end =
     omega (arith, c.loop-slot.auto.slot-end, c.loop-slot-test.false, c.requires.from) in
-    subst (λ (n : ℕ). PutFirsts (g.K.Sink.output c.args.out.now) (g.K.Sink.output c.loop-slot.out) c.args.tally.now c.loop-slot.tally
-    (tolds_of_firsts common (firsts_between common from (n - from))) (text_of_firsts common (firsts_between common from (n - from))))
+    subst (λ (n : ℕ). PutFirsts (g.K.Sink.output c.args.out.now)
+    (g.K.Sink.output c.loop-slot.out) c.args.tally.now c.loop-slot.tally
+    (tolds_of_firsts common (firsts_between common from (n - from)))
+    (text_of_firsts common (firsts_between common from (n - from))))
     end c.loop-slot.invariant.put

@@ -12,7 +12,8 @@ pub put_tolds-requires-clause-count : goal.put_tolds-requires-clause-count
 put_tolds-requires-clause-count g c =
     let all : c.as_slice.result.now ≡ map (pair_tried c.args.course.now c.args.apart) c.args.faults.now =
     c.as_slice.ensures.value ∙ c.in-Ok.ensures in
-    subst (λ (n : ℕ). n ≤ most_tried) (sym (ap length all ∙ length-map c.args.faults.now (pair_tried c.args.course.now c.args.apart)))
+    subst (λ (n : ℕ). n ≤ most_tried)
+    (sym (ap length all ∙ length-map c.args.faults.now (pair_tried c.args.course.now c.args.apart)))
     c.requires.count
 
 pub put_tolds-requires-clause-few : goal.put_tolds-requires-clause-few

@@ -32,12 +32,14 @@ returns-clause-ok g c =
     let common = c.args.common.now in
     subst (λ (faults : List Event). OnOk c.put_groups.result (PutFirsts (g.K.Sink.output c.args.out.now)
     (g.K.Sink.output c.put_groups.new.out) c.args.tally.now c.put_groups.new.tally
-    (tolds_of_firsts common (firsts_among c.args.slot faults)) (text_of_firsts common (firsts_among c.args.slot faults))))
+    (tolds_of_firsts common (firsts_among c.args.slot faults))
+    (text_of_firsts common (firsts_among c.args.slot faults))))
     (c.as_slice.ensures ∙ c.in-Ok-faults_at.ensures) c.put_groups.ensures.ok
 
 pub returns-clause-err : goal.returns-clause-err
 returns-clause-err g c =
     let common = c.args.common.now in
-    subst (λ (faults : List Event). IfErr c.put_groups.result (λ (why : CampaignFault). LeftBy why (g.K.Sink.output c.args.out.now)
+    subst (λ (faults : List Event).
+    IfErr c.put_groups.result (λ (why : CampaignFault). LeftBy why (g.K.Sink.output c.args.out.now)
     (g.K.Sink.output c.put_groups.new.out) (text_of_firsts common (firsts_among c.args.slot faults))))
     (c.as_slice.ensures ∙ c.in-Ok-faults_at.ensures) c.put_groups.ensures.err

@@ -22,15 +22,19 @@ returns-clause-ok g c =
     let common = c.args.common.now in
     let end = c.end_of-end.result in
     subst (λ (firsts : List FirstFault). OnOk c.put_range.result (PutFirsts (g.K.Sink.output c.args.out.now)
-    (g.K.Sink.output c.put_range.new.out) c.args.tally.now c.put_range.new.tally (tolds_of_firsts common firsts) (text_of_firsts common firsts)))
-    (ap (λ (n : ℕ). firsts_between common n (end - n)) c.min-from.ensures ∙ firsts-range common end c.end_of-end.ensures)
+    (g.K.Sink.output c.put_range.new.out) c.args.tally.now c.put_range.new.tally
+    (tolds_of_firsts common firsts) (text_of_firsts common firsts)))
+    (ap (λ (n : ℕ). firsts_between common n (end - n)) c.min-from.ensures
+    ∙ firsts-range common end c.end_of-end.ensures)
     c.put_range.ensures.ok
 
 pub returns-clause-err : goal.returns-clause-err
 returns-clause-err g c =
     let common = c.args.common.now in
     let end = c.end_of-end.result in
-    subst (λ (firsts : List FirstFault). IfErr c.put_range.result (λ (why : CampaignFault). LeftBy why (g.K.Sink.output c.args.out.now)
+    subst (λ (firsts : List FirstFault).
+    IfErr c.put_range.result (λ (why : CampaignFault). LeftBy why (g.K.Sink.output c.args.out.now)
     (g.K.Sink.output c.put_range.new.out) (text_of_firsts common firsts)))
-    (ap (λ (n : ℕ). firsts_between common n (end - n)) c.min-from.ensures ∙ firsts-range common end c.end_of-end.ensures)
+    (ap (λ (n : ℕ). firsts_between common n (end - n)) c.min-from.ensures
+    ∙ firsts-range common end c.end_of-end.ensures)
     c.put_range.ensures.err

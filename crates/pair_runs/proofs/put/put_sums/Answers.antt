@@ -29,7 +29,8 @@ returns-in-Err-put_counts_line-clause-err g c = λ tolds are.
     let p = g.K.Sink.output c.put_distances.new.out in
     let q = g.K.Sink.output c.put_counts_line.new.out in
     let why = c.in-Err-put_counts_line.why in
-    let left = subst (λ (counts : PairCounts). LeftFewerBy why p q (pair_counts_line (codes "kept ") counts ∷ [])) are.kept
+    let left = subst (λ (counts : PairCounts).
+    LeftFewerBy why p q (pair_counts_line (codes "kept ") counts ∷ [])) are.kept
     c.in-Err-put_counts_line.ensures.err in
     fewer-after why o p q (distance_lines tolds c.args.distances) (kept_line tolds ∷ broken_line tolds ∷ [])
     (c.in_default.ensures.ok tolds are) (fewer-more why p q (kept_line tolds ∷ []) (broken_line tolds ∷ []) left)
@@ -40,14 +41,16 @@ returns-clause-ok g c = λ tolds are.
     let p = g.K.Sink.output c.put_distances.new.out in
     let q = g.K.Sink.output c.put_counts_line.new.out in
     let r = g.K.Sink.output c.put_counts_line-2.new.out in
-    let wrote_kept = subst (λ (counts : PairCounts). WroteLines p q (pair_counts_line (codes "kept ") counts ∷ [])) are.kept
+    let wrote_kept = subst (λ (counts : PairCounts).
+    WroteLines p q (pair_counts_line (codes "kept ") counts ∷ [])) are.kept
     c.in_default-put_counts_line.ensures.ok in
     ok-weaker (WroteLines q r (pair_counts_line (codes "broken ") c.args.sums.now.broken ∷ [])) (WroteLines o r _)
     c.put_counts_line-2.result
     (λ wrote. Wrote-join o p r (distance_lines tolds c.args.distances) (kept_line tolds ∷ broken_line tolds ∷ [])
     (c.in_default.ensures.ok tolds are)
     (Wrote-join p q r (kept_line tolds ∷ []) (broken_line tolds ∷ []) wrote_kept
-    (subst (λ (counts : PairCounts). WroteLines q r (pair_counts_line (codes "broken ") counts ∷ [])) are.broken wrote)))
+    (subst (λ (counts : PairCounts).
+    WroteLines q r (pair_counts_line (codes "broken ") counts ∷ [])) are.broken wrote)))
     c.put_counts_line-2.ensures.ok
 
 pub returns-clause-err : goal.returns-clause-err
@@ -56,12 +59,15 @@ returns-clause-err g c = λ tolds are.
     let p = g.K.Sink.output c.put_distances.new.out in
     let q = g.K.Sink.output c.put_counts_line.new.out in
     let r = g.K.Sink.output c.put_counts_line-2.new.out in
-    let wrote_kept = subst (λ (counts : PairCounts). WroteLines p q (pair_counts_line (codes "kept ") counts ∷ [])) are.kept
+    let wrote_kept = subst (λ (counts : PairCounts).
+    WroteLines p q (pair_counts_line (codes "kept ") counts ∷ [])) are.kept
     c.in_default-put_counts_line.ensures.ok in
-    err-weaker (λ (why : CampaignFault). LeftFewerBy why q r (pair_counts_line (codes "broken ") c.args.sums.now.broken ∷ []))
+    err-weaker (λ (why : CampaignFault).
+    LeftFewerBy why q r (pair_counts_line (codes "broken ") c.args.sums.now.broken ∷ []))
     (λ (why : CampaignFault). LeftFewerBy why o r _) c.put_counts_line-2.result
     (λ why few. fewer-after why o p r (distance_lines tolds c.args.distances) (kept_line tolds ∷ broken_line tolds ∷ [])
     (c.in_default.ensures.ok tolds are)
     (fewer-after why p q r (kept_line tolds ∷ []) (broken_line tolds ∷ []) wrote_kept
-    (subst (λ (counts : PairCounts). LeftFewerBy why q r (pair_counts_line (codes "broken ") counts ∷ [])) are.broken few)))
+    (subst (λ (counts : PairCounts).
+    LeftFewerBy why q r (pair_counts_line (codes "broken ") counts ∷ [])) are.broken few)))
     c.put_counts_line-2.ensures.err

@@ -37,8 +37,10 @@ returns-then-has_line-clause-ok g c = λ pair is at.
     let p = g.K.Sink.output c.write.new.out in
     let yes : pair.yes ≡ told.yes = sym (ap (λ (t : Told). t.yes) is) in
     let class = ap (λ (t : Told). t.class) is in
-    let same = ap (λ (line : List ℕ). line ∷ []) c.bytes.ensures ∙ line-told told pair is (sym c.has_line.ensures ∙ c.if-has_line.true) in
-    ok-weaker (WroteLines o p (c.bytes.result.now ∷ [])) (PutPairs o p c.args.tally.now c.count.new.self (pair ∷ [])) c.write.result
+    let same = ap (λ (line : List ℕ). line ∷ []) c.bytes.ensures
+    ∙ line-told told pair is (sym c.has_line.ensures ∙ c.if-has_line.true) in
+    ok-weaker (WroteLines o p (c.bytes.result.now ∷ []))
+    (PutPairs o p c.args.tally.now c.count.new.self (pair ∷ [])) c.write.result
     (λ wrote. record {
       wrote = subst (λ (lines : Lines). WroteLines o p lines) same wrote;
       sums = c.count.ensures.sums pair at yes class;
@@ -52,8 +54,10 @@ returns-then-has_line-clause-err g c = λ pair is.
     let told = c.args.told.now in
     let o = g.K.Sink.output c.args.out.now in
     let p = g.K.Sink.output c.write.new.out in
-    let same = ap (λ (line : List ℕ). line ∷ []) c.bytes.ensures ∙ line-told told pair is (sym c.has_line.ensures ∙ c.if-has_line.true) in
-    subst (λ (lines : Lines). IfErr c.write.result (λ (why : CampaignFault). LeftBy why o p lines)) same c.write.ensures.left
+    let same = ap (λ (line : List ℕ). line ∷ []) c.bytes.ensures
+    ∙ line-told told pair is (sym c.has_line.ensures ∙ c.if-has_line.true) in
+    subst (λ (lines : Lines). IfErr c.write.result (λ (why : CampaignFault). LeftBy why o p lines))
+    same c.write.ensures.left
 
 pub returns-clause-ok : goal.returns-clause-ok
 returns-clause-ok g c = λ pair is at.

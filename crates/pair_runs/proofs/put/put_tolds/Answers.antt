@@ -1,4 +1,5 @@
-use Rattle.std.proofs.Common.{◌≡◌, ◌+◌, ◌<◌, ℕ, List, ◌∷◌, [], length, get_or, take, ap, sym, subst, ◌∙◌, arith, take_all}
+use Rattle.std.proofs.Common.{◌≡◌, ◌+◌, ◌<◌, ℕ, List, ◌∷◌, [], length, get_or}
+use Rattle.std.proofs.Common.{take, ap, sym, subst, ◌∙◌, arith, take_all}
 use Rattle.std.specs.Prelude.{map}
 use Rattle.std.proofs.lemmas.List.{length-map, get_or-map, take_more}
 use Rattle.fault_pairs.specs.PairText.{lines_of_told}
@@ -31,7 +32,8 @@ put_told-requires g c =
     }
 
 -- the pair of the run that is told
-one-of : (pairs : List PairTold) (all : List Told) (told : Told) (i : ℕ) → all ≡ map shortened pairs → told ≡ get_or all i told
+one-of : (pairs : List PairTold) (all : List Told) (told : Told) (i : ℕ) → all
+    ≡ map shortened pairs → told ≡ get_or all i told
     → i < length all → (i < length pairs) × (told ≡ shortened (get_or pairs i no_told))
 one-of pairs all told i are is inside =
     let within : i < length pairs = omega (arith, ap length are, length-map pairs shortened, inside) in (

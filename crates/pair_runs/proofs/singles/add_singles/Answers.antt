@@ -14,7 +14,8 @@ loop-fault-preserved c =
     let script = c.args.script.now in
     let single : Single = record { fault = c.copy_of.result; harm = c.in_ok-harm.harm } in
     let is : IsSingle list script single =
-    c.in_ok-harm.ensures.harm ∙ ap (λ (e : Event). harm_of (summary_with list script e).cost) (sym c.copy_of.ensures) in (
+    c.in_ok-harm.ensures.harm
+    ∙ ap (λ (e : Event). harm_of (summary_with list script e).cost) (sym c.copy_of.ensures) in (
       subst (λ (all : List Single). All (IsSingle list script) all) (sym c.in_ok-push.ensures.items)
           (All-push (IsSingle list script) _ single c.loop-fault.invariant.0 is),
       c.in_ok-harm.ensures.run,

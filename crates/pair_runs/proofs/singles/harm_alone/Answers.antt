@@ -6,7 +6,8 @@ use Rattle.pair_runs.proofs.Harms.{cost-ordered}
 use Rattle.pair_runs.proofs.singles.harm_alone.Goals as goal
 
 pub harm_of-requires : goal.harm_of-requires
-harm_of-requires c = cost-ordered c.args.list.now c.in_ok-more.more c.in_ok-cost.cost c.requires.valid c.in_ok-cost.ensures
+harm_of-requires c = cost-ordered c.args.list.now c.in_ok-more.more
+    c.in_ok-cost.cost c.requires.valid c.in_ok-cost.ensures
 
 pub returns : goal.returns
 returns c =

@@ -6,9 +6,11 @@ use Rattle.pair_runs.proofs.Harms.{cost-ordered}
 use Rattle.pair_runs.proofs.singles.harm_with.Goals as goal
 
 pub harm_of-requires : goal.harm_of-requires
-harm_of-requires c = cost-ordered c.args.list.now c.in_ok-more.more c.in_ok-cost.cost c.requires.valid c.in_ok-cost.ensures.cost
+harm_of-requires c = cost-ordered c.args.list.now c.in_ok-more.more c.in_ok-cost.cost
+    c.requires.valid c.in_ok-cost.ensures.cost
 
 pub returns-clause-harm : goal.returns-clause-harm
 returns-clause-harm c =
     c.harm_of.ensures
-    ∙ ap harm_of (c.in_ok-cost.ensures.cost ∙ ap (λ (s : Script). (summary c.args.list.now s).cost) c.in_ok-more.ensures)
+    ∙ ap harm_of (c.in_ok-cost.ensures.cost
+    ∙ ap (λ (s : Script). (summary c.args.list.now s).cost) c.in_ok-more.ensures)

@@ -9,7 +9,8 @@ use Rattle.pair_runs.proofs.tried.form_line.Goals as goal
 
 pub put_pair-requires-clause-hurt : goal.put_pair-requires-clause-hurt
 put_pair-requires-clause-hurt c =
-    cost-ordered c.args.course.now.common.list.now c.args.both.now c.args.cost.now c.requires.may.may.valid c.requires.cost
+    cost-ordered c.args.course.now.common.list.now c.args.both.now c.args.cost.now
+    c.requires.may.may.valid c.requires.cost
 
 pub returns : goal.returns
 returns c =

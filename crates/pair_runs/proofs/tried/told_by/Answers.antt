@@ -18,7 +18,8 @@ pair_class-class-requires-clause-ordered c =
     let script = c.args.course.now.common.script.now in
     let valid = c.requires.may.may.valid in
     record {
-      both = harm-ordered list c.args.both.now c.args.harms.now.both valid (c.requires.harm ∙ ap harm_of c.requires.cost);
+      both = harm-ordered list c.args.both.now c.args.harms.now.both valid
+          (c.requires.harm ∙ ap harm_of c.requires.cost);
       one = harm-ordered list (with_fault script c.args.course.now.one.now) c.args.harms.now.one valid
           (c.requires.first ∙ c.requires.may.first);
       two = harm-ordered list (with_fault script c.args.two.now) c.args.harms.now.two valid c.requires.second;
@@ -30,7 +31,8 @@ line_of-requires-clause-ordered c =
     let script = c.args.course.now.common.script.now in
     let valid = c.requires.may.may.valid in
     record {
-      both = harm-ordered list c.args.both.now c.args.harms.now.both valid (c.requires.harm ∙ ap harm_of c.requires.cost);
+      both = harm-ordered list c.args.both.now c.args.harms.now.both valid
+          (c.requires.harm ∙ ap harm_of c.requires.cost);
       one = harm-ordered list (with_fault script c.args.course.now.one.now) c.args.harms.now.one valid
           (c.requires.first ∙ c.requires.may.first);
       two = harm-ordered list (with_fault script c.args.two.now) c.args.harms.now.two valid c.requires.second;
@@ -45,7 +47,8 @@ pair_class-class-requires-clause-first c =
 pub pair_class-class-requires-clause-second : goal.pair_class-class-requires-clause-second
 pair_class-class-requires-clause-second c =
     subst (λ (k : ℕ). k < 24) (sym c.fault_node-2.ensures)
-    (may-node c.args.course.now.common.list.now c.args.course.now.common.script.now c.args.two.now c.requires.may.may.valid
+    (may-node c.args.course.now.common.list.now
+    c.args.course.now.common.script.now c.args.two.now c.requires.may.may.valid
     c.requires.two)
 
 pub returns : goal.returns
@@ -65,8 +68,10 @@ returns c =
     ≡ pair_class (fault_node course.one.now) (fault_node two) (harm_of (summary list c.args.both.now).cost) course.first
     c.args.harms.now.two =
     c.pair_class-class.ensures
-    ∙ (λ i. pair_class (c.fault_node.ensures i) (c.fault_node-2.ensures i) (harm i) (c.requires.first i) c.args.harms.now.two) in
-    let line = λ (k : PairClass) (first : Harm). pair_line list k one second course.common.own first c.args.harms.now.two
+    ∙ (λ i. pair_class (c.fault_node.ensures i) (c.fault_node-2.ensures i) (harm i)
+    (c.requires.first i) c.args.harms.now.two) in
+    let line = λ (k : PairClass) (first : Harm).
+    pair_line list k one second course.common.own first c.args.harms.now.two
     (summary list c.args.both.now) in
     (λ i. record {
       yes = c.says_yes.ensures i;

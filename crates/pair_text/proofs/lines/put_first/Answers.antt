@@ -29,5 +29,6 @@ returns c = λ one is.
     ∙ ap (λ (w : List ℕ). w ++ codes " ")
     (c.in_ok-put_run.ensures ∙ ap (λ (w : List ℕ). w ++ run) c.in_ok-put_place.ensures)))))
     ∙ seven-behind text (place_words fault) run (codes " ") counts (codes " fault ") (fault_words fault) newline
-    ∙ (λ i. text ++ (place_words (same i) ++ run ++ codes " " ++ counts ++ codes " fault " ++ fault_words (same i) ++ newline)) in
+    ∙ (λ i. text ++ (place_words (same i) ++ run ++ codes " " ++ counts
+    ++ codes " fault " ++ fault_words (same i) ++ newline)) in
     subst (λ (w : List ℕ). OnOk c.put-3.result (c.put-3.new.self ≡ w)) behind c.put-3.ensures

@@ -1,4 +1,5 @@
-use Rattle.picture_text.proofs.Words.{◌≡◌, ◌∙◌, ap, subst, ℕ, ◌+◌, ◌*◌, List, ◌++◌, [], ◌∷◌, map, codes, arith, below, row_line}
+use Rattle.picture_text.proofs.Words.{◌≡◌, ◌∙◌, ap, subst, ℕ, ◌+◌, ◌*◌, List, ◌++◌}
+use Rattle.picture_text.proofs.Words.{[], ◌∷◌, map, codes, arith, below, row_line}
 use Rattle.picture_text.proofs.Words.{Puts, row_y}
 use Rattle.std.proofs.Common.{decimal}
 use Rattle.ttp_base.proofs.Puts.{puts_both, puts_first, puts_two}
@@ -28,7 +29,8 @@ returns g c =
     let puts = puts_both c.put_node_rows.ensures
     (puts_first (row (codes "members") _ _ n c.make_row.ensures c.row_y.ensures.value) c.write.ensures
     (puts_two (row (codes "clocks") _ _ (n + 1) c.make_row-2.ensures c.row_y-2.ensures.value)
-    (row (codes "apart") _ _ (n + 2) c.make_row-3.ensures c.row_y-3.ensures.value) c.write-2.ensures c.write-3.ensures)) in
+    (row (codes "apart") _ _ (n + 2) c.make_row-3.ensures c.row_y-3.ensures.value)
+    c.write-2.ensures c.write-3.ensures)) in
     subst (λ (m : ℕ). Puts c.args.sheet.now.failed (g.K.Sink.output c.args.out.now) c.write-3.new.self.failed
     (g.K.Sink.output c.write-3.new.out)
     (map (λ k. row_line (row_y n c.args.frame.span (c.args.frame.span.first + m * c.args.band) k + 14)

@@ -1,4 +1,5 @@
-use Rattle.picture_text.proofs.Words.{◌*◌, ◌==◌, sym, set_bits, hex, ack_word, number_or_dash, word_text, signed_decimal}
+use Rattle.picture_text.proofs.Words.{◌*◌, ◌==◌, sym, set_bits, hex, ack_word, number_or_dash}
+use Rattle.picture_text.proofs.Words.{word_text, signed_decimal}
 use Rattle.std.proofs.Common.{SFits, w64, rules, decimal}
 use Rattle.std.proofs.lemmas.Int.{to_z-of_z}
 use Rattle.ttp_base.proofs.Gathered.{gather-behind}

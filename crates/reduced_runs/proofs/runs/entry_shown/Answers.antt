@@ -7,5 +7,6 @@ pub returns : goal.returns
 returns c =
     let states = c.states.ensures c.args.script.now (c.args.slot + 1) c.requires.run (omega arith) in
     ap (λ (k : ℕ). (get_or c.states.result.now k c.index-states-from.result).entry) c.from.ensures
-    ∙ shown-entry c.args.list.now c.args.script.now c.args.slot c.args.node c.states.result.now c.index-states-from.result
+    ∙ shown-entry c.args.list.now c.args.script.now c.args.slot c.args.node
+    c.states.result.now c.index-states-from.result
     states c.requires.node

@@ -4,4 +4,5 @@ use Rattle.reduced_runs.proofs.script.kept_events.Given as goal
 
 -- those so far, with what is kept of the events from here on
 abbrev pub invariant-loop-place : goal.invariant-loop-place
-invariant-loop-place l = l.kept ++ events_kept l.places l.place (drop l.place l.events) ≡ events_kept l.places 0 l.events
+invariant-loop-place l =
+    l.kept ++ events_kept l.places l.place (drop l.place l.events) ≡ events_kept l.places 0 l.events

@@ -16,7 +16,8 @@ returns-then-stays_off-clause-value c = λ past phase offset.
     let k = c.args.node in
     let slot = c.args.slot in
     near-same slot c.args.offset c.requires.near c.requires.slot
-    ∙ clock-stays list k (is_on script k slot) (is_armed script k slot) past (jump_of script k slot) c.args.offset offset
+    ∙ clock-stays list k (is_on script k slot) (is_armed script k slot) past
+    (jump_of script k slot) c.args.offset offset
     (ap (λ (p : Phase). is_off_phase p && not (is_on script k slot)) phase
     ∙ sym c.stays_off.ensures ∙ c.if-stays_off.true)
 
@@ -33,7 +34,8 @@ returns-else-stays_off-clause-value c = λ past phase offset.
     ∙ to_z-of_z w64 (c.args.offset +ℤ jump)
     (jumped-fits slot c.args.offset jump c.requires.near c.requires.slot c.incidents.ensures.bounds.jump)
     ∙ ap (λ (n : Incidents). c.args.offset +ℤ n.jump) c.incidents.ensures.value
-    ∙ clock-moves list k (is_on script k slot) (is_armed script k slot) past (jump_of script k slot) c.args.offset offset
+    ∙ clock-moves list k (is_on script k slot) (is_armed script k slot) past
+    (jump_of script k slot) c.args.offset offset
     (ap (λ (p : Phase). is_off_phase p && not (is_on script k slot)) phase
     ∙ sym c.stays_off.ensures ∙ c.if-stays_off.false)
 

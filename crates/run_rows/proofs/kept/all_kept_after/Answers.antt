@@ -52,7 +52,8 @@ pub kept_next-requires-clause-after : goal.kept_next-requires-clause-after
 kept_next-requires-clause-after c =
     let here = (goal.at.kept_next-requires-clause-after c).After-index-states-at in
     subst (λ (p : Place). p.slot < length c.args.list.now.slots)
-    (sym (λ i. place_after c.args.list.now c.loop-node.node (joined_place (kept-here here i).place) (entry-here here i)))
+    (sym (λ i. place_after c.args.list.now c.loop-node.node
+    (joined_place (kept-here here i).place) (entry-here here i)))
     (next-of_list c.args.list.now c.args.script.now c.args.slot c.loop-node.node c.requires.list (less here)).slot
 
 pub loop-node-preserved : goal.loop-node-preserved

@@ -12,7 +12,8 @@ loop-slot-preserved c =
       run = c.step.ensures;
       kept = c.all_kept_after-kept.ensures;
       begun = c.all_begun-begun.ensures;
-      rows = c.in_ok-push_rows.ensures ∙ ap (λ rows. rows ++ rows_of list (slot_in list script slot)) c.loop-slot.invariant.rows
+      rows = c.in_ok-push_rows.ensures
+          ∙ ap (λ rows. rows ++ rows_of list (slot_in list script slot)) c.loop-slot.invariant.rows
           ∙ ap (rows_in list script) (sym (add-one slot));
       near = near-next list script slot c.loop-slot.invariant.near c.loop-slot.invariant.begun.near;
     }

@@ -32,7 +32,8 @@ and-noted : (slot : ℕ) (row : List Entry) (history : History) → OfFive (λ k
 and-noted slot row history sound good tells before = (
   before,
   record {
-    good = λ k is p none. each (λ j. TellsOf five_clocks late_jump history (sender one_jump (suc slot)) j (entry_of row j))
+    good = λ k is p none. each
+        (λ j. TellsOf five_clocks late_jump history (sender one_jump (suc slot)) j (entry_of row j))
         tells k p.0;
     begins = λ k inside enter. absurd (false≢true enter);
     other = λ k is p. absurd (true≢false (sym good ∙ is));

@@ -17,4 +17,5 @@ returns-in-Some c = on_ok_weaker c.take_form.result (λ takes before stands.
 pub returns-in-None : goal.returns-in-None
 returns-in-None c = on_ok_weaker c.tell.result (λ now before stands.
     takes_none c.args.list.now before _ _ _ _ _ _ _ _ c.spot_text-name.ensures.text
-    (sym c.is_comment.ensures ∙ c.if-is_comment.false) (sym c.form_named.ensures ∙ c.in-None.is) now stands) c.tell.ensures
+    (sym c.is_comment.ensures ∙ c.if-is_comment.false)
+    (sym c.form_named.ensures ∙ c.in-None.is) now stands) c.tell.ensures

@@ -25,7 +25,16 @@ returns c = on_ok_weaker c.take_marked.result (λ takes before stands.
     c.in_ok-tell.ensures (takes before stands)) c.take_marked.ensures
 
 pub take_marked-requires-clause-count : goal.take_marked-requires-clause-count
-take_marked-requires-clause-count c = let count = count_spots c.args.line.now in let words = ap length c.requires.words in
+take_marked-requires-clause-count c = let count = count_spots c.args.line.now in
+    let words = ap length c.requires.words in
     let size = c.requires.size in
     let less = length-drop 1 c.args.words.now in
-    omega (arith, take_all (length c.args.words.now - 1) (drop 1 c.args.words.now) (omega (arith, less)), count, words, size, less)
+    omega (
+      arith,
+      take_all (length c.args.words.now - 1) (drop 1 c.args.words.now)
+          (omega (arith, less)),
+      count,
+      words,
+      size,
+      less,
+    )

@@ -20,4 +20,5 @@ pub returns : goal.returns
 returns c = λ before stands.
     takes_short c.args.list.now before _ _ _ _ c.args.words.now _ _ _ _ _ c.requires.other
     (comment_is c.args.line.now c.args.words.now _ (spot 0 0) c.in-Some.ensures.within c.in-Some.ensures.comment)
-    c.in-Some.ensures.front (grind (arith, nat_tests)) c.in_ok-tell.ensures (c.name-2.ensures c.args.list.now before stands)
+    c.in-Some.ensures.front (grind (arith, nat_tests)) c.in_ok-tell.ensures
+    (c.name-2.ensures c.args.list.now before stands)

@@ -8,4 +8,5 @@ pub returns : goal.returns
 returns c =
     let none = word_errors_end c.args.list.now c.args.slots c.args.node c.args.number c.args.line.now c.args.parts.now
     c.args.words.now c.loop-i.i c.requires.full (omega arith) in
-    sym (append-nil c.loop-i.found) ∙ ap (λ (es : List ScriptError). c.loop-i.found ++ es) (sym none) ∙ c.loop-i.invariant
+    sym (append-nil c.loop-i.found)
+    ∙ ap (λ (es : List ScriptError). c.loop-i.found ++ es) (sym none) ∙ c.loop-i.invariant

@@ -11,7 +11,8 @@ loop-node-init g c = Wrote-none _
 pub loop-node-preserved : goal.loop-node-preserved
 loop-node-preserved g c =
     let script = c.args.script.now in
-    WroteLines-below _ _ _ [] (λ k. drift_lines k (drift_of script k)) c.loop-node.node c.loop-node.invariant c.in_ok-put_drift.ensures.ok
+    WroteLines-below _ _ _ [] (λ k. drift_lines k (drift_of script k)) c.loop-node.node
+    c.loop-node.invariant c.in_ok-put_drift.ensures.ok
 
 pub returns-in_err-put_drift-clause-failed : goal.returns-in_err-put_drift-clause-failed
 returns-in_err-put_drift-clause-failed g c =

@@ -3,7 +3,8 @@ use Rattle.single_faults.proofs.laws.more_is_valid.Goals as goal
 
 pub returns-clause-valid : goal.returns-clause-valid
 returns-clause-valid c =
-    with_fault-valid c.args.list.now c.args.script.now c.args.fault.now c.requires.script c.requires.fault c.requires.room
+    with_fault-valid c.args.list.now c.args.script.now c.args.fault.now
+    c.requires.script c.requires.fault c.requires.room
 
 pub returns-clause-events : goal.returns-clause-events
 returns-clause-events c =

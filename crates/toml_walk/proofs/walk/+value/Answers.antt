@@ -4,7 +4,8 @@ use Rattle.toml_parser.specs.Lexical.{first, skip_blank}
 use Rattle.toml_parser.specs.Reading.{key_view}
 use Rattle.toml_walk.specs.Walk.{value}
 use Rattle.toml_walk.specs.Names.{nothing_noted}
-use Rattle.toml_walk.proofs.Steps.{members_end, members_no_key, members_no_value, members_twice, members_no_end, members_on}
+use Rattle.toml_walk.proofs.Steps.{members_end, members_no_key, members_no_value}
+use Rattle.toml_walk.proofs.Steps.{members_twice, members_no_end, members_on}
 use Rattle.toml_walk.proofs.Steps.{match_err, walks_err, value_at_most, value_array, value_table, value_atom}
 use Rattle.toml_walk.proofs.walk.+value.Goals as goal
 
@@ -82,7 +83,8 @@ inline_table-returns-in_err-turn-clause-value c c' n h =
     let l = c'.members in
     let (m, room, noted, stands, loop) = l.invariant.2 n h in
     let up : suc (m - 1) ≡ m = omega arith in
-    walks_err _ c'.from_residual-in_err-turn.result _ c'.in_err-turn.field-0.0 _ c'.from_residual-in_err-turn.ensures.1 (λ y p. p) λ x is.
+    walks_err _ c'.from_residual-in_err-turn.result _ c'.in_err-turn.field-0.0 _
+    c'.from_residual-in_err-turn.ensures.1 (λ y p. p) λ x is.
     loop ∙ (rw up at (c'.in_err-turn.ensures.value (m - 1) noted stands)) x is
 
 pub inline_table-members-preserved : goal.inline_table-members-preserved
@@ -123,7 +125,8 @@ member_turn-returns-in_err-after-clause-value c c' n noted stands =
     let other : (first (skip_blank text) == 125) ≡ false = grind (arith, common_steps) in
     let key = key_view c'.in_ok-key.key in
     let read = rw start_is at c'.in_ok-key.ensures.value in
-    match_err _ c'.from_residual-in_err-after.result _ c'.in_err-after.field-0.0 _ c'.from_residual-in_err-after.ensures.1 (λ y p. p) (λ x stops.
+    match_err _ c'.from_residual-in_err-after.result _ c'.in_err-after.field-0.0 _
+    c'.from_residual-in_err-after.ensures.1 (λ y p. p) (λ x stops.
     members_no_value v n noted text key _ other read x (c'.in_err-after.ensures.value x stops))
 
 pub member_turn-returns-in_err-put-clause-value : goal.member_turn-returns-in_err-put-clause-value
@@ -134,8 +137,10 @@ member_turn-returns-in_err-put-clause-value c c' n noted stands =
     let other : (first (skip_blank text) == 125) ≡ false = grind (arith, common_steps) in
     let key = key_view c'.in_ok-key.key in
     let read = rw start_is at c'.in_ok-key.ensures.value in
-    match_err _ c'.from_residual-in_err-put.result _ c'.in_err-put.field-0.0 _ c'.from_residual-in_err-put.ensures.1 (λ y p. p) (λ x stops.
-    members_twice v n noted text key _ other read _ x c'.in_ok-after.ensures.value (rw start_is at (c'.in_err-put.ensures noted stands stands.root x stops)))
+    match_err _ c'.from_residual-in_err-put.result _ c'.in_err-put.field-0.0 _
+    c'.from_residual-in_err-put.ensures.1 (λ y p. p) (λ x stops.
+    members_twice v n noted text key _ other read _ x c'.in_ok-after.ensures.value
+    (rw start_is at (c'.in_err-put.ensures noted stands stands.root x stops)))
 
 pub member_turn-returns-in_err-after_element-clause-value : goal.member_turn-returns-in_err-after_element-clause-value
 member_turn-returns-in_err-after_element-clause-value c c' n noted stands =
@@ -146,8 +151,10 @@ member_turn-returns-in_err-after_element-clause-value c c' n noted stands =
     let key = key_view c'.in_ok-key.key in
     let read = rw start_is at c'.in_ok-key.ensures.value in
     let (more, once, after) = rw start_is at (c'.in_ok-put.ensures noted stands stands.root) in
-    match_err _ c'.from_residual-in_err-after_element.result _ c'.in_err-after_element.field-0.0 _ c'.from_residual-in_err-after_element.ensures.1 (λ y p. p) (λ x stops.
-    members_no_end v n noted text key _ other read _ more x c'.in_ok-after.ensures.value once (c'.in_err-after_element.ensures.value x stops))
+    match_err _ c'.from_residual-in_err-after_element.result _ c'.in_err-after_element.field-0.0 _
+    c'.from_residual-in_err-after_element.ensures.1 (λ y p. p) (λ x stops.
+    members_no_end v n noted text key _ other read _ more x c'.in_ok-after.ensures.value once
+    (c'.in_err-after_element.ensures.value x stops))
 
 pub member_turn-returns-clause-value : goal.member_turn-returns-clause-value
 member_turn-returns-clause-value c c' n noted stands =
@@ -157,5 +164,9 @@ member_turn-returns-clause-value c c' n noted stands =
     let other : (first (skip_blank text) == 125) ≡ false = grind (arith, common_steps) in
     let key = key_view c'.in_ok-key.key in
     let read = rw start_is at c'.in_ok-key.ensures.value in
-    let (more, once, after) = rw start_is at (c'.in_ok-put.ensures noted stands stands.root) in
-    (more, members_on v n noted text key _ other read _ more _ c'.in_ok-after.ensures.value once c'.in_ok-after_element.ensures.value, after)
+    let (more, once, after) = rw start_is at (c'.in_ok-put.ensures noted stands stands.root) in (
+      more,
+      members_on v n noted text key _ other read _ more _ c'.in_ok-after.ensures.value once
+          c'.in_ok-after_element.ensures.value,
+      after,
+    )

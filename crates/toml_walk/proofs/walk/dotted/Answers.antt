@@ -11,11 +11,13 @@ loop-part-preserved c =
     let l = c.loop-part in
     let part = c.part-item.result in
     let more : c.push.new.self.items ≡ (l.bytes.items ++ string_bytes part) ++ 46 ∷ [] = grind (arith, common_steps) in
-    rw more (l.invariant ∙ dotted_on l.bytes.items c.args.key.now.path.items (string_bytes c.args.key.now.last) l.part-index part (grind (arith, common_steps)) (rw c.as_slice-part-items.ensures.value at c.part-item.is))
+    rw more (l.invariant ∙ dotted_on l.bytes.items c.args.key.now.path.items (string_bytes c.args.key.now.last)
+    l.part-index part (grind (arith, common_steps)) (rw c.as_slice-part-items.ensures.value at c.part-item.is))
 
 pub returns : goal.returns
 returns c =
     let l = c.loop-part in
     let last = string_bytes c.args.key.now.last in
     let whole : c.from_vec.result ≡ l.bytes.items ++ last = grind (arith, common_steps) in
-    whole ∙ sym (l.invariant ∙ rw (dotted_end c.args.key.now.path.items last l.part-index (grind (arith, common_steps))))
+    whole ∙ sym (l.invariant
+    ∙ rw (dotted_end c.args.key.now.path.items last l.part-index (grind (arith, common_steps))))

@@ -25,8 +25,10 @@ returns-in_err-define-clause-value c n sections is =
     let text = c.args.s.now in
     let start_is = c.skip_blank-start.ensures.rest in
     let some : (length (skip_blank text) == 0) ≡ false = grind (arith, common_steps) in
-    match_err _ c.from_residual-in_err-define.result _ c.in_err-define.field-0.0 _ c.from_residual-in_err-define.ensures.1 (λ y p. p)
-    (λ x stops. lines_twice n sections text (statement_view c.in_ok-statement.statement) c.in_ok-statement.rest.now x some
+    match_err _ c.from_residual-in_err-define.result _ c.in_err-define.field-0.0 _
+    c.from_residual-in_err-define.ensures.1 (λ y p. p)
+    (λ x stops. lines_twice n sections text
+    (statement_view c.in_ok-statement.statement) c.in_ok-statement.rest.now x some
     (rw start_is at c.in_ok-statement.ensures.value) (rw start_is at (c.in_err-define.ensures sections is x stops)))
 
 pub returns-clause-value : goal.returns-clause-value

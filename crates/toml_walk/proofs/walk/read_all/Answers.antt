@@ -30,7 +30,8 @@ returns-in_err-turn c =
     let m = l.invariant.2 in
     let room = l.invariant.3 in
     let up : suc (m - 1) ≡ m = omega (arith, room) in
-    walks_err _ c.from_residual-in_err-turn.result _ c.in_err-turn.field-0.0 _ c.from_residual-in_err-turn.ensures.1 (λ y p. p)
+    walks_err _ c.from_residual-in_err-turn.result _ c.in_err-turn.field-0.0 _
+    c.from_residual-in_err-turn.ensures.1 (λ y p. p)
     (λ x stops. l.invariant.6 ∙ (rw up at (c.in_err-turn.ensures.value (m - 1) l.invariant.4 l.invariant.5)) x stops)
 
 pub lines-preserved : goal.lines-preserved
@@ -40,5 +41,13 @@ lines-preserved c =
     let room = l.invariant.3 in
     let up : suc (m - 1) ≡ m = omega (arith, room) in
     let shorter = rw c.in-Goes.is at c.in_ok-turn.ensures.shorter in
-    let (more, on, after) = rw (up, c.in-Goes.is) at (c.in_ok-turn.ensures.value (m - 1) l.invariant.4 l.invariant.5) in
-    (search rules, omega (arith, l.invariant.1, shorter), m - 1, omega (arith, shorter, room), more, after, l.invariant.6 ∙ on)
+    let (more, on, after) = rw (up, c.in-Goes.is) at (c.in_ok-turn.ensures.value (m - 1) l.invariant.4 l.invariant.5) in (
+      search rules,
+      omega (arith, l.invariant.1, shorter),
+      m
+          - 1,
+      omega (arith, shorter, room),
+      more,
+      after,
+      l.invariant.6 ∙ on,
+    )

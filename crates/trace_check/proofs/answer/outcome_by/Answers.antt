@@ -10,7 +10,8 @@ use Rattle.trace_check.proofs.answer.outcome_by.Goals.{in-Ok, in-Err}
 
 pub returns-in-Ok-empty-clause-same : goal.returns-in-Ok-empty-clause-same
 returns-in-Ok-empty-clause-same c =
-    let none : c.in-Ok-empty.field-0.now ≡ [] = empty_rest c.in-Ok-empty.field-0.now (omega (arith, c.in-Ok-empty.len_below)) in (
+    let none : c.in-Ok-empty.field-0.now ≡ [] =
+    empty_rest c.in-Ok-empty.field-0.now (omega (arith, c.in-Ok-empty.len_below)) in (
       λ same.
           numbers-is_trace c.args.list.now c.args.script.now c.args.text.now c.requires.list c.requires.script
           (whole-trace c.args.list.now c.args.script.now c.args.text.now
@@ -20,7 +21,8 @@ returns-in-Ok-empty-clause-same c =
 
 pub returns-in-Ok-empty-clause-differs : goal.returns-in-Ok-empty-clause-differs
 returns-in-Ok-empty-clause-differs c line =
-    let none : c.in-Ok-empty.field-0.now ≡ [] = empty_rest c.in-Ok-empty.field-0.now (omega (arith, c.in-Ok-empty.len_below)) in
+    let none : c.in-Ok-empty.field-0.now ≡ [] =
+    empty_rest c.in-Ok-empty.field-0.now (omega (arith, c.in-Ok-empty.len_below)) in
     let trace = whole-trace c.args.list.now c.args.script.now c.args.text.now
     (subst (IsTraceAnd c.args.list.now c.args.script.now c.args.text.now) none c.in-Ok-empty.ensures.ok) in (
       λ same. absurd cc,

@@ -6,7 +6,8 @@ use Rattle.trace_check.proofs.Rings.{after-own, after-same, after-status, line_r
 use Rattle.trace_check.proofs.Rings.{newer_payload, newer_status, newest-payload, newest-status}
 use Rattle.trace_check.proofs.Shown.{number-few}
 use Rattle.trace_check.proofs.hosts.behind_newer.Goals as goal
-use Rattle.trace_check.proofs.hosts.behind_newer.Goals.{in_default-via-in-Some+else-delivered-from, in_default-via-in_default}
+use Rattle.trace_check.proofs.hosts.behind_newer.Goals.{in_default-via-in-Some+else-delivered-from}
+use Rattle.trace_check.proofs.hosts.behind_newer.Goals.{in_default-via-in_default}
 
 pub overflow_add-number : goal.overflow_add-number
 overflow_add-number c =

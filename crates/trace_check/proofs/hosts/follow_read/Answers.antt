@@ -34,7 +34,8 @@ returns-in-Some-clause-ok c = λ script history chosen earlier ended count knows
     let incoming = c.args.incoming.now in
     let before : c.newest-before.result ≡ newest_before list script history read =
     c.newest-before.ensures list script history count ended.rings c.requires.ring in
-    let low : floor_of incoming read.host read.source ≤ c.newest-before.result = c.may_read.ensures.0 c.if-may_read.true in
+    let low : floor_of incoming read.host read.source ≤ c.newest-before.result =
+    c.may_read.ensures.0 c.if-may_read.true in
     reads-older list script history chosen earlier read incoming knows c.requires.ring c.args.text.now
     c.in-Some.rest.now (omega (arith, low, before))
     (sym (c.in-Some.ensures script history chosen count ended.rings))

@@ -3,7 +3,8 @@ use Rattle.trace_check.proofs.Words.{slice_get-get_or, HostRead, read_messages, 
 use Rattle.ttp_world.specs.declared.script.Source.TheVariants as source
 use Rattle.trace_check.proofs.Ended.{ended-slot}
 use Rattle.trace_check.proofs.Labels.{passed_up}
-use Rattle.trace_check.proofs.SlotReads.{HasReadSoFar, ended-same, past-same, read-all, read-amiss, read-next, read-none}
+use Rattle.trace_check.proofs.SlotReads.{HasReadSoFar, ended-same, past-same, read-all}
+use Rattle.trace_check.proofs.SlotReads.{read-amiss, read-next, read-none}
 use Rattle.trace_check.proofs.SlotReads.{ring_of_script, same-twice, tells-same}
 use Rattle.trace_check.proofs.hosts.follow_reads.Goals as goal
 

@@ -5,12 +5,14 @@ use Rattle.std.proofs.lemmas.List.{append-nil}
 use Rattle.ttp_world.proofs.HostMessages.{valid_write_at}
 use Rattle.trace_check.proofs.Labels.{passed_up}
 use Rattle.trace_check.proofs.Writes.{split_at, taken}
-use Rattle.trace_check.proofs.Written.{HasWrittenLines, lines_along, lines-depart, lines-next, lines-none, number-small, written-all}
+use Rattle.trace_check.proofs.Written.{HasWrittenLines, lines_along, lines-depart, lines-next}
+use Rattle.trace_check.proofs.Written.{lines-none, number-small, written-all}
 use Rattle.trace_check.proofs.hosts.follow_writes.Goals as goal
 use Rattle.trace_check.proofs.hosts.follow_writes.Goals.{in-Some+in_ok-rest, in_default}
 
 pub loop-at-init : goal.loop-at-init
-loop-at-init c = lines-none c.args.outgoing.now c.args.list.now c.args.script.now c.args.slot c.args.text.now c.requires.chosen
+loop-at-init c = lines-none c.args.outgoing.now c.args.list.now c.args.script.now
+    c.args.slot c.args.text.now c.requires.chosen
 
 pub write-number-requires-clause-newest : goal.write-number-requires-clause-newest
 write-number-requires-clause-newest c =

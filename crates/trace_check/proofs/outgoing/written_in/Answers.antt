@@ -2,7 +2,8 @@ use Rattle.trace_check.proofs.Words.{◌≡◌, ◌∙◌, ◌+◌, ◌++◌, �
 use Rattle.trace_check.proofs.Words.{length-append, slice_get, option_map, filter_map, take_all, host_write, write_at}
 use Rattle.trace_check.proofs.Words.{messages_written}
 use Rattle.std.proofs.lemmas.Option.{slice_get_past}
-use Rattle.trace_check.proofs.Writes.{found, messages_at, messages_at-own, messages_at-other, messages_at-none, messages_by}
+use Rattle.trace_check.proofs.Writes.{found, messages_at, messages_at-own, messages_at-other}
+use Rattle.trace_check.proofs.Writes.{messages_at-none, messages_by}
 use Rattle.trace_check.proofs.outgoing.written_in.Goals as goal
 use Rattle.trace_check.proofs.outgoing.written_in.Goals.{in-Some+then-written-host+else-before-eq0}
 use Rattle.trace_check.proofs.outgoing.written_in.Goals.{in-Some+else-written-host, in_default}

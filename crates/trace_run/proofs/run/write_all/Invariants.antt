@@ -8,5 +8,6 @@ use Rattle.trace_run.proofs.run.write_all.Given as goal
 abbrev pub invariant-loop-at : goal.invariant-loop-at
 invariant-loop-at l = record {
   few : l.count ≤ l.at-index;
-  has : HasCounted l.outgoing l.list l.script l.slot l.count (filter_map (write_at l.script) (take l.at-index l.places));
+  has : HasCounted l.outgoing l.list l.script l.slot l.count
+      (filter_map (write_at l.script) (take l.at-index l.places));
 }

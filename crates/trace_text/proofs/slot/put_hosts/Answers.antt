@@ -46,5 +46,6 @@ returns-in_err-put_writes-clause-failed g c =
     let cut = subst (λ (ws : List WriteLine). CutShort a b (map (write_text report.slot) ws)) c.as_slice.ensures
     c.in_err-put_writes.ensures.failed in
     rw failed.1
-    (CutShort-more a b (map (write_text report.slot) report.writes) (map (read_text c.args.list.now report.slot) report.reads)
+    (CutShort-more a b (map (write_text report.slot) report.writes)
+    (map (read_text c.args.list.now report.slot) report.reads)
     cut)

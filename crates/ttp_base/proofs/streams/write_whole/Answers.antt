@@ -15,7 +15,8 @@ returns-in-Ok-2-clause-front g c =
 pub returns-in-Err-clause-quiet : goal.returns-in-Err-clause-quiet
 returns-in-Err-clause-quiet g c =
     on_ok_weaker c.write_rest-in-Err.result
-    (no_fault-join _ (g.T.Target.told c.write.new.self) _ (interrupted _ _ c.in-Err.trouble c.if-is_interruption.ensures c.in-Err.ensures.tells)) c.write_rest-in-Err.ensures.quiet
+    (no_fault-join _ (g.T.Target.told c.write.new.self) _ (interrupted _ _ c.in-Err.trouble c.if-is_interruption.ensures
+    c.in-Err.ensures.tells)) c.write_rest-in-Err.ensures.quiet
 
 pub returns-in-Err-clause-told : goal.returns-in-Err-clause-told
 returns-in-Err-clause-told g c =
@@ -23,4 +24,5 @@ returns-in-Err-clause-told g c =
     let rest = c.write_rest-in-Err in
     IfErr-weaker rest.result (ToldFault (told c.write.new.self) (told rest.new.target))
     (ToldFault (told c.args.target.now) (told rest.new.target))
-    (λ t. fault-join _ (told c.write.new.self) _ t (interrupted _ _ c.in-Err.trouble c.if-is_interruption.ensures c.in-Err.ensures.tells)) rest.ensures.told
+    (λ t. fault-join _ (told c.write.new.self) _ t
+    (interrupted _ _ c.in-Err.trouble c.if-is_interruption.ensures c.in-Err.ensures.tells)) rest.ensures.told

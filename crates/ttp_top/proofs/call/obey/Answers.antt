@@ -1,4 +1,5 @@
-use Rattle.ttp_top.proofs.Terms.{refl, ap, sym, subst, ◌∙◌, inl, alone, outside, BenchPlan, ttpbench, plan_of, usage_line}
+use Rattle.ttp_top.proofs.Terms.{refl, ap, sym, subst, ◌∙◌, inl, alone, outside}
+use Rattle.ttp_top.proofs.Terms.{BenchPlan, ttpbench, plan_of, usage_line}
 use Rattle.commands.specs.Lines.{notice}
 use Rattle.commands.specs.Outcome.{Follows}
 use Rattle.commands.proofs.Loads.{said}
@@ -17,10 +18,13 @@ returns-in-Sample-clause-follows g c = rw (sym c.in-Sample.ensures.form) c.sampl
 
 pub returns-in-Ask-clause-follows : goal.returns-in-Ask-clause-follows
 returns-in-Ask-clause-follows g c =
-    let is = sym (plan_of-told c.in-Ask.list.now c.in-Ask.script.now c.in-Ask.question) ∙ ap plan_of c.in-Ask.ensures.form in
+    let is = sym (plan_of-told c.in-Ask.list.now c.in-Ask.script.now c.in-Ask.question)
+    ∙ ap plan_of c.in-Ask.ensures.form in
     rw c.take.ensures.after
-    (subst (λ (p : BenchPlan). Follows ttpbench p (outside (g.L.Library.files c.args.library.now) (g.K.Sink.output c.args.out.now))
-    (outside (g.L.Library.files c.ask.new.library) (g.K.Sink.output c.ask.new.out)) (alone c.ask.result)) is c.ask.ensures)
+    (subst (λ (p : BenchPlan).
+    Follows ttpbench p (outside (g.L.Library.files c.args.library.now) (g.K.Sink.output c.args.out.now))
+    (outside (g.L.Library.files c.ask.new.library) (g.K.Sink.output c.ask.new.out)) (alone c.ask.result)) is
+    c.ask.ensures)
 
 pub returns-in-NoForm-clause-follows : goal.returns-in-NoForm-clause-follows
 returns-in-NoForm-clause-follows g c =

@@ -15,7 +15,8 @@ returns-in-Ok-put_summary g c =
     let valid = subst (IsValidScript list) made c.requires.script in
     let w : HasCountedAll list script cluster totals =
     all_counted list script cluster totals c.requires.valid valid list_is script_is done c.in-Ok.ensures.ok in
-    let wrote = rw (c.list.ensures.value, list_is, c.script.ensures.value, script_is) at c.in-Ok-put_summary.ensures.ok in
+    let wrote = rw (c.list.ensures.value, list_is, c.script.ensures.value, script_is) at
+    c.in-Ok-put_summary.ensures.ok in
     sample_said list c.args.slots c.args.number (g.K.Sink.output c.args.out.now)
     (g.K.Sink.output c.put_summary.new.out) cluster totals w wrote
 
@@ -32,6 +33,7 @@ returns-in-Err-put_summary g c =
     let valid = subst (IsValidScript list) made c.requires.script in
     let w : HasCountedAll list script cluster totals =
     all_counted list script cluster totals c.requires.valid valid list_is script_is done c.in-Ok.ensures.ok in
-    let cut = rw (c.list.ensures.value, list_is, c.script.ensures.value, script_is) at c.in-Err-put_summary.ensures.failed in
+    let cut = rw (c.list.ensures.value, list_is, c.script.ensures.value, script_is)
+    at c.in-Err-put_summary.ensures.failed in
     sample_stopped list c.args.slots c.args.number (g.K.Sink.output c.args.out.now)
     (g.K.Sink.output c.put_summary.new.out) cluster totals w cut

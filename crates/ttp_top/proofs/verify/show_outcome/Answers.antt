@@ -11,8 +11,10 @@ returns-in-Ok-Differs g c =
     let script = c.args.script.now in
     let text = c.args.text.now in
     let line = c.in-Ok-Differs.line in
-    let said = said_as ttpbench 1 _ (differs_line line) _ _ _ (c.bytes.ensures ∙ c.differs_line.ensures) c.say-in-Ok-Differs.ensures in
+    let said = said_as ttpbench 1 _ (differs_line line) _ _ _
+    (c.bytes.ensures ∙ c.differs_line.ensures) c.say-in-Ok-Differs.ensures in
     let same = rw c.in-Ok-Differs.field-0-is at c.in-Ok-Differs.ensures.same in
     let modes = whole_ending 0 (one (mode_lines list script (numbers_in list script (lines_of text)))) in
     inl (differs-said (if c.args.wants_modes then modes else line_ending 0 same_line) list script text line _ _ _
-    (differs-none list script text line same) ((c.in-Ok-Differs.ensures.differs line).0 c.in-Ok-Differs.field-0-is) said)
+    (differs-none list script text line same)
+    ((c.in-Ok-Differs.ensures.differs line).0 c.in-Ok-Differs.field-0-is) said)

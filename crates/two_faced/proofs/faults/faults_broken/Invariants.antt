@@ -7,4 +7,5 @@ use Rattle.two_faced.proofs.faults.faults_broken.Given as goal
 -- the least so far and that of the events that are left is that of all
 abbrev pub invariant-loop-event : goal.invariant-loop-event
 invariant-loop-event l =
-    lesser_of l.least (least_of (filter_map first_fault_slot (drop l.event-index l.script.events))) ≡ faults_broken l.script
+    lesser_of l.least (least_of (filter_map first_fault_slot (drop l.event-index l.script.events)))
+    ≡ faults_broken l.script

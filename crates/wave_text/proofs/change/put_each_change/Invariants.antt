@@ -1,4 +1,5 @@
-use Rattle.wave_text.proofs.Words.{take, flat_map, node_value, node_code, node_variables, changes_by, Puts, unless_first}
+use Rattle.wave_text.proofs.Words.{take, flat_map, node_value, node_code, node_variables}
+use Rattle.wave_text.proofs.Words.{changes_by, Puts, unless_first}
 use Rattle.wave_text.proofs.change.put_each_change.Given as goal
 
 -- the changes so far were put

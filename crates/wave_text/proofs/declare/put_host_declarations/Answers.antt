@@ -1,4 +1,5 @@
-use Rattle.wave_text.proofs.Words.{◌∙◌, ap, sym, ◌==◌, if◌then◌else◌, List, ℕ, [], arith, take_all, flat_map, subst, Puts}
+use Rattle.wave_text.proofs.Words.{◌∙◌, ap, sym, ◌==◌, if◌then◌else◌, List, ℕ}
+use Rattle.wave_text.proofs.Words.{[], arith, take_all, flat_map, subst, Puts}
 use Rattle.wave_text.proofs.Words.{Port, port_declarations}
 use Rattle.shown_slot.specs.declared.host.What.TheVariants as what
 use Rattle.wave_text.proofs.Puts.{flat_map-filter, puts_at}

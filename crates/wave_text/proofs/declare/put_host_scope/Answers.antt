@@ -1,4 +1,5 @@
-use Rattle.wave_text.proofs.Words.{◌≡◌, ◌==◌, true, false, ap, sym, list_any, host_scope, Port, puts_both, puts_none, subst, Puts}
+use Rattle.wave_text.proofs.Words.{◌≡◌, ◌==◌, true, false, ap, sym, list_any, host_scope}
+use Rattle.wave_text.proofs.Words.{Port, puts_both, puts_none, subst, Puts}
 use Rattle.std.proofs.Common.{rules}
 use Rattle.wave_text.proofs.Hosts.{no_scope, host_scope_of}
 use Rattle.wave_text.proofs.declare.put_host_scope.Goals as goal

@@ -7,7 +7,8 @@ returns-clause-value c =
     let trace = c.args.trace.now in
     let lines = flat_map (λ slot. slot.hosts) trace.slots in
     let n = c.head-head.result.nodes in
-    c.in_ok-ports.ensures ∙ noted_ports c.sizes_in-sizes.result lines n c.sizes_in-sizes.ensures c.head-head.ensures.nodes.1
+    c.in_ok-ports.ensures ∙ noted_ports c.sizes_in-sizes.result lines n
+    c.sizes_in-sizes.ensures c.head-head.ensures.nodes.1
     ∙ ap (λ (h : Head). ports_of h.nodes lines) c.head-head.ensures.value
 
 pub returns-clause-letters : goal.returns-clause-letters
@@ -16,5 +17,6 @@ returns-clause-letters c =
     let lines = flat_map (λ slot. slot.hosts) trace.slots in
     let n = c.head-head.result.nodes in
     subst (λ (ports : List Port). All HasLetters ports)
-    (sym (c.in_ok-ports.ensures ∙ noted_ports c.sizes_in-sizes.result lines n c.sizes_in-sizes.ensures c.head-head.ensures.nodes.1))
+    (sym (c.in_ok-ports.ensures
+    ∙ noted_ports c.sizes_in-sizes.result lines n c.sizes_in-sizes.ensures c.head-head.ensures.nodes.1))
     (have_letters lines n c.head-head.ensures.nodes.1)

@@ -23,4 +23,5 @@ loop-lines-preserved c =
     slots-taken-more c.loop-lines.sizes sizes c.args.trace.now.slots c.next_hosts.new.self next.0
     (subst (AreSlotsTaken c.loop-lines.sizes c.args.trace.now.slots) next.1 known) (omega (arith, known.size))
     (λ k does before has is.
-    subst (λ (lines : List HostLine). HasMost sizes (before ++ lines) k does) next.2 (c.note_sizes.ensures k does before has is))
+    subst (λ (lines : List HostLine). HasMost sizes (before ++ lines) k does) next.2
+    (c.note_sizes.ensures k does before has is))

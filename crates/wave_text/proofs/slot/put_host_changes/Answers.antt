@@ -1,4 +1,5 @@
-use Rattle.wave_text.proofs.Words.{◌∙◌, ap, sym, ◌==◌, if◌then◌else◌, [], arith, take_all, flat_map, option_map, Lines, subst, Puts}
+use Rattle.wave_text.proofs.Words.{◌∙◌, ap, sym, ◌==◌, if◌then◌else◌, [], arith, take_all}
+use Rattle.wave_text.proofs.Words.{flat_map, option_map, Lines, subst, Puts}
 use Rattle.wave_text.proofs.Words.{Port, unless_first, port_message, port_changes}
 use Rattle.shown_slot.specs.declared.host.What.TheVariants as what
 use Rattle.wave_text.proofs.Puts.{flat_map-filter, puts_at}

@@ -7,5 +7,6 @@ returns g c =
     let earlier = read_unless_first (λ (slot : SlotLines). node_at slot c.args.node) c.args.is_first
     c.node_at-earlier.ensures in
     puts_both
-    (subst (Puts _ _ _ _) (λ i. node_changes c.args.width c.args.node (earlier i) (c.node_at-shown.ensures i)) c.put_node_changes.ensures)
+    (subst (Puts _ _ _ _) (λ i. node_changes c.args.width c.args.node (earlier i) (c.node_at-shown.ensures i))
+    c.put_node_changes.ensures)
     c.put_host_changes.ensures

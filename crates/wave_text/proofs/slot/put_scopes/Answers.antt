@@ -4,5 +4,6 @@ use Rattle.wave_text.proofs.slot.put_scopes.Goals as goal
 pub loop-node-preserved : goal.loop-node-preserved
 loop-node-preserved g c =
     puts_below _ _ _ _ _ _
-    (scope_changes c.args.width c.args.ports.now (unless_first c.args.is_first c.args.before.now.slot) c.args.now.now.slot)
+    (scope_changes c.args.width c.args.ports.now
+    (unless_first c.args.is_first c.args.before.now.slot) c.args.now.now.slot)
     c.loop-node.node c.loop-node.invariant c.put_scope_changes.ensures

@@ -1,4 +1,5 @@
-use Rattle.wave_text.proofs.Words.{◌≡◌, ◌∙◌, ap, sym, subst, ℕ, List, ◌++◌, length, get_or, take, arith, Option, Message}
+use Rattle.wave_text.proofs.Words.{◌≡◌, ◌∙◌, ap, sym, subst, ℕ, List, ◌++◌, length}
+use Rattle.wave_text.proofs.Words.{get_or, take, arith, Option, Message}
 use Rattle.wave_text.proofs.Words.{HasNewest}
 use Rattle.std.proofs.Common.{drop}
 use Rattle.std.proofs.Math.Seq.{take-append_seam}

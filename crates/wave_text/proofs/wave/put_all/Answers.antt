@@ -10,4 +10,5 @@ returns g c =
     (puts_both c.put_head.ensures
     (subst (Puts _ _ _ _) (λ i. declarations (width i) (head i).nodes (found i)) c.put_declarations.ensures))
     (puts_both c.put.ensures
-    (subst (Puts _ _ _ _) (λ i. all_slots_lines (width i) (head i).nodes (found i) (c.slots.ensures i)) c.put_slots.ensures))
+    (subst (Puts _ _ _ _) (λ i. all_slots_lines (width i) (head i).nodes (found i)
+    (c.slots.ensures i)) c.put_slots.ensures))

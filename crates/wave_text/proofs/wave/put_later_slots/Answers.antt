@@ -1,4 +1,5 @@
-use Rattle.wave_text.proofs.Words.{◌+◌, ◌++◌, ap, sym, ◌∙◌, length, arith, SlotLines, later_lines, slot_change_lines, subst, Puts}
+use Rattle.wave_text.proofs.Words.{◌+◌, ◌++◌, ap, sym, ◌∙◌, length, arith, SlotLines}
+use Rattle.wave_text.proofs.Words.{later_lines, slot_change_lines, subst, Puts}
 use Rattle.wave_text.proofs.Words.{puts_both, refl}
 use Rattle.wave_text.proofs.wave.put_later_slots.Goals as goal
 

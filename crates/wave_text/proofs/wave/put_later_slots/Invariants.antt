@@ -6,7 +6,8 @@ use Rattle.wave_text.proofs.wave.put_later_slots.Given as goal
 abbrev pub invariant-loop-slot : goal.invariant-loop-slot
 invariant-loop-slot g l = record {
   goes_on : (fails : Bool) (end : Output)
-      → Puts l.page.sheet.failed (g.K.Sink.output l.out) fails end (later_lines l.width l.nodes l.ports l.time l.before.slot l.slots)
+      → Puts l.page.sheet.failed (g.K.Sink.output l.out) fails end
+      (later_lines l.width l.nodes l.ports l.time l.before.slot l.slots)
       → Puts l.fn.page.sheet.failed (g.K.Sink.output l.fn.out) fails end
       (later_lines l.width l.nodes l.ports 1 l.fn.first.slot l.fn.slots);
   few : l.time + length l.slots ≤ 20000;

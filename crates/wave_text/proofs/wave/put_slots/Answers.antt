@@ -1,10 +1,12 @@
-use Rattle.wave_text.proofs.Words.{◌++◌, ap, sym, ◌∙◌, refl, SlotLines, all_slots_lines, first_slot_lines, later_lines, subst, Puts}
+use Rattle.wave_text.proofs.Words.{◌++◌, ap, sym, ◌∙◌, refl, SlotLines, all_slots_lines}
+use Rattle.wave_text.proofs.Words.{first_slot_lines, later_lines, subst, Puts}
 use Rattle.wave_text.proofs.Words.{puts_both}
 use Rattle.wave_text.proofs.wave.put_slots.Goals as goal
 
 pub returns-in-None : goal.returns-in-None
 returns-in-None g c =
-    subst (Puts _ _ _ _) (sym (ap (all_slots_lines c.args.width c.args.nodes c.args.ports.now) (c.in-None.ensures.none refl)))
+    subst (Puts _ _ _ _) (sym
+    (ap (all_slots_lines c.args.width c.args.nodes c.args.ports.now) (c.in-None.ensures.none refl)))
     c.put_time.ensures
 
 pub returns-in-Some : goal.returns-in-Some

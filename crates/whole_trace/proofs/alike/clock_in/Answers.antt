@@ -15,5 +15,7 @@ returns-then-end-eq10 c =
     let bytes = c.args.bytes.now in
     let back = c.split_at.result.1.now in
     let few : length back ≤ 1 = omega (arith, c.split_at.ensures.back_len) in
-    let end : drop (length bytes - 1) bytes ≡ newline = sym c.split_at.ensures.back ∙ one-byte back few c.if-end-eq10.true in
-    clock-takes bytes c.signed_in.result end (c.signed_in.ensures ∙ ap (signed_numeral (10 ^ 18)) c.split_at.ensures.front)
+    let end : drop (length bytes - 1) bytes ≡ newline =
+    sym c.split_at.ensures.back ∙ one-byte back few c.if-end-eq10.true in
+    clock-takes bytes c.signed_in.result end
+    (c.signed_in.ensures ∙ ap (signed_numeral (10 ^ 18)) c.split_at.ensures.front)

@@ -13,7 +13,8 @@ loop-at-preserved c =
     let step = c.behind_node-at.ensures in
     let next = c.behind_node-at.result in
     let here = subst (λ (d : Due). IsInSlot known.place.0 d (lines_of at.rest.now)) node.is known.place.2 in
-    let more = passed node.head node.slot node.node known.place.0 at.rest.now next.rest.now step.0 next.due known.place.1 here
+    let more = passed node.head node.slot node.node known.place.0 at.rest.now
+    next.rest.now step.0 next.due known.place.1 here
     step.1 in record {
       hosts = known.hosts ∙ more.hosts;
       others = known.others ∙ more.others;

@@ -11,7 +11,8 @@ returns-in-Node-clause-some c =
     let at = c.args.at in
     let behind = c.in_ok-line.field-0.behind in
     let fits : SFits w64 n.offset = search rules in
-    let step = subst (λ (v : TraceLine). IsLineStep at.due at.rest.now v behind.due behind.rest.now) n.is c.in_ok-line.ensures.some in
+    let step = subst (λ (v : TraceLine). IsLineStep at.due at.rest.now v behind.due behind.rest.now) n.is
+    c.in_ok-line.ensures.some in
     subst (λ (z : ℤ). IsNodeStep at.due at.rest.now (record {
       word = n.word;
       peer = n.peer;
@@ -22,5 +23,6 @@ returns-in-Node-clause-some c =
       ack = n.ack;
       offset = z;
     }) behind.due behind.rest.now) (sym (to_z-of_z w64 n.offset fits))
-    (node-step at.due behind.due at.rest.now behind.rest.now n.slot n.node n.word n.peer n.message n.wide n.members n.accepted
+    (node-step at.due behind.due at.rest.now behind.rest.now n.slot n.node n.word
+    n.peer n.message n.wide n.members n.accepted
     n.rejected n.ack n.offset step)

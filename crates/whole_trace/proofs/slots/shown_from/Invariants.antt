@@ -8,7 +8,8 @@ use Rattle.whole_trace.proofs.slots.shown_from.Given as goal
 abbrev pub invariant-loop-at : goal.invariant-loop-at
 invariant-loop-at l =
     let left = (slots_from (lines_of l.at.rest.now)).front in record {
-      nodes : (with_shown_node l.fn.first (slots_from (lines_of l.from.rest.now)).front).nodes ≡ take l.count l.nodes ++ left.nodes;
+      nodes : (with_shown_node l.fn.first (slots_from (lines_of l.from.rest.now)).front).nodes
+          ≡ take l.count l.nodes ++ left.nodes;
       hosts : (slots_from (lines_of l.from.rest.now)).front.hosts ≡ left.hosts;
       others : (slots_from (lines_of l.from.rest.now)).slots ≡ (slots_from (lines_of l.at.rest.now)).slots;
       place : IsInSlot l.count l.at.due (lines_of l.at.rest.now);

@@ -13,5 +13,6 @@ returns-then-wide-clause-text c =
 pub returns-else-wide-clause-text : goal.returns-else-wide-clause-text
 returns-else-wide-clause-text c =
     c.put_hex-else-wide.ensures
-    ∙ ap (λ (digits : List ℕ). c.args.line.now ++ digits) (ap (hex 4) c.from-else-wide.ensures ∙ four_digits c.args.members)
+    ∙ ap (λ (digits : List ℕ). c.args.line.now ++ digits)
+    (ap (hex 4) c.from-else-wide.ensures ∙ four_digits c.args.members)
     ∙ ap (λ (w : Bool). c.args.line.now ++ hex (2 * member_bytes w) c.args.members) (sym c.if-wide.false)

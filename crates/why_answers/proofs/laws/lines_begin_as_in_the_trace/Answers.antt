@@ -8,4 +8,5 @@ returns-clause-text c = text-begins c.args.list.now c.args.script.now c.args.num
 pub returns-clause-trace : goal.returns-clause-trace
 returns-clause-trace c = λ numbers k slot legal less.
     let count = legal.count in
-    told-in_trace c.args.list.now c.args.script.now numbers k slot c.requires.script legal.legal (omega (arith, count, less))
+    told-in_trace c.args.list.now c.args.script.now numbers k slot c.requires.script
+    legal.legal (omega (arith, count, less))

@@ -26,13 +26,15 @@ returns g c =
     c.new-lines.ensures
     (c.in_ok-push.ensures.ok ∙ ap (λ (x : List ℕ). c.new-lines.result ++ x ∷ []) c.in_ok-head_line.ensures)
     (c.in_ok-put_named.ensures
-    ∙ ap (λ (ls : List ScriptLine). c.push.new.self ++ named_lines list script numbers c.args.slot c.args.node entry suffices ls)
+    ∙ ap (λ (ls : List ScriptLine). c.push.new.self
+    ++ named_lines list script numbers c.args.slot c.args.node entry suffices ls)
     c.as_slice-3.ensures)
     c.in_ok-put_story.ensures
     (c.in_ok-push-2.ensures.ok ∙ ap (λ (x : List ℕ). c.put_story.new.lines ++ x ∷ []) c.in_ok-last_line.ensures)
     ∙ told-lines list script numbers run c.args.node c.args.slot c.args.story.now entry alone suffices named
     (c.entry-entry.ensures ∙ newest-entry source c.args.slot c.args.node c.requires.count)
-    (c.in_ok-named.ensures ∙ ap (λ (ts : List Told). in_file_order numbers (flat_map (λ t. t.cause.lines) ts)) c.as_slice.ensures)
+    (c.in_ok-named.ensures ∙ ap
+    (λ (ts : List Told). in_file_order numbers (flat_map (λ t. t.cause.lines) ts)) c.as_slice.ensures)
     (c.in_ok-alone.ensures
     ∙ ap (λ (ls : List ScriptLine). entry_alone list script ls c.args.slot c.args.node) c.as_slice-2.ensures)
     c.is_same_word-suffices.ensures

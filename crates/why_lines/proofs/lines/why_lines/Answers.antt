@@ -6,11 +6,13 @@ use Rattle.why_lines.proofs.lines.why_lines.Goals as goal
 
 pub story-requires-clause-slots : goal.story-requires-clause-slots
 story-requires-clause-slots g c =
-    sym (ap (λ (s : RunSource). length s.history) c.requires.source ∙ zeros-slots c.args.list.now c.args.script.now c.args.slot)
+    sym (ap (λ (s : RunSource). length s.history) c.requires.source
+    ∙ zeros-slots c.args.list.now c.args.script.now c.args.slot)
 
 pub lines_told-requires-clause-count : goal.lines_told-requires-clause-count
 lines_told-requires-clause-count g c =
-    ap (λ (s : RunSource). length s.history) c.requires.source ∙ zeros-slots c.args.list.now c.args.script.now c.args.slot
+    ap (λ (s : RunSource). length s.history) c.requires.source
+    ∙ zeros-slots c.args.list.now c.args.script.now c.args.slot
 
 pub returns : goal.returns
 returns g c =

@@ -12,10 +12,12 @@ told_line-requires g c =
     let at = c.loop-place.place - 1 in
     record {
       root = subst (AreRunSpots source) (sym c.root_at-root.ensures)
-          (root-within source at c.as_slice.result.now (subst (AreRunSpots source) (sym c.as_slice.ensures) c.requires.root));
+          (root-within source at c.as_slice.result.now
+          (subst (AreRunSpots source) (sym c.as_slice.ensures) c.requires.root));
       told = told-within source c.as_slice-told.result.now at c.index-told-place.result
           (omega (arith, c.loop-place.invariant)) c.index-told-place.is
-          (subst (λ (ts : List Told). AreRunSpots source (map (λ t. t.spot) ts)) (sym c.as_slice-told.ensures) c.requires.told);
+          (subst (λ (ts : List Told). AreRunSpots source (map (λ t. t.spot) ts))
+          (sym c.as_slice-told.ensures) c.requires.told);
     }
 
 pub loop-place-preserved : goal.loop-place-preserved
@@ -25,7 +27,8 @@ loop-place-preserved g c =
       omega (arith, c.loop-place.invariant),
       c.in_ok-push.ensures.ok
           ∙ story-step c.args.list.now c.args.numbers.now (source_slots (g.C.Causes.source c.args.causes.now))
-          (reverse (map (λ t. t.spot) told)) c.as_slice-in-loop-place.result.now c.args.story.now.root c.root_at-root.result.now told
+          (reverse (map (λ t. t.spot) told)) c.as_slice-in-loop-place.result.now
+          c.args.story.now.root c.root_at-root.result.now told
           c.loop-place.place at c.index-told-place.result c.args.lines.now c.loop-place.lines c.in_ok-line.line
           (omega arith) (omega (arith, c.loop-place.invariant)) c.index-told-place.is
           (c.as_slice-in-loop-place.ensures ∙ c.in_ok-spots.ensures)

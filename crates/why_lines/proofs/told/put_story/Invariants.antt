@@ -10,7 +10,8 @@ abbrev pub invariant-loop-place : goal.invariant-loop-place
 invariant-loop-place g l =
     (l.place ≤ length l.told)
     × (l.lines ≡ l.initial.lines
-    ++ reverse (told_lines l.list l.numbers (source_slots (g.C.Causes.source l.causes)) (reverse (map (λ t. t.spot) l.told))
+    ++ reverse (told_lines l.list l.numbers
+    (source_slots (g.C.Causes.source l.causes)) (reverse (map (λ t. t.spot) l.told))
     (root_at l.place l.story.root) (drop l.place l.told)))
 
 abbrev pub decreases-loop-place : goal.decreases-loop-place

@@ -12,7 +12,8 @@ loop-one-init c =
     let items = c.into_iter-left.ensures.rest ∙ c.into_vec.ensures in (
       subst (AreToldWithin c.args.slots) (sym items) c.requires,
       λ leading marks within.
-          Keeps-init c.args.slots leading (c.args.asked ∷ []) c.args.told _ _ (c.mark.ensures c.args.slots [] c.in_ok-marks.ensures)
+          Keeps-init c.args.slots leading (c.args.asked ∷ []) c.args.told _ _
+          (c.mark.ensures c.args.slots [] c.in_ok-marks.ensures)
           c.new-2.ensures items,
     )
 

@@ -13,11 +13,13 @@ loop-entry-preserved c =
           w.named-is
           ∙ (w.in_ok-push.ensures.ok
           ∙ filter-take (has_spot leading) entries c.loop-entry.named i _ c.loop-entry-test.true
-          (sym (c.has.ensures.whole count leading are within) ∙ w.if-has.true) (c.loop-entry.invariant count leading are within))
+          (sym (c.has.ensures.whole count leading are within) ∙ w.if-has.true)
+          (c.loop-entry.invariant count leading are within))
       | else-has w ↦ λ count leading are within.
           w.named-is
           ∙ filter-skip (has_spot leading) entries c.loop-entry.named i _ c.loop-entry-test.true
-          (sym (c.has.ensures.whole count leading are within) ∙ w.if-has.false) (c.loop-entry.invariant count leading are within)
+          (sym (c.has.ensures.whole count leading are within) ∙ w.if-has.false)
+          (c.loop-entry.invariant count leading are within)
     ]
 
 pub returns : goal.returns

@@ -11,7 +11,8 @@ loop-place-preserved-then-leads_back c =
     let place = c.loop-place.place in (
       omega (arith, c.loop-place.invariant.0),
       leading-more c.args.slots c.args.told.now place (place - 1) c.index-told-place.result true c.loop-place.back _
-          (omega (arith, c.loop-place-test.true)) (omega (arith, c.loop-place-test.true, c.loop-place.invariant.0)) c.index-told-place.is c.requires
+          (omega (arith, c.loop-place-test.true))
+          (omega (arith, c.loop-place-test.true, c.loop-place.invariant.0)) c.index-told-place.is c.requires
           c.loop-place.invariant.1
           (λ spots are within. sym c.if-leads_back.true ∙ c.leads_back.ensures c.args.slots spots are within)
           (c.mark.ensures c.args.slots (leading (drop place c.args.told.now)) c.loop-place.invariant.1),
@@ -22,7 +23,8 @@ loop-place-preserved c =
     let place = c.loop-place.place in (
       omega (arith, c.loop-place.invariant.0),
       leading-more c.args.slots c.args.told.now place (place - 1) c.index-told-place.result false c.loop-place.back _
-          (omega (arith, c.loop-place-test.true)) (omega (arith, c.loop-place-test.true, c.loop-place.invariant.0)) c.index-told-place.is c.requires
+          (omega (arith, c.loop-place-test.true))
+          (omega (arith, c.loop-place-test.true, c.loop-place.invariant.0)) c.index-told-place.is c.requires
           c.loop-place.invariant.1
           (λ spots are within. sym c.if-leads_back.false ∙ c.leads_back.ensures c.args.slots spots are within)
           c.loop-place.invariant.1,

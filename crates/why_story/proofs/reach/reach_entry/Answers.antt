@@ -11,7 +11,8 @@ use Rattle.why_story.proofs.reach.reach_entry.Goals as goal
 
 pub returns-then-not-has : goal.returns-then-not-has
 returns-then-not-has g c = λ count marked slot are.
-    Reaches-unmarked (source_slots (g.C.Causes.source c.args.causes.now)) count c.args.rank marked (spot_at c.args.slot c.args.node)
+    Reaches-unmarked (source_slots (g.C.Causes.source c.args.causes.now)) count c.args.rank
+    marked (spot_at c.args.slot c.args.node)
     c.args.reach.now are (sym (c.has.ensures.inside count marked are slot c.requires.most) ∙ c.if-not-has.true)
 
 pub returns-then-rank_of_entry-rank : goal.returns-then-rank_of_entry-rank
@@ -19,7 +20,8 @@ returns-then-rank_of_entry-rank g c = λ count marked slot are.
     let run = source_slots (g.C.Causes.source c.args.causes.now) in
     let here = spot_at c.args.slot c.args.node in
     Reaches-other run count c.args.rank marked here c.args.reach.now are
-    (not-rank c.entry.result (entry_at_spot run here) c.rank_of_entry.result c.args.rank c.rank_of_entry.ensures c.entry.ensures
+    (not-rank c.entry.result (entry_at_spot run here) c.rank_of_entry.result
+    c.args.rank c.rank_of_entry.ensures c.entry.ensures
     c.if-rank_of_entry-rank.true)
 
 pub returns : goal.returns
@@ -31,7 +33,8 @@ returns g c = λ count marked slot are.
     (λ pushed.
     Reaches-told run count c.args.rank marked here c.args.reach.now _
     (sym (c.has.ensures.inside count marked are slot c.requires.most) ∙ c.if-not-has.false)
-    (is-rank c.entry.result (entry_at_spot run here) c.rank_of_entry.result c.args.rank c.rank_of_entry.ensures c.entry.ensures
+    (is-rank c.entry.result (entry_at_spot run here) c.rank_of_entry.result
+    c.args.rank c.rank_of_entry.ensures c.entry.ensures
     c.if-rank_of_entry-rank.false)
     (subst (λ (es : List Spot). AreMarked count (es ++ marked) c.mark_all.new.self)
     (c.as_slice.ensures ∙ ap (λ (x : Cause). x.entries) c.in_ok-cause.ensures)

@@ -22,5 +22,6 @@ pub returns : goal.returns
 returns g c = λ count marked slot are.
     let run = source_slots (g.C.Causes.source c.args.causes.now) in
     Reaches-left run count c.args.reach.now.told marked (rank_back run c.args.slot c.args.rank c.args.nodes)
-    (rank_back run c.args.slot c.args.rank c.loop-node.node) c.loop-node.reach (c.loop-node.invariant.1 count marked slot are)
+    (rank_back run c.args.slot c.args.rank c.loop-node.node) c.loop-node.reach
+    (c.loop-node.invariant.1 count marked slot are)
     (rank_back-none run c.args.slot c.args.rank c.loop-node.node (omega (arith, c.loop-node-test.false)))

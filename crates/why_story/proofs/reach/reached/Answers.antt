@@ -18,7 +18,8 @@ loop-slot-preserved g c =
     let slot = c.loop-slot.slot in (
       omega (arith, c.loop-slot.invariant.0),
       Reaches-slot (g.C.Causes.source c.args.causes.now) c.args.slots [] c.args.from.now
-          (spots_back (slots_up_to run c.args.slots)) slot (slot - 1) c.args.nodes c.loop-slot.reach _ c.loop-slot.invariant.1
+          (spots_back (slots_up_to run c.args.slots)) slot (slot - 1) c.args.nodes
+          c.loop-slot.reach _ c.loop-slot.invariant.1
           (omega (arith, c.loop-slot-test.true))
           (omega (arith, c.loop-slot-test.true, c.loop-slot.invariant.0, c.requires.slots)) c.requires.nodes
           (λ m marks. c.in_ok-reach_slot.ensures c.args.slots m
@@ -28,5 +29,6 @@ loop-slot-preserved g c =
 pub returns : goal.returns
 returns g c =
     let run = source_slots (g.C.Causes.source c.args.causes.now) in
-    reached-end run c.args.slots c.loop-slot.slot c.args.from.now (spots_back (slots_up_to run c.args.slots)) c.loop-slot.reach
+    reached-end run c.args.slots c.loop-slot.slot c.args.from.now
+    (spots_back (slots_up_to run c.args.slots)) c.loop-slot.reach
     (omega (arith, c.loop-slot-test.false)) c.loop-slot.invariant.1

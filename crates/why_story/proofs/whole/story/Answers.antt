@@ -6,7 +6,8 @@ use Rattle.why_story.specs.Marks.{AreToldWithin}
 use Rattle.why_story.specs.RunSource.{AreRunSpots, source_slots, slots_up_to, spot_at}
 use Rattle.why_story.proofs.Roots.{story-is}
 use Rattle.why_story.proofs.Slots.{length-run}
-use Rattle.why_story.proofs.Within.{AreToldPart, IsPart, kept-part, reached-part, reached-within, root-part, root-within}
+use Rattle.why_story.proofs.Within.{AreToldPart, IsPart, kept-part, reached-part}
+use Rattle.why_story.proofs.Within.{reached-within, root-part, root-within}
 use Rattle.why_story.proofs.whole.story.Goals as goal
 
 pub leading-requires : goal.leading-requires
@@ -15,7 +16,8 @@ leading-requires g c =
     subst (AreToldWithin c.args.slots) (sym (c.as_slice-4.ensures ∙ c.in_ok-told.ensures))
     (root-within c.args.slots c.as_slice-3.result.now c.in_ok-reached.reached
     (subst (AreToldWithin c.args.slots) (sym c.in_ok-reached.ensures)
-    (reached-within source c.args.nodes c.args.slots c.as_slice-2.result.now (omega (arith, c.requires.slots)) c.requires.nodes
+    (reached-within source c.args.nodes c.args.slots c.as_slice-2.result.now
+    (omega (arith, c.requires.slots)) c.requires.nodes
     c.requires.most)))
 
 pub kept_from-requires : goal.kept_from-requires
@@ -24,7 +26,8 @@ kept_from-requires g c =
     subst (AreToldWithin c.args.slots) (sym c.in_ok-told.ensures)
     (root-within c.args.slots c.as_slice-3.result.now c.in_ok-reached.reached
     (subst (AreToldWithin c.args.slots) (sym c.in_ok-reached.ensures)
-    (reached-within source c.args.nodes c.args.slots c.as_slice-2.result.now (omega (arith, c.requires.slots)) c.requires.nodes
+    (reached-within source c.args.nodes c.args.slots c.as_slice-2.result.now
+    (omega (arith, c.requires.slots)) c.requires.nodes
     c.requires.most)))
 
 pub returns-clause-told : goal.returns-clause-told

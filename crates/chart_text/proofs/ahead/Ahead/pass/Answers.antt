@@ -9,6 +9,8 @@ returns-then-is_none c =
 
 pub returns : goal.returns
 returns c =
-    let same = ahead-passed c.self.inside.first c.next_fault-self-inside.result c.self.inside.rest c.next_fault-self-inside.new.self
-    (c.is_none.ensures ∙ ap not c.if-is_none.false) c.next_fault-self-inside.ensures.some c.next_fault-self-inside.ensures.none in
+    let same = ahead-passed c.self.inside.first c.next_fault-self-inside.result
+    c.self.inside.rest c.next_fault-self-inside.new.self
+    (c.is_none.ensures ∙ ap not c.if-is_none.false) c.next_fault-self-inside.ensures.some
+    c.next_fault-self-inside.ensures.none in
     cc (same, c.self.view_is)

@@ -27,7 +27,8 @@ returns c left all is =
     record {
       long = c.count_one.auto.counts ∙ is.long;
       counted =
-          counted-next (λ f. counter_of size f.shown) survey.counts c.count_one.new.counts c.counter_of.result fault left
+          counted-next (λ f. counter_of size f.shown) survey.counts
+          c.count_one.new.counts c.counter_of.result fault left
           all c.count_one.auto.counts c.counter_of.ensures c.count_one.ensures is.counted;
       longest =
           ap (λ (n : ℕ). max n (longest_text left)) c.max-self.ensures

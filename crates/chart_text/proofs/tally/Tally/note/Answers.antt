@@ -18,7 +18,8 @@ returns c text left all is =
       long = c.count_one.auto.counts ∙ is.long;
       counted =
           counted-next (λ f. look_number (fault_look size f.shown)) tally.counts c.count_one.new.counts _ fault left
-          all c.count_one.auto.counts (c.from.ensures ∙ c.look_number.ensures.value ∙ ap look_number c.fault_look-look.ensures) c.count_one.ensures is.counted;
+          all c.count_one.auto.counts (c.from.ensures ∙ c.look_number.ensures.value
+          ∙ ap look_number c.fault_look-look.ensures) c.count_one.ensures is.counted;
       many = many-next tally.many (length left) ∙ is.many;
       harmful =
           ap (λ (n : ℕ). n + harmful_among size left)
@@ -29,6 +30,5 @@ returns c text left all is =
       first =
           ap (λ (o : Option Doing). option_or o (first_doing left)) c.first_with-self.ensures
           ∙ first-next tally.first c.args.fault.doing (first_doing left) ∙ is.first;
-      worst =
-          ap (λ (o : Option FaultShown). fold (worst_with size) o left) (c.worst_with-self.ensures text) ∙ is.worst;
+      worst = ap (λ (o : Option FaultShown). fold (worst_with size) o left) (c.worst_with-self.ensures text) ∙ is.worst;
     }

@@ -14,7 +14,8 @@ slot-requires-clause-count c =
 
 pub slot-requires-clause-chosen : goal.slot-requires-clause-chosen
 slot-requires-clause-chosen c =
-    zeros-may_step c.args.list.now c.args.script.now c.args.slot c.args.self.now.plant c.as_slice.result.now c.requires.list
+    zeros-may_step c.args.list.now c.args.script.now c.args.slot
+    c.args.self.now.plant c.as_slice.result.now c.requires.list
     c.requires.stands.same (c.as_slice.ensures ∙ c.requires.stands.zeros) c.requires.stands.plant
 
 pub returns : goal.returns

@@ -8,7 +8,8 @@ use Rattle.fault_runs.specs.Listing.{dash_for}
 use Rattle.fault_runs.proofs.Listing.{joined, listed-behind, node-in}
 use Rattle.ttp_world.proofs.ListFacts.{node-out, nodes-length}
 use Rattle.fault_runs.proofs.campaign_text.cost_words.put_nodes.Goals as goal
-use Rattle.fault_runs.proofs.campaign_text.cost_words.put_nodes.Goals.{then-has+in_ok-put_comma+in_ok-put_number, else-has}
+use Rattle.fault_runs.proofs.campaign_text.cost_words.put_nodes.Goals.{then-has+in_ok-put_comma+in_ok-put_number}
+use Rattle.fault_runs.proofs.campaign_text.cost_words.put_nodes.Goals.{else-has}
 
 pub loop-node-preserved : goal.loop-node-preserved
 loop-node-preserved c =

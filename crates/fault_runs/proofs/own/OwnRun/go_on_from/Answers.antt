@@ -8,5 +8,6 @@ returns c = λ script is later past.
     record {
       run = c.go_on_from.ensures script is later past;
       before =
-          subst (λ (n : ℕ). IsSeenAfter c.go_on_from-2.new.self c.args.list.now c.args.more.now n) (sym before.count) before;
+          subst (λ (n : ℕ). IsSeenAfter c.go_on_from-2.new.self c.args.list.now c.args.more.now n)
+          (sym before.count) before;
     }

@@ -8,5 +8,6 @@ returns c =
     record {
       run = c.in_ok-run.ensures;
       before =
-          subst (λ (n : ℕ). IsSeenAfter c.in_ok-before.before c.args.list.now c.args.script.now n) (sym before.count) before;
+          subst (λ (n : ℕ). IsSeenAfter c.in_ok-before.before c.args.list.now c.args.script.now n)
+          (sym before.count) before;
     }

@@ -17,4 +17,5 @@ copy_from-requires-clause-other c = record {
 
 pub returns-clause-before : goal.returns-clause-before
 returns-clause-before c =
-    subst (λ (r : SeenRun). IsSeenAfter r c.args.list.now c.args.script.now c.args.slot) (sym c.copy_from.ensures) c.requires.own.run
+    subst (λ (r : SeenRun). IsSeenAfter r c.args.list.now c.args.script.now c.args.slot)
+    (sym c.copy_from.ensures) c.requires.own.run

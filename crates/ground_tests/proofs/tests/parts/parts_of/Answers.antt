@@ -18,7 +18,8 @@ pub step_in_parts-requires-clause-chosen : goal.step_in_parts-requires-clause-ch
 step_in_parts-requires-clause-chosen c =
     let invariant = c.loop-slot.invariant in
     subst
-    (λ (seats : List Seat). MayStep (plant_of c.args.list.now c.loop-slot.slot seats c.loop-slot.medium) c.args.script.now
+    (λ (seats : List Seat). MayStep
+    (plant_of c.args.list.now c.loop-slot.slot seats c.loop-slot.medium) c.args.script.now
     c.nothing_for_all-chosen.result) (sym c.deref_mut.ensures.value)
     (chosen-step c.nothing_for_all-chosen.result c.requires.valid invariant.stands
     (nothing-chosen (slot_after c.args.list.now c.args.script.now invariant.history)
@@ -31,7 +32,8 @@ loop-slot-preserved c =
     let stands : PlantStandsFor (plant_of c.args.list.now c.loop-slot.slot c.deref_mut.result.now c.loop-slot.medium)
     c.args.script.now invariant.history =
     subst
-    (λ (seats : List Seat). PlantStandsFor (plant_of c.args.list.now c.loop-slot.slot seats c.loop-slot.medium) c.args.script.now
+    (λ (seats : List Seat). PlantStandsFor
+    (plant_of c.args.list.now c.loop-slot.slot seats c.loop-slot.medium) c.args.script.now
     invariant.history) (sym c.deref_mut.ensures.value) invariant.stands in
     let told = with_items_is c.loop-slot.seats c.step_in_parts.new.seats
     (omega (arith, c.step_in_parts.ensures.nodes, c.deref_mut.ensures.len)) in
@@ -41,6 +43,7 @@ loop-slot-preserved c =
       history = row ∷ before;
       stands =
           subst
-          (λ (seats : List Seat). PlantStandsFor (plant_of c.args.list.now (c.loop-slot.slot + 1) seats c.step_in_parts.new.medium)
+          (λ (seats : List Seat). PlantStandsFor
+          (plant_of c.args.list.now (c.loop-slot.slot + 1) seats c.step_in_parts.new.medium)
           c.args.script.now (row ∷ before)) (sym told) (c.step_in_parts.ensures.steps before stands).stands;
     }

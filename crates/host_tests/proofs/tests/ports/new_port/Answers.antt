@@ -28,5 +28,8 @@ returns-in-Ok-new-clause-own c =
     let shape : message_shape list 0 ≡ Some (shape_of list (word_count 9)) =
     ap (λ p. cond (p == 0) None (Some (shape_of list (word_count p)))) nine in
     let new : IsNew (Some (shape_of list (word_count 9))) c.in-Ok-new.port.2 =
-    subst (λ s. IsNew s c.in-Ok-new.port.2) shape c.in-Ok-new.ensures.outgoing in
-    (new_takes list 9 c.in-Ok-new.port.2 (omega arith) new, new_room (shape_of list (word_count 9)) c.in-Ok-new.port.2 new)
+    subst (λ s. IsNew s c.in-Ok-new.port.2) shape c.in-Ok-new.ensures.outgoing in (
+      new_takes list 9 c.in-Ok-new.port.2 (omega arith) new,
+      new_room
+          (shape_of list (word_count 9)) c.in-Ok-new.port.2 new,
+    )

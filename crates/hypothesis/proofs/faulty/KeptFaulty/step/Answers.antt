@@ -9,7 +9,8 @@ returns-clause-at c =
     let list = c.args.list.now in
     let script = c.args.script.now in
     let start = told_start c.args.self.now.start in
-    let made = c.faults_in-faults.ensures.faults (faulty_nodes_before list script start c.args.slot) c.requires.at.known.faulty in
+    let made = c.faults_in-faults.ensures.faults
+    (faulty_nodes_before list script start c.args.slot) c.requires.at.known.faulty in
     record {
       known = record {
         start = c.requires.at.known.start;
@@ -26,7 +27,8 @@ returns-clause-faulty c = λ k small.
     let list = c.args.list.now in
     let script = c.args.script.now in
     let start = told_start c.args.self.now.start in
-    let made = c.faults_in-faults.ensures.faults (faulty_nodes_before list script start c.args.slot) c.requires.at.known.faulty in
+    let made = c.faults_in-faults.ensures.faults
+    (faulty_nodes_before list script start c.args.slot) c.requires.at.known.faulty in
     made.faulty k small
     ∙ ap (λ (o : Option ClusterStart). has_node (numbers_of (started_faulty_nodes list script c.args.slot o)) k)
     (sym c.requires.at.known.start)

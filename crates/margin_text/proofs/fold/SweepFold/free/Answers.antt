@@ -1,4 +1,5 @@
-use Rattle.std.proofs.Common.{pos, ◌<ℤ◌, Option, Bool, cond, Some, None, ap, sym, subst, ◌∙◌, ◌≡◌, rules, w64, to_z, of_z}
+use Rattle.std.proofs.Common.{pos, ◌<ℤ◌, Option, Bool, cond, Some, None, ap}
+use Rattle.std.proofs.Common.{sym, subst, ◌∙◌, ◌≡◌, rules, w64, to_z, of_z}
 use Rattle.std.proofs.lemmas.Int.{to_z-of_z}
 use Rattle.std.specs.Prelude.{IfSome, filter}
 use Rattle.clock_margins.specs.declared.margin.Between.{Between}

@@ -12,7 +12,8 @@ returns-clause-closed c = λ tolds swept.
     let same = ap (option_map range_of) c.take.ensures.value ∙ swept.last in
     let whole = ranges-behind tolds (value_told c.args.told) ∙ c.step-closed.ensures ranges same in
     ap closed_ranges whole
-    ∙ closed-end (closed_ranges ranges ++ ranges_closed c.step-closed.result.closed) (range_of c.step-closed.result.last)
+    ∙ closed-end (closed_ranges ranges ++ ranges_closed c.step-closed.result.closed)
+    (range_of c.step-closed.result.last)
 
 pub returns-clause-swept : goal.returns-clause-swept
 returns-clause-swept c = λ tolds swept.

@@ -44,7 +44,8 @@ load-end-requires g c =
     } in
     let loaded =
     loaded_next begin seat.me c.load-begin.new.seat.me after.me y
-    (reading_of after.me.0).words ring.shape.width c.self.invariant.seated c.load-begin.ensures.2.0 c.load_words.ensures.seat in (
+    (reading_of after.me.0).words ring.shape.width c.self.invariant.seated
+    c.load-begin.ensures.2.0 c.load_words.ensures.seat in (
       c.load_words.ensures.table ∙ (c.load-begin.ensures.0 ∙ at.0),
       omega arith,
       last_loads table.key table.table_id.slots after.id after.me z (view_is after.me (Reader z) loaded)
@@ -63,7 +64,8 @@ invariant_of-self-2 g c =
     let begin : ℕ = c.load-begin.result in
     let z : Reading = record (with_first begin y) { words = after.words; steps = y.steps + 1 + ring.shape.width } in
     let loaded =
-    loaded_next begin seat.me c.load-begin.new.seat.me c.load_words.new.seat.me y after.words ring.shape.width c.self.invariant.seated
+    loaded_next begin seat.me c.load-begin.new.seat.me c.load_words.new.seat.me y after.words
+    ring.shape.width c.self.invariant.seated
     c.load-begin.ensures.2.0 c.load_words.ensures.seat in
     let ended =
     reader_next (with_last c.load-end.result) c.load_words.new.seat.me c.load-end.new.seat.me z loaded
@@ -83,7 +85,8 @@ invariant_of-self-2 g c =
       steps = z.steps + 1;
     })
     (attempt_of z)
-    c.self.invariant (omega arith) (c.load-end.ensures.0 ∙ (c.load_words.ensures.table ∙ c.load-begin.ensures.0)) refl refl
+    c.self.invariant (omega arith)
+    (c.load-end.ensures.0 ∙ (c.load_words.ensures.table ∙ c.load-begin.ensures.0)) refl refl
     (ended ∙ ap (λ v. (Reader v, [])) (got_last c.load-end.result z below))
     (c.load_words.ensures.wide ∙ width)
     c.push_reserved.ensures.items c.load_words.ensures.loaded c.push_reserved.ensures.len

@@ -26,8 +26,8 @@ store-requires g c =
           (view_is seat.me (Writer w) c.self.invariant.seated) c.self.invariant.closed (omega arith),
     )
 
--- The counter tells the new number only where each word of the buffer was put. So this is asked of the view that the loop
--- over the words leaves: it has all of them, and its write is open still.
+-- The counter tells the new number only where each word of the buffer was put. So this is asked of the view that the
+-- loop over the words leaves: it has all of them, and its write is open still.
 pub store-requires-2 : goal.store-requires-2
 store-requires-2 g c =
     let ring = c.ring.inside in
@@ -52,6 +52,7 @@ store-requires-2 g c =
       c.put_words.ensures.table ∙ (c.store.ensures.0 ∙ at.0),
       omega arith,
       ends table.key table.table_id.slots c.put_words.new.seat.id c.put_words.new.seat.me
-          (record (with_open w) { put = c.args.words.now; steps = w.steps + 1 + length c.args.words.now }) _ (view_is c.put_words.new.seat.me _ filled) refl wide
+          (record (with_open w) { put = c.args.words.now; steps = w.steps + 1 + length c.args.words.now }) _
+          (view_is c.put_words.new.seat.me _ filled) refl wide
           (omega arith) (omega arith),
     )

@@ -1,4 +1,5 @@
-use Rattle.std.proofs.Common.{◌≡◌, ℕ, ◌<◌, [], ◌∷◌, ◌++◌, ap, sym, subst, ◌∙◌, arith, get_or, length, length-set, set, not}
+use Rattle.std.proofs.Common.{◌≡◌, ℕ, ◌<◌, [], ◌∷◌, ◌++◌, ap, sym, subst, ◌∙◌}
+use Rattle.std.proofs.Common.{arith, get_or, length, length-set, set, not}
 use Rattle.std.proofs.lemmas.List.{get_or_read}
 use Rattle.fault_pairs.specs.Sums.{PairTold, pair_counts, told_apart, told_kept, told_broken}
 use Rattle.pair_classes.specs.Ordered.{AreFewPairs}
@@ -38,7 +39,8 @@ returns-then-yes-clause-told c = λ distances tolds told at says class are.
       apart = set_at;
       kept = c.with_pair-self.ensures.counts (told_kept tolds) told are.kept class
           ∙ sym (ap pair_counts (told-in (λ (t : PairTold). t.yes) tolds told (says ∙ c.if-yes.true)));
-      broken = are.broken ∙ sym (ap pair_counts (told-out (λ (t : PairTold). not t.yes) tolds told (ap not (says ∙ c.if-yes.true))));
+      broken = are.broken ∙ sym
+          (ap pair_counts (told-out (λ (t : PairTold). not t.yes) tolds told (ap not (says ∙ c.if-yes.true))));
     }
 
 pub returns-else-yes-clause-few : goal.returns-else-yes-clause-few

@@ -20,8 +20,10 @@ returns-clause-ahead c =
     record {
       own = c.step.ensures.own;
       rows = record {
-        count = length-set c.args.self.now.rows.items c.place_of.result c.in_ok-singles.singles ∙ c.requires.ahead.rows.count;
-        each = All-set (λ (row : Singles). All (IsSingle list script) row.all.items) c.args.self.now.rows.items c.place_of.result
+        count = length-set c.args.self.now.rows.items c.place_of.result c.in_ok-singles.singles
+            ∙ c.requires.ahead.rows.count;
+        each = All-set (λ (row : Singles). All (IsSingle list script) row.all.items)
+            c.args.self.now.rows.items c.place_of.result
             c.in_ok-singles.singles c.in_ok-singles.ensures.all c.requires.ahead.rows.each;
       };
     }

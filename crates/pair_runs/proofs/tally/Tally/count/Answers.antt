@@ -12,7 +12,8 @@ count-requires-clause-room c = omega (arith, c.requires.few.2.sums.are.room, c.r
 
 pub count-requires-clause-few : goal.count-requires-clause-few
 count-requires-clause-few c =
-    (sums-weaker c.requires.few.0 c.requires.few.1 (2 ^ 62) c.args.self.now.sums c.requires.few.2.sums (omega (arith, c.requires.few.4))).few
+    (sums-weaker c.requires.few.0 c.requires.few.1 (2 ^ 62) c.args.self.now.sums
+    c.requires.few.2.sums (omega (arith, c.requires.few.4))).few
 
 pub returns-clause-sums : goal.returns-clause-sums
 returns-clause-sums c = λ told at says class. record {

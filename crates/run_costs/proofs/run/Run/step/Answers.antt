@@ -31,6 +31,7 @@ returns c =
       zeros = stands.zeros;
       room = are.room;
       states = λ some.
-          plant-shown list script (zeros_world list script (c.args.slot + 1)) c.step.new.self.plant c.nodes.result states
+          plant-shown list script (zeros_world list script (c.args.slot + 1))
+          c.step.new.self.plant c.nodes.result states
           stands.same c.nodes.ensures (nodes-most list c.requires.list) stands.plant are;
     }

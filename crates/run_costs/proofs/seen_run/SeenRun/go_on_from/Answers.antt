@@ -20,7 +20,8 @@ returns c = λ script is later past.
     let plant = past.stands.plant in
     let near : c.args.past.now.run.cluster.plant.slot ≤ begins_at event =
     omega (arith, begins, plant.slot, length-zeros_world list script slots) in
-    let stands = c.plants_of_scripts_that_agree.ensures c.args.past.now.run.cluster.plant script (with_fault script event)
+    let stands = c.plants_of_scripts_that_agree.ensures
+    c.args.past.now.run.cluster.plant script (with_fault script event)
     (zeros_world list script slots) (agree-more script event c.args.past.now.run.cluster.plant.slot near) plant in
     let goes : IsRunAfter c.args.past.now.run list (with_fault script event) slots =
     run-longer list script event slots begins c.args.past.now.run past.stands stands in

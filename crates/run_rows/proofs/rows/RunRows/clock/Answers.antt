@@ -1,4 +1,5 @@
-use Rattle.std.proofs.Common.{ℤ, ◌≤◌, unsigned_abs, arith, of_z, to_z, w64, ◌≡◌, ℕ, ◌+◌, ◌*◌, ◌<◌, List, length, get_or, ap, subst, sym, ◌∙◌}
+use Rattle.std.proofs.Common.{ℤ, ◌≤◌, unsigned_abs, arith, of_z, to_z, w64, ◌≡◌, ℕ, ◌+◌}
+use Rattle.std.proofs.Common.{◌*◌, ◌<◌, List, length, get_or, ap, subst, sym, ◌∙◌}
 use Rattle.std.proofs.lemmas.Int.{fits_signed_from_abs, to_z-of_z}
 use Rattle.std.proofs.lemmas.Option.{get_or_from_slice_get}
 use Rattle.run_rows.proofs.RowPlaces.{length-rows_in, place-lt, row-at}

@@ -1,4 +1,5 @@
-use Rattle.std.proofs.Common.{◌≡◌, ℕ, List, [], ◌∷◌, ◌++◌, chars, encode_utf8_all, refl, sym, ap, ◌∙◌, append_assoc, append-nil, rules}
+use Rattle.std.proofs.Common.{◌≡◌, ℕ, List, [], ◌∷◌, ◌++◌, chars, encode_utf8_all}
+use Rattle.std.proofs.Common.{refl, sym, ap, ◌∙◌, append_assoc, append-nil, rules}
 use Rattle.std.proofs.Output.{has_written_append, has_written_of_eq}
 use Rattle.std.proofs.lemmas.List.{nil_from_length}
 use Rattle.std.proofs.lemmas.Str.{chars-nil, chars_past_char, IsUtf8-past_char}
@@ -35,4 +36,5 @@ returns-clause-writes g c =
     let now = c.loop-ch.invariant.1 plain in
     let none = ap chars (nil_from_length _ c.in_default.ensures.steps.0.0) ∙ chars-nil in
     has_written_of_eq _ _ _ _ _
-    (sym (append-nil now.0) ∙ ap (λ l. now.0 ++ l) (sym text_in_line-nil) ∙ ap (λ l. now.0 ++ text_in_line l) (sym none) ∙ now.2) now.1
+    (sym (append-nil now.0) ∙ ap (λ l. now.0 ++ l) (sym text_in_line-nil)
+    ∙ ap (λ l. now.0 ++ text_in_line l) (sym none) ∙ now.2) now.1

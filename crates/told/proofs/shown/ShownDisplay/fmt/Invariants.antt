@@ -8,4 +8,5 @@ abbrev pub invariant-loop-ch : goal.invariant-loop-ch
 invariant-loop-ch g l =
     IsUtf8 (chars_rest l.rest)
     × (IsPlainFormatter l.fn.f
-    → (done : List ℕ) × HasWritten g.W.Write.write_str_gives l.fn.f done l.f × (done ++ text_in_line (chars (chars_rest l.rest)) ≡ text_in_line (chars l.fn.self.0.now)))
+    → (done : List ℕ) × HasWritten g.W.Write.write_str_gives l.fn.f done l.f
+    × (done ++ text_in_line (chars (chars_rest l.rest)) ≡ text_in_line (chars l.fn.self.0.now)))

@@ -14,5 +14,6 @@ returns c noted stands low below =
     let within : c.args.table < length old.tables.items = grind (arith, common_steps) in
     stands_noting old _ m n c.args.table c.args.key.now c.args.holds noted refl
     (slice_get_read old.tables.items _ c.args.table m refl within c.index_mut.ensures.value)
-    (rw c.in_ok-key.ensures.ok at (btree_map_updates_text (string_bytes c.in_ok-key.key) m n _ c.in_ok-insert.ensures.updates))
+    (rw c.in_ok-key.ensures.ok at
+    (btree_map_updates_text (string_bytes c.in_ok-key.key) m n _ c.in_ok-insert.ensures.updates))
     below stands

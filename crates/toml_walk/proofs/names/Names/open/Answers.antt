@@ -13,8 +13,14 @@ loop-part-preserved c noted stands =
     let l = c.loop-part in
     let parts = c.args.key.now.path.items in
     let (now, still, within, loop) = l.invariant noted stands in
-    let (more, led, after, next_within) = rw (c.as_str.ensures.value, c.in-Some.is) at (c.in_ok-led.ensures now still within) in
-    (more, after, next_within, loop ∙ part_on pass_header parts l.part-index l.at now c.part-item.result c.in-Some.next more (grind (arith, common_steps)) (rw c.as_slice-part-items.ensures.value at c.part-item.is) led)
+    let (more, led, after, next_within) =
+    rw (c.as_str.ensures.value, c.in-Some.is) at (c.in_ok-led.ensures now still within) in (
+      more,
+      after,
+      next_within,
+      loop ∙ part_on pass_header parts l.part-index l.at now c.part-item.result c.in-Some.next
+          more (grind (arith, common_steps)) (rw c.as_slice-part-items.ensures.value at c.part-item.is) led,
+    )
 
 pub returns-in-None : goal.returns-in-None
 returns-in-None c noted stands =
@@ -23,7 +29,8 @@ returns-in-None c noted stands =
     let (now, still, within, loop) = l.invariant noted stands in
     let none = rw (c.as_str.ensures.value, c.in-None.is) at (c.in_ok-led.ensures now still within) in
     opened_stops (key_view c.args.key.now) noted c.args.is_element
-    (loop ∙ part_stops pass_header parts l.part-index l.at now c.part-item.result (grind (arith, common_steps)) (rw c.as_slice-part-items.ensures.value at c.part-item.is) none)
+    (loop ∙ part_stops pass_header parts l.part-index l.at now c.part-item.result (grind (arith, common_steps))
+    (rw c.as_slice-part-items.ensures.value at c.part-item.is) none)
 
 pub returns-then-is_element : goal.returns-then-is_element
 returns-then-is_element c =

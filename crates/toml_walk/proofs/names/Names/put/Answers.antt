@@ -14,8 +14,14 @@ loop-part-preserved c noted stands low =
     let l = c.loop-part in
     let parts = c.args.key.now.path.items in
     let (now, still, within, loop) = l.invariant noted stands low in
-    let (more, led, after, next_within) = rw (c.as_str.ensures.value, c.in-Some.is) at (c.in_ok-led.ensures now still within) in
-    (more, after, next_within, loop ∙ part_on pass_dot parts l.part-index l.at now c.part-item.result c.in-Some.next more (grind (arith, common_steps)) (rw c.as_slice-part-items.ensures.value at c.part-item.is) led)
+    let (more, led, after, next_within) =
+    rw (c.as_str.ensures.value, c.in-Some.is) at (c.in_ok-led.ensures now still within) in (
+      more,
+      after,
+      next_within,
+      loop ∙ part_on pass_dot parts l.part-index l.at now c.part-item.result c.in-Some.next
+          more (grind (arith, common_steps)) (rw c.as_slice-part-items.ensures.value at c.part-item.is) led,
+    )
 
 pub returns-in-None : goal.returns-in-None
 returns-in-None c noted stands low =
@@ -24,7 +30,8 @@ returns-in-None c noted stands low =
     let (now, still, within, loop) = l.invariant noted stands low in
     let none = rw (c.as_str.ensures.value, c.in-None.is) at (c.in_ok-led.ensures now still within) in
     put_stops c.args.table (key_view c.args.key.now) noted
-    (loop ∙ part_stops pass_dot parts l.part-index l.at now c.part-item.result (grind (arith, common_steps)) (rw c.as_slice-part-items.ensures.value at c.part-item.is) none)
+    (loop ∙ part_stops pass_dot parts l.part-index l.at now c.part-item.result (grind (arith, common_steps))
+    (rw c.as_slice-part-items.ensures.value at c.part-item.is) none)
 
 pub returns-then-is_some : goal.returns-then-is_some
 returns-then-is_some c noted stands low =
@@ -34,7 +41,8 @@ returns-then-is_some c noted stands low =
     let (now, still, within, loop) = l.invariant noted stands low in
     let found = rw c.as_str-last.ensures.value at (c.find.ensures now still) in
     let taken : is_some (held_by l.at key.1 now.names) ≡ true = grind (arith, common_steps, found) in
-    put_twice c.args.table key noted l.at now (loop ∙ parts_end pass_dot parts l.part-index l.at now (grind (arith, common_steps))) taken
+    put_twice c.args.table key noted l.at now
+    (loop ∙ parts_end pass_dot parts l.part-index l.at now (grind (arith, common_steps))) taken
 
 pub returns : goal.returns
 returns c noted stands low =
@@ -45,6 +53,7 @@ returns c noted stands low =
     let found = rw c.as_str-last.ensures.value at (c.find.ensures now still) in
     let free : is_some (held_by l.at key.1 now.names) ≡ false = grind (arith, common_steps, found) in (
       noting l.at key.1 holds.Value now,
-      put_once c.args.table key noted l.at now (loop ∙ parts_end pass_dot parts l.part-index l.at now (grind (arith, common_steps))) free,
+      put_once c.args.table key noted l.at now
+          (loop ∙ parts_end pass_dot parts l.part-index l.at now (grind (arith, common_steps))) free,
       rw c.as_str-last.ensures.value at (c.in_ok-note.ensures now still within still.root),
     )

@@ -45,7 +45,8 @@ returns-clause-ok c =
     let list = c.args.list.now in
     let script = c.args.script.now in
     let has = c.loop-slot.invariant in
-    let run : IsLegalRun list script has.numbers = record { count = has.count ∙ omega (arith, c.loop-slot-test.false); legal = has.legal } in
+    let run : IsLegalRun list script has.numbers =
+    record { count = has.count ∙ omega (arith, c.loop-slot-test.false); legal = has.legal } in
     IfOk-weaker c.follow_tests.result _ _ (λ rest is.
     tests-trace list script c.requires.list c.requires.script has.numbers c.args.text.now c.loop-slot.rest.now rest.now
     run has.begins is)
@@ -56,7 +57,8 @@ returns-clause-wrong c =
     let list = c.args.list.now in
     let script = c.args.script.now in
     let has = c.loop-slot.invariant in
-    let run : IsLegalRun list script has.numbers = record { count = has.count ∙ omega (arith, c.loop-slot-test.false); legal = has.legal } in
+    let run : IsLegalRun list script has.numbers =
+    record { count = has.count ∙ omega (arith, c.loop-slot-test.false); legal = has.legal } in
     IfErr-weaker c.follow_tests.result _ _ (λ wrong departs.
     tests-amiss list script c.requires.list c.requires.script has.numbers c.args.text.now c.loop-slot.rest.now
     wrong.text.now run has.begins departs)

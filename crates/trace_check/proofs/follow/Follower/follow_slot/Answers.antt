@@ -1,6 +1,7 @@
 use Rattle.trace_check.proofs.Words.{refl, sym, subst, arith, world, length-world, HoldsNewest}
 use Rattle.trace_check.proofs.Labels.{passed_up}
-use Rattle.trace_check.proofs.SlotFollowed.{departs-nodes, departs-reads, departs-writes, ended, ended-with, goes-on-to, has-chosen, may-step, past, past-with, slots-of}
+use Rattle.trace_check.proofs.SlotFollowed.{departs-nodes, departs-reads, departs-writes, ended, ended-with}
+use Rattle.trace_check.proofs.SlotFollowed.{goes-on-to, has-chosen, may-step, past, past-with, slots-of}
 use Rattle.trace_check.proofs.follow.Follower.follow_slot.Goals as goal
 
 pub choose-requires-clause-holds : goal.choose-requires-clause-holds

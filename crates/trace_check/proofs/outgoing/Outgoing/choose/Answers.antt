@@ -4,7 +4,8 @@ use Rattle.trace_check.specs.Outgoing.{number_by_line}
 use Rattle.trace_check.proofs.Taken.{HasLookedAt, line_at, looked-past, looked-taken, named-in, none_at_first}
 use Rattle.trace_check.proofs.Taken.{number_so_far, so_far-behind, taken-bare}
 use Rattle.trace_check.proofs.outgoing.Outgoing.choose.Goals as goal
-use Rattle.trace_check.proofs.outgoing.Outgoing.choose.Goals.{then-is_some+in-Some, then-is_some+in_default, else-is_some}
+use Rattle.trace_check.proofs.outgoing.Outgoing.choose.Goals.{then-is_some+in-Some, then-is_some+in_default}
+use Rattle.trace_check.proofs.outgoing.Outgoing.choose.Goals.{else-is_some}
 
 pub loop-node-preserved : goal.loop-node-preserved
 loop-node-preserved c =

@@ -3,7 +3,8 @@ use Rattle.trace_check.proofs.FirstOutgoing.{AreFirst, AreFirst-none, AreFirst-m
 use Rattle.trace_check.proofs.outgoing.Outgoing.new.Goals as goal
 
 pub loop-node-init : goal.loop-node-init
-loop-node-init c = AreFirst-none c.new-newest.result c.new-chosen.result c.args.list.now c.new-newest.ensures c.new-chosen.ensures
+loop-node-init c = AreFirst-none c.new-newest.result c.new-chosen.result c.args.list.now
+    c.new-newest.ensures c.new-chosen.ensures
 
 pub loop-node-preserved : goal.loop-node-preserved
 loop-node-preserved c =

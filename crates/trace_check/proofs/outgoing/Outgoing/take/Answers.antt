@@ -19,7 +19,8 @@ returns-in-Some c = λ list f chooses within old.
     chooses-found o _ list script slot f node c.args.number c.in-Some.payload.now
     (record { number = c.args.number; payload = c.of.result }) chooses within
     (omega (arith, is, c.if-number-newest.false)) found refl
-    (ap (λ (j : ℕ). set o.chosen.items j (record { number = c.args.number; payload = c.of.result })) c.from-in-Some.ensures)
+    (ap (λ (j : ℕ). set o.chosen.items j
+    (record { number = c.args.number; payload = c.of.result })) c.from-in-Some.ensures)
     (λ i. record { number = c.args.number; payload = (c.of.ensures ∙ c.bytes.ensures.value) i })
 
 pub returns-in_default : goal.returns-in_default

@@ -44,6 +44,7 @@ slot-requires-clause-chosen c =
 pub returns : goal.returns
 returns c whole at =
     let next_run : TraceRun = record { plant = c.slot.new.self; outgoing = c.choose.new.self } in
-    made-next c.args.list.now c.args.script.now c.args.self.now next_run whole c.args.slot c.requires.slot c.args.text.now
+    made-next c.args.list.now c.args.script.now c.args.self.now next_run whole
+    c.args.slot c.requires.slot c.args.text.now
     c.requires.list c.requires.script at c.choose.ensures c.slot.ensures.list
     (rw (← c.chosen.ensures) c.slot.ensures.steps)

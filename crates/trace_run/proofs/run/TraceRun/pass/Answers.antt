@@ -15,5 +15,6 @@ returns-clause-at c whole made =
     at-passed list c.args.script.now c.args.self.now next_run whole c.args.slot c.requires.slot c.args.text.now
     c.skip_slot.result.now made refl c.write_all-writes.ensures.holds
     (c.skip_slot.ensures
-    ∙ ap (λ n. drop (length list.slots + (n + length (reads_in c.args.script.now c.args.slot))) (lines_of c.args.text.now))
+    ∙ ap (λ n. drop (length list.slots + (n + length (reads_in c.args.script.now c.args.slot)))
+    (lines_of c.args.text.now))
     c.write_all-writes.ensures.count)

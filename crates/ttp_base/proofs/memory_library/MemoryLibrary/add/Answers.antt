@@ -25,6 +25,7 @@ returns-clause-counts c =
     record {
       names = λ other.
           ap told (btree_map_updates_text key before.files c.insert.new.self _ c.in_ok-insert.ensures.updates other)
-          ∙ same_counts (never_fails (library_fail before)) (library_faults before) (get_by_text before.files) key _ other first;
+          ∙ same_counts (never_fails (library_fail before)) (library_faults before)
+          (get_by_text before.files) key _ other first;
       all = refl;
     }

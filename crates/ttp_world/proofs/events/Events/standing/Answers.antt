@@ -13,7 +13,8 @@ returns c =
     let place = c.steps_up_to-place.result in
     let is = c.as_slice-steps.ensures in
     let within : place ≤ length steps = omega (arith, c.steps_up_to-place.ensures.bound, ap length is) in
-    let up_to = subst (λ (ss : List Step). SplitsAt (step_is_by c.key_of.result) ss place) is c.steps_up_to-place.ensures.place in
+    let up_to = subst (λ (ss : List Step). SplitsAt (step_is_by c.key_of.result) ss place) is
+    c.steps_up_to-place.ensures.place in
     let splits : SplitsAt (step_is_by (key_of k slot)) steps place =
     subst (λ (key : ℕ). SplitsAt (step_is_by key) steps place) c.key_of.ensures up_to in
     let told : c.incidents_before.result ≡ incidents_before steps place =
@@ -32,6 +33,7 @@ returns c =
           c.key_of.ensures (c.steps_up_to-place.ensures.place.1 place first_step (omega arith) more)));
       stands = λ t from before. sym (at t (omega (arith, before, c.slot_of_step.type_inv))
           (splits-later steps place (key_of k slot) (key_of k t) c.self.invariant.1.steps.ascend within splits
-          (omega (arith, from)) (subst (λ (ss : List Step). place < length ss → key_of k t < (get_or ss place first_step).key)
+          (omega (arith, from)) (subst
+          (λ (ss : List Step). place < length ss → key_of k t < (get_or ss place first_step).key)
           is (c.slot_of_step.ensures.before t before))));
     }

@@ -25,7 +25,8 @@ returns-clause-trace g c =
           w.text.wrote
           ∙ ap concat w.text.text;
       one = λ start kept count past within.
-          let safe = (w.text.keeping start kept).safe count past within in (safe.agree, safe.senders, safe.stay, safe.faulty);
+          let safe = (w.text.keeping start kept).safe count past within in
+          (safe.agree, safe.senders, safe.stay, safe.faulty);
       on_time = λ start kept count past within.
           let near = (w.text.keeping start kept).clocks count past within in
           λ inside j k is_j is_k.
@@ -42,11 +43,13 @@ returns-then-status-ne0-clause-missing g c =
     elim (ran c.ask-status.ensures.answered.promise.call
     (surely_in_memory c.in_ok-library.library (codes "list") c.args.list.now held.never held.counts held.list)
     (surely_in_memory c.in_ok-library.library (codes "script") c.args.script.now held.never held.counts held.script) are
-    (omega (arith, c.in_ok-out.ensures.quiet)) (c.ask-status.ensures.answered.of_run (codes "list") (codes "script") asked)) [
+    (omega (arith, c.in_ok-out.ensures.quiet))
+    (c.ask-status.ensures.answered.of_run (codes "list") (codes "script") asked)) [
       | inl whole ↦ absurd (c.if-status-ne0.true whole.0)
       | inr (inl seven) ↦ inl seven
       | inr (inr six) ↦
-          let longer : c.args.room < length (concat six.1.lines) = omega (arith, c.in_ok-out.ensures.takes, six.1.cut.short) in
+          let longer : c.args.room < length (concat six.1.lines) =
+          omega (arith, c.in_ok-out.ensures.takes, six.1.cut.short) in
           inr (
             six.0,
             record {

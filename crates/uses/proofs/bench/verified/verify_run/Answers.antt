@@ -15,8 +15,10 @@ returns-clause-same g c =
     let made = c.in_ok-library in
     let five : length (concat (same_line ∷ [])) ≡ 5 = refl in
     judged_trace c.ask.ensures.answered.promise.call
-    (surely_in_memory made.library (codes "list") c.args.list.now made.ensures.never made.ensures.counts made.ensures.list)
-    (surely_in_memory made.library (codes "script") c.args.script.now made.ensures.never made.ensures.counts made.ensures.script) w.are
+    (surely_in_memory made.library (codes "list") c.args.list.now
+    made.ensures.never made.ensures.counts made.ensures.list)
+    (surely_in_memory made.library (codes "script") c.args.script.now made.ensures.never
+    made.ensures.counts made.ensures.script) w.are
     (omega (arith, c.in_ok-out.ensures.quiet))
     (surely_in_memory made.library (codes "trace") c.in_ok-text.text.items made.ensures.never made.ensures.counts
     (made.ensures.trace ∙ ap holds c.as_slice.ensures.value))

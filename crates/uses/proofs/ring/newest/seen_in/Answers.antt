@@ -1,4 +1,5 @@
-use Rattle.std.proofs.Common.{arith, ap, sym, ◌∙◌, ◌≡◌, ◌≢◌, [], ◌∷◌, ℕ, zero, suc, List, map, get_or, Option, Some, slice_get, unwrap_or}
+use Rattle.std.proofs.Common.{arith, ap, sym, ◌∙◌, ◌≡◌, ◌≢◌, [], ◌∷◌, ℕ, zero, suc, List}
+use Rattle.std.proofs.Common.{map, get_or, Option, Some, slice_get, unwrap_or}
 use Rattle.std.specs.List.{Contains}
 use Rattle.uses.specs.declared.ring.newest.Measurement.{Measurement}
 use Rattle.uses.specs.Measured.{measured_words}

@@ -1,4 +1,5 @@
-use Rattle.std.proofs.Common.{◌<◌, ◌++◌, ◌∙◌, ℕ, ℤ, List, Option, w64, SFits, length, ap, sym, subst, rules, arith, length-append}
+use Rattle.std.proofs.Common.{◌<◌, ◌++◌, ◌∙◌, ℕ, ℤ, List, Option, w64, SFits, length}
+use Rattle.std.proofs.Common.{ap, sym, subst, rules, arith, length-append}
 use Rattle.std.proofs.lemmas.Int.{to_z-of_z}
 use Rattle.std.specs.Fmt.{signed_decimal}
 use Rattle.ttp_base.specs.Text.{newline}
@@ -20,7 +21,8 @@ returns c =
     let r3 = c.in_ok-rest-2.rest.now in
     let r5 = c.in_ok-rest-3.rest.now in
     let has : HasPieces n inside.head inside.judged inside.behind =
-    subst (λ (o : Option NodeLine). HavePieces o inside.head inside.judged inside.behind) c.in_ok-newest.was c.self.invariant in
+    subst (λ (o : Option NodeLine). HavePieces o inside.head inside.judged inside.behind)
+    c.in_ok-newest.was c.self.invariant in
     let e1 = label-takes c.bytes.result.now text r1 (sym c.in_ok-rest.ensures)
     ∙ ap (λ (l : List ℕ). l ++ r1) c.bytes.ensures in
     let e3 = label-takes c.bytes-2.result.now c.in_ok-node.rest.now r3 (sym c.in_ok-rest-2.ensures)
@@ -48,5 +50,6 @@ returns c =
       ack = n.ack;
       offset = y;
     }) rest) (sym (to_z-of_z w64 z fits))
-    (alike-front n k a z inside.head inside.judged inside.behind text r1 c.in_ok-node.rest.now r3 c.in_ok-accepted.rest.now r5
+    (alike-front n k a z inside.head inside.judged inside.behind text r1
+    c.in_ok-node.rest.now r3 c.in_ok-accepted.rest.now r5
     last rest has few some c.in_ok-offset.ensures.1 e1 c.in_ok-node.ensures.0 e3 c.in_ok-accepted.ensures.0 e5 e6 clock)

@@ -18,7 +18,8 @@ pub returns : goal.returns
 returns c =
     let run = c.args.self.now.run.now in
     if_ok-equal c.cause.result (newest_cause c.args.node (past_slots run (c.args.slot + 1)))
-    (cause_at (slots_of_run run.list run.script (zeros_world run.list run.script run.slots)) (spot_at c.args.slot c.args.node))
+    (cause_at (slots_of_run run.list run.script (zeros_world run.list run.script run.slots))
+    (spot_at c.args.slot c.args.node))
     c.cause.ensures
     (cause-at run.list run.script run.slots c.args.slot c.args.node
     (omega (arith, c.requires.slot, length-zeros_world run.list run.script run.slots)))

@@ -13,4 +13,5 @@ returns-then-spot-lt-MOST_NODES-clause-whole c = λ count spots are within.
     c.has.ensures
     ∙ has-at count spots c.args.self.now c.args.spot c.index.result.now c.index.result.now are
     (omega (arith, c.if-spot-lt-MOST_NODES.true, c.len.ensures))
-    (omega (arith, c.if-spot-lt-MOST_NODES.true, c.len.ensures, are.slots)) c.if-spot-lt-MOST_NODES.true.1 c.index.ensures
+    (omega (arith, c.if-spot-lt-MOST_NODES.true, c.len.ensures, are.slots))
+    c.if-spot-lt-MOST_NODES.true.1 c.index.ensures

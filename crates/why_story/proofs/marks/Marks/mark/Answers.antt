@@ -8,7 +8,8 @@ pub returns-then-spot-lt-MOST_NODES : goal.returns-then-spot-lt-MOST_NODES
 returns-then-spot-lt-MOST_NODES c = λ count spots are.
     let sets = c.args.self.now.sets in
     let s = c.args.spot in
-    AreMarked-more count spots c.args.self.now _ s are (omega (arith, c.if-slot-len.true, c.len.ensures, are.slots)) refl
+    AreMarked-more count spots c.args.self.now _ s are
+    (omega (arith, c.if-slot-len.true, c.len.ensures, are.slots)) refl
     (ap (set sets.items s.slot)
     (c.with.ensures
     ∙ ap (λ (x : List ℕ). with_node x s.node)

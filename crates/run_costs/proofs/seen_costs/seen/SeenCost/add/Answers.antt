@@ -39,7 +39,8 @@ returns-clause-seen c =
       split =
           c.span_after-self.ensures
           ∙ (λ i. span_after (sym long i)
-          ((c.are_split.ensures ∙ split-next list script row history states slot c.correct_in-correct.result long shown sound)
+          ((c.are_split.ensures ∙ split-next list script row history states slot
+          c.correct_in-correct.result long shown sound)
           i) (seen.split i))
           ∙ ap (split_span list script) (sym next);
     }

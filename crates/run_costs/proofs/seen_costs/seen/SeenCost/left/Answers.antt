@@ -13,5 +13,6 @@ returns c = λ script slots seen.
     let history = zeros_world list script slots in
     let left = λ (k : ℕ). is_some (get_or c.args.self.now.left k None) in
     c.left_nodes.ensures ∙ ap (λ (n : ℕ). filter left (below n)) c.nodes.ensures
-    ∙ same_sieve left (λ k. is_some (newest_leave history k)) (length list.slots) (λ k node. ap is_some (seen.left k node))
+    ∙ same_sieve left (λ k. is_some (newest_leave history k)) (length list.slots)
+    (λ k node. ap is_some (seen.left k node))
     ∙ sym (nodes-left history (below (length list.slots)))

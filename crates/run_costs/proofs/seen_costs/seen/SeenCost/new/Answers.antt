@@ -14,6 +14,7 @@ returns c =
       faulty = c.new.ensures;
       left = λ k node.
           get_or-replicate 24 k none none (omega (arith, nodes-most list c.requires.valid, node));
-      hurt = c.empty.ensures ∙ sym (filter-none (is_hurt list c.args.script.now []) 0 (length list.slots) (λ j past. refl));
+      hurt = c.empty.ensures ∙ sym
+          (filter-none (is_hurt list c.args.script.now []) 0 (length list.slots) (λ j past. refl));
       split = refl;
     }
