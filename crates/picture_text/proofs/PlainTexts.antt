@@ -123,7 +123,10 @@ plain-meaning w = refl
 -- Lines of the trace.
 
 pub plain-head : (head : Head) → Plain (header_text head)
-plain-head head = simp parts
+plain-head head =
+    plain-append (codes "ttpbench trace " ++ decimal head.version ++ codes " nodes " ++ decimal head.nodes
+    ++ codes " rounds " ++ decimal head.rounds ++ codes " slots " ++ decimal head.slots ++ codes " schedule ")
+    (hex 6 head.schedule) (simp parts) (plain-hex 6 head.schedule)
 
 pub plain-keep : (k : Keep) → Plain (keep_text k)
 plain-keep (keep.Yes start) = simp parts

@@ -1,4 +1,4 @@
-use Rattle.picture_text.proofs.Words.{refl}
+use Rattle.picture_text.proofs.Words.{append_assoc, refl}
 use Rattle.std.proofs.lemmas.Bool.{ne_eqb}
 use Rattle.picture_text.proofs.head.put_before.Goals as goal
 
@@ -9,4 +9,4 @@ returns-else-quiet-clause-text c =
       c.if-quiet.false,
       c.put_field.ensures.text,
       c.from.ensures,
-    ) refl
+    ) (simp append_assoc refl)

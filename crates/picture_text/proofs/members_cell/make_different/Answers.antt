@@ -1,8 +1,10 @@
-use Rattle.picture_text.proofs.Words.{refl, append_assoc}
+use Rattle.picture_text.proofs.Words.{◌+◌, [], ◌∷◌, ◌++◌, codes, members_title, place_attributes}
+use Rattle.ttp_base.proofs.Gathered.{gather-behind}
 use Rattle.picture_text.proofs.members_cell.make_different.Goals as goal
 
 pub returns-clause-text : goal.returns-clause-text
 returns-clause-text c =
+    let at = c.args.at in
     rw (
       c.put_bytes.ensures,
       c.bytes.ensures,
@@ -11,4 +13,7 @@ returns-clause-text c =
       c.close_title.ensures.text,
       c.clear.ensures,
       c.open_members.ensures.text,
-    ) (simp append_assoc refl)
+    )
+    (gather-behind (codes "<g class=\"differ\"><title>" ++ members_title c.args.head.now c.args.slot c.args.shown.now)
+    (codes "</title><rect" ∷ place_attributes at.x at.y ∷ codes " width=\"19\" height=\"19\"/><text"
+    ∷ place_attributes (at.x + 9) (at.y + 14) ∷ codes ">" ∷ codes "!" ∷ codes "</text></g>\n" ∷ []))
