@@ -8,7 +8,7 @@ use Rattle.ttp_world.specs.declared.script.Script.{Script}
 use Rattle.medl_text.proofs.Valid.{medl_of-valid}
 use Rattle.script_text.proofs.RightFiles.{script_of-valid}
 use Rattle.fault_runs.specs.Ends.{WroteFewer}
-use Rattle.commands.specs.Outcome.{Showed, Refused, ShowsEnding}
+use Rattle.commands.specs.Outcome.{Showed, ShowsEnding}
 use Rattle.commands.specs.Plan.{Outside, ends, Comes, told_ending}
 use Rattle.commands.specs.Promise.{IsUnfinished, Promise}
 use Rattle.commands.specs.Right.{AreTold}
@@ -31,19 +31,6 @@ fewer text before now some = record {
   rest = some.among.rest;
   text = some.among.begins;
   wrote = some.wrote;
-}
-
--- and the other way round
-pub wants : (text : Lines) (before now : Output) → WroteFewer before now text
-    → Refused ttplab (those (begun text)) before now (alone 7)
-wants text before now some = record {
-  status = refl;
-  text = record {
-    lines = some.whole;
-    among = record { next = some.next; rest = some.rest; begins = some.text };
-    wrote = some.wrote;
-  };
-  none = refl;
 }
 
 -- what that call leaves, as the ending of the form has it
