@@ -124,10 +124,10 @@ def timing_program(folder):
     return rattle_program(folder, "run_speed", "ttp_base ttp_world medl_text script_text hypothesis bench_call", TIMED)
 
 
-def list_text(kinds, data, *, drift=0, error=0, window=1, schedule=0, starters=(0,)):
+def list_text(kinds, data, *, drift=0, error=0, window=1, schedule=0, buffers=4, starters=(0,)):
     """A list with these letters of kinds and bytes of payload for each slot, one of them for each node."""
     version = 1 if len(kinds) <= 16 else 2
-    head = f"version = {version}\nrounds = {len(kinds[0])}\nschedule = {schedule}\nbuffers = 4\n"
+    head = f"version = {version}\nrounds = {len(kinds[0])}\nschedule = {schedule}\nbuffers = {buffers}\n"
     clocks = f"drift = {drift}\nerror = {error}\nwindow = {window}\n"
     slots = (
         f'[[slot]]\nkinds = "{letters}"\ndata = {size}\nsync = true\nstart = {"true" if k in starters else "false"}\n'

@@ -15,27 +15,17 @@ import tempfile
 import time
 
 from peak import memory_of
+from runs import list_text, program
 
 RUNS = 25
 LIMIT = 1_048_576
-TOP = os.path.dirname(os.path.dirname(os.path.abspath(__file__)))
-PROGRAM = os.path.join(TOP, "crates", "ttpbench", "out", "ttpbench")
 
 
-def list_text(slots, rounds, size):
-    head = (
-        f"version = {1 if slots <= 16 else 2}\n"
-        f"rounds = {rounds}\n"
-        "schedule = 16777215\nbuffers = 16\ndrift = 1000\nerror = 1000\nwindow = 1000000\n"
-    )
-    parts = [head]
-    for k in range(slots):
-        start = "true" if k == 0 else "false"
-        parts.append(f'[[slot]]\nkinds = "{"I" * rounds}"\ndata = 0\nsync = true\nstart = {start}\n')
+def commented_list(slots, rounds, size):
+    """A list of frames without payload, with comments up to this size."""
+    text = list_text(["I" * rounds] * slots, [0] * slots, drift=1000, error=1000, window=1_000_000, schedule=16_777_215, buffers=16)
     comment = "# a comment of sixty-four bytes, as generators of lists write them\n"
-    text = "".join(parts)
-    per_slot = max(0, size - len(text)) // len(comment)
-    text += comment * per_slot
+    text += comment * (max(0, size - len(text)) // len(comment))
     return text + "#" * max(0, size - len(text))
 
 
@@ -62,17 +52,16 @@ def tomllib_times(text, runs=RUNS):
 
 
 def main():
-    if not os.path.exists(PROGRAM):
-        sys.exit("run ./ttpbench once first, which builds the program")
+    bench = program()
     with tempfile.TemporaryDirectory() as folder:
         large = os.path.join(folder, "large.toml")
         small = os.path.join(folder, "small.toml")
         dense = os.path.join(folder, "dense.toml")
-        large_text = list_text(24, 64, LIMIT)
+        large_text = commented_list(24, 64, LIMIT)
         for path, text in (
             (large, large_text),
-            (small, list_text(4, 1, 0)),
-            (dense, list_text(24, 64, 0)),
+            (small, commented_list(4, 1, 0)),
+            (dense, commented_list(24, 64, 0)),
         ):
             with open(path, "w", encoding="ascii") as file:
                 file.write(text)
@@ -84,7 +73,7 @@ def main():
         )
         least = {}
         for name, path in rows:
-            command = [PROGRAM, "schedule", path]
+            command = [bench, "schedule", path]
             least[name], median = times_of(command)
             memory = memory_of(command)
             print(f"{name:28} least {least[name]:8.2f} ms   median {median:8.2f} ms   memory {memory:7d} KiB")

@@ -18,11 +18,13 @@ import subprocess
 import sys
 import tempfile
 
+from programs import TOP
+from runs import list_text
+
 LIMIT = 1_048_576
 NODES = 16
 READINGS = 101
 MOST_RATIO = 2.5
-TOP = os.path.dirname(os.path.dirname(os.path.abspath(__file__)))
 CRATES = ("ttp_base", "ttp_world", "medl_text", "script_text")
 
 PROGRAM = """\
@@ -75,15 +77,6 @@ fn timed(rt: &HostRuntime) -> io::Result<bool> {
     Ok(true)
 }
 """
-
-
-def list_text():
-    slots = "".join(
-        f'[[slot]]\nkinds = "I"\ndata = 0\nsync = true\nstart = {"true" if k == 0 else "false"}\n'
-        for k in range(NODES)
-    )
-    head = "version = 1\nrounds = 1\nschedule = 0\nbuffers = 2\ndrift = 0\nerror = 0\nwindow = 1\n"
-    return head + slots
 
 
 def on_lines(blanks=1):
@@ -152,7 +145,7 @@ def main():
         listed = os.path.join(folder, "cluster.toml")
         script = os.path.join(folder, "run.txt")
         with open(listed, "w", encoding="ascii") as file:
-            file.write(list_text())
+            file.write(list_text(["I"] * NODES, [0] * NODES, buffers=2))
         linear = True
         for name, text_of in KINDS:
             least = {}
