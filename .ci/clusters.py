@@ -1,17 +1,21 @@
 """Lists and scripts of any size, for the scripts that try limits and count costs."""
 
+import json
+
+
+def listed(fields, slots):
+    """A list with these fields, and these of each slot."""
+    def table(of):
+        return "".join(f"{name} = {json.dumps(value)}\n" for name, value in of.items())
+    return table(fields) + "".join(f"[[slot]]\n{table(slot)}" for slot in slots)
+
 
 def list_text(nodes, *, kinds="NX", data=16, buffers=4, modes=1, drift=1, error=1, window=None, comment=0, requests=False):
     """A list in which all nodes are alike, but that node 0 alone may start."""
-    version = 1 if nodes <= 16 else 2
-    head = f"version = {version}\nrounds = {len(kinds)}\nschedule = 77\nbuffers = {buffers}\n"
-    clocks = f"drift = {drift}\nerror = {error}\nwindow = {12 * nodes + 10 if window is None else window}\nmodes = {modes}\n"
-    slots = "".join(
-        f'[[slot]]\nkinds = "{kinds}"\ndata = {data}\nsync = true\nstart = {"true" if k == 0 else "false"}\n'
-        f'requests = {"true" if requests and data else "false"}\n'
-        for k in range(nodes)
-    )
-    return filled(head + clocks + slots, comment)
+    fields = {"version": 1 if nodes <= 16 else 2, "rounds": len(kinds), "schedule": 77, "buffers": buffers, "drift": drift,
+              "error": error, "window": 12 * nodes + 10 if window is None else window, "modes": modes}
+    slots = ({"kinds": kinds, "data": data, "sync": True, "start": k == 0, "requests": requests and data > 0} for k in range(nodes))
+    return filled(listed(fields, slots), comment)
 
 
 def script_text(nodes, slots, lines=(), comment=0):
