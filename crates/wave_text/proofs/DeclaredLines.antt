@@ -20,7 +20,7 @@ use Rattle.wave_text.specs.declared.variable.NodeVariable.TheVariants as of_node
 use Rattle.wave_text.specs.declared.variable.PortVariable.TheVariants as of_port
 use Rattle.wave_text.specs.Variables.{cluster_name, node_name, port_name, wire, cluster_type, node_type, port_type}
 use Rattle.wave_text.specs.Variables.{range_text, cluster_range, node_range, port_range, declaration}
-use Rattle.wave_text.proofs.Feeds.{HasNone, none-append, none-decimal, none-source}
+use Rattle.wave_text.proofs.Feeds.{HasNone, none-append, none-decimal, none-source, feed-append, feeds}
 use Rattle.wave_text.proofs.WaveLines.{AreLines, each-flat_map, none-cluster_letter, none-node_code, none-port_code}
 use Rattle.wave_text.proofs.WaveLines.{all_slots-each}
 
@@ -138,7 +138,10 @@ declarations-each width n ports =
 -- The head.
 
 none-head : (head : Head) → HasNone (header_text head)
-none-head head = simp (feeds, has-hex 10 6 head.schedule (omega arith))
+none-head head =
+    none-append (codes "ttpbench trace " ++ decimal head.version ++ codes " nodes " ++ decimal head.nodes
+    ++ codes " rounds " ++ decimal head.rounds ++ codes " slots " ++ decimal head.slots ++ codes " schedule ")
+    (hex 6 head.schedule) (simp feeds) (has-hex 10 6 head.schedule (omega arith))
 
 none-keep : (k : Keep) → HasNone (keep_text k)
 none-keep (keep.Yes start) = none-decimal start
@@ -150,7 +153,7 @@ none-back (back.No rule slot) = simp feeds
 
 comment-IsLine : (text : List ℕ) → HasNone text → IsLine (comment_line text)
 comment-IsLine text none =
-    ends_so (codes "$comment " ++ text) none
+    is_line-append (codes "$comment " ++ text ++ codes " $end") newline (simp (feed-append, none)) refl
 
 returns-each : (trace : WholeTrace) → AreLines (comment_lines (returns_text trace))
 returns-each trace = go trace.back

@@ -18,7 +18,9 @@ use Rattle.shown_slot.specs.Nodes.{spread_in}
 use Rattle.wave_text.specs.declared.variable.ClusterVariable.TheVariants as of_cluster
 use Rattle.wave_text.specs.declared.variable.NodeVariable.TheVariants as of_node
 use Rattle.wave_text.specs.declared.variable.PortVariable.TheVariants as of_port
-use Rattle.wave_text.specs.Values.{agreement_text, sender_text, spread_text}
+use Rattle.std.specs.Prelude.{◌||◌}
+use Rattle.std.proofs.lemmas.List.Folds.{list_any-append}
+use Rattle.wave_text.specs.Values.{agreement_text, nothing_text, sender_text, spread_text}
 use Rattle.ttp_world.proofs.TraceLines.{feed_is_low}
 
 -- a text without a line feed

@@ -17,7 +17,7 @@ use Rattle.wave_text.specs.declared.variable.PortVariable.TheVariants as of_port
 use Rattle.wave_text.specs.Variables.{node_letter}
 use Rattle.wave_text.specs.Variables.{port_letter, letter_of_node, source_letter}
 use Rattle.wave_text.proofs.Feeds.{HasNone, none-append, none-byte, none-decimal, none-cluster_value, none-node_value}
-use Rattle.wave_text.proofs.Feeds.{none-port_value}
+use Rattle.wave_text.proofs.Feeds.{none-port_value, feed-append}
 
 abbrev pub AreLines : Lines → Type 0
 AreLines lines = AllByRecursion IsLine lines
