@@ -1,8 +1,13 @@
-use Rattle.chart_text.proofs.Words.{refl, append_assoc}
+use Rattle.chart_text.proofs.Words.{◌-◌, [], ◌∷◌, ◌++◌, List, ℕ, ap, sym, codes}
+use Rattle.chart_text.proofs.Words.{decimal, get_or, length, place_attributes}
+use Rattle.chart_text.proofs.Words.{marked_slots}
+use Rattle.chart_text.specs.Chart.{hidden_text}
+use Rattle.ttp_base.proofs.Gathered.{gather-behind}
 use Rattle.chart_text.proofs.chart.make_shown.Goals as goal
 
 pub returns : goal.returns
 returns c =
+    let shown = marked_slots c.args.marks.now in
     rw (
       c.close_text.ensures,
       c.put_hidden.ensures.text,
@@ -20,4 +25,9 @@ returns c =
       c.marked_slot-last.ensures,
       c.marked_slot-first.ensures,
       c.requires.many,
-    ) (simp append_assoc refl)
+    )
+    (ap (λ (line : List ℕ). line ++ codes "</text>\n")
+    (sym (gather-behind (codes "<text" ++ place_attributes 12 40 ++ codes ">")
+    (decimal c.args.frame.size.nodes ∷ codes " nodes, " ∷ decimal c.args.frame.size.slots ∷ codes " slots, shown: "
+    ∷ decimal (length shown) ∷ codes " of them, " ∷ decimal (get_or shown 0 0) ∷ codes " to "
+    ∷ decimal (get_or shown (length shown - 1) 0) ∷ hidden_text c.args.hidden ∷ []))))

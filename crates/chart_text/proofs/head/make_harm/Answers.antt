@@ -1,4 +1,6 @@
-use Rattle.chart_text.proofs.Words.{refl, append_assoc}
+use Rattle.chart_text.proofs.Words.{[], ◌∷◌, ◌++◌, List, ℕ, ap, sym, codes, decimal, place_attributes}
+use Rattle.picture_text.specs.Picture.{class_of}
+use Rattle.ttp_base.proofs.Gathered.{gather-behind}
 use Rattle.chart_text.proofs.head.make_harm.Goals as goal
 
 pub returns : goal.returns
@@ -12,4 +14,9 @@ returns c =
       c.put_many-2.ensures.text,
       c.put_many.ensures.text,
       c.open_text_of.ensures.text,
-    ) (simp append_assoc refl)
+    )
+    (ap (λ (line : List ℕ). line ++ codes "</text>\n")
+    (sym (gather-behind (codes "<text" ++ class_of (codes "said") ++ place_attributes 12 20 ++ codes ">")
+    (decimal c.args.harmful ∷ codes " of " ∷ decimal c.args.all
+    ∷ codes " faults are harmful; the most healthy nodes that one of them costs: " ∷ decimal c.args.most
+    ∷ codes " of " ∷ decimal c.args.nodes ∷ []))))
