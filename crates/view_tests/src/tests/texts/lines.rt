@@ -290,14 +290,14 @@ const ANSWERS: &[(Answer, usize, &str)] = &[
 ];
 
 // Whether the line of an answer is its text, whole or not at all.
-fn is_answer(alloc: Global, case: &(LastLine, usize, &str)) -> bool {
+fn is_answer(alloc: Global, case: &(Answer, usize, &str)) -> bool {
     let (answer, room, text) = case;
     let Ok(mut out) = sink_with(alloc, *room) else {
         return false;
     };
     let is_whole = match answer {
-        LastLine::Keep(keep) => put_keep(keep, &mut out).is_ok(),
-        LastLine::Back(back) => put_back(back, &mut out).is_ok(),
+        Answer::Keep(keep) => put_keep(keep, &mut out).is_ok(),
+        Answer::Back(back) => put_back(back, &mut out).is_ok(),
     };
     is_whole != text.is_empty() && out.bytes() == text.as_bytes()
 }
