@@ -1,60 +1,32 @@
-#!/usr/bin/env python3
-"""views.py wave|picture TRACE [FIRST LAST]: the views of a trace, by a second reading of docs/VIEWS.md.
-views.py line TRACE: the number of the first line that is not due, or nothing where the text is a trace.
-views.py check TRACE VCD SVG [FIRST LAST]: whether a waveform tells each node line of the trace back, and whether a
-picture is well-formed XML in which each line whose slot is shown is the title of exactly one element.
+"""A second reading of docs/VIEWS.md: which texts are traces, and what the views of a trace must say.
 
-Nothing here is shared with the program: the texts are made straight from the manual page.
+A waveform is read by the rules of VCD, a picture by Python's reader of XML, and what they say is compared with the lines of the
+trace: the values of all variables after each slot; titles, classes and letters of cells, marks, names, the key and its colours. A
+cell must stand where the names of its row and its column say, and nothing outside the page. Other looks are the definitions'
+alone, which the program follows to the byte.
+
+Nothing here is shared with the program; words, letters, colours and what they mean are those of the page's tables.
 """
+import itertools
+import os
 import re
-import sys
 import xml.etree.ElementTree as xml
 
+from counted import TOP
+
+
+def rows_of(page, head):
+    """The rows of the table of a page that has this head, without the marks of code."""
+    with open(os.path.join(TOP, "docs", page), encoding="utf-8") as file:
+        rows = file.read().split(f"| {head} |\n")[1].split("\n\n")[0].replace("`", "").split("\n")[1:]
+    return [row.strip("| ").split(" | ") for row in rows]
+
+
+WORDS = {word: rest for word, *rest in rows_of("VIEWS.md", "word | letter | cell | letter's colour | meaning")}
+KEY = rows_of("VIEWS.md", "class | shown | text")
 ACTIVE = ("start", "join", "send", "correct", "tentative", "incorrect", "invalid", "null")
 LEFT = ("denied", "unacknowledged", "clique")
 STRANGE = ("tentative", "incorrect", "invalid") + LEFT
-WORDS = {
-    "off": ("o", "#ffffff", "#9a9a9a", "is off"),
-    "wait": ("w", "#f0f0f0", "#8a8a8a", "listens"),
-    "retry": ("r", "#cfcfcf", "#000000", "withdraws its cold start"),
-    "gone": ("g", "#d9d9d9", "#a6a6a6", "left earlier"),
-    "start": ("S", "#004b7c", "#ffffff", "sent its cold-start frame"),
-    "join": ("J", "#56b4e9", "#000000", "joined on a frame"),
-    "send": ("s", "#0072b2", "#ffffff", "sent its frame"),
-    "correct": ("c", "#e3f2fb", "#6c8798", "accepted the frame"),
-    "tentative": ("t", "#f0e442", "#000000", "its own frame may be lost"),
-    "incorrect": ("i", "#e69f00", "#000000", "a frame of another C-state"),
-    "invalid": ("v", "#cc79a7", "#000000", "spoilt, or too early or late"),
-    "null": ("n", "#ffffff", "#000000", "heard nothing"),
-    "denied": ("D", "#b03a00", "#ffffff", "left: its frame was lost"),
-    "unacknowledged": ("U", "#b03a00", "#ffffff", "left: no answer"),
-    "clique": ("Q", "#b03a00", "#ffffff", "left: it was outvoted"),
-}
-STYLES = """.null rect{stroke:#a0a0a0}.off rect{stroke:#c0c0c0;stroke-dasharray:2}
-.other rect{stroke:#d00000;stroke-width:2}.doubt rect{stroke:#000000;stroke-width:2;stroke-dasharray:3 2}
-.data text{text-decoration:underline}.refused rect{fill:#d00000}.round{fill:#7a8a94}
-.agree rect,.none rect{fill:#ffffff}.none text{fill:#555555;font-size:7.5px}.apart rect{fill:#ffffff}.apart text{fill:#555555;font-size:10px}
-.differ rect{fill:#000000}.differ text{fill:#ffffff;font-weight:bold}
-.row{text-anchor:end}.slot{text-anchor:middle;font-size:10px;fill:#444444}.said{font-weight:bold}
-rect.why{fill:#ffffff}text.why{fill:#b03a00;font-weight:bold;font-size:11px}
-.write,.read,.status{stroke:#000000}.write{fill:#00c853}.read{fill:#ffd000}.status{fill:#e040fb}
-.flag{stroke:#000000}.keep{text-anchor:end;font-size:10px}.back{font-size:10px}
-.why,.flag,.round{pointer-events:none}"""
-CLASSES = (
-    ("agree", "4", "members: how many all nodes hold"),
-    ("differ", "!", "members: nodes hold different ones"),
-    ("round", None, "a round begins: node 0 is due"),
-    ("none", "7", "clocks: microticks between them"),
-    ("none", "12k", "12k: 12000 to 12999, 1M+: 1000000 up"),
-    ("apart", "3", "apart: its clock is far from most"),
-    ("correct data", "c", "a message was sent or delivered"),
-    ("correct other", "c", "holds other members than most"),
-    ("correct doubt", "c", "in doubt about its own frame"),
-    ("send refused", "s", "few took the frame of this sender"),
-    ("write", None, "its host writes a message"),
-    ("read", None, "its host reads a node's message"),
-    ("status", None, "its host reads its status"),
-)
 MEANINGS = {
     "keeps": "from slot {} on the correct nodes agree and stay; a faulty one may differ until it leaves",
     "H1": "a drift or a reading error is past the list's",
@@ -74,11 +46,6 @@ MEANINGS = {
     "Q7": "fewer than four correct nodes are left to measure clocks by",
     "Q8": "the node armed in this slot is not owed its place",
 }
-# Where a mark begins in its cell, and its shape.
-MARKS = {"write": (0, 19, "v-10l10 10z"), "read": (19, 19, "h-10l10-10z"), "status": (19, 0, "v10l-10-10z")}
-NODE = re.compile(r"slot (\d+) node (\d+) (\w+) peer (\S+) msg (\S+) mem (\w+) acc (\d+) rej (\d+) ack (\S+) clock (\S+)$")
-WRITE = re.compile(r"slot (\d+) host (\d+) write (\d+)$")
-READ = re.compile(r"slot (\d+) host (\d+) read (\w+) (\d+) (\w+)$")
 
 
 # What is taken for a trace.
@@ -139,12 +106,13 @@ def first_not_due(text):
 class Node:
     def __init__(self, line):
         self.line = line
-        _, _, self.word, self.peer, self.msg, self.mem, acc, rej, self.ack, clock = NODE.match(line).groups()
+        *_, self.word, _, self.peer, _, self.msg, _, self.mem, _, acc, _, rej, _, self.ack, _, clock = line.split()
         self.acc, self.rej, self.clock = int(acc), int(rej), int(clock)
         self.active = self.word in ACTIVE
         self.left = self.word in LEFT
         self.holder = self.active and not self.ack.startswith("doubt:")
         self.sends = self.word in ("start", "send")
+        self.phase = {"off": "off", "wait": "listening", "retry": "listening"}.get(self.word, "active" if self.active else "left")
 
 
 class Host:
@@ -152,13 +120,12 @@ class Host:
 
     def __init__(self, line):
         self.line = line
-        found = WRITE.match(line)
-        if found:
-            self.host, self.what, self.number, self.data = int(found[2]), None, found[3], ""
-        else:
-            found = READ.match(line)
-            self.host, self.what, self.number, self.data = int(found[2]), found[3], found[4], found[5]
-        self.kind = "write" if self.what is None else "status" if self.what == "status" else "read"
+        words = line.split()
+        self.host, self.kind = int(words[3]), words[4]
+        self.what, number, self.data = (None, words[5], "") if self.kind == "write" else words[5:]
+        self.number = int(number)
+        if self.what == "status":
+            self.kind = "status"
 
 
 class Slot:
@@ -207,186 +174,217 @@ class Trace:
                 hosts.append(Host(lines[at]))
                 at += 1
             self.slots.append(Slot(nodes, hosts))
-        self.keeps = lines[at]
-        self.returns = lines[at + 1] if at + 1 < len(lines) else None
+        self.tests = lines[at:]
+        self.hosted = {}
+        for line in (line for slot in self.slots for line in slot.hosts):
+            self.hosted[line.host, line.what] = max(4 * len(line.data), self.hosted.get((line.host, line.what), 0))
 
 
 # The waveform.
 
-def bits(number):
-    return f"b{int(number):b}"
+def read_wave(text):
+    """What a waveform says by the rules of VCD: its commands, its variables, and the values of all of them at each time."""
+    said, variables, codes, path, times, now = [], [], {}, [], [], {}
+    tokens = iter(text.split())
+    for token in tokens:
+        if token in ("$dumpvars", "$end"):
+            continue
+        if token[0] == "$":
+            words = list(iter(lambda: next(tokens), "$end"))
+            if token == "$scope":
+                path.append(words[1])
+            elif token == "$upscope":
+                path.pop()
+            elif token == "$var":
+                kind, size, code, name, *span = words
+                assert code not in codes, f"{code} is declared twice"
+                assert span == ([f"[{int(size) - 1}:0]"] if kind == "wire" and size != "1" else []), f"{name} has {span}"
+                codes[code] = (".".join(path), name, kind, int(size))
+                variables.append(codes[code])
+            else:
+                said.append(" ".join([token, *words]))
+        elif token[0] == "#":
+            assert token == f"#{len(times)}", f"{token} is time {len(times)}"
+            now = dict(now)
+            times.append(now)
+        else:
+            sort, value, code = (None, token[0], token[1:]) if token[0] in "01xz" else (token[0], token[1:], next(tokens))
+            scope, name, kind, size = codes[code]
+            assert sort == {"wire": None if size == 1 else "b", "integer": "b", "string": "s", "real": "r"}[kind], token
+            assert kind in ("string", "real") or len(value) <= size, f"{token} is wider than {size}"
+            if kind != "string" and value not in ("x", "z"):
+                value = int(value, 10 if kind == "real" else 2)
+            assert now.get((scope, name)) != value, f"{token} changes nothing"
+            now[scope, name] = value
+    assert not path, f"{path} does not end"
+    return said, variables, times
 
 
-def mask(nodes, width, test):
-    return "b" + "".join("1" if k < len(nodes) and test(nodes[k]) else "0" for k in reversed(range(width)))
+def variables_of(trace, slot):
+    """Each variable with its value after a slot: its scope, its name, its type, its size, and the value."""
+    senders = [k for k, node in enumerate(slot.nodes) if node.sends]
+    yield "cluster", "agree", "wire", 1, int(len(slot.held) == 1) if slot.held else "z"
+    yield "cluster", "sender", "integer", 32, "z" if not senders else senders[0] if len(senders) == 1 else "x"
+    yield "cluster", "active", "wire", trace.width, sum(node.active << k for k, node in enumerate(slot.nodes))
+    yield "cluster", "leaving", "wire", trace.width, sum(node.left << k for k, node in enumerate(slot.nodes))
+    yield "cluster", "spread", "integer", 64, "z" if slot.spread is None else slot.spread
+    for k, node in enumerate(slot.nodes):
+        scope, absent = f"cluster.node{k}", "x" if node.word == "off" else "z"
+        yield scope, "sends", "wire", 1, int(node.sends)
+        yield scope, "phase", "string", 1, node.phase
+        yield scope, "word", "string", 1, node.word
+        yield scope, "peer", "integer", 32, absent if node.peer == "-" else int(node.peer)
+        yield scope, "msg", "integer", 32, absent if node.msg == "-" else int(node.msg)
+        yield scope, "mem", "wire", trace.width, int(node.mem, 16) if node.active else absent
+        yield scope, "acc", "integer", 32, node.acc if node.active else absent
+        yield scope, "rej", "integer", 32, node.rej if node.active else absent
+        yield scope, "ack", "string", 1, node.ack
+        yield scope, "clock", "real", 64, node.clock
+        for what in (None, "status", *map(str, range(trace.n))):
+            if (k, what) in trace.hosted:
+                line = next((line for line in reversed(slot.hosts) if (line.host, line.what) == (k, what)), None)
+                yield f"{scope}.host", f"read_{what}" if what else "write", "integer", 32, line.number if line else "z"
+                if what:
+                    yield f"{scope}.host", f"data_{what}", "wire", trace.hosted[k, what], int(line.data, 16) if line else "z"
 
 
-class Variable:
-    def __init__(self, name, kind, size, code, value):
-        self.name, self.code, self.value = name, code, value
-        shown = f" [{size - 1}:0]" if kind == "wire" and size > 1 else ""
-        self.line = f"$var {kind} {size} {code} {name}{shown} $end"
-
-    def change(self, slot):
-        value = self.value(slot)
-        return value + (" " if len(value) > 1 and not self.bit else "") + self.code
-
-    bit = False
-
-
-def only(numbers):
-    return "bz" if not numbers else bits(numbers[0]) if len(numbers) == 1 else "bx"
+def wave_faults(trace, text):
+    """What a waveform says that the trace does not, or the other way round."""
+    said, variables, times = read_wave(text)
+    due = [list(variables_of(trace, slot)) for slot in trace.slots]
+    comments = [f"$comment {line}" for line in (trace.first, *trace.tests)]
+    yield from differences("command", said, ["$version ttplab wave", *comments, "$timescale 1 s", "$enddefinitions"])
+    yield from differences("variable", variables, [one[:4] for one in due[0]])
+    for t, (told, right) in enumerate(itertools.zip_longest(times, due + due[-1:], fillvalue=())):
+        right = {one[:2]: one[4] for one in right}
+        if told != right:
+            yield f"time {t}: {sorted(dict(told).items() ^ right.items(), key=str)[:4]}"
 
 
-def cluster_variables(trace):
-    def agree(slot):
-        return "z" if not slot.held else "1" if len(slot.held) == 1 else "0"
-    yield Variable("agree", "wire", 1, "a", agree)
-    yield Variable("sender", "integer", 32, "b", lambda slot: only([k for k, node in enumerate(slot.nodes) if node.sends]))
-    yield Variable("active", "wire", trace.width, "c", lambda slot: mask(slot.nodes, trace.width, lambda node: node.active))
-    yield Variable("leaving", "wire", trace.width, "d", lambda slot: mask(slot.nodes, trace.width, lambda node: node.left))
-    yield Variable("spread", "integer", 64, "e", lambda slot: "bz" if slot.spread is None else bits(slot.spread))
+# Any drawing.
+
+SVG = "{http://www.w3.org/2000/svg}"
 
 
-def phase(node):
-    if node.word == "off":
-        return "off"
-    if node.word in ("wait", "retry"):
-        return "listening"
-    return "active" if node.active else "left"
+def box_of(shape):
+    """The left, upper, right and lower end of what a shape takes of the page; of a text the place where it is put."""
+    if shape.tag != SVG + "path":
+        x, y, wide, high = (int(shape.get(name, 0)) for name in ("x", "y", "width", "height"))
+        return x, y, x + wide, y + high
+    points = []
+    for letter, words in re.findall("([A-Za-z])([^A-Za-z]*)", shape.get("d")):
+        numbers = [int(word) for word in re.findall(r"-?\d+", words)]
+        right, down = {"h": (*numbers, 0), "v": (0, *numbers), "z": (0, 0)}.get(letter, numbers)
+        points.append((right, down) if letter == "M" else (points[-1][0] + right, points[-1][1] + down))
+    (left, *_, right), (top, *_, bottom) = map(sorted, zip(*points))
+    return left, top, right, bottom
 
 
-def node_variables(trace, k):
-    letter = chr(ord("A") + k)
+class Drawing:
+    """A picture as Python's reader of XML reads it: cells, texts and other shapes in their order, each with its class and its box."""
 
-    def of(value):
-        return lambda slot: value(slot.nodes[k])
+    def __init__(self, text):
+        self.root = xml.fromstring(text)
+        self.cells, self.texts, self.shapes = [], [], []
+        for element in self.root:
+            style, title = element.get("class"), element.findtext(SVG + "title", "")
+            if element.tag == SVG + "g":
+                self.cells.append((style, title, element.findtext(SVG + "text"), box_of(element.find(SVG + "rect"))))
+            elif element.tag == SVG + "text":
+                self.texts.append((style, "".join(element.itertext()), box_of(element)))
+            elif element.tag not in (SVG + "title", SVG + "style"):
+                self.shapes.append((style, title, box_of(element)))
 
-    def named(field):
-        def value(node):
-            word = getattr(node, field)
-            return "bx" if node.word == "off" else "bz" if word == "-" else bits(word)
-        return of(value)
-
-    def held(value):
-        return of(lambda node: "bx" if node.word == "off" else value(node) if node.active else "bz")
-
-    yield Variable("sends", "wire", 1, "a" + letter, of(lambda node: "1" if node.sends else "0"))
-    yield Variable("phase", "string", 1, "b" + letter, of(lambda node: "s" + phase(node)))
-    yield Variable("word", "string", 1, "c" + letter, of(lambda node: "s" + node.word))
-    yield Variable("peer", "integer", 32, "d" + letter, named("peer"))
-    yield Variable("msg", "integer", 32, "e" + letter, named("msg"))
-    yield Variable("mem", "wire", trace.width, "f" + letter, held(lambda node: f"b{int(node.mem, 16):0{trace.width}b}"))
-    yield Variable("acc", "integer", 32, "g" + letter, held(lambda node: bits(node.acc)))
-    yield Variable("rej", "integer", 32, "h" + letter, held(lambda node: bits(node.rej)))
-    yield Variable("ack", "string", 1, "i" + letter, of(lambda node: "s" + node.ack))
-    yield Variable("clock", "real", 64, "j" + letter, of(lambda node: f"r{node.clock}"))
-
-
-def host_variables(trace, k):
-    letter = chr(ord("A") + k)
-    lines = [line for slot in trace.slots for line in slot.hosts if line.host == k]
-
-    def last(what, value):
-        def found(slot):
-            those = [line for line in slot.hosts if line.host == k and line.what == what]
-            return value(those[-1]) if those else "bz"
-        return found
-
-    if any(line.what is None for line in lines):
-        yield Variable("write", "integer", 32, "k" + letter, last(None, lambda line: bits(line.number)))
-    for source in ["status"] + [str(p) for p in range(trace.n)]:
-        sizes = [4 * len(line.data) for line in lines if line.what == source]
-        if sizes:
-            end = letter + ("z" if source == "status" else chr(ord("A") + int(source)))
-            number, data = ("read_status", "data_status") if source == "status" else (f"read_{source}", f"data_{source}")
-            yield Variable(number, "integer", 32, "l" + end, last(source, lambda line: bits(line.number)))
-            yield Variable(data, "wire", max(sizes), "m" + end,
-                           last(source, lambda line: f"b{int(line.data, 16):0{4 * len(line.data)}b}"))
+    def faults(self, title, colours, due):
+        """What is wrong with the title, the colours, the words of each cell, text and shape, and what stands outside the page."""
+        wide, high = int(self.root.get("width")), int(self.root.get("height"))
+        yield from differences("title", [self.root.findtext(SVG + "title")], [title])
+        yield from differences("page", [self.root.get("viewBox")], [f"0 0 {wide} {high}"])
+        yield from (f"not in the styles: {colour}" for colour in colours if colour not in self.root.findtext(SVG + "style"))
+        for shape in self.root.iter():
+            assert shape.tag.removeprefix(SVG) in ("svg", "title", "style", "g", "rect", "text", "path"), shape.tag
+            left, top, right, bottom = box_of(shape)
+            if not (0 <= left <= right <= wide and 0 <= top <= bottom <= high):
+                yield f"outside the page: {xml.tostring(shape)}"
+        yield from differences("cell", [cell[:3] for cell in self.cells], due["cells"])
+        for kind, told in (("texts", self.texts), ("shapes", self.shapes)):
+            for style in {style for style, *_ in told} | due[kind].keys():
+                yield from differences(f"{kind}, {style}", [words for other, words, _ in told if other == style], due[kind].get(style, []))
 
 
-def wave(trace):
-    yield "$version ttplab wave $end"
-    yield f"$comment {trace.first} $end"
-    yield f"$comment {trace.keeps} $end"
-    if trace.returns:
-        yield f"$comment {trace.returns} $end"
-    yield "$timescale 1 s $end"
-    variables = list(cluster_variables(trace))
-    yield "$scope module cluster $end"
-    yield from (variable.line for variable in variables)
-    for k in range(trace.n):
-        yield f"$scope module node{k} $end"
-        own, host = list(node_variables(trace, k)), list(host_variables(trace, k))
-        yield from (variable.line for variable in own)
-        if host:
-            yield "$scope module host $end"
-            yield from (variable.line for variable in host)
-            yield "$upscope $end"
-        yield "$upscope $end"
-        variables += own + host
-    yield "$upscope $end"
-    yield "$enddefinitions $end"
-    before = None
-    for t, slot in enumerate(trace.slots):
-        yield f"#{t}"
-        if before is None:
-            yield "$dumpvars"
-        for variable in variables:
-            if before is None or variable.value(slot) != variable.value(before):
-                yield variable.change(slot)
-        if before is None:
-            yield "$end"
-        before = slot
-    yield f"#{trace.t}"
+def boxes(told, *styles):
+    """The boxes of those of these classes."""
+    return [box for style, *_, box in told if style in styles]
+
+
+def differences(what, told, due):
+    """Where two lists differ first; None is due where anything is right."""
+    pairs = enumerate(itertools.zip_longest(told, due, fillvalue="nothing"))
+    return [f"{what} {at}: {one!r} for {other!r}" for at, (one, other) in pairs if one != other and other is not None][:1]
+
+
+def is_in(box, left, top, right, bottom):
+    """Whether a box, or a point, is within these ends."""
+    return left <= box[0] <= box[2] <= right and top <= box[1] <= box[3] <= bottom
+
+
+def grid_faults(columns, names, across, numbers, edges):
+    """What stands beside no name of its row, or not below the rest of its column.
+
+    `columns` are the boxes of each column's cells by their rows, `names` those of the rows' names, all of one band and then of the
+    next; a band has `across` columns. `numbers` are columns with the box of the number above them, `edges` with that of a line at
+    their left.
+    """
+    rows = len(names) // -(-len(columns) // across)
+    bands = [names[rows * (c // across):] for c in range(len(columns))]
+    ends = [max((box[0], box[2]) for box in cells.values()) for cells in columns]
+    for c, cells in enumerate(columns):
+        for r, box in cells.items():
+            if box[::2] != ends[c] or not is_in(bands[c][r], 0, box[1], box[0], box[3]) or c % across and ends[c - 1][1] > box[0]:
+                yield f"column {c} has its cell {r} at {box}"
+    for c, box in numbers:
+        above = names[rows * (c // across) - 1][1] if c >= across else 0
+        if not is_in(box, ends[c][0], above, ends[c][1], bands[c][0][1]):
+            yield f"column {c} has a number at {box}"
+    for c, box in edges:
+        if not (ends[c][0] - 9 < box[0] <= box[2] <= ends[c][0] and box[1] <= bands[c][0][1] <= box[3]):
+            yield f"column {c} has a line at {box}"
+
+
+def faults_of(reading, *words):
+    """The first faults that a reading tells of a view; that it can't be read is one."""
+    found = []
+    try:
+        for fault in itertools.islice(reading(*words), 5):
+            found.append(fault)
+    except Exception as fault:
+        found.append(repr(fault))
+    return found
 
 
 # The picture.
 
-def cell(style, x, y, title, shown):
-    return (f'<g class="{style}"><title>{title}</title><rect x="{x}" y="{y}" width="19" height="19"/>'
-            f'<text x="{x + 9}" y="{y + 14}">{shown}</text></g>')
+def meaning(test):
+    words = test.split()
+    return MEANINGS[words[0]].format(words[3]) if words[1] == "yes" else MEANINGS[words[2]]
 
 
-def mark(kind, x, y, title):
-    right, down, shape = MARKS[kind]
-    return f'<path class="{kind}" d="M{x + right} {y + down}{shape}"><title>{title}</title></path>'
-
-
-def round_line(x, y, high):
-    return f'<path class="round" d="M{x} {y}h1v{high}h-1z"/>'
-
-
-def meaning(line):
-    words = line.split()
-    if words[1] == "yes":
-        return MEANINGS[words[0]].format(words[3])
-    return MEANINGS[words[2]]
-
-
-def members_cell(t, slot, x, y):
-    if not slot.held:
-        return cell("none", x, y, f"slot {t} members -", "-")
-
-    def of(mem):
-        return f" {mem} of " + " ".join(str(k) for k, node in enumerate(slot.nodes) if node.holder and node.mem == mem)
-
-    title = f"slot {t} members" + "".join(of(mem) for mem in slot.held)
-    if len(slot.held) > 1:
-        return cell("differ", x, y, title, "!")
-    return cell("agree", x, y, title, str(int(slot.held[0], 16).bit_count()))
-
-
-def clocks_cell(t, slot, x, y):
-    apart = "-" if slot.spread is None else str(slot.spread)
-    shown = apart if len(apart) < 5 else f"{apart[:-3]}k" if len(apart) < 7 else "1M+"
-    return cell("none", x, y, f"slot {t} clocks apart {apart}", shown)
-
-
-def apart_cell(t, slot, x, y):
+def cells_of(t, slot):
+    """The class, the title and the letters of each cell of a slot."""
+    for node in slot.nodes:
+        style = node.word + (" doubt" if node.ack.startswith("doubt:") else "")
+        style += " other" if node.holder and node.mem != slot.most() else ""
+        style += " data" if node.msg != "-" else ""
+        yield style + (" refused" if node.sends and slot.refused else ""), node.line, WORDS[node.word][0]
+    title = f"slot {t} members" + ("" if slot.held else " -")
+    for mem in slot.held:
+        title += f" {mem} of " + " ".join(str(k) for k, node in enumerate(slot.nodes) if node.holder and node.mem == mem)
+    many = str(int(slot.held[0], 16).bit_count()) if slot.held else "-"
+    yield "differ" if len(slot.held) > 1 else "agree" if slot.held else "none", title, "!" if len(slot.held) > 1 else many
+    spread = "-" if slot.spread is None else str(slot.spread)
+    yield "none", f"slot {t} clocks apart {spread}", spread if len(spread) < 5 else f"{spread[:-3]}k" if len(spread) < 7 else "1M+"
     k = slot.apart()
-    who, shown = ("-", "-") if k is None else (f"node {k}", k)
-    return cell("apart", x, y, f"slot {t} clock apart from most {who}", shown)
+    yield "apart", f"slot {t} clock apart from most {'-' if k is None else f'node {k}'}", "-" if k is None else str(k)
 
 
 def quiet_slots(trace):
@@ -420,191 +418,44 @@ def shown_text(trace, first, last):
             break
 
 
-def entry(style, shown, x, y, what):
-    if style == "round":
-        return round_line(x + 9, y, 19)
-    return mark(style, x, y, what) if shown is None else cell(style, x, y, what, shown)
-
-
-def picture(trace, asked=None):
-    n = trace.n
-    columns = n * (48 // n)
-    first, last = window(trace, columns) if asked is None else (asked[0], min(asked[1], trace.t - 1))
-    band = 20 * n + 104
-    bands = (last - first) // columns + 1
-    below = 92 + band * bands
-    height = below + 234
-
-    def x_of(t):
-        return 72 + 20 * ((t - first) % columns)
-
-    def y_of(t, r):
-        return 120 + band * ((t - first) // columns) + 20 * r
-
-    yield f'<svg xmlns="http://www.w3.org/2000/svg" width="1140" height="{height}" viewBox="0 0 1140 {height}">'
-    yield f"<title>{trace.first}</title>"
-    yield "<style>"
-    yield "text{font:12px DejaVu Sans Mono,Consolas,monospace}g text{text-anchor:middle;font-size:11px}"
-    for word, (_, fill, colour, _) in WORDS.items():
-        yield f".{word} rect{{fill:{fill}}}.{word} text{{fill:{colour}}}"
-    yield STYLES
-    yield "</style>"
-    yield f'<rect width="1140" height="{height}" fill="#ffffff"/>'
-    yield f'<text x="12" y="20">{trace.first}</text>'
-    yield f'<text x="12" y="40">{"; ".join(shown_text(trace, first, last))}</text>'
-    tests = [line for line in (trace.keeps, trace.returns) if line]
-    for line, y in zip(tests, (60, 78)):
-        yield f'<text class="said" x="12" y="{y}">{line}: {meaning(line)}</text>'
-    for t in range(first, last + 1, columns):
-        rows = [(f"node {k}", y_of(t, k) + 14) for k in range(n)]
-        rows += [(name, y_of(t, n + i) + 18) for i, name in enumerate(("members", "clocks", "apart"))]
-        for name, y in rows:
-            yield f'<text class="row" x="64" y="{y}">{name}</text>'
-    for t in range(first, last + 1):
-        slot, x = trace.slots[t], x_of(t)
-        if t % 5 == 0:
-            yield f'<text class="slot" x="{x + 9}" y="{y_of(t, 0) - 5}">{t}</text>'
-        if slot.round:
-            yield round_line(x - 1, y_of(t, 0) - 3, 20 * n + 6)
-        for k, node in enumerate(slot.nodes):
-            style = node.word + (" doubt" if node.ack.startswith("doubt:") else "")
-            style += " other" if node.holder and node.mem != slot.most() else ""
-            style += " data" if node.msg != "-" else ""
-            style += " refused" if node.sends and slot.refused else ""
-            yield cell(style, x, y_of(t, k), node.line, WORDS[node.word][0])
-        yield members_cell(t, slot, x, y_of(t, n) + 4)
-        yield clocks_cell(t, slot, x, y_of(t, n + 1) + 4)
-        yield apart_cell(t, slot, x, y_of(t, n + 2) + 4)
-    for t in range(first, last + 1):
-        slot, x = trace.slots[t], x_of(t)
-        for k, node in enumerate(slot.nodes):
-            if node.left:
-                yield f'<rect class="why" x="{x + 20}" y="{y_of(t, k)}" width="{7 * len(node.word) + 6}" height="19"/>'
-                yield f'<text class="why" x="{x + 23}" y="{y_of(t, k) + 14}">{node.word}</text>'
-        for host in slot.hosts:
-            yield mark(host.kind, x, y_of(t, host.host), host.line)
-    for line, style, aside in zip(tests, ("keep", "back"), (-4, 3)):
-        words = line.split()
-        t = int(words[3])
-        if first <= t <= last:
-            yield f'<path class="flag" d="M{x_of(t) - 1} {y_of(t, 0) - 26}v{20 * n + 26}"/>'
-            name = "start" if words[1] == "yes" else words[2]
-            yield f'<text class="{style}" x="{x_of(t) + aside}" y="{y_of(t, 0) - 17}">{name}</text>'
-    for i, (word, (letter, _, _, what)) in enumerate(WORDS.items()):
-        x, y = 72 + 345 * (i % 3), below + 22 * (i // 3)
-        yield cell(word, x, y, word, letter)
-        yield f'<text x="{x + 25}" y="{y + 14}">{word}: {what}</text>'
-    for i, (style, shown, what) in enumerate(CLASSES):
-        x, y = 72 + 345 * (i % 3), below + 118 + 22 * (i // 3)
-        yield entry(style, shown, x, y, what)
-        yield f'<text x="{x + 25}" y="{y + 14}">{what}</text>'
-    yield "</svg>"
-
-
-# Read back.
-
-def read_wave(text):
-    """The values of each scope after each slot, by the rules of VCD: a list of {path: {name: value}} by time."""
-    tokens = iter(text.split())
-    path, names, now, times = [], {}, {}, []
-    for token in tokens:
-        if token in ("$version", "$comment", "$timescale", "$enddefinitions"):
-            while next(tokens) != "$end":
-                pass
-        elif token == "$scope":
-            next(tokens)
-            path.append(next(tokens))
-            assert next(tokens) == "$end"
-        elif token == "$upscope":
-            path.pop()
-            assert next(tokens) == "$end"
-        elif token == "$var":
-            kind, size, code = next(tokens), int(next(tokens)), next(tokens)
-            assert code not in names, f"{code} is declared twice"
-            names[code] = (tuple(path), next(tokens), kind, size)
-            while next(tokens) != "$end":
-                pass
-        elif token.startswith("#"):
-            assert int(token[1:]) == len(times), f"time {token}"
-            times.append(now)
-            now = dict(now)
-            times[-1] = now
-        elif token in ("$dumpvars", "$end"):
-            continue
-        elif token[0] in "01xz":
-            kind, size = names[token[1:]][2:]
-            assert (kind, size) == ("wire", 1), token
-            now[names[token[1:]][:2]] = token[0]
-        else:
-            assert token[0] in "bsr", token
-            code = next(tokens)
-            kind, size = names[code][2:]
-            assert token[0] == {"wire": "b", "integer": "b", "string": "s", "real": "r"}[kind], token
-            assert token[0] != "b" or len(token) - 1 <= size, f"{token} is wider than {size}"
-            now[names[code][:2]] = token[1:]
-    assert not path
-    return times
-
-
-def node_line(trace, t, k, values):
-    """The line of a node by the values in its scope after a slot."""
-    of = {name: value for (path, name), value in values.items() if path == ("cluster", f"node{k}")}
-
-    def number(name, dash):
-        return dash if of[name] in ("x", "z") else str(int(of[name], 2))
-
-    members = 0 if of["mem"] in ("x", "z") else int(of["mem"], 2)
-    return (f"slot {t} node {k} {of['word']} peer {number('peer', '-')} msg {number('msg', '-')}"
-            f" mem {members:0{trace.width // 4}x} acc {number('acc', '0')} rej {number('rej', '0')}"
-            f" ack {of['ack']} clock {of['clock']}")
-
-
-def wave_faults(trace, text):
-    times = read_wave(text)
-    if len(times) != trace.t + 1:
-        yield f"{len(times)} times for {trace.t} slots"
-    for t, (slot, values) in enumerate(zip(trace.slots, times)):
-        for k, node in enumerate(slot.nodes):
-            told = node_line(trace, t, k, values)
-            if told != node.line:
-                yield f"slot {t} node {k}: {told!r} for {node.line!r}"
-
-
-def picture_faults(trace, text):
-    root = xml.fromstring(text)
-    titles = [title.text for title in root.iter("{http://www.w3.org/2000/svg}title")]
-    shown = re.search(r">shown: slots (\d+) to (\d+) of ", text)
-    first, last = int(shown[1]), int(shown[2])
-    for slot in trace.slots[first:last + 1]:
-        for line in slot.nodes + slot.hosts:
-            found = titles.count(line.line)
-            wanted = sum(other.line == line.line for other in slot.hosts) or 1
-            if found != wanted:
-                yield f"{line.line!r} is the title of {found} elements"
-    if sum(re.match(r"slot \d+ (?:node|host) ", title) is not None for title in titles) \
-            != sum(len(slot.nodes + slot.hosts) for slot in trace.slots[first:last + 1]):
-        yield "other lines are titles too"
-
-
-def main(words):
-    with open(words[1], encoding="latin-1", newline="") as file:
-        text = file.read()
-    if words[0] == "line":
-        print(*[number for number in [first_not_due(text)] if number])
-        return 0
-    trace = Trace(text)
-    if words[0] == "wave":
-        print(*wave(trace), sep="\n")
-    elif words[0] == "picture":
-        asked = (int(words[2]), int(words[3])) if len(words) > 2 else None
-        print(*picture(trace, asked), sep="\n")
-    else:
-        faults = list(wave_faults(trace, open(words[2], encoding="ascii").read()))
-        faults += picture_faults(trace, open(words[3], encoding="ascii").read())
-        print(*(faults[:20] or ["right"]), sep="\n")
-        return 1 if faults else 0
-    return 0
-
-
-if __name__ == "__main__":
-    sys.exit(main(sys.argv[1:]))
+def picture_faults(trace, asked, text):
+    """What the picture of the slots that are asked for, or else chosen, says that the trace does not, or the other way round."""
+    drawing, n = Drawing(text), trace.n
+    across = n * (48 // n)
+    first, last = window(trace, across) if asked is None else (asked[0], min(asked[1], trace.t - 1))
+    slots = [(t, trace.slots[t]) for t in range(first, last + 1)]
+    cells = [cell for t, slot in slots for cell in cells_of(t, slot)]
+    numbered = [t for t, _ in slots if t % 5 == 0]
+    rounds = [t for t, slot in slots if slot.round]
+    left = [(t, k, node.word) for t, slot in slots for k, node in enumerate(slot.nodes) if node.left]
+    hosts = [(t, host) for t, slot in slots for host in slot.hosts]
+    flags = [test.split() for test in trace.tests if first <= int(test.split()[3]) <= last]
+    texts = {
+        None: [trace.first, "; ".join(shown_text(trace, first, last)), *(f"{word}: {row[3]}" for word, row in WORDS.items()),
+               *(what for _, _, what in KEY)],
+        "said": [f"{test}: {meaning(test)}" for test in trace.tests],
+        "row": -(-len(slots) // across) * [*(f"node {k}" for k in range(n)), "members", "clocks", "apart"],
+        "slot": [str(t) for t in numbered],
+        "why": [word for _, _, word in left],
+        **{style: ["start" if words[1] == "yes" else words[2] for words in flags if words[0] == name]
+           for style, name in (("keep", "keeps"), ("back", "returns"))},
+    }
+    shapes = {None: [""], "round": (len(rounds) + 1) * [""], "why": len(left) * [""], "flag": len(flags) * [""]}
+    for style in ("write", "read", "status"):
+        shapes[style] = [host.line for _, host in hosts if host.kind == style] + [what for other, _, what in KEY if other == style]
+    key = [(word, word, row[0]) for word, row in WORDS.items()]
+    key += [(style, what, shown) for style, shown, what in KEY if style not in shapes]
+    yield from drawing.faults(trace.first, (f".{word} rect{{fill:{row[1]}}}.{word} text{{fill:{row[2]}}}" for word, row in WORDS.items()),
+                              {"cells": cells + key, "texts": texts, "shapes": shapes})
+    columns = [dict(enumerate(box for *_, box in drawing.cells[at:at + n + 3])) for at in range(0, len(cells), n + 3)]
+    numbers = zip(numbered, boxes(drawing.texts, "slot"))
+    edges = [*zip(rounds, boxes(drawing.shapes, "round")), *zip((int(words[3]) for words in flags), boxes(drawing.shapes, "flag"))]
+    yield from grid_faults(columns, boxes(drawing.texts, "row"), across, [(t - first, box) for t, box in numbers],
+                           [(t - first, box) for t, box in edges])
+    for (t, k, word), box in zip(left, boxes(drawing.texts, "why")):
+        _, top, right, bottom = columns[t - first][k]
+        if not is_in(box, right, top, right + 9, bottom):
+            yield f"{word} is not beside node {k} in slot {t}"
+    for (t, host), box in zip(hosts, boxes(drawing.shapes, "write", "read", "status")):
+        if not is_in(box, *columns[t - first][host.host]):
+            yield f"not in its cell: {host.line}"
