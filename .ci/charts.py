@@ -1,16 +1,16 @@
-#!/usr/bin/env python3
-"""charts.py chart CAMPAIGN [FIRST LAST]: the picture of a campaign, by a second reading of docs/CHARTS.md.
-charts.py line CAMPAIGN: the number of the first line that is not due, or nothing where the text is a campaign.
-charts.py check CAMPAIGN SVG: whether a picture is well-formed XML in which the titles of marks are the lines of the text
-whose slot is shown and that are no plain `same`, in their order, and in which the tallies and the ten worst are those of the lines.
+"""A second reading of docs/CHARTS.md: which texts are campaigns, and what the chart of a campaign must say.
 
-Nothing here is shared with the program: the texts are made straight from the manual page.
+A chart is read by Python's reader of XML, and what it says is compared with the lines of the campaign: titles, classes and letters of
+cells, marks, tallies, the list of the worst, the table of all faults, names, the key and its colours. A cell must stand where the
+names of its row and its column say, a mark below its cell at the place that the key gives its fault, and nothing outside the page.
+Other looks, and the texts that say how to read a chart, are the definitions' alone, which the program follows to the byte.
+
+Nothing here is shared with the program; looks, letters, colours and what they mean are those of the page's table.
 """
+import itertools
 import re
-import sys
-import xml.etree.ElementTree as xml
 
-from views import MEANINGS
+from views import Drawing, boxes, grid_faults, is_in, meaning, rows_of
 
 NUMBER = r"(?:0|[1-9]\d*)"
 HEAD = re.compile(rf"ttplab campaign 1 nodes ({NUMBER}) slots ({NUMBER}) from ({NUMBER}) to ({NUMBER})", re.ASCII)
@@ -19,36 +19,11 @@ TEST = rf"(keeps|returns) (?:yes start|no ([HQ])([1-8])) ({NUMBER})"
 OWN = re.compile(rf"slot - node - ({TEST}) ({COSTS}) fault -", re.ASCII)
 LINE = re.compile(rf"slot ({NUMBER}) node ({NUMBER}) ({TEST}) ({COSTS}) fault (.*)", re.ASCII)
 LEAVE = re.compile(rf"({NUMBER}):({NUMBER}):(denied|unacknowledged|clique)", re.ASCII)
-SVG = "{http://www.w3.org/2000/svg}"
 COUNTS = "runs same hurt split torn dead".split()
 KINDS = [f"{channels} {what}" for channels in ("AB", "A", "B") for what in ("silence", "noise")]
 JUMPS = ("4 W", "-4 W", "W", "-W")
-LOOKS = {
-    "same": (".", "#f3f6f8", "#5c7482", "nothing changed"),
-    "same out": ("o", "#eeeeee", "#505050", "nothing changed; the fault is outside the hypothesis"),
-    "cost": ("c", "#d6e8f5", "#000000", "faulty nodes left, and nobody else"),
-    "cost out": ("p", "#dddddd", "#000000", "the same; the fault is outside the hypothesis"),
-    "late": ("e", "#e8e0a8", "#000000", "two memberships, but the run ends too soon to tell"),
-    "hurt": ("H", "#f0a800", "#000000", "hurt: a healthy node left"),
-    "split": ("S", "#d04a00", "#ffffff", "split: healthy nodes held two memberships for a while"),
-    "torn": ("T", "#8a2fa0", "#ffffff", "torn: two memberships are left at the end"),
-    "dead": ("X", "#000000", "#ffffff", "dead: at the end no two nodes are together"),
-}
+LOOKS = {look: rest for look, *rest in rows_of("CHARTS.md", "look | letter | colour | letter's colour | meaning")}
 HARM = ("hurt", "split", "torn", "dead")
-STYLES = """.none{fill:#ffffff}.none text{fill:#666666}.sends rect{stroke:#00497a;stroke-width:2}
-.row{text-anchor:end}.slot{text-anchor:middle;font-size:10px;fill:#444444}.said{font-weight:bold}
-.many,.zero{text-anchor:end;font-size:10px}.zero{fill:#b0b0b0}.flag{pointer-events:none}.keep{font-size:10px}
-path{stroke:#000000;stroke-opacity:0}path.hurt,path.split,path.torn,path.dead{stroke-width:.5}
-path.hurt,path.split,path.torn,path.dead,.flag,.gap{stroke-opacity:1}
-.gap{stroke-dasharray:2;pointer-events:none}.key{fill:#ffffff;stroke:#808080}.key text{fill:#000000;stroke:none}"""
-HOW_TO_READ = """A cell is a node in a slot: up to sixteen faults that begin there, each tried in a run of its own. Its colour says what the worst of them does, its number how
-many healthy nodes that one costs. A blue frame: the node sends in this slot. Below a cell stands a mark for each fault that changed something; the pointer over
-it shows its line. harmful: hurt, split, torn or dead. healthy: not faulty by the rules of the hypothesis; it may be the fault's own node. worst: dead before
-torn, split and hurt, and then by the number of healthy nodes lost."""
-WORDS = """silence: a frame is lost. noise: it comes spoilt. AB, A, B: on both channels, or on one. If the node sends in the slot, for all; otherwise for this node alone.
-jump: the clock of the node jumps ahead, or back (-). W: the window of the list; a frame that is further from its receiver's clock is not taken.
-without any of them: left: who left, as NODE:SLOT:WHY; hurt: the healthy ones of them; split: first and last slot in which healthy nodes held different members;
-end: the memberships at the end, each as a number in base 16, in which bit k is node k."""
 
 
 class Wrong(Exception):
@@ -213,49 +188,27 @@ def counts_text(numbers, where):
             f"{split} split them, {torn} left several memberships, {dead} left no two nodes together")
 
 
-# The picture.
+# The chart.
 
-def cell(style, x, y, title, shown):
-    return (f'<g class="{style}"><title>{title}</title><rect x="{x}" y="{y}" width="22" height="15"/>'
-            f'<text x="{x + 11}" y="{y + 12}">{shown}</text></g>')
-
-
-def badness(fault, look):
-    return list(LOOKS).index(look), fault.run.hurt
+def worst_first(those):
+    """These faults with their looks, the worst first, and of those that are as bad the first one first."""
+    return sorted(those, key=lambda one: (list(LOOKS).index(one[1]), one[0].run.hurt), reverse=True)
 
 
-def worst_of(those):
-    """The first of the worst of these faults with their looks."""
-    return max(those, key=lambda one: badness(*one))
-
-
-def summed(name, those, x, y, also=""):
-    """The cell that sums up faults with their looks."""
+def summed(name, those, also=""):
+    """The class, the title and the letters of the cell that sums up faults with their looks."""
     if not those:
-        return cell("none", x, y, f"{name} faults 0", "-")
+        return "none", f"{name} faults 0", "-"
     told = "".join(f", {look} {many}" for look in LOOKS if (many := sum(other == look for _, other in those)))
-    fault, look = worst_of(those)
-    return cell(look + also, x, y, f"{name} faults {len(those)}{told}", fault.run.hurt if look in HARM else "")
+    fault, look = worst_first(those)[0]
+    return look + also, f"{name} faults {len(those)}{told}", str(fault.run.hurt) if look in HARM else ""
 
 
-def harmful(those, x, y):
-    return f'<text class="slot" x="{x}" y="{y}">{sum(look in HARM for _, look in those) or ""}</text>'
+def harmful(those):
+    return str(sum(look in HARM for _, look in those) or "")
 
 
-def meaning(run):
-    return MEANINGS[run.kind].format(run.slot) if run.yes else MEANINGS[run.rule]
-
-
-def kind_at(place):
-    return JUMPS[place - 12] if place > 11 else KINDS[place % 6] + (", stays" if place > 5 else "")
-
-
-def place_of_mark(place):
-    """Which mark of the eight beside each other, and of the two below each other."""
-    return (6 + place % 2, (place - 12) // 2) if place > 11 else (place % 6, place // 6)
-
-
-def columns_shown(campaign, looks, asked):
+def columns_shown(campaign, asked):
     slots = campaign.slots
     if asked is not None:
         return [slot for slot in slots if asked[0] <= slot <= asked[1]]
@@ -263,197 +216,89 @@ def columns_shown(campaign, looks, asked):
     most = n * (48 // n) * max(1, 36 // n)
     if len(slots) <= most:
         return slots
-    harmed = [fault.slot for fault, look in zip(campaign.faults, looks) if look in HARM]
+    harmed = [fault.slot for fault in campaign.faults if fault.look(campaign) in HARM]
     index = slots.index(harmed[0]) if harmed else 0
     begin = min(max(index - n, 0), len(slots) - most)
     return slots[begin:begin + most]
 
 
-def chart(campaign, asked=None):
-    """The lines of the picture, or None where no slot is to be shown."""
-    n, t, own = campaign.n, campaign.t, campaign.own
-    looks = [fault.look(campaign) for fault in campaign.faults]
-    shown = columns_shown(campaign, looks, asked)
-    return list(drawn(campaign, n, t, own, looks, shown)) if shown else None
-
-
-def drawn(campaign, n, t, own, looks, shown):
-    columns = n * (48 // n)
-    band = 30 * n + 86
-    below = 132 + band * ((len(shown) - 1) // columns + 1)
-    all_of_them = list(zip(campaign.faults, looks))
-    harm = [(fault, look) for fault, look in all_of_them if look in HARM]
-    listed = sorted(harm, key=lambda one: badness(*one), reverse=True)[:10]
-    key = below + 32 + 20 * len(listed)
-    height = key + 530
-    right = 84 + 24 * min(columns, len(shown))
-
-    def x_of(c):
-        return 72 + 24 * (c % columns)
-
-    def y_of(c, r):
-        return 160 + band * (c // columns) + 30 * r
-
-    yield f'<svg xmlns="http://www.w3.org/2000/svg" width="1320" height="{height}" viewBox="0 0 1320 {height}">'
-    yield f"<title>{campaign.head}</title>"
-    yield "<style>"
-    yield "text{font:12px DejaVu Sans Mono,Consolas,monospace}g text{text-anchor:middle;font-size:11px}"
-    for look, (_, fill, colour, _) in LOOKS.items():
-        name = "." + look.replace(" ", ".")
-        yield f"{name}{{fill:{fill}}}{name} text{{fill:{colour}}}"
-    yield STYLES
-    yield "</style>"
-    yield f'<rect width="1320" height="{height}" fill="#ffffff"/>'
-    most = max((fault.run.hurt for fault, _ in harm), default=0)
-    yield (f'<text class="said" x="12" y="20">{len(harm)} of {len(looks)} faults are harmful; the most healthy nodes that one of them '
-           f'costs: {most} of {n}</text>')
-    hidden = [fault.slot for fault, _ in harm if fault.slot not in set(shown)]
-    more = f"; faults of slot {hidden[0]} are harmful too" if hidden else ""
-    yield f'<text x="12" y="40">{n} nodes, {t} slots, shown: {len(shown)} of them, {shown[0]} to {shown[-1]}{more}</text>'
-    yield f'<text x="12" y="60"><title>{campaign.own_line}</title>without any of them: {own.fields}</text>'
-    yield f'<text x="12" y="78">{own.test}: {meaning(own)}</text>'
-    yield f'<text x="12" y="98">{counts_text(campaign.sums["kept"], "within")}</text>'
-    yield f'<text x="12" y="114">{counts_text(campaign.sums["broken"], "outside")}</text>'
-    for c in range(0, len(shown), columns):
-        rows = [(f"node {k}", y_of(c, k) + 13) for k in range(n)]
-        for name, y in rows + [("worst", y_of(c, n) + 17), ("harmful", y_of(c, n) + 35)]:
-            yield f'<text class="row" x="64" y="{y}">{name}</text>'
-    of_slot, of_node = {}, {}
-    for one in all_of_them:
-        of_slot.setdefault(one[0].slot, []).append(one)
-        of_node.setdefault(one[0].node, []).append(one)
+def chart_faults(campaign, asked, text):
+    """What the chart of the slots that are asked for, or else chosen, says that the campaign does not, or the other way round."""
+    drawing, n, own = Drawing(text), campaign.n, campaign.own
+    shown = columns_shown(campaign, asked)
+    across = n * (48 // n)
+    every = [(fault, fault.look(campaign)) for fault in campaign.faults]
+    harm = worst_first(one for one in every if one[1] in HARM)
+    of_node = [[one for one in every if one[0].node == k] for k in range(n)]
+    cells, columns, slots, marks, numbered, gaps = [], [], [], [], {}, []
     for c, slot in enumerate(shown):
-        x = x_of(c)
-        is_gap = c > 0 and shown[c - 1] != slot - 1
-        if slot % 5 == 0 or c == 0 or is_gap:
-            yield f'<text class="slot" x="{x + 11}" y="{y_of(c, 0) - 5}">{slot}</text>'
-        if is_gap:
-            yield f'<path class="gap" d="M{x - 1} {y_of(c, 0)}v{30 * n - 4}"/>'
-        those = of_slot.get(slot, [])
+        those = [one for one in every if one[0].slot == slot]
+        if c and shown[c - 1] != slot - 1:
+            gaps.append(c)
+        if slot % 5 == 0 or c == 0 or c in gaps:
+            numbered[c] = len(slots)
+            slots.append(str(slot))
+        slots.append(harmful(those))
+        columns.append({})
         for k in range(n):
             here = [one for one in those if one[0].node == k]
             if here:
-                yield summed(f"slot {slot} node {k}", here, x, y_of(c, k), " sends" if here[0][0].word == "send" else "")
-        for fault, look in those:
-            if look != "same":
-                i, j = place_of_mark(fault.place)
-                yield (f'<path class="{look}" d="M{x + 3 * i} {y_of(c, fault.node) + 17 + 5 * j}h2v4h-2z"><title>{fault.line}</title>'
-                       '</path>')
-        yield summed(f"slot {slot}", those, x, y_of(c, n) + 5)
-        yield harmful(those, x + 11, y_of(c, n) + 35)
-    yield f'<text class="keep" x="{right - 4}" y="143">of all slots:</text>'
-    yield f'<text class="slot" x="{right + 11}" y="155">worst</text>'
-    yield f'<text class="slot" x="{right + 53}" y="155">harmful</text>'
+                columns[c][k] = len(cells)
+                cells.append(summed(f"slot {slot} node {k}", here, " sends" if here[0][0].word == "send" else ""))
+        columns[c][n] = len(cells)
+        cells.append(summed(f"slot {slot}", those))
+        marks += [(fault, look, columns[c][fault.node]) for fault, look in those if look != "same"]
+    at_end, flags = len(cells), [shown.index(own.slot)] if own.slot in shown else []
+    cells += [summed(f"node {k}", of_node[k]) for k in range(n)] + [(look, look, str(fault.run.hurt)) for fault, look in harm[:10]]
+    cells += [("key", "", f"jump {JUMPS[place - 12]}" if place > 11 else KINDS[place % 6]) for place in range(16)]
+    cells += 4 * [(look, look, row[0]) for look, row in LOOKS.items()]
+    hidden = [f"; faults of slot {fault.slot} are harmful too" for fault, look in every if look in HARM and fault.slot not in shown][:1]
+    most = max((fault.run.hurt for fault, _ in harm), default=0)
+    plain = ["".join([f"{n} nodes, {campaign.t} slots, shown: {len(shown)} of them, {shown[0]} to {shown[-1]}", *hidden]),
+             f"{campaign.own_line}without any of them: {own.fields}", f"{own.test}: {meaning(own.test)}",
+             counts_text(campaign.sums["kept"], "within"), counts_text(campaign.sums["broken"], "outside")]
+    for fault, look in harm[:10]:
+        lost = f"{fault.run.hurt} ({fault.run.hurt_word})" if fault.run.hurt else "0"
+        plain += [fault.said, f"{look}, healthy nodes lost: {lost}"]
+    plain += 8 * [None] + [row[3] for row in LOOKS.values()]
+    counts = []
+    for word, places in (("send", range(12)), ("receive", range(12)), ("jump", range(12, 16))):
+        for place in places:
+            plain.append(JUMPS[place - 12] if place > 11 else KINDS[place % 6] + (", stays" if place > 5 else ""))
+            those = [look for fault, look in every if (fault.word, fault.place) == (word, place)]
+            counts += [str(those.count(look)) for look in LOOKS]
+    drawing.texts = [("many" if style == "zero" else style, words, box) for style, words, box in drawing.texts]
+    texts = {
+        None: plain,
+        "said": [f"{len(harm)} of {len(every)} faults are harmful; the most healthy nodes that one of them costs: {most} of {n}",
+                 f"the worst of {len(harm)} harmful faults" if harm else "no fault is harmful",
+                 "how to read it", "send", "receive", "jump"],
+        "row": -(-len(shown) // across) * [*(f"node {k}" for k in range(n)), "worst", "harmful"] + ["this slot alone", "to the end"],
+        "slot": slots + ["worst", "harmful", *map(harmful, of_node)],
+        "keep": ["of all slots:", *(len(flags) * ["start" if own.yes else own.rule])],
+        "many": counts,
+    }
+    shapes = {None: [""], "gap": len(gaps) * [""], "flag": len(flags) * [""],
+              **{look: [fault.line for fault, other, _ in marks if other == look] for look in LOOKS}}
+    colours = ("{0}{{fill:{2}}}{0} text{{fill:{3}}}".format("." + look.replace(" ", "."), *row) for look, row in LOOKS.items())
+    yield from drawing.faults(campaign.head, colours, {"cells": cells, "texts": texts, "shapes": shapes})
+    names, numbers = boxes(drawing.texts, "row")[:-2], boxes(drawing.texts, "slot")
+    yield from grid_faults([{r: drawing.cells[at][3] for r, at in cells.items()} for cells in columns], names, across,
+                           [(c, numbers[at]) for c, at in numbered.items()],
+                           [*zip(gaps, boxes(drawing.shapes, "gap")), *zip(flags, boxes(drawing.shapes, "flag"))])
     for k in range(n):
-        yield summed(f"node {k}", of_node.get(k, []), right, y_of(0, k))
-        yield harmful(of_node.get(k, []), right + 53, y_of(0, k) + 12)
-    if own.slot in shown:
-        c = shown.index(own.slot)
-        yield f'<path class="flag" d="M{x_of(c) - 1} {y_of(c, 0) - 26}v{30 * n + 22}"/>'
-        yield f'<text class="keep" x="{x_of(c) + 2}" y="{y_of(c, 0) - 17}">{"start" if own.yes else own.rule}</text>'
-    said = f"the worst of {len(harm)} harmful faults" if harm else "no fault is harmful"
-    yield f'<text class="said" x="12" y="{below + 8}">{said}</text>'
-    for i, (fault, look) in enumerate(listed):
-        y = below + 20 + 20 * i
-        lost = fault.run.hurt
-        yield cell(look, 12, y, look, lost)
-        yield f'<text x="44" y="{y + 12}">{fault.said}</text>'
-        yield f'<text x="300" y="{y + 12}">{look}, healthy nodes lost: {lost}{f" ({fault.run.hurt_word})" if lost else ""}</text>'
-    yield f'<text class="said" x="12" y="{key + 8}">how to read it</text>'
-    for i, line in enumerate(HOW_TO_READ.split("\n")):
-        yield f'<text x="12" y="{key + 28 + 16 * i}">{line}</text>'
-    for place in range(16):
-        i, j = place_of_mark(place)
-        x, y = 132 + 82 * i + (8 if i > 5 else 0), key + 90 + 20 * j
-        said = f"jump {JUMPS[place - 12]}" if place > 11 else KINDS[place % 6]
-        yield f'<g class="key"><rect x="{x}" y="{y}" width="82" height="20"/><text x="{x + 41}" y="{y + 14}">{said}</text></g>'
-    yield f'<text class="row" x="124" y="{key + 104}">this slot alone</text>'
-    yield f'<text class="row" x="124" y="{key + 124}">to the end</text>'
-    for i, line in enumerate(WORDS.split("\n")):
-        yield f'<text x="12" y="{key + 152 + 16 * i}">{line}</text>'
-    for i, (look, (letter, _, _, what)) in enumerate(LOOKS.items()):
-        x, y = 12 + 560 * (i // 5), key + 214 + 20 * (i % 5)
-        yield cell(look, x, y, look, letter)
-        yield f'<text x="{x + 32}" y="{y + 12}">{what}</text>'
-    tried = {}
-    for fault, look in all_of_them:
-        tried[fault.word, fault.place, look] = tried.get((fault.word, fault.place, look), 0) + 1
-    for w, word in enumerate(("send", "receive", "jump")):
-        x = 12 + 430 * w
-        yield f'<text class="said" x="{x}" y="{key + 341}">{word}</text>'
-        for i, (look, row) in enumerate(LOOKS.items()):
-            yield cell(look, x + 133 + 30 * i, key + 330, look, row[0])
-        for j, place in enumerate(range(12, 16) if word == "jump" else range(12)):
-            y = key + 359 + 14 * j
-            yield f'<text x="{x}" y="{y}">{kind_at(place)}</text>'
-            for i, look in enumerate(LOOKS):
-                many = tried.get((word, place, look), 0)
-                yield f'<text class="{"many" if many else "zero"}" x="{x + 152 + 30 * i}" y="{y}">{many}</text>'
-    yield "</svg>"
-
-
-# What a picture tells, against tallies that are made from the words of the lines alone.
-
-def told_cells(root):
-    """Each cell with a tally as its title: its name, its counts, its class and what it shows."""
-    for group in root.iter(SVG + "g"):
-        title = group.find(SVG + "title")
-        found = title is not None and re.fullmatch(r"((?:slot \d+ ?)?(?:node \d+)?) faults (\d+)((?:, [a-z ]+ \d+)*)", title.text)
-        if found:
-            looks = {one.rsplit(" ", 1)[0]: int(one.rsplit(" ", 1)[1]) for one in found[3].split(", ")[1:]}
-            yield found[1], int(found[2]), looks, group.get("class"), group.find(SVG + "text").text or ""
-
-
-def lost_in(line):
-    word = line.split(" ")[11]
-    return 0 if word == "-" else word.count(",") + 1
-
-
-def chart_faults(campaign, text):
-    """What is wrong with a picture, by its titles, its tallies and its list of the worst."""
-    root = xml.fromstring(text)
-    titles = [title.text for title in root.iter(SVG + "title")]
-    marks = [title for title in titles if " fault " in title and not title.endswith(" fault -")]
-    cells = list(told_cells(root))
-    shown = {int(name.split(" ")[1]) for name, *_ in cells if re.fullmatch(r"slot \d+", name)}
-    lines = [(fault.line, fault.look(campaign)) for fault in campaign.faults]
-    wanted = [line for line, look in lines if int(line.split(" ")[1]) in shown and look != "same"]
-    if marks != wanted:
-        yield f"{len(marks)} titles of marks for {len(wanted)} lines"
-    if titles.count(campaign.own_line) != 1:
-        yield "the script's own line is not the title of one element"
-    named = {}
-    for line, look in lines:
-        slot, node = " ".join(line.split(" ")[:2]), " ".join(line.split(" ")[2:4])
-        for name in (slot, node, f"{slot} {node}"):
-            named.setdefault(name, []).append((line, look))
-    for name, many, looks, style, number in cells:
-        those = named.get(name, [])
-        counted = {look: sum(other == look for _, other in those) for look in LOOKS}
-        if many != len(those) or looks != {look: count for look, count in counted.items() if count}:
-            yield f"{name}: {many} faults, {looks}, and not {len(those)}, {counted}"
-        worst = max((list(LOOKS).index(look) for _, look in those), default=None)
-        look = "none" if worst is None else list(LOOKS)[worst]
-        lost = max((lost_in(line) for line, other in those if other == look), default=0)
-        if style.removesuffix(" sends") != look or number != ("-" if worst is None else str(lost) if look in HARM else ""):
-            yield f"{name}: {style}, {number}, and not {look}, {lost}"
-    harm = [(line, look) for line, look in lines if look in HARM]
-    said = [one.text for one in root.iter(SVG + "text") if one.get("class") == "said"]
-    if not said[0].startswith(f"{len(harm)} of {len(lines)} faults are harmful; ") \
-            or not said[0].endswith(f": {max((lost_in(line) for line, _ in harm), default=0)} of {campaign.n}"):
-        yield f"{said[0]}: of {len(harm)} harmful faults"
-    order = [line for look in reversed(HARM) for lost in range(24, -1, -1) for line, other in harm if (other, lost_in(line)) == (look, lost)]
-    listed = [one.text for one in root.iter(SVG + "text") if one.get("x") == "44" and re.match(r"(send|receive|jump) \d", one.text)]
-    if listed != [line.split(" fault ")[1] for line in order[:10]]:
-        yield f"the worst are {listed}"
-    ends = [one.text or "" for one in root.iter(SVG + "text") if one.get("class") == "slot" and not re.search("[a-z]", one.text or "")]
-    if sum(int(number) for number in ends[-campaign.n:] if number) != len(harm):
-        yield f"the harmful faults of nodes are {ends[-campaign.n:]}, of {len(harm)}"
-
-
-def read(path):
-    with open(path, encoding="latin-1", newline="") as file:
-        return file.read()
+        box = drawing.cells[at_end + k][3]
+        if not is_in(names[k], 0, box[1], box[0], box[3]):
+            yield f"the cell of node {k} is not in its row"
+    key, placed = boxes(drawing.cells, "key"), {}
+    for (fault, _, at), box in zip(marks, boxes(drawing.shapes, *LOOKS)):
+        left, _, right, bottom = drawing.cells[at][3]
+        place = box[0] - left, box[1] - bottom
+        if placed.setdefault(fault.place, place) != place or not is_in(box, left, bottom, right + 2, bottom + 14):
+            yield f"not at its place: {fault.line}"
+    for (one, here), (other, there) in itertools.combinations(placed.items(), 2):
+        if any((here[i] < there[i], here[i] > there[i]) != (key[one][i] < key[other][i], key[one][i] > key[other][i]) for i in (0, 1)):
+            yield f"marks of the faults {one} and {other} stand otherwise than in the key"
 
 
 def read_campaign(text):
@@ -464,23 +309,3 @@ def read_campaign(text):
     except Wrong:
         return campaign.at
     return campaign
-
-
-def main(words):
-    campaign = read_campaign(read(words[1]))
-    if isinstance(campaign, int):
-        print(campaign if words[0] == "line" else f"campaign: line {campaign}")
-        return 0 if words[0] == "line" else 4
-    if words[0] == "chart":
-        lines = chart(campaign, (int(words[2]), int(words[3])) if len(words) > 2 else None)
-        print(*(lines or ["campaign: no slot to show"]), sep="\n")
-        return 0 if lines else 4
-    if words[0] == "check":
-        faults = list(chart_faults(campaign, read(words[2])))
-        print(*(faults[:20] or ["right"]), sep="\n")
-        return 1 if faults else 0
-    return 0
-
-
-if __name__ == "__main__":
-    sys.exit(main(sys.argv[1:]))
