@@ -10,7 +10,7 @@ Nothing here is shared with the program; looks, letters, colours and what they m
 import itertools
 import re
 
-from views import Drawing, boxes, grid_faults, is_in, meaning, rows_of
+from views import Drawing, beside_faults, boxes, grid_faults, is_in, meaning, rows_of
 
 NUMBER = r"(?:0|[1-9]\d*)"
 HEAD = re.compile(rf"ttplab campaign 1 nodes ({NUMBER}) slots ({NUMBER}) from ({NUMBER}) to ({NUMBER})", re.ASCII)
@@ -222,6 +222,30 @@ def columns_shown(campaign, asked):
     return slots[begin:begin + most]
 
 
+def table_of(every):
+    """The kinds of faults in the table of all, and how many of each kind have each look."""
+    kinds, counts = [], []
+    for word, places in (("send", range(12)), ("receive", range(12)), ("jump", range(12, 16))):
+        for place in places:
+            kinds.append(JUMPS[place - 12] if place > 11 else KINDS[place % 6] + (", stays" if place > 5 else ""))
+            those = [look for fault, look in every if (fault.word, fault.place) == (word, place)]
+            counts += [str(those.count(look)) for look in LOOKS]
+    return kinds, counts
+
+
+def mark_faults(drawing, marks):
+    """Marks that are not below their cells, or stand otherwise to each other than their faults do in the key."""
+    key, placed = boxes(drawing.cells, "key"), {}
+    for (fault, _, at), box in zip(marks, boxes(drawing.shapes, *LOOKS)):
+        left, _, right, bottom = drawing.cells[at][3]
+        place = box[0] - left, box[1] - bottom
+        if placed.setdefault(fault.place, place) != place or not is_in(box, left, bottom, right + 2, bottom + 14):
+            yield f"not at its place: {fault.line}"
+    for (one, here), (other, there) in itertools.combinations(placed.items(), 2):
+        if any((here[i] < there[i], here[i] > there[i]) != (key[one][i] < key[other][i], key[one][i] > key[other][i]) for i in (0, 1)):
+            yield f"marks of the faults {one} and {other} stand otherwise than in the key"
+
+
 def chart_faults(campaign, asked, text):
     """What the chart of the slots that are asked for, or else chosen, says that the campaign does not, or the other way round."""
     drawing, n, own = Drawing(text), campaign.n, campaign.own
@@ -261,15 +285,10 @@ def chart_faults(campaign, asked, text):
         lost = f"{fault.run.hurt} ({fault.run.hurt_word})" if fault.run.hurt else "0"
         plain += [fault.said, f"{look}, healthy nodes lost: {lost}"]
     plain += 8 * [None] + [row[3] for row in LOOKS.values()]
-    counts = []
-    for word, places in (("send", range(12)), ("receive", range(12)), ("jump", range(12, 16))):
-        for place in places:
-            plain.append(JUMPS[place - 12] if place > 11 else KINDS[place % 6] + (", stays" if place > 5 else ""))
-            those = [look for fault, look in every if (fault.word, fault.place) == (word, place)]
-            counts += [str(those.count(look)) for look in LOOKS]
+    kinds, counts = table_of(every)
     drawing.texts = [("many" if style == "zero" else style, words, box) for style, words, box in drawing.texts]
     texts = {
-        None: plain,
+        None: plain + kinds,
         "said": [f"{len(harm)} of {len(every)} faults are harmful; the most healthy nodes that one of them costs: {most} of {n}",
                  f"the worst of {len(harm)} harmful faults" if harm else "no fault is harmful",
                  "how to read it", "send", "receive", "jump"],
@@ -290,15 +309,9 @@ def chart_faults(campaign, asked, text):
         box = drawing.cells[at_end + k][3]
         if not is_in(names[k], 0, box[1], box[0], box[3]):
             yield f"the cell of node {k} is not in its row"
-    key, placed = boxes(drawing.cells, "key"), {}
-    for (fault, _, at), box in zip(marks, boxes(drawing.shapes, *LOOKS)):
-        left, _, right, bottom = drawing.cells[at][3]
-        place = box[0] - left, box[1] - bottom
-        if placed.setdefault(fault.place, place) != place or not is_in(box, left, bottom, right + 2, bottom + 14):
-            yield f"not at its place: {fault.line}"
-    for (one, here), (other, there) in itertools.combinations(placed.items(), 2):
-        if any((here[i] < there[i], here[i] > there[i]) != (key[one][i] < key[other][i], key[one][i] > key[other][i]) for i in (0, 1)):
-            yield f"marks of the faults {one} and {other} stand otherwise than in the key"
+    listed, shapes, places = len(harm[:10]), [cell[3] for cell in drawing.cells[at_end + n:]], boxes(drawing.texts, None)[5:]
+    yield from beside_faults(shapes[:listed] + shapes[listed + 16:][:len(LOOKS)], places[:2 * listed:2] + places[2 * listed + 8:])
+    yield from mark_faults(drawing, marks)
 
 
 def read_campaign(text):

@@ -205,7 +205,7 @@ def read_wave(text):
                 said.append(" ".join([token, *words]))
         elif token[0] == "#":
             assert token == f"#{len(times)}", f"{token} is time {len(times)}"
-            now = dict(now)
+            now, changed = dict(now), set()
             times.append(now)
         else:
             sort, value, code = (None, token[0], token[1:]) if token[0] in "01xz" else (token[0], token[1:], next(tokens))
@@ -214,8 +214,9 @@ def read_wave(text):
             assert kind in ("string", "real") or len(value) <= size, f"{token} is wider than {size}"
             if kind != "string" and value not in ("x", "z"):
                 value = int(value, 10 if kind == "real" else 2)
-            assert now.get((scope, name)) != value, f"{token} changes nothing"
+            assert now.get((scope, name)) != value and code not in changed, f"{token} changes nothing, or is not the only change"
             now[scope, name] = value
+            changed.add(code)
     assert not path, f"{path} does not end"
     return said, variables, times
 
@@ -328,6 +329,13 @@ def is_in(box, left, top, right, bottom):
     return left <= box[0] <= box[2] <= right and top <= box[1] <= box[3] <= bottom
 
 
+def beside_faults(shapes, texts):
+    """Texts that do not stand directly at the right of their shapes."""
+    for (_, top, right, bottom), text in zip(shapes, texts):
+        if not is_in(text, right, top, right + 15, bottom + 4):
+            yield f"a text at {text} is not beside its shape, which ends at {right}, {bottom}"
+
+
 def grid_faults(columns, names, across, numbers, edges):
     """What stands beside no name of its row, or not below the rest of its column.
 
@@ -338,6 +346,7 @@ def grid_faults(columns, names, across, numbers, edges):
     rows = len(names) // -(-len(columns) // across)
     bands = [names[rows * (c // across):] for c in range(len(columns))]
     ends = [max((box[0], box[2]) for box in cells.values()) for cells in columns]
+    yield from (f"a row's name at {other} is not below {one}" for one, other in zip(names, names[1:]) if one[1] >= other[1])
     for c, cells in enumerate(columns):
         for r, box in cells.items():
             if box[::2] != ends[c] or not is_in(bands[c][r], 0, box[1], box[0], box[3]) or c % across and ends[c - 1][1] > box[0]:
@@ -452,10 +461,10 @@ def picture_faults(trace, asked, text):
     edges = [*zip(rounds, boxes(drawing.shapes, "round")), *zip((int(words[3]) for words in flags), boxes(drawing.shapes, "flag"))]
     yield from grid_faults(columns, boxes(drawing.texts, "row"), across, [(t - first, box) for t, box in numbers],
                            [(t - first, box) for t, box in edges])
-    for (t, k, word), box in zip(left, boxes(drawing.texts, "why")):
-        _, top, right, bottom = columns[t - first][k]
-        if not is_in(box, right, top, right + 9, bottom):
-            yield f"{word} is not beside node {k} in slot {t}"
+    yield from beside_faults((columns[t - first][k] for t, k, _ in left), boxes(drawing.texts, "why"))
+    at_key = iter(drawing.cells[len(cells):])
+    entries = [boxes(drawing.shapes, style)[-1] if style in shapes else next(at_key)[3] for style, *_ in [*WORDS.items(), *KEY]]
+    yield from beside_faults(entries, boxes(drawing.texts, None)[2:])
     for (t, host), box in zip(hosts, boxes(drawing.shapes, "write", "read", "status")):
         if not is_in(box, *columns[t - first][host.host]):
             yield f"not in its cell: {host.line}"
