@@ -311,6 +311,12 @@ def chart_faults(campaign, asked, text):
             yield f"the cell of node {k} is not in its row"
     listed, shapes, places = len(harm[:10]), [cell[3] for cell in drawing.cells[at_end + n:]], boxes(drawing.texts, None)[5:]
     yield from beside_faults(shapes[:listed] + shapes[listed + 16:][:len(LOOKS)], places[:2 * listed:2] + places[2 * listed + 8:])
+    heads = shapes[-3 * len(LOOKS):]
+    for at, box in enumerate(boxes(drawing.texts, "many")):
+        row, column = divmod(at, len(LOOKS))
+        head, kind = heads[len(LOOKS) * min(row // 12, 2) + column], places[row - len(kinds)]
+        if not is_in(box, head[0], head[3], head[2], kind[1]) or box[1] != kind[1]:
+            yield f"a number of the table stands at {box}"
     yield from mark_faults(drawing, marks)
 
 
