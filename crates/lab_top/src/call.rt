@@ -105,7 +105,7 @@ fn obey<R: Threads + Sync, L: Library, K: Sink>(
 
 /// Does what the words spell, and answers its status. The words are those after the program's name.
 ///
-/// There are eleven forms. `wave TRACE` writes a waveform, a text in the format VCD that wave viewers read, and
+/// There are ten forms. `wave TRACE` writes a waveform, a text in the format VCD that wave viewers read, and
 /// `picture TRACE [FIRST LAST]` a picture, a text in the format SVG that browsers show, of the slots from FIRST
 /// to LAST, or else of those that are chosen. These FIRST and LAST are 1 to 5 decimal digits. What is taken for
 /// a trace says `whole_in` of whole_trace: its form is asked for, and not whether it is right.
@@ -117,24 +117,23 @@ fn obey<R: Threads + Sync, L: Library, K: Sink>(
 /// `check LIST [SCRIPT]` writes what is wrong with the list, and with the script, a line for each fault with its place, and where
 /// nothing is, each rule of the hypothesis that the script does not keep; the last line counts them. Both files are loaded before
 /// anything is looked at.
-/// `why LIST SCRIPT NODE [SLOT]` writes how what the node did in the slot came about, or its newest departure: the lines of the
-/// script and the entries that had a part in it, and whether these lines alone bring it about. NODE and SLOT are 1 to 9 decimal
-/// digits.
-/// `frames LIST SCRIPT TRACE` writes the frames on both channels of the bus, byte by byte behind the script's faults, for a
-/// trace of the script for the list; of a text that is none it names the first wrong line, as `verify` of the bench does.
+/// `why LIST SCRIPT NODE [SLOT]` writes why the node did in the slot what it did, or why it left last: the lines of the script and
+/// the entries that had a part in it, and whether these lines alone suffice. NODE and SLOT are 1 to 9 decimal digits.
+/// `frames LIST SCRIPT TRACE` writes the frames on both channels of the bus, byte by byte and with the faults of the script, for a
+/// trace of the script for the list; of any other text it names the first wrong line, as `ttpbench verify` does.
 /// `margins LIST SCRIPT [FIRST LAST]` runs the list with the script once for each whole value of a node's drift, or of its jump in
 /// each slot from FIRST to LAST, and writes the ranges of values that cost the same, and from which value on one costs others.
 /// `pairs LIST SCRIPT FIRST LAST WITHIN` runs the list with the script and each two faults more, of which the first is one of
 /// `campaign LIST SCRIPT FIRST LAST` and the second begins in the same slot or up to WITHIN slots later, and writes which pairs cost
 /// more than their faults do alone; WITHIN is 1 to 9 decimal digits, too.
 /// `script LIST SLOTS NUMBER` writes the script that the number gives for the list, in a run of so many slots, as a text
-/// that is read as this script; it is the one that `sample` of the bench runs. SLOTS is 1 to 20 decimal digits of a number
+/// that is read as this script; `ttpbench sample` runs the same one. SLOTS is 1 to 20 decimal digits of a number
 /// from 1 to 20,000, and NUMBER of one of 64 bits. `--help` and `--version`, each alone, say what each form writes and which
 /// version this is.
 ///
 /// | status | comes | what is written |
 /// |---|---|---|
-/// | 0 | the file is a trace, or for `chart` a campaign, that has the slots; the files are a list and a script for it, which for `check` keeps all rules; they are these and a trace of them; the file is a list | the view; the campaign or the margins; the counts; the frames; the script |
+/// | 0 | the command was done; for `check` nothing is wrong and all rules are kept; for `frames` the text is a trace | the whole output |
 /// | 1 | for `frames`, exactly where TRACE is the trace text for no legal message numbers | `differs at line N` |
 /// | 1 | for `why`, exactly where no slot is asked for and the node never leaves | `node K does not leave` |
 /// | 3, 4 | for `why`, also where the list has no such node, and where the run has no such slot | `list: nodes 0 to M`, `script: slots 0 to L` |
@@ -146,15 +145,15 @@ fn obey<R: Threads + Sync, L: Library, K: Sink>(
 /// | 4 | for `campaign`, `frames`, `margins`, `pairs` and `why`, exactly where the script is longer than 1,048,576 bytes or refused | a line that begins `script: ` |
 /// | 5 | only where the count of the file's name rose, and no earlier refusal came | `load: trace`, `load: campaign`, `load: list` or `load: script` |
 /// | 6 | only where the sink's count rose | so many whole lines of a text that was due, and a front of the next |
-/// | 7 | want of memory; for `pairs` also a script of 131,071 events, which has no room for two more | nothing, or for `campaign`, `check`, `margins` and `pairs` some whole lines of it, fewer than all |
+/// | 7 | out of memory; for `pairs` also a script of 131,071 events, which has no room for two more | nothing, or for `campaign`, `check`, `margins` and `pairs` some whole lines of it, fewer than all |
 ///
 /// The library is asked for the files of the form, each once, in the order of the words, and for a script only
 /// where the list is not refused; for words of no form it is left alone. The text of a trace is held while it is
 /// shown, and gone over a few times; a picture takes no other memory, and a waveform a few bytes for each source
 /// that a host reads. For `frames` the trace is gone over twice, with a plant of the list: once to judge it, and once to write
-/// its frames; all memory is taken before the first line of them. A campaign of n lines runs the cluster n times at most, each from the slot of its
-/// fault to the script's last one; the runs of a slot's faults are made side by side in as many threads as there are
-/// processors, and their lines are held until all of them were made. It takes memory for the runs of a slot, and
+/// its frames; all memory is taken before the first line of them. A campaign of n lines runs the cluster n times at most, each
+/// from the slot of its fault to the script's last one; the runs of a slot's faults are made side by side in as many threads as
+/// there are processors, and their lines are held until all of them were made. It takes memory for the runs of a slot, and
 /// keeps none of it. Margins run the cluster once for each value, a drift from slot 0 and a jump from its slot on, 512 values side by
 /// side, and hold one range of a sweep at a time. Each line is one piece, so the cost is one write for each line.
 pub fn lab<R: Threads + Sync, L: Library, K: Sink>(

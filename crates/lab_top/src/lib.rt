@@ -13,10 +13,10 @@
 //! in its own words: the views of `specs/Views.antt` in `ViewPromise`, a campaign in `CampaignPromise`, of which `LinesPromise` holds
 //! of each form that writes lines of a list and a script, margins in `MarginPromise`, pairs in `PairPromise`, frames in `FramesPromise`.
 //!
-//! It shows traces and campaigns, and knows nothing of what is right in one: it takes a text for one by its form. It has the
-//! crates below run campaigns, and say whether a text is the trace of a run, and knows nothing of what a node does. It never opens a file and never prints: that is the
-//! library's and the sink's part. The threads of a campaign and of margins are its only ones, and are gone when the call returns. Beside a text
-//! of at most 134,217,728 bytes it holds what the form needs, which doesn't grow with the text.
+//! A view takes a text for a trace or a campaign by its form, and does not ask whether it is right. The crates below run campaigns,
+//! and say whether a text is the trace of a run; this one knows nothing of what a node does. It never opens a file and never prints:
+//! the library and the sink do. The threads of campaigns, margins and pairs are its only ones, and are gone when the call returns.
+//! Beside a text of at most 134,217,728 bytes it holds what the form needs, which doesn't grow with the text.
 #![tactic(auto)]
 
 mod both;
