@@ -1,6 +1,6 @@
 -- The words of the lines of a trace.
 use Rattle.ttp_world.proofs.Words.{◌≡◌, ℕ, false, List, [], ◌∷◌, ◌++◌, Option, ◌<◌, arith, ◌+◌, length, get_or, refl}
-use Rattle.ttp_world.proofs.Words.{ap, ◌∙◌, append_assoc, codes, decimal, ◌==◌, signed_decimal, All-nil, All-cons}
+use Rattle.ttp_world.proofs.Words.{ap, ◌∙◌, codes, decimal, ◌==◌, signed_decimal, All-nil, All-cons}
 use Rattle.ttp_world.proofs.Words.{set_bits, newline, hex, Medl, NodeState, Script, History, ReadMessage, ring_messages}
 use Rattle.ttp_world.proofs.Words.{messages_before, number_or_dash, entry_word, peer_of, ack_word, node_line}
 use Rattle.ttp_world.proofs.Words.{entry_pieces, ack_pieces, node_pieces}
@@ -90,15 +90,6 @@ host_words slot k rest p q =
     (word_then slot (codes "host " ++ (k ++ 32 ∷ rest)) _ p (ap (λ (ws : List (List ℕ)). codes "host" ∷ ws)
     (word_then k rest _ q refl)))
 
-write_nested : (a slot b k c number end : List ℕ)
-    → a ++ slot ++ b ++ k ++ c ++ number ++ end ≡ a ++ (slot ++ (b ++ (k ++ (c ++ number ++ end))))
-write_nested a slot b k c number end = simp append_assoc
-
-read_nested : (a slot b k c from d number e message end : List ℕ)
-    → a ++ slot ++ b ++ k ++ c ++ from ++ d ++ number ++ e ++ message ++ end
-    ≡ a ++ (slot ++ (b ++ (k ++ (c ++ (from ++ (d ++ (number ++ (e ++ message ++ end))))))))
-read_nested a slot b k c from d number e message end = simp append_assoc
-
 -- what a host line says, by its words
 pub record IsHostLine (t : ℕ) (does : List ℕ) (words : List (List ℕ)) : Type 0 where
   pub slot : word_in words 1 ≡ decimal t
@@ -110,7 +101,7 @@ pub write_line-words : (list : Medl) (script : Script) (slot k earlier : ℕ)
 write_line-words list script slot k earlier =
     let number = decimal (length (messages_before list script k slot) + earlier) in
     let same = ap words_of
-    (write_nested (codes "slot ") (decimal slot) (codes " host ") (decimal k) (codes " write ") number newline)
+    (gathered [] (codes "slot " ∷ decimal slot ∷ codes " host " ∷ decimal k ∷ codes " write " ∷ number ∷ newline ∷ []))
     ∙ host_words (decimal slot) (decimal k) (codes "write " ++ number ++ newline)
     (has-decimal 32 slot space_is_low) (has-decimal 32 k space_is_low) in
     record {
@@ -135,8 +126,8 @@ read_line-words list script slot after r =
     let ring = ring_messages list script after r.read.host r.read.source in
     let message = message_hex r.read.source (get_or ring r.number []) in
     let same = ap words_of
-    (read_nested (codes "slot ") (decimal slot) (codes " host ") (decimal r.read.host) (codes " read ")
-    from (codes " ") number (codes " ") message newline)
+    (gathered [] (codes "slot " ∷ decimal slot ∷ codes " host " ∷ decimal r.read.host ∷ codes " read " ∷ from
+    ∷ codes " " ∷ number ∷ codes " " ∷ message ∷ newline ∷ []))
     ∙ host_words (decimal slot) (decimal r.read.host)
     (codes "read " ++ (from ++ (codes " " ++ (number ++ (codes " " ++ message ++ newline)))))
     (has-decimal 32 slot space_is_low) (has-decimal 32 r.read.host space_is_low)
