@@ -64,8 +64,3 @@ fault-behind list script fault cost text words are =
     ∙ append_assoc text ((place_words fault ++ run) ++ fault_words fault) newline
     ∙ ap (λ (w : List ℕ). text
     ++ ((place_words fault ++ run_words (test_words list script) w) ++ fault_words fault ++ newline)) are
-
--- eight texts behind another, one after another
-pub eight-behind : (text a b c d e f g h : List ℕ)
-    → (((((((text ++ a) ++ b) ++ c) ++ d) ++ e) ++ f) ++ g) ++ h ≡ text ++ (a ++ b ++ c ++ d ++ e ++ f ++ g ++ h)
-eight-behind text a b c d e f g h = simp append_assoc

@@ -1,9 +1,9 @@
-use Rattle.std.proofs.Common.{List, ℕ, ◌≡◌, ◌++◌, ap, subst, ◌∙◌}
+use Rattle.std.proofs.Common.{List, ℕ, ◌≡◌, [], ◌∷◌, ◌++◌, ap, sym, subst, ◌∙◌}
 use Rattle.std.specs.Prelude.{map, codes, OnOk}
 use Rattle.std.specs.Fmt.{decimal}
+use Rattle.ttp_base.proofs.Gathered.{gather-behind}
 use Rattle.campaign.specs.declared.cost.Leave.{Leave}
 use Rattle.campaign.specs.CostText.{listed, leave_word, span_words, members_word}
-use Rattle.fault_runs.proofs.LineWords.{eight-behind}
 use Rattle.fault_runs.proofs.campaign_text.cost_words.put_cost.Goals as goal
 
 pub returns : goal.returns
@@ -32,6 +32,7 @@ returns c =
     ap (λ (ms : List (List ℕ)). c.put-4.new.self ++ listed (map (members_word list) ms)) c.as_slice-2.ensures
     ∙ ap (λ (w : List ℕ). w ++ end)
     (c.in_ok-put-4.ensures ∙ ap (λ (w : List ℕ). w ++ codes " end ") span)
-    ∙ eight-behind text (codes "left ") left (codes " hurt ") hurt (codes " split ") split (codes " end ") end in
+    ∙ sym (gather-behind text (codes "left " ∷ left ∷ codes " hurt " ∷ hurt ∷ codes " split " ∷ split ∷ codes " end "
+    ∷ end ∷ [])) in
     subst (λ (w : List ℕ). OnOk c.put_memberships.result (c.put_memberships.new.text ≡ w)) sets
     c.put_memberships.ensures
