@@ -1,11 +1,11 @@
-use Rattle.std.proofs.Common.{List, ℕ, ◌≡◌, ◌++◌, ap, sym, subst, ◌∙◌}
+use Rattle.std.proofs.Common.{List, ℕ, ◌≡◌, [], ◌∷◌, ◌++◌, ap, sym, subst, ◌∙◌}
 use Rattle.std.specs.Prelude.{codes, OnOk}
 use Rattle.ttp_base.specs.Text.{newline}
+use Rattle.ttp_base.proofs.Gathered.{gather-behind}
 use Rattle.campaign.specs.CostText.{fault_words}
 use Rattle.campaign.specs.Lines.{place_words}
 use Rattle.fault_runs.specs.Told.{told_summary}
 use Rattle.fault_pairs.specs.PairText.{test_and_cost, counts_words, first_fault_line}
-use Rattle.pair_text.proofs.Behind.{seven-behind}
 use Rattle.pair_text.proofs.lines.put_first.Goals as goal
 
 pub returns : goal.returns
@@ -28,7 +28,8 @@ returns c = λ one is.
     (c.in_ok-put.ensures
     ∙ ap (λ (w : List ℕ). w ++ codes " ")
     (c.in_ok-put_run.ensures ∙ ap (λ (w : List ℕ). w ++ run) c.in_ok-put_place.ensures)))))
-    ∙ seven-behind text (place_words fault) run (codes " ") counts (codes " fault ") (fault_words fault) newline
+    ∙ sym (gather-behind text (place_words fault ∷ run ∷ codes " " ∷ counts ∷ codes " fault " ∷ fault_words fault
+    ∷ newline ∷ []))
     ∙ (λ i. text ++ (place_words (same i) ++ run ++ codes " " ++ counts
     ++ codes " fault " ++ fault_words (same i) ++ newline)) in
     subst (λ (w : List ℕ). OnOk c.put-3.result (c.put-3.new.self ≡ w)) behind c.put-3.ensures

@@ -1,12 +1,12 @@
-use Rattle.std.proofs.Common.{List, ℕ, ◌≡◌, ◌++◌, ap, sym, subst, ◌∙◌}
+use Rattle.std.proofs.Common.{List, ℕ, ◌≡◌, [], ◌∷◌, ◌++◌, ap, sym, subst, ◌∙◌}
 use Rattle.std.specs.Prelude.{OnOk}
+use Rattle.ttp_base.proofs.Gathered.{gather-behind}
 use Rattle.campaign.specs.Lines.{fault_node}
 use Rattle.fault_runs.specs.Told.{told_summary}
 use Rattle.fault_pairs.specs.declared.pair.Harm.{Harm}
 use Rattle.fault_pairs.specs.Classes.{third_nodes}
 use Rattle.fault_pairs.specs.Pairs.{second_apart}
 use Rattle.fault_pairs.specs.PairText.{test_and_cost, newly_left, pair_place, pair_harms, pair_faults, pair_line}
-use Rattle.pair_text.proofs.Behind.{four-behind}
 use Rattle.pair_text.proofs.lines.put_pair.Goals as goal
 
 pub returns : goal.returns
@@ -34,8 +34,8 @@ returns c = λ one slot fault.
     (c.in_ok-put_pair_harms.ensures
     ∙ ap (λ (w : List ℕ). w ++ costs c.fault_node.result c.fault_node-2.result harms.both)
     c.in_ok-put_pair_place.ensures))
-    ∙ four-behind text (pair_place class pair.slot pair.apart pair.one.now two)
-    (costs c.fault_node.result c.fault_node-2.result harms.both) run (pair_faults pair.one.now two)
+    ∙ sym (gather-behind text (pair_place class pair.slot pair.apart pair.one.now two
+    ∷ costs c.fault_node.result c.fault_node-2.result harms.both ∷ run ∷ pair_faults pair.one.now two ∷ []))
     ∙ (λ i. text ++ (pair_place class (at i) pair.apart (same i) two
     ++ costs (first i) (second i) (c.requires.harm i) ++ run ++ pair_faults (same i) two)) in
     subst (λ (w : List ℕ). OnOk c.put_pair_faults.result (c.put_pair_faults.new.text ≡ w)) behind
