@@ -1,7 +1,8 @@
 -- The digits of a C-state are those of its bytes.
-use Rattle.std.proofs.Common.{◌≡◌, ℕ, ◌/◌, ◌%◌, true, false, List, [], ◌∷◌, ◌++◌, ap, ◌∙◌, append_assoc, arith}
+use Rattle.std.proofs.Common.{◌≡◌, ℕ, ◌/◌, ◌%◌, true, false, List, [], ◌∷◌, ◌++◌, ap, sym, ◌∙◌, arith}
 use Rattle.ttp_base.specs.NodeSet.{set_bits}
 use Rattle.ttp_base.specs.Text.{hex, hex_bytes, hex_digit}
+use Rattle.ttp_base.proofs.Gathered.{gather-behind}
 use Rattle.ttp_world.specs.declared.node.CState.{CState}
 use Rattle.ttp_world.specs.Frame.{big_endian, cstate_bytes}
 use Rattle.ttp_world.specs.Medl.{member_bytes}
@@ -41,19 +42,16 @@ three-bytes v = λ i.
     ∷ hex_digit (high v i) ∷ hex_digit (low v i) ∷ []
 
 pub state-wide : (c : CState)
-    → hex 4 c.time ++ (hex 2 c.round ++ (hex 2 c.slot ++ hex 6 (set_bits c.members)))
+    → hex 4 c.time ++ hex 2 c.round ++ hex 2 c.slot ++ hex 6 (set_bits c.members)
     ≡ hex_bytes (cstate_bytes (member_bytes true) c)
 state-wide c = λ i.
-    two-bytes c.time i ++ (one-byte c.round i ++ (one-byte c.slot i ++ three-bytes (set_bits c.members) i))
+    two-bytes c.time i ++ one-byte c.round i ++ one-byte c.slot i ++ three-bytes (set_bits c.members) i
 
 pub state-narrow : (c : CState)
-    → hex 4 c.time ++ (hex 2 c.round ++ (hex 2 c.slot ++ hex 4 (set_bits c.members)))
+    → hex 4 c.time ++ hex 2 c.round ++ hex 2 c.slot ++ hex 4 (set_bits c.members)
     ≡ hex_bytes (cstate_bytes (member_bytes false) c)
 state-narrow c = λ i.
-    two-bytes c.time i ++ (one-byte c.round i ++ (one-byte c.slot i ++ two-bytes (set_bits c.members) i))
-
-regroup : (o a b c d : List ℕ) → o ++ a ++ b ++ c ++ d ≡ o ++ (a ++ (b ++ (c ++ d)))
-regroup o a b c d = simp append_assoc
+    two-bytes c.time i ++ one-byte c.round i ++ one-byte c.slot i ++ two-bytes (set_bits c.members) i
 
 -- a C-state is written part by part
 module _ (old l1 l2 l3 l4 : List ℕ) (t r s m : ℕ) (c : CState) (p1 : l1 ≡ old ++ hex 4 t) (t_is : t ≡ c.time)
@@ -62,13 +60,13 @@ module _ (old l1 l2 l3 l4 : List ℕ) (t r s m : ℕ) (c : CState) (p1 : l1 ≡ 
   pub wide-line : l4 ≡ l3 ++ hex 6 m → l4 ≡ old ++ hex_bytes (cstate_bytes (member_bytes true) c)
   wide-line p4 =
       p4 ∙ ap (λ l. l ++ hex 6 m) (p3 ∙ ap (λ l. l ++ hex 2 s) (p2 ∙ ap (λ l. l ++ hex 2 r) p1))
-      ∙ regroup old (hex 4 t) (hex 2 r) (hex 2 s) (hex 6 m)
-      ∙ (λ i. old ++ (hex 4 (t_is i) ++ (hex 2 (r_is i) ++ (hex 2 (s_is i) ++ hex 6 (m_is i)))))
+      ∙ sym (gather-behind old (hex 4 t ∷ hex 2 r ∷ hex 2 s ∷ hex 6 m ∷ []))
+      ∙ (λ i. old ++ (hex 4 (t_is i) ++ hex 2 (r_is i) ++ hex 2 (s_is i) ++ hex 6 (m_is i)))
       ∙ ap (λ digits. old ++ digits) (state-wide c)
 
   pub narrow-line : l4 ≡ l3 ++ hex 4 m → l4 ≡ old ++ hex_bytes (cstate_bytes (member_bytes false) c)
   narrow-line p4 =
       p4 ∙ ap (λ l. l ++ hex 4 m) (p3 ∙ ap (λ l. l ++ hex 2 s) (p2 ∙ ap (λ l. l ++ hex 2 r) p1))
-      ∙ regroup old (hex 4 t) (hex 2 r) (hex 2 s) (hex 4 m)
-      ∙ (λ i. old ++ (hex 4 (t_is i) ++ (hex 2 (r_is i) ++ (hex 2 (s_is i) ++ hex 4 (m_is i)))))
+      ∙ sym (gather-behind old (hex 4 t ∷ hex 2 r ∷ hex 2 s ∷ hex 4 m ∷ []))
+      ∙ (λ i. old ++ (hex 4 (t_is i) ++ hex 2 (r_is i) ++ hex 2 (s_is i) ++ hex 4 (m_is i)))
       ∙ ap (λ digits. old ++ digits) (state-narrow c)

@@ -1,10 +1,11 @@
 -- The words of a frame's bytes, and the line of what came.
 use Rattle.std.proofs.Common.{◌≡◌, ℕ, suc, ◌+◌, ◌-◌, Bool, true, false, List, [], ◌∷◌}
 use Rattle.std.proofs.Common.{◌++◌, length, take, drop, refl, ap, sym, subst, ◌∙◌}
-use Rattle.std.proofs.Common.{append_assoc, true≢false}
+use Rattle.std.proofs.Common.{true≢false}
 use Rattle.std.specs.Prelude.{ℤ, nat_lt}
 use Rattle.std.proofs.lemmas.Bool.{cond_both}
 use Rattle.std.proofs.lemmas.List.{drop-drop}
+use Rattle.ttp_base.proofs.Gathered.{gather-behind}
 use Rattle.ttp_world.specs.declared.medl.Medl.{Medl}
 use Rattle.ttp_world.specs.declared.script.Channel.{Channel}
 use Rattle.ttp_world.specs.declared.script.Fault.TheVariants as fault
@@ -21,9 +22,6 @@ use Rattle.bus_frames.specs.declared.sending.Sending.{Sending}
 use Rattle.bus_frames.specs.FrameText.{byte_words, signal_line, spaced}
 use Rattle.bus_frames.specs.Standing.{IsAsLong}
 
-regroup : (o a b c d : List ℕ) → o ++ a ++ b ++ c ++ d ≡ o ++ (a ++ b ++ c ++ d)
-regroup o a b c d = simp append_assoc
-
 pub bytes-line : (old l1 l2 l3 l4 bytes b1 b2 first state payload word : List ℕ) (width header size n : ℕ)
     → l1 ≡ old ++ spaced first → first ≡ take 1 bytes → b1 ≡ drop 1 bytes
     → l2 ≡ l1 ++ spaced state → state ≡ take n b1 → b2 ≡ drop n b1
@@ -38,7 +36,7 @@ bytes-line old l1 l2 l3 l4 bytes b1 b2 first state payload word width header siz
     let payload_is : payload ≡ payload_in width header size bytes = q3 ∙ ap (take size) behind in
     let word_is : word ≡ drop (1 + m + size) bytes = q4 ∙ ap (drop size) behind ∙ drop-drop size (1 + m) bytes in
     p4 ∙ ap (λ l. l ++ spaced word) (p3 ∙ ap (λ l. l ++ spaced payload) (p2 ∙ ap (λ l. l ++ spaced state) p1))
-    ∙ regroup old (spaced first) (spaced state) (spaced payload) (spaced word)
+    ∙ sym (gather-behind old (spaced first ∷ spaced state ∷ spaced payload ∷ spaced word ∷ []))
     ∙ (λ i. old ++ (spaced (q1 i) ++ spaced (state_is i) ++ spaced (payload_is i) ++ spaced (word_is i)))
 
 -- What came.
