@@ -14,13 +14,6 @@ use Rattle.list_errors.specs.Errors.{sync_wrongs, below_wrongs, table_wrongs}
 more : (old new next front last : List Wrong) → new ≡ old ++ front → next ≡ new ++ last → next ≡ old ++ (front ++ last)
 more old new next front last before now = now ∙ ap (λ (w : List Wrong). w ++ last) before ∙ append_assoc old front last
 
-nine_parts : (a b c d e f g h i : List Wrong)
-    → (((((((a ++ b) ++ c) ++ d) ++ e) ++ f) ++ g) ++ h) ++ i ≡ a ++ (b ++ (c ++ (d ++ (e ++ (f ++ (g ++ (h ++ i)))))))
-nine_parts a b c d e f g h i = simp append_assoc refl
-
-six_parts : (a b c d e f : List Wrong) → ((((a ++ b) ++ c) ++ d) ++ e) ++ f ≡ a ++ (b ++ (c ++ (d ++ (e ++ f))))
-six_parts a b c d e f = simp append_assoc refl
-
 -- nothing is told of `sync` where there are too few slots or too many
 pub no_syncs : (slots : List Members) (n : ℕ) → length slots ≡ n → (nat_le 4 n && nat_le n 24) ≡ false
     → sync_wrongs slots ≡ []
@@ -37,13 +30,8 @@ pub top_told : (file : Members) (old a b c d e f g h i : List Wrong)
     → i ≡ h ++ modes_wrongs file → i ≡ old ++ top_wrongs file
 unfolding top_wrongs
 top_told file old a b c d e f g h i p q r s t u v w x =
-    more old h i _ _ (more old g h _ _ (more old f g _ _ (more old e f _ _ (more old d e _ _ (more old c d _ _
-    (more old b c _ _ (more old a b _ _ p q) r) s) t) u) v) w) x
-    ∙ ap (λ (told : List Wrong). old ++ told)
-    (nine_parts (number_wrongs (at_top names.Version) 1 2 file) (number_wrongs (at_top names.Rounds) 1 64 file)
-    (number_wrongs (at_top names.Schedule) 0 16777215 file) (number_wrongs (at_top names.Buffers) 1 16 file)
-    (number_wrongs (at_top names.Drift) 0 1000 file) (number_wrongs (at_top names.Error) 0 1000 file)
-    (number_wrongs (at_top names.Window) 1 1000000 file) (array_wrongs file) (modes_wrongs file))
+    more old a i _ _ p (more a b i _ _ q (more b c i _ _ r (more c d i _ _ s (more d e i _ _ t (more e f i _ _ u
+    (more f g i _ _ v (more g h i _ _ w x)))))))
 
 -- the parts of a whole table
 pub table_told : (file : Members) (version rounds modes : Option ℕ) (slots seen : List Members) (n : ℕ)
@@ -56,13 +44,6 @@ pub table_told : (file : Members) (version rounds modes : Option ℕ) (slots see
     ++ sync_wrongs slots → sync ≡ old ++ table_wrongs file
 unfolding table_wrongs
 table_told file version rounds modes slots seen n old top count keys unknown others sync v r m s e l a b c d f g =
-    let first = more old top count _ _ a b in
-    let second = more old count keys _ _ first c in
-    let third = more old keys unknown _ _ second d in
-    let fourth = more old unknown others _ _ third f in
-    let all = more old others sync _ _ fourth g in
-    all ∙ ap (λ (w : List Wrong). old ++ w)
-    (six_parts (top_wrongs file) (count_wrongs version n) (slots_wrongs rounds modes 0 seen) (unknown_keys_at_top file)
-    (unknown_keys_in_slots 0 seen) (sync_wrongs slots)
-    ∙ ap (λ (w : List Wrong). top_wrongs file ++ w)
-    (rw (v, r, m, e, l) refl ∙ ap (below_wrongs file) s))
+    let all = more old top sync _ _ a (more top count sync _ _ b (more count keys sync _ _ c
+    (more keys unknown sync _ _ d (more unknown others sync _ _ f g)))) in
+    all ∙ ap (λ (w : List Wrong). old ++ (top_wrongs file ++ w)) (rw (v, r, m, e, l) refl ∙ ap (below_wrongs file) s)
