@@ -21,9 +21,6 @@ use Rattle.script_errors.specs.Words.{form_named}
 use Rattle.script_text.specs.Lines.{is_comment}
 use Rattle.script_errors.specs.SoFar.{StandsFor, Finishes, TellsFull, TellsLength, TellsForm, TellsWords, TellsLine}
 
-assoc : (xs ys zs : List ScriptError) → (xs ++ ys) ++ zs ≡ xs ++ (ys ++ zs)
-assoc xs ys zs = rw append_assoc refl
-
 pub own_none : (old own new : List ScriptError) → new ≡ old ++ own → length new ≤ length old → own ≡ []
 own_none old [] new is short = refl
 own_none old (e ∷ es) new is short = absurd (omega (arith, ap length is, length-append old (e ∷ es)))
@@ -103,7 +100,8 @@ takes_comment list before number line f first words here at so_far old mid new o
     record {
       found = rw (other, comment, same, full) (takes.found
           ∙ ap (λ (es : List ScriptError). es ++ full_errors list before number line f first here) now
-          ∙ assoc old (error_of_word number at wrong.Comment ∷ []) (full_errors list before number line f first here));
+          ∙ append_assoc old (error_of_word number at wrong.Comment ∷ [])
+          (full_errors list before number line f first here));
       after = rw (other, same, full) takes.after;
     }
 
@@ -134,7 +132,7 @@ unfolding form_errors form_after
 takes_form_full list before number line f first words so_far old mid new full now takes = record {
   found = rw (full, full) (takes.found
       ∙ ap (λ (es : List ScriptError). es ++ full_errors list before number line f first words) now
-      ∙ assoc old (slots_errors before number f first)
+      ∙ append_assoc old (slots_errors before number f first)
       (full_errors list before number line f first words));
   after = rw (full, full) takes.after;
 }
@@ -151,7 +149,7 @@ takes_form_other list before number line f first words so_far old mid new other 
     then full_errors list before number line f first (before_comment line words) else []) in
     let found : new ≡ old ++ (slots_errors before number f first ++ tail) =
     takes.found ∙ ap (λ (es : List ScriptError). es ++ tail) now
-    ∙ assoc old (slots_errors before number f first) tail in
+    ∙ append_assoc old (slots_errors before number f first) tail in
     let here : words_before_comment line f words ≡ before_comment line words = rw other refl in
     record {
       found = subst (λ (ws : List Spot). new ≡ old ++ (slots_errors before number f first
@@ -221,7 +219,7 @@ takes_marked list before number line words first rest here so_far old mid new is
     record {
       found = rw (spots, on) (found
           ∙ ap (λ (es : List ScriptError). es ++ said_errors list before number line (behind_mark (first ∷ rest))) now
-          ∙ assoc old (error_of_word number first wrong.Mark ∷ [])
+          ∙ append_assoc old (error_of_word number first wrong.Mark ∷ [])
           (said_errors list before number line (behind_mark (first ∷ rest))));
       after = rw (spots, on) after;
     }
