@@ -1,11 +1,12 @@
 -- What the line of a host begins with, and the line of node 0 where no line of a host comes before it.
 use Rattle.std.proofs.Common.{◌≡◌, ℕ, ◌+◌, Bool, true, false, cond, ◌&&◌, not, List, [], ◌∷◌, ◌++◌}
-use Rattle.std.proofs.Common.{Option, Some, None, IsTrue, refl, sym, ap, ◌∙◌, append_assoc, codes}
+use Rattle.std.proofs.Common.{Option, Some, None, IsTrue, refl, sym, ap, ◌∙◌, codes}
 use Rattle.std.specs.Prelude.{◌==◌, nat_lt, is_some, option_and_then}
 use Rattle.std.specs.Fmt.{decimal}
 use Rattle.std.specs.List.{concat}
 use Rattle.std.proofs.lemmas.Bool.{and_parts, eqb-true}
 use Rattle.ttp_base.specs.Text.{Lines, newline, hex_bytes, lines_of}
+use Rattle.ttp_base.proofs.Gathered.{gather-behind}
 use Rattle.ttp_world.specs.Trace.{source_word}
 use Rattle.line_text.specs.Labels.{after_label}
 use Rattle.line_text.proofs.Cuts.{first_line}
@@ -23,15 +24,6 @@ use Rattle.whole_trace.proofs.Pieces.{value-text}
 use Rattle.whole_trace.proofs.NodeSteps.{goes-on, is_next}
 
 -- Lines of hosts.
-
-write-front : (a b c d e f g more : List ℕ)
-    → (((a ++ b ++ c ++ d) ++ e ++ f) ++ g) ++ more ≡ (a ++ b ++ c) ++ (d ++ e ++ f ++ g ++ more)
-write-front a b c d e f g more = simp (append_assoc {A = ℕ}) refl
-
-read-front : (a b c d e f p q r s g more : List ℕ)
-    → (((a ++ b ++ c ++ d) ++ e ++ f ++ p ++ q ++ r ++ s) ++ g) ++ more
-    ≡ (a ++ b ++ c) ++ (d ++ e ++ f ++ p ++ q ++ r ++ s ++ g ++ more)
-read-front a b c d e f p q r s g more = simp (append_assoc {A = ℕ}) refl
 
 begins : (slot t : ℕ) (behind text : List ℕ) → (t == slot) ≡ true → text ≡ host_front t ++ behind
     → is_some (after_label (host_front slot) text) ≡ true
@@ -76,8 +68,8 @@ no_hosts head slot has_read text on other = by_lines (lines_of text) refl on
             (and_parts ((t == slot) && nat_lt h head.nodes) (not has_read) tests).0).0
             (first_line text first lines cut
             ∙ ap (λ (x : List ℕ). x ++ concat lines) (value-text first (line.Write t h n) is)
-            ∙ write-front (codes "slot ") (decimal t) (codes " host ") (decimal h) (codes " write ") (decimal n) newline
-            (concat lines))
+            ∙ sym (gather-behind (host_front t) (decimal h ∷ codes " write " ∷ decimal n ∷ newline
+            ∷ concat lines ∷ [])))
         by_value (Some (line.Read t h source n payload)) is on =
             let tests = due_here ((t == slot) && nat_lt h head.nodes
             && is_below head.nodes (source_node source)) _ on in
@@ -86,8 +78,8 @@ no_hosts head slot has_read text on other = by_lines (lines_of text) refl on
             (and_parts ((t == slot) && nat_lt h head.nodes) (is_below head.nodes (source_node source)) tests).0).0
             (first_line text first lines cut
             ∙ ap (λ (x : List ℕ). x ++ concat lines) (value-text first (line.Read t h source n payload) is)
-            ∙ read-front (codes "slot ") (decimal t) (codes " host ") (decimal h) (codes " read ") (source_word source)
-            (codes " ") (decimal n) (codes " ") (hex_bytes payload) newline (concat lines))
+            ∙ sym (gather-behind (host_front t) (decimal h ∷ codes " read " ∷ source_word source ∷ codes " "
+            ∷ decimal n ∷ codes " " ∷ hex_bytes payload ∷ newline ∷ concat lines ∷ [])))
         by_value (Some (line.Node t j w peer message wide members accepted rejected a z)) is on =
             by_due (due_after at (line.Node t j w peer message wide members accepted rejected a z)) refl on
           where
