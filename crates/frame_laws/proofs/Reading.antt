@@ -8,11 +8,12 @@ use Rattle.std.specs.Fmt.{signed_decimal}
 use Rattle.std.specs.List.{list_all}
 use Rattle.std.proofs.lemmas.Bool.{and_parts}
 use Rattle.std.proofs.lemmas.Bool.Decides.{nat_tests}
-use Rattle.std.proofs.lemmas.List.{take-append-drop, drop-drop}
+use Rattle.std.proofs.lemmas.List.{append-nil, take-append-drop, drop-drop}
 use Rattle.line_form.specs.Forms.{LineForm, Values, fit, well, line_values, spelled, spelled_before, spelled_line}
 use Rattle.line_form.specs.Kinds.{fits_kind, is_byte, payload, signed}
 use Rattle.line_form.proofs.FormLaws.{read_again}
 use Rattle.line_form.proofs.Tests.{both_true, is_le, is_lt}
+use Rattle.ttp_base.proofs.Gathered.{gathered}
 use Rattle.ttp_base.specs.NodeSet.{set_bits}
 use Rattle.ttp_base.specs.Text.{hex_bytes, newline}
 use Rattle.ttp_world.specs.declared.medl.Medl.{Medl}
@@ -125,17 +126,12 @@ some-spaced bytes some = ap (λ b. cond b [] (codes " " ++ hex_bytes bytes)) som
 none-spaced : (bytes : List ℕ) → (length bytes == 0) ≡ true → spaced bytes ≡ []
 none-spaced bytes none = ap (λ b. cond b [] (codes " " ++ hex_bytes bytes)) none
 
-words-nested : (parts : FrameParts)
-    → spaced parts.header ++ spaced parts.state ++ spaced parts.load ++ spaced parts.check ++ newline
-    ≡ spaced parts.header ++ (spaced parts.state ++ (spaced parts.load ++ (spaced parts.check ++ newline)))
-words-nested parts = simp append_assoc
-
 byte-text : (stated loaded : Bool) (parts : FrameParts) → (length parts.header == 0) ≡ false
     → (length parts.state == 0) ≡ not stated → (length parts.load == 0) ≡ not loaded → (length parts.check == 0) ≡ false
     → spaced parts.header ++ spaced parts.state ++ spaced parts.load ++ spaced parts.check ++ newline
     ≡ spelled_before newline (byte_form stated loaded) (byte_values stated loaded parts)
 byte-text stated loaded parts header state load check =
-    words-nested parts
+    gathered [] (spaced parts.header ∷ spaced parts.state ∷ spaced parts.load ∷ spaced parts.check ∷ newline ∷ [])
     ∙ (λ i. some-spaced parts.header header i ++ (spaced parts.state ++ (spaced parts.load
     ++ (some-spaced parts.check check i ++ newline))))
     ∙ by-parts stated loaded state load
@@ -156,17 +152,6 @@ byte-text stated loaded parts header state load check =
     by-parts false false state load =
         (λ i. codes " " ++ hex_bytes parts.header ++ (none-spaced parts.state state i ++ (none-spaced parts.load load i
         ++ (codes " " ++ hex_bytes parts.check ++ newline))))
-
--- the words of a line's front, in their places
-front-text : (slot letter node kind match clock state bytes : List ℕ)
-    → codes "slot " ++ slot ++ codes " " ++ letter ++ codes " node " ++ node ++ codes " " ++ kind ++ codes " " ++ match
-    ++ codes " clock " ++ clock ++ codes " state " ++ state ++ bytes
-    ≡ codes "slot " ++ (slot ++ (codes " " ++ (letter ++ (codes " node " ++ (node ++ (codes " " ++ (kind ++ (codes " "
-    ++ (match ++ (codes " clock " ++ (clock ++ (codes " state " ++ (state ++ bytes)))))))))))))
-front-text slot letter node kind match clock state bytes = simp append_assoc
-
-behind : (front words more : List ℕ) → front ++ words ++ more ≡ front ++ (words ++ more)
-behind front words more = append_assoc front words more
 
 -- The parts of the bytes.
 
@@ -305,23 +290,21 @@ module _ (list : Medl) (slot : ℕ) (c : Channel) (sending : Sending) (bytes : L
       let words = byte_words (member_width list) sending.header sending.size bytes in
       let found = found_word list sending bytes in
       let n = are.state_long in
-      behind (line_front list slot c sending found) words newline
+      let rest = spelled_before newline (byte_form (is_explicit sending.header) (not (sending.size == 0)))
+      (byte_values (is_explicit sending.header) (not (sending.size == 0))
+      (frame_parts (member_width list) sending.header sending.size bytes)) in
+      append_assoc (line_front list slot c sending found) words newline
       ∙ ap (λ more. line_front list slot c sending found ++ more)
       (byte-text (is_explicit sending.header) (not (sending.size == 0))
       (frame_parts (member_width list) sending.header sending.size bytes) (ap (λ n. n == 0) are.header_long)
       (ap (λ n. n == 0) are.state_long ∙ carried-none (is_explicit sending.header) (member_width list))
       (ap (λ n. n == 0) are.load_long ∙ both-ways (sending.size == 0)) (ap (λ n. n == 0) are.check_long))
-      ∙ front-text (decimal slot) (channel_letter c) (decimal sending.node) (frame_kind sending.header) found
-      (signed_decimal sending.clock) state
-      (spelled_before newline (byte_form (is_explicit sending.header) (not (sending.size == 0)))
-      (byte_values (is_explicit sending.header) (not (sending.size == 0))
-      (frame_parts (member_width list) sending.header sending.size bytes)))
+      ∙ gathered [] (codes "slot " ∷ decimal slot ∷ codes " " ∷ channel_letter c ∷ codes " node " ∷ decimal sending.node
+      ∷ codes " " ∷ frame_kind sending.header ∷ codes " " ∷ found ∷ codes " clock " ∷ signed_decimal sending.clock
+      ∷ codes " state " ∷ state ∷ rest ∷ [])
       ∙ (λ i. codes "slot " ++ (decimal slot ++ (codes " " ++ (letter-is c i ++ (codes " node " ++ (decimal sending.node
       ++ (codes " " ++ (kind-is sending.header i ++ (codes " " ++ (match-is m i ++ (codes " clock "
-      ++ (signed_decimal sending.clock ++ (codes " state " ++ (state ++ spelled_before newline
-      (byte_form (is_explicit sending.header) (not (sending.size == 0)))
-      (byte_values (is_explicit sending.header) (not (sending.size == 0))
-      (frame_parts (member_width list) sending.header sending.size bytes))))))))))))))))
+      ++ (signed_decimal sending.clock ++ (codes " state " ++ (state ++ append-nil rest i))))))))))))))
 
   pub read-back : (k : ℕ) → IsReadBack list slot c sending bytes (signal_line list slot c sending (Bits k bytes))
   read-back k = record {
