@@ -3,8 +3,8 @@ use Rattle.std.proofs.Common.{◌≡◌, ◌≢◌, ℕ, ◌<◌, ◌^◌, Bool,
 use Rattle.std.proofs.Common.{[], ◌∷◌, ◌++◌, refl, sym, ap, ◌∙◌, arith, codes, decimal}
 use Rattle.std.specs.Prelude.{◌==◌}
 use Rattle.std.proofs.lemmas.Bool.{and_left, eq-eqb, ne_eqb, or_parts, or_from, eqb-true}
-use Rattle.std.proofs.lemmas.List.{append_assoc}
 use Rattle.std.proofs.lemmas.Fmt.{decimal_injective}
+use Rattle.ttp_base.proofs.Gathered.{gathered}
 use Rattle.ttp_base.proofs.Numerals.{has, has-decimal}
 use Rattle.view_laws.specs.Titles.{begins_with, is_of_slot, node_start}
 
@@ -59,10 +59,7 @@ of-own t rest = λ i. begins-same (decimal t) (codes " node ") rest i || begins-
 -- what a node's line begins with, cut from the front
 node_start-is : (t k : ℕ) → node_start t k ≡ codes "slot "
     ++ (decimal t ++ (codes " node " ++ (decimal k ++ codes " ")))
-node_start-is t k = cut (codes "slot ") (decimal t) (codes " node ") (decimal k) (codes " ")
-  where
-    cut : (a b c d e : List ℕ) → a ++ b ++ c ++ d ++ e ≡ a ++ (b ++ (c ++ (d ++ e)))
-    cut a b c d e = simp append_assoc
+node_start-is t k = gathered [] (codes "slot " ∷ decimal t ∷ codes " node " ∷ decimal k ∷ codes " " ∷ [])
 
 pub start-other : (t k s : ℕ) (rest : List ℕ) → t < 2 ^ 64 → s < 2 ^ 64 → s ≢ t
     → begins_with (node_start t k) (codes "slot " ++ (decimal s ++ 32 ∷ rest)) ≡ false

@@ -7,7 +7,7 @@ use Rattle.std.specs.Prelude.{◌==◌}
 use Rattle.std.specs.List.{concat, flat_map, range_with_len}
 use Rattle.std.specs.Fmt.{signed_decimal}
 use Rattle.std.proofs.lemmas.Bool.{and_parts, and_from, leb-true, le-leb, cases_eq}
-use Rattle.std.proofs.lemmas.List.{append_assoc, append-nil}
+use Rattle.std.proofs.lemmas.List.{append-nil}
 use Rattle.std.proofs.lemmas.List.Elements.{filter-append}
 use Rattle.ttp_base.specs.NodeSet.{below, set_bits}
 use Rattle.ttp_base.specs.Text.{Lines, hex, hex_bytes}
@@ -138,28 +138,31 @@ said_rest head slot [] = codes "members -"
 said_rest head slot (members ∷ others) = codes "members" ++ flat_map (membership_text head slot)
     (shown_memberships slot.nodes)
 
-three : (a b c d : List ℕ) → a ++ b ++ c ++ d ≡ a ++ (b ++ (c ++ d))
-three a b c d = simp append_assoc
-
 members-begin : (head : Head) (t : ℕ) (slot : SlotLines) (held : List ℕ)
     → members_said head t slot held ≡ codes "slot " ++ (decimal t ++ 32 ∷ said_rest head slot held)
 members-begin head t slot [] = refl
 members-begin head t slot (members ∷ others) =
-    three (codes "slot ") (decimal t) (codes " members")
-    (flat_map (membership_text head slot) (shown_memberships slot.nodes))
+    let held = flat_map (membership_text head slot) (shown_memberships slot.nodes) in
+    gathered [] (codes "slot " ∷ decimal t ∷ codes " members" ∷ held ∷ [])
+    ∙ ap (λ (l : List ℕ). codes "slot " ++ (decimal t ++ (codes " members" ++ l))) (append-nil held)
 
 abbrev clocks_rest : SlotLines → List ℕ
 clocks_rest slot = codes "clocks apart " ++ apart_text (clock_range slot.nodes)
 
 clocks-begin : (t : ℕ) (slot : SlotLines) → clocks_said t slot ≡ codes "slot " ++ (decimal t ++ 32 ∷ clocks_rest slot)
-clocks-begin t slot = three (codes "slot ") (decimal t) (codes " clocks apart ") (apart_text (clock_range slot.nodes))
+clocks-begin t slot =
+    let apart = apart_text (clock_range slot.nodes) in
+    gathered [] (codes "slot " ∷ decimal t ∷ codes " clocks apart " ∷ apart ∷ [])
+    ∙ ap (λ (l : List ℕ). codes "slot " ++ (decimal t ++ (codes " clocks apart " ++ l))) (append-nil apart)
 
 abbrev far_rest : SlotLines → List ℕ
 far_rest slot = codes "clock apart from most " ++ far_text (node_apart slot.nodes)
 
 far-begins : (t : ℕ) (slot : SlotLines) → far_said t slot ≡ codes "slot " ++ (decimal t ++ 32 ∷ far_rest slot)
-far-begins t slot = three (codes "slot ") (decimal t)
-    (codes " clock apart from most ") (far_text (node_apart slot.nodes))
+far-begins t slot =
+    let far = far_text (node_apart slot.nodes) in
+    gathered [] (codes "slot " ∷ decimal t ∷ codes " clock apart from most " ∷ far ∷ [])
+    ∙ ap (λ (l : List ℕ). codes "slot " ++ (decimal t ++ (codes " clock apart from most " ++ l))) (append-nil far)
 
 no-node : (head : Head) (slot : SlotLines) (held bytes : List ℕ)
     → begins_with (codes " node " ++ bytes) (32 ∷ said_rest head slot held) ≡ false

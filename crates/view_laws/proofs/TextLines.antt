@@ -184,9 +184,6 @@ say-node : (head : Head) (t k : ℕ) (node : NodeShown) (text : List ℕ) (lines
     → Say (due.Node head t k) (text ∷ lines) (with_node_line k node from) o
 say-node head t k node text lines from o within is says = by (k == 0) refl
   where
-    nested : (a b c d : Lines) → a ++ (b ++ (c ++ d)) ≡ ((a ++ b) ++ c) ++ d
-    nested a b c d = simp append_assoc
-
     by : (b : Bool) → (k == 0) ≡ b
         → SaysSlots head (text ∷ lines)
         (cond b (from_slot head t (cond b
@@ -201,15 +198,17 @@ say-node head t k node text lines from o within is says = by (k == 0) refl
     by true same =
         let all = node-says head t k node text lines from o within is says in
         let zero_is = eqb-true k 0 same in
-        let count : head.nodes - k ≡ head.nodes = omega (arith, zero_is) in record {
+        let count : head.nodes - k ≡ head.nodes = omega (arith, zero_is) in
+        let nodes = nodes_left head t 0 head.nodes (node ∷ from.front.nodes) in
+        let hosts = map (host_text t) from.front.hosts in
+        let later = slots_left head (t + 1) (head.slots - (t + 1)) from.slots in record {
           of = all.of;
           are =
               all.are
               ∙ (λ i. map ended (nodes_left head t (zero_is i) (count i) (node ∷ from.front.nodes)
               ++ behind head t from o))
-              ∙ ap (map ended) (nested (nodes_left head t 0 head.nodes (node ∷ from.front.nodes))
-              (map (host_text t) from.front.hosts) (slots_left head (t + 1) (head.slots - (t + 1)) from.slots)
-              (ends_left o));
+              ∙ ap (map ended) (sym (append_assoc nodes hosts (later ++ ends_left o))
+              ∙ sym (append_assoc (nodes ++ hosts) later (ends_left o)));
         }
 
 -- A line more.
