@@ -1,7 +1,7 @@
 -- What a run cost is read of its words.
 use Rattle.lab_laws.proofs.Words.{◌≡◌, ℕ, ◌^◌, ◌<◌, ◌≤◌, Bool, true, false, ◌&&◌, ◌||◌, not, List, [], ◌∷◌, ◌++◌}
 use Rattle.lab_laws.proofs.Words.{length, fold, Option, Some, None, IfSome, refl, sym, ap, ◌∙◌, arith, codes}
-use Rattle.lab_laws.proofs.Words.{decimal, append_assoc, subst, ◌==◌, nat_le, map, is_some, list_any}
+use Rattle.lab_laws.proofs.Words.{decimal, subst, ◌==◌, nat_le, map, is_some, list_any}
 use Rattle.lab_laws.proofs.Words.{AllByRecursion, or-true, and_parts, both_ways, eq-eqb, false_from_ne_true}
 use Rattle.lab_laws.proofs.Words.{le-leb, lt-ltb, list_any-append, bytes_eq-Decides, has, has-append}
 use Rattle.lab_laws.proofs.Words.{has-decimal, HasWord, Medl, numeral-again, slot_digits, Cost, Leave, Span}
@@ -12,6 +12,8 @@ use Rattle.std.proofs.Common.{lit<}
 use Rattle.std.specs.List.{list_all}
 use Rattle.std.proofs.Math.Nat.{pow-le-pow_right}
 use Rattle.std.proofs.lemmas.Bool.{ne_eqb, or_from}
+use Rattle.std.proofs.lemmas.List.{append-nil}
+use Rattle.ttp_base.proofs.Gathered.{gathered, gather-behind}
 use Rattle.ttp_base.specs.NodeSet.{most_nodes, set_bits, members_in}
 use Rattle.ttp_base.specs.Text.{hex}
 use Rattle.ttp_base.proofs.Numerals.{has-hex}
@@ -30,7 +32,7 @@ use Rattle.line_form.proofs.KindLaws.{again}
 use Rattle.campaign.specs.CostText.{span_words}
 use Rattle.whole_campaign.specs.declared.listed.Kind.TheVariants as kind
 use Rattle.whole_campaign.specs.Words.{is_reason, leaving_in, split_in}
-use Rattle.lab_laws.proofs.WordsCut.{IsOfWords, word-behind, one-word, more-words, nested-5}
+use Rattle.lab_laws.proofs.WordsCut.{IsOfWords, word-behind, one-word, more-words}
 use Rattle.lab_laws.proofs.ListsRead.{IsNodeWord, AreNodeWords, IsSetWord, has-listed, numeral-no_dash}
 use Rattle.lab_laws.proofs.ListsRead.{nodes-again, sets-again}
 
@@ -58,7 +60,9 @@ leave_nested leave =
 
 leave-nested : (leave : Leave) → leave_word leave ≡ leave_nested leave
 leave-nested leave =
-    nested-5 (decimal leave.node) (codes ":") (decimal leave.slot) (codes ":") (reason_word leave.reason)
+    gathered (decimal leave.node) (codes ":" ∷ decimal leave.slot ∷ codes ":" ∷ reason_word leave.reason ∷ [])
+    ∙ ap (λ (w : List ℕ). decimal leave.node ++ (codes ":" ++ (decimal leave.slot ++ (codes ":" ++ w))))
+    (append-nil (reason_word leave.reason))
 
 reason-again : (why : Reason) → is_reason (reason_word why) ≡ true
 unfolding is_reason
@@ -286,10 +290,6 @@ bare list b cost low =
           (λ members. has-hex b (member_digits list) (set_bits members) less);
     }
 
-nine-nested : (a b c d e f g h i j : List ℕ)
-    → a ++ b ++ c ++ d ++ e ++ (f ++ g ++ h) ++ i ++ j ≡ a ++ (b ++ (c ++ (d ++ (e ++ (f ++ (g ++ (h ++ (i ++ j))))))))
-nine-nested a b c d e f g h i j = simp append_assoc
-
 -- the nine words of a cost
 nine-of : (list : Medl) (cost : Cost)
     → cost_words list cost
@@ -299,11 +299,17 @@ nine-of list cost =
     let left = listed (map leave_word cost.left) in
     let hurt = listed (map decimal cost.hurt) in
     let sets = listed (map (members_word list) cost.end) in
+    let first = first_word cost.split in
+    let last = last_word cost.split in
     ap (λ (span : List ℕ). codes "left " ++ left ++ codes " hurt " ++ hurt
     ++ codes " split " ++ span ++ codes " end " ++ sets)
     (span-words cost.split)
-    ∙ nine-nested (codes "left ") left (codes " hurt ") hurt (codes " split ") (first_word cost.split) (codes " ")
-    (last_word cost.split) (codes " end ") sets
+    ∙ ap (λ (w : List ℕ). w ++ codes " end " ++ sets)
+    (gather-behind (codes "left " ++ left ++ codes " hurt " ++ hurt ++ codes " split ") (first ∷ codes " " ∷ last ∷ []))
+    ∙ gathered [] (codes "left " ∷ left ∷ codes " hurt " ∷ hurt ∷ codes " split " ∷ first ∷ codes " " ∷ last
+    ∷ codes " end " ∷ sets ∷ [])
+    ∙ ap (λ (w : List ℕ). codes "left " ++ (left ++ (codes " hurt " ++ (hurt ++ (codes " split " ++ (first ++ (codes " "
+    ++ (last ++ (codes " end " ++ w))))))))) (append-nil sets)
 
 pub cost-words : (list : Medl) (cost : Cost) → IsOfWords 9 (cost_words list cost)
 cost-words list cost =

@@ -8,6 +8,8 @@ use Rattle.lab_laws.proofs.Words.{node_digits, doing_in, is_last_place, doing_of
 use Rattle.std.proofs.Common.{◌%◌, ℤ, pos, negsuc, neg_ℤ, ◌≤ℤ◌}
 use Rattle.std.specs.Fmt.{signed_decimal}
 use Rattle.std.proofs.lemmas.Int.{int_min_is, ints}
+use Rattle.std.proofs.lemmas.List.{append-nil}
+use Rattle.ttp_base.proofs.Gathered.{gathered}
 use Rattle.ttp_base.proofs.Numerals.{has-signed}
 use Rattle.ttp_world.specs.declared.script.Channels.{Channels}
 use Rattle.ttp_world.specs.declared.script.Event.TheVariants as event
@@ -21,7 +23,7 @@ use Rattle.whole_campaign.specs.declared.shown.Doing.TheVariants as doing
 use Rattle.whole_campaign.specs.Faults.{channels_at, loss_at, loss_end, doing_label, is_loss_of, signed_in}
 use Rattle.whole_campaign.specs.Faults.{is_jump_value}
 use Rattle.whole_campaign.specs.Faults.{jump_words_in, is_fault_of}
-use Rattle.lab_laws.proofs.WordsCut.{word-behind, nested-6}
+use Rattle.lab_laws.proofs.WordsCut.{word-behind}
 
 abbrev pub spot_at : ℕ → ℕ → Doing → ℕ → Spot
 spot_at slot k d place = record { slot = slot; node = k; doing = d; place = place }
@@ -210,7 +212,11 @@ jump-words : (slots slot k place : ℕ) (z : ℤ) → nat_lt place 12 ≡ false 
     → is_jump_value (place % 2 == 1) (signed_decimal z) ≡ true
     → is_fault_of slots (spot_at slot k doing.Jump place) (fault_words (event.Jump k z slot)) ≡ true
 jump-words slots slot k place z late inside node value =
-    let text = nested-6 (codes "jump ") (decimal k) (codes " ") (signed_decimal z) (codes " ") (decimal slot) in
+    let text : codes "jump " ++ decimal k ++ codes " " ++ signed_decimal z ++ codes " " ++ decimal slot
+    ≡ codes "jump " ++ (decimal k ++ (codes " " ++ (signed_decimal z ++ (codes " " ++ decimal slot)))) =
+    gathered [] (codes "jump " ∷ decimal k ∷ codes " " ∷ signed_decimal z ∷ codes " " ∷ decimal slot ∷ [])
+    ∙ ap (λ (w : List ℕ). codes "jump " ++ (decimal k ++ (codes " " ++ (signed_decimal z ++ (codes " " ++ w)))))
+    (append-nil (decimal slot)) in
     ap (λ (words : List ℕ). is_fault_of slots (spot_at slot k doing.Jump place) words) text
     ∙ rw (late, jump-read slot k z inside node, eq-eqb k k refl, eq-eqb slot slot refl, value) refl
 

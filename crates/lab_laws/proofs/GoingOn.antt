@@ -1,12 +1,13 @@
 -- A campaign that goes on with lines that are due.
 use Rattle.lab_laws.proofs.Words.{◌≡◌, ℕ, ◌<◌, true, false, List, [], ◌∷◌, ◌++◌, Option, Some, None}
-use Rattle.lab_laws.proofs.Words.{append_assoc, refl, ap, ◌∙◌, arith, codes, decimal, ◌==◌, AllByRecursion}
+use Rattle.lab_laws.proofs.Words.{refl, sym, ap, ◌∙◌, arith, codes, decimal, ◌==◌, AllByRecursion}
 use Rattle.lab_laws.proofs.Words.{eq-eqb, lt-ltb, list_any-append, Lines, newline, is_line, has, has-decimal}
 use Rattle.lab_laws.proofs.Words.{bytes_eq-same, ◌>>=◌, Counts, unended, counts_line, Due, FaultShown, Piece}
 use Rattle.lab_laws.proofs.Words.{Spot, without_feed, word_behind, campaign_head_in, head_of_line}
 use Rattle.lab_laws.proofs.Words.{fault_words_in, fault_line_in, with_fault_counted, piece_begun, spot_of}
 use Rattle.lab_laws.proofs.Words.{fault_told, is_between_groups, Common, FaultTold, one_further}
 use Rattle.std.specs.Prelude.{option_map}
+use Rattle.ttp_base.proofs.Gathered.{gather-behind}
 use Rattle.ttp_base.proofs.Lines.{is_line-append}
 use Rattle.whole_campaign.specs.declared.due.Due.TheVariants as due
 use Rattle.whole_campaign.specs.Due.{behind_fault, behind_piece, behind_head, due_in_campaign}
@@ -77,11 +78,6 @@ fault-line frame piece before line lines f faults pieces is at goes =
 
 -- The lines of counts.
 
-counts-nested : (a b c d e f g h i j k l end : List ℕ)
-    → a ++ b ++ c ++ d ++ e ++ f ++ g ++ h ++ i ++ j ++ k ++ l ++ end
-    ≡ (a ++ (b ++ c ++ d ++ e ++ f ++ g ++ h ++ i ++ j ++ k ++ l)) ++ end
-counts-nested a b c d e f g h i j k l end = simp append_assoc
-
 counts-bare : (name runs same hurt split torn dead : List ℕ) → has 10 name ≡ false → has 10 runs ≡ false
     → has 10 same ≡ false → has 10 hurt ≡ false → has 10 split ≡ false → has 10 torn ≡ false → has 10 dead ≡ false
     → has 10 (name ++ (runs ++ codes " same " ++ same ++ codes " hurt " ++ hurt ++ codes " split " ++ split
@@ -97,8 +93,9 @@ counts_rest c =
 
 counts-ended : (name : List ℕ) (c : Counts) → has 10 name ≡ false → IsEnded (counts_line name c) (name ++ counts_rest c)
 counts-ended name c none = record {
-  ends = counts-nested name (decimal c.runs) (codes " same ") (decimal c.same) (codes " hurt ") (decimal c.hurt)
-      (codes " split ") (decimal c.split) (codes " torn ") (decimal c.torn) (codes " dead ") (decimal c.dead) newline;
+  ends = ap (λ (w : List ℕ). w ++ newline) (sym (gather-behind name (decimal c.runs ∷ codes " same " ∷ decimal c.same
+      ∷ codes " hurt " ∷ decimal c.hurt ∷ codes " split " ∷ decimal c.split ∷ codes " torn " ∷ decimal c.torn
+      ∷ codes " dead " ∷ decimal c.dead ∷ [])));
   feed = counts-bare name (decimal c.runs) (decimal c.same) (decimal c.hurt) (decimal c.split) (decimal c.torn)
       (decimal c.dead) none (has-decimal 10 c.runs (omega arith)) (has-decimal 10 c.same (omega arith))
       (has-decimal 10 c.hurt (omega arith)) (has-decimal 10 c.split (omega arith))

@@ -1,6 +1,6 @@
 -- The lines of a campaign are read: the head, the script's own line, and the line of each fault.
-use Rattle.lab_laws.proofs.Words.{◌≡◌, ℕ, ◌^◌, ◌<◌, ◌≤◌, Bool, true, false, List, ◌∷◌, ◌++◌, length, Option}
-use Rattle.lab_laws.proofs.Words.{Some, refl, sym, ap, ◌∙◌, arith, codes, decimal, append_assoc, subst, ◌==◌}
+use Rattle.lab_laws.proofs.Words.{◌≡◌, ℕ, ◌^◌, ◌<◌, ◌≤◌, Bool, true, false, List, [], ◌∷◌, ◌++◌, length, Option}
+use Rattle.lab_laws.proofs.Words.{Some, refl, sym, ap, ◌∙◌, arith, codes, decimal, subst, ◌==◌}
 use Rattle.lab_laws.proofs.Words.{nat_le, le-leb, list_any-append, newline, has, has-decimal, Medl, Event}
 use Rattle.lab_laws.proofs.Words.{Script, IsValid, has_arm, IsValidScript, nodes-most, label-again}
 use Rattle.lab_laws.proofs.Words.{numeral-again, slot_digits, unended, cost_words, fault_words, Summary, summary}
@@ -9,6 +9,8 @@ use Rattle.lab_laws.proofs.Words.{FaultShown, Piece, Spot, node_digits, RunWords
 use Rattle.lab_laws.proofs.Words.{cost_in, campaign_head_in, doing_in, place_behind, fault_words_in, is_spot_due}
 use Rattle.lab_laws.proofs.Words.{fault_line_in, own_in, Common, HasSlots, test_said_if, test_said}
 use Rattle.std.proofs.Common.{bytes_eq}
+use Rattle.std.proofs.lemmas.List.{append-nil}
+use Rattle.ttp_base.proofs.Gathered.{gathered, gather-behind}
 use Rattle.ttp_world.specs.declared.keep.Back.{Back}
 use Rattle.ttp_world.specs.declared.keep.Back.TheVariants as back
 use Rattle.ttp_world.specs.declared.keep.Keep.{Keep}
@@ -34,7 +36,7 @@ use Rattle.whole_campaign.specs.Runs.{range_digits, is_campaign_head}
 use Rattle.whole_campaign.specs.Faults.{FaultWords}
 use Rattle.whole_campaign.specs.Faults.{spot_in, shown_at}
 use Rattle.lab_laws.proofs.TestBounds.{keeps-fits, returns-fits}
-use Rattle.lab_laws.proofs.WordsCut.{IsOfWords, feed-again, word-behind, one-word, more-words, run-again, nested-5}
+use Rattle.lab_laws.proofs.WordsCut.{IsOfWords, feed-again, word-behind, one-word, more-words, run-again}
 use Rattle.lab_laws.proofs.CostsRead.{IsCostIn, cost-words, cost-again, cost-no_feed}
 use Rattle.lab_laws.proofs.CostsOfRuns.{cost-in}
 use Rattle.lab_laws.proofs.FaultsRead.{spot_at}
@@ -62,10 +64,6 @@ head-read h nodes slots first last is =
       is,
     ) refl
 
-eight-ended : (a b c d e f g h end : List ℕ)
-    → a ++ b ++ c ++ d ++ e ++ f ++ g ++ h ++ end ≡ (a ++ (b ++ (c ++ (d ++ (e ++ (f ++ (g ++ h))))))) ++ end
-eight-ended a b c d e f g h end = simp append_assoc
-
 head-bare : (nodes slots first last : List ℕ) → has 10 nodes ≡ false → has 10 slots ≡ false → has 10 first ≡ false
     → has 10 last ≡ false
     → has 10 (codes "ttplab campaign 1 nodes " ++ (nodes ++ (codes " slots " ++ (slots
@@ -85,8 +83,12 @@ head_text list script first last =
 pub head-ended : (list : Medl) (script : Script) (first last : ℕ)
     → IsEnded (head_line list script first last) (head_text list script first last)
 head-ended list script first last = record {
-  ends = eight-ended (codes "ttplab campaign 1 nodes ") (decimal (length list.slots)) (codes " slots ")
-      (decimal script.slots) (codes " from ") (decimal first) (codes " to ") (decimal last) newline;
+  ends = ap (λ (w : List ℕ). w ++ newline)
+      (gathered [] (codes "ttplab campaign 1 nodes " ∷ decimal (length list.slots) ∷ codes " slots "
+      ∷ decimal script.slots ∷ codes " from " ∷ decimal first ∷ codes " to " ∷ decimal last ∷ [])
+      ∙ ap (λ (w : List ℕ). codes "ttplab campaign 1 nodes " ++ (decimal (length list.slots) ++ (codes " slots "
+      ++ (decimal script.slots ++ (codes " from " ++ (decimal first ++ (codes " to " ++ w)))))))
+      (append-nil (decimal last)));
   feed = head-bare (decimal (length list.slots)) (decimal script.slots) (decimal first) (decimal last)
       (has-decimal 10 (length list.slots) (omega arith)) (has-decimal 10 script.slots (omega arith))
       (has-decimal 10 first (omega arith)) (has-decimal 10 last (omega arith));
@@ -147,7 +149,8 @@ no-bare label rule slot p q r = simp (list_any-append (λ c. c == 10), p, q, r)
 keep-words : (k : Keep) → IsOfWords 4 (keep_text k)
 keep-words (keep.Yes start) = yes-words (codes "keeps") start refl
 keep-words (keep.No rule slot) =
-    subst (IsOfWords 4) (sym (nested-5 (codes "keeps no ") (codes "H") (decimal rule) (codes " ") (decimal slot)))
+    subst (IsOfWords 4) (sym (gathered (codes "keeps no H") (decimal rule ∷ codes " " ∷ decimal slot ∷ [])
+    ∙ ap (λ (w : List ℕ). codes "keeps no H" ++ (decimal rule ++ (codes " " ++ w))) (append-nil (decimal slot))))
     (no-words (codes "keeps") 72 rule slot refl refl)
 
 keep-feed : (k : Keep) → has 10 (keep_text k) ≡ false
@@ -158,7 +161,8 @@ keep-feed (keep.No rule slot) =
 back-words : (b : Back) → IsOfWords 4 (back_text b)
 back-words (back.Yes start) = yes-words (codes "returns") start refl
 back-words (back.No rule slot) =
-    subst (IsOfWords 4) (sym (nested-5 (codes "returns no ") (codes "Q") (decimal rule) (codes " ") (decimal slot)))
+    subst (IsOfWords 4) (sym (gathered (codes "returns no Q") (decimal rule ∷ codes " " ∷ decimal slot ∷ [])
+    ∙ ap (λ (w : List ℕ). codes "returns no Q" ++ (decimal rule ++ (codes " " ++ w))) (append-nil (decimal slot))))
     (no-words (codes "returns") 81 rule slot refl refl)
 
 back-feed : (b : Back) → has 10 (back_text b) ≡ false
@@ -231,10 +235,6 @@ abbrev pub own_text : Medl → Summary → List ℕ
 own_text list s =
     codes "slot - node - " ++ (s.test ++ (codes " " ++ (cost_words list s.cost ++ (codes " fault " ++ codes "-"))))
 
-six-ended : (a b c d e f end : List ℕ)
-    → a ++ (b ++ c ++ d ++ e) ++ f ++ end ≡ (a ++ (b ++ (c ++ (d ++ (e ++ f))))) ++ end
-six-ended a b c d e f end = simp append_assoc
-
 run-bare : (front test cost fault : List ℕ) → has 10 front ≡ false → has 10 test ≡ false → has 10 cost ≡ false
     → has 10 fault ≡ false
     → has 10 (front ++ (test ++ (codes " " ++ (cost ++ (codes " fault " ++ fault))))) ≡ false
@@ -243,8 +243,8 @@ run-bare front test cost fault p q r s = simp (list_any-append (λ c. c == 10), 
 pub own-ended : (list : Medl) (script : Script) (s : Summary) (t : Test) → IsRunRead list script s t
     → IsEnded (own_line list s) (own_text list s)
 own-ended list script s t read = record {
-  ends = six-ended (codes "slot - node - ") s.test (codes " ")
-      (cost_words list s.cost) (codes " fault ") (codes "-") newline;
+  ends = ap (λ (w : List ℕ). codes "slot - node - " ++ w ++ newline)
+      (gathered s.test (codes " " ∷ cost_words list s.cost ∷ codes " fault " ∷ codes "-" ∷ []));
   feed = run-bare (codes "slot - node - ") s.test (cost_words list s.cost) (codes "-") refl read.test_feed
       (cost-no_feed list s.cost) refl;
 }
@@ -277,11 +277,6 @@ fault_text list fault s =
     codes "slot " ++ (decimal (fault_slot fault) ++ (codes " node " ++ (decimal (fault_node fault) ++ (codes " "
     ++ (s.test ++ (codes " " ++ (cost_words list s.cost ++ (codes " fault " ++ fault_words fault))))))))
 
-ten-ended : (a b c d e f g h i j end : List ℕ)
-    → (a ++ b ++ c ++ d ++ e) ++ (f ++ g ++ h ++ i) ++ j ++ end
-    ≡ (a ++ (b ++ (c ++ (d ++ (e ++ (f ++ (g ++ (h ++ (i ++ j))))))))) ++ end
-ten-ended a b c d e f g h i j end = simp append_assoc
-
 place-bare : (slot node rest : List ℕ) → has 10 slot ≡ false → has 10 node ≡ false → has 10 rest ≡ false
     → has 10 (codes "slot " ++ (slot ++ (codes " node " ++ (node ++ rest)))) ≡ false
 place-bare slot node rest p q r = simp (list_any-append (λ c. c == 10), p, q, r)
@@ -289,9 +284,16 @@ place-bare slot node rest p q r = simp (list_any-append (λ c. c == 10), p, q, r
 pub fault-ended : (list : Medl) (script : Script) (fault : Event) (s : Summary) (t : Test) → IsRunRead list script s t
     → has 10 (fault_words fault) ≡ false → IsEnded (fault_line list fault s) (fault_text list fault s)
 fault-ended list script fault s t read none = record {
-  ends = ten-ended (codes "slot ") (decimal (fault_slot fault)) (codes " node ")
-      (decimal (fault_node fault)) (codes " ")
-      s.test (codes " ") (cost_words list s.cost) (codes " fault ") (fault_words fault) newline;
+  ends =
+      ap (λ (w : List ℕ). w ++ fault_words fault ++ newline)
+      (gather-behind (codes "slot " ++ decimal (fault_slot fault) ++ codes " node " ++ decimal (fault_node fault)
+      ++ codes " ") (s.test ∷ codes " " ∷ cost_words list s.cost ∷ codes " fault " ∷ []))
+      ∙ ap (λ (w : List ℕ). w ++ newline)
+      (gathered [] (codes "slot " ∷ decimal (fault_slot fault) ∷ codes " node " ∷ decimal (fault_node fault) ∷ codes " "
+      ∷ s.test ∷ codes " " ∷ cost_words list s.cost ∷ codes " fault " ∷ fault_words fault ∷ [])
+      ∙ ap (λ (w : List ℕ). codes "slot " ++ (decimal (fault_slot fault) ++ (codes " node "
+      ++ (decimal (fault_node fault) ++ (codes " " ++ (s.test ++ (codes " " ++ (cost_words list s.cost
+      ++ (codes " fault " ++ w))))))))) (append-nil (fault_words fault)));
   feed = place-bare (decimal (fault_slot fault)) (decimal (fault_node fault))
       (codes " " ++ (s.test ++ (codes " " ++ (cost_words list s.cost ++ (codes " fault " ++ fault_words fault)))))
       (bare (fault_slot fault)).1 (bare (fault_node fault)).1

@@ -111,11 +111,3 @@ run-again test cost fault tested costs =
       words-behind 4 test (cost ++ (codes " fault " ++ fault)) tested,
       words-behind 9 cost (codes "fault " ++ fault) costs,
     ) refl
-
--- Texts one behind another, nested the other way.
-
-pub nested-5 : (a b c d e : List ℕ) → a ++ b ++ c ++ d ++ e ≡ a ++ (b ++ (c ++ (d ++ e)))
-nested-5 a b c d e = simp append_assoc
-
-pub nested-6 : (a b c d e f : List ℕ) → a ++ b ++ c ++ d ++ e ++ f ≡ a ++ (b ++ (c ++ (d ++ (e ++ f))))
-nested-6 a b c d e f = simp append_assoc
