@@ -6,7 +6,8 @@ use Rattle.std.proofs.lemmas.Bool.{false≢true}
 use Rattle.std.proofs.lemmas.Fmt.{decimal_digit}
 use Rattle.std.proofs.lemmas.List.Elements.{All-nil, All-cons, All-head, All-tail, All-append}
 use Rattle.std.proofs.lemmas.List.Folds.{list_any-append}
-use Rattle.ttp_base.specs.Text.{newline}
+use Rattle.ttp_base.specs.Text.{newline, gather}
+use Rattle.ttp_base.proofs.Gathered.{gather-behind}
 use Rattle.ttp_base.proofs.Numerals.{has}
 use Rattle.ttp_world.specs.declared.medl.Medl.{Medl}
 use Rattle.ttp_world.specs.declared.script.Event.{Event}
@@ -137,11 +138,6 @@ module _ (list : Medl) (valid : IsValid list) where
 
     -- The line of counts.
 
-    counted : (name runs same_word same a b c d e torn dead_word dead feed : List ℕ)
-        → name ++ runs ++ same_word ++ same ++ a ++ b ++ c ++ d ++ e ++ torn ++ dead_word ++ dead ++ feed
-        ≡ (name ++ runs ++ same_word ++ same) ++ (a ++ (b ++ (c ++ (d ++ e)))) ++ (torn ++ dead_word ++ dead ++ feed)
-    counted name runs same_word same a b c d e torn dead_word dead feed = simp append_assoc
-
     zero-word : (n : ℕ) → n ≡ 0 → decimal n ≡ codes "0"
     zero-word n none = ap decimal none ∙ decimal_digit 0 (omega arith)
 
@@ -150,16 +146,19 @@ module _ (list : Medl) (valid : IsValid list) where
     kept-stands counts hurt split =
         let no_hurt = zero-word counts.hurt hurt in
         let no_split = zero-word counts.split split in
+        let begun = codes "kept " ++ decimal counts.runs ++ codes " same " ++ decimal counts.same in
+        let others = decimal counts.torn ∷ codes " dead " ∷ decimal counts.dead ∷ newline ∷ [] in
         record {
-          front = codes "kept " ++ decimal counts.runs ++ codes " same " ++ decimal counts.same;
+          front = begun;
           rest = decimal counts.torn ++ codes " dead " ++ decimal counts.dead ++ newline;
           whole =
               (λ i. codes "kept " ++ decimal counts.runs ++ codes " same " ++ decimal counts.same
               ++ codes " hurt " ++ no_hurt i ++ codes " split " ++ no_split i
               ++ codes " torn " ++ decimal counts.torn ++ codes " dead " ++ decimal counts.dead ++ newline)
-              ∙ counted (codes "kept ") (decimal counts.runs) (codes " same ") (decimal counts.same) (codes " hurt ")
-              (codes "0") (codes " split ") (codes "0") (codes " torn ") (decimal counts.torn) (codes " dead ")
-              (decimal counts.dead) newline;
+              ∙ ap (λ (l : List ℕ). gather l others)
+              (sym (gather-behind begun (codes " hurt " ∷ codes "0" ∷ codes " split " ∷ codes "0" ∷ codes " torn "
+              ∷ [])))
+              ∙ sym (gather-behind (begun ++ codes " hurt 0 split 0 torn ") others);
         }
 
     kept-safe : (own : Cost) (faults : List Event) → All (MayStand list script) faults
