@@ -1,6 +1,6 @@
 -- The line of each event of a generated script.
 use Rattle.std.proofs.Common.{◌≡◌, ℕ, ◌+◌, ◌*◌, ◌<◌, ◌≤◌, ◌==◌, ℤ, true, false, List}
-use Rattle.std.proofs.Common.{◌∷◌, ◌++◌, length, count_by, Some, refl, sym, subst, arith, decimal, codes}
+use Rattle.std.proofs.Common.{[], ◌∷◌, ◌++◌, length, count_by, Some, refl, sym, ap, ◌∙◌, subst, arith, decimal, codes}
 use Rattle.std.proofs.lemmas.Int.{ints}
 use Rattle.std.specs.Prelude.{nat_abs}
 use Rattle.std.specs.Fmt.{signed_decimal}
@@ -28,20 +28,22 @@ use Rattle.script_laws.proofs.Words.{word_then, last_word}
 
 -- a line that is written from the left, as its words one after another
 
-pub two : (w a b : List ℕ) → w ++ a ++ codes " " ++ b ≡ w ++ (a ++ 32 ∷ b)
-two w a b = simp append_assoc
+abbrev pub from_left : List ℕ → List (List ℕ) → List ℕ
+from_left text [] = text
+from_left text (word ∷ words) = from_left (text ++ codes " " ++ word) words
 
-three : (w a b c : List ℕ) → w ++ a ++ codes " " ++ b ++ codes " " ++ c ≡ w ++ (a ++ 32 ∷ (b ++ 32 ∷ c))
-three w a b c = simp append_assoc
+abbrev pub spaced_words : List ℕ → List (List ℕ) → List ℕ
+spaced_words word [] = word
+spaced_words word (next ∷ words) = word ++ 32 ∷ spaced_words next words
 
-four : (w a b c d : List ℕ)
-    → w ++ a ++ codes " " ++ b ++ codes " " ++ c ++ codes " " ++ d ≡ w ++ (a ++ 32 ∷ (b ++ 32 ∷ (c ++ 32 ∷ d)))
-four w a b c d = simp append_assoc
-
-five : (w a b c d e : List ℕ)
-    → w ++ a ++ codes " " ++ b ++ codes " " ++ c ++ codes " " ++ d ++ codes " " ++ e
-    ≡ w ++ (a ++ 32 ∷ (b ++ 32 ∷ (c ++ 32 ∷ (d ++ 32 ∷ e))))
-five w a b c d e = simp append_assoc
+pub left-spaced : (text word : List ℕ) (words : List (List ℕ))
+    → from_left (text ++ word) words ≡ text ++ spaced_words word words
+left-spaced text word [] = refl
+left-spaced text word (next ∷ words) =
+    ap (λ (l : List ℕ). from_left (l ++ next) words) (append_assoc text word (codes " "))
+    ∙ left-spaced (text ++ (word ++ codes " ")) next words
+    ∙ append_assoc text (word ++ codes " ") (spaced_words next words)
+    ∙ ap (λ (l : List ℕ). text ++ l) (append_assoc word (codes " ") (spaced_words next words))
 
 -- what is known of the lines before, and of the run
 pub record Stands (list : Medl) (script : Script) (before : List Statement) : Type 0 where
@@ -76,7 +78,8 @@ module _ (list : Medl) (script : Script) (before : List Statement) (stands : Sta
       (word_then (decimal node) _ _ n.spells (word_then (signed_decimal value) _ _ v.spells
       (word_then (decimal from) _ _ f.spells (last_word (decimal to) t.spells)))) in
       subst (λ (l : List ℕ). IsLine list before l (says_event (event.Error node value from to)))
-      (sym (four (codes "error ") (decimal node) (signed_decimal value) (decimal from) (decimal to))) (record {
+      (sym (left-spaced (codes "error ") (decimal node) (signed_decimal value ∷ decimal from ∷ decimal to ∷ [])))
+      (record {
         feeds = line.feeds;
         returns = line.returns;
         read =
@@ -109,7 +112,8 @@ module _ (list : Medl) (script : Script) (before : List Statement) (stands : Sta
       (word_then (codes "noise") _ _ (record { some = omega arith; parts = refl; feeds = refl; returns = refl })
       (word_then (decimal from) _ _ f.spells (last_word (decimal to) t.spells))))) in
       subst (λ (l : List ℕ). IsLine list before l (says_event (event.Send node both_channels fault.Noise from to)))
-      (sym (five (codes "send ") (decimal node) (codes "AB") (codes "noise") (decimal from) (decimal to))) (record {
+      (sym (left-spaced (codes "send ") (decimal node) (codes "AB" ∷ codes "noise" ∷ decimal from ∷ decimal to ∷ [])))
+      (record {
         feeds = line.feeds;
         returns = line.returns;
         read =
@@ -145,7 +149,9 @@ module _ (list : Medl) (script : Script) (before : List Statement) (stands : Sta
       (word_then (codes "noise") _ _ (record { some = omega arith; parts = refl; feeds = refl; returns = refl })
       (word_then (decimal from) _ _ f.spells (last_word (decimal to) t.spells))))) in
       subst (λ (l : List ℕ). IsLine list before l (says_event (event.Receive node both_channels fault.Noise from to)))
-      (sym (five (codes "receive ") (decimal node) (codes "AB") (codes "noise") (decimal from) (decimal to))) (record {
+      (sym (left-spaced (codes "receive ") (decimal node) (codes "AB" ∷ codes "noise" ∷ decimal from
+      ∷ decimal to ∷ [])))
+      (record {
         feeds = line.feeds;
         returns = line.returns;
         read =
@@ -182,7 +188,7 @@ module _ (list : Medl) (script : Script) (before : List Statement) (stands : Sta
       grind (arith, nat_tests, h.size, valid.3) in
       let more : (list.buffers == 1) ≡ false = grind (arith, nat_tests, few) in
       subst (λ (l : List ℕ). IsLine list before l (says_event (event.Write node slot payload)))
-      (sym (three (codes "write ") (decimal node) (decimal slot) (hex_bytes payload))) (record {
+      (sym (left-spaced (codes "write ") (decimal node) (decimal slot ∷ hex_bytes payload ∷ []))) (record {
         feeds = line.feeds;
         returns = line.returns;
         read =
@@ -214,7 +220,7 @@ module _ (list : Medl) (script : Script) (before : List Statement) (stands : Sta
       (word_then (decimal node) _ _ n.spells (word_then (decimal slot) _ _ s.spells
       (last_word (codes "status") (record { some = omega arith; parts = refl; feeds = refl; returns = refl })))) in
       subst (λ (l : List ℕ). IsLine list before l (says_event (event.Read node slot source.Status)))
-      (sym (three (codes "read ") (decimal node) (decimal slot) (codes "status"))) (record {
+      (sym (left-spaced (codes "read ") (decimal node) (decimal slot ∷ codes "status" ∷ []))) (record {
         feeds = line.feeds;
         returns = line.returns;
         read =
@@ -247,7 +253,7 @@ module _ (list : Medl) (script : Script) (before : List Statement) (stands : Sta
       (word_then (decimal node) _ _ n.spells
       (word_then (decimal slot) _ _ s.spells (last_word (decimal k) f.spells))) in
       subst (λ (l : List ℕ). IsLine list before l (says_event (event.Read node slot (source.Node k))))
-      (sym (three (codes "read ") (decimal node) (decimal slot) (decimal k))) (record {
+      (sym (left-spaced (codes "read ") (decimal node) (decimal slot ∷ decimal k ∷ []))) (record {
         feeds = line.feeds;
         returns = line.returns;
         read =

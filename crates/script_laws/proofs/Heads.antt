@@ -1,5 +1,5 @@
 -- The lines before the events: the slots, who is switched on, and whose clock drifts.
-use Rattle.std.proofs.Common.{◌≡◌, ℕ, ◌<◌, ◌≤◌, ℤ, List, [], ◌++◌, length, None}
+use Rattle.std.proofs.Common.{◌≡◌, ℕ, ◌<◌, ◌≤◌, ℤ, List, [], ◌∷◌, ◌++◌, length, None}
 use Rattle.std.proofs.Common.{refl, sym, subst, arith, decimal, codes}
 use Rattle.std.specs.Prelude.{nat_abs}
 use Rattle.std.specs.Fmt.{signed_decimal}
@@ -12,7 +12,7 @@ use Rattle.ttp_world.specs.Script.{IsWithinSpan}
 use Rattle.ttp_world.proofs.SmallTests.{both}
 use Rattle.script_text.specs.Faults.{on_of, drift_stated}
 use Rattle.script_text.specs.Statement.{Statement, says_slots, says_on, says_drift}
-use Rattle.script_laws.proofs.Events.{Stands, two}
+use Rattle.script_laws.proofs.Events.{Stands, left-spaced}
 use Rattle.script_laws.proofs.Numbers.{number-word, signed-word}
 use Rattle.script_laws.proofs.Statements.{IsLine, read_line}
 use Rattle.script_laws.proofs.Words.{word_then, last_word}
@@ -52,7 +52,7 @@ module _ (list : Medl) (script : Script) (before : List Statement) (stands : Sta
       word_then (codes "on") _ _ (record { some = omega arith; parts = refl; feeds = refl; returns = refl })
       (word_then (decimal node) _ _ n.spells (last_word (decimal slot) s.spells)) in
       subst (λ (l : List ℕ). IsLine list before l (says_on node slot))
-      (sym (two (codes "on ") (decimal node) (decimal slot))) (record {
+      (sym (left-spaced (codes "on ") (decimal node) (decimal slot ∷ []))) (record {
         feeds = line.feeds;
         returns = line.returns;
         read =
@@ -81,7 +81,7 @@ module _ (list : Medl) (script : Script) (before : List Statement) (stands : Sta
       word_then (codes "drift") _ _ (record { some = omega arith; parts = refl; feeds = refl; returns = refl })
       (word_then (decimal node) _ _ n.spells (last_word (signed_decimal value) v.spells)) in
       subst (λ (l : List ℕ). IsLine list before l (says_drift node value))
-      (sym (two (codes "drift ") (decimal node) (signed_decimal value))) (record {
+      (sym (left-spaced (codes "drift ") (decimal node) (signed_decimal value ∷ []))) (record {
         feeds = line.feeds;
         returns = line.returns;
         read =
