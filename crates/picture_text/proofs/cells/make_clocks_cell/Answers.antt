@@ -1,5 +1,27 @@
-use Rattle.picture_text.proofs.Words.{refl}
+use Rattle.picture_text.proofs.Words.{refl, arith}
+use Rattle.ttp_base.proofs.Room.{room}
 use Rattle.picture_text.proofs.cells.make_clocks_cell.Goals as goal
+
+pub put_text-requires : goal.put_text-requires
+put_text-requires c = grind (arith, room)
+
+pub put_field-requires : goal.put_field-requires
+put_field-requires c = grind (arith, room)
+
+pub put_text-requires-2 : goal.put_text-requires-2
+put_text-requires-2 c = grind (arith, room)
+
+pub put_apart-requires : goal.put_apart-requires
+put_apart-requires c = grind (arith, room)
+
+pub close_title-requires : goal.close_title-requires
+close_title-requires c = grind (arith, room)
+
+pub put_apart_shown-requires : goal.put_apart_shown-requires
+put_apart_shown-requires c = grind (arith, room)
+
+pub close_cell-requires : goal.close_cell-requires
+close_cell-requires c = grind (arith, room)
 
 pub returns : goal.returns
 returns c =
