@@ -1,5 +1,24 @@
-use Rattle.picture_text.proofs.Words.{refl}
+use Rattle.picture_text.proofs.Words.{refl, arith}
+use Rattle.ttp_base.proofs.Room.{room}
 use Rattle.picture_text.proofs.element.close_title.Goals as goal
+
+pub put_text-requires : goal.put_text-requires
+put_text-requires c = grind (arith, room)
+
+pub put_place-requires : goal.put_place-requires
+put_place-requires c = grind (arith, room)
+
+pub put_text-requires-2 : goal.put_text-requires-2
+put_text-requires-2 c = grind (arith, room)
+
+pub put_place-requires-2 : goal.put_place-requires-2
+put_place-requires-2 c = grind (arith, room)
+
+pub put_text-requires-3 : goal.put_text-requires-3
+put_text-requires-3 c = grind (arith, room)
+
+pub returns-clause-short : goal.returns-clause-short
+returns-clause-short c = grind (arith, room)
 
 pub returns-clause-text : goal.returns-clause-text
 returns-clause-text c =

@@ -1,5 +1,24 @@
-use Rattle.picture_text.proofs.Words.{refl}
+use Rattle.picture_text.proofs.Words.{refl, arith}
+use Rattle.ttp_base.proofs.Room.{room}
 use Rattle.picture_text.proofs.element.make_cell.Goals as goal
+
+pub put_text-requires : goal.put_text-requires
+put_text-requires c = grind (arith, room)
+
+pub open_title-requires : goal.open_title-requires
+open_title-requires c = grind (arith, room)
+
+pub put_text-requires-2 : goal.put_text-requires-2
+put_text-requires-2 c = grind (arith, room)
+
+pub close_title-requires : goal.close_title-requires
+close_title-requires c = grind (arith, room)
+
+pub put_text-requires-3 : goal.put_text-requires-3
+put_text-requires-3 c = grind (arith, room)
+
+pub close_cell-requires : goal.close_cell-requires
+close_cell-requires c = grind (arith, room)
 
 pub returns : goal.returns
 returns c =

@@ -1,6 +1,19 @@
-use Rattle.picture_text.proofs.Words.{◌+◌, [], ◌∷◌, ◌++◌, codes, members_title, place_attributes}
+use Rattle.picture_text.proofs.Words.{◌+◌, [], ◌∷◌, ◌++◌, codes, members_title, place_attributes, arith}
 use Rattle.ttp_base.proofs.Gathered.{gather-behind}
+use Rattle.ttp_base.proofs.Room.{room}
 use Rattle.picture_text.proofs.members_cell.make_different.Goals as goal
+
+pub close_title-requires : goal.close_title-requires
+close_title-requires c = grind (arith, room)
+
+pub put_text-requires : goal.put_text-requires
+put_text-requires c = grind (arith, room)
+
+pub close_cell-requires : goal.close_cell-requires
+close_cell-requires c = grind (arith, room)
+
+pub put_bytes-requires : goal.put_bytes-requires
+put_bytes-requires c = grind (arith, room)
 
 pub returns-clause-text : goal.returns-clause-text
 returns-clause-text c =
