@@ -2,26 +2,22 @@
 ghost use Rattle.std.specs.Prelude.{◌≡◌, ◌≤◌, length};
 ghost use Rattle.ttp_world.specs.Trace.{keep_line, back_line};
 
+use line_form::put_number;
 use ttp_base::Line;
 use ttp_world::{Back, Keep};
 
 /// The line of the hypothesis test. Takes no memory.
-#[tactic(auto, using(ttp_base::proofs::Room::room))]
+#[tactic(auto, using(ttp_base::proofs::Room::room), unfolding(line_form::specs::Forms::worded))]
 pub fn keep_line(keep: &Keep) -> Line
     ensures text { result ≡ keep_line keep.now }
     ensures short { length result ≤ 60 }
 {
     let mut line = Line::new();
     match keep {
-        Keep::Yes { start } => {
-            line.put_text("keeps yes start ");
-            line.put_number(u64::from(*start));
-        }
+        Keep::Yes { start } => put_number(&mut line, "keeps yes start ", u64::from(*start)),
         Keep::No { rule, slot } => {
-            line.put_text("keeps no H");
-            line.put_number(u64::from(*rule));
-            line.put_text(" ");
-            line.put_number(u64::from(*slot));
+            put_number(&mut line, "keeps no H", u64::from(*rule));
+            put_number(&mut line, " ", u64::from(*slot));
         }
     }
     line.put_text("\n");
@@ -29,22 +25,17 @@ pub fn keep_line(keep: &Keep) -> Line
 }
 
 /// The line that says whether each armed node is guaranteed its place again. Takes no memory.
-#[tactic(auto, using(ttp_base::proofs::Room::room))]
+#[tactic(auto, using(ttp_base::proofs::Room::room), unfolding(line_form::specs::Forms::worded))]
 pub fn back_line(back: &Back) -> Line
     ensures text { result ≡ back_line back.now }
     ensures short { length result ≤ 60 }
 {
     let mut line = Line::new();
     match back {
-        Back::Yes { start } => {
-            line.put_text("returns yes start ");
-            line.put_number(u64::from(*start));
-        }
+        Back::Yes { start } => put_number(&mut line, "returns yes start ", u64::from(*start)),
         Back::No { rule, slot } => {
-            line.put_text("returns no Q");
-            line.put_number(u64::from(*rule));
-            line.put_text(" ");
-            line.put_number(u64::from(*slot));
+            put_number(&mut line, "returns no Q", u64::from(*rule));
+            put_number(&mut line, " ", u64::from(*slot));
         }
     }
     line.put_text("\n");

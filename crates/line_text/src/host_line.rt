@@ -7,6 +7,7 @@ ghost use Rattle.ttp_world.specs.Trace.{word_hex, message_hex};
 ghost use Rattle.line_text.specs.HostLines.{bytes_in, message_in, HasWords, written_line, message_line};
 
 use crate::shared::{put_host, put_source};
+use line_form::{put_number, put_payload};
 use ttp_base::Line;
 use ttp_world::Source;
 
@@ -65,19 +66,18 @@ fn put_message(line: &mut Line, message: &RingMessage)
 }
 
 /// The line of a message that a host wrote.
-#[tactic(auto, using(ttp_base::proofs::Room::room))]
+#[tactic(auto, unfolding(line_form::specs::Forms::worded))]
 pub(crate) fn make_write_line(slot: u32, host: u8, number: u64, line: &mut Line)
     ensures { line.new ≡ written_line slot host number }
 {
     line.clear();
     put_host(line, slot, host);
-    line.put_text(" write ");
-    line.put_number(number);
+    put_number(line, " write ", number);
     line.put_text("\n");
 }
 
 /// The line of a message that a host read.
-#[tactic(auto, using(ttp_base::proofs::Room::room))]
+#[tactic(auto, using(ttp_base::proofs::Room::room), unfolding(line_form::specs::Forms::worded))]
 pub(crate) fn make_read_line(slot: u32, host: u8, message: &RingMessage, line: &mut Line)
     requires { HasWords message.now.source message.now.size message.now.words.now }
     ensures { line.new ≡ message_line slot host message.now.source message.now.number
@@ -87,26 +87,14 @@ pub(crate) fn make_read_line(slot: u32, host: u8, message: &RingMessage, line: &
     put_host(line, slot, host);
     line.put_text(" read ");
     put_source(line, message.source);
-    line.put_text(" ");
-    line.put_number(message.number);
+    put_number(line, " ", message.number);
     line.put_text(" ");
     put_message(line, message);
     line.put_text("\n");
 }
 
-// Adds the digits of a payload.
-#[tactic(auto, using(ttp_base::proofs::Room::room))]
-fn put_payload(line: &mut Line, payload: &[u8])
-    requires room { length line.old + 480 ≤ 640 }
-    requires size { length payload.now ≤ 240 }
-    ensures text { line.new ≡ line.old ++ hex_bytes payload.now }
-    ensures short { length line.new ≤ length line.old + 480 }
-{
-    line.put_hex_bytes(payload);
-}
-
 /// The line of a message of a node that a host read, by the message's bytes.
-#[tactic(auto, using(ttp_base::proofs::Room::room))]
+#[tactic(auto, using(ttp_base::proofs::Room::room), unfolding(line_form::specs::Forms::worded))]
 pub(crate) fn make_payload_line(
     slot: u32,
     host: u8,
@@ -122,9 +110,7 @@ pub(crate) fn make_payload_line(
     put_host(line, slot, host);
     line.put_text(" read ");
     put_source(line, Source::Node(from));
-    line.put_text(" ");
-    line.put_number(number);
-    line.put_text(" ");
-    put_payload(line, payload);
+    put_number(line, " ", number);
+    put_payload(line, " ", payload);
     line.put_text("\n");
 }
