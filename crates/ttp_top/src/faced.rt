@@ -1,6 +1,7 @@
 //! The command `precision MEDL SCRIPT NODE`, once the list and the script are there.
-ghost use Rattle.std.specs.Prelude.{◌≡◌, ◌+◌, ◌≤◌, ◌++◌, length, decimal};
-ghost use Rattle.std.specs.Fmt.{signed_decimal};
+#![tactic(auto, unfolding(line_form::specs::Forms::worded))]
+
+ghost use Rattle.std.specs.Prelude.{◌≡◌};
 ghost use Rattle.ttp_world.specs.Medl.{IsValid};
 ghost use Rattle.ttp_world.specs.Script.{IsValidScript};
 ghost use Rattle.commands.specs.Outcome.{ShowsEnding};
@@ -10,32 +11,11 @@ ghost use Rattle.ttp_top.specs.Calls.Forms.{precision_ending};
 ghost use Rattle.ttp_top.specs.Calls.Precision.{faced_line, broken_line};
 
 use commands::say;
+use line_form::{put_number, put_signed};
 use std::alloc::Global;
 use ttp_base::{Line, Sink};
 use ttp_world::{Medl, Script};
 use two_faced::{Faced, Seen, bound, find_faced, find_seen};
-
-// Adds a text and a number behind it.
-#[tactic(auto, using(ttp_base::proofs::Room::room))]
-fn put_count(line: &mut Line, text: &str, count: u32)
-    requires { length line.old + length text.now + 20 ≤ 640 }
-    ensures text { line.new ≡ line.old ++ text.now ++ decimal count }
-    ensures short { length line.new ≤ length line.old + length text.now + 20 }
-{
-    line.put_text(text);
-    line.put_number(u64::from(count));
-}
-
-// Adds a text and a number of microticks behind it.
-#[tactic(auto, using(ttp_base::proofs::Room::room))]
-fn put_span(line: &mut Line, text: &str, span: i64)
-    requires { length line.old + length text.now + 20 ≤ 640 }
-    ensures text { line.new ≡ line.old ++ text.now ++ signed_decimal span }
-    ensures short { length line.new ≤ length line.old + length text.now + 20 }
-{
-    line.put_text(text);
-    line.put_signed(span);
-}
 
 // The line on a node that may be two-faced.
 fn faced_line(list: &Medl, node: u8, start: u32, seen: Seen) -> Line
@@ -43,11 +23,11 @@ fn faced_line(list: &Medl, node: u8, start: u32, seen: Seen) -> Line
     ensures { result ≡ faced_line list.now node start seen }
 {
     let mut line = Line::new();
-    put_count(&mut line, "precision node ", u32::from(node));
-    put_count(&mut line, " start ", start);
-    put_span(&mut line, " bound ", bound(list));
-    put_span(&mut line, " seen ", seen.value);
-    put_count(&mut line, " slot ", seen.slot);
+    put_number(&mut line, "precision node ", u64::from(node));
+    put_number(&mut line, " start ", u64::from(start));
+    put_signed(&mut line, " bound ", bound(list));
+    put_signed(&mut line, " seen ", seen.value);
+    put_number(&mut line, " slot ", u64::from(seen.slot));
     line.put_text("\n");
     line
 }
@@ -57,8 +37,8 @@ fn broken_line(rule: u8, slot: u32) -> Line
     ensures { result ≡ broken_line rule slot }
 {
     let mut line = Line::new();
-    put_count(&mut line, "precision no F", u32::from(rule));
-    put_count(&mut line, " ", slot);
+    put_number(&mut line, "precision no F", u64::from(rule));
+    put_number(&mut line, " ", u64::from(slot));
     line.put_text("\n");
     line
 }

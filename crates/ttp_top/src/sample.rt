@@ -1,5 +1,7 @@
 //! The command `sample MEDL SLOTS NUMBER`.
-ghost use Rattle.std.specs.Prelude.{◌≡◌, ◌+◌, ◌≤◌, [], ◌∷◌, ◌++◌, Some, None, length, decimal, OnOk, OnErr};
+#![tactic(auto, unfolding(line_form::specs::Forms::worded))]
+
+ghost use Rattle.std.specs.Prelude.{◌≡◌, ◌≤◌, [], ◌∷◌, Some, None, OnOk, OnErr};
 ghost use Rattle.ttp_base.specs.Outside.{WroteLines, CutShort};
 ghost use Rattle.ttp_world.specs.declared.script.TheConstants.{SLOT_LIMIT};
 ghost use Rattle.ttp_world.specs.Medl.{IsValid};
@@ -20,6 +22,7 @@ use crate::totals::{Totals, count_run};
 use cluster_run::Cluster;
 use commands::load_list;
 use hypothesis::keeps;
+use line_form::{put_hexed, put_number};
 use line_text::put_keep;
 use script_gen::generate;
 use std::alloc::Global;
@@ -28,24 +31,13 @@ use std::thread::Threads;
 use ttp_base::{Failed, Gate, Library, Line, Sink};
 use ttp_world::{Medl, Script};
 
-// Adds a text and a number behind it.
-#[tactic(auto, using(ttp_base::proofs::Room::room))]
-fn put_count(line: &mut Line, text: &str, count: u64)
-    requires { length line.old + length text.now + 20 ≤ 640 }
-    ensures text { line.new ≡ line.old ++ text.now ++ decimal count }
-    ensures short { length line.new ≤ length line.old + length text.now + 20 }
-{
-    line.put_text(text);
-    line.put_number(count);
-}
-
 // What was asked for.
 fn asked_line(slots: u32, number: u64) -> Line
     ensures { result ≡ asked_line slots number }
 {
     let mut line = Line::new();
-    put_count(&mut line, "sample slots ", u64::from(slots));
-    put_count(&mut line, " number ", number);
+    put_number(&mut line, "sample slots ", u64::from(slots));
+    put_number(&mut line, " number ", number);
     line.put_text("\n");
     line
 }
@@ -57,10 +49,10 @@ fn sent_line(list: &Medl, totals: &Totals) -> Line
 {
     let digits = if list.is_wide() { 6 } else { 4 };
     let mut line = Line::new();
-    put_count(&mut line, "sent ", totals.sent);
-    put_count(&mut line, " left ", totals.left);
-    line.put_text(" members ");
-    line.put_hex(u64::from(totals.members.bits()), digits);
+    put_number(&mut line, "sent ", totals.sent);
+    put_number(&mut line, " left ", totals.left);
+    let members = u64::from(totals.members.bits());
+    put_hexed(&mut line, " members ", members, digits);
     line.put_text("\n");
     line
 }
@@ -70,8 +62,8 @@ fn hosts_line(totals: &Totals) -> Line
     ensures { result ≡ hosts_line totals.now }
 {
     let mut line = Line::new();
-    put_count(&mut line, "writes ", totals.writes);
-    put_count(&mut line, " reads ", totals.reads);
+    put_number(&mut line, "writes ", totals.writes);
+    put_number(&mut line, " reads ", totals.reads);
     line.put_text("\n");
     line
 }
