@@ -1,35 +1,15 @@
 //! The line of an event.
-ghost use Rattle.std.specs.Prelude.{◌≡◌, ◌+◌, ◌≤◌, ◌++◌, length, decimal};
-ghost use Rattle.std.specs.Fmt.{signed_decimal};
+#![tactic(auto, using(ttp_base::proofs::Room::room), unfolding(crate::specs::ScriptLines::event_words, line_form::specs::Forms::worded))]
+
+ghost use Rattle.std.specs.Prelude.{◌≡◌, ◌+◌, ◌≤◌, ◌++◌, length};
 ghost use Rattle.ttp_world.specs.declared.script.Event.TheVariants as event;
 ghost use Rattle.ttp_world.specs.Trace.{source_word};
 ghost use Rattle.campaign.specs.CostText.{channels_word, kind_word, loss_words};
 ghost use Rattle.script_lines.specs.ScriptLines.{event_words, event_line};
 
+use line_form::{put_number, put_signed};
 use ttp_base::Line;
 use ttp_world::{Channels, Event, Fault, Payload, Source};
-
-/// Adds a text and a number behind it.
-#[tactic(auto, using(ttp_base::proofs::Room::room))]
-pub(crate) fn put_count(line: &mut Line, text: &str, number: u64)
-    requires { length line.old + length text.now + 20 ≤ 640 }
-    ensures text { line.new ≡ line.old ++ text.now ++ decimal number }
-    ensures short { length line.new ≤ length line.old + length text.now + 20 }
-{
-    line.put_text(text);
-    line.put_number(number);
-}
-
-/// Adds a text and a number behind it, which may have a sign.
-#[tactic(auto, using(ttp_base::proofs::Room::room))]
-pub(crate) fn put_value(line: &mut Line, text: &str, value: i64)
-    requires { length line.old + length text.now + 20 ≤ 640 }
-    ensures text { line.new ≡ line.old ++ text.now ++ signed_decimal value }
-    ensures short { length line.new ≤ length line.old + length text.now + 20 }
-{
-    line.put_text(text);
-    line.put_signed(value);
-}
 
 fn channels_word(channels: Channels) -> &'static str
     ensures text { result.now ≡ channels_word channels }
@@ -53,7 +33,6 @@ fn kind_word(fault: Fault) -> &'static str
 }
 
 // Adds the words of a loss.
-#[tactic(auto, using(ttp_base::proofs::Room::room))]
 fn put_loss(
     line: &mut Line,
     word: &str,
@@ -67,80 +46,74 @@ fn put_loss(
     ensures text { line.new ≡ line.old ++ loss_words word.now node channels fault from to }
     ensures short { length line.new ≤ length line.old + length word.now + 100 }
 {
-    put_count(line, word, u64::from(node));
+    put_number(line, word, u64::from(node));
     line.put_text(" ");
     line.put_text(channels_word(channels));
     line.put_text(" ");
     line.put_text(kind_word(fault));
-    put_count(line, " ", u64::from(from));
-    put_count(line, " ", u64::from(to));
+    put_number(line, " ", u64::from(from));
+    put_number(line, " ", u64::from(to));
 }
 
 // Adds those of a flipped bit.
-#[tactic(auto, unfolding(crate::specs::ScriptLines::event_words), using(ttp_base::proofs::Room::room))]
 fn put_flip(line: &mut Line, node: u8, channels: Channels, bit: u16, slot: u32)
     requires { length line.old + 100 ≤ 640 }
     ensures text { line.new ≡ line.old ++ event_words (event.Flip node channels bit slot) }
     ensures short { length line.new ≤ length line.old + 100 }
 {
-    put_count(line, "flip ", u64::from(node));
+    put_number(line, "flip ", u64::from(node));
     line.put_text(" ");
     line.put_text(channels_word(channels));
-    put_count(line, " ", u64::from(bit));
-    put_count(line, " ", u64::from(slot));
+    put_number(line, " ", u64::from(bit));
+    put_number(line, " ", u64::from(slot));
 }
 
 // Adds those of a reading error.
-#[tactic(auto, unfolding(crate::specs::ScriptLines::event_words), using(ttp_base::proofs::Room::room))]
 fn put_error(line: &mut Line, node: u8, value: i64, from: u32, to: u32)
     requires { length line.old + 100 ≤ 640 }
     ensures text { line.new ≡ line.old ++ event_words (event.Error node value from to) }
     ensures short { length line.new ≤ length line.old + 100 }
 {
-    put_count(line, "error ", u64::from(node));
-    put_value(line, " ", value);
-    put_count(line, " ", u64::from(from));
-    put_count(line, " ", u64::from(to));
+    put_number(line, "error ", u64::from(node));
+    put_signed(line, " ", value);
+    put_number(line, " ", u64::from(from));
+    put_number(line, " ", u64::from(to));
 }
 
 // Adds those of a jump.
-#[tactic(auto, unfolding(crate::specs::ScriptLines::event_words), using(ttp_base::proofs::Room::room))]
 fn put_jump(line: &mut Line, node: u8, value: i64, slot: u32)
     requires { length line.old + 100 ≤ 640 }
     ensures text { line.new ≡ line.old ++ event_words (event.Jump node value slot) }
     ensures short { length line.new ≤ length line.old + 100 }
 {
-    put_count(line, "jump ", u64::from(node));
-    put_value(line, " ", value);
-    put_count(line, " ", u64::from(slot));
+    put_number(line, "jump ", u64::from(node));
+    put_signed(line, " ", value);
+    put_number(line, " ", u64::from(slot));
 }
 
 // Adds those of a node that is armed.
-#[tactic(auto, unfolding(crate::specs::ScriptLines::event_words), using(ttp_base::proofs::Room::room))]
 fn put_arm(line: &mut Line, node: u8, slot: u32)
     requires { length line.old + 100 ≤ 640 }
     ensures text { line.new ≡ line.old ++ event_words (event.Arm node slot) }
     ensures short { length line.new ≤ length line.old + 100 }
 {
-    put_count(line, "arm ", u64::from(node));
-    put_count(line, " ", u64::from(slot));
+    put_number(line, "arm ", u64::from(node));
+    put_number(line, " ", u64::from(slot));
 }
 
 // Adds those of a message.
-#[tactic(auto, unfolding(crate::specs::ScriptLines::event_words), using(ttp_base::proofs::Room::room))]
 fn put_message(line: &mut Line, node: u8, slot: u32, payload: &Payload)
     requires { length line.old + 600 ≤ 640 }
     ensures text { line.new ≡ line.old ++ event_words (event.Write node slot payload.now) }
     ensures short { length line.new ≤ length line.old + 600 }
 {
-    put_count(line, "write ", u64::from(node));
-    put_count(line, " ", u64::from(slot));
+    put_number(line, "write ", u64::from(node));
+    put_number(line, " ", u64::from(slot));
     line.put_text(" ");
     line.put_hex_bytes(payload.bytes());
 }
 
 // Adds the word for what a host reads.
-#[tactic(auto, using(ttp_base::proofs::Room::room))]
 fn put_source(line: &mut Line, from: Source)
     requires { length line.old + 20 ≤ 640 }
     ensures text { line.new ≡ line.old ++ source_word from }
@@ -153,20 +126,18 @@ fn put_source(line: &mut Line, from: Source)
 }
 
 // Adds those of a read.
-#[tactic(auto, unfolding(crate::specs::ScriptLines::event_words), using(ttp_base::proofs::Room::room))]
 fn put_read(line: &mut Line, node: u8, slot: u32, from: Source)
     requires { length line.old + 100 ≤ 640 }
     ensures text { line.new ≡ line.old ++ event_words (event.Read node slot from) }
     ensures short { length line.new ≤ length line.old + 100 }
 {
-    put_count(line, "read ", u64::from(node));
-    put_count(line, " ", u64::from(slot));
+    put_number(line, "read ", u64::from(node));
+    put_number(line, " ", u64::from(slot));
     line.put_text(" ");
     put_source(line, from);
 }
 
 // Adds those of any event.
-#[tactic(auto, unfolding(crate::specs::ScriptLines::event_words))]
 fn put_words(line: &mut Line, event: &Event)
     requires { length line.old + 610 ≤ 640 }
     ensures text { line.new ≡ line.old ++ event_words event.now }

@@ -5,38 +5,39 @@ ghost use Rattle.ttp_world.specs.Script.{on_slot, drift_of};
 ghost use Rattle.script_lines.specs.ScriptLines.{slots_line, on_line, on_lines, drift_line, drift_lines};
 ghost use Rattle.script_lines.specs.ScriptLines.{all_on_lines, all_drift_lines, event_line, script_lines};
 
-use crate::event_line::{event_line, put_count, put_value};
+use crate::event_line::event_line;
+use line_form::{put_number, put_signed};
 use ttp_base::{Failed, Line, Sink};
 use ttp_world::{Event, Script};
 
-#[tactic(auto, unfolding(crate::specs::ScriptLines::slots_line))]
+#[tactic(auto, unfolding(crate::specs::ScriptLines::slots_line, line_form::specs::Forms::worded))]
 fn slots_line(count: u32) -> Line
     ensures { result ≡ slots_line count }
 {
     let mut line = Line::new();
-    put_count(&mut line, "slots ", u64::from(count));
+    put_number(&mut line, "slots ", u64::from(count));
     line.put_text("\n");
     line
 }
 
-#[tactic(auto, unfolding(crate::specs::ScriptLines::on_line))]
+#[tactic(auto, unfolding(crate::specs::ScriptLines::on_line, line_form::specs::Forms::worded))]
 fn on_line(node: usize, slot: u32) -> Line
     ensures { result ≡ on_line node slot }
 {
     let mut line = Line::new();
-    put_count(&mut line, "on ", node as u64);
-    put_count(&mut line, " ", u64::from(slot));
+    put_number(&mut line, "on ", node as u64);
+    put_number(&mut line, " ", u64::from(slot));
     line.put_text("\n");
     line
 }
 
-#[tactic(auto, unfolding(crate::specs::ScriptLines::drift_line))]
+#[tactic(auto, unfolding(crate::specs::ScriptLines::drift_line, line_form::specs::Forms::worded))]
 fn drift_line(node: usize, value: i64) -> Line
     ensures { result ≡ drift_line node value }
 {
     let mut line = Line::new();
-    put_count(&mut line, "drift ", node as u64);
-    put_value(&mut line, " ", value);
+    put_number(&mut line, "drift ", node as u64);
+    put_signed(&mut line, " ", value);
     line.put_text("\n");
     line
 }
