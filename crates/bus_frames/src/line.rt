@@ -13,28 +13,24 @@ ghost use Rattle.bus_frames.specs.FrameText.{spaced, byte_words, line_front, fra
 ghost use Rattle.bus_frames.specs.Standing.{IsAsLong, IsSendable};
 
 use crate::sending::Sending;
+use line_form::{put_hexed, put_number, put_payload, put_signed, put_word};
 use medium::Arrival;
 use ttp_base::Line;
 use ttp_frame::{Expect, FrameMatch, judge};
 use ttp_world::{CState, Channel, Medl, Script};
 
 /// The first line.
-#[tactic(auto, using(ttp_base::proofs::Room::room))]
+#[tactic(auto, unfolding(line_form::specs::Forms::worded))]
 pub(crate) fn head_line(list: &Medl, script: &Script) -> Line
     requires { IsValid list.now }
     ensures { result ≡ frame_head list.now script.now }
 {
     let mut line = Line::new();
-    line.put_text("ttplab frames ");
-    put_small(&mut line, list.version);
-    line.put_text(" nodes ");
-    put_small(&mut line, list.nodes());
-    line.put_text(" rounds ");
-    put_small(&mut line, list.rounds);
-    line.put_text(" slots ");
-    line.put_number(u64::from(script.slots));
-    line.put_text(" schedule ");
-    line.put_hex(u64::from(list.schedule), 6);
+    put_number(&mut line, "ttplab frames ", u64::from(list.version));
+    put_number(&mut line, " nodes ", u64::from(list.nodes()));
+    put_number(&mut line, " rounds ", u64::from(list.rounds));
+    put_number(&mut line, " slots ", u64::from(script.slots));
+    put_hexed(&mut line, " schedule ", u64::from(list.schedule), 6);
     line.put_text("\n");
     line
 }
@@ -72,16 +68,6 @@ fn match_word(found: FrameMatch) -> &'static str
     }
 }
 
-// A number of a byte, whose digits are few.
-#[tactic(auto, using(ttp_base::proofs::Room::room))]
-fn put_small(line: &mut Line, number: u8)
-    requires { length line.old + 3 ≤ 640 }
-    ensures text { line.new ≡ line.old ++ decimal number }
-    ensures short { length line.new ≤ length line.old + 3 }
-{
-    line.put_number(u64::from(number));
-}
-
 // Adds the digits of a C-state, which are those of its bytes.
 #[tactic(auto, using(ttp_base::proofs::Room::room))]
 fn put_state(line: &mut Line, wide: bool, c: &CState)
@@ -101,23 +87,20 @@ fn put_state(line: &mut Line, wide: bool, c: &CState)
 }
 
 // Adds the words up to the sender.
-#[tactic(auto, using(ttp_base::proofs::Room::room))]
+#[tactic(auto, using(ttp_base::proofs::Room::room), unfolding(line_form::specs::Forms::worded))]
 fn put_place(line: &mut Line, slot: u32, channel: Channel, node: u8)
     requires room { length line.old ≡ 0 }
     ensures text { line.new ≡ codes "slot " ++ decimal slot ++ codes " " ++ channel_letter channel
         ++ codes " node " ++ decimal node }
     ensures short { length line.new ≤ 36 }
 {
-    line.put_text("slot ");
-    line.put_number(u64::from(slot));
-    line.put_text(" ");
-    line.put_text(channel_letter(channel));
-    line.put_text(" node ");
-    put_small(line, node);
+    put_number(line, "slot ", u64::from(slot));
+    put_word(line, " ", channel_letter(channel));
+    put_number(line, " node ", u64::from(node));
 }
 
 // Adds a clock and a C-state.
-#[tactic(auto, using(ttp_base::proofs::Room::room))]
+#[tactic(auto, using(ttp_base::proofs::Room::room), unfolding(line_form::specs::Forms::worded))]
 fn put_sender(line: &mut Line, wide: bool, clock: i64, state: &CState)
     requires room { length line.old ≤ 60 }
     requires members { set_bits state.now.members < 2 ^ (8 * member_bytes wide) }
@@ -125,14 +108,13 @@ fn put_sender(line: &mut Line, wide: bool, clock: i64, state: &CState)
         ++ codes " state " ++ hex_bytes (cstate_bytes (member_bytes wide) state.now) }
     ensures short { length line.new ≤ length line.old + 48 }
 {
-    line.put_text(" clock ");
-    line.put_signed(clock);
+    put_signed(line, " clock ", clock);
     line.put_text(" state ");
     put_state(line, wide, state);
 }
 
 // Adds the words of a line before its bytes.
-#[tactic(auto, using(ttp_base::proofs::Room::room))]
+#[tactic(auto, using(ttp_base::proofs::Room::room), unfolding(line_form::specs::Forms::worded))]
 fn put_front(
     line: &mut Line,
     list: &Medl,
@@ -148,23 +130,20 @@ fn put_front(
     ensures short { length line.new ≤ 100 }
 {
     put_place(line, slot, channel, sending.node);
-    line.put_text(" ");
-    line.put_text(frame_kind(sending.header));
-    line.put_text(" ");
-    line.put_text(word);
+    put_word(line, " ", frame_kind(sending.header));
+    put_word(line, " ", word);
     put_sender(line, list.is_wide(), sending.clock, &sending.state);
 }
 
 // Adds the digits of bytes behind a space; nothing where there are none.
-#[tactic(auto, using(ttp_base::proofs::Room::room))]
+#[tactic(auto, using(ttp_base::proofs::Room::room), unfolding(line_form::specs::Forms::worded))]
 fn put_spaced(line: &mut Line, bytes: &[u8])
     requires { length line.old + 1 + 2 * length bytes.now ≤ 640 }
     ensures text { line.new ≡ line.old ++ spaced bytes.now }
     ensures short { length line.new ≤ length line.old + 1 + 2 * length bytes.now }
 {
     if !bytes.is_empty() {
-        line.put_text(" ");
-        line.put_hex_bytes(bytes);
+        put_payload(line, " ", bytes);
     }
 }
 
