@@ -5,9 +5,9 @@ ghost use Rattle.campaign.specs.Lines.{counts_line};
 ghost use Rattle.whole_campaign.specs.Due.{no_runs, as_count, with_run, with_fault_counted};
 ghost use Rattle.whole_campaign.specs.Steps.{CanCount};
 
-use crate::labelled::put_labelled;
 use crate::shown::{FaultShown, Piece};
 use campaign::Counts;
+use line_form::put_number;
 use ttp_base::Line;
 
 /// The counts of no runs.
@@ -63,17 +63,18 @@ pub(crate) fn with_fault_counted(fault: &FaultShown, piece: &Piece) -> Piece
 }
 
 /// Whether a line is that of these counts, under a name of at most seven bytes.
+#[tactic(auto, using(std::proofs::Common::append_assoc), unfolding(line_form::specs::Forms::worded))]
 pub(crate) fn is_counts_line(name: &str, counts: &Counts, line: &[u8]) -> bool
     requires { length name.now ≤ 7 }
     ensures { result ≡ bytes_eq line.now (counts_line name.now counts.now) }
 {
     let mut due = Line::new();
-    put_labelled(&mut due, name, counts.runs);
-    put_labelled(&mut due, " same ", counts.same);
-    put_labelled(&mut due, " hurt ", counts.hurt);
-    put_labelled(&mut due, " split ", counts.split);
-    put_labelled(&mut due, " torn ", counts.torn);
-    put_labelled(&mut due, " dead ", counts.dead);
+    put_number(&mut due, name, counts.runs);
+    put_number(&mut due, " same ", counts.same);
+    put_number(&mut due, " hurt ", counts.hurt);
+    put_number(&mut due, " split ", counts.split);
+    put_number(&mut due, " torn ", counts.torn);
+    put_number(&mut due, " dead ", counts.dead);
     due.put_text("\n");
     line == due.bytes()
 }

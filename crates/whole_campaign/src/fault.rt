@@ -9,13 +9,13 @@ ghost use Rattle.whole_campaign.specs.Faults.{fault_words_in, spot_in, is_spot_d
 
 use crate::cost::cost_in;
 use crate::cut::word_behind;
-use crate::labelled::put_labelled;
 use crate::listed::{node_numeral, slot_numeral};
 use crate::own::Frame;
 use crate::run_words::{RunWords, run_words_in};
 use crate::shown::{Doing, FaultShown, Piece};
 use crate::spot::Spot;
 use crate::test::{is_same_test, test_in, test_says_yes};
+use line_form::put_number;
 use line_text::{after_label, numeral_in};
 use std::marker::Model;
 use ttp_base::Line;
@@ -100,7 +100,7 @@ fn put_loss(line: &mut Line, place: u8)
 }
 
 // Whether a fault is the loss of this spot, in a run of so many slots.
-#[tactic(auto, unfolding(crate::specs::Faults::is_loss_of))]
+#[tactic(auto, unfolding(crate::specs::Faults::is_loss_of, line_form::specs::Forms::worded))]
 fn is_loss_of(slots: u32, spot: &Spot, words: &[u8]) -> bool
     requires slots { 1 ≤ slots }
     requires loss { spot.now.place < 12 }
@@ -108,10 +108,10 @@ fn is_loss_of(slots: u32, spot: &Spot, words: &[u8]) -> bool
 {
     let end = loss_end(slots, spot.slot, spot.place);
     let mut due = Line::new();
-    put_labelled(&mut due, doing_label(spot.doing), u64::from(spot.node));
+    put_number(&mut due, doing_label(spot.doing), u64::from(spot.node));
     put_loss(&mut due, spot.place);
-    put_labelled(&mut due, " ", u64::from(spot.slot));
-    put_labelled(&mut due, " ", u64::from(end));
+    put_number(&mut due, " ", u64::from(spot.slot));
+    put_number(&mut due, " ", u64::from(end));
     words == due.bytes()
 }
 

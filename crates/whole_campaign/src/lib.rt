@@ -26,7 +26,6 @@ mod cut;
 mod due;
 mod fault;
 mod head;
-mod labelled;
 mod listed;
 mod own;
 mod place;
