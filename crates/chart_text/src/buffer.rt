@@ -1,7 +1,7 @@
 //! A line with a text of the campaign in it.
 #![tactic(auto)]
 
-ghost use Rattle.std.specs.Prelude.{◌≡◌, ◌+◌, ◌≤◌, [], ◌++◌, length, IfOk, take, drop, replicate};
+ghost use Rattle.std.specs.Prelude.{◌≡◌, ◌+◌, ◌≤◌, [], ◌++◌, length, IfOk};
 
 use std::alloc::Global;
 use std::marker::Model;
@@ -23,15 +23,6 @@ impl Model for Buffer {
     ghost view = { λ b. record { text = take b.len b.bytes.items; room = length b.bytes.items } };
 
     ghost invariant = { λ b. b.len ≤ length b.bytes.items };
-}
-
-// Writes a piece into bytes from a place on.
-fn put_at(bytes: &mut [u8], at: usize, piece: &[u8])
-    requires { at + length piece.now ≤ length bytes.old }
-    ensures { bytes.new ≡ take at bytes.old ++ piece.now ++ drop (at + length piece.now) bytes.old }
-{
-    let end = at + piece.len();
-    bytes[at..end].copy_from_slice(piece);
 }
 
 impl Buffer {
@@ -67,7 +58,8 @@ impl Buffer {
         ensures room { self.new.room ≡ self.old.room }
     {
         let start = self.len;
-        put_at(&mut self.bytes, start, piece);
-        self.len = start + piece.len();
+        let end = start + piece.len();
+        self.bytes[start..end].copy_from_slice(piece);
+        self.len = end;
     }
 }
