@@ -1,22 +1,12 @@
 //! The slot table of one cluster cycle.
-ghost use Rattle.std.specs.Prelude.{◌≡◌, ◌+◌, ◌<◌, ◌≤◌, ◌++◌, length, decimal, OnOk, OnErr};
+ghost use Rattle.std.specs.Prelude.{◌≡◌, ◌<◌, ◌≤◌, length, OnOk, OnErr};
 ghost use Rattle.ttp_base.specs.Outside.{WroteLines, CutShort};
 ghost use Rattle.ttp_world.specs.Medl.{IsValid, payload_length};
 ghost use Rattle.medl_text.specs.Schedule.{letter_of, yes_or_no, table_head, slot_line, round_lines, slot_table};
 
+use line_form::{put_hexed, put_number, put_word};
 use ttp_base::{Failed, Line, Sink};
 use ttp_world::{Kind, Medl};
-
-// Adds a number below 256. That it fits is proved here once: beside ten more texts of a line the search
-// for it gives up.
-#[tactic(auto, using(ttp_base::proofs::Room::room))]
-fn put_small(line: &mut Line, number: u8)
-    requires { length line.old + 3 ≤ 640 }
-    ensures text { line.new ≡ line.old ++ decimal number }
-    ensures short { length line.new ≤ length line.old + 3 }
-{
-    line.put_number(u64::from(number));
-}
 
 fn letter_of(kind: Kind) -> &'static str
     ensures text { result.now ≡ letter_of kind }
@@ -36,20 +26,16 @@ fn yes_or_no(answer: bool) -> &'static str
     if answer { "yes" } else { "no" }
 }
 
-#[tactic(auto, unfolding(crate::specs::Schedule::table_head))]
+#[tactic(auto, unfolding(crate::specs::Schedule::table_head, line_form::specs::Forms::worded))]
 fn head_line(list: &Medl) -> Line
     requires { IsValid list.now }
     ensures { result ≡ table_head list.now }
 {
     let mut line = Line::new();
-    line.put_text("ttpbench schedule ");
-    put_small(&mut line, list.version);
-    line.put_text(" nodes ");
-    put_small(&mut line, list.nodes());
-    line.put_text(" rounds ");
-    put_small(&mut line, list.rounds);
-    line.put_text(" schedule ");
-    line.put_hex(u64::from(list.schedule), 6);
+    put_number(&mut line, "ttpbench schedule ", u64::from(list.version));
+    put_number(&mut line, " nodes ", u64::from(list.nodes()));
+    put_number(&mut line, " rounds ", u64::from(list.rounds));
+    put_hexed(&mut line, " schedule ", u64::from(list.schedule), 6);
     line.put_text("\n");
     line
 }
@@ -67,7 +53,7 @@ fn payload_length(list: &Medl, round: u8, slot: u8) -> u8
     }
 }
 
-#[tactic(auto, unfolding(crate::specs::Schedule::slot_line))]
+#[tactic(auto, unfolding(crate::specs::Schedule::slot_line, line_form::specs::Forms::worded))]
 fn slot_line(list: &Medl, round: u8, slot: u8) -> Line
     requires valid { IsValid list.now }
     requires round { round < list.now.rounds }
@@ -76,18 +62,13 @@ fn slot_line(list: &Medl, round: u8, slot: u8) -> Line
 {
     let plan = list.slots.get(slot as usize);
     let mut line = Line::new();
-    line.put_text("round ");
-    put_small(&mut line, round);
-    line.put_text(" slot ");
-    put_small(&mut line, slot);
-    line.put_text(" kind ");
-    line.put_text(letter_of(list.kind_at(round, slot)));
-    line.put_text(" data ");
-    put_small(&mut line, payload_length(list, round, slot));
-    line.put_text(" sync ");
-    line.put_text(yes_or_no(plan.sync));
-    line.put_text(" start ");
-    line.put_text(yes_or_no(plan.start));
+    let size = payload_length(list, round, slot);
+    put_number(&mut line, "round ", u64::from(round));
+    put_number(&mut line, " slot ", u64::from(slot));
+    put_word(&mut line, " kind ", letter_of(list.kind_at(round, slot)));
+    put_number(&mut line, " data ", u64::from(size));
+    put_word(&mut line, " sync ", yes_or_no(plan.sync));
+    put_word(&mut line, " start ", yes_or_no(plan.start));
     line.put_text("\n");
     line
 }
