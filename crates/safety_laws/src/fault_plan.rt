@@ -21,8 +21,8 @@
 //! and `Ledgers.antt`.
 //!
 //! The module has no code that does anything: its functions are laws, and worked cases that the check
-//! computes: in `src/worked_plan.rt` an incident of each kind, and a node that returns. It does not say
-//! what a node does; that the controllers' members and counts are those of the plan is for the crates
+//! computes: in `src/fault_plan/worked_plan.rt` an incident of each kind, and a node that returns. It does not
+//! say what a node does; that the controllers' members and counts are those of the plan is for the crates
 //! above to show.
 #![tactic(auto, unfolding(ttp_base::specs::NodeSet::with_node))]
 

@@ -22,8 +22,8 @@
 //! lost since a slot, and not armed since; or armed less than four rounds ago, so that it listens until its
 //! entry and is sound from then on. `proofs/BackHearing.antt` and `BackSlots.antt` say who hears whom,
 //! `BackGood.antt` that the plan is good, `Offers.antt` by which frame a node enters, and
-//! `ReturnedPlan.antt` that the plan is that of the test's faulty nodes. `src/worked_case.rt` is a script
-//! that arms a node, with its plan.
+//! `ReturnedPlan.antt` that the plan is that of the test's faulty nodes. `src/rejoin/worked_case.rt` is a
+//! script that arms a node, with its plan.
 //!
 //! The module has no code that does anything: its functions are laws. Of the theory it alone knows the eight
 //! rules, and it proves nothing of frames, members or clocks itself.

@@ -1,11 +1,11 @@
 //! The lines of a slot: [`put_slot`] writes all of them from the slot's report.
 //!
 //! The lines themselves are line_text's, which needs no report. A report's read lines hold pairs of words as a
-//! ring gave them, so this crate stands on host_port. `put_next` of ttp_top writes a slot once a cluster has
-//! done it:
+//! ring gave them, so this crate stands on host_port. `told` in `trace.rt` of ttp_top writes a slot once a
+//! cluster has done it:
 //!
 //! ```text
-//! match put_slot(cluster.list(), cluster.report(), lines, out) {
+//! match put_slot(list, report, &mut self.lines, out) {
 //!     Ok(()) => Ok(()),
 //!     Err(Failed) => Err(RunFault::Failed),
 //! }
