@@ -14,9 +14,6 @@ high v = omega arith
 low : (v : ℕ) → v % 16 ≡ v % 256 % 16
 low v = omega arith
 
-shift : (v : ℕ) → v / 16 / 16 ≡ v / 256
-shift v = omega arith
-
 next-high : (v : ℕ) → v / 16 / 16 / 16 % 16 ≡ v / 256 % 256 / 16
 next-high v = omega arith
 

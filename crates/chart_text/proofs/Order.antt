@@ -107,14 +107,7 @@ pub passed-here : (t : ℕ) (old new rest : List FaultTold) (x : FaultTold) → 
 passed-here t old new rest x is to here =
     ap (faults_told_in t) is ∙ same-slot t x rest here ∙ ap (λ (ys : List FaultTold). x ∷ faults_told_in t ys) (sym to)
 
--- the order reaches the slot of the first, and none is left of a slot that it passed
-pub reached : (s t : ℕ) (old rest : List FaultTold) (x : FaultTold) → old ≡ x ∷ rest → in_order_from s old ≡ true
-    → t ≤ x.shown.slot
-    → in_order_from t old ≡ true
-reached s t old rest x is order from =
-    subst (λ (ys : List FaultTold). in_order_from t ys ≡ true) (sym is)
-    (order-reached s t x rest (subst (λ (ys : List FaultTold). in_order_from s ys ≡ true) is order) from)
-
+-- none is left of a slot that the order passed
 pub none-left : (s : ℕ) (old rest : List FaultTold) (x : FaultTold) → old ≡ x ∷ rest → in_order_from s old ≡ true
     → x.shown.slot ≢ s
     → faults_told_in s old ≡ []

@@ -54,12 +54,6 @@ pub large_value : (text : List ℕ) → nat_lt list_limit (length text) ≡ true
 unfolding list_from
 large_value text large = rw large refl
 
--- nothing is wrong with it
-pub right_wrongs : (text : List ℕ) (wrongs : List Wrong) (found : Option Medl) → ListAgrees wrongs (medl_of text)
-    → IfSome found (λ list. medl_of text ≡ Ok list) → IfSome found (λ list. wrongs ≡ [])
-right_wrongs text wrongs (Some list) agrees some = subst (ListAgrees wrongs) some agrees
-right_wrongs text wrongs None agrees some = tt
-
 -- the lines on a list
 pub side_is : (name text : List ℕ) (wrongs : List Wrong) (rounds modes : Option ℕ) (places : List Place)
     (stop : Option Stop) (words : List ℕ) → wrongs ≡ list_wrongs text → rounds ≡ rounds_said text

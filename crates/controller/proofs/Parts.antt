@@ -1,7 +1,7 @@
 -- A pass over a part of a cluster's nodes: each element is written once.
 use Rattle.controller.proofs.Words.{◌≡◌, ◌≢◌, ℕ, zero, suc, ◌+◌, ◌-◌, ◌<◌, ◌≤◌, List, [], ◌∷◌, ◌++◌, length, get_or}
 use Rattle.controller.proofs.Words.{set, Some, refl, sym, ap, ◌∙◌, subst, arith, slice_get, slice_get_within, same_Some}
-use Rattle.controller.proofs.Words.{none-some, ⊎_elim, below_more, cases_lt, length-set, same_lists}
+use Rattle.controller.proofs.Words.{⊎_elim, below_more, cases_lt, length-set, same_lists}
 use Rattle.controller.proofs.Words.{get_or_from_slice_get, slice_get-get_or, slice_get-set_same}
 use Rattle.controller.specs.Parts.{EachFrom}
 
@@ -88,9 +88,6 @@ all-copied {new = new} from passed all count =
 pub each-of : {X : Type 0} {P : ℕ → X → Type 0} {xs : List X} {x : X} → EachFrom 0 P xs → (k : ℕ)
     → slice_get xs k ≡ Some x → P k x
 each-of {P = P} {x = x} all k here = subst (λ (n : ℕ). P n x) (omega arith) (all.each k x here)
-
-pub each-none : {X : Type 0} {first : ℕ} {P : ℕ → X → Type 0} → EachFrom first P []
-each-none = record { each = λ k x here. absurd (none-some x here) }
 
 -- Two parts of the nodes, one after the other.
 

@@ -1,5 +1,5 @@
 -- Each step keeps the rule.
-use Rattle.std.proofs.Common.{◌≡◌, ◌≢◌, ℕ, zero, suc, ◌<◌, List, [], ◌∷◌, ◌++◌, ◌⊎◌, set, get_or, eqb, replicate}
+use Rattle.std.proofs.Common.{◌≡◌, ◌≢◌, ℕ, zero, suc, ◌<◌, List, [], ◌∷◌, ◌⊎◌, get_or, eqb}
 use Rattle.std.proofs.Common.{refl, sym, ap, subst, inl, inr, ⊎_elim, arith, Option, Some, None}
 use mathlib.Core.Option.{none, some, some-ne-none, some-injective}
 use mathlib.Core.Option as maybe
@@ -7,7 +7,7 @@ use lib.ListN.{get_elem?}
 use prog.Atomic.{either}
 use Rattle.atomic_table.proofs.Lists.{set_again, exchanged}
 use Rattle.atomic_table.specs.Table.{State, Me, Act, keeps, takes, gives, Valid, stepped}
-use Rattle.atomic_table.specs.Table.{carried_after, Allows, Splits, opening}
+use Rattle.atomic_table.specs.Table.{carried_after, Allows}
 use Rattle.errand.specs.declared.note.Note.{Note}
 use Rattle.errand.specs.declared.note.Role.{Role}
 use Rattle.errand.specs.declared.note.Role.TheVariants.{Alone, Fresh, Gives, Awaits, Stopped, Works, Ended}
@@ -63,9 +63,6 @@ module _ {J : Type 0} where
         (λ x. subst (λ (t : S). get_elem? t.views id ≡ some me.0 → Goes t id i me f then) (sym x.8)
         (both x.0 x.1 x.2 x.3 x.4 x.5 x.6 x.7 x.9) at)
         holds
-
-    pub opens : Turns needs does (opening (0 ∷ 0 ∷ 0 ∷ []) (replicate 1 None) (note Alone None))
-    opens = inl refl
 
     not_alone : (id : ℕ) (v : Note J) → number v.role ≢ 0 → get_elem? (note Alone None ∷ []) id ≡ some v → ⊥
     not_alone zero v other at = other (sym (ap (λ (u : Note J). number u.role) (some-injective _ _ at)))
@@ -135,36 +132,6 @@ module _ {J : Type 0} where
             subst (λ (u : Note J). Stage needs does m h r a u.role u.job → Goes (paired m p q h (note r a) u) 1 i (v, c)
             f then) (sym (some-injective _ _ at)) (goes m p q h r a) stage
         at_place (suc (suc id)) m p q h r a w b stage at = absurd (some-ne-none _ (sym at))
-
-    hire_one : (id : ℕ) → get_elem? {A = Note J} (note Alone None ∷ []) id ≡ some (note Alone None)
-        → Turns needs does record {
-          words = 0 ∷ 0 ∷ 0 ∷ [];
-          homes = some None ∷ [];
-          views = set (note Alone None ∷ []) id (note Fresh None) ++ note Works None ∷ [];
-        }
-    hire_one zero at = inr (0, 0, 0, some None, Fresh, None, Works, None, refl, (refl, refl, refl, refl))
-    hire_one (suc id) at = absurd (some-ne-none _ (sym at))
-
-    hire_none : (id : ℕ) (m : ℕ) (h : maybe.Option (Option J)) (r : Role) (a : Option J) (w : Role) (b : Option J)
-        → Stage needs does m h r a w b → get_elem? (note r a ∷ note w b ∷ []) id ≡ some (note Alone None) → ⊥
-    hire_none zero m h r a w b stage at =
-        subst (λ (u : Note J). Stage needs does m h u.role u.job w b) (some-injective _ _ at) stage
-    hire_none (suc zero) m h r a w b stage at = let e = ap (λ (u : Note J). number u.role) (some-injective _ _ at) in
-        let second = works-second m h r a w b stage in absurd (omega (arith, e, second))
-    hire_none (suc (suc id)) m h r a w b stage at = some-ne-none _ (sym at)
-
-    pub hires : (id : ℕ) → Splits (Turns needs does) id (note Alone None) (note Fresh None) (note Works None)
-    hires id s holds at = ⊎_elim
-        (λ (e : s ≡ alone). subst
-        (λ (t : S). get_elem? t.views id ≡ some (note Alone None)
-        → Turns needs does record {
-          words = t.words;
-          homes = t.homes;
-          views = set t.views id (note Fresh None) ++ note Works None ∷ [];
-        }) (sym e) (hire_one id) at)
-        (λ x. absurd (hire_none id x.0 x.3 x.4 x.5 x.6 x.7 x.9
-        (subst (λ (t : S). get_elem? t.views id ≡ some (note Alone None)) x.8 at)))
-        holds
 
     -- the giver begins: it takes the slot
     pub begins : (n id : ℕ) (me : Me (Option J) (Note J)) → me ≡ bare Fresh None

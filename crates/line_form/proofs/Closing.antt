@@ -31,15 +31,7 @@ read_word label k form before next after v vs value left rest = record {
   left_is = rest.left_is ∙ ap (left_of form) left;
 }
 
--- the answer of a reader
-pub closes : {T : Type 0} (form : LineForm) (f : T → Values form) (bytes : List ℕ) (left : Option (List ℕ)) (v : T)
-    → (result : Option T) → result ≡ closed_line left v → ReadAs form (Some bytes) left (f v)
-    → option_map f result ≡ line_values form bytes
-closes form f bytes left v result is read =
-    ap (option_map f) is ∙ map_closed f left v ∙ ap (λ l. closed_line l (f v)) read.left_is
-    ∙ ap (closed_line (left_of form (Some bytes))) read.values_are
-
--- .. that is read on
+-- the answer of a reader that reads on
 pub closes_on : {B : Type 0} (form : LineForm) (f : Values form → Option B) (bytes : List ℕ) (left : Option (List ℕ))
     → (vs : Values form) → ReadAs form (Some bytes) left vs
     → (closed_line left vs >>= f) ≡ (line_values form bytes >>= f)

@@ -1,7 +1,7 @@
 -- The laws of lines, over all descriptions.
 use Rattle.std.proofs.Common.{◌≡◌, ℕ, Bool, true, false, cond, ◌&&◌, ◌||◌, not}
 use Rattle.std.proofs.Common.{List, [], ◌∷◌, ◌++◌, length, Option, Some, None}
-use Rattle.std.proofs.Common.{refl, sym, ap, subst, ◌∙◌, arith, append_assoc}
+use Rattle.std.proofs.Common.{refl, sym, ap, ◌∙◌, arith, append_assoc}
 use Rattle.std.specs.Prelude.{◌==◌, is_some, unwrap_or, IfSome}
 use Rattle.std.proofs.lemmas.Bool.{and_parts, eqb-true}
 use Rattle.std.proofs.lemmas.List.{append-nil}
@@ -13,7 +13,7 @@ use Rattle.line_form.specs.Forms.{LineForm, Values, spelled_before, spelled, spe
 use Rattle.line_form.specs.Forms.{fit, is_free, starts_with_space}
 use Rattle.line_form.specs.Forms.{goes_on, well, labelled, next_word, left_behind, field_word}
 use Rattle.line_form.specs.Forms.{no_value, field_value, past, front_word}
-use Rattle.line_form.specs.Forms.{behind_word, values_in, left_of, is_end, closed_line, line_values, ReadsLine}
+use Rattle.line_form.specs.Forms.{behind_word, values_in, left_of, is_end, closed_line, line_values}
 use Rattle.line_form.proofs.Tests.{both_true, is_not, some_same, behind_prefix-takes, behind_prefix-again}
 use Rattle.line_form.proofs.KindLaws.{lacks, again}
 use Rattle.line_form.proofs.ReadLaws.{takes}
@@ -215,12 +215,3 @@ pub reads-found : (form : LineForm) (bytes : List ℕ)
     → IfSome (line_values form bytes) (λ v. (fit form v ≡ true) × (bytes ≡ spelled form v))
 unfolding closed_line
 reads-found form bytes = found_by form bytes (is_end (left_of form (Some bytes))) refl
-
--- the contract of a reader, from what it computes
-pub reads : (form : LineForm) (bytes : List ℕ) (values : Option (Values form)) → well form ≡ true
-    → values ≡ line_values form bytes → ReadsLine form bytes values
-reads form bytes values is e = record {
-  found = subst (λ (r : Option (Values form)). IfSome r (λ v. (fit form v ≡ true) × (bytes ≡ spelled form v))) (sym e)
-      (reads-found form bytes);
-  only = λ v fits_all text. e ∙ ap (line_values form) text ∙ read_again form v is fits_all;
-}

@@ -101,10 +101,6 @@ no_dash k text v none e =
     false_from_ne_true (bytes_eq (codes "-") text)
     (λ same. not_some (read k (codes "-")) v none (ap (read k) (same_text (codes "-") text same) ∙ e))
 
-first_of : List (List ℕ) → List ℕ
-first_of [] = []
-first_of (word ∷ words) = word
-
 -- nor is a list of values
 no_list : (k : Kind) (v : Value k) (words : List (List ℕ)) → is_none (read k (codes "-")) ≡ true
     → read k (spell k v) ≡ Some v → parted 44 (joined_by 44 (spell k v ∷ words)) ≡ spell k v ∷ words

@@ -13,7 +13,6 @@ use Rattle.line_form.specs.Forms.{labelled, next_word, closed_line, line_values,
 use Rattle.line_form.specs.Forms.{EachFits}
 use Rattle.line_form.proofs.FormLaws.{none_left, taken}
 use Rattle.line_form.proofs.NumberWords.{same_text}
-use Rattle.line_form.proofs.Tests.{both_true}
 
 differ : (label other rest : List ℕ) → labels_part label other ≡ true → take (length label) (other ++ rest) ≡ label → ⊥
 differ [] other rest e is = cc
@@ -112,7 +111,3 @@ pub each_fits : (form : LineForm) (vs : Values form) → fit form vs ≡ true �
 each_fits [] vs fits = tt
 each_fits (f ∷ form) (v, vs) fits =
     let t = and_parts (fits_kind f.kind v) (fit form vs) fits in (t.0, each_fits form vs t.1)
-
-pub all_fit : (form : LineForm) (vs : Values form) → EachFits form vs → fit form vs ≡ true
-all_fit [] vs fits = refl
-all_fit (f ∷ form) (v, vs) fits = both_true (fits_kind f.kind v) (fit form vs) fits.0 (all_fit form vs fits.1)

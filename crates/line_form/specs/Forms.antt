@@ -1,5 +1,5 @@
 -- A line as data: labels, and a word of a kind behind each. How it is spelled and read.
-use Rattle.std.specs.Prelude.{◌≡◌, ℕ, ◌+◌, ◌==◌, ◌<◌, pos, Bool, true, false, ◌&&◌, ◌||◌, not, IfSome}
+use Rattle.std.specs.Prelude.{◌≡◌, ℕ, ◌+◌, ◌==◌, ◌<◌, pos, Bool, true, false, ◌&&◌, ◌||◌, not}
 use Rattle.std.specs.Prelude.{List, [], ◌∷◌, ◌++◌, length, Option, Some, None, unwrap_or, is_some, if◌then◌else◌}
 use Rattle.std.specs.Str.{bytes_eq}
 use Rattle.ttp_base.specs.Text.{newline}
@@ -142,11 +142,6 @@ closed_line left v = if is_end left then Some v else None
 -- the values of a line
 abbrev pub line_values : (form : LineForm) → List ℕ → Option (Values form)
 line_values form bytes = closed_line (left_of form (Some bytes)) (values_in form (Some bytes))
-
--- the result is the value of the line that the bytes are, if they are one, and there is no other
-pub record ReadsLine (form : LineForm) (bytes : List ℕ) (values : Option (Values form)) : Type 0 where
-  pub found : IfSome values (λ v. (fit form v ≡ true) × (bytes ≡ spelled form v))
-  pub only : (v : Values form) → fit form v ≡ true → bytes ≡ spelled form v → values ≡ Some v
 
 -- Two lines begin alike, as far as their labels and numbers go, and then have labels of which none begins as the other.
 

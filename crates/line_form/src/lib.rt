@@ -25,8 +25,8 @@
 //! line.close(HostWrite { slot, host, number })
 //! ```
 //!
-//! The contract of such a writer is `line.new ≡ line.old ++ spelled_line write_form (write_values v.now)`, that of such a reader
-//! `ReadsLine write_form bytes.now (option_map write_values result)`. `proofs/Putting.antt` and `proofs/Closing.antt` have the
+//! The contract of such a writer is `line.new ≡ line.old ++ spelled_line write_form (write_values v.now)`. That of such a reader
+//! says how its result comes from `line_values write_form bytes.now`. `proofs/Putting.antt` and `proofs/Closing.antt` have the
 //! rules by which each is found, field by field.
 //!
 //! The crate knows no line of its own, and nothing of TTP/C. It takes no memory, and writes to no sink.

@@ -1,9 +1,8 @@
 -- A file that is read line by line.
-use Rattle.std.proofs.Common.{◌≡◌, ℕ, suc, ◌+◌, ◌<◌, ◌≤◌, ◌&&◌, ◌==◌, Bool, true}
+use Rattle.std.proofs.Common.{◌≡◌, ℕ, suc, ◌+◌, ◌<◌, ◌≤◌, Bool, true}
 use Rattle.std.proofs.Common.{false, List, [], ◌∷◌, ◌++◌, length, get_or}
-use Rattle.std.proofs.Common.{ap, sym, ◌∙◌, refl, arith, add-one, append_assoc, map}
+use Rattle.std.proofs.Common.{ap, sym, ◌∙◌, arith, add-one, append_assoc, map}
 use Rattle.std.specs.Prelude.{vec_len, slice_index, if◌then◌else◌}
-use Rattle.std.proofs.lemmas.Bool.Decides.{nat_tests}
 use Rattle.std.proofs.lemmas.List.{append-nil, ext_get_or}
 use Rattle.std.proofs.lemmas.List.FromFn.{get_or-map-range_with_len, length-map-range_with_len}
 use Rattle.ttp_base.specs.NodeSet.{below}
@@ -14,16 +13,6 @@ use Rattle.line_numbers.specs.Numbers.{switches_on, sets_drift}
 use Rattle.line_numbers.specs.Numbers.{states_event, last_line_saying, lines_saying}
 unfoldable use Rattle.line_numbers.specs.Numbers.{line_numbers_in}
 use Rattle.line_numbers.specs.SoFar.{KeepsLine, IsEmpty}
-
--- The number of a line is kept for a node.
-
-past-node : (a : Bool) (node k count : ℕ) (b : Bool) → (node == k) ≡ b
-    → (node < count → ⊥) → k < count → (a && b) ≡ false
-past-node true node k count true is past within =
-    let same : node ≡ k = grind (arith, nat_tests) in
-    absurd (past (omega (arith, same, within)))
-past-node true node k count false is past within = refl
-past-node false node k count b is past within = refl
 
 -- A loop over lines: what is kept of those so far, and what follows, is what all lines say.
 pub record IsReading (nodes : ℕ) (text : List ℕ) (so_far : SoFar) (number : ℕ) (rest : List ℕ) : Type 0 where

@@ -5,10 +5,6 @@ pub guarded : {A : Type 0} (b : Bool) (r : Option A) (y : A) → cond b r None �
 guarded true r y e = (refl, e)
 guarded false r y e = cc
 
-pub barred : {A : Type 0} (b : Bool) (r : Option A) (y : A) → cond b None r ≡ Some y → (b ≡ false) × (r ≡ Some y)
-barred true r y e = cc
-barred false r y e = (refl, e)
-
 -- one of two readings
 pub chosen : {A : Type 0} (P : A → Type 0) (b : Bool) (x : A) (r : Option A) (y : A) → (b ≡ true → P x)
     → (r ≡ Some y → P y) → cond b (Some x) r ≡ Some y → P y

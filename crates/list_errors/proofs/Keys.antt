@@ -1,7 +1,7 @@
 -- The keys of a table that no list has, one after another.
-use Rattle.std.proofs.Common.{◌≡◌, ℕ, Bool, true, false, Option, List, [], ◌∷◌, ◌++◌}
+use Rattle.std.proofs.Common.{◌≡◌, ℕ, Option, List, [], ◌∷◌}
 use Rattle.std.proofs.Common.{refl, ap, ◌∙◌, sym, map, String, Global, string_bytes}
-use Rattle.std.specs.Prelude.{filter, if◌then◌else◌}
+use Rattle.std.specs.Prelude.{filter}
 use Rattle.std.specs.Borrow.{Bor}
 use Rattle.std.specs.Map.{keys_of}
 use Rattle.toml.specs.View.{members_view}
@@ -16,12 +16,6 @@ use Rattle.list_errors.specs.Errors.{keys_of as keys_in}
 pub keys_of_view : (es : List (String Global × Value)) → keys_in (members_view es) ≡ map string_bytes (keys_of es)
 keys_of_view [] = refl
 keys_of_view (e ∷ es) = ap (λ (keys : List (List ℕ)). string_bytes e.0 ∷ keys) (keys_of_view es)
-
--- one more at the end
-chosen_more : {X : Type 0} (chosen : Bool) (y : X) (front last : List X)
-    → (if chosen then y ∷ (front ++ last) else front ++ last) ≡ (if chosen then y ∷ front else front) ++ last
-chosen_more true y front last = refl
-chosen_more false y front last = refl
 
 -- what is told of some keys
 abbrev pub told_of : Option ℕ → List FieldName → List (List ℕ) → List Wrong

@@ -98,23 +98,7 @@ closed-open [] = refl
 closed-open (r ∷ []) = refl
 closed-open (r ∷ next ∷ ranges) = ap (λ (rs : List Range). r ∷ rs) (closed-open (next ∷ ranges))
 
--- the value joins the open range: that alone gets longer
-
-joined-if : (t : ValueTold) (r : Range) (b : Bool) → is_told_as t r ≡ b → b ≡ true
-    → range_behind t (r ∷ []) ≡ record r { to = t.value } ∷ []
-joined-if t r b is told =
-    ap (λ (c : Bool). cond c (record r { to = t.value } ∷ []) (r ∷ range_alone t ∷ [])) (is ∙ told)
-
-pub joins : (t : ValueTold) (last : Range) (ranges : List Range) → open_range ranges ≡ Some last
-    → is_told_as t last ≡ true
-    → range_behind t ranges ≡ closed_ranges ranges ++ record last { to = t.value } ∷ []
-joins t last [] is told = absurd (cc)
-joins t last (r ∷ []) is told =
-    let same : r ≡ last = cc in
-    ap (λ (q : Range). range_behind t (q ∷ [])) same ∙ joined-if t last (is_told_as t last) refl told
-joins t last (r ∷ next ∷ ranges) is told = ap (λ (rs : List Range). r ∷ rs) (joins t last (next ∷ ranges) is told)
-
--- it stands alone: what was open is closed
+-- the value stands alone: what was open is closed
 
 apart-if : (t : ValueTold) (r : Range) → is_told_as t r ≡ false → range_behind t (r ∷ []) ≡ r ∷ range_alone t ∷ []
 apart-if t r other = ap (λ (c : Bool). cond c (record r { to = t.value } ∷ []) (r ∷ range_alone t ∷ [])) other

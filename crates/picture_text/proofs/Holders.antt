@@ -1,15 +1,11 @@
 -- Of the numbers below one more number those that pass a test.
-use Rattle.picture_text.proofs.Words.{◌≡◌, ℕ, ◌+◌, Bool, true, cond, List, [], ◌∷◌, ◌++◌, length, sym, ap, ◌∙◌, ◌<◌}
-use Rattle.picture_text.proofs.Words.{codes, get_or, filter, append-nil, flat_map-append, filter-append, below}
+use Rattle.picture_text.proofs.Words.{◌≡◌, ℕ, ◌+◌, Bool, true, List, [], ◌∷◌, ◌++◌, length, sym, ap, ◌∙◌, ◌<◌}
+use Rattle.picture_text.proofs.Words.{codes, get_or, filter, append-nil, flat_map-append, below}
 use Rattle.picture_text.proofs.Words.{NodeShown, SlotLines, node_at, each_node}
 use Rattle.std.proofs.Common.{decimal}
 use Rattle.std.proofs.lemmas.List.{get_or_default}
-use Rattle.ttp_base.proofs.Below.{below-next}
 use Rattle.shown_slot.specs.Trace.{no_shown_node}
 use Rattle.ttp_world.proofs.ListFacts.{one-more as passes}
-
-filter-next : (p : ℕ → Bool) (n : ℕ) → filter p (below (n + 1)) ≡ filter p (below n) ++ cond (p n) (n ∷ []) []
-filter-next p n = ap (filter p) (below-next n) ∙ filter-append p (below n) (n ∷ [])
 
 -- their numbers as a text
 pub text-passes : (p : ℕ → Bool) (n : ℕ) → p n ≡ true

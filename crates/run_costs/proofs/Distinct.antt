@@ -42,9 +42,6 @@ bytes_eq-sym a b =
       λ same. (bytes_eq-Decides b a).1 (sym same),
     )
 
-is_other : List ℕ → List ℕ → Bool
-is_other m x = not (bytes_eq m x)
-
 -- Whether there are two.
 
 filter-twice-if : {X : Type 0} (q : X → Bool) (x : X) (xs : List X) (b : Bool) → q x ≡ b

@@ -1,6 +1,6 @@
 -- Where a text departs from a node's line, it does so for each number that is legal there.
 use Rattle.trace_check.proofs.Words.{◌≡◌, ℕ, zero, suc, ◌<◌, ◌^◌, Bool, true, false, List, [], ◌∷◌, ◌++◌, length}
-use Rattle.trace_check.proofs.Words.{get_or, take, Option, Some, None, IsTrue, if◌then◌else◌, ap, sym, ◌∙◌, subst}
+use Rattle.trace_check.proofs.Words.{get_or, Option, Some, None, IsTrue, if◌then◌else◌, ap, sym, ◌∙◌, subst}
 use Rattle.trace_check.proofs.Words.{arith, append_assoc, map, nat_le, AllByRecursion, concat, get_or-append}
 use Rattle.trace_check.proofs.Words.{get_or-append_seam, and_parts, leb-true, concat-append, get_or-map-range_with_len}
 use Rattle.trace_check.proofs.Words.{length-map-range_with_len, none-some, below, Lines, is_line, lines_of, Medl, Entry}
@@ -33,11 +33,6 @@ one_of : {X : Type 0} (P : X → Type 0) (xs : List X) (i : ℕ) (d : X) → i <
 one_of P [] i d within all = absurd (omega (arith, within))
 one_of P (x ∷ xs) zero d within all = all.0
 one_of P (x ∷ xs) (suc i) d within all = one_of P xs i d (omega (arith, within)) all.1
-
-first_part : {X : Type 0} (P : X → Type 0) (n : ℕ) (xs : List X) → AllByRecursion P xs → AllByRecursion P (take n xs)
-first_part P zero xs all = tt
-first_part P (suc n) [] all = tt
-first_part P (suc n) (x ∷ xs) all = (all.0, first_part P n xs all.1)
 
 pub slot-lines : (list : Medl) (script : Script) (other : SlotNumbers) (numbers : Numbers)
     → AreLines (lines_of_slot list script other numbers)

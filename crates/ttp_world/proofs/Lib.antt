@@ -51,5 +51,4 @@ pub mod WorldFacts
 pub mod ListFacts
 pub mod SmallTests
 pub mod RangeFacts
-pub mod WordList
 pub mod Words

@@ -11,7 +11,7 @@ use Rattle.whole_trace.specs.Whole.{SlotLines, WholeTrace}
 use Rattle.shown_slot.specs.Trace.{trace_ports, node_at}
 use Rattle.shown_slot.specs.Trace.{first_text, keeps_text, returns_text, member_room}
 use Rattle.wave_text.specs.Values.{cluster_value, node_value, port_value}
-use Rattle.wave_text.specs.Variables.{cluster_variables, node_variables, data_variables}
+use Rattle.wave_text.specs.Variables.{cluster_variables, node_variables}
 use Rattle.wave_text.specs.Variables.{port_variables, cluster_letter, node_code}
 use Rattle.wave_text.specs.Variables.{port_code, ports_at, declarations}
 
@@ -37,10 +37,6 @@ cluster_changes width before now =
 abbrev pub node_changes : ℕ → ℕ → Option NodeShown → NodeShown → Lines
 node_changes width k before now =
     flat_map (λ v. changes_by (node_value width v) (node_code v k) before now) node_variables
-
-abbrev pub data_changes : Port → Option (Option Message) → Option Message → Lines
-data_changes port before now =
-    flat_map (λ v. changes_by (port_value v) (port_code port v) before now) (data_variables port.what)
 
 abbrev pub port_changes : Port → Option (Option Message) → Option Message → Lines
 port_changes port before now =

@@ -1,5 +1,5 @@
 -- The pass in which entries are kept.
-use Rattle.std.proofs.Common.{◌≡◌, ℕ, true, false, List, [], ◌∷◌, ◌++◌, ap, sym, ◌∙◌, refl, append_assoc}
+use Rattle.std.proofs.Common.{◌≡◌, ℕ, true, false, List, [], ◌∷◌, ◌++◌, ap, sym, ◌∙◌, append_assoc}
 use Rattle.std.proofs.lemmas.List.{append-nil}
 use Rattle.std.specs.Prelude.{filter}
 use Rattle.causes.specs.Story.{has_spot, kept_of_told, with_entries}
@@ -9,11 +9,6 @@ use Rattle.why_story.specs.Keeps.{Keeps}
 use Rattle.why_story.specs.Marks.{AreMarked}
 use Rattle.why_story.specs.declared.keep.Kept.{Kept}
 use Rattle.why_story.proofs.Steps.{kept-no, kept-yes}
-
-pub Keeps-none : (count : ℕ) (leading marked : List Spot) (told : List Told) (now : Kept)
-    → AreMarked count marked now.marks
-    → Keeps count leading now.told marked told told now
-Keeps-none count leading marked told now marks = record { marked_now = marked; marks = marks; kept = λ older. refl }
 
 -- one that is not marked
 pub Keeps-unmarked : (count : ℕ) (leading marked : List Spot) (one : Told) (now : Kept)

@@ -1,9 +1,9 @@
 -- Marks of entries.
 use Rattle.std.proofs.Common.{◌≡◌, ◌≢◌, ℕ, ◌+◌, ◌<◌, ◌==◌, ◌&&◌, ◌||◌, Bool, true, false, List, [], ◌∷◌, ◌++◌, length}
-use Rattle.std.proofs.Common.{get_or, set, take, replicate, filter, ◌≤◌, cond, ap}
+use Rattle.std.proofs.Common.{get_or, set, take, filter, ◌≤◌, cond, ap}
 use Rattle.std.proofs.Common.{sym, ◌∙◌, refl, arith, get_or-set_other, subst}
 use Rattle.std.proofs.lemmas.Bool.Decides.{nat_tests}
-use Rattle.std.proofs.lemmas.Grind.{common_steps, get_or-set_at}
+use Rattle.std.proofs.lemmas.Grind.{get_or-set_at}
 use Rattle.std.proofs.lemmas.List.{append-nil, get_or_default, take_all, take_more}
 use Rattle.std.proofs.lemmas.List.Folds.{list_any-append, list_any_at, list_any_more}
 use Rattle.std.proofs.lemmas.List.Elements.{filter_more}
@@ -17,11 +17,6 @@ use Rattle.causes.specs.declared.cause.Spot.{Spot}
 use Rattle.why_story.specs.Marks.{AreMarked}
 use Rattle.why_story.specs.RunSource.{spot_at}
 use Rattle.why_story.specs.declared.marks.Marks.{Marks}
-
--- No mark.
-
-get_or-nothing : (n t : ℕ) → get_or {A = List ℕ} (replicate n []) t [] ≡ []
-get_or-nothing n t = grind (arith, common_steps)
 
 -- One mark more.
 
@@ -57,9 +52,6 @@ AreMarked-more count spots old new s marked within len sets = record {
       (omega (arith, within, marked.slots, old.sets.ok)) node
       ∙ ap (λ (b : Bool). ((t == s.slot) && (k == s.node)) || b) (marked.each t k slot node));
 }
-
-or-false : (b c : Bool) → b ≡ false → (b || c) ≡ c
-or-false b c is = ap (λ (x : Bool). x || c) is
 
 -- Marks in another order.
 

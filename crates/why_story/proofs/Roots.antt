@@ -10,14 +10,14 @@ use Rattle.causes.specs.Causes.{cause_at, newest_cause}
 use Rattle.causes.specs.RunSlots.{RunSlots, slots_to}
 use Rattle.causes.specs.Said.{root}
 use Rattle.causes.specs.Story.{added_root, has_fault_line, has_spot, kept_of_told, leading, leads_to_fault, reached}
-use Rattle.causes.specs.Story.{spots_back, story, told_spot, was_active, with_root}
+use Rattle.causes.specs.Story.{spots_back, story, told_spot, with_root}
 use Rattle.causes.specs.declared.cause.Cause.{Cause}
 use Rattle.causes.specs.declared.cause.Spot.{Spot}
 use Rattle.causes.specs.declared.cause.Story.{Story}
 use Rattle.causes.specs.declared.cause.Told.{Told}
 use Rattle.ttp_world.specs.declared.script.Script.{Script}
 use Rattle.why_story.specs.RunSource.{RunSource, source_slots, slots_up_to, spot_at}
-use Rattle.why_story.proofs.Steps.{reached-no, reached-yes, root-by}
+use Rattle.why_story.proofs.Steps.{reached-no, reached-yes}
 use Rattle.why_story.proofs.Slots.{length-run, slots_up_to-all}
 use Rattle.why_story.proofs.Within.{IsWithin, spots-within}
 
@@ -84,14 +84,6 @@ leads-before source script nodes slot from within same few =
     (causes-same run slot spots (omega (arith, within, count))
     (spots-within source nodes slot 24 slot within (omega arith) same few))
     (from ∷ []))
-
--- The root that is added.
-
-pub root-none : (script : Script) (k : ℕ) (before : RunSlots) (entries : List Spot) → was_active k before ≡ false
-    → [] ≡ added_root script k before entries
-root-none script k before entries is =
-    sym (root-by script k before entries false (has_spot entries (root k before))
-    (leads_to_fault script before (root k before)) is refl refl)
 
 -- The story.
 

@@ -1,17 +1,14 @@
 -- One entry of a pass, by whether it is marked.
-use Rattle.std.proofs.Common.{◌≡◌, ℕ, Bool, true, false, List, [], ◌∷◌, ◌++◌, ap, sym}
+use Rattle.std.proofs.Common.{◌≡◌, ℕ, Bool, true, false, List, ◌∷◌, ◌++◌, ap, sym}
 use Rattle.std.proofs.Common.{◌∙◌, filter, arith, ◌==◌, ◌≢◌, Result, Ok, Err}
 use Rattle.std.proofs.lemmas.Bool.Decides.{nat_tests}
 use Rattle.std.specs.Result.{OnOk}
-use Rattle.std.specs.Prelude.{if◌then◌else◌}
 use Rattle.causes.specs.RunSlots.{RunSlots}
-use Rattle.causes.specs.Said.{root}
-use Rattle.causes.specs.Story.{added_root, has_spot, kept_of_told, leads_to_fault, rank_of_entry}
-use Rattle.causes.specs.Story.{reached, told_spot, was_active, with_entries}
+use Rattle.causes.specs.Story.{has_spot, kept_of_told, rank_of_entry}
+use Rattle.causes.specs.Story.{reached, told_spot, with_entries}
 use Rattle.causes.specs.declared.cause.Spot.{Spot}
 use Rattle.causes.specs.declared.cause.Told.{Told}
 use Rattle.ttp_world.specs.declared.node.Entry.{Entry}
-use Rattle.ttp_world.specs.declared.script.Script.{Script}
 
 -- What is reached.
 
@@ -54,35 +51,6 @@ pub kept-yes : (back marks : List Spot) (t : Told) (older : List Told) → has_s
     ∷ kept_of_told back (filter (has_spot back) t.cause.entries ++ marks) older
 unfolding kept-if
 kept-yes back marks t older here = ap (kept-if back marks t older) here
-
--- The root.
-
-active-if : Script → ℕ → RunSlots → List Spot → Bool → Bool → Bool → List Spot
-active-if script k before entries active named leads =
-    elim active as (λ x. List Spot) [
-      | false ↦ []
-      | true ↦ elim named as (λ x. List Spot) [
-        | true ↦ []
-        | false ↦ if leads then root k before ∷ [] else []
-      ]
-    ]
-
-pub root-by : (script : Script) (k : ℕ) (before : RunSlots) (entries : List Spot) (active named leads : Bool)
-    → was_active k before ≡ active → has_spot entries (root k before) ≡ named
-    → leads_to_fault script before (root k before) ≡ leads
-    → added_root script k before entries ≡ elim active as (λ x. List Spot) [
-      | false ↦ []
-      | true ↦ elim named as (λ x. List Spot) [
-        | true ↦ []
-        | false ↦ if leads then root k before ∷ [] else []
-      ]
-    ]
-unfolding active-if
-root-by script k before entries active named leads is has fault =
-    ap (λ (b : Bool). active-if script k before entries b (has_spot entries (root k before))
-    (leads_to_fault script before (root k before))) is
-    ∙ (ap (λ (b : Bool). active-if script k before entries active b (leads_to_fault script before (root k before))) has
-    ∙ ap (active-if script k before entries active named) fault)
 
 -- what follows where there is a value
 pub on-ok : {X E : Type 0} {P Q : Type 0} (r : Result X E) → (P → Q) → OnOk r P → OnOk r Q
