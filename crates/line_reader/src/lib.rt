@@ -24,7 +24,6 @@
 //! knows no list, no report and no ring, so that whoever shows a trace waits for none of these.
 #![tactic(auto)]
 
-mod digits;
 pub mod laws;
 mod line_words;
 mod read;

@@ -6,11 +6,11 @@ ghost use Rattle.line_reader.specs.declared.trace_line.TraceLine.TheVariants as 
 ghost use Rattle.line_reader.specs.Reading.{head_in, node_in, write_line_in, read_line_in, kept_in, broken_in, owed_in};
 ghost use Rattle.line_reader.specs.Reading.{refused_in, line_in};
 
-use crate::digits::members_of;
 use crate::line_words::{ack, fits_word, has_size, node_word, source};
 use crate::trace_line::{NodeLine, TraceLine};
 use line_form::Reader;
 use line_text::PEER;
+use ttp_base::members_of;
 use ttp_world::{Back, Keep, PAYLOAD_LIMIT, Payload};
 
 // Slots have at most 5 digits, message numbers 6, and offsets 18.

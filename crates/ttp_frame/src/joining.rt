@@ -3,28 +3,14 @@
 
 ghost use Rattle.std.specs.Prelude.{◌≡◌, ◌≢◌, ◌+◌, ◌<◌, ◌≤◌, length, nat_lt};
 ghost use Rattle.std.specs.List.{list_all};
-ghost use Rattle.ttp_base.specs.NodeSet.{members_in};
 ghost use Rattle.ttp_world.specs.Fitting.{carried, is_formed, joinable};
 ghost use Rattle.ttp_world.specs.Fitting.{is_cold_start, is_joinable_state, is_listed_explicit};
 ghost use Rattle.ttp_world.specs.Medl.{member_bytes, schedule_limit, IsValid};
 
 use crate::judging::has_shape;
 use crate::pieces::{COLD_START, IMPLICIT, ends_with_word, state_len};
-use ttp_base::NodeSet;
+use ttp_base::{NodeSet, members_of};
 use ttp_world::{CState, Medl};
-
-// The set whose members are the bits of a word.
-fn members_of(word: u32) -> NodeSet
-    ensures { result ≡ members_in word }
-{
-    let mut members = NodeSet::empty();
-    for node in 0..24u8 {
-        if (word >> node) % 2 == 1 {
-            members = members.with(node);
-        }
-    }
-    members
-}
 
 // The C-state that an explicit frame carries.
 fn carried(wide: bool, bytes: &[u8]) -> CState

@@ -5,7 +5,7 @@ ghost use Rattle.ttp_world.specs.Medl.{member_bytes, IsValid};
 use super::check_words::register_after;
 use super::lists::mixed_nodes;
 use std::alloc::Global;
-use ttp_base::NodeSet;
+use ttp_base::members_of;
 use ttp_frame::{Expect, FrameIn, FrameMatch, encode, is_joinable_state, judge, read_explicit};
 use ttp_world::{CState, Medl};
 
@@ -45,16 +45,6 @@ fn is_judged(bytes: &[u8], start: u32, expect: &Expect, cstate: &CState, due: Fr
         return false;
     }
     judge(bytes, start, expect, cstate) == due
-}
-
-fn members_of(bits: u32) -> NodeSet {
-    let mut members = NodeSet::empty();
-    for k in 0..24u8 {
-        if (bits >> k) & 1 == 1 {
-            members = members.with(k);
-        }
-    }
-    members
 }
 
 /// A C-state, by the word of its members.

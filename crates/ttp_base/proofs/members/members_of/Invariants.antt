@@ -3,7 +3,7 @@ use Rattle.std.specs.Prelude.{◌==◌}
 use Rattle.std.specs.List.{filter}
 use Rattle.std.specs.Int.{bit_at}
 use Rattle.ttp_base.specs.NodeSet.{below}
-use Rattle.line_reader.proofs.digits.members_of.Given as goal
+use Rattle.ttp_base.proofs.members.members_of.Given as goal
 
 -- the members so far
 abbrev pub invariant-loop-node : goal.invariant-loop-node

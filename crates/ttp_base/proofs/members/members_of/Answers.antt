@@ -5,8 +5,8 @@ use Rattle.std.specs.Int.{bit_at}
 use Rattle.std.proofs.lemmas.Bool.{eq-eqb, ne_eqb}
 use Rattle.ttp_base.specs.NodeSet.{most_nodes, below, with_node, members_in}
 use Rattle.ttp_base.proofs.NodeLists.{with_node-next, filter-next}
-use Rattle.ttp_frame.proofs.joining.members_of.Goals as goal
-use Rattle.ttp_frame.proofs.joining.members_of.Goals.{then-word-node-eq1, else-word-node-eq1}
+use Rattle.ttp_base.proofs.members.members_of.Goals as goal
+use Rattle.ttp_base.proofs.members.members_of.Goals.{then-word-node-eq1, else-word-node-eq1}
 
 pub loop-node-preserved : goal.loop-node-preserved
 loop-node-preserved c =
