@@ -9,7 +9,7 @@ use crate::controller::{Controller, Outcome};
 use crate::hearing::take_away;
 use std::alloc::Global;
 use ttp_base::{List, Memory};
-use ttp_world::{Channels, Delivered, Incidents, Medl, Payload, StatusWords};
+use ttp_world::{Delivered, Incidents, Medl, Payload, StatusWords, no_incidents};
 
 /// A node of a cluster: its controller, and what a slot hands around with it.
 #[derive(Drop)]
@@ -58,20 +58,6 @@ pub(crate) fn copy_seats(to: &mut [Seat], from: &[Seat])
 {
     for k in 0..to.len() {
         to[k].copy_from(&from[k]);
-    }
-}
-
-fn no_incidents() -> Incidents {
-    let none = Channels { a: false, b: false };
-    Incidents {
-        send_silence: none,
-        send_noise: none,
-        receive_silence: none,
-        receive_noise: none,
-        has_flip: false,
-        armed: false,
-        error: 0,
-        jump: 0,
     }
 }
 

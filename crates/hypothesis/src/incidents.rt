@@ -9,7 +9,7 @@ ghost use Rattle.ttp_world.specs.declared.script.Script.{Script};
 ghost use Rattle.hypothesis.specs.SlotIncidents.{AreIncidentsIn, EachStandsIn, IsOfKinds, AreKeptIn, AreKeptFrom};
 
 use crate::losses::{Jumps, may_jump};
-use ttp_world::{Channels, Incidents, LastLookUp, Medl, Script, Standing};
+use ttp_world::{Channels, Incidents, LastLookUp, Medl, Script, Standing, no_incidents};
 
 /// Which kinds of incidents there are among those of some nodes.
 #[derive(Clone, Copy)]
@@ -66,21 +66,10 @@ fn no_kinds() -> Kinds {
 pub(crate) fn nothing_kept() -> KeptIncidents
     ensures { (list : Medl) (script : Script) (slot : ℕ) → AreKeptFrom list script slot result }
 {
-    let none = Channels { a: false, b: false };
-    let nothing = Incidents {
-        send_silence: none,
-        send_noise: none,
-        receive_silence: none,
-        receive_noise: none,
-        has_flip: false,
-        armed: false,
-        error: 0,
-        jump: 0,
-    };
     KeptIncidents {
         incidents: SlotIncidents {
             nodes: [Standing {
-                incidents: nothing,
+                incidents: no_incidents(),
                 until: 0,
             }; 24],
             kinds: no_kinds(),

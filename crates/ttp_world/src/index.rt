@@ -46,7 +46,7 @@ pub(crate) fn key_of(node: u8, slot: u32) -> u64
 }
 
 /// Nothing happens.
-pub(crate) fn no_incidents() -> Incidents
+pub fn no_incidents() -> Incidents
     ensures { result ≡ no_incidents }
 {
     let none = Channels { a: false, b: false };

@@ -47,6 +47,7 @@ mod weights;
 
 pub use events::{Events, FlippedBit, Incidents, LastLookUp, Standing};
 pub use host_lines::{HostRead, Written};
+pub use index::no_incidents;
 pub use keep::{Back, Keep};
 pub use medl::{Kind, Medl, SlotPlan};
 pub use node::{
