@@ -55,4 +55,4 @@ pub use plant::Plant;
 pub use seat::{Seat, seats_of};
 pub use sending::{cold_start, outgoing};
 pub use status::StatusFlags;
-pub use zeros_run::ZerosRun;
+pub use zeros_run::{ZerosRun, push_zeros};

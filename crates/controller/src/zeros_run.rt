@@ -2,7 +2,7 @@
 //!
 //! Clocks, entries and what a run costs do not depend on what frames carry (`laws::runs_are_alike` of frame_fates), so
 //! what is seen of them in this run is what is seen in every other one of the script.
-ghost use Rattle.std.specs.Prelude.{◌≡◌, ◌+◌, ◌^◌, ◌<◌, ◌≤◌, ℕ, length, unsigned_abs, IfOk};
+ghost use Rattle.std.specs.Prelude.{◌≡◌, ◌+◌, ◌++◌, ◌^◌, ◌<◌, ◌≤◌, ℕ, length, unsigned_abs, IfOk, OnOk};
 ghost use Rattle.ttp_world.specs.declared.script.Script.{Script};
 ghost use Rattle.ttp_world.specs.Medl.{IsValid};
 ghost use Rattle.ttp_world.specs.Script.{IsValidScript};
@@ -23,30 +23,29 @@ pub struct ZerosRun {
     zeros: List<Chosen>,
 }
 
-// Message 0 of each node.
-fn all_zeros(alloc: Global, list: &Medl) -> Result<List<Chosen>, Memory>
+/// Adds message 0 of each of the list's nodes, which is zeros. `Memory` where that was refused.
+pub fn push_zeros(messages: &mut List<Chosen>, list: &Medl) -> Result<(), Memory>
     requires { IsValid list.now }
-    ensures { IfOk result (λ zeros. zeros ≡ all_zeros list.now) }
+    ensures { OnOk result (messages.new ≡ messages.old ++ all_zeros list.now) }
 {
-    let mut all = List::new(alloc);
     for node in 0..list.nodes() {
         let payload = Payload::zeros(list.slots.get(usize::from(node)).payload);
-        all.push(Chosen { number: 0, payload })?;
+        messages.push(Chosen { number: 0, payload })?;
     }
-    Ok(all)
+    Ok(())
 }
 
 impl ZerosRun {
-    /// The run of a list before its first slot. Only this call takes memory; `Memory` where that was
+    /// The run of a list before its first slot. No other call on a run takes memory; `Memory` where that was
     /// refused.
     pub fn new(alloc: Global, list: &Medl) -> Result<ZerosRun, Memory>
         requires { IsValid list.now }
         ensures { (script : Script) → IfOk result (λ run. RunStandsAfter run list.now script 0) }
     {
-        Ok(ZerosRun {
-            plant: Plant::new(alloc, list)?,
-            zeros: all_zeros(alloc, list)?,
-        })
+        let plant = Plant::new(alloc, list)?;
+        let mut zeros = List::new(alloc);
+        push_zeros(&mut zeros, list)?;
+        Ok(ZerosRun { plant, zeros })
     }
 
     /// One slot, the first that the run has not done yet.

@@ -1,6 +1,6 @@
 //! What hosts can read.
 ghost use Rattle.std.specs.Prelude.{◌≡◌, ◌↔◌, ◌+◌, ◌*◌, ◌<◌, ◌≤◌, ◌^◌, [], length, slice_get, slice_set};
-ghost use Rattle.std.specs.Prelude.{IsTrue, IfOk, OnOk, Some, replicate, ◌++◌};
+ghost use Rattle.std.specs.Prelude.{IsTrue, IfOk, Some, replicate};
 ghost use Rattle.ttp_world.specs.declared.medl.Medl.{Medl as List_};
 ghost use Rattle.ttp_world.specs.declared.node.Chosen.{Chosen};
 ghost use Rattle.ttp_world.specs.Diary.{History};
@@ -8,8 +8,8 @@ ghost use Rattle.ttp_world.specs.declared.script.Script.{Script as Said};
 ghost use Rattle.ttp_world.specs.Medl.{IsValid};
 ghost use Rattle.trace_check.specs.Incoming.{TellsRings, AreFloorsWithin, IsHostAndSource, IsRingKept, first_payloads};
 ghost use Rattle.trace_check.specs.Incoming.{newest_before, floor_of, floor_place};
-ghost use Rattle.ttp_world.specs.ZerosWorld.{all_zeros};
 
+use controller::push_zeros;
 use std::alloc::Global;
 use ttp_base::{List, Memory};
 use ttp_world::{Chosen, Delivered, HostRead, Medl, Payload, Source, StatusWords};
@@ -25,18 +25,6 @@ pub(crate) struct Incoming {
     // For each host and each of its sources, first its status, the number of the newest message that it
     // got while that message was new.
     floors: Vec<u64>,
-}
-
-// Adds the zeros of each of the list's nodes as a sender.
-fn push_zeros(payloads: &mut List<Chosen>, list: &Medl) -> Result<(), Memory>
-    requires { IsValid list.now }
-    ensures { OnOk result (payloads.new ≡ payloads.old ++ all_zeros list.now) }
-{
-    for sender in 0..list.nodes() {
-        let payload = Payload::zeros(list.slots.get(usize::from(sender)).payload);
-        payloads.push(Chosen { number: 0, payload })?;
-    }
-    Ok(())
 }
 
 // For each of the list's nodes as a receiver the zeros of each as a sender.
