@@ -5,6 +5,7 @@ use Rattle.wave_text.proofs.Words.{eqb_tells, append-nil, HostLine, SlotLines, M
 use Rattle.wave_text.proofs.Words.{HasPlace, table_place, HasLetters}
 use Rattle.std.proofs.lemmas.List.Concat.{flat_map-append}
 use Rattle.wave_text.proofs.Tables.{place-lt, set_elsewhere}
+use Rattle.wave_text.specs.declared.place.TheConstants.{PLACES}
 use Rattle.ttp_world.proofs.ListFacts.{slice_get-set_same as set_there, at_any as same_item}
 
 -- Messages.
@@ -13,18 +14,18 @@ use Rattle.ttp_world.proofs.ListFacts.{slice_get-set_same as set_there, at_any a
 pub record AreNoted (ports : List Port) (messages : List (Option Message)) (all left : List HostLine) : Type 0 where
   pub done : List HostLine
   pub whole : done ++ left ≡ all
-  pub size : length messages ≡ 624
+  pub size : length messages ≡ PLACES
   pub newest : All (λ port. HasNewest messages done port.host port.what) ports
 
 -- in the table stands no message of so many ports
 pub record AreCleared (ports : List Port) (messages : List (Option Message)) (count : ℕ) : Type 0 where
-  pub size : length messages ≡ 624
+  pub size : length messages ≡ PLACES
   pub none : (i : ℕ) (d : Port) → i < count → i < length ports
       → HasNewest messages [] (get_or ports i d).host (get_or ports i d).what
 
 pub noted-more : (ports : List Port) (before after : List (Option Message))
     (all left : List HostLine) (shown : HostLine)
-    → AreNoted ports before all (shown ∷ left) → All HasLetters ports → length after ≡ 624
+    → AreNoted ports before all (shown ∷ left) → All HasLetters ports → length after ≡ PLACES
     → ((k : ℕ) (does : What) (lines : List HostLine) → HasPlace k does → HasNewest before lines k does
     → HasNewest after (lines ++ shown ∷ []) k does)
     → AreNoted ports after all left
@@ -68,7 +69,7 @@ cleared-more ports messages i e less has known =
 pub record AreTaken (before sizes : List (Option ℕ)) (all left : List HostLine) : Type 0 where
   pub done : List HostLine
   pub whole : done ++ left ≡ all
-  pub size : length sizes ≡ 624
+  pub size : length sizes ≡ PLACES
   pub most : (k : ℕ) (does : What) (lines : List HostLine) → HasPlace k does → HasMost before lines k does
       → HasMost sizes (lines ++ done) k does
 
@@ -76,11 +77,11 @@ pub record AreTaken (before sizes : List (Option ℕ)) (all left : List HostLine
 pub record AreSlotsTaken (sizes : List (Option ℕ)) (all left : List SlotLines) : Type 0 where
   pub done : List SlotLines
   pub whole : done ++ left ≡ all
-  pub size : length sizes ≡ 624
+  pub size : length sizes ≡ PLACES
   pub most : (k : ℕ) (does : What) → HasPlace k does → HasMost sizes (flat_map (λ slot. slot.hosts) done) k does
 
 pub taken-more : (before sizes after : List (Option ℕ)) (all left : List HostLine) (shown : HostLine)
-    → AreTaken before sizes all (shown ∷ left) → length after ≡ 624
+    → AreTaken before sizes all (shown ∷ left) → length after ≡ PLACES
     → ((k : ℕ) (does : What) (lines : List HostLine) → HasPlace k does → HasMost sizes lines k does
     → HasMost after (lines ++ shown ∷ []) k does)
     → AreTaken before after all left
@@ -94,7 +95,7 @@ taken-more before sizes after all left shown known size step = record {
 }
 
 pub slots-taken-more : (sizes after : List (Option ℕ)) (all left : List SlotLines) (slot : SlotLines)
-    → AreSlotsTaken sizes all (slot ∷ left) → length after ≡ 624
+    → AreSlotsTaken sizes all (slot ∷ left) → length after ≡ PLACES
     → ((k : ℕ) (does : What) (lines : List HostLine) → HasPlace k does → HasMost sizes lines k does
     → HasMost after (lines ++ slot.hosts) k does)
     → AreSlotsTaken after all left

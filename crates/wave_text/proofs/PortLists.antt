@@ -12,16 +12,17 @@ use Rattle.ttp_base.proofs.Below.{below-lt, flat_map_agree-below, map_each-below
 use Rattle.ttp_world.specs.declared.script.Source.TheVariants as source
 use Rattle.shown_slot.specs.declared.host.What.TheVariants as what
 use Rattle.wave_text.proofs.Tables.{place-lt}
+use Rattle.wave_text.specs.declared.place.TheConstants.{PLACES}
 use Rattle.ttp_world.proofs.LineLists.{each-append as all-append}
 
 -- a table with nothing
-pub none_noted : (k : ℕ) (does : What) → HasPlace k does → HasMost (replicate 624 None) [] k does
+pub none_noted : (k : ℕ) (does : What) → HasPlace k does → HasMost (replicate PLACES None) [] k does
 none_noted k does has =
     let less = place-lt k does has in
-    let within : table_place k does < length (replicate {A = Option ℕ} 624 None) =
-    omega (arith, less, length-replicate {A = Option ℕ} 624 None) in
-    slice_get-get_or (replicate 624 None) (table_place k does) None within
-    ∙ ap (λ (m : Option ℕ). Some m) (get_or-replicate 624 (table_place k does) None None less)
+    let within : table_place k does < length (replicate {A = Option ℕ} PLACES None) =
+    omega (arith, less, length-replicate {A = Option ℕ} PLACES None) in
+    slice_get-get_or (replicate PLACES None) (table_place k does) None within
+    ∙ ap (λ (m : Option ℕ). Some m) (get_or-replicate PLACES (table_place k does) None None less)
 
 -- Ports.
 

@@ -12,6 +12,7 @@ use Rattle.ttp_world.specs.declared.script.Source.TheVariants as source
 use Rattle.shown_slot.specs.declared.host.What.TheVariants as what
 use Rattle.wave_text.specs.Places.{in_row}
 use Rattle.wave_text.proofs.HostLines.{its_message, its_port, most-append, most-other, newest-append, newest-other}
+use Rattle.wave_text.specs.declared.place.TheConstants.{PLACES}
 use Rattle.ttp_world.proofs.ListFacts.{slice_get-set_same as set_there}
 
 -- Lists as tables.
@@ -31,7 +32,7 @@ in_row-lt what.Write has = omega arith
 in_row-lt (what.Read source.Status) has = omega arith
 in_row-lt (what.Read (source.Node p)) has = omega (arith, has)
 
-pub place-lt : (k : ℕ) (does : What) → HasPlace k does → table_place k does < 624
+pub place-lt : (k : ℕ) (does : What) → HasPlace k does → table_place k does < PLACES
 place-lt k does has = omega (arith, has.0, in_row-lt does has.1)
 
 in_row-same : (does did : What) → in_row does ≡ in_row did → does ≡ did
@@ -85,7 +86,7 @@ newest-unplaced messages lines shown k does has none is =
     is ∙ ap (λ (m : Option Message). Some m) (sym (newest-other k does lines shown (unplaced k does shown has none)))
 
 pub newest-placed : (messages : List (Option Message)) (lines : List HostLine) (shown : HostLine) (k : ℕ) (does : What)
-    → HasPlace k does → HasPlace (host_in shown) (what_in shown) → length messages ≡ 624
+    → HasPlace k does → HasPlace (host_in shown) (what_in shown) → length messages ≡ PLACES
     → HasNewest messages lines k does
     → HasNewest (set messages (table_place (host_in shown) (what_in shown))
     (message_in_line (host_in shown) (what_in shown) shown))
@@ -123,7 +124,7 @@ most-unplaced sizes lines shown k does has none is =
 -- the size that the table has of this line's port
 pub most-placed : (sizes : List (Option ℕ)) (lines : List HostLine)
     (shown : HostLine) (size : Option ℕ) (k : ℕ) (does : What)
-    → HasPlace k does → HasPlace (host_in shown) (what_in shown) → length sizes ≡ 624
+    → HasPlace k does → HasPlace (host_in shown) (what_in shown) → length sizes ≡ PLACES
     → slice_get sizes (table_place (host_in shown) (what_in shown)) ≡ Some size
     → HasMost sizes lines k does
     → HasMost (set sizes (table_place (host_in shown) (what_in shown))

@@ -2,6 +2,7 @@
 ghost use Rattle.std.specs.Prelude.{◌≡◌, ◌<◌, ◌↔◌, IfSome, IsNone, IsTrue};
 ghost use Rattle.wave_text.specs.Places.{table_place, HasPlace, host_in, what_in};
 ghost use Rattle.wave_text.specs.Variables.{HasSourceLetter};
+ghost use Rattle.wave_text.specs.declared.place.TheConstants.{PLACES};
 
 use shown_slot::What;
 use ttp_world::Source;
@@ -15,7 +16,7 @@ pub(crate) const PLACES: usize = 624;
 pub(crate) fn table_place(host: u8, what: What) -> usize
     requires { HasPlace host what }
     ensures value { result ≡ table_place host what }
-    ensures within { result < 624 }
+    ensures within { result < PLACES }
 {
     let row = 26 * usize::from(host);
     match what {

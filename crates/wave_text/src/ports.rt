@@ -11,6 +11,7 @@ ghost use Rattle.shown_slot.specs.Ports.{all_whats, larger, port_if};
 ghost use Rattle.shown_slot.specs.Trace.{trace_ports};
 ghost use Rattle.wave_text.specs.Places.{HasMost, HasPlace, message_said, ports_in, size_at};
 ghost use Rattle.wave_text.specs.Variables.{HasLetters};
+ghost use Rattle.wave_text.specs.declared.place.TheConstants.{PLACES};
 
 use crate::place::{PLACES, placed, table_place};
 use shown_slot::{Port, What};
@@ -42,7 +43,7 @@ fn larger(sizes: &[Option<u8>], at: usize, size: u8) -> u8
 
 // Takes a line into a table of sizes.
 fn note_size(sizes: &mut [Option<u8>], line: &HostLine)
-    requires { length sizes.old ≡ 624 }
+    requires { length sizes.old ≡ PLACES }
     ensures { (k : ℕ) (does : Does) (lines : Items Shown) → HasPlace k does → HasMost sizes.old lines k does
         → HasMost sizes.new (lines ++ line.now ∷ []) k does }
 {
@@ -54,7 +55,7 @@ fn note_size(sizes: &mut [Option<u8>], line: &HostLine)
 
 // Takes the lines of a slot's hosts into a table of sizes.
 fn note_sizes(sizes: &mut [Option<u8>], lines: Hosts)
-    requires { length sizes.old ≡ 624 }
+    requires { length sizes.old ≡ PLACES }
     ensures { (k : ℕ) (does : Does) (before : Items Shown) → HasPlace k does → HasMost sizes.old before k does
         → HasMost sizes.new (before ++ lines.entry) k does }
 {
@@ -65,14 +66,14 @@ fn note_sizes(sizes: &mut [Option<u8>], lines: Hosts)
 }
 
 // A table with nothing in it.
-fn no_sizes() -> [Option<u8>; 624]
-    ensures { result ≡ replicate 624 None }
+fn no_sizes() -> [Option<u8>; PLACES]
+    ensures { result ≡ replicate PLACES None }
 {
     [None; PLACES]
 }
 
 // The most bytes of all that hosts do in a trace.
-fn sizes_in(trace: &Whole) -> [Option<u8>; 624]
+fn sizes_in(trace: &Whole) -> [Option<u8>; PLACES]
     ensures { (k : ℕ) (does : Does) → HasPlace k does
         → HasMost result (flat_map (λ slot. slot.hosts) trace.now.slots) k does }
 {
@@ -91,7 +92,7 @@ fn add_port(
     host: u8,
     what: What,
 ) -> Result<(), Memory>
-    requires size { length sizes.now ≡ 624 }
+    requires size { length sizes.now ≡ PLACES }
     requires place { HasPlace host what }
     ensures { OnOk result (ports.new ≡ ports.old ++ port_if host what (size_at sizes.now host what)) }
 {
@@ -108,7 +109,7 @@ fn add_nodes_read(
     host: u8,
     nodes: u8,
 ) -> Result<(), Memory>
-    requires size { length sizes.now ≡ 624 }
+    requires size { length sizes.now ≡ PLACES }
     requires host { host < 24 }
     requires nodes { nodes ≤ 24 }
     ensures { OnOk result (ports.new ≡ ports.old
@@ -122,7 +123,7 @@ fn add_nodes_read(
 
 // Adds what a host does in a cluster of so many nodes.
 fn add_host(ports: &mut List<Port>, sizes: &[Option<u8>], host: u8, nodes: u8) -> Result<(), Memory>
-    requires size { length sizes.now ≡ 624 }
+    requires size { length sizes.now ≡ PLACES }
     requires host { host < 24 }
     requires nodes { nodes ≤ 24 }
     ensures { OnOk result (ports.new ≡ ports.old ++ ports_in sizes.now (all_whats nodes) host) }
@@ -134,7 +135,7 @@ fn add_host(ports: &mut List<Port>, sizes: &[Option<u8>], host: u8, nodes: u8) -
 
 // What hosts of so many nodes do, by a table of sizes.
 fn ports_with(alloc: Global, sizes: &[Option<u8>], nodes: u8) -> Result<List<Port>, Memory>
-    requires size { length sizes.now ≡ 624 }
+    requires size { length sizes.now ≡ PLACES }
     requires nodes { nodes ≤ 24 }
     ensures { IfOk result (λ ports. ports ≡ flat_map (ports_in sizes.now (all_whats nodes)) (below nodes)) }
 {

@@ -9,6 +9,7 @@ ghost use Rattle.wave_text.specs.Moment.{ShowsMessages};
 ghost use Rattle.wave_text.specs.Variables.{HasLetters};
 ghost use Rattle.wave_text.specs.Wave.{all_slots_lines, first_slot_lines, later_lines, slot_change_lines, time_line};
 ghost use Rattle.wave_text.specs.Wave.{wave_lines};
+ghost use Rattle.wave_text.specs.declared.place.TheConstants.{PLACES};
 
 use crate::declare::put_declarations;
 use crate::draft::Draft;
@@ -62,11 +63,11 @@ fn put_time<K: Sink>(slot: u32, page: &mut Page, out: &mut K)
 // A slot with its messages, in a table whose entries are written over.
 #[tactic(auto)]
 fn moment<'a>(slot: SlotShown<'a>, ports: &[Port], table: Vec<Option<Message>>) -> Moment<'a>
-    requires size { length table.items ≡ 624 }
+    requires size { length table.items ≡ PLACES }
     requires ports { All HasLetters ports.now }
     ensures slot { result.slot ≡ slot.entry }
     ensures messages { ShowsMessages ports.now result }
-    ensures size { length result.messages.items ≡ 624 }
+    ensures size { length result.messages.items ≡ PLACES }
 {
     let mut messages = table;
     note_slot(&mut messages, ports, &slot);
@@ -134,8 +135,8 @@ fn put_later_slots<K: Sink>(
     requires ports { All HasLetters ports.now }
     requires few { length slots < 20000 }
     requires first { ShowsMessages ports.now first }
-    requires messages { length first.messages.items ≡ 624 }
-    requires table { length table.items ≡ 624 }
+    requires messages { length first.messages.items ≡ PLACES }
+    requires table { length table.items ≡ PLACES }
     ensures { Puts page.old.sheet.failed (K.output out.old) page.new.sheet.failed (K.output out.new)
         (later_lines width nodes ports.now 1 first.entry.slot slots.entry) }
 {
@@ -169,8 +170,8 @@ fn put_slots<K: Sink>(
     requires nodes { nodes ≤ 24 }
     requires ports { All HasLetters ports.now }
     requires few { length slots ≤ 20000 }
-    requires one { length one.items ≡ 624 }
-    requires other { length other.items ≡ 624 }
+    requires one { length one.items ≡ PLACES }
+    requires other { length other.items ≡ PLACES }
     ensures { Puts page.old.sheet.failed (K.output out.old) page.new.sheet.failed (K.output out.new)
         (all_slots_lines width nodes ports.now slots.entry) }
 {
@@ -196,8 +197,8 @@ fn put_all<K: Sink>(
 )
     requires ports { All HasLetters ports.now }
     requires found { ports.now ≡ trace_ports trace.now }
-    requires one { length one.items ≡ 624 }
-    requires other { length other.items ≡ 624 }
+    requires one { length one.items ≡ PLACES }
+    requires other { length other.items ≡ PLACES }
     ensures { Puts page.old.sheet.failed (K.output out.old) page.new.sheet.failed (K.output out.new)
         (wave_lines trace.now) }
 {

@@ -2,15 +2,16 @@ use Rattle.wave_text.proofs.Words.{◌≡◌, ℕ, List, [], ◌++◌, Option, N
 use Rattle.wave_text.proofs.Words.{length-replicate, HostLine, HasMost}
 use Rattle.wave_text.proofs.Noting.{AreSlotsTaken, slots-taken-more}
 use Rattle.wave_text.proofs.PortLists.{none_noted}
+use Rattle.wave_text.specs.declared.place.TheConstants.{PLACES}
 use Rattle.wave_text.proofs.ports.sizes_in.Goals as goal
 
 pub loop-lines-init : goal.loop-lines-init
 loop-lines-init c =
-    let none : c.no_sizes-sizes.result ≡ replicate 624 None = c.no_sizes-sizes.ensures in
+    let none : c.no_sizes-sizes.result ≡ replicate PLACES None = c.no_sizes-sizes.ensures in
     record {
       done = [];
       whole = c.slots-slots.ensures;
-      size = ap length none ∙ length-replicate {A = Option ℕ} 624 None;
+      size = ap length none ∙ length-replicate {A = Option ℕ} PLACES None;
       most = λ k does has.
           subst (λ (sizes : List (Option ℕ)). HasMost sizes [] k does) (sym none) (none_noted k does has);
     }

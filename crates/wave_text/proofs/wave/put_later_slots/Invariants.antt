@@ -1,5 +1,6 @@
 use Rattle.wave_text.proofs.Words.{◌≡◌, ◌+◌, ◌≤◌, length, Bool, Output, Puts, later_lines}
 use Rattle.wave_text.specs.Moment.{ShowsMessages}
+use Rattle.wave_text.specs.declared.place.TheConstants.{PLACES}
 use Rattle.wave_text.proofs.wave.put_later_slots.Given as goal
 
 -- with the lines from this slot on all are put
@@ -12,8 +13,8 @@ invariant-loop-slot g l = record {
       (later_lines l.width l.nodes l.ports 1 l.fn.first.slot l.fn.slots);
   few : l.time + length l.slots ≤ 20000;
   shows : ShowsMessages l.ports l.before;
-  size : length l.before.messages.items ≡ 624;
-  free : length l.spare.items ≡ 624;
+  size : length l.before.messages.items ≡ PLACES;
+  free : length l.spare.items ≡ PLACES;
 }
 
 abbrev pub decreases-loop-slot : goal.decreases-loop-slot
