@@ -10,7 +10,7 @@ ghost use Rattle.ttp_top.specs.Calls.Forms.{plan_told};
 
 use crate::faced::show_precision;
 use crate::run::show_keep;
-use crate::verify::judge;
+use crate::verify::{Wants, judge};
 use crate::words::Question;
 use commands::load_both;
 use std::alloc::Global;
@@ -34,9 +34,9 @@ fn tell<L: Library, K: Sink>(
 {
     match question {
         Question::Keeps => show_keep(list, script, out),
-        Question::Verify { trace } => judge(alloc, list, script, trace, false, library, out),
+        Question::Verify { trace } => judge(alloc, list, script, trace, Wants::Same, library, out),
         Question::Precision { node } => show_precision(alloc, list, script, node, out),
-        Question::Modes { trace } => judge(alloc, list, script, trace, true, library, out),
+        Question::Modes { trace } => judge(alloc, list, script, trace, Wants::Modes, library, out),
     }
 }
 

@@ -1,5 +1,5 @@
 -- What each form asks for, and how it ends.
-use Rattle.std.specs.Prelude.{ℕ, Bool, List, Option, Some, None, codes, ◌++◌, if◌then◌else◌}
+use Rattle.std.specs.Prelude.{ℕ, List, Option, Some, None, codes, ◌++◌, if◌then◌else◌}
 use Rattle.ttp_base.specs.Text.{lines_of}
 use Rattle.ttp_world.specs.declared.medl.Medl.{Medl}
 use Rattle.ttp_world.specs.declared.script.Script.{Script}
@@ -17,6 +17,8 @@ use Rattle.ttp_top.specs.Calls.Texts.{traces, fronts, differences, precisions, s
 use Rattle.ttp_top.specs.Calls.Words.{Form, schedule, run, keeps, verify, precision, sample, modes}
 use Rattle.ttp_top.specs.declared.words.Question.{Question}
 use Rattle.ttp_top.specs.declared.words.Question.TheVariants as question
+use Rattle.ttp_top.specs.declared.verify.Wants.{Wants}
+use Rattle.ttp_top.specs.declared.verify.Wants.TheVariants as wanted
 
 -- the line on words of no form
 abbrev pub usage_line : List ℕ
@@ -75,12 +77,17 @@ plan_of (Some (sample list slots number)) = list_plan list (λ medl. ends (sampl
 plan_of (Some (modes list script trace)) =
     both_plan list script (λ medl right. trace_plan trace (λ text. ends (modes_ending medl right text)))
 
--- what is due of a text, by whether the modes of a trace are wanted: the ending of `modes`, or that of `verify`
-abbrev pub judged_ending : (wants_modes : Bool) → Medl → Script → List ℕ → BenchEnding
-judged_ending wants_modes list script text =
+-- what is due of a trace, by what is wanted of it
+abbrev pub right_ending : Wants → Medl → Script → List ℕ → BenchEnding
+right_ending wanted.Same list script text = line_ending 0 same_line
+right_ending wanted.Modes list script text =
+    whole_ending 0 (one (mode_lines list script (numbers_in list script (lines_of text))))
+
+-- what is due of a text that may be a trace: the ending of `verify`, or that of `modes`
+abbrev pub judged_ending : Wants → Medl → Script → List ℕ → BenchEnding
+judged_ending wants list script text =
     if is_trace list script text
-    then (if wants_modes then whole_ending 0 (one (mode_lines list script (numbers_in list script (lines_of text))))
-    else line_ending 0 same_line)
+    then right_ending wants list script text
     else whole_ending 1 (those (differences list script text))
 
 -- what is left of a question's plan, once its list and its script are there

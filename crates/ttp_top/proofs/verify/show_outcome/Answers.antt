@@ -1,6 +1,5 @@
-use Rattle.ttp_top.proofs.Terms.{◌∙◌, inl, lines_of, mode_lines, said_as, line_ending, whole_ending, one, ttpbench}
-use Rattle.ttp_top.proofs.Terms.{differs_line, same_line, if◌then◌else◌}
-use Rattle.ttp_world.specs.TraceNumbers.{numbers_in}
+use Rattle.ttp_top.proofs.Terms.{◌∙◌, inl, said_as, differs_line, ttpbench}
+use Rattle.ttp_top.specs.Calls.Forms.{right_ending}
 use Rattle.trace_check.proofs.Differences.{differs-none}
 use Rattle.ttp_top.proofs.Calls.Differences.{differs-said}
 use Rattle.ttp_top.proofs.verify.show_outcome.Goals as goal
@@ -14,7 +13,6 @@ returns-in-Ok-Differs g c =
     let said = said_as ttpbench 1 _ (differs_line line) _ _ _
     (c.bytes.ensures ∙ c.differs_line.ensures) c.say-in-Ok-Differs.ensures in
     let same = rw c.in-Ok-Differs.field-0-is at c.in-Ok-Differs.ensures.same in
-    let modes = whole_ending 0 (one (mode_lines list script (numbers_in list script (lines_of text)))) in
-    inl (differs-said (if c.args.wants_modes then modes else line_ending 0 same_line) list script text line _ _ _
+    inl (differs-said (right_ending c.args.wants list script text) list script text line _ _ _
     (differs-none list script text line same)
     ((c.in-Ok-Differs.ensures.differs line).0 c.in-Ok-Differs.field-0-is) said)
