@@ -11,13 +11,11 @@ use crate::list_side::{ListSide, list_side};
 use crate::named::Named;
 use crate::rules::{Rules, no_rules, rules_alone, rules_of};
 use crate::script_side::{ScriptSide, script_side};
+use commands::SCRIPT_LIMIT;
 use script_text::{ScriptError, read_script};
 use std::alloc::Global;
 use ttp_base::Memory;
 use ttp_world::{Medl, Script};
-
-// The most bytes of a script file.
-const SCRIPT_LIMIT: usize = 1_048_576;
 
 /// What is wrong with a script, and the rules that right files do not keep.
 #[derive(Drop)]

@@ -10,6 +10,7 @@ ghost use Rattle.check_text.specs.Lines.{key_wrong, list_fault_lines, nth_place,
 ghost use Rattle.check_text.specs.Sides.{list_side_lines};
 
 use check_words::{Place, Text};
+use commands::LIST_LIMIT;
 use list_errors::{ListFound, ValueType, Wrong, list_errors};
 use list_places::{Places, list_places};
 use list_words::Measures;
@@ -18,9 +19,6 @@ use std::alloc::Global;
 use stop_words::put_stop;
 use ttp_base::{List, Memory};
 use ttp_world::Medl;
-
-// The most bytes of a list file.
-const LIST_LIMIT: usize = 1_048_576;
 
 /// What is wrong with a list, and where; and the list, where nothing is.
 #[derive(Drop)]

@@ -6,15 +6,13 @@ ghost use Rattle.medl_text.specs.ListFile.{document_of};
 ghost use Rattle.check_text.specs.Lines.{has_member, script_fault_lines};
 ghost use Rattle.check_text.specs.Sides.{script_side_lines};
 
+use commands::SCRIPT_LIMIT;
 use list_errors::document_of;
 use script_errors::{ScriptError, script_errors};
 use std::alloc::Global;
 use toml::Table;
 use ttp_base::{List, Memory};
 use ttp_world::Medl;
-
-// The most bytes of a script file.
-const SCRIPT_LIMIT: usize = 1_048_576;
 
 /// What is wrong with a script.
 #[derive(Drop)]

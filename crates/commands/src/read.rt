@@ -10,13 +10,13 @@ use std::alloc::Global;
 use ttp_world::{Medl, Script};
 
 /// The most bytes of a list file.
-pub(crate) const LIST_LIMIT: usize = 1_048_576;
+pub const LIST_LIMIT: usize = 1_048_576;
 
 /// The most bytes of a script file.
-pub(crate) const SCRIPT_LIMIT: usize = 1_048_576;
+pub const SCRIPT_LIMIT: usize = 1_048_576;
 
 /// The most bytes that the file of a trace may have.
-pub(crate) const TRACE_LIMIT: usize = 134_217_728;
+pub const TRACE_LIMIT: usize = 134_217_728;
 
 /// What is wrong with a file's bytes.
 #[derive(Clone, Copy, PartialEq, Eq)]

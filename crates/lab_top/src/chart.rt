@@ -9,9 +9,9 @@ ghost use Rattle.lab_top.specs.Texts.{ttplab};
 ghost use Rattle.lab_top.specs.Views.{chart_view, text_file, viewed};
 ghost use Rattle.lab_top.specs.Words.{chart};
 
-use crate::refusal::{TEXT_LIMIT, TextFault, campaign_from, refuse_campaign};
+use crate::refusal::{TextFault, campaign_from, refuse_campaign};
 use chart_text::{ChartFault, put_chart};
-use commands::say;
+use commands::{TRACE_LIMIT, say};
 use picture_text::Span;
 use std::alloc::Global;
 use ttp_base::{Library, LoadError, Sink};
@@ -28,7 +28,7 @@ fn load_campaign<L: Library, K: Sink>(
     ensures err { IfErr result (GaveNone (text_file (codes "campaign") name.now)
         (outside (L.files library.old) (K.output out.old)) (outside (L.files library.new) (K.output out.new))) }
 {
-    match library.load(alloc, name, TEXT_LIMIT) {
+    match library.load(alloc, name, TRACE_LIMIT) {
         Ok(bytes) => Ok(bytes),
         Err(LoadError::Failed) => Err(say(out, b"load: campaign\n", 5)),
         Err(LoadError::Memory) => Err(7),

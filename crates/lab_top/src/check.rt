@@ -11,15 +11,10 @@ ghost use Rattle.lab_top.specs.Texts.{ttplab};
 ghost use Rattle.lab_top.specs.Words.{check};
 
 use check_text::{Named, put_check};
-use commands::say;
+use commands::{LIST_LIMIT, SCRIPT_LIMIT, say};
 use fault_runs::CampaignFault;
 use std::alloc::Global;
 use ttp_base::{Library, LoadError, Sink};
-
-// The most bytes of a list file and of a script file.
-const LIST_LIMIT: usize = 1_048_576;
-
-const SCRIPT_LIMIT: usize = 1_048_576;
 
 // The first bytes of the list of this name, one more than it may have, or the status of a call that got none.
 fn load_list_text<L: Library, K: Sink>(

@@ -7,13 +7,10 @@ ghost use Rattle.whole_campaign.specs.Whole.{campaign_in};
 ghost use Rattle.whole_campaign.specs.Readable.{IsReadable};
 ghost use Rattle.whole_trace.specs.Whole.{whole_in};
 
-use commands::say;
+use commands::{TRACE_LIMIT, say};
 use ttp_base::{Line, Sink};
 use whole_campaign::{Campaign, read_campaign};
 use whole_trace::{Whole, read_whole};
-
-/// The most bytes of a text that is shown.
-pub(crate) const TEXT_LIMIT: usize = 134_217_728;
 
 /// Why a text is not shown.
 #[derive(Clone, Copy, PartialEq, Eq)]
@@ -91,7 +88,7 @@ pub(crate) fn refuse_campaign<K: Sink>(out: &mut K, fault: TextFault) -> u8
 fn is_too_large(text: &[u8]) -> bool
     ensures { result ≡ nat_lt trace_limit (length text.now) }
 {
-    text.len() > TEXT_LIMIT
+    text.len() > TRACE_LIMIT
 }
 
 /// The trace that a text is, unless it is too large or none.

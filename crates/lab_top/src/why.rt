@@ -17,16 +17,13 @@ ghost use Rattle.lab_top.specs.Words.{why};
 ghost use Rattle.why_answers.specs.Answer.{why_answer};
 
 use crate::check::load_script_text;
-use commands::{FileFault, file_fault_line, load_list, say};
+use commands::{FileFault, SCRIPT_LIMIT, file_fault_line, load_list, say};
 use fault_runs::campaign_text::Text;
 use script_text::{ScriptError, read_script};
 use std::alloc::Global;
 use ttp_base::{Failed, Library, Sheet, Sink};
 use ttp_world::{Medl, Script};
 use why_answers::{WhyAnswer, why_answer};
-
-// The most bytes of a script.
-const SCRIPT_LIMIT: usize = 1_048_576;
 
 /// Why bytes are taken for no script.
 #[derive(Clone, Copy)]
