@@ -33,7 +33,7 @@ mod said;
 mod words;
 
 pub use faults::file_fault_line;
-pub use load::{load_both, load_list, load_script, load_trace};
+pub use load::{load_both, load_list, load_script, load_text, load_trace};
 pub use read::{FileFault, LIST_LIMIT, SCRIPT_LIMIT, TRACE_LIMIT};
 pub use said::say;
 pub use words::numeral_named;

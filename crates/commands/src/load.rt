@@ -1,6 +1,6 @@
 //! A list, a script and the text of a trace from their files. Where there is none, what is wrong is said, and
 //! its status answered.
-ghost use Rattle.std.specs.Prelude.{IfOk, IfErr};
+ghost use Rattle.std.specs.Prelude.{◌<◌, ◌^◌, IfOk, IfErr};
 ghost use Rattle.ttp_world.specs.Medl.{IsValid};
 ghost use Rattle.ttp_world.specs.Script.{IsValidScript};
 ghost use Rattle.commands.specs.Files.{TookList, TookNoList, TookScript, TookNoScript, TookBoth, TookNotBoth};
@@ -92,9 +92,31 @@ pub fn load_both<L: Library, K: Sink>(
     }
 }
 
-/// The first bytes of the file of this name, one more than a trace may have, or the status of a call that
-/// got none: 5 for a file that could not be loaded, 6 where the line that says so could not be written, 7 for
-/// want of memory.
+/// The first bytes of the file of this name, one more than a limit, or the status of a call that got none: 5 for
+/// a file that could not be loaded, 6 where `missing`, the line that says so, could not be written, 7 for want
+/// of memory.
+pub fn load_text<L: Library, K: Sink>(
+    alloc: Global,
+    name: &str,
+    limit: usize,
+    missing: &[u8],
+    library: &mut L,
+    out: &mut K,
+) -> Result<Vec<u8>, u8>
+    requires { limit < 2 ^ 32 }
+    ensures ok { IfOk result (λ bytes. Loaded (record { name = name.now; limit = limit; missing = missing.now })
+        (outside (L.files library.old) (K.output out.old)) (outside (L.files library.new) (K.output out.new)) bytes.items) }
+    ensures err { IfErr result (GaveNone (record { name = name.now; limit = limit; missing = missing.now })
+        (outside (L.files library.old) (K.output out.old)) (outside (L.files library.new) (K.output out.new))) }
+{
+    match library.load(alloc, name, limit) {
+        Ok(bytes) => Ok(bytes),
+        Err(LoadError::Failed) => Err(say(out, missing, 5)),
+        Err(LoadError::Memory) => Err(7),
+    }
+}
+
+/// The text of this name that may be a trace, up to one byte more than a trace may have; else as [`load_text`].
 pub fn load_trace<L: Library, K: Sink>(
     alloc: Global,
     name: &str,
@@ -106,9 +128,5 @@ pub fn load_trace<L: Library, K: Sink>(
     ensures err { IfErr result (GaveNone (trace_file name.now) (outside (L.files library.old) (K.output out.old))
         (outside (L.files library.new) (K.output out.new))) }
 {
-    match library.load(alloc, name, TRACE_LIMIT) {
-        Ok(bytes) => Ok(bytes),
-        Err(LoadError::Failed) => Err(say(out, b"load: trace\n", 5)),
-        Err(LoadError::Memory) => Err(7),
-    }
+    load_text(alloc, name, TRACE_LIMIT, b"load: trace\n", library, out)
 }

@@ -1,39 +1,19 @@
 //! The command `chart CAMPAIGN [FIRST LAST]`.
-ghost use Rattle.std.specs.Prelude.{Some, IfOk, IfErr, codes};
-ghost use Rattle.commands.specs.Loads.{Loaded, GaveNone};
+ghost use Rattle.std.specs.Prelude.{Some};
 ghost use Rattle.commands.specs.Outcome.{Follows, ShowsEnding};
 ghost use Rattle.commands.specs.Plan.{outside};
 ghost use Rattle.commands.specs.Texts.{alone};
 ghost use Rattle.lab_top.specs.Forms.{viewed_ending, lab_plan_of};
 ghost use Rattle.lab_top.specs.Texts.{ttplab};
-ghost use Rattle.lab_top.specs.Views.{chart_view, text_file, viewed};
+ghost use Rattle.lab_top.specs.Views.{chart_view, viewed};
 ghost use Rattle.lab_top.specs.Words.{chart};
 
 use crate::refusal::{TextFault, campaign_from, refuse_campaign};
 use chart_text::{ChartFault, put_chart};
-use commands::{TRACE_LIMIT, say};
+use commands::{TRACE_LIMIT, load_text};
 use picture_text::Span;
 use std::alloc::Global;
-use ttp_base::{Library, LoadError, Sink};
-
-// The first bytes of the file of this name, one more than a campaign may have, or the status of a call that got none.
-fn load_campaign<L: Library, K: Sink>(
-    alloc: Global,
-    name: &str,
-    library: &mut L,
-    out: &mut K,
-) -> Result<Vec<u8>, u8>
-    ensures ok { IfOk result (λ bytes. Loaded (text_file (codes "campaign") name.now)
-        (outside (L.files library.old) (K.output out.old)) (outside (L.files library.new) (K.output out.new)) bytes.items) }
-    ensures err { IfErr result (GaveNone (text_file (codes "campaign") name.now)
-        (outside (L.files library.old) (K.output out.old)) (outside (L.files library.new) (K.output out.new))) }
-{
-    match library.load(alloc, name, TRACE_LIMIT) {
-        Ok(bytes) => Ok(bytes),
-        Err(LoadError::Failed) => Err(say(out, b"load: campaign\n", 5)),
-        Err(LoadError::Memory) => Err(7),
-    }
-}
+use ttp_base::{Library, Sink};
 
 // The chart of a text, if it is a campaign with slots to be shown.
 fn show_chart<K: Sink>(alloc: Global, text: &[u8], asked: Option<Span>, out: &mut K) -> u8
@@ -64,7 +44,14 @@ pub(crate) fn chart<L: Library, K: Sink>(
         (outside (L.files library.old) (K.output out.old)) (outside (L.files library.new) (K.output out.new))
         (alone result) }
 {
-    match load_campaign(alloc, campaign, library, out) {
+    match load_text(
+        alloc,
+        campaign,
+        TRACE_LIMIT,
+        b"load: campaign\n",
+        library,
+        out,
+    ) {
         Ok(text) => show_chart(alloc, text.as_slice(), asked, out),
         Err(status) => status,
     }

@@ -11,10 +11,10 @@ ghost use Rattle.lab_top.specs.Texts.{ttplab};
 ghost use Rattle.lab_top.specs.Words.{check};
 
 use check_text::{Named, put_check};
-use commands::{LIST_LIMIT, SCRIPT_LIMIT, say};
+use commands::{LIST_LIMIT, SCRIPT_LIMIT, load_text};
 use fault_runs::CampaignFault;
 use std::alloc::Global;
-use ttp_base::{Library, LoadError, Sink};
+use ttp_base::{Library, Sink};
 
 // The first bytes of the list of this name, one more than it may have, or the status of a call that got none.
 fn load_list_text<L: Library, K: Sink>(
@@ -28,11 +28,7 @@ fn load_list_text<L: Library, K: Sink>(
     ensures err { IfErr result (GaveNone (list_file name.now) (outside (L.files library.old) (K.output out.old))
         (outside (L.files library.new) (K.output out.new))) }
 {
-    match library.load(alloc, name, LIST_LIMIT) {
-        Ok(bytes) => Ok(bytes),
-        Err(LoadError::Failed) => Err(say(out, b"load: list\n", 5)),
-        Err(LoadError::Memory) => Err(7),
-    }
+    load_text(alloc, name, LIST_LIMIT, b"load: list\n", library, out)
 }
 
 // The same of the script.
@@ -47,11 +43,7 @@ pub(crate) fn load_script_text<L: Library, K: Sink>(
     ensures err { IfErr result (GaveNone (script_file name.now) (outside (L.files library.old) (K.output out.old))
         (outside (L.files library.new) (K.output out.new))) }
 {
-    match library.load(alloc, name, SCRIPT_LIMIT) {
-        Ok(bytes) => Ok(bytes),
-        Err(LoadError::Failed) => Err(say(out, b"load: script\n", 5)),
-        Err(LoadError::Memory) => Err(7),
-    }
+    load_text(alloc, name, SCRIPT_LIMIT, b"load: script\n", library, out)
 }
 
 // What is wrong with a list, and with a script beside it.

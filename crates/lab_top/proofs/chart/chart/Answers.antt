@@ -9,7 +9,7 @@ use Rattle.lab_top.proofs.chart.chart.Goals as goal
 
 pub returns-in-Ok : goal.returns-in-Ok
 returns-in-Ok g c =
-    let later = outside (g.L.Library.files c.load_campaign.new.library) (g.K.Sink.output c.show_chart.new.out) in
+    let later = outside (g.L.Library.files c.load_text.new.library) (g.K.Sink.output c.show_chart.new.out) in
     let shown = rw c.as_slice.ensures.value at c.show_chart.ensures in
     bytes_came ttplab (text_file (codes "campaign") c.args.campaign.now)
     (λ text. ends (viewed_ending (chart_view c.args.asked) (viewed (chart_view c.args.asked) text))) _ _
