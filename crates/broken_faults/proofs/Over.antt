@@ -102,24 +102,26 @@ jump-early list script start before next slot k ks found first some over =
     subst (λ js. LooksOver list script start before (all_in slot js) found next) (sym (headed ks k first))
     (over-found list script start before next (all_in slot (k ∷ [])) (all_in slot (drop 1 ks)) found some over)
 
--- the second, where the first does not
-pub jump-second : (list : Medl) (script : Script) (start : ClusterStart) (before next : Since) (slot k j : ℕ)
-    (ks : List ℕ) (first found : Option EarlyFault) → 0 < length list.slots → slice_get ks 0 ≡ Some k
-    → slice_get (drop 1 ks) 0 ≡ Some j → is_some first ≡ false
-    → LooksOver list script start before (all_in slot (k ∷ [])) first (since.Fault slot k)
-    → LooksOver list script start (since.Fault slot k) (all_in slot (j ∷ [])) found next
-    → LooksOver list script start before (all_in slot ks) found next
-jump-second list script start before next slot k j ks first found some head second none over later =
-    let rest : all_in slot (j ∷ drop 1 (drop 1 ks)) ≡ all_in slot (drop 1 ks) =
-    ap (all_in slot) (sym (headed (drop 1 ks) j second)) in
-    let both : LooksOver list script start (since.Fault slot k) (all_in slot (drop 1 ks)) found next =
-    subst (λ faults. LooksOver list script start (since.Fault slot k) faults found next) rest
-    (over-found list script start (since.Fault slot k) next (all_in slot (j ∷ []))
-    (all_in slot (drop 1 (drop 1 ks))) found
-    (second-found list script start slot k j next found some later) later) in
-    subst (λ js. LooksOver list script start before (all_in slot js) found next) (sym (headed ks k head))
-    (over-both list script start before (since.Fault slot k) next (all_in slot (k ∷ [])) (all_in slot (drop 1 ks)) first
-    found none over both)
+module _ (list : Medl) (script : Script) where
+  -- the second, where the first does not
+  pub jump-second :
+      (start : ClusterStart) (before next : Since) (slot k j : ℕ) (ks : List ℕ) (first found : Option EarlyFault)
+      → 0 < length list.slots → slice_get ks 0 ≡ Some k → slice_get (drop 1 ks) 0 ≡ Some j → is_some first ≡ false
+      → LooksOver list script start before (all_in slot (k ∷ [])) first (since.Fault slot k)
+      → LooksOver list script start (since.Fault slot k) (all_in slot (j ∷ [])) found next
+      → LooksOver list script start before (all_in slot ks) found next
+  jump-second start before next slot k j ks first found some head second none over later =
+      let rest : all_in slot (j ∷ drop 1 (drop 1 ks)) ≡ all_in slot (drop 1 ks) =
+      ap (all_in slot) (sym (headed (drop 1 ks) j second)) in
+      let both : LooksOver list script start (since.Fault slot k) (all_in slot (drop 1 ks)) found next =
+      subst (λ faults. LooksOver list script start (since.Fault slot k) faults found next) rest
+      (over-found list script start (since.Fault slot k) next (all_in slot (j ∷ []))
+      (all_in slot (drop 1 (drop 1 ks))) found
+      (second-found list script start slot k j next found some later) later) in
+      subst (λ js. LooksOver list script start before (all_in slot js) found next) (sym (headed ks k head))
+      (over-both list script start before (since.Fault slot k) next (all_in slot (k ∷ [])) (all_in slot (drop 1 ks))
+      first
+      found none over both)
 
 -- the first alone
 pub jump-alone : (list : Medl) (script : Script) (start : ClusterStart) (before next : Since) (slot k : ℕ) (ks : List ℕ)

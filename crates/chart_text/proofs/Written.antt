@@ -20,29 +20,31 @@ pub left_none : {X : Type 0} (lines : X → Lines) (old : List X) (f : Bool) (b 
     → Puts f b f b (flat_map lines old)
 left_none {X} lines old f b e = subst (λ (ys : List X). Puts f b f b (flat_map lines ys)) (sym e) (puts_none f b)
 
--- what is left of the list of the worst
-pub list_first : (size : Size) (y z : ℕ) (old rest : List FaultTold) (x : FaultTold) (g h i : Bool) (b c d : Output)
-    → old ≡ x ∷ rest → z ≡ y + 20 → Puts g b h c (listed_lines size y x) → Puts h c i d (list_lines size z rest)
-    → Puts g b i d (list_lines size y old)
-list_first size y z old rest x g h i b c d e next p q =
-    subst (λ (ys : List FaultTold). Puts g b i d (list_lines size y ys)) (sym e)
-    (puts_then g h i b c d (listed_lines size y x) (list_lines size (y + 20) rest) p
-    (subst (λ (n : ℕ). Puts h c i d (list_lines size n rest)) next q))
+module _ (size : Size) where
+  -- what is left of the list of the worst
+  pub list_first : (y z : ℕ) (old rest : List FaultTold) (x : FaultTold) (g h i : Bool) (b c d : Output)
+      → old ≡ x ∷ rest → z ≡ y + 20 → Puts g b h c (listed_lines size y x) → Puts h c i d (list_lines size z rest)
+      → Puts g b i d (list_lines size y old)
+  list_first y z old rest x g h i b c d e next p q =
+      subst (λ (ys : List FaultTold). Puts g b i d (list_lines size y ys)) (sym e)
+      (puts_then g h i b c d (listed_lines size y x) (list_lines size (y + 20) rest) p
+      (subst (λ (n : ℕ). Puts h c i d (list_lines size n rest)) next q))
 
 -- along an equation of the lines
 pub along : {f g : Bool} {a b : Output} {x y : Lines} → x ≡ y → Puts f a g b x → Puts f a g b y
 along {f} {g} {a} {b} e p = subst (Puts f a g b) e p
 
--- the lines of one number more, and of no more
-pub columns_next : {f g h k : Bool} {a b c d : Output} (lines : ℕ → Lines) (n m : ℕ) (these : Lines)
-    → Puts f a g b (lines_below lines n) → Puts g b h c these → these ≡ lines n → k ≡ h → d ≡ c → m ≡ n + 1
-    → Puts f a k d (lines_below lines m)
-columns_next {f} {g} {h} {k} {a} {b} {c} {d} lines n m these p q same failed out more =
-    let put : Puts f a h c (lines_below lines (n + 1)) = puts_below f g h a b c lines n p (along same q) in
-    let moved : Puts f a k d (lines_below lines (n + 1)) =
-    subst (λ (z : Output). Puts f a k z (lines_below lines (n + 1))) (sym out)
-    (subst (λ (z : Bool). Puts f a z c (lines_below lines (n + 1))) (sym failed) put) in
-    subst (λ (z : ℕ). Puts f a k d (lines_below lines z)) (sym more) moved
+module _ {f g h k : Bool} where
+  -- the lines of one number more, and of no more
+  pub columns_next : {a b c d : Output} (lines : ℕ → Lines) (n m : ℕ) (these : Lines)
+      → Puts f a g b (lines_below lines n) → Puts g b h c these → these ≡ lines n → k ≡ h → d ≡ c → m ≡ n + 1
+      → Puts f a k d (lines_below lines m)
+  columns_next {a} {b} {c} {d} lines n m these p q same failed out more =
+      let put : Puts f a h c (lines_below lines (n + 1)) = puts_below f g h a b c lines n p (along same q) in
+      let moved : Puts f a k d (lines_below lines (n + 1)) =
+      subst (λ (z : Output). Puts f a k z (lines_below lines (n + 1))) (sym out)
+      (subst (λ (z : Bool). Puts f a z c (lines_below lines (n + 1))) (sym failed) put) in
+      subst (λ (z : ℕ). Puts f a k d (lines_below lines z)) (sym more) moved
 
 pub columns_same : {f g k : Bool} {a b d : Output} (lines : ℕ → Lines) (n m : ℕ) → Puts f a g b (lines_below lines n)
     → k ≡ g → d ≡ b → m ≡ n

@@ -37,9 +37,9 @@ pub record AreBothChanged {A B : Type 0} (P : ℕ → A → A → B → B → Ty
   pub second : AreChanged (λ j x y. Unit {0}) e k was is
   pub done : (j : ℕ) → j < k → P j (get_or old j d) (get_or now j d) (get_or was j e) (get_or is j e)
 
-pub both_more : {A B : Type 0} {P : ℕ → A → A → B → B → Type 0} {d : A} {e : B} {k : ℕ} {old now : List A}
-    {was is : List B} (x new : A) (y next : B) → AreBothChanged P d e k old now was is → k < length now → k < length is
-    → x ≡ get_or now k x → y ≡ get_or is k y → P k x new y next
-    → AreBothChanged P d e (k + 1) old (set now k new) was (set is k next)
-both_more {P = P} {d = d} {e = e} {k = k} {old = old} {now = now} {was = was} {is = is} x new y next so near near' here
-    here' by = grind (steps, changed_more, at_any)
+module _ {A B : Type 0} {P : ℕ → A → A → B → B → Type 0} {d : A} {e : B} where
+  pub both_more : {k : ℕ} {old now : List A} {was is : List B} (x new : A) (y next : B)
+      → AreBothChanged P d e k old now was is → k < length now → k < length is → x ≡ get_or now k x
+      → y ≡ get_or is k y → P k x new y next → AreBothChanged P d e (k + 1) old (set now k new) was (set is k next)
+  both_more {k = k} {old = old} {now = now} {was = was} {is = is} x new y next so near near' here here' by =
+      grind (steps, changed_more, at_any)

@@ -72,23 +72,23 @@ part_of_whole {l} {sc} {ds = ds} first each ends seats count desks ready =
       };
     }
 
--- What is so of ends and outcomes at each place of both parts is so of the whole.
-joined_at : {X : Type 0} (d : X) (f : ControllerState → Outcome → X) {half : ℕ}
-    {ends ends1 ends2 : List ControllerState}
-    {os os1 os2 : List Outcome} {xs xs1 xs2 : List X} → AreParts half ends ends1 ends2 → AreParts half os os1 os2
-    → AreParts half xs xs1 xs2
-    → ((j : ℕ) → j < length ends1 → get_or xs1 j d ≡ f (end_at ends1 j) (outcome_of os1 j))
-    → ((j : ℕ) → j < length ends2 → get_or xs2 j d ≡ f (end_at ends2 j) (outcome_of os2 j))
-    → (j : ℕ) → j < length ends → get_or xs j d ≡ f (end_at ends j) (outcome_of os j)
-joined_at d f {half = half} {ends = ends} {os = os} {xs = xs} e o x front back j near = ⊎_elim
-    (λ less. rw (at_front d j x less, at_front [] j e less, at_front no_outcome j o less)
-    (front j (omega (arith, less, e.count))))
-    (λ more.
-    let at : half + (j - half) ≡ j = omega (arith, more) in
-    subst (λ k. get_or xs k d ≡ f (end_at ends k) (outcome_of os k)) at
-    (at_back d (j - half) x ∙ back (j - half) (omega (arith, near, more, parts_length e))
-    ∙ (λ i. f (sym (at_back [] (j - half) e) i) (sym (at_back no_outcome (j - half) o) i))))
-    (cases_lt j half)
+module _ {X : Type 0} (d : X) (f : ControllerState → Outcome → X) {half : ℕ} {ends ends1 ends2 : List ControllerState}
+  where
+    -- What is so of ends and outcomes at each place of both parts is so of the whole.
+    joined_at : {os os1 os2 : List Outcome} {xs xs1 xs2 : List X} → AreParts half ends ends1 ends2
+        → AreParts half os os1 os2 → AreParts half xs xs1 xs2
+        → ((j : ℕ) → j < length ends1 → get_or xs1 j d ≡ f (end_at ends1 j) (outcome_of os1 j))
+        → ((j : ℕ) → j < length ends2 → get_or xs2 j d ≡ f (end_at ends2 j) (outcome_of os2 j)) → (j : ℕ)
+        → j < length ends → get_or xs j d ≡ f (end_at ends j) (outcome_of os j)
+    joined_at {os = os} {xs = xs} e o x front back j near = ⊎_elim
+        (λ less. rw (at_front d j x less, at_front [] j e less, at_front no_outcome j o less)
+        (front j (omega (arith, less, e.count))))
+        (λ more.
+        let at : half + (j - half) ≡ j = omega (arith, more) in
+        subst (λ k. get_or xs k d ≡ f (end_at ends k) (outcome_of os k)) at
+        (at_back d (j - half) x ∙ back (j - half) (omega (arith, near, more, parts_length e))
+        ∙ (λ i. f (sym (at_back [] (j - half) e) i) (sym (at_back no_outcome (j - half) o) i))))
+        (cases_lt j half)
 
 -- The parts of all that the end of a slot works on.
 module _ {half : ℕ} {ss ss1 ss2 : List Seat} {ds ds1 ds2 : List Desk} (c : AreParts half ss ss1 ss2)

@@ -293,32 +293,33 @@ reading_fits : (list : Medl) (own : ℤ) (came : Arrival) (error drift : ℤ) �
     → ReadingFits own came error
 reading_fits list own came error drift fits = omega arith
 
--- what a call of the machine's numbers says of it
-pub ended-by : (made : Entry) (handed : Option Delivered) {list : Medl} {k : ℕ} {past : NodePast} {now : Turn}
-    {sends : Intent} {does : Act} {jump : ℤ} {message : Option ℕ} (a b : Arrival) (error drift offset : ℤ)
-    → IsControllerWithin list k past now sends → now ≡ Planned does jump message
-    → ArrivalFits list (past.offset +ℤ jump) a error drift → ArrivalFits list (past.offset +ℤ jump) b error drift
-    → FitsSigned w64 offset → FitsSigned w64 jump → FitsSigned w64 error → offset ≡ past.offset
-    → EndsAs made handed list k past does message a b
-    (to_z w64 (of_z w64 (to_z w64 (of_z w64 offset) +ℤ to_z w64 (of_z w64 jump)))) (to_z w64 (of_z w64 error))
-    → IsEnded made handed list k past does jump message a b error
-ended-by made handed {list = list} {k = k} {past = past} {does = does} {jump = jump} {message = message} a b error drift
-    offset within turn fits_a fits_b few_offset few_jump few_error is said =
-    let planned : IsPlannedWithin list k past does jump message = subst (IsTurnWithin list k past) turn within.turn in
-    let own = past.offset +ℤ jump in
-    let ends = rw (
-      to_z-of_z w64 offset few_offset,
-      to_z-of_z w64 jump few_jump,
-      to_z-of_z w64 error few_error,
-      is,
-      to_z-of_z w64 own (clock_fits past.offset jump planned.begun.fits),
-    ) at said in
-    let ending = ends planned.chosen planned.carries (signal_from 0 a) (signal_from 1 b) (clock_from a b) (shows_a a b)
-    (shows_b a b) in
-    record {
-      ends = ends;
-      made = subst (IsMade list k past a b error jump) (sym ending.entry)
-          (new_entry-made list k past a b error jump planned.chosen jump does within.valid
-          (reading_fits list own a error drift fits_a) (reading_fits list own b error drift fits_b)
-          (possible-at list k past does planned.begun.possible) planned.begun.taken);
-    }
+module _ (made : Entry) (handed : Option Delivered) {list : Medl} {k : ℕ} {past : NodePast} {now : Turn}
+    {sends : Intent} {does : Act} {jump : ℤ} where
+  -- what a call of the machine's numbers says of it
+  pub ended-by : {message : Option ℕ} (a b : Arrival) (error drift offset : ℤ)
+      → IsControllerWithin list k past now sends → now ≡ Planned does jump message
+      → ArrivalFits list (past.offset +ℤ jump) a error drift → ArrivalFits list (past.offset +ℤ jump) b error drift
+      → FitsSigned w64 offset → FitsSigned w64 jump → FitsSigned w64 error → offset ≡ past.offset
+      → EndsAs made handed list k past does message a b
+      (to_z w64 (of_z w64 (to_z w64 (of_z w64 offset) +ℤ to_z w64 (of_z w64 jump)))) (to_z w64 (of_z w64 error))
+      → IsEnded made handed list k past does jump message a b error
+  ended-by {message = message} a b error drift offset within turn fits_a fits_b few_offset few_jump few_error is said =
+      let planned : IsPlannedWithin list k past does jump message = subst (IsTurnWithin list k past) turn within.turn in
+      let own = past.offset +ℤ jump in
+      let ends = rw (
+        to_z-of_z w64 offset few_offset,
+        to_z-of_z w64 jump few_jump,
+        to_z-of_z w64 error few_error,
+        is,
+        to_z-of_z w64 own (clock_fits past.offset jump planned.begun.fits),
+      ) at said in
+      let ending = ends planned.chosen planned.carries (signal_from 0 a) (signal_from 1 b) (clock_from a b)
+      (shows_a a b)
+      (shows_b a b) in
+      record {
+        ends = ends;
+        made = subst (IsMade list k past a b error jump) (sym ending.entry)
+            (new_entry-made list k past a b error jump planned.chosen jump does within.valid
+            (reading_fits list own a error drift fits_a) (reading_fits list own b error drift fits_b)
+            (possible-at list k past does planned.begun.possible) planned.begun.taken);
+      }

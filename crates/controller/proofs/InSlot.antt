@@ -106,49 +106,50 @@ module _ (list : Medl) (script : Script) (history : History) (k : ℕ) (node : k
             ∙ (λ i. node_frames (begun.list i) (begun.node i) (past_is i) chosen does),
       )
 
-  -- the end
-  pub ended-node : {planned new : ControllerView} {outcome : Outcome} {carried : Carried} {error drift : ℤ}
-      (chosen : List Chosen) (a b : Arrival) → carried.slot < SLOT_LIMIT → IsSameNode planned new
-      → Ends planned new outcome a b error drift → AreHanded script carried.slot k error drift
-      → ShowsHeard carried script k channel.A a → ShowsHeard carried script k channel.B b →
-      let s = slot_after list script history in
-      CarriesFrames s (frames_in s chosen) carried → HasPlanned s (chosen_of chosen k) k planned
-      → StandsAfter script (row_in s chosen ∷ history) k new × IsOutcomeOf list script history chosen k outcome
-  ended-node {planned = planned} {new = new} {error = error} chosen a b early same ends handed on_a on_b carries has =
-      let s = slot_after list script history in
-      let diary = diary_of history k in
-      let surroundings = surroundings_of script history k in
-      let message = chosen_of chosen k in
-      let does = (node_of s k).act in
-      let jump = jump_begun s k in
-      let frames = frames_in s chosen in
-      let on = λ (c : Channel). heard script (length history) k c frames in
-      let clock = λ (p : ℕ). (node_of s p).clock in
-      let outside = surroundings_in script (length history) (row_in s chosen) k in
-      let past_is = past-node planned has.list has.node in
-      let stands = node-stands
-      (λ i. Planned does jump (message_planned (sym has.list i) (sym past_is i) message does)) has in
-      let end = ends diary surroundings does jump message (on channel.A) (on channel.B) clock outside stands
-      (on_a _ _ _ carries) (on_b _ _ _ carries)
-      (record { jump = refl; drift = sym handed.drift_is; silent = is_silent_to-row_in s chosen k }) in
-      let error_is = handed.error_is ∙ ap (reading_error script k) carries.slot in
-      let own_is = (λ i. clock_begun (past_is i) jump) ∙ offset-node in
-      let hearing_is : hearing_of (on channel.A) (on channel.B) clock
-      (clock_begun (view_past planned diary surroundings) jump) error
-      ≡ hearing_in s frames k = λ i. hearing_of (on channel.A) (on channel.B) clock (own_is i) (error_is i) in
-      let entry_is = (λ i. new_entry (has.list i) (has.node i) (past_is i) message (hearing_is i) does)
-      ∙ sym (entry_of-row_in s chosen k node) in
-      let long = length-diary_of history k in (
-        subst (λ (e : Entry). Stands new (e ∷ diary) (outside ∷ surroundings) Ended) entry_is end.stands,
-        record {
-          delivered = end.delivered
-              ∙ (λ i. delivery (has.list i) (has.node i) (past_is i) (hearing_is i) (entry_is i));
-          status = end.status (omega (arith, long, carries.slot))
-              ∙ (λ i. status_words (has.list i) (long i)
-              (past_of (has.list i) (has.node i) (entry_is i ∷ diary) (outside ∷ surroundings))
-              (is_some (delivery (has.list i) (has.node i) (past_is i) (hearing_is i) (entry_is i))));
-        },
-      )
+  module _ {planned new : ControllerView} where
+    -- the end
+    pub ended-node : {outcome : Outcome} {carried : Carried} {error drift : ℤ} (chosen : List Chosen) (a b : Arrival)
+        → carried.slot < SLOT_LIMIT → IsSameNode planned new → Ends planned new outcome a b error drift
+        → AreHanded script carried.slot k error drift → ShowsHeard carried script k channel.A a
+        → ShowsHeard carried script k channel.B b
+        → let s = slot_after list script history in CarriesFrames s (frames_in s chosen) carried
+        → HasPlanned s (chosen_of chosen k) k planned
+        → StandsAfter script (row_in s chosen ∷ history) k new × IsOutcomeOf list script history chosen k outcome
+    ended-node {error = error} chosen a b early same ends handed on_a on_b carries has =
+        let s = slot_after list script history in
+        let diary = diary_of history k in
+        let surroundings = surroundings_of script history k in
+        let message = chosen_of chosen k in
+        let does = (node_of s k).act in
+        let jump = jump_begun s k in
+        let frames = frames_in s chosen in
+        let on = λ (c : Channel). heard script (length history) k c frames in
+        let clock = λ (p : ℕ). (node_of s p).clock in
+        let outside = surroundings_in script (length history) (row_in s chosen) k in
+        let past_is = past-node planned has.list has.node in
+        let stands = node-stands
+        (λ i. Planned does jump (message_planned (sym has.list i) (sym past_is i) message does)) has in
+        let end = ends diary surroundings does jump message (on channel.A) (on channel.B) clock outside stands
+        (on_a _ _ _ carries) (on_b _ _ _ carries)
+        (record { jump = refl; drift = sym handed.drift_is; silent = is_silent_to-row_in s chosen k }) in
+        let error_is = handed.error_is ∙ ap (reading_error script k) carries.slot in
+        let own_is = (λ i. clock_begun (past_is i) jump) ∙ offset-node in
+        let hearing_is : hearing_of (on channel.A) (on channel.B) clock
+        (clock_begun (view_past planned diary surroundings) jump) error
+        ≡ hearing_in s frames k = λ i. hearing_of (on channel.A) (on channel.B) clock (own_is i) (error_is i) in
+        let entry_is = (λ i. new_entry (has.list i) (has.node i) (past_is i) message (hearing_is i) does)
+        ∙ sym (entry_of-row_in s chosen k node) in
+        let long = length-diary_of history k in (
+          subst (λ (e : Entry). Stands new (e ∷ diary) (outside ∷ surroundings) Ended) entry_is end.stands,
+          record {
+            delivered = end.delivered
+                ∙ (λ i. delivery (has.list i) (has.node i) (past_is i) (hearing_is i) (entry_is i));
+            status = end.status (omega (arith, long, carries.slot))
+                ∙ (λ i. status_words (has.list i) (long i)
+                (past_of (has.list i) (has.node i) (entry_is i ∷ diary) (outside ∷ surroundings))
+                (is_some (delivery (has.list i) (has.node i) (past_is i) (hearing_is i) (entry_is i))));
+          },
+        )
 
 -- a seat that sends nothing leaves the medium as it is
 pub sends-nothing : {list : Medl} {script : Script} {k : ℕ} {chosen : Chosen} {carried : Carried} (old new : Seat)

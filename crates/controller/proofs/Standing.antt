@@ -175,54 +175,58 @@ sends-begun : {list : Medl} {k : ℕ} {past : NodePast} {now : Turn} {sends : In
     → IsControllerWithin list k past now sends → now ≡ Begun does jumped → sends ≡ intent_by list past does
 sends-begun {list} {past = past} within begun = within.intent ∙ ap (turn_intent list past) begun
 
--- once it has planned, it has nothing more to send
-pub planned-within : {list : Medl} {k : ℕ} {past : NodePast} {now : Turn} {sends left : Intent} {does : Act}
-    {jumped again : ℤ} {message : Option ℕ} (number : ℕ) → IsControllerWithin list k past now sends
-    → now ≡ Begun does jumped → again ≡ jumped → message ≡ message_carried sends number → left ≡ intent.Quiet
-    → IsControllerWithin list k past (Planned does again message) left
-planned-within {list} {k} {past} {does = does} number within begun same carries quiet = rw same (record {
-  valid = within.valid;
-  node = within.node;
-  within = within.within;
-  clock = within.clock;
-  turn = record {
-    begun = subst (IsTurnWithin list k past) begun within.turn;
-    chosen = record { number = number; payload = [] };
-    carries = carries ∙ ap (λ wanted. message_carried wanted number) (sends-begun within begun)
-        ∙ message_carried-planned list past (record { number = number; payload = [] }) does;
-  };
-  intent = quiet;
-})
+module _ {list : Medl} where
+  -- once it has planned, it has nothing more to send
+  pub planned-within :
+      {k : ℕ} {past : NodePast} {now : Turn} {sends left : Intent} {does : Act} {jumped again : ℤ} {message : Option ℕ}
+      (number : ℕ)
+      → IsControllerWithin list k past now sends → now ≡ Begun does jumped → again ≡ jumped
+      → message ≡ message_carried sends number → left ≡ intent.Quiet
+      → IsControllerWithin list k past (Planned does again message) left
+  planned-within {k} {past} {does = does} number within begun same carries quiet = rw same (record {
+    valid = within.valid;
+    node = within.node;
+    within = within.within;
+    clock = within.clock;
+    turn = record {
+      begun = subst (IsTurnWithin list k past) begun within.turn;
+      chosen = record { number = number; payload = [] };
+      carries = carries ∙ ap (λ wanted. message_carried wanted number) (sends-begun within begun)
+          ∙ message_carried-planned list past (record { number = number; payload = [] }) does;
+    };
+    intent = quiet;
+  })
 
-pub Plans-turn : {list : Medl} {k : ℕ} {past : NodePast} {now : Turn} {sends : Intent} {does : Act} {jumped : ℤ}
-    (slots : ℕ) (again : ℤ) (number : ℕ) (payload : List ℕ) (message : Option ℕ) (planned : Option (List ℕ))
-    → IsControllerWithin list k past now sends → now ≡ Begun does jumped → again ≡ jumped
-    → message ≡ message_carried sends number → IsFrameOf list k past does payload planned
-    → Plans (view_at list k past slots now) (view_at list k past slots (Planned does again message)) number payload
-    planned
-Plans-turn {list} {k} {past} {does = does} {jumped = jumped} slots again number
-    payload message planned within begun same
-    carries frames = λ diary surroundings a jump chosen stands numbered paid.
-    let read = past_of list k diary surroundings in
-    let turns = sym begun ∙ stands.turn in
-    let acts : does ≡ a = cc in
-    let jumps : jumped ≡ jump = cc in
-    let alike = decides-alike list k read chosen a in
-    let carried =
-    carries
-    ∙ (λ i. message_carried (sends-begun within begun i) (sym numbered i))
-    ∙ message_carried-planned list past chosen does
-    ∙ (λ i. message_planned list (stands.past i) chosen (acts i))
-    ∙ alike.message in
-    let asked = (λ i. payload_planned list (stands.past i) chosen (acts i)) ∙ alike.payload ∙ paid in
-    record {
-      frames = frames chosen asked ∙ (λ i. node_frames list k (stands.past i) chosen (acts i)) ∙ alike.frames;
-      stands = record {
-        past = stands.past;
-        slots = stands.slots;
-        turn = λ i. Planned (acts i) ((same ∙ jumps) i) (carried i);
-      };
-    }
+module _ {list : Medl} {k : ℕ} {past : NodePast} where
+  pub Plans-turn :
+      {now : Turn} {sends : Intent} {does : Act} {jumped : ℤ} (slots : ℕ) (again : ℤ) (number : ℕ) (payload : List ℕ)
+      (message : Option ℕ) (planned : Option (List ℕ))
+      → IsControllerWithin list k past now sends → now ≡ Begun does jumped → again ≡ jumped
+      → message ≡ message_carried sends number → IsFrameOf list k past does payload planned
+      → Plans (view_at list k past slots now) (view_at list k past slots (Planned does again message)) number payload
+      planned
+  Plans-turn {does = does} {jumped = jumped} slots again number payload message planned within begun same carries
+      frames = λ diary surroundings a jump chosen stands numbered paid.
+      let read = past_of list k diary surroundings in
+      let turns = sym begun ∙ stands.turn in
+      let acts : does ≡ a = cc in
+      let jumps : jumped ≡ jump = cc in
+      let alike = decides-alike list k read chosen a in
+      let carried =
+      carries
+      ∙ (λ i. message_carried (sends-begun within begun i) (sym numbered i))
+      ∙ message_carried-planned list past chosen does
+      ∙ (λ i. message_planned list (stands.past i) chosen (acts i))
+      ∙ alike.message in
+      let asked = (λ i. payload_planned list (stands.past i) chosen (acts i)) ∙ alike.payload ∙ paid in
+      record {
+        frames = frames chosen asked ∙ (λ i. node_frames list k (stands.past i) chosen (acts i)) ∙ alike.frames;
+        stands = record {
+          past = stands.past;
+          slots = stands.slots;
+          turn = λ i. Planned (acts i) ((same ∙ jumps) i) (carried i);
+        };
+      }
 
 -- What comes from outside matters by its silence, and by how it changes the clock.
 
@@ -270,67 +274,66 @@ read_next list k past diary surroundings does chosen h s valid node is possible 
     (new_entry-follows list k possible.on possible.armed diary surroundings chosen h) in
     past_of-cons list k diary surroundings (new_entry list k read chosen h does) s follows
 
-pub Ends-controller : {list : Medl} {k : ℕ} {past : NodePast} {now : Turn} {sends : Intent} {does : Act} {jump : ℤ}
-    {message : Option ℕ} (slots : ℕ) (new : NodePast) (ended : ℕ) (outcome : Outcome) (made : Entry)
-    (handed : Option Delivered) (a b : Arrival) (error drift : ℤ) (silent : Bool)
-    → IsControllerWithin list k past now sends → now ≡ Planned does jump message
-    → EndsAs made handed list k past does message a b (past.offset +ℤ jump) error
-    → silent ≡ (is_silent_arrival a && is_silent_arrival b)
-    → new ≡ kept (past_after list k past made (record { jump = jump; drift = drift; is_silent = silent }))
-    → ended ≡ min (slots + 1) most_slots → outcome.delivered ≡ handed
-    → outcome.status.words ≡ status_words list slots new (is_some handed)
-    → Ends (view_at list k past slots now) (view_at list k new ended Ended) outcome a b error drift
-Ends-controller {list} {k} {past} {does = does} {jump = jump} {message = message} slots new ended outcome made handed a
-    b error drift silent within turn ends quiet_is entered counted delivered status =
-    λ diary surroundings there jumped chosen sent_a sent_b clock s stands shown_a shown_b around.
-    let x : SlotSurroundings = record { jump = jump; drift = drift; is_silent = silent } in
-    let planned : IsPlannedWithin list k past does jump message = subst (IsTurnWithin list k past) turn within.turn in
-    let read = past_of list k diary surroundings in
-    let turns = sym turn ∙ stands.turn in
-    let acts : does ≡ there = cc in
-    let alike = decides-alike list k read chosen there in
-    let same : jump ≡ jumped = cc in
-    let carried : message ≡ message_planned list read chosen there = cc in
-    let own : (past.offset +ℤ jump) ≡ (read.offset +ℤ jumped) = λ i. (stands.past i).offset +ℤ same i in
-    let h = hearing_of sent_a sent_b clock (read.offset +ℤ jumped) error in
-    let carries = carried ∙ sym (alike.message)
-    ∙ (λ i. message_planned list (sym stands.past i) chosen (sym acts i)) in
-    let is = ends chosen carries sent_a sent_b clock shown_a shown_b in
-    let from_kept = (λ i. new_entry list k (stands.past i) chosen (hearing_of sent_a sent_b clock (own i) error)
-    (acts i)) ∙ alike.entry h in
-    let e = new_entry list k read chosen h there in
-    let makes = is.entry ∙ from_kept in
-    let possible = subst (IsPossible list k past) acts planned.begun.possible in
-    let quiet = quiet_is ∙ (λ i. silence-shown a sent_a clock shown_a i && silence-shown b sent_b clock shown_b i)
-    ∙ sym around.silent in
-    let changes : (corrected : ℤ) → slot_change e x corrected ≡ slot_change e s corrected =
-    λ corrected. taken_change list k read chosen h there x s corrected (same ∙ around.jump) (sym around.drift) in
-    let next = read_next list k past diary surroundings there chosen h s within.valid within.node stands.past
-    possible in
-    let kept_new =
-    entered
-    ∙ (λ i. kept (past_after list k (stands.past i) (makes i) x))
-    ∙ kept_after-kept list k read e x
-    ∙ ap kept (past_after-outside list k read e x s quiet changes)
-    ∙ ap kept (sym next) in
-    let hands =
-    is.delivered
-    ∙ (λ i. delivery list k (stands.past i) (hearing_of sent_a sent_b clock (own i) error)
-    (new_entry list k (stands.past i) chosen (hearing_of sent_a sent_b clock (own i) error) (acts i)))
-    ∙ (λ i. delivery list k (kept read) h (alike.entry h i))
-    ∙ delivery-kept list k read h e in
-    record {
-      stands = record {
-        past = kept_new;
-        slots = counted ∙ one_slot slots (length diary) most_slots stands.slots;
-        turn = refl;
-      };
-      delivered = delivered ∙ hands;
-      status = λ few.
-          let all : slots ≡ length diary = omega (arith, stands.slots, few) in
-          status
-          ∙ (λ i. status_words list (all i) (kept_new i)
-          (is_some (hands i)))
-          ∙ status_words-kept list (length diary) (past_of list k (e ∷ diary) (s ∷ surroundings))
-          (is_some (delivery list k read h e));
-    }
+module _ {list : Medl} {k : ℕ} {past : NodePast} {now : Turn} {sends : Intent} {does : Act} {jump : ℤ}
+    {message : Option ℕ} (slots : ℕ) (new : NodePast) (ended : ℕ) (outcome : Outcome) where
+  pub Ends-controller : (made : Entry) (handed : Option Delivered) (a b : Arrival) (error drift : ℤ) (silent : Bool)
+      → IsControllerWithin list k past now sends → now ≡ Planned does jump message
+      → EndsAs made handed list k past does message a b (past.offset +ℤ jump) error
+      → silent ≡ (is_silent_arrival a && is_silent_arrival b)
+      → new ≡ kept (past_after list k past made (record { jump = jump; drift = drift; is_silent = silent }))
+      → ended ≡ min (slots + 1) most_slots → outcome.delivered ≡ handed
+      → outcome.status.words ≡ status_words list slots new (is_some handed)
+      → Ends (view_at list k past slots now) (view_at list k new ended Ended) outcome a b error drift
+  Ends-controller made handed a b error drift silent within turn ends quiet_is entered counted delivered status =
+      λ diary surroundings there jumped chosen sent_a sent_b clock s stands shown_a shown_b around.
+      let x : SlotSurroundings = record { jump = jump; drift = drift; is_silent = silent } in
+      let planned : IsPlannedWithin list k past does jump message = subst (IsTurnWithin list k past) turn within.turn in
+      let read = past_of list k diary surroundings in
+      let turns = sym turn ∙ stands.turn in
+      let acts : does ≡ there = cc in
+      let alike = decides-alike list k read chosen there in
+      let same : jump ≡ jumped = cc in
+      let carried : message ≡ message_planned list read chosen there = cc in
+      let own : (past.offset +ℤ jump) ≡ (read.offset +ℤ jumped) = λ i. (stands.past i).offset +ℤ same i in
+      let h = hearing_of sent_a sent_b clock (read.offset +ℤ jumped) error in
+      let carries = carried ∙ sym (alike.message)
+      ∙ (λ i. message_planned list (sym stands.past i) chosen (sym acts i)) in
+      let is = ends chosen carries sent_a sent_b clock shown_a shown_b in
+      let from_kept = (λ i. new_entry list k (stands.past i) chosen (hearing_of sent_a sent_b clock (own i) error)
+      (acts i)) ∙ alike.entry h in
+      let e = new_entry list k read chosen h there in
+      let makes = is.entry ∙ from_kept in
+      let possible = subst (IsPossible list k past) acts planned.begun.possible in
+      let quiet = quiet_is ∙ (λ i. silence-shown a sent_a clock shown_a i && silence-shown b sent_b clock shown_b i)
+      ∙ sym around.silent in
+      let changes : (corrected : ℤ) → slot_change e x corrected ≡ slot_change e s corrected =
+      λ corrected. taken_change list k read chosen h there x s corrected (same ∙ around.jump) (sym around.drift) in
+      let next = read_next list k past diary surroundings there chosen h s within.valid within.node stands.past
+      possible in
+      let kept_new =
+      entered
+      ∙ (λ i. kept (past_after list k (stands.past i) (makes i) x))
+      ∙ kept_after-kept list k read e x
+      ∙ ap kept (past_after-outside list k read e x s quiet changes)
+      ∙ ap kept (sym next) in
+      let hands =
+      is.delivered
+      ∙ (λ i. delivery list k (stands.past i) (hearing_of sent_a sent_b clock (own i) error)
+      (new_entry list k (stands.past i) chosen (hearing_of sent_a sent_b clock (own i) error) (acts i)))
+      ∙ (λ i. delivery list k (kept read) h (alike.entry h i))
+      ∙ delivery-kept list k read h e in
+      record {
+        stands = record {
+          past = kept_new;
+          slots = counted ∙ one_slot slots (length diary) most_slots stands.slots;
+          turn = refl;
+        };
+        delivered = delivered ∙ hands;
+        status = λ few.
+            let all : slots ≡ length diary = omega (arith, stands.slots, few) in
+            status
+            ∙ (λ i. status_words list (all i) (kept_new i)
+            (is_some (hands i)))
+            ∙ status_words-kept list (length diary) (past_of list k (e ∷ diary) (s ∷ surroundings))
+            (is_some (delivery list k read h e));
+      }

@@ -98,20 +98,20 @@ pub reason-none : (p k : ℕ) (s : RunSlot) (before : RunSlots) (others : List D
 reason-none p k s before [] is = refl
 reason-none p k s before (o ∷ others) is = absurd cc
 
-pub reason-told : (list : Medl) (script : Script) (slot p k nodes : ℕ) (before : RunSlots) (a : Ack)
-    (sent due differ telling : List ℕ)
-    → sent ≡ members_sent p (slot_in list script slot) → due ≡ members_due k (slot_in list script slot)
-    → nodes ≡ length list.slots → a ≡ (past_in k (slot_in list script slot)).ack
-    → differ ≡ filter (λ j. is_one_of (has_node sent j) (has_node due j)) (below nodes)
-    → telling ≡ telling_of k a differ
-    → members_reason_of p k (slot_in list script slot) before
-    (map (λ j. difference_of p k before (has_node sent j) j) telling)
-    ≡ members_reason p k (slot_in list script slot) before
-reason-told list script slot p k nodes before a sent due differ telling is_sent is_due count acks differs tells =
-    let listed : nodes ≡ length (slot_in list script slot).begun.list.slots =
-    count ∙ ap (λ (l : Medl). length l.slots) (sym (slot_in-list list script slot)) in
-    let set =
-    differs ∙ (λ i. filter (λ j. is_one_of (has_node (is_sent i) j) (has_node (is_due i) j)) (below (listed i))) in
-    let those = tells ∙ (λ i. telling_of k (acks i) (set i)) in
-    (λ i. members_reason_of p k (slot_in list script slot) before
-    (map (λ j. difference_of p k before (has_node (is_sent i) j) j) (those i)))
+module _ (list : Medl) (script : Script) (slot p k nodes : ℕ) where
+  pub reason-told : (before : RunSlots) (a : Ack) (sent due differ telling : List ℕ)
+      → sent ≡ members_sent p (slot_in list script slot) → due ≡ members_due k (slot_in list script slot)
+      → nodes ≡ length list.slots → a ≡ (past_in k (slot_in list script slot)).ack
+      → differ ≡ filter (λ j. is_one_of (has_node sent j) (has_node due j)) (below nodes)
+      → telling ≡ telling_of k a differ
+      → members_reason_of p k (slot_in list script slot) before
+      (map (λ j. difference_of p k before (has_node sent j) j) telling) ≡ members_reason p k (slot_in list script slot)
+      before
+  reason-told before a sent due differ telling is_sent is_due count acks differs tells =
+      let listed : nodes ≡ length (slot_in list script slot).begun.list.slots =
+      count ∙ ap (λ (l : Medl). length l.slots) (sym (slot_in-list list script slot)) in
+      let set =
+      differs ∙ (λ i. filter (λ j. is_one_of (has_node (is_sent i) j) (has_node (is_due i) j)) (below (listed i))) in
+      let those = tells ∙ (λ i. telling_of k (acks i) (set i)) in
+      (λ i. members_reason_of p k (slot_in list script slot) before
+      (map (λ j. difference_of p k before (has_node (is_sent i) j) j) (those i)))

@@ -396,58 +396,57 @@ module _ {J : Type 0} where
           refl,
         )))
 
-    -- a word that says who sleeps
-    flag_at : (v : Note J) (c : List (ℕ × Option J)) (x : ℕ) (id m p q : ℕ) (h : maybe.Option (Option J)) (r : Role)
-        (a : Option J) (w : Role) (b : Option J) → Stage needs does m h r a w b
-        → get_elem? (note r a ∷ note w b ∷ []) id ≡ some v
-        → (i : ℕ) → 0 < i → i < 3
-        → Goes (paired m p q h (note r a) (note w b)) id i (v, c) (λ _. x) (λ _ m'. m' ≡ (v, c))
-    flag_at v c x id m p q h r a w b stage at zero some_flag below = absurd (omega arith)
-    flag_at v c x id m p q h r a w b stage at (suc zero) some_flag below = (
-      v,
-      keeps,
-      tt,
-      inr (
-        m,
-        x,
-        q,
-        h,
-        r,
-        a,
-        w,
-        b,
-        ap (λ (vs : List (Note J)). record {
-          words = m ∷ x ∷ q ∷ [];
-          homes = h ∷ [];
-          views = vs;
-        }) (set_again (note r a ∷ note w b ∷ []) id v at),
-        stage,
-      ),
-      refl,
-    )
-    flag_at v c x id m p q h r a w b stage at (suc (suc zero)) some_flag below = (
-      v,
-      keeps,
-      tt,
-      inr (
-        m,
-        p,
-        x,
-        h,
-        r,
-        a,
-        w,
-        b,
-        ap (λ (vs : List (Note J)). record {
-          words = m ∷ p ∷ x ∷ [];
-          homes = h ∷ [];
-          views = vs;
-        }) (set_again (note r a ∷ note w b ∷ []) id v at),
-        stage,
-      ),
-      refl,
-    )
-    flag_at v c x id m p q h r a w b stage at (suc (suc (suc i))) some_flag below = absurd (omega arith)
+    module _ (v : Note J) (c : List (ℕ × Option J)) where
+      -- a word that says who sleeps
+      flag_at : (x id m p q : ℕ) (h : maybe.Option (Option J)) (r : Role) (a : Option J) (w : Role) (b : Option J)
+          → Stage needs does m h r a w b → get_elem? (note r a ∷ note w b ∷ []) id ≡ some v → (i : ℕ) → 0 < i → i < 3
+          → Goes (paired m p q h (note r a) (note w b)) id i (v, c) (λ _. x) (λ _ m'. m' ≡ (v, c))
+      flag_at x id m p q h r a w b stage at zero some_flag below = absurd (omega arith)
+      flag_at x id m p q h r a w b stage at (suc zero) some_flag below = (
+        v,
+        keeps,
+        tt,
+        inr (
+          m,
+          x,
+          q,
+          h,
+          r,
+          a,
+          w,
+          b,
+          ap (λ (vs : List (Note J)). record {
+            words = m ∷ x ∷ q ∷ [];
+            homes = h ∷ [];
+            views = vs;
+          }) (set_again (note r a ∷ note w b ∷ []) id v at),
+          stage,
+        ),
+        refl,
+      )
+      flag_at x id m p q h r a w b stage at (suc (suc zero)) some_flag below = (
+        v,
+        keeps,
+        tt,
+        inr (
+          m,
+          p,
+          x,
+          h,
+          r,
+          a,
+          w,
+          b,
+          ap (λ (vs : List (Note J)). record {
+            words = m ∷ p ∷ x ∷ [];
+            homes = h ∷ [];
+            views = vs;
+          }) (set_again (note r a ∷ note w b ∷ []) id v at),
+          stage,
+        ),
+        refl,
+      )
+      flag_at x id m p q h r a w b stage at (suc (suc (suc i))) some_flag below = absurd (omega arith)
 
     pub flags : (n id : ℕ) (me : Me (Option J) (Note J)) (i x : ℕ) → 0 < i → i < 3 → number me.0.role ≢ 0
         → Allows (Turns needs does) n id me i (λ _. x) (λ _ m'. m' ≡ me)

@@ -217,34 +217,33 @@ module _ (list : Medl) (script : Script) (e : Event) (slot : ℕ) (begins : slot
         (omega (arith, past, length-next_row list script slot)))
   ]
 
--- So the cost of the whole run is that of the slots up to it, with the memberships that are left in the own run.
-pub merged-cost : (list : Medl) (script : Script) (e : Event) (slot settled : ℕ)
-    (row : List Entry) (now : List NodeState)
-    (end : List (List ℕ)) (cost : Cost) → is_loss_in slot e ≡ true → slot ≤ begins_at e → slot < script.slots
-    → settled ≤ slot + 1 → IsSettledFrom list script settled → end ≡ (summary list script).cost.end
-    → row ≡ next_row list script slot
-    → AreShown list (with_fault script e) (zeros_world list (with_fault script e) (slot + 1)) now
-    → ((k : ℕ) → k < length now → IsSameDeed (state_at now k).entry (entry_of row k))
-    → cost ≡ cost_of list (with_fault script e) (zeros_world list (with_fault script e) (slot + 1))
-    → record cost { end = end } ≡ (summary list (with_fault script e)).cost
-merged-cost list script e slot settled row now end cost is begins within early rests own_end own told deeds costs =
-    let more = with_fault script e in
-    let m = script.slots - (slot + 1) in
-    let all : slot + 1 + m ≡ script.slots = omega (arith, within) in
-    let after = after-same list script e slot begins row now own told deeds in
-    let busy = busy-all list script e slot begins row now own told deeds in
-    let worlds = worlds-same list script e slot is after busy in
-    let still : (t : ℕ) → slot + 1 ≤ t → t < slot + 1 + m → HasSettledAt list (zeros_world list more (t + 1)) =
-    λ t from to.
-    let same : slot + 1 + (t - slot) ≡ t + 1 = omega (arith, from) in
-    subst (HasSettledAt list)
-    (sym (ap (zeros_world list script) same) ∙ worlds (t - slot) ∙ ap (zeros_world list more) same)
-    (rests t (omega (arith, early, from)) (omega (arith, to, all))) in
-    let left : end ≡ memberships list (zeros_world list more (slot + 1 + m)) (λ k. true) =
-    own_end
-    ∙ ap (λ n. memberships list (zeros_world list script n) (λ k. true)) (sym all)
-    ∙ ap (λ (h : History). memberships list h (λ k. true)) (worlds m) in
-    (λ i. record (costs i) { end = end })
-    ∙ sym (rest-still list more (slot + 1) end m still)
-    ∙ (λ i. record (cost_of list more (zeros_world list more (slot + 1 + m))) { end = left i })
-    ∙ ap (λ n. cost_of list more (zeros_world list more n)) all
+module _ (list : Medl) (script : Script) (e : Event) (slot settled : ℕ) where
+  -- So the cost of the whole run is that of the slots up to it, with the memberships that are left in the own run.
+  pub merged-cost : (row : List Entry) (now : List NodeState) (end : List (List ℕ)) (cost : Cost)
+      → is_loss_in slot e ≡ true → slot ≤ begins_at e → slot < script.slots → settled ≤ slot + 1
+      → IsSettledFrom list script settled → end ≡ (summary list script).cost.end → row ≡ next_row list script slot
+      → AreShown list (with_fault script e) (zeros_world list (with_fault script e) (slot + 1)) now
+      → ((k : ℕ) → k < length now → IsSameDeed (state_at now k).entry (entry_of row k))
+      → cost ≡ cost_of list (with_fault script e) (zeros_world list (with_fault script e) (slot + 1))
+      → record cost { end = end } ≡ (summary list (with_fault script e)).cost
+  merged-cost row now end cost is begins within early rests own_end own told deeds costs =
+      let more = with_fault script e in
+      let m = script.slots - (slot + 1) in
+      let all : slot + 1 + m ≡ script.slots = omega (arith, within) in
+      let after = after-same list script e slot begins row now own told deeds in
+      let busy = busy-all list script e slot begins row now own told deeds in
+      let worlds = worlds-same list script e slot is after busy in
+      let still : (t : ℕ) → slot + 1 ≤ t → t < slot + 1 + m → HasSettledAt list (zeros_world list more (t + 1)) =
+      λ t from to.
+      let same : slot + 1 + (t - slot) ≡ t + 1 = omega (arith, from) in
+      subst (HasSettledAt list)
+      (sym (ap (zeros_world list script) same) ∙ worlds (t - slot) ∙ ap (zeros_world list more) same)
+      (rests t (omega (arith, early, from)) (omega (arith, to, all))) in
+      let left : end ≡ memberships list (zeros_world list more (slot + 1 + m)) (λ k. true) =
+      own_end
+      ∙ ap (λ n. memberships list (zeros_world list script n) (λ k. true)) (sym all)
+      ∙ ap (λ (h : History). memberships list h (λ k. true)) (worlds m) in
+      (λ i. record (costs i) { end = end })
+      ∙ sym (rest-still list more (slot + 1) end m still)
+      ∙ (λ i. record (cost_of list more (zeros_world list more (slot + 1 + m))) { end = left i })
+      ∙ ap (λ n. cost_of list more (zeros_world list more n)) all

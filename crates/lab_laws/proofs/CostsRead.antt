@@ -228,26 +228,27 @@ nine-words left hurt first last sets p q r s t =
     (more-words 0 (codes "end") sets refl
     (one-word sets t))))))))
 
-nine-read : (n slots : ℕ) (left hurt first last sets : List ℕ) (leaving count : ℕ) (split : Bool) (all : SetsSoFar)
-    → has 32 left ≡ false → has 32 hurt ≡ false → has 32 first ≡ false → has 32 last ≡ false
-    → nodes_listed (kind.Leaving slots) n left ≡ Some leaving → nodes_listed kind.Hurt n hurt ≡ Some count
-    → split_in slots first last ≡ Some split → sets_listed n sets ≡ Some all
-    → cost_in n slots (nine left hurt first last sets)
-    ≡ Some (record { hurt = count; split = split; memberships = all.count; company = all.company })
-unfolding cost_in
-nine-read n slots left hurt first last sets leaving count split all p q r s a b c d =
-    rw (
-      word-behind 32 (codes "left ") left (codes "hurt " ++ (hurt ++ (codes " split " ++ (first ++ (codes " "
-          ++ (last ++ (codes " end " ++ sets))))))) p,
-      word-behind 32 (codes " hurt ") hurt (codes "split " ++ (first ++ (codes " "
-          ++ (last ++ (codes " end " ++ sets))))) q,
-      word-behind 32 (codes " split ") first (last ++ (codes " end " ++ sets)) r,
-      word-behind 32 (codes " ") last (codes "end " ++ sets) s,
-      a,
-      b,
-      c,
-      d,
-    ) refl
+module _ (n slots : ℕ) (left hurt first last sets : List ℕ) where
+  nine-read : (leaving count : ℕ) (split : Bool) (all : SetsSoFar) → has 32 left ≡ false → has 32 hurt ≡ false
+      → has 32 first ≡ false → has 32 last ≡ false → nodes_listed (kind.Leaving slots) n left ≡ Some leaving
+      → nodes_listed kind.Hurt n hurt ≡ Some count → split_in slots first last ≡ Some split
+      → sets_listed n sets ≡ Some all
+      → cost_in n slots (nine left hurt first last sets)
+      ≡ Some (record { hurt = count; split = split; memberships = all.count; company = all.company })
+  unfolding cost_in
+  nine-read leaving count split all p q r s a b c d =
+      rw (
+        word-behind 32 (codes "left ") left (codes "hurt " ++ (hurt ++ (codes " split " ++ (first ++ (codes " "
+            ++ (last ++ (codes " end " ++ sets))))))) p,
+        word-behind 32 (codes " hurt ") hurt (codes "split " ++ (first ++ (codes " "
+            ++ (last ++ (codes " end " ++ sets))))) q,
+        word-behind 32 (codes " split ") first (last ++ (codes " end " ++ sets)) r,
+        word-behind 32 (codes " ") last (codes "end " ++ sets) s,
+        a,
+        b,
+        c,
+        d,
+      ) refl
 
 -- All of it.
 

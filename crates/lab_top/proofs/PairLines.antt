@@ -34,12 +34,11 @@ class-none : (k : PairClass) → HasNone (class_word k)
 class-none class.Sum = refl
 class-none k = refl
 
-counts-by : (a b c d e f g h : List ℕ) → HasNone a → HasNone b → HasNone c
-    → HasNone d → HasNone e → HasNone f → HasNone g
-    → HasNone h
-    → HasNone (codes "pairs " ++ a ++ codes " sum " ++ b ++ codes " less " ++ c ++ codes " own " ++ d
-    ++ codes " divided " ++ e ++ codes " third " ++ f ++ codes " torn " ++ g ++ codes " dead " ++ h)
-counts-by a b c d e f g h p q r s t u v w = simp (list_any-append (λ x. x == 10), p, q, r, s, t, u, v, w)
+module _ (a b c d e f g h : List ℕ) where
+  counts-by : HasNone a → HasNone b → HasNone c → HasNone d → HasNone e → HasNone f → HasNone g → HasNone h
+      → HasNone (codes "pairs " ++ a ++ codes " sum " ++ b ++ codes " less " ++ c ++ codes " own " ++ d
+      ++ codes " divided " ++ e ++ codes " third " ++ f ++ codes " torn " ++ g ++ codes " dead " ++ h)
+  counts-by p q r s t u v w = simp (list_any-append (λ x. x == 10), p, q, r, s, t, u, v, w)
 
 counts-none : (counts : PairCounts) → HasNone (counts_words counts)
 counts-none counts =

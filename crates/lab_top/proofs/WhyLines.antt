@@ -71,10 +71,11 @@ none6 : (a b c d e f : List ℕ) → HasNone a → HasNone b → HasNone c → H
     → HasNone (a ++ b ++ c ++ d ++ e ++ f)
 none6 a b c d e f p q r s t u = none-append (a ++ b ++ c ++ d ++ e) f (none5 a b c d e p q r s t) u
 
-none8 : (a b c d e f g h : List ℕ) → HasNone a → HasNone b → HasNone c → HasNone d → HasNone e → HasNone f → HasNone g
-    → HasNone h → HasNone (a ++ b ++ c ++ d ++ e ++ f ++ g ++ h)
-none8 a b c d e f g h p q r s t u v w =
-    none3 (a ++ b ++ c ++ d ++ e ++ f) g h (none6 a b c d e f p q r s t u) v w
+module _ (a b c d e f g h : List ℕ) where
+  none8 : HasNone a → HasNone b → HasNone c → HasNone d → HasNone e → HasNone f → HasNone g → HasNone h
+      → HasNone (a ++ b ++ c ++ d ++ e ++ f ++ g ++ h)
+  none8 p q r s t u v w =
+      none3 (a ++ b ++ c ++ d ++ e ++ f) g h (none6 a b c d e f p q r s t u) v w
 
 -- Words.
 

@@ -60,20 +60,20 @@ carries_unless true script t c there before sent offset clock is old = rw (appen
 carries_unless false script t c there before sent offset clock is old =
     carries_more script t c there before sent offset clock is old
 
--- a channel that carries what is made of some frames carries, once a frame is put there, what is made of these and it
-pub Carries-put : (script : Script) (t : ℕ) (c : Channel) (there new : OnChannel) (frames : List SentFrame)
-    (sent : SentFrame) (offset : ℤ) (clock : ℕ → ℤ) (silenced noisy : Bool) (flips : List ℕ)
-    → offset ≡ clock sent.sender
-    → silenced ≡ has_send_fault script fault.Silence sent.sender c t
-    → noisy ≡ has_send_fault script fault.Noise sent.sender c t
-    → flips ≡ flipped_bits script sent.sender c t
-    → new ≡ with_frame there silenced noisy (bits sent.sender (flip_bits sent.bytes flips) offset)
-    → Carries there (channel_signal script t c frames) clock
-    → Carries new (channel_signal script t c (frames ++ sent ∷ [])) clock
-Carries-put script t c there new frames sent offset clock _ _ _ is silenced_is noisy_is flips_are put old =
-    rw (put, silenced_is, noisy_is, flips_are, filter-append (remains script t c) frames (sent ∷ []))
-    (carries_unless (has_send_fault script fault.Silence sent.sender c t) script t c there
-    (remaining_frames script t c frames) sent offset clock is old)
+module _ (script : Script) (t : ℕ) (c : Channel) where
+  -- a channel that carries what is made of some frames carries, once a frame is put there, what is made of these and it
+  pub Carries-put :
+      (there new : OnChannel) (frames : List SentFrame) (sent : SentFrame) (offset : ℤ) (clock : ℕ → ℤ)
+      (silenced noisy : Bool) (flips : List ℕ)
+      → offset ≡ clock sent.sender → silenced ≡ has_send_fault script fault.Silence sent.sender c t
+      → noisy ≡ has_send_fault script fault.Noise sent.sender c t → flips ≡ flipped_bits script sent.sender c t
+      → new ≡ with_frame there silenced noisy (bits sent.sender (flip_bits sent.bytes flips) offset)
+      → Carries there (channel_signal script t c frames) clock
+      → Carries new (channel_signal script t c (frames ++ sent ∷ [])) clock
+  Carries-put there new frames sent offset clock _ _ _ is silenced_is noisy_is flips_are put old =
+      rw (put, silenced_is, noisy_is, flips_are, filter-append (remains script t c) frames (sent ∷ []))
+      (carries_unless (has_send_fault script fault.Silence sent.sender c t) script t c there
+      (remaining_frames script t c frames) sent offset clock is old)
 
 -- What is heard.
 

@@ -50,17 +50,17 @@ place_from_start shape key number start k n j same begins count long =
     let here : start + k ≡ place shape number k = omega arith in
     here ∙ sym moved
 
-pub put_next : (shape key : Shape) (slots id : ℕ) (me : Sat) (w : Writing) (words : List ℕ) (number start k x : ℕ)
-    → key ≡ shape → me ≡ (Writer (record w { put = take k words; steps = w.steps + k }), [])
-    → w.is_open ≡ true → length w.messages ≡ number → length words ≡ shape.width → k < length words
-    → start ≡ place shape number 0
-    → Allows (Kept key) slots id me (start + k) (λ _. x) (λ _. tells_put (step slots (start + k) x 0 none) me x)
-put_next shape key slots id me w words number start k x same is opened count wide inside begins =
-    let long : length (take k words) ≡ k = length-take-le k words (omega arith) in
-    let width : key.width ≡ shape.width = ap (λ (z : Shape). z.width) same in
-    puts key slots id me (record w { put = take k words; steps = w.steps + k }) (start + k)
-    x (view_is me _ is) opened (omega arith)
-    (place_from_start shape key number start k (length w.messages) (length (take k words)) same begins count long)
+module _ (shape key : Shape) (slots id : ℕ) where
+  pub put_next : (me : Sat) (w : Writing) (words : List ℕ) (number start k x : ℕ) → key ≡ shape
+      → me ≡ (Writer (record w { put = take k words; steps = w.steps + k }), []) → w.is_open ≡ true
+      → length w.messages ≡ number → length words ≡ shape.width → k < length words → start ≡ place shape number 0
+      → Allows (Kept key) slots id me (start + k) (λ _. x) (λ _. tells_put (step slots (start + k) x 0 none) me x)
+  put_next me w words number start k x same is opened count wide inside begins =
+      let long : length (take k words) ≡ k = length-take-le k words (omega arith) in
+      let width : key.width ≡ shape.width = ap (λ (z : Shape). z.width) same in
+      puts key slots id me (record w { put = take k words; steps = w.steps + k }) (start + k)
+      x (view_is me _ is) opened (omega arith)
+      (place_from_start shape key number start k (length w.messages) (length (take k words)) same begins count long)
 
 pub load_next : (shape key : Shape) (slots id : ℕ) (me : Sat) (y : Reading) (number start k : ℕ) → key ≡ shape
     → me ≡ (Reader y, []) → y.first / 2 ≡ number → length y.words ≡ k → k < shape.width

@@ -91,52 +91,52 @@ one_less zero width some_room = absurd (omega arith)
 one_less (suc spare) width some_room =
     let e : suc spare - 1 ≡ spare = omega arith in ap (λ k. k * width + width) e ∙ omega (arith, suc-mul spare width)
 
-pub shelved_more : (r : Inside) (seat : RingSeat) (numbers words : Vec ℕ Global) (y : Reading) (p : Message)
-    → IsShelved r → 1 ≤ r.spare → seat.table_id ≡ r.seat.table_id → (reading_of r.seat.me.0).shape ≡ y.shape
-    → y.got ≡ (reading_of r.seat.me.0).got ++ p ∷ [] → seat.me ≡ (Reader y, []) → length p.words ≡ r.width
-    → numbers.items ≡ r.numbers.items ++ p.number ∷ [] → words.items ≡ r.words.items ++ p.words
-    → vec_len numbers ≡ vec_len r.numbers + 1 → vec_capacity numbers ≡ vec_capacity r.numbers
-    → vec_len words ≡ vec_len r.words + r.width → vec_capacity words ≡ vec_capacity r.words
-    → IsShelved record r { seat = seat; numbers = numbers; words = words; spare = r.spare - 1 }
-shelved_more r seat numbers words y p shelved some_room table shape got is wide more_numbers more_words numbers_long
-    numbers_room words_long words_room =
-    let v : Reading = reading_of r.seat.me.0 in
-    let known : reading_of seat.me.0 ≡ y = ap (λ m. reading_of m.0) is in
-    let room = shelved.room in
-    let word_room = shelved.word_room in
-    let less = one_less r.spare r.width some_room in
-    record {
-      own = (λ i. ring_of (table i) ((ap (λ (z : Reading). z.shape) known ∙ sym shape) i)) ∙ shelved.own;
-      seated = is ∙ (λ i. (Reader (sym known i), []));
-      width = shelved.width ∙ (ap (λ s. s.width) shape ∙ ap (λ (z : Reading). z.shape.width) (sym known));
-      wide = subst (λ (g : List Message). Wide r.width g) (sym got ∙ ap (λ (z : Reading). z.got) (sym known))
-          (All-push (λ q. length q.words ≡ r.width) v.got p shelved.wide wide);
-      numbers = more_numbers
-          ∙ (ap (λ l. l ++ p.number ∷ []) shelved.numbers
-          ∙ (sym (map_push (λ q. q.number) v.got p)
-          ∙ ap pair_numbers (sym got ∙ ap (λ (z : Reading). z.got) (sym known))));
-      words = more_words
-          ∙ (ap (λ l. l ++ p.words) shelved.words
-          ∙ (flat_map_more (λ q. q.words) [] v.got p
-          ∙ ap words_in (sym got ∙ ap (λ (z : Reading). z.got) (sym known))));
-      room = omega arith;
-      word_room = omega arith;
-    }
+module _ (r : Inside) (seat : RingSeat) (numbers words : Vec ℕ Global) where
+  pub shelved_more : (y : Reading) (p : Message) → IsShelved r → 1 ≤ r.spare → seat.table_id ≡ r.seat.table_id
+      → (reading_of r.seat.me.0).shape ≡ y.shape → y.got ≡ (reading_of r.seat.me.0).got ++ p ∷ []
+      → seat.me ≡ (Reader y, []) → length p.words ≡ r.width → numbers.items ≡ r.numbers.items ++ p.number ∷ []
+      → words.items ≡ r.words.items ++ p.words → vec_len numbers ≡ vec_len r.numbers + 1
+      → vec_capacity numbers ≡ vec_capacity r.numbers → vec_len words ≡ vec_len r.words + r.width
+      → vec_capacity words ≡ vec_capacity r.words
+      → IsShelved record r { seat = seat; numbers = numbers; words = words; spare = r.spare - 1 }
+  shelved_more y p shelved some_room table shape got is wide more_numbers more_words numbers_long numbers_room
+      words_long words_room =
+      let v : Reading = reading_of r.seat.me.0 in
+      let known : reading_of seat.me.0 ≡ y = ap (λ m. reading_of m.0) is in
+      let room = shelved.room in
+      let word_room = shelved.word_room in
+      let less = one_less r.spare r.width some_room in
+      record {
+        own = (λ i. ring_of (table i) ((ap (λ (z : Reading). z.shape) known ∙ sym shape) i)) ∙ shelved.own;
+        seated = is ∙ (λ i. (Reader (sym known i), []));
+        width = shelved.width ∙ (ap (λ s. s.width) shape ∙ ap (λ (z : Reading). z.shape.width) (sym known));
+        wide = subst (λ (g : List Message). Wide r.width g) (sym got ∙ ap (λ (z : Reading). z.got) (sym known))
+            (All-push (λ q. length q.words ≡ r.width) v.got p shelved.wide wide);
+        numbers = more_numbers
+            ∙ (ap (λ l. l ++ p.number ∷ []) shelved.numbers
+            ∙ (sym (map_push (λ q. q.number) v.got p)
+            ∙ ap pair_numbers (sym got ∙ ap (λ (z : Reading). z.got) (sym known))));
+        words = more_words
+            ∙ (ap (λ l. l ++ p.words) shelved.words
+            ∙ (flat_map_more (λ q. q.words) [] v.got p
+            ∙ ap words_in (sym got ∙ ap (λ (z : Reading). z.got) (sym known))));
+        room = omega arith;
+        word_room = omega arith;
+      }
 
--- one pair more of numbers and words
-pub pair_next : (numbers words back : List ℕ) (i width n : ℕ) (front : List ℕ) (pairs pairs' total : List Message)
-    → i < length numbers
-    → pairs ++ pairs_of (drop i numbers) words width ≡ total → n ≡ get_or numbers i 0 → front ≡ take width words
-    → back ≡ drop width words
-    → pairs' ≡ pairs ++ record { number = n; words = front } ∷ []
-    → pairs' ++ pairs_of (drop (i + 1) numbers) back width ≡ total
-pair_next numbers words back i width n front pairs pairs' total inside so_far number first rest more =
-    let p : Message = record { number = n; words = front } in
-    let later : List Message = pairs_of (drop (i + 1) numbers) back width in
-    let same : p ∷ later ≡ pairs_of (drop i numbers) words width =
-    (λ k. record { number = number k; words = first k } ∷ pairs_of (drop (i + 1) numbers) (rest k) width)
-    ∙ ap (λ ns. pairs_of ns words width) (sym (drop_more numbers i 0 inside)) in
-    ap (λ ps. ps ++ later) more ∙ (append_assoc pairs (p ∷ []) later ∙ (ap (λ ps. pairs ++ ps) same ∙ so_far))
+module _ (numbers words back : List ℕ) where
+  -- one pair more of numbers and words
+  pub pair_next : (i width n : ℕ) (front : List ℕ) (pairs pairs' total : List Message) → i < length numbers
+      → pairs ++ pairs_of (drop i numbers) words width ≡ total → n ≡ get_or numbers i 0 → front ≡ take width words
+      → back ≡ drop width words → pairs' ≡ pairs ++ record { number = n; words = front } ∷ []
+      → pairs' ++ pairs_of (drop (i + 1) numbers) back width ≡ total
+  pair_next i width n front pairs pairs' total inside so_far number first rest more =
+      let p : Message = record { number = n; words = front } in
+      let later : List Message = pairs_of (drop (i + 1) numbers) back width in
+      let same : p ∷ later ≡ pairs_of (drop i numbers) words width =
+      (λ k. record { number = number k; words = first k } ∷ pairs_of (drop (i + 1) numbers) (rest k) width)
+      ∙ ap (λ ns. pairs_of ns words width) (sym (drop_more numbers i 0 inside)) in
+      ap (λ ps. ps ++ later) more ∙ (append_assoc pairs (p ∷ []) later ∙ (ap (λ ps. pairs ++ ps) same ∙ so_far))
 
 pub rest_shorter : (count i width rest : ℕ) → i < count → rest + width ≡ (count - i) * width
     → rest ≡ (count - (i + 1)) * width

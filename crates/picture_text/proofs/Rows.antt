@@ -17,14 +17,14 @@ pub slot_more : (f g h : Bool) (a b c : Output) (lines : ℕ → Lines) (first k
 slot_more f g h a b c lines first k these p q e =
     puts_range f g h a b c lines first k p (subst (Puts g b h c) e q)
 
--- what is left of a list: the line of its first item and those of the others, or none
-pub rest_first : {X : Type 0} (line : X → List ℕ) (old rest : List X) (x : X) (one : List ℕ) (g h i : Bool)
-    (b c d : Output)
-    → old ≡ x ∷ rest → Puts g b h c (one ∷ []) → one ≡ line x → Puts h c i d (map line rest)
-    → Puts g b i d (map line old)
-rest_first {X} line old rest x one g h i b c d e p s q =
-    subst (λ (ys : List X). Puts g b i d (map line ys)) (sym e)
-    (puts_then g h i b c d (line x ∷ []) (map line rest) (subst (λ (l : List ℕ). Puts g b h c (l ∷ [])) s p) q)
+module _ {X : Type 0} where
+  -- what is left of a list: the line of its first item and those of the others, or none
+  pub rest_first : (line : X → List ℕ) (old rest : List X) (x : X) (one : List ℕ) (g h i : Bool) (b c d : Output)
+      → old ≡ x ∷ rest → Puts g b h c (one ∷ []) → one ≡ line x → Puts h c i d (map line rest)
+      → Puts g b i d (map line old)
+  rest_first line old rest x one g h i b c d e p s q =
+      subst (λ (ys : List X). Puts g b i d (map line ys)) (sym e)
+      (puts_then g h i b c d (line x ∷ []) (map line rest) (subst (λ (l : List ℕ). Puts g b h c (l ∷ [])) s p) q)
 
 pub rest_none : {X : Type 0} (line : X → List ℕ) (old : List X) (f : Bool) (b : Output) → old ≡ []
     → Puts f b f b (map line old)

@@ -195,41 +195,44 @@ AreNear-later w p q d b c y z ds near one two is =
     All-weaker (λ n. IsUpTo (w +ℤ (p +ℤ p)) ((b +ℤ n) -ℤ c)) (λ n. IsUpTo (w +ℤ (q +ℤ q)) ((y +ℤ n) -ℤ z))
     (λ n h. omega (arith, ints)) ds near
 
-pub held_next : {list : Medl} {may_grow : Bool} {group : ℕ → Type 0} {l t q : ℕ} {width : ℤ} {clock later : ℕ → ℤ}
-    {notes added all : ℕ → List ℤ} → pos 0 ≤ℤ list.drift → Held list may_grow group l t q width clock notes
-    → Slot list may_grow group (drifted list width q) clock later added
-    → ((k : ℕ) → group k → all k ≡ added k ++ notes k)
-    → Held list may_grow group l (suc t) (suc q) width later all
-held_next {list} {q = q} {width = width} {clock = clock} {later = later} {notes = notes} {added = added} up held slot
-    is =
-    let more = product_more list.drift q up in
-    let once = product_once list.drift q up in
-    record {
-      wide = record {
-        entry = λ early. held.wide.entry (omega (arith, early));
-        most = held.wide.most;
-        settled = λ late. held.wide.settled (omega (arith, late));
-      };
-      apart = λ j k a b. omega (arith, ints, held.apart j k a b, slot.moved j a, slot.moved k b, more);
-      frames = slot.frames ++ held.frames;
-      located = λ k a. rw (is k a)
-          (LocateNewest-append (list.error +ℤ list.drift) (list.error +ℤ drift_in list (suc q)) (later k) (added k)
-          slot.frames (notes k) held.frames (omega (arith, ints, once)) (slot.noted k a)
-          (LocateNewest-later (list.error +ℤ drift_in list q) list.drift (list.error +ℤ drift_in list (suc q)) (clock k)
-          (later k) (notes k) held.frames (slot.moved k a) (omega (arith, ints, more)) (held.located k a)));
-      alike = λ fixed j k a b.
-          let one = length-located (list.error +ℤ list.drift) (later j) (added j) slot.frames (slot.noted j a) in
-          let two = length-located (list.error +ℤ list.drift) (later k) (added k) slot.frames (slot.noted k b) in
-          rw (is j a, is k b, length-append (added j) (notes j), length-append (added k) (notes k))
-          (omega (arith, one, two, held.alike fixed j k a b));
-      near = λ grows j k a b. rw (is j a)
-          (All-append (λ n. IsUpTo (drifted list (width +ℤ list.error) (suc q)) ((later j +ℤ n) -ℤ later k))
-          (added j) (notes j)
-          (AreNear-noted width list.error (drift_in list q) (drift_in list (suc q)) list.drift (clock k) (later k)
-          (later j) (added j) slot.frames (slot.noted j a) (slot.near grows k b) (slot.moved k b) more)
-          (AreNear-later (width +ℤ list.error) (drift_in list q) (drift_in list (suc q)) list.drift (clock j) (clock k)
-          (later j) (later k) (notes j) (held.near grows j k a b) (slot.moved j a) (slot.moved k b) more));
-    }
+module _ {list : Medl} where
+  pub held_next :
+      {may_grow : Bool} {group : ℕ → Type 0} {l t q : ℕ} {width : ℤ} {clock later : ℕ → ℤ}
+      {notes added all : ℕ → List ℤ}
+      → pos 0 ≤ℤ list.drift → Held list may_grow group l t q width clock notes
+      → Slot list may_grow group (drifted list width q) clock later added
+      → ((k : ℕ) → group k → all k ≡ added k ++ notes k) → Held list may_grow group l (suc t) (suc q) width later all
+  held_next {q = q} {width = width} {clock = clock} {later = later} {notes = notes} {added = added} up held slot is =
+      let more = product_more list.drift q up in
+      let once = product_once list.drift q up in
+      record {
+        wide = record {
+          entry = λ early. held.wide.entry (omega (arith, early));
+          most = held.wide.most;
+          settled = λ late. held.wide.settled (omega (arith, late));
+        };
+        apart = λ j k a b. omega (arith, ints, held.apart j k a b, slot.moved j a, slot.moved k b, more);
+        frames = slot.frames ++ held.frames;
+        located = λ k a. rw (is k a)
+            (LocateNewest-append (list.error +ℤ list.drift) (list.error +ℤ drift_in list (suc q)) (later k) (added k)
+            slot.frames (notes k) held.frames (omega (arith, ints, once)) (slot.noted k a)
+            (LocateNewest-later (list.error +ℤ drift_in list q) list.drift (list.error +ℤ drift_in list (suc q))
+            (clock k)
+            (later k) (notes k) held.frames (slot.moved k a) (omega (arith, ints, more)) (held.located k a)));
+        alike = λ fixed j k a b.
+            let one = length-located (list.error +ℤ list.drift) (later j) (added j) slot.frames (slot.noted j a) in
+            let two = length-located (list.error +ℤ list.drift) (later k) (added k) slot.frames (slot.noted k b) in
+            rw (is j a, is k b, length-append (added j) (notes j), length-append (added k) (notes k))
+            (omega (arith, one, two, held.alike fixed j k a b));
+        near = λ grows j k a b. rw (is j a)
+            (All-append (λ n. IsUpTo (drifted list (width +ℤ list.error) (suc q)) ((later j +ℤ n) -ℤ later k))
+            (added j) (notes j)
+            (AreNear-noted width list.error (drift_in list q) (drift_in list (suc q)) list.drift (clock k) (later k)
+            (later j) (added j) slot.frames (slot.noted j a) (slot.near grows k b) (slot.moved k b) more)
+            (AreNear-later (width +ℤ list.error) (drift_in list q) (drift_in list (suc q)) list.drift (clock j)
+            (clock k)
+            (later j) (later k) (notes j) (held.near grows j k a b) (slot.moved j a) (slot.moved k b) more));
+      }
 
 -- a node that comes to the group is set by the frame of a node p of it, and has noted nothing
 pub data Comes (list : Medl) (before : ℕ → Type 0) (p : ℕ) (clock seen : ℕ → ℤ) (notes carried : ℕ → List ℤ) (k : ℕ)

@@ -130,14 +130,15 @@ own-near share e q w a b x y two up wide = (
   omega (arith, ints, two.above, two.below, two.first.0, two.first.1, two.second.0, two.second.1, up, wide),
 )
 
--- the deviation d that the first measured of a frame f
-other-near : (share e q w a b x y f g d r : ℤ) → d ≡ (f -ℤ g) +ℤ r → g ≡ a
-    → (f -ℤ b) ≤ℤ (share +ℤ (e *ℤ pos 2 +ℤ pos 1)) → (b -ℤ f) ≤ℤ (share +ℤ (e *ℤ pos 2 +ℤ pos 1)) → IsUpTo q (x -ℤ a)
-    → IsUpTo q (y -ℤ b) → IsUpTo e r → ((share +ℤ (e *ℤ pos 3 +ℤ pos 1)) +ℤ (q +ℤ q)) ≤ℤ w → IsUpTo w ((x +ℤ d) -ℤ y)
-other-near share e q w a b x y f g d r is here above below first second error wide = (
-  omega (arith, ints, is, here, above, below, first.0, first.1, second.0, second.1, error.0, error.1, wide),
-  omega (arith, ints, is, here, above, below, first.0, first.1, second.0, second.1, error.0, error.1, wide),
-)
+module _ (share e q w a b x y f g d r : ℤ) where
+  -- the deviation d that the first measured of a frame f
+  other-near : d ≡ (f -ℤ g) +ℤ r → g ≡ a → (f -ℤ b) ≤ℤ (share +ℤ (e *ℤ pos 2 +ℤ pos 1))
+      → (b -ℤ f) ≤ℤ (share +ℤ (e *ℤ pos 2 +ℤ pos 1)) → IsUpTo q (x -ℤ a) → IsUpTo q (y -ℤ b) → IsUpTo e r
+      → ((share +ℤ (e *ℤ pos 3 +ℤ pos 1)) +ℤ (q +ℤ q)) ≤ℤ w → IsUpTo w ((x +ℤ d) -ℤ y)
+  other-near is here above below first second error wide = (
+    omega (arith, ints, is, here, above, below, first.0, first.1, second.0, second.1, error.0, error.1, wide),
+    omega (arith, ints, is, here, above, below, first.0, first.1, second.0, second.1, error.0, error.1, wide),
+  )
 
 width-fits : (n a d : ℤ) → d ≤ℤ a → (n +ℤ (d +ℤ d)) ≤ℤ (n +ℤ (a +ℤ a))
 width-fits n a d few = omega (arith, ints, few)

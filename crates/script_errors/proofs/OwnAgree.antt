@@ -252,105 +252,100 @@ flags_tell list slots number line f words texts owner fault full are has =
     (subst (λ (xs : List LineFault). Has fault xs) (sym (told_words list slots owner number line (parts_of f) words
     texts 1 full are)) has))
 
--- the range of a line, where its node is known
-range_is : (list : Medl) (slots : ℕ) (line : List ℕ) (f : Form) (words : List Spot)
-    (texts : List (List ℕ)) (owner : Option ℕ) (r o : Bool)
-    → length words ≡ length (parts_of f) → AreTexts line words texts 1 → 1 ≤ slots
-    → owner ≡ line_node (Some list) line (parts_of f) words
-    → list_all (λ g. g.number) (form_flags list slots owner f texts) ≡ true
-    → list_all (λ g. g.node) (form_flags list slots owner f texts) ≡ true
-    → list_all (λ g. g.sends) (form_flags list slots owner f texts) ≡ true
-    → list_all (λ g. g.range) (form_flags list slots owner f texts) ≡ r
-    → in_order f texts ≡ o
-    → is_in_range list slots texts (statement_of (key f) texts) ≡ (r && o)
-range_is list slots line f words texts owner r o full are some is ns ds ps rs order =
-    let v = decimal_value (word_at texts 1) in
-    let same : form_flags list slots owner f texts ≡ form_flags list slots (Some v) f texts =
-    flags_at_node list slots owner v f texts
-    (λ asks. is ∙ node_known list slots owner line f words texts full are ns ds ps asks) in
-    range_agrees list slots f texts some
-    ∙ ap (λ (fs : List Flags). list_all (λ g. g.range) fs && in_order f texts) (sym same)
-    ∙ rw (rs, order) refl
+module _ (list : Medl) (slots : ℕ) (line : List ℕ) where
+  -- the range of a line, where its node is known
+  range_is : (f : Form) (words : List Spot) (texts : List (List ℕ)) (owner : Option ℕ) (r o : Bool)
+      → length words ≡ length (parts_of f) → AreTexts line words texts 1 → 1 ≤ slots
+      → owner ≡ line_node (Some list) line (parts_of f) words
+      → list_all (λ g. g.number) (form_flags list slots owner f texts) ≡ true
+      → list_all (λ g. g.node) (form_flags list slots owner f texts) ≡ true
+      → list_all (λ g. g.sends) (form_flags list slots owner f texts) ≡ true
+      → list_all (λ g. g.range) (form_flags list slots owner f texts) ≡ r → in_order f texts ≡ o
+      → is_in_range list slots texts (statement_of (key f) texts) ≡ (r && o)
+  range_is f words texts owner r o full are some is ns ds ps rs order =
+      let v = decimal_value (word_at texts 1) in
+      let same : form_flags list slots owner f texts ≡ form_flags list slots (Some v) f texts =
+      flags_at_node list slots owner v f texts
+      (λ asks. is ∙ node_known list slots owner line f words texts full are ns ds ps asks) in
+      range_agrees list slots f texts some
+      ∙ ap (λ (fs : List Flags). list_all (λ g. g.range) fs && in_order f texts) (sym same)
+      ∙ rw (rs, order) refl
 
--- one stage after another
-own_stages : (list : Medl) (slots number : ℕ) (line : List ℕ) (f : Form) (words : List Spot)
-    (texts : List (List ℕ)) (owner : Option ℕ) (n d p r o : Bool)
-    → length words ≡ length (parts_of f) → AreTexts line words texts 1 → 1 ≤ slots
-    → owner ≡ line_node (Some list) line (parts_of f) words
-    → list_all (λ g. g.spelled) (form_flags list slots owner f texts) ≡ true
-    → list_all (λ g. g.number) (form_flags list slots owner f texts) ≡ n
-    → list_all (λ g. g.node) (form_flags list slots owner f texts) ≡ d
-    → list_all (λ g. g.sends) (form_flags list slots owner f texts) ≡ p
-    → list_all (λ g. g.range) (form_flags list slots owner f texts) ≡ r
-    → in_order f texts ≡ o
-    → Outcome number (statement_faults list slots texts (key f))
-    (word_errors (Some list) slots owner number line (parts_of f) words
-    ++ span_errors slots number line (parts_of f) words)
-own_stages list slots number line f words texts owner false d p r o full are some is spelled ns ds ps rs order =
-    inr (
-      faults.Number,
-      (
-        first_number list slots texts (key f) (numbers_agree list slots owner f texts ∙ ns),
-        flags_tell list slots number line f words texts owner faults.Number full are
-            (no_number (form_flags list slots owner f texts) spelled ns),
-      ),
-    )
-own_stages list slots number line f words texts owner true false p r o full are some is spelled ns ds ps rs order =
-    inr (
-      faults.NoNode,
-      (
-        first_node list slots texts (key f) (numbers_agree list slots owner f texts ∙ ns)
-            (nodes_agree list slots owner f texts ∙ ds),
-        flags_tell list slots number line f words texts owner faults.NoNode full are
-            (no_node (form_flags list slots owner f texts) spelled ns ds),
-      ),
-    )
-own_stages list slots number line f words texts owner true true false r o full are some is spelled ns ds ps rs order =
-    inr (
-      faults.NoData,
-      (
-        first_data list slots texts (key f) (numbers_agree list slots owner f texts ∙ ns)
-            (nodes_agree list slots owner f texts ∙ ds) (data_agree list slots owner f texts ∙ ps),
-        flags_tell list slots number line f words texts owner faults.NoData full are
-            (no_data (form_flags list slots owner f texts) spelled ns ds ps),
-      ),
-    )
-own_stages list slots number line f words texts owner true true true false o
-    full are some is spelled ns ds ps rs order =
-    inr (
-      faults.Range,
-      (
-        first_range list slots texts (key f) (numbers_agree list slots owner f texts ∙ ns)
+module _ (list : Medl) (slots number : ℕ) (line : List ℕ) (f : Form) (words : List Spot) (texts : List (List ℕ))
+    (owner : Option ℕ) where
+  -- one stage after another
+  own_stages : (n d p r o : Bool) → length words ≡ length (parts_of f) → AreTexts line words texts 1 → 1 ≤ slots
+      → owner ≡ line_node (Some list) line (parts_of f) words
+      → list_all (λ g. g.spelled) (form_flags list slots owner f texts) ≡ true
+      → list_all (λ g. g.number) (form_flags list slots owner f texts) ≡ n
+      → list_all (λ g. g.node) (form_flags list slots owner f texts) ≡ d
+      → list_all (λ g. g.sends) (form_flags list slots owner f texts) ≡ p
+      → list_all (λ g. g.range) (form_flags list slots owner f texts) ≡ r → in_order f texts ≡ o
+      → Outcome number (statement_faults list slots texts (key f))
+      (word_errors (Some list) slots owner number line (parts_of f) words ++ span_errors slots number line (parts_of f)
+      words)
+  own_stages false d p r o full are some is spelled ns ds ps rs order =
+      inr (
+        faults.Number,
+        (
+          first_number list slots texts (key f) (numbers_agree list slots owner f texts ∙ ns),
+          flags_tell list slots number line f words texts owner faults.Number full are
+              (no_number (form_flags list slots owner f texts) spelled ns),
+        ),
+      )
+  own_stages true false p r o full are some is spelled ns ds ps rs order =
+      inr (
+        faults.NoNode,
+        (
+          first_node list slots texts (key f) (numbers_agree list slots owner f texts ∙ ns)
+              (nodes_agree list slots owner f texts ∙ ds),
+          flags_tell list slots number line f words texts owner faults.NoNode full are
+              (no_node (form_flags list slots owner f texts) spelled ns ds),
+        ),
+      )
+  own_stages true true false r o full are some is spelled ns ds ps rs order =
+      inr (
+        faults.NoData,
+        (
+          first_data list slots texts (key f) (numbers_agree list slots owner f texts ∙ ns)
+              (nodes_agree list slots owner f texts ∙ ds) (data_agree list slots owner f texts ∙ ps),
+          flags_tell list slots number line f words texts owner faults.NoData full are
+              (no_data (form_flags list slots owner f texts) spelled ns ds ps),
+        ),
+      )
+  own_stages true true true false o full are some is spelled ns ds ps rs order =
+      inr (
+        faults.Range,
+        (
+          first_range list slots texts (key f) (numbers_agree list slots owner f texts ∙ ns)
+              (nodes_agree list slots owner f texts ∙ ds) (data_agree list slots owner f texts ∙ ps)
+              (range_is list slots line f words texts owner false o full are some is ns ds ps rs order),
+          flags_tell list slots number line f words texts owner faults.Range full are
+              (out_of_range (form_flags list slots owner f texts) spelled ns ds ps rs),
+        ),
+      )
+  own_stages true true true true false full are some is spelled ns ds ps rs order =
+      inr (
+        faults.Range,
+        (
+          first_range list slots texts (key f) (numbers_agree list slots owner f texts ∙ ns)
+              (nodes_agree list slots owner f texts ∙ ds) (data_agree list slots owner f texts ∙ ps)
+              (range_is list slots line f words texts owner true false full are some is ns ds ps rs order),
+          tells_back number faults.Range (word_errors (Some list) slots owner number line (parts_of f) words) _
+              (span_tells list slots number owner line f words texts full are ns rs order),
+        ),
+      )
+  own_stages true true true true true full are some is spelled ns ds ps rs order =
+      let none : word_errors (Some list) slots owner number line (parts_of f) words ≡ [] =
+      map_none _ (told_words list slots owner number line (parts_of f) words texts 1 full are
+      ∙ all_right (form_flags list slots owner f texts) spelled ns ds ps rs) in
+      inl (
+        none_first list slots texts (key f) (numbers_agree list slots owner f texts ∙ ns)
             (nodes_agree list slots owner f texts ∙ ds) (data_agree list slots owner f texts ∙ ps)
-            (range_is list slots line f words texts owner false o full are some is ns ds ps rs order),
-        flags_tell list slots number line f words texts owner faults.Range full are
-            (out_of_range (form_flags list slots owner f texts) spelled ns ds ps rs),
-      ),
-    )
-own_stages list slots number line f words texts owner true true true true false
-    full are some is spelled ns ds ps rs order =
-    inr (
-      faults.Range,
-      (
-        first_range list slots texts (key f) (numbers_agree list slots owner f texts ∙ ns)
-            (nodes_agree list slots owner f texts ∙ ds) (data_agree list slots owner f texts ∙ ps)
-            (range_is list slots line f words texts owner true false full are some is ns ds ps rs order),
-        tells_back number faults.Range (word_errors (Some list) slots owner number line (parts_of f) words) _
-            (span_tells list slots number owner line f words texts full are ns rs order),
-      ),
-    )
-own_stages list slots number line f words texts owner true true true true true
-    full are some is spelled ns ds ps rs order =
-    let none : word_errors (Some list) slots owner number line (parts_of f) words ≡ [] =
-    map_none _ (told_words list slots owner number line (parts_of f) words texts 1 full are
-    ∙ all_right (form_flags list slots owner f texts) spelled ns ds ps rs) in
-    inl (
-      none_first list slots texts (key f) (numbers_agree list slots owner f texts ∙ ns)
-          (nodes_agree list slots owner f texts ∙ ds) (data_agree list slots owner f texts ∙ ps)
-          (range_is list slots line f words texts owner true true full are some is ns ds ps rs order),
-      ap (λ (es : List ScriptError). es ++ span_errors slots number line (parts_of f) words) none
-          ∙ span_right slots number line f words texts full are order,
-    )
+            (range_is list slots line f words texts owner true true full are some is ns ds ps rs order),
+        ap (λ (es : List ScriptError). es ++ span_errors slots number line (parts_of f) words) none
+            ∙ span_right slots number line f words texts full are order,
+      )
 
 -- the errors of a line's words agree with the faults of what it states, whatever the lines before
 pub own_outcome : (list : Medl) (slots number : ℕ) (line : List ℕ) (f : Form) (words : List Spot)

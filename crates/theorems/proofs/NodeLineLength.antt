@@ -38,12 +38,12 @@ use Rattle.theorems.proofs.WordLengths.{entry_word-short, ack_word-short, member
 
 -- One line.
 
-node_text : (slot k entry peer message members accepted rejected ack clock : List ℕ)
-    → length slot ≤ 5 → length k ≤ 3 → length entry ≤ 14 → length peer ≤ 3 → length message ≤ 6
-    → length members ≤ 6 → length accepted ≤ 5 → length rejected ≤ 5 → length ack ≤ 9 → length clock ≤ 18
-    → length (node_line_text slot k entry peer message members accepted rejected ack clock ++ newline) ≤ 128
-node_text slot k entry peer message members accepted rejected ack clock p q r s t u v w x y =
-    simp length-append (omega arith)
+module _ (slot k entry peer message members accepted rejected ack clock : List ℕ) where
+  node_text : length slot ≤ 5 → length k ≤ 3 → length entry ≤ 14 → length peer ≤ 3 → length message ≤ 6
+      → length members ≤ 6 → length accepted ≤ 5 → length rejected ≤ 5 → length ack ≤ 9 → length clock ≤ 18
+      → length (node_line_text slot k entry peer message members accepted rejected ack clock ++ newline) ≤ 128
+  node_text p q r s t u v w x y =
+      simp length-append (omega arith)
 
 -- a small state and a number of six digits make a line of at most 128 bytes
 node_line-short : (list : Medl) (slot k : ℕ) (state : NodeState) (message : Option ℕ) → slot < SLOT_LIMIT → k < 24

@@ -129,21 +129,21 @@ Chooses-set o new list script slot f node i message chooses within same_newest e
           ];
     }
 
--- A node whose line names a message that its host writes is to send that.
-pub chooses-found : (o new : Outgoing) (list : Medl) (script : Script) (slot : ℕ) (f : ℕ → ℕ) (node i : ℕ)
-    (payload : List ℕ) (message : Chosen)
-    → Chooses o list script slot f → node < length list.slots → oldest_number list script slot node < i
-    → slice_get (messages_written script node slot) (i - oldest_number list script slot node - 1) ≡ Some payload
-    → new.newest.items ≡ o.newest.items → new.chosen.items ≡ set o.chosen.items node message
-    → message ≡ record { number = i; payload = payload }
-    → Chooses new list script slot
-    (λ k. if k == node then number_taken list script slot node (Some i) else f k)
-chooses-found o new list script slot f node i payload message chooses within later found same exchanged is =
-    let taken = taken-found list script slot node i payload later found in
-    Chooses-same new list script slot (λ k. if k == node then i else f k)
-    (λ k. if k == node then number_taken list script slot node (Some i) else f k)
-    (λ k there. ap (λ (n : ℕ). if k == node then n else f k) (sym taken.0))
-    (Chooses-set o new list script slot f node i message chooses within same exchanged (is ∙ sym taken.1))
+module _ (o new : Outgoing) where
+  -- A node whose line names a message that its host writes is to send that.
+  pub chooses-found :
+      (list : Medl) (script : Script) (slot : ℕ) (f : ℕ → ℕ) (node i : ℕ) (payload : List ℕ) (message : Chosen)
+      → Chooses o list script slot f → node < length list.slots → oldest_number list script slot node < i
+      → slice_get (messages_written script node slot) (i - oldest_number list script slot node - 1) ≡ Some payload
+      → new.newest.items ≡ o.newest.items → new.chosen.items ≡ set o.chosen.items node message
+      → message ≡ record { number = i; payload = payload }
+      → Chooses new list script slot (λ k. if k == node then number_taken list script slot node (Some i) else f k)
+  chooses-found list script slot f node i payload message chooses within later found same exchanged is =
+      let taken = taken-found list script slot node i payload later found in
+      Chooses-same new list script slot (λ k. if k == node then i else f k)
+      (λ k. if k == node then number_taken list script slot node (Some i) else f k)
+      (λ k there. ap (λ (n : ℕ). if k == node then n else f k) (sym taken.0))
+      (Chooses-set o new list script slot f node i message chooses within same exchanged (is ∙ sym taken.1))
 
 -- and one that names none of these, its host's newest message before the slot
 pub chooses-oldest : (o : Outgoing) (list : Medl) (script : Script) (slot : ℕ) (f : ℕ → ℕ) (node number : ℕ)

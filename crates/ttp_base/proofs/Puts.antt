@@ -59,16 +59,16 @@ puts_range f g h a b c lines first k p q =
     rw (range-next lines first k)
     (puts_then f g h a b c (flat_map lines (range_with_len first k)) (lines (first + k)) p q)
 
--- one item more
-pub puts_item : {X : Type 0} (line : X → List ℕ) (xs : List X) (k : ℕ) (d : X) (f g h : Bool) (a b c : Output)
-    (one : List ℕ)
-    → Puts f a g b (map line (take k xs)) → k < length xs → Puts g b h c (one ∷ []) → one ≡ line (get_or xs k d)
-    → Puts f a h c (map line (take (k + 1) xs))
-puts_item {X} line xs k d f g h a b c one p within q e =
-    subst (Puts f a h c)
-    (sym (ap (map line) (take_more xs k d within) ∙ map-append line (take k xs) (get_or xs k d ∷ [])))
-    (puts_then f g h a b c (map line (take k xs)) (line (get_or xs k d) ∷ []) p
-    (subst (λ (l : List ℕ). Puts g b h c (l ∷ [])) e q))
+module _ {X : Type 0} where
+  -- one item more
+  pub puts_item : (line : X → List ℕ) (xs : List X) (k : ℕ) (d : X) (f g h : Bool) (a b c : Output) (one : List ℕ)
+      → Puts f a g b (map line (take k xs)) → k < length xs → Puts g b h c (one ∷ []) → one ≡ line (get_or xs k d)
+      → Puts f a h c (map line (take (k + 1) xs))
+  puts_item line xs k d f g h a b c one p within q e =
+      subst (Puts f a h c)
+      (sym (ap (map line) (take_more xs k d within) ∙ map-append line (take k xs) (get_or xs k d ∷ [])))
+      (puts_then f g h a b c (map line (take k xs)) (line (get_or xs k d) ∷ []) p
+      (subst (λ (l : List ℕ). Puts g b h c (l ∷ [])) e q))
 
 -- one line, and two
 pub puts_one : {f g : Bool} {a b : Output} {x y : List ℕ} → x ≡ y → Puts f a g b (x ∷ []) → Puts f a g b (y ∷ [])

@@ -53,21 +53,22 @@ round_same list group z s t q clock same notes is r = record {
   noted = λ k p. rw (is k p) (r.noted k p);
 }
 
-after_slot : (list : Medl) (group : ℕ → Type 0) (z s t m : ℕ) (clock after : ℕ → ℤ) (notes : ℕ → List ℤ)
-    → pos 0 ≤ℤ list.drift → pos 0 ≤ℤ list.error → s < t → Round list group z s t (suc m) clock notes
-    → (suc m ≡ length list.slots → s + length list.slots < t → (k : ℕ) → group k → 4 ≤ length (notes k))
-    → ((k : ℕ) → group k → after k ≡ clock k +ℤ correction list m (notes k)) → (last : Bool)
-    → (suc m == length list.slots) ≡ last → After list group z s t m last after notes
-after_slot list group z s t m clock after notes up some later r enough is true last =
-    let ends : suc m ≡ length list.slots = eqb-true (suc m) (length list.slots) last in
-    let apart = round_ends list group z s t (suc m) clock notes up some ends r (enough ends) in
-    round_begins list group z s t after up later (λ j k p q. rw (
-      corrected_last list m (notes j) (clock j) (after j) last (is j p),
-      corrected_last list m (notes k) (clock k) (after k) last (is k q),
-    ) (apart j k p q))
-after_slot list group z s t m clock after notes up some later r enough is false inside =
-    round_same list group z s t (suc m) clock after notes
-    (λ k p. corrected_inside list m (notes k) (clock k) (after k) inside (is k p)) r
+module _ (list : Medl) (group : ℕ → Type 0) where
+  after_slot : (z s t m : ℕ) (clock after : ℕ → ℤ) (notes : ℕ → List ℤ) → pos 0 ≤ℤ list.drift → pos 0 ≤ℤ list.error
+      → s < t → Round list group z s t (suc m) clock notes
+      → (suc m ≡ length list.slots → s + length list.slots < t → (k : ℕ) → group k → 4 ≤ length (notes k))
+      → ((k : ℕ) → group k → after k ≡ clock k +ℤ correction list m (notes k)) → (last : Bool)
+      → (suc m == length list.slots) ≡ last → After list group z s t m last after notes
+  after_slot z s t m clock after notes up some later r enough is true last =
+      let ends : suc m ≡ length list.slots = eqb-true (suc m) (length list.slots) last in
+      let apart = round_ends list group z s t (suc m) clock notes up some ends r (enough ends) in
+      round_begins list group z s t after up later (λ j k p q. rw (
+        corrected_last list m (notes j) (clock j) (after j) last (is j p),
+        corrected_last list m (notes k) (clock k) (after k) last (is k q),
+      ) (apart j k p q))
+  after_slot z s t m clock after notes up some later r enough is false inside =
+      round_same list group z s t (suc m) clock after notes
+      (λ k p. corrected_inside list m (notes k) (clock k) (after k) inside (is k p)) r
 
 -- what the entry of a node in the slot of the start says, on a frame of node p
 record BegunEntry (list : Medl) (script : Script) (history : History) (p k : ℕ) (e : Entry) : Type 0 where

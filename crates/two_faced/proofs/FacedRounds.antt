@@ -58,23 +58,24 @@ round_begins list group z s t clock up later apart = record {
 
 -- One slot more.
 
-pub round_goes : (list : Medl) (group : ℕ → Type 0) (z s t q : ℕ) (clock later : ℕ → ℤ) (notes added all : ℕ → List ℤ)
-    → pos 0 ≤ℤ list.drift → (r : Round list group z s t q clock notes) → HaveDrifted list group clock later
-    → SlotNotes list group z q r.began later added → ((k : ℕ) → group k → all k ≡ added k ++ notes k)
-    → Round list group z s (suc t) (suc q) later all
-round_goes list group z s t q clock later notes added all up r drifted slot is =
-    let more : drift_in list (suc q) ≡ drift_in list q +ℤ list.drift = product_more list.drift q up in
-    record {
-      began = r.began;
-      apart = r.apart;
-      first = λ early. r.first (omega (arith, early));
-      moved = λ k p. omega (arith, ints, r.moved k p, drifted k p, more);
-      senders = slot.new ++ r.senders;
-      turns = slot.turn r.senders r.turns;
-      noted = λ k p. rw (is k p) (Locate-append z (width list (suc q)) r.began (later k) (added k) (notes k) slot.new
-          r.senders (slot.noted k p) (Locate-moved z (width list q) (width list (suc q)) list.drift r.began (clock k)
-          (later k) (notes k) r.senders (drifted k p) (omega (arith, ints, more)) (r.noted k p)));
-    }
+module _ (list : Medl) where
+  pub round_goes : (group : ℕ → Type 0) (z s t q : ℕ) (clock later : ℕ → ℤ) (notes added all : ℕ → List ℤ)
+      → pos 0 ≤ℤ list.drift → (r : Round list group z s t q clock notes) → HaveDrifted list group clock later
+      → SlotNotes list group z q r.began later added → ((k : ℕ) → group k → all k ≡ added k ++ notes k)
+      → Round list group z s (suc t) (suc q) later all
+  round_goes group z s t q clock later notes added all up r drifted slot is =
+      let more : drift_in list (suc q) ≡ drift_in list q +ℤ list.drift = product_more list.drift q up in
+      record {
+        began = r.began;
+        apart = r.apart;
+        first = λ early. r.first (omega (arith, early));
+        moved = λ k p. omega (arith, ints, r.moved k p, drifted k p, more);
+        senders = slot.new ++ r.senders;
+        turns = slot.turn r.senders r.turns;
+        noted = λ k p. rw (is k p) (Locate-append z (width list (suc q)) r.began (later k) (added k) (notes k) slot.new
+            r.senders (slot.noted k p) (Locate-moved z (width list q) (width list (suc q)) list.drift r.began (clock k)
+            (later k) (notes k) r.senders (drifted k p) (omega (arith, ints, more)) (r.noted k p)));
+      }
 
 -- The end of a round.
 

@@ -67,16 +67,16 @@ module _ (group : ℕ → Type 0) (s w b c : ℤ) (began : ℕ → ℤ) (near : 
   narrow_of d e f g p q n m =
       test_of (s +ℤ (w +ℤ w)) (d -ℤ f) (omega (arith, ints, near p q n.member m.member, near q p m.member n.member))
 
-  -- where all but the odd one of four notes are such three
-  pulled_of_three : (odd : ℕ) (ds es : List ℤ) {d1 d2 d3 e1 e2 e3 : ℤ} {p1 p2 p3 : ℕ} → odd < 4 → length ds ≡ 4
-      → length es ≡ 4 → without odd ds ≡ d1 ∷ d2 ∷ d3 ∷ [] → without odd es ≡ e1 ∷ e2 ∷ e3 ∷ []
-      → TwoNotes group w b c began d1 e1 p1 → TwoNotes group w b c began d2 e2 p2 → TwoNotes group w b c began d3 e3 p3
-      → Pulled s w (b +ℤ fta ds) (c +ℤ fta es)
-  pulled_of_three odd ds es {d1} {d2} {d3} {e1} {e2} {e3} {p1} {p2} {p3} inside four many is was n1 n2 n3 =
-      pulled_of odd s w b c ds es inside four many (rw (is, was) (and_from _ _ (alike_of d1 e1 p1 n1)
-      (and_from _ _ (alike_of d2 e2 p2 n2) (and_from _ _ (alike_of d3 e3 p3 n3) refl)))) (rw is (and_from _ _
-      (and_from _ _ (narrow_of d1 e1 d2 e2 p1 p2 n1 n2) (and_from _ _ (narrow_of d1 e1 d3 e3 p1 p3 n1 n3) refl))
-      (and_from _ _ (and_from _ _ (narrow_of d2 e2 d3 e3 p2 p3 n2 n3) refl) refl)))
+  module _ (odd : ℕ) (ds es : List ℤ) {d1 d2 d3 e1 e2 e3 : ℤ} where
+    -- where all but the odd one of four notes are such three
+    pulled_of_three : {p1 p2 p3 : ℕ} → odd < 4 → length ds ≡ 4 → length es ≡ 4 → without odd ds ≡ d1 ∷ d2 ∷ d3 ∷ []
+        → without odd es ≡ e1 ∷ e2 ∷ e3 ∷ [] → TwoNotes group w b c began d1 e1 p1 → TwoNotes group w b c began d2 e2 p2
+        → TwoNotes group w b c began d3 e3 p3 → Pulled s w (b +ℤ fta ds) (c +ℤ fta es)
+    pulled_of_three {p1} {p2} {p3} inside four many is was n1 n2 n3 =
+        pulled_of odd s w b c ds es inside four many (rw (is, was) (and_from _ _ (alike_of d1 e1 p1 n1)
+        (and_from _ _ (alike_of d2 e2 p2 n2) (and_from _ _ (alike_of d3 e3 p3 n3) refl)))) (rw is (and_from _ _
+        (and_from _ _ (narrow_of d1 e1 d2 e2 p1 p2 n1 n2) (and_from _ _ (narrow_of d1 e1 d3 e3 p1 p3 n1 n3) refl))
+        (and_from _ _ (and_from _ _ (narrow_of d2 e2 d3 e3 p2 p3 n2 n3) refl) refl)))
 
   -- the four newest notes of two clocks
   module _ (z n : ℕ) (d1 d2 d3 d4 e1 e2 e3 e4 : ℤ) (p1 p2 p3 p4 : ℕ) (ds es : List ℤ) (ps : List ℕ)
@@ -115,15 +115,16 @@ module _ (group : ℕ → Type 0) (s w b c : ℤ) (began : ℕ → ℤ) (near : 
       ]
     ]
 
--- two clocks that noted four or more frames of a round, each corrected by its average
-pub averages_pull : (group : ℕ → Type 0) (z n : ℕ) (s w b c : ℤ) (began : ℕ → ℤ) (ds es : List ℤ) (ps : List ℕ)
-    → AreWithin group began s → AreTurns group n ps → Locate z w began b ds ps → Locate z w began c es ps
-    → 4 ≤ length ds → Pulled s w (b +ℤ fta ds) (c +ℤ fta es)
-averages_pull group z n s w b c began (d1 ∷ d2 ∷ d3 ∷ d4 ∷ ds) (e1 ∷ e2 ∷ e3 ∷ e4 ∷ es) (p1 ∷ p2 ∷ p3 ∷ p4 ∷ ps)
-    near turns one two many = rw (fta-newest d1 d2 d3 d4 ds, fta-newest e1 e2 e3 e4 es)
-    (four_pulled group s w b c began near z n d1 d2 d3 d4 e1 e2 e3 e4 p1 p2 p3 p4 ds es ps turns one two)
-averages_pull group z n s w b c began ds es ps near turns one two many =
-    absurd (omega (arith, many, length-noted z w began b ds ps one, length-noted z w began c es ps two))
+module _ (group : ℕ → Type 0) where
+  -- two clocks that noted four or more frames of a round, each corrected by its average
+  pub averages_pull : (z n : ℕ) (s w b c : ℤ) (began : ℕ → ℤ) (ds es : List ℤ) (ps : List ℕ) → AreWithin group began s
+      → AreTurns group n ps → Locate z w began b ds ps → Locate z w began c es ps → 4 ≤ length ds
+      → Pulled s w (b +ℤ fta ds) (c +ℤ fta es)
+  averages_pull z n s w b c began (d1 ∷ d2 ∷ d3 ∷ d4 ∷ ds) (e1 ∷ e2 ∷ e3 ∷ e4 ∷ es) (p1 ∷ p2 ∷ p3 ∷ p4 ∷ ps) near turns
+      one two many = rw (fta-newest d1 d2 d3 d4 ds, fta-newest e1 e2 e3 e4 es)
+      (four_pulled group s w b c began near z n d1 d2 d3 d4 e1 e2 e3 e4 p1 p2 p3 p4 ds es ps turns one two)
+  averages_pull z n s w b c began ds es ps near turns one two many =
+      absurd (omega (arith, many, length-noted z w began b ds ps one, length-noted z w began c es ps two))
 
 -- Notes as time goes on.
 

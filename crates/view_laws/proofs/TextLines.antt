@@ -132,21 +132,23 @@ record IsLineOf (head : Head) (t k s j : ℕ) (six : Bool) (then : Due) : Type 0
   wide : six ≡ (head.version == 2)
   next : then ≡ next_node head t k
 
-is-line_of : (head : Head) (t k s j : ℕ) (w : Word) (peer message : Option ℕ) (wide : Bool) (members : List ℕ)
-    (accepted rejected : ℕ) (a : Ack) (z : ℤ) (then : Due)
-    → after_node head t k (line.Node s j w peer message wide members accepted rejected a z) ≡ Some then
-    → IsLineOf head t k s j wide then
-is-line_of head t k s j w peer message wide members accepted rejected a z then e =
-    let v = line.Node s j w peer message wide members accepted rejected a z in
-    let g = guarded (is_node_line head t k v) (Some (next_node head t k)) then e in
-    let f = firsts (s == t) (j == k) (nat_lt k head.nodes) (has_digits wide head.version) (is_below head.nodes peer)
-    (are_members head.nodes members) (is_below head.nodes (doubted a)) g.0 in record {
-      slot = eqb-true s t f.0.0;
-      node = eqb-true j k f.0.1;
-      within = ltb-true k head.nodes f.1.0;
-      wide = digits-of wide head.version f.1.1;
-      next = sym (some_same (next_node head t k) then g.1);
-    }
+module _ (head : Head) where
+  is-line_of :
+      (t k s j : ℕ) (w : Word) (peer message : Option ℕ) (wide : Bool) (members : List ℕ) (accepted rejected : ℕ)
+      (a : Ack) (z : ℤ) (then : Due)
+      → after_node head t k (line.Node s j w peer message wide members accepted rejected a z) ≡ Some then
+      → IsLineOf head t k s j wide then
+  is-line_of t k s j w peer message wide members accepted rejected a z then e =
+      let v = line.Node s j w peer message wide members accepted rejected a z in
+      let g = guarded (is_node_line head t k v) (Some (next_node head t k)) then e in
+      let f = firsts (s == t) (j == k) (nat_lt k head.nodes) (has_digits wide head.version) (is_below head.nodes peer)
+      (are_members head.nodes members) (is_below head.nodes (doubted a)) g.0 in record {
+        slot = eqb-true s t f.0.0;
+        node = eqb-true j k f.0.1;
+        within = ltb-true k head.nodes f.1.0;
+        wide = digits-of wide head.version f.1.1;
+        next = sym (some_same (next_node head t k) then g.1);
+      }
 
 next-says : (head : Head) (t k : ℕ) (lines : Lines) (from : SlotsFrom) (o : Outline)
     → Say (next_node head t k) lines from o → SaysSlots head lines (from_node head t (k + 1) from o) o
@@ -218,32 +220,33 @@ say-same : (at then : Due) (lines : Lines) (from : SlotsFrom) (o : Outline)
     → Say at lines from o
 say-same at then lines from o e says = subst (λ (d : Due). Say d lines from o) (sym (some_same at then e)) says
 
-node-step : (head : Head) (t k s j : ℕ) (w : Word) (peer message : Option ℕ) (wide : Bool) (members : List ℕ)
-    (accepted rejected : ℕ) (a : Ack) (z : ℤ) (then : Due) (text : List ℕ)
-    (lines : Lines) (from : SlotsFrom) (o : Outline)
-    → text ≡ ended (text_of (line.Node s j w peer message wide members accepted rejected a z))
-    → after_node head t k (line.Node s j w peer message wide members accepted rejected a z) ≡ Some then
-    → Say then lines from o
-    → Say (due.Node head t k) (text ∷ lines)
-    (with_line (line.Node s j w peer message wide members accepted rejected a z) from) o
-node-step head t k s j w peer message wide members accepted rejected a z then text lines from o is e says =
-    let n = is-line_of head t k s j w peer message wide members accepted rejected a z then e in
-    let node : NodeShown = record {
-      word = w;
-      peer = peer;
-      message = message;
-      members = members;
-      accepted = accepted;
-      rejected = rejected;
-      ack = a;
-      offset = z;
-    } in
-    let same : ended (text_of (line.Node s j w peer message wide members accepted rejected a z))
-    ≡ ended (node_text head t k node) = λ i. ended (text_of
-    (line.Node (n.slot i) (n.node i) w peer message (n.wide i) members accepted rejected a z)) in
-    subst (λ (m : ℕ). Say (due.Node head t k) (text ∷ lines) (with_node_line m node from) o) (sym n.node)
-    (say-node head t k node text lines from o n.within (is ∙ same)
-    (subst (λ (d : Due). Say d lines from o) n.next says))
+module _ (head : Head) (t k s j : ℕ) (w : Word) (peer message : Option ℕ) where
+  node-step :
+      (wide : Bool) (members : List ℕ) (accepted rejected : ℕ) (a : Ack) (z : ℤ) (then : Due) (text : List ℕ)
+      (lines : Lines) (from : SlotsFrom) (o : Outline)
+      → text ≡ ended (text_of (line.Node s j w peer message wide members accepted rejected a z))
+      → after_node head t k (line.Node s j w peer message wide members accepted rejected a z) ≡ Some then
+      → Say then lines from o
+      → Say (due.Node head t k) (text ∷ lines)
+      (with_line (line.Node s j w peer message wide members accepted rejected a z) from) o
+  node-step wide members accepted rejected a z then text lines from o is e says =
+      let n = is-line_of head t k s j w peer message wide members accepted rejected a z then e in
+      let node : NodeShown = record {
+        word = w;
+        peer = peer;
+        message = message;
+        members = members;
+        accepted = accepted;
+        rejected = rejected;
+        ack = a;
+        offset = z;
+      } in
+      let same : ended (text_of (line.Node s j w peer message wide members accepted rejected a z))
+      ≡ ended (node_text head t k node) = λ i. ended (text_of
+      (line.Node (n.slot i) (n.node i) w peer message (n.wide i) members accepted rejected a z)) in
+      subst (λ (m : ℕ). Say (due.Node head t k) (text ∷ lines) (with_node_line m node from) o) (sym n.node)
+      (say-node head t k node text lines from o n.within (is ∙ same)
+      (subst (λ (d : Due). Say d lines from o) n.next says))
 
 host-step : (head : Head) (t s : ℕ) (by : HostLine) (text : List ℕ) (lines : Lines)
     (from : SlotsFrom) (o : Outline) → s ≡ t

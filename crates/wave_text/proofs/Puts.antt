@@ -30,14 +30,15 @@ puts_at {X} {k} {g} {h} {a} {b} {c} f xs i d less p q =
     ∙ ap (λ (more : Lines). flat_map f (take i xs) ++ more) (append-nil (f (get_or xs i d)))))
     (puts_then k g h a b c (flat_map f (take i xs)) (f (get_or xs i d)) p q)
 
--- the same where each has one line
-pub puts_line_at : {X : Type 0} {k g h : Bool} {a b c : Output} {one : List ℕ} (f : X → List ℕ) (xs : List X) (i : ℕ)
-    (d : X) → i < length xs → Puts k a g b (map f (take i xs)) → one ≡ f (get_or xs i d) → Puts g b h c (one ∷ [])
-    → Puts k a h c (map f (take (i + 1) xs))
-puts_line_at {X} {k} {g} {h} {a} {b} {c} f xs i d less p e q =
-    subst (Puts k a h c) (sym (ap (map f) (take_more xs i d less) ∙ map-append f (take i xs) (get_or xs i d ∷ [])))
-    (puts_then k g h a b c (map f (take i xs)) (f (get_or xs i d) ∷ []) p
-    (puts_one e q))
+module _ {X : Type 0} where
+  -- the same where each has one line
+  pub puts_line_at : {k g h : Bool} {a b c : Output} {one : List ℕ} (f : X → List ℕ) (xs : List X) (i : ℕ) (d : X)
+      → i < length xs → Puts k a g b (map f (take i xs)) → one ≡ f (get_or xs i d) → Puts g b h c (one ∷ [])
+      → Puts k a h c (map f (take (i + 1) xs))
+  puts_line_at {k} {g} {h} {a} {b} {c} f xs i d less p e q =
+      subst (Puts k a h c) (sym (ap (map f) (take_more xs i d less) ∙ map-append f (take i xs) (get_or xs i d ∷ [])))
+      (puts_then k g h a b c (map f (take i xs)) (f (get_or xs i d) ∷ []) p
+      (puts_one e q))
 
 -- what is read of the slot before, where there is one
 pub read_unless_first : {X Y : Type 0} (f : X → Y) (is_first : Bool) {x : X} {y : Y} → y ≡ f x

@@ -61,14 +61,16 @@ pub record IsNext (at then : Due) (j : ℕ) : Type 0 where
   pub node : j ≡ node_due at
   pub next : then ≡ behind_node at
 
-next-of : (head : Head) (slot k t j : ℕ) (w : Word) (peer message : Option ℕ) (wide : Bool) (members : List ℕ)
-    (accepted rejected : ℕ) (a : Ack) (z : ℤ) (then : Due)
-    → after_node head slot k (line.Node t j w peer message wide members accepted rejected a z) ≡ Some then
-    → (j ≡ k) × (then ≡ next_node head slot k)
-next-of head slot k t j w peer message wide members accepted rejected a z then e =
-    let v = line.Node t j w peer message wide members accepted rejected a z in
-    let g = guarded (is_node_line head slot k v) (Some (next_node head slot k)) then e in
-    (eqb-true j k (second _ _ _ _ _ _ _ g.0), sym (some_same (next_node head slot k) then g.1))
+module _ (head : Head) where
+  next-of :
+      (slot k t j : ℕ) (w : Word) (peer message : Option ℕ) (wide : Bool) (members : List ℕ) (accepted rejected : ℕ)
+      (a : Ack) (z : ℤ) (then : Due)
+      → after_node head slot k (line.Node t j w peer message wide members accepted rejected a z) ≡ Some then
+      → (j ≡ k) × (then ≡ next_node head slot k)
+  next-of slot k t j w peer message wide members accepted rejected a z then e =
+      let v = line.Node t j w peer message wide members accepted rejected a z in
+      let g = guarded (is_node_line head slot k v) (Some (next_node head slot k)) then e in
+      (eqb-true j k (second _ _ _ _ _ _ _ g.0), sym (some_same (next_node head slot k) then g.1))
 
 pub is_next : (at then : Due) (t j : ℕ) (w : Word) (peer message : Option ℕ) (wide : Bool) (members : List ℕ)
     (accepted rejected : ℕ) (a : Ack) (z : ℤ)
@@ -85,39 +87,42 @@ is_next (due.Host head slot has_read) then t j w peer message wide members accep
 is_next (due.Back head k) then t j w peer message wide members accepted rejected a z e = cc
 is_next (due.Nothing head k b) then t j w peer message wide members accepted rejected a z e = cc
 
-pub node-step : (at then : Due) (text rest : List ℕ) (t j : ℕ) (w : Word) (peer message : Option ℕ) (wide : Bool)
-    (members : List ℕ) (accepted rejected : ℕ) (a : Ack) (z : ℤ)
-    → IsLineStep at text (line.Node t j w peer message wide members accepted rejected a z) then rest
-    → IsNodeStep at text (record {
-      word = w;
-      peer = peer;
-      message = message;
-      members = members;
-      accepted = accepted;
-      rejected = rejected;
-      ack = a;
-      offset = z;
-    }) then rest
-node-step at then text rest t j w peer message wide members accepted rejected a z s =
-    let v = line.Node t j w peer message wide members accepted rejected a z in
-    let shown : NodeShown = record {
-      word = w;
-      peer = peer;
-      message = message;
-      members = members;
-      accepted = accepted;
-      rejected = rejected;
-      ack = a;
-      offset = z;
-    } in
-    let n = is_next at then t j w peer message wide members accepted rejected a z s.next in record {
-      slots =
-          slots-step at text v then rest s
-          ∙ ap (λ (k : ℕ). with_node_line k shown (slots_from (lines_of rest))) n.node;
-      goes_on = goes-on at text v then rest s;
-      next = n.next;
-      shorter = s.shorter;
-    }
+module _ (at then : Due) where
+  pub node-step :
+      (text rest : List ℕ) (t j : ℕ) (w : Word) (peer message : Option ℕ) (wide : Bool) (members : List ℕ)
+      (accepted rejected : ℕ) (a : Ack) (z : ℤ)
+      → IsLineStep at text (line.Node t j w peer message wide members accepted rejected a z) then rest
+      → IsNodeStep at text (record {
+        word = w;
+        peer = peer;
+        message = message;
+        members = members;
+        accepted =
+            accepted;
+        rejected = rejected;
+        ack = a;
+        offset = z;
+      }) then rest
+  node-step text rest t j w peer message wide members accepted rejected a z s =
+      let v = line.Node t j w peer message wide members accepted rejected a z in
+      let shown : NodeShown = record {
+        word = w;
+        peer = peer;
+        message = message;
+        members = members;
+        accepted = accepted;
+        rejected = rejected;
+        ack = a;
+        offset = z;
+      } in
+      let n = is_next at then t j w peer message wide members accepted rejected a z s.next in record {
+        slots =
+            slots-step at text v then rest s
+            ∙ ap (λ (k : ℕ). with_node_line k shown (slots_from (lines_of rest))) n.node;
+        goes_on = goes-on at text v then rest s;
+        next = n.next;
+        shorter = s.shorter;
+      }
 
 -- a text begins with a line that is due
 pub due-step : (head : Head) (slot k : ℕ) (text front rest : List ℕ) (v : TraceLine) (then : Due)

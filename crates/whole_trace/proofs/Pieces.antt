@@ -92,62 +92,63 @@ gathered-onto text [] more = refl
 gathered-onto text (piece ∷ pieces) more =
     gathered-onto (text ++ piece) pieces more ∙ append_assoc text piece (onto more pieces)
 
--- the line of these pieces at the front of a text, with a node, a count of accepted frames and a clock of its own
-pub alike-front : (n : NodeLine) (k a : ℕ) (z : ℤ) (head judged behind text r1 r2 r3 r4 r5 last rest : List ℕ)
-    → HasPieces n head judged behind → k < 256 → a < 256 → FitsOffset z → text ≡ head ++ r1 → r1 ≡ decimal k ++ r2
-    → r2 ≡ judged ++ r3 → r3 ≡ decimal a ++ r4 → r4 ≡ behind ++ r5 → r5 ≡ last
-    ++ rest → last ≡ signed_decimal z ++ newline
-    → IsNodeFront text (record {
-      slot = n.slot;
-      node = k;
-      word = n.word;
-      peer = n.peer;
-      message = n.message;
-      wide = n.wide;
-      members = n.members;
-      accepted = a;
-      rejected = n.rejected;
-      ack = n.ack;
-      offset = z;
-    }) rest
-alike-front n k a z head judged behind text r1 r2 r3 r4 r5 last rest has node count clock e1 e2 e3 e4 e5 e6 e7 =
-    let v = line.Node n.slot k n.word n.peer n.message n.wide n.members a n.rejected n.ack z in
-    let f : FitsNode n.slot n.node n.word n.peer n.message n.wide n.members
-    n.accepted n.rejected n.ack n.offset = has.fits in
-    let fits : Fits v = record {
-      slot = f.slot;
-      node = node;
-      word = f.word;
-      peer = f.peer;
-      message = f.message;
-      members = f.members;
-      accepted = count;
-      rejected = f.rejected;
-      ack = f.ack;
-      offset = clock;
-    } in
-    let fed = newline ++ rest in
-    let front = codes "slot " ∷ decimal n.slot ∷ codes " node " ∷ [] in
-    let words = told_pieces (word_text n.word) (number_or_dash n.peer) (number_or_dash n.message)
-    (hex (2 * member_bytes n.wide) (set_bits n.members)) in
-    let last_words = ack_pieces (decimal n.rejected) (ack_word n.ack) in
-    let one = text_of v ++ newline in
-    let all : text ≡ one ++ rest =
-    e1 ∙ (λ i. has.begins i ++ e2 i) ∙ gathered-onto [] front (decimal k ++ r2)
-    ∙ ap (λ (l : List ℕ). onto (decimal k ++ l) front)
-    (e3 ∙ (λ i. has.tells i ++ e4 i) ∙ gathered-onto [] words (decimal a ++ r4)
-    ∙ ap (λ (l : List ℕ). onto (decimal a ++ l) words)
-    (e5 ∙ (λ i. has.goes_on i ++ e6 i) ∙ gathered-onto [] last_words (last ++ rest)
-    ∙ ap (λ (l : List ℕ). onto l last_words)
-    (ap (λ (l : List ℕ). l ++ rest) e7 ∙ append_assoc (signed_decimal z) newline rest)))
-    ∙ sym (gathered-onto [] (front ++ (decimal k ∷ words ++ (decimal a ∷ last_words ++ (signed_decimal z ∷ [])))) fed)
-    ∙ sym (append_assoc (text_of v) newline rest) in record {
-      line = one;
-      cut =
-          ap lines_of all ∙ ap (λ (l : List ℕ). lines_of (l ++ rest)) (sym (append-nil one))
-          ∙ lines_of-behind (one ∷ []) rest (fed-is_line v fits, tt);
-      value = value-again v fits;
-    }
+module _ (n : NodeLine) (k a : ℕ) (z : ℤ) (head judged behind text r1 r2 r3 r4 r5 last rest : List ℕ) where
+  -- the line of these pieces at the front of a text, with a node, a count of accepted frames and a clock of its own
+  pub alike-front : HasPieces n head judged behind → k < 256 → a < 256 → FitsOffset z → text ≡ head ++ r1
+      → r1 ≡ decimal k ++ r2 → r2 ≡ judged ++ r3 → r3 ≡ decimal a ++ r4 → r4 ≡ behind ++ r5 → r5 ≡ last ++ rest
+      → last ≡ signed_decimal z ++ newline
+      → IsNodeFront text (record {
+        slot = n.slot;
+        node = k;
+        word = n.word;
+        peer = n.peer;
+        message = n.message;
+        wide =
+            n.wide;
+        members = n.members;
+        accepted = a;
+        rejected = n.rejected;
+        ack = n.ack;
+        offset = z;
+      }) rest
+  alike-front has node count clock e1 e2 e3 e4 e5 e6 e7 =
+      let v = line.Node n.slot k n.word n.peer n.message n.wide n.members a n.rejected n.ack z in
+      let f : FitsNode n.slot n.node n.word n.peer n.message n.wide n.members
+      n.accepted n.rejected n.ack n.offset = has.fits in
+      let fits : Fits v = record {
+        slot = f.slot;
+        node = node;
+        word = f.word;
+        peer = f.peer;
+        message = f.message;
+        members = f.members;
+        accepted = count;
+        rejected = f.rejected;
+        ack = f.ack;
+        offset = clock;
+      } in
+      let fed = newline ++ rest in
+      let front = codes "slot " ∷ decimal n.slot ∷ codes " node " ∷ [] in
+      let words = told_pieces (word_text n.word) (number_or_dash n.peer) (number_or_dash n.message)
+      (hex (2 * member_bytes n.wide) (set_bits n.members)) in
+      let last_words = ack_pieces (decimal n.rejected) (ack_word n.ack) in
+      let one = text_of v ++ newline in
+      let all : text ≡ one ++ rest =
+      e1 ∙ (λ i. has.begins i ++ e2 i) ∙ gathered-onto [] front (decimal k ++ r2)
+      ∙ ap (λ (l : List ℕ). onto (decimal k ++ l) front)
+      (e3 ∙ (λ i. has.tells i ++ e4 i) ∙ gathered-onto [] words (decimal a ++ r4)
+      ∙ ap (λ (l : List ℕ). onto (decimal a ++ l) words)
+      (e5 ∙ (λ i. has.goes_on i ++ e6 i) ∙ gathered-onto [] last_words (last ++ rest)
+      ∙ ap (λ (l : List ℕ). onto l last_words)
+      (ap (λ (l : List ℕ). l ++ rest) e7 ∙ append_assoc (signed_decimal z) newline rest)))
+      ∙ sym (gathered-onto [] (front ++ (decimal k ∷ words ++ (decimal a ∷ last_words ++ (signed_decimal z ∷ [])))) fed)
+      ∙ sym (append_assoc (text_of v) newline rest) in record {
+        line = one;
+        cut =
+            ap lines_of all ∙ ap (λ (l : List ℕ). lines_of (l ++ rest)) (sym (append-nil one))
+            ∙ lines_of-behind (one ∷ []) rest (fed-is_line v fits, tt);
+        value = value-again v fits;
+      }
 
 -- the first line of a text that has some bytes, and the rest
 pub cut-whole : (text line rest : List ℕ) → get_or (lines_of text) 0 [] ≡ line → drop 1 (lines_of text) ≡ lines_of rest

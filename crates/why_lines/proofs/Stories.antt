@@ -47,26 +47,25 @@ lines-step list numbers run spots root told i d before within =
     (sym (turned here others)
     ∙ sym (ap (λ (ts : List Told). reverse (told_lines list numbers run spots root ts)) (drop_more told i d within)))
 
--- one line more, with the root where it is the last
-pub story-step : (list : Medl) (numbers : LineNumbers) (run : RunSlots) (spots spots_here root root_here : List Spot)
-    (told : List Told) (p i : ℕ) (t : Told) (before lines : Lines) (line : List ℕ) → p ≡ i + 1 → i < length told
-    → t ≡ get_or told i t → spots_here ≡ spots → root_here ≡ root_at i root
-    → line ≡ told_line list numbers run spots_here root_here t
-    → lines ≡ before ++ reverse (told_lines list numbers run spots (root_at p root) (drop p told))
-    → lines ++ line ∷ [] ≡ before ++ reverse (told_lines list numbers run spots (root_at i root) (drop i told))
-story-step list numbers run spots spots_here root root_here told p i t before lines
-    line next within is all here said so_far =
-    let behind : root_at p root ≡ [] = ap (λ (n : ℕ). root_at n root) (next ∙ add-one i) in
-    let older : lines ≡ before ++ reverse (told_lines list numbers run spots [] (drop (i + 1) told)) =
-    so_far
-    ∙ (ap (λ (r : List Spot). before ++ reverse (told_lines list numbers run spots r (drop p told))) behind
-    ∙ ap (λ (n : ℕ). before ++ reverse (told_lines list numbers run spots [] (drop n told))) next) in
-    let this : line ≡ told_line list numbers run spots (root_at i root) (get_or told i t) =
-    said
-    ∙ (ap (λ (s : List Spot). told_line list numbers run s root_here t) all
-    ∙ (ap (λ (r : List Spot). told_line list numbers run spots r t) here
-    ∙ ap (told_line list numbers run spots (root_at i root)) is)) in
-    ap (λ (ls : Lines). ls ++ line ∷ []) older
-    ∙ (ap (λ (l : List ℕ). (before ++ reverse (told_lines list numbers run spots [] (drop (i + 1) told))) ++ l ∷ [])
-    this
-    ∙ lines-step list numbers run spots (root_at i root) told i t before within)
+module _ (list : Medl) (numbers : LineNumbers) (run : RunSlots) (spots spots_here root root_here : List Spot) where
+  -- one line more, with the root where it is the last
+  pub story-step : (told : List Told) (p i : ℕ) (t : Told) (before lines : Lines) (line : List ℕ) → p ≡ i + 1
+      → i < length told → t ≡ get_or told i t → spots_here ≡ spots → root_here ≡ root_at i root
+      → line ≡ told_line list numbers run spots_here root_here t
+      → lines ≡ before ++ reverse (told_lines list numbers run spots (root_at p root) (drop p told))
+      → lines ++ line ∷ [] ≡ before ++ reverse (told_lines list numbers run spots (root_at i root) (drop i told))
+  story-step told p i t before lines line next within is all here said so_far =
+      let behind : root_at p root ≡ [] = ap (λ (n : ℕ). root_at n root) (next ∙ add-one i) in
+      let older : lines ≡ before ++ reverse (told_lines list numbers run spots [] (drop (i + 1) told)) =
+      so_far
+      ∙ (ap (λ (r : List Spot). before ++ reverse (told_lines list numbers run spots r (drop p told))) behind
+      ∙ ap (λ (n : ℕ). before ++ reverse (told_lines list numbers run spots [] (drop n told))) next) in
+      let this : line ≡ told_line list numbers run spots (root_at i root) (get_or told i t) =
+      said
+      ∙ (ap (λ (s : List Spot). told_line list numbers run s root_here t) all
+      ∙ (ap (λ (r : List Spot). told_line list numbers run spots r t) here
+      ∙ ap (told_line list numbers run spots (root_at i root)) is)) in
+      ap (λ (ls : Lines). ls ++ line ∷ []) older
+      ∙ (ap (λ (l : List ℕ). (before ++ reverse (told_lines list numbers run spots [] (drop (i + 1) told))) ++ l ∷ [])
+      this
+      ∙ lines-step list numbers run spots (root_at i root) told i t before within)
