@@ -130,7 +130,8 @@ fn take_any_line(list: &Medl, line: &[u8], so_far: &mut SoFar) -> Result<(), Ref
     take_form(list, form, &words, so_far)
 }
 
-// Takes a line. An `error` line without a fault in its words is taken in place.
+// Takes a line. An `error` line without a fault in its words is taken in place: as a line of any form it would cost
+// `keeps` 5 percent more instructions on 23,500 such lines in 20,000 slots, and 19 percent more on 30,900 in 100 slots.
 #[tactic(auto, using(crate::proofs::Kept::kept), unfolding(crate::specs::Faults::line_faults, crate::specs::Faults::statements_after))]
 fn take_line(list: &Medl, line: &[u8], so_far: &mut SoFar) -> Result<(), Refusal>
     requires valid { IsValid list.now }
