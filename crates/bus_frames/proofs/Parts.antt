@@ -22,22 +22,21 @@ use Rattle.bus_frames.specs.declared.sending.Sending.{Sending}
 use Rattle.bus_frames.specs.FrameText.{byte_words, signal_line, spaced}
 use Rattle.bus_frames.specs.Standing.{IsAsLong}
 
-pub bytes-line : (old l1 l2 l3 l4 bytes b1 b2 first state payload word : List ℕ) (width header size n : ℕ)
-    → l1 ≡ old ++ spaced first → first ≡ take 1 bytes → b1 ≡ drop 1 bytes
-    → l2 ≡ l1 ++ spaced state → state ≡ take n b1 → b2 ≡ drop n b1
-    → l3 ≡ l2 ++ spaced payload → payload ≡ take size b2
-    → l4 ≡ l3 ++ spaced word → word ≡ drop size b2 → n ≡ carried_length width header
-    → l4 ≡ old ++ byte_words width header size bytes
-bytes-line old l1 l2 l3 l4 bytes b1 b2 first state payload word width header size n p1 q1 r1 p2 q2 r2 p3 q3 p4 q4 n_is =
-    let m = carried_length width header in
-    let behind : b2 ≡ drop (1 + m) bytes =
-    r2 ∙ ap (drop n) r1 ∙ drop-drop n 1 bytes ∙ ap (λ j. drop (1 + j) bytes) n_is in
-    let state_is : state ≡ take m (drop 1 bytes) = q2 ∙ ap (λ j. take j b1) n_is ∙ ap (take m) r1 in
-    let payload_is : payload ≡ payload_in width header size bytes = q3 ∙ ap (take size) behind in
-    let word_is : word ≡ drop (1 + m + size) bytes = q4 ∙ ap (drop size) behind ∙ drop-drop size (1 + m) bytes in
-    p4 ∙ ap (λ l. l ++ spaced word) (p3 ∙ ap (λ l. l ++ spaced payload) (p2 ∙ ap (λ l. l ++ spaced state) p1))
-    ∙ sym (gather-behind old (spaced first ∷ spaced state ∷ spaced payload ∷ spaced word ∷ []))
-    ∙ (λ i. old ++ (spaced (q1 i) ++ spaced (state_is i) ++ spaced (payload_is i) ++ spaced (word_is i)))
+module _ (old l1 l2 l3 l4 bytes b1 b2 first state payload word : List ℕ) where
+  pub bytes-line : (width header size n : ℕ) → l1 ≡ old ++ spaced first → first ≡ take 1 bytes → b1 ≡ drop 1 bytes
+      → l2 ≡ l1 ++ spaced state → state ≡ take n b1 → b2 ≡ drop n b1 → l3 ≡ l2 ++ spaced payload
+      → payload ≡ take size b2 → l4 ≡ l3 ++ spaced word → word ≡ drop size b2 → n ≡ carried_length width header
+      → l4 ≡ old ++ byte_words width header size bytes
+  bytes-line width header size n p1 q1 r1 p2 q2 r2 p3 q3 p4 q4 n_is =
+      let m = carried_length width header in
+      let behind : b2 ≡ drop (1 + m) bytes =
+      r2 ∙ ap (drop n) r1 ∙ drop-drop n 1 bytes ∙ ap (λ j. drop (1 + j) bytes) n_is in
+      let state_is : state ≡ take m (drop 1 bytes) = q2 ∙ ap (λ j. take j b1) n_is ∙ ap (take m) r1 in
+      let payload_is : payload ≡ payload_in width header size bytes = q3 ∙ ap (take size) behind in
+      let word_is : word ≡ drop (1 + m + size) bytes = q4 ∙ ap (drop size) behind ∙ drop-drop size (1 + m) bytes in
+      p4 ∙ ap (λ l. l ++ spaced word) (p3 ∙ ap (λ l. l ++ spaced payload) (p2 ∙ ap (λ l. l ++ spaced state) p1))
+      ∙ sym (gather-behind old (spaced first ∷ spaced state ∷ spaced payload ∷ spaced word ∷ []))
+      ∙ (λ i. old ++ (spaced (q1 i) ++ spaced (state_is i) ++ spaced (payload_is i) ++ spaced (word_is i)))
 
 -- What came.
 

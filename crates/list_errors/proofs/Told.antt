@@ -20,30 +20,31 @@ pub no_syncs : (slots : List Members) (n : ℕ) → length slots ≡ n → (nat_
 unfolding sync_wrongs
 no_syncs slots n count other = rw (count, other) refl
 
--- the parts of the keys at the top
-pub top_told : (file : Members) (old a b c d e f g h i : List Wrong)
-    → a ≡ old ++ number_wrongs (at_top names.Version) 1 2 file → b ≡ a ++ number_wrongs (at_top names.Rounds) 1 64 file
-    → c ≡ b ++ number_wrongs (at_top names.Schedule) 0 16777215 file
-    → d ≡ c ++ number_wrongs (at_top names.Buffers) 1 16 file → e ≡ d ++ number_wrongs (at_top names.Drift) 0 1000 file
-    → f ≡ e ++ number_wrongs (at_top names.Error) 0 1000 file
-    → g ≡ f ++ number_wrongs (at_top names.Window) 1 1000000 file → h ≡ g ++ array_wrongs file
-    → i ≡ h ++ modes_wrongs file → i ≡ old ++ top_wrongs file
-unfolding top_wrongs
-top_told file old a b c d e f g h i p q r s t u v w x =
-    more old a i _ _ p (more a b i _ _ q (more b c i _ _ r (more c d i _ _ s (more d e i _ _ t (more e f i _ _ u
-    (more f g i _ _ v (more g h i _ _ w x)))))))
+module _ (file : Members) (old a b c d e f g h i : List Wrong) where
+  -- the parts of the keys at the top
+  pub top_told : a ≡ old ++ number_wrongs (at_top names.Version) 1 2 file
+      → b ≡ a ++ number_wrongs (at_top names.Rounds) 1 64 file
+      → c ≡ b ++ number_wrongs (at_top names.Schedule) 0 16777215 file
+      → d ≡ c ++ number_wrongs (at_top names.Buffers) 1 16 file
+      → e ≡ d ++ number_wrongs (at_top names.Drift) 0 1000 file
+      → f ≡ e ++ number_wrongs (at_top names.Error) 0 1000 file
+      → g ≡ f ++ number_wrongs (at_top names.Window) 1 1000000 file → h ≡ g ++ array_wrongs file
+      → i ≡ h ++ modes_wrongs file → i ≡ old ++ top_wrongs file
+  unfolding top_wrongs
+  top_told p q r s t u v w x =
+      more old a i _ _ p (more a b i _ _ q (more b c i _ _ r (more c d i _ _ s (more d e i _ _ t (more e f i _ _ u
+      (more f g i _ _ v (more g h i _ _ w x)))))))
 
--- the parts of a whole table
-pub table_told : (file : Members) (version rounds modes : Option ℕ) (slots seen : List Members) (n : ℕ)
-    (old top count keys unknown others sync : List Wrong)
-    → version ≡ version_known file → rounds ≡ rounds_known file → modes
-    ≡ modes_known file → Some slots ≡ elements_of file
-    → seen ≡ take 24 slots → n ≡ length slots → top ≡ old ++ top_wrongs file → count ≡ top ++ count_wrongs version n
-    → keys ≡ count ++ slots_wrongs rounds modes 0 seen → unknown ≡ keys ++ unknown_keys_at_top file
-    → others ≡ unknown ++ unknown_keys_in_slots 0 seen → sync ≡ others
-    ++ sync_wrongs slots → sync ≡ old ++ table_wrongs file
-unfolding table_wrongs
-table_told file version rounds modes slots seen n old top count keys unknown others sync v r m s e l a b c d f g =
-    let all = more old top sync _ _ a (more top count sync _ _ b (more count keys sync _ _ c
-    (more keys unknown sync _ _ d (more unknown others sync _ _ f g)))) in
-    all ∙ ap (λ (w : List Wrong). old ++ (top_wrongs file ++ w)) (rw (v, r, m, e, l) refl ∙ ap (below_wrongs file) s)
+module _ (file : Members) (version rounds modes : Option ℕ) (slots seen : List Members) (n : ℕ)
+    (old top count keys unknown others sync : List Wrong) where
+  -- the parts of a whole table
+  pub table_told : version ≡ version_known file → rounds ≡ rounds_known file → modes ≡ modes_known file
+      → Some slots ≡ elements_of file → seen ≡ take 24 slots → n ≡ length slots → top ≡ old ++ top_wrongs file
+      → count ≡ top ++ count_wrongs version n → keys ≡ count ++ slots_wrongs rounds modes 0 seen
+      → unknown ≡ keys ++ unknown_keys_at_top file → others ≡ unknown ++ unknown_keys_in_slots 0 seen
+      → sync ≡ others ++ sync_wrongs slots → sync ≡ old ++ table_wrongs file
+  unfolding table_wrongs
+  table_told v r m s e l a b c d f g =
+      let all = more old top sync _ _ a (more top count sync _ _ b (more count keys sync _ _ c
+      (more keys unknown sync _ _ d (more unknown others sync _ _ f g)))) in
+      all ∙ ap (λ (w : List Wrong). old ++ (top_wrongs file ++ w)) (rw (v, r, m, e, l) refl ∙ ap (below_wrongs file) s)

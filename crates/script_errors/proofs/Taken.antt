@@ -48,25 +48,25 @@ takes_full_told list before number line f first words so_far old new slots slots
       after = subst (λ (b : Before). StandsFor list so_far b) (sym both.1) stands;
     }
 
-pub takes_full_kept : (list : Option Medl) (before : Before) (number : ℕ) (line : List ℕ) (f : Form) (first : Spot)
-    (words : List Spot) (so_far : SoFar) (old mid new : List ScriptError) (slots : ℕ)
-    → slots ≡ slots_or_most before → mid ≡ old ++ own_errors list slots number line f words
-    → own_errors list slots number line f words ≡ []
-    → Finishes list before number line f first words so_far mid new
-    → TellsFull list before number line f first words so_far old new
-unfolding full_errors
-takes_full_kept list before number line f first words so_far old mid new slots slots_is is none finishes =
-    let own : own_errors list (slots_or_most before) number line f words ≡ [] =
-    ap (λ (n : ℕ). own_errors list n number line f words) (sym slots_is) ∙ none in
-    let more = errors_of_word number first (stated_wrong list before (line_states line f (first ∷ words))) in
-    let same : mid ≡ old = is ∙ ap (λ (es : List ScriptError). old ++ es) none ∙ append-nil old in
-    record {
-      found = finishes.found ∙ ap (λ (es : List ScriptError). es ++ more) same
-          ∙ ap (λ (es : List ScriptError). old ++ unless_told es more) (sym own);
-      after = subst (λ (es : List ScriptError). StandsFor list so_far
-          (taken_unless (unless_told es more) before number (line_states line f (first ∷ words)))) (sym own)
-          finishes.after;
-    }
+module _ (list : Option Medl) where
+  pub takes_full_kept :
+      (before : Before) (number : ℕ) (line : List ℕ) (f : Form) (first : Spot) (words : List Spot) (so_far : SoFar) (old mid new : List ScriptError) (slots : ℕ)
+      → slots ≡ slots_or_most before → mid ≡ old ++ own_errors list slots number line f words
+      → own_errors list slots number line f words ≡ [] → Finishes list before number line f first words so_far mid new
+      → TellsFull list before number line f first words so_far old new
+  unfolding full_errors
+  takes_full_kept before number line f first words so_far old mid new slots slots_is is none finishes =
+      let own : own_errors list (slots_or_most before) number line f words ≡ [] =
+      ap (λ (n : ℕ). own_errors list n number line f words) (sym slots_is) ∙ none in
+      let more = errors_of_word number first (stated_wrong list before (line_states line f (first ∷ words))) in
+      let same : mid ≡ old = is ∙ ap (λ (es : List ScriptError). old ++ es) none ∙ append-nil old in
+      record {
+        found = finishes.found ∙ ap (λ (es : List ScriptError). es ++ more) same
+            ∙ ap (λ (es : List ScriptError). old ++ unless_told es more) (sym own);
+        after = subst (λ (es : List ScriptError). StandsFor list so_far
+            (taken_unless (unless_told es more) before number (line_states line f (first ∷ words)))) (sym own)
+            finishes.after;
+      }
 
 -- Another number of words.
 
@@ -87,35 +87,37 @@ get_some [] i d within = absurd (omega arith)
 get_some (w ∷ words) zero d within = refl
 get_some (w ∷ words) (suc n) d within = get_some words n d (omega arith)
 
--- a comment, and before it the words of the form
-pub takes_comment : (list : Option Medl) (before : Before) (number : ℕ) (line : List ℕ) (f : Form) (first : Spot)
-    (words here : List Spot) (at : Spot) (so_far : SoFar) (old mid new : List ScriptError)
-    → is_full f words ≡ false → comment_of line words ≡ Some at → here ≡ before_comment line words
-    → is_full f here ≡ true → mid ≡ old ++ error_of_word number at wrong.Comment ∷ []
-    → TellsFull list before number line f first here so_far mid new
-    → TellsLength list before number line f first words so_far old new
-unfolding form_after
-takes_comment list before number line f first words here at so_far old mid new other comment front full now takes =
-    let same = sym front in
-    record {
-      found = rw (other, comment, same, full) (takes.found
-          ∙ ap (λ (es : List ScriptError). es ++ full_errors list before number line f first here) now
-          ∙ append_assoc old (error_of_word number at wrong.Comment ∷ [])
-          (full_errors list before number line f first here));
-      after = rw (other, same, full) takes.after;
-    }
+module _ (list : Option Medl) (before : Before) (number : ℕ) (line : List ℕ) where
+  -- a comment, and before it the words of the form
+  pub takes_comment :
+      (f : Form) (first : Spot) (words here : List Spot) (at : Spot) (so_far : SoFar) (old mid new : List ScriptError)
+      → is_full f words ≡ false → comment_of line words ≡ Some at → here ≡ before_comment line words
+      → is_full f here ≡ true → mid ≡ old ++ error_of_word number at wrong.Comment ∷ []
+      → TellsFull list before number line f first here so_far mid new
+      → TellsLength list before number line f first words so_far old new
+  unfolding form_after
+  takes_comment f first words here at so_far old mid new other comment front full now takes =
+      let same = sym front in
+      record {
+        found = rw (other, comment, same, full) (takes.found
+            ∙ ap (λ (es : List ScriptError). es ++ full_errors list before number line f first here) now
+            ∙ append_assoc old (error_of_word number at wrong.Comment ∷ [])
+            (full_errors list before number line f first here));
+        after = rw (other, same, full) takes.after;
+      }
 
--- a comment, and before it another number of words
-pub takes_short : (list : Option Medl) (before : Before) (number : ℕ) (line : List ℕ) (f : Form) (first : Spot)
-    (words here : List Spot) (at : Spot) (so_far : SoFar) (old new : List ScriptError)
-    → is_full f words ≡ false → comment_of line words ≡ Some at → here ≡ before_comment line words
-    → is_full f here ≡ false → new ≡ old ++ error_of_word number at wrong.Comment ∷ []
-    → StandsFor list so_far (record before { named = true })
-    → TellsLength list before number line f first words so_far old new
-unfolding form_after
-takes_short list before number line f first words here at so_far old new other comment front short now stands =
-    let same = sym front in
-    record { found = rw (other, comment, same, short) now; after = rw (other, same, short) stands }
+module _ (list : Option Medl) (before : Before) (number : ℕ) where
+  -- a comment, and before it another number of words
+  pub takes_short :
+      (line : List ℕ) (f : Form) (first : Spot) (words here : List Spot) (at : Spot) (so_far : SoFar) (old new : List ScriptError)
+      → is_full f words ≡ false → comment_of line words ≡ Some at → here ≡ before_comment line words
+      → is_full f here ≡ false → new ≡ old ++ error_of_word number at wrong.Comment ∷ []
+      → StandsFor list so_far (record before { named = true })
+      → TellsLength list before number line f first words so_far old new
+  unfolding form_after
+  takes_short line f first words here at so_far old new other comment front short now stands =
+      let same = sym front in
+      record { found = rw (other, comment, same, short) now; after = rw (other, same, short) stands }
 
 pub comment_is : (line : List ℕ) (words : List Spot) (i : ℕ) (d : Spot) → i < length words
     → slice_get words i ≡ comment_of line words → comment_of line words ≡ Some (get_or words i d)
@@ -202,24 +204,24 @@ takes_plain list before number line words so_far old new is plain takes =
           takes.after);
     }
 
-pub takes_marked : (list : Option Medl) (before : Before) (number : ℕ) (line : List ℕ) (words : List Spot)
-    (first : Spot) (rest here : List Spot) (so_far : SoFar) (old mid new : List ScriptError)
-    → words ≡ spots_of line → is_marked number line words ≡ true → words ≡ first ∷ rest
-    → here ≡ behind_mark (first ∷ rest) → mid ≡ old ++ error_of_word number first wrong.Mark ∷ []
-    → TellsWords list before number line here so_far mid new
-    → TellsLine list before number line so_far old new
-unfolding line_errors before_next
-takes_marked list before number line words first rest here so_far old mid new is marked cut behind now takes =
-    let spots : spots_of line ≡ first ∷ rest = sym is ∙ cut in
-    let on : is_marked number line (first ∷ rest) ≡ true = ap (is_marked number line) (sym cut) ∙ marked in
-    let found : new ≡ mid ++ said_errors list before number line (behind_mark (first ∷ rest)) =
-    subst (λ (ws : List Spot). new ≡ mid ++ said_errors list before number line ws) behind takes.found in
-    let after : StandsFor list so_far (said_after list before number line (behind_mark (first ∷ rest))) =
-    subst (λ (ws : List Spot). StandsFor list so_far (said_after list before number line ws)) behind takes.after in
-    record {
-      found = rw (spots, on) (found
-          ∙ ap (λ (es : List ScriptError). es ++ said_errors list before number line (behind_mark (first ∷ rest))) now
-          ∙ append_assoc old (error_of_word number first wrong.Mark ∷ [])
-          (said_errors list before number line (behind_mark (first ∷ rest))));
-      after = rw (spots, on) after;
-    }
+module _ (list : Option Medl) (before : Before) (number : ℕ) where
+  pub takes_marked :
+      (line : List ℕ) (words : List Spot) (first : Spot) (rest here : List Spot) (so_far : SoFar) (old mid new : List ScriptError)
+      → words ≡ spots_of line → is_marked number line words ≡ true → words ≡ first ∷ rest
+      → here ≡ behind_mark (first ∷ rest) → mid ≡ old ++ error_of_word number first wrong.Mark ∷ []
+      → TellsWords list before number line here so_far mid new → TellsLine list before number line so_far old new
+  unfolding line_errors before_next
+  takes_marked line words first rest here so_far old mid new is marked cut behind now takes =
+      let spots : spots_of line ≡ first ∷ rest = sym is ∙ cut in
+      let on : is_marked number line (first ∷ rest) ≡ true = ap (is_marked number line) (sym cut) ∙ marked in
+      let found : new ≡ mid ++ said_errors list before number line (behind_mark (first ∷ rest)) =
+      subst (λ (ws : List Spot). new ≡ mid ++ said_errors list before number line ws) behind takes.found in
+      let after : StandsFor list so_far (said_after list before number line (behind_mark (first ∷ rest))) =
+      subst (λ (ws : List Spot). StandsFor list so_far (said_after list before number line ws)) behind takes.after in
+      record {
+        found = rw (spots, on) (found
+            ∙ ap (λ (es : List ScriptError). es ++ said_errors list before number line (behind_mark (first ∷ rest))) now
+            ∙ append_assoc old (error_of_word number first wrong.Mark ∷ [])
+            (said_errors list before number line (behind_mark (first ∷ rest))));
+        after = rw (spots, on) after;
+      }
