@@ -11,7 +11,7 @@ ghost use Rattle.line_text.specs.Labels.{after_label};
 
 use crate::labels::after_label;
 use crate::shared::{put_ack_word, put_number_or_dash};
-use crate::words::{peer_of, put_array, put_word};
+use crate::words::{peer_of, put_array, put_gone, put_off, put_word};
 use std::marker::Model;
 use ttp_base::{Failed, Line, NodeSet, Sink};
 use ttp_world::{Ack, Entry, Medl, NodeState, Verdict};
@@ -208,41 +208,6 @@ fn put_judged(
     let start = line.len();
     put_shown(line, list, node, state, judged.message);
     told.keep(judged, &line.bytes()[start..]);
-}
-
-// Adds an empty membership, and what a line shows behind it before its counts.
-fn put_nobody(line: &mut Line, list: &Medl)
-    requires { length line.old + 20 ≤ 640 }
-    ensures text { line.new ≡ line.old ++ hex (member_digits list.now) 0 ++ codes " acc " }
-    ensures short { length line.new ≤ length line.old + 20 }
-{
-    if list.is_wide() {
-        put_array(line, b"000000 acc ");
-    } else {
-        put_array(line, b"0000 acc ");
-    }
-}
-
-// Adds what a line shows of a node that is off, between its number and its counts.
-fn put_off(line: &mut Line, list: &Medl)
-    requires { length line.old + 50 ≤ 640 }
-    ensures text { line.new ≡ line.old
-        ++ codes " off peer - msg - mem " ++ hex (member_digits list.now) 0 ++ codes " acc " }
-    ensures short { length line.new ≤ length line.old + 50 }
-{
-    put_array(line, b" off peer - msg - mem ");
-    put_nobody(line, list);
-}
-
-// The same of a node that is gone.
-fn put_gone(line: &mut Line, list: &Medl)
-    requires { length line.old + 50 ≤ 640 }
-    ensures text { line.new ≡ line.old
-        ++ codes " gone peer - msg - mem " ++ hex (member_digits list.now) 0 ++ codes " acc " }
-    ensures short { length line.new ≤ length line.old + 50 }
-{
-    put_array(line, b" gone peer - msg - mem ");
-    put_nobody(line, list);
 }
 
 // Adds what a line shows between the node's number and its counts. Where the node judged the slot, it is

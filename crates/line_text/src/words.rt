@@ -1,9 +1,10 @@
 //! The words of a node's line.
 ghost use Rattle.std.specs.Prelude.{◌≡◌, ◌+◌, ◌≤◌, ◌++◌, length, codes};
-ghost use Rattle.ttp_world.specs.Trace.{verdict_word, reason_word, entry_word, peer_of};
+ghost use Rattle.ttp_base.specs.Text.{hex};
+ghost use Rattle.ttp_world.specs.Trace.{verdict_word, reason_word, entry_word, member_digits, peer_of};
 
 use ttp_base::Line;
-use ttp_world::{Entry, Reason, Verdict};
+use ttp_world::{Entry, Medl, Reason, Verdict};
 
 /// What stands before the node of which a word speaks.
 pub const PEER: &str = " peer ";
@@ -71,6 +72,41 @@ pub(crate) fn put_word(line: &mut Line, entry: &Entry)
         Entry::Judged { verdict, .. } => put_verdict(line, *verdict),
         Entry::Left { reason, .. } => put_reason(line, *reason),
     }
+}
+
+// Adds an empty membership, and what a line shows behind it before its counts.
+fn put_nobody(line: &mut Line, list: &Medl)
+    requires { length line.old + 20 ≤ 640 }
+    ensures text { line.new ≡ line.old ++ hex (member_digits list.now) 0 ++ codes " acc " }
+    ensures short { length line.new ≤ length line.old + 20 }
+{
+    if list.is_wide() {
+        put_array(line, b"000000 acc ");
+    } else {
+        put_array(line, b"0000 acc ");
+    }
+}
+
+/// Adds what a line shows of a node that is off, between its number and its counts.
+pub(crate) fn put_off(line: &mut Line, list: &Medl)
+    requires { length line.old + 50 ≤ 640 }
+    ensures text { line.new ≡ line.old
+        ++ codes " off peer - msg - mem " ++ hex (member_digits list.now) 0 ++ codes " acc " }
+    ensures short { length line.new ≤ length line.old + 50 }
+{
+    put_array(line, b" off peer - msg - mem ");
+    put_nobody(line, list);
+}
+
+/// Adds what a line shows of a node that is gone, between its number and its counts.
+pub(crate) fn put_gone(line: &mut Line, list: &Medl)
+    requires { length line.old + 50 ≤ 640 }
+    ensures text { line.new ≡ line.old
+        ++ codes " gone peer - msg - mem " ++ hex (member_digits list.now) 0 ++ codes " acc " }
+    ensures short { length line.new ≤ length line.old + 50 }
+{
+    put_array(line, b" gone peer - msg - mem ");
+    put_nobody(line, list);
 }
 
 /// The node that an entry speaks of, beside the one whose entry it is.
