@@ -7,7 +7,7 @@
 //!
 //! ```text
 //! let mut library = NotedFiles::new(rt, FileLibrary::new(rt));
-//! let mut out = NotedOutput::new(buffered);
+//! let mut out = BufWriter::with_capacity(rt.alloc(), BUFFER, NotedOutput::new(io::writer(rt)))?;
 //! let status = bench(rt, rt.alloc(), words, &mut library, &mut StreamSink::new(&mut out), &gate, &mut kept);
 //! ```
 //!

@@ -4,7 +4,9 @@ use std::io::{self, Write};
 // How many of the first bytes are kept, which are those of the longest line.
 const KEPT: usize = 640;
 
-/// A writer that hands each write on to another. It keeps the first bytes that were written, and why a write failed.
+/// A writer that hands each write on to another. It keeps the first bytes that the other took, and why a write failed.
+///
+/// It stands behind the buffer of a program, so that it costs nothing for each line.
 #[derive(Drop)]
 pub struct NotedOutput<W> {
     writer: W,
@@ -25,7 +27,7 @@ impl<W: Write> NotedOutput<W> {
         }
     }
 
-    /// The first bytes that were written, at most 640.
+    /// The first bytes that the other took, at most 640.
     pub(crate) fn first(&self) -> &[u8] {
         match self.first.get(..self.count) {
             Some(first) => first,
@@ -53,13 +55,14 @@ fn copy_of(error: &io::Error) -> io::Error {
 }
 
 impl<W: Write> Write for NotedOutput<W> {
-    #[inline]
     fn write(&mut self, piece: &[u8]) -> io::Result<usize> {
-        if self.count < KEPT {
-            self.keep_first(piece);
-        }
         match self.writer.write(piece) {
-            Ok(count) => Ok(count),
+            Ok(count) => {
+                if self.count < KEPT {
+                    self.keep_first(piece.get(..count).unwrap_or(piece));
+                }
+                Ok(count)
+            }
             Err(error) => {
                 self.why = Some(copy_of(&error));
                 Err(error)

@@ -41,11 +41,12 @@ fn status_of<R: Files + Print + Eprint + Threads + Wait + Sync + AllocGlobal>(
     words: &[String],
 ) -> u8 {
     // With no memory for a buffer, each line goes to the system by itself.
-    let buffered = match BufWriter::with_capacity(rt.alloc(), BUFFER, io::writer(rt)) {
+    let out = NotedOutput::new(io::writer(rt));
+    let buffered = match BufWriter::with_capacity(rt.alloc(), BUFFER, out) {
         Ok(buffered) => Ok(buffered),
-        Err(_) => BufWriter::with_capacity(rt.alloc(), 0, io::writer(rt)),
+        Err(_) => BufWriter::with_capacity(rt.alloc(), 0, NotedOutput::new(io::writer(rt))),
     };
-    let Ok(buffered) = buffered else {
+    let Ok(mut out) = buffered else {
         return tell_no_words(rt, "ttpbench", io::ErrorKind::OutOfMemory);
     };
     let asked = match words {
@@ -53,7 +54,6 @@ fn status_of<R: Files + Print + Eprint + Threads + Wait + Sync + AllocGlobal>(
         [] => words,
     };
     let mut library = NotedFiles::new(rt, FileLibrary::new(rt));
-    let mut out = NotedOutput::new(buffered);
     let gate = OpenGate::new();
     let mut kept = None;
     let status = bench(
@@ -67,6 +67,14 @@ fn status_of<R: Files + Print + Eprint + Threads + Wait + Sync + AllocGlobal>(
     );
     let_go(kept);
     let status = if out.flush().is_ok() { status } else { 6 };
-    tell(rt, "ttpbench", FORMS, words, status, &library, &out);
+    tell(
+        rt,
+        "ttpbench",
+        FORMS,
+        words,
+        status,
+        &library,
+        out.get_ref(),
+    );
     status
 }

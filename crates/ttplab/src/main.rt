@@ -42,9 +42,10 @@ fn status_of<R: Files + Print + Eprint + Clock + Threads + Sync + AllocGlobal>(
     words: &[String],
 ) -> u8 {
     // With no memory for a buffer, each line goes to the system by itself.
-    let buffered = match BufWriter::with_capacity(rt.alloc(), BUFFER, io::writer(rt)) {
+    let out = NotedOutput::new(io::writer(rt));
+    let buffered = match BufWriter::with_capacity(rt.alloc(), BUFFER, out) {
         Ok(buffered) => Ok(buffered),
-        Err(_) => BufWriter::with_capacity(rt.alloc(), 0, io::writer(rt)),
+        Err(_) => BufWriter::with_capacity(rt.alloc(), 0, NotedOutput::new(io::writer(rt))),
     };
     let Ok(buffered) = buffered else {
         return tell_no_words(rt, "ttplab", io::ErrorKind::OutOfMemory);
@@ -53,8 +54,12 @@ fn status_of<R: Files + Print + Eprint + Clock + Threads + Sync + AllocGlobal>(
         [_, asked @ ..] => asked,
         [] => words,
     };
+    let is_watched = match asked {
+        [verb, ..] => verb.as_str() == "campaign" || verb.as_str() == "pairs",
+        [] => false,
+    };
     let mut library = NotedFiles::new(rt, FileLibrary::new(rt));
-    let mut out = WatchedOutput::new(rt, NotedOutput::new(buffered));
+    let mut out = WatchedOutput::new(rt, buffered, is_watched);
     let status = lab(
         rt,
         rt.alloc(),
@@ -73,7 +78,7 @@ fn status_of<R: Files + Print + Eprint + Clock + Threads + Sync + AllocGlobal>(
         words,
         status,
         &library,
-        &out.out,
+        out.out.get_ref(),
     );
     status
 }

@@ -13,6 +13,8 @@ const QUIET_SECONDS: u64 = 5;
 pub(crate) struct WatchedOutput<'a, R, W> {
     rt: &'a R,
     pub(crate) out: W,
+    // Whether the command is one that says how far it has come. The lines of others are not looked at.
+    is_watched: bool,
     progress: Progress,
 }
 
@@ -34,10 +36,12 @@ struct Progress {
 }
 
 impl<'a, R: Clock, W> WatchedOutput<'a, R, W> {
-    pub(crate) fn new(rt: &'a R, out: W) -> WatchedOutput<'a, R, W> {
+    /// Over a writer, of which nothing is known so far; `is_watched` says whether the command is `campaign` or `pairs`.
+    pub(crate) fn new(rt: &'a R, out: W, is_watched: bool) -> WatchedOutput<'a, R, W> {
         WatchedOutput {
             rt,
             out,
+            is_watched,
             progress: Progress {
                 began: Instant::now(rt).ok(),
                 slots: None,
@@ -64,7 +68,23 @@ impl<R: Eprint, W> WatchedOutput<'_, R, W> {
 }
 
 impl<R: Eprint + Clock, W: Write> Write for WatchedOutput<'_, R, W> {
+    #[inline]
     fn write(&mut self, piece: &[u8]) -> io::Result<usize> {
+        if self.is_watched {
+            self.write_watched(piece)
+        } else {
+            self.out.write(piece)
+        }
+    }
+
+    fn flush(&mut self) -> io::Result<()> {
+        self.out.flush()
+    }
+}
+
+impl<R: Eprint + Clock, W: Write> WatchedOutput<'_, R, W> {
+    // Hands a write on, and reads off it how far the command has come.
+    fn write_watched(&mut self, piece: &[u8]) -> io::Result<usize> {
         if self.progress.ends_slot(piece) {
             self.out.flush()?;
             self.progress.tell(self.rt);
@@ -75,10 +95,6 @@ impl<R: Eprint + Clock, W: Write> Write for WatchedOutput<'_, R, W> {
             self.out.flush()?;
         }
         Ok(written)
-    }
-
-    fn flush(&mut self) -> io::Result<()> {
-        self.out.flush()
     }
 }
 
