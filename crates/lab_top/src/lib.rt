@@ -5,8 +5,8 @@
 //! outside is blamed only where it is at fault. The main function of ttplab calls it:
 //!
 //! ```text
-//! let mut out = WatchedSink::new(&rt, StreamSink::new(buffered));
-//! let status = lab(&rt, rt.alloc(), &words, &mut library, &mut out);
+//! let mut sink = StreamSink::new(WatchedOutput::new(&rt, buffered, is_watched));
+//! let status = lab(&rt, rt.alloc(), &words, &mut library, &mut sink);
 //! ```
 //!
 //! A contract sees the call as the plan of its form (`specs/Forms.antt`), which commands carries out, and each form has a promise

@@ -7,8 +7,8 @@
 //!
 //! ```text
 //! let mut library = NotedFiles::new(rt, FileLibrary::new(rt));
-//! let mut out = BufWriter::with_capacity(rt.alloc(), BUFFER, NotedOutput::new(io::writer(rt)))?;
-//! let status = bench(rt, rt.alloc(), words, &mut library, &mut StreamSink::new(&mut out), &gate, &mut kept);
+//! let mut sink = StreamSink::new(BufWriter::with_capacity(rt.alloc(), BUFFER, NotedOutput::new(io::writer(rt)))?);
+//! let status = bench(rt, rt.alloc(), words, &mut library, &mut sink, &gate, &mut kept);
 //! ```
 //!
 //! What is told is one line: a control character in a name stands there as `\xHH`, as [`Shown`] promises. Nothing else is

@@ -39,11 +39,11 @@ fn write_some<T: Target>(target: &mut T, piece: &[u8]) -> Result<usize, Trouble>
     Err(Trouble::Interrupted)
 }
 
-/// Writes what is left of a piece, a write after another; where nothing is left, it writes nothing. It
-/// stands apart, so that the first write of a piece is inlined.
+// Writes what is left of a piece, a write after another; where nothing is left, it writes nothing. It
+// stands apart, so that the first write of a piece is inlined.
 #[cold]
 #[inline(never)]
-pub(crate) fn write_rest<T: Target>(target: &mut T, rest: &[u8]) -> Result<(), Trouble>
+fn write_rest<T: Target>(target: &mut T, rest: &[u8]) -> Result<(), Trouble>
     ensures ok { OnOk result (Appends (T.contents target.old) (T.contents target.new) rest.now) }
     ensures front { OnErr result (AppendsFront (T.contents target.old) (T.contents target.new) rest.now) }
     ensures quiet { OnOk result (ToldNoFault (T.told target.old) (T.told target.new)) }

@@ -8,11 +8,11 @@ use crate::library::{Library, LoadError};
 use crate::pieces::{Piece, Pieces};
 use crate::sink::Sink;
 use crate::source::{Trouble, Untold};
-use crate::streams::{read_front, write_rest, write_whole};
+use crate::streams::{read_front, write_whole};
 use crate::target::Onto;
 use std::alloc::Global;
 use std::fs;
-use std::io::{self, BufWriter, ErrorKind, Read, Write};
+use std::io::{self, ErrorKind, Read, Write};
 use std::rt::Files;
 
 /// Files by their paths. No contract can say what a file holds, so it tells no bytes. One counter
@@ -98,9 +98,9 @@ pub fn front_of<R: Read + Drop>(
 /// them, and standard output does not.
 ///
 /// Each piece is given to the writer whole, and no piece is flushed: where the writer is std's
-/// `BufWriter`, [`StreamSink::end`] hands on what it still holds. A write that takes nothing is a fault,
-/// and so is one that fails; each raises the count. A write that a signal interrupts is tried again, at
-/// most 1,000,000 times.
+/// `BufWriter`, the one that [`StreamSink::into_writer`] gives back may still hold the last of them. A write
+/// that takes nothing is a fault, and so is one that fails; each raises the count. A write that a signal
+/// interrupts is tried again, at most 1,000,000 times.
 #[derive(Drop)]
 pub struct StreamSink<W> {
     onto: Onto<W>,
@@ -122,6 +122,13 @@ impl<W: Write> StreamSink<W> {
             faults: 0,
         }
     }
+
+    /// Gives the writer back, with what it still holds.
+    pub fn into_writer(self) -> W
+        ensures { W.contents result ≡ (stream_output W.contents self).written }
+    {
+        self.onto.writer
+    }
 }
 
 impl<W: Write> Sink for StreamSink<W> {
@@ -139,25 +146,6 @@ impl<W: Write> Sink for StreamSink<W> {
                 self.faults = self.faults.saturating_add(1);
                 Err(Failed)
             }
-        }
-    }
-}
-
-impl<W: Write + Drop> StreamSink<BufWriter<W>> {
-    ghost use Rattle.std.specs.Io.Buffered.{writer_contents};
-    ghost use Rattle.std.specs.Io.KnownBytes.{Keeps};
-    ghost use Rattle.ttp_base.specs.System.{stream_output};
-
-    /// Hands on what the buffer still holds, and gives back the writer behind it, which then has all
-    /// that was written. After `Failed` that writer took only some first bytes of it.
-    pub fn end(self) -> Result<W, Failed>
-        ensures { IfOk result (λ w. Keeps (stream_output (writer_contents W.contents) self).written (W.contents w)) }
-    {
-        let (writer, rest) = self.onto.writer.into_parts();
-        let mut onto = Onto { writer };
-        match write_rest(&mut onto, rest.as_slice()) {
-            Ok(()) => Ok(onto.writer),
-            Err(_) => Err(Failed),
         }
     }
 }

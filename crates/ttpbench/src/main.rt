@@ -46,7 +46,7 @@ fn status_of<R: Files + Print + Eprint + Threads + Wait + Sync + AllocGlobal>(
         Ok(buffered) => Ok(buffered),
         Err(_) => BufWriter::with_capacity(rt.alloc(), 0, NotedOutput::new(io::writer(rt))),
     };
-    let Ok(mut out) = buffered else {
+    let Ok(buffered) = buffered else {
         return tell_no_words(rt, "ttpbench", io::ErrorKind::OutOfMemory);
     };
     let asked = match words {
@@ -54,6 +54,7 @@ fn status_of<R: Files + Print + Eprint + Threads + Wait + Sync + AllocGlobal>(
         [] => words,
     };
     let mut library = NotedFiles::new(rt, FileLibrary::new(rt));
+    let mut sink = StreamSink::new(buffered);
     let gate = OpenGate::new();
     let mut kept = None;
     let status = bench(
@@ -61,11 +62,12 @@ fn status_of<R: Files + Print + Eprint + Threads + Wait + Sync + AllocGlobal>(
         rt.alloc(),
         asked,
         &mut library,
-        &mut StreamSink::new(&mut out),
+        &mut sink,
         &gate,
         &mut kept,
     );
     let_go(kept);
+    let mut out = sink.into_writer();
     let status = if out.flush().is_ok() { status } else { 6 };
     tell(
         rt,

@@ -59,14 +59,9 @@ fn status_of<R: Files + Print + Eprint + Clock + Threads + Sync + AllocGlobal>(
         [] => false,
     };
     let mut library = NotedFiles::new(rt, FileLibrary::new(rt));
-    let mut out = WatchedOutput::new(rt, buffered, is_watched);
-    let status = lab(
-        rt,
-        rt.alloc(),
-        asked,
-        &mut library,
-        &mut StreamSink::new(&mut out),
-    );
+    let mut sink = StreamSink::new(WatchedOutput::new(rt, buffered, is_watched));
+    let status = lab(rt, rt.alloc(), asked, &mut library, &mut sink);
+    let mut out = sink.into_writer();
     let status = if out.flush().is_ok() { status } else { 6 };
     if status == 0 {
         out.tell_nothing_tried();

@@ -370,7 +370,7 @@ fn hands_on_all(alloc: Global) -> bool {
     for _ in 0..4u8 {
         is_taken &= sink.write(b"line\n").is_ok();
     }
-    is_taken & sink.end().is_ok() && slow.due.is_empty()
+    is_taken & sink.into_writer().flush().is_ok() && slow.due.is_empty()
 }
 
 #[test]
