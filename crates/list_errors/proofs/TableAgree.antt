@@ -81,48 +81,24 @@ below_agrees file version rounds slots modes =
 
 -- The whole table.
 
--- the parts in one row
-abbrev flat_wrongs : Members → List Wrong → List Wrong
-flat_wrongs file below =
-    number_wrongs (at_top names.Version) 1 2 file
-    ++ (number_wrongs (at_top names.Rounds) 1 64 file
-    ++ (number_wrongs (at_top names.Schedule) 0 16777215 file
-    ++ (number_wrongs (at_top names.Buffers) 1 16 file
-    ++ (number_wrongs (at_top names.Drift) 0 1000 file
-    ++ (number_wrongs (at_top names.Error) 0 1000 file
-    ++ (number_wrongs (at_top names.Window) 1 1000000 file
-    ++ (array_wrongs file ++ (modes_wrongs file ++ below))))))))
-
-assoc_nine : (a b c d e f g h i more : List Wrong)
-    → (a ++ (b ++ (c ++ (d ++ (e ++ (f ++ (g ++ (h ++ i)))))))) ++ more
-    ≡ a ++ (b ++ (c ++ (d ++ (e ++ (f ++ (g ++ (h ++ (i ++ more))))))))
-assoc_nine a b c d e f g h i more = simp append_assoc refl
-
-row : (file : Members) → table_wrongs file ≡ flat_wrongs file (below_wrongs file (elements_of file))
-unfolding table_wrongs top_wrongs
-row file =
-    assoc_nine (number_wrongs (at_top names.Version) 1 2 file) (number_wrongs (at_top names.Rounds) 1 64 file)
-    (number_wrongs (at_top names.Schedule) 0 16777215 file) (number_wrongs (at_top names.Buffers) 1 16 file)
-    (number_wrongs (at_top names.Drift) 0 1000 file) (number_wrongs (at_top names.Error) 0 1000 file)
-    (number_wrongs (at_top names.Window) 1 1000000 file) (array_wrongs file) (modes_wrongs file)
-    (below_wrongs file (elements_of file))
-
-flat_agrees : (file : Members)
-    → Outcome (flat_wrongs file (below_wrongs file (elements_of file))) (file_faults file)
-unfolding file_faults
-flat_agrees file =
-    both _ _ _ _ (number_agrees (at_top names.Version) 1 2 file) (λ version.
-    both _ _ _ _ (number_agrees (at_top names.Rounds) 1 64 file) (λ rounds.
-    both _ _ _ _ (number_agrees (at_top names.Schedule) 0 16777215 file) (λ schedule.
-    both _ _ _ _ (number_agrees (at_top names.Buffers) 1 16 file) (λ buffers.
-    both _ _ _ _ (number_agrees (at_top names.Drift) 0 1000 file) (λ drift.
-    both _ _ _ _ (number_agrees (at_top names.Error) 0 1000 file) (λ error.
-    both _ _ _ _ (number_agrees (at_top names.Window) 1 1000000 file) (λ window.
-    both _ _ _ _ (array_agrees file) (λ slots.
-    both _ _ _ _ (modes_agree file) (λ modes. below_agrees file version rounds slots modes)))))))))
+-- a part of several, with what stands behind them all
+along : (told others more : List Wrong) (found next : List MedlError) → Outcome told found
+    → (told ≡ [] → Outcome (others ++ more) next) → Outcome ((told ++ others) ++ more) (found ++ next)
+along told others more found next first behind =
+    rw (append_assoc told others more) (both told (others ++ more) found next first behind)
 
 table_agrees : (file : Members) → Outcome (table_wrongs file) (file_faults file)
-table_agrees file = subst (λ (told : List Wrong). Outcome told (file_faults file)) (sym (row file)) (flat_agrees file)
+unfolding table_wrongs top_wrongs file_faults
+table_agrees file =
+    along _ _ _ _ _ (number_agrees (at_top names.Version) 1 2 file) (λ version.
+    along _ _ _ _ _ (number_agrees (at_top names.Rounds) 1 64 file) (λ rounds.
+    along _ _ _ _ _ (number_agrees (at_top names.Schedule) 0 16777215 file) (λ schedule.
+    along _ _ _ _ _ (number_agrees (at_top names.Buffers) 1 16 file) (λ buffers.
+    along _ _ _ _ _ (number_agrees (at_top names.Drift) 0 1000 file) (λ drift.
+    along _ _ _ _ _ (number_agrees (at_top names.Error) 0 1000 file) (λ error.
+    along _ _ _ _ _ (number_agrees (at_top names.Window) 1 1000000 file) (λ window.
+    along _ _ _ _ _ (array_agrees file) (λ slots.
+    both _ _ _ _ (modes_agree file) (λ modes. below_agrees file version rounds slots modes)))))))))
 
 -- The file.
 
@@ -183,21 +159,22 @@ unfolding list_in
 list_numbers file = (refl, refl)
 
 rounds_right : (file : Members) → table_wrongs file ≡ [] → number_wrongs (at_top names.Rounds) 1 64 file ≡ []
+unfolding table_wrongs top_wrongs
 rounds_right file right =
     front_right (number_wrongs (at_top names.Rounds) 1 64 file) _
-    (back_right (number_wrongs (at_top names.Version) 1 2 file) _ (sym (row file) ∙ right))
+    (back_right (number_wrongs (at_top names.Version) 1 2 file) _ (front_right (top_wrongs file) _ right))
 
 modes_right : (file : Members) → table_wrongs file ≡ [] → modes_wrongs file ≡ []
+unfolding table_wrongs top_wrongs
 modes_right file right =
-    front_right (modes_wrongs file) _
-    (back_right (array_wrongs file) _
+    back_right (array_wrongs file) _
     (back_right (number_wrongs (at_top names.Window) 1 1000000 file) _
     (back_right (number_wrongs (at_top names.Error) 0 1000 file) _
     (back_right (number_wrongs (at_top names.Drift) 0 1000 file) _
     (back_right (number_wrongs (at_top names.Buffers) 1 16 file) _
     (back_right (number_wrongs (at_top names.Schedule) 0 16777215 file) _
     (back_right (number_wrongs (at_top names.Rounds) 1 64 file) _
-    (back_right (number_wrongs (at_top names.Version) 1 2 file) _ (sym (row file) ∙ right)))))))))
+    (back_right (number_wrongs (at_top names.Version) 1 2 file) _ (front_right (top_wrongs file) _ right))))))))
 
 -- what a right file says
 pub record IsRight (list : Medl) (file : Option Members) : Type 0 where
