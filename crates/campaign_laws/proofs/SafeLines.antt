@@ -61,11 +61,6 @@ silent line b first other none = record {
 
 -- The line of a run.
 
-between : (before test space word left a b c d e end fault tail feed : List ℕ)
-    → before ++ (test ++ space ++ (word ++ left ++ a ++ b ++ c ++ d ++ e ++ end) ++ fault) ++ tail ++ feed
-    ≡ (before ++ test ++ space ++ word ++ left) ++ (a ++ (b ++ (c ++ (d ++ e)))) ++ (end ++ fault ++ tail ++ feed)
-between before test space word left a b c d e end fault tail feed = simp append_assoc
-
 unharmed-stands : (list : Medl) (cost : Cost) (before test tail : List ℕ) → IsUnharmed cost
     → StandIn (codes " hurt - split - - end ")
     (before ++ (test ++ codes " " ++ cost_words list cost ++ codes " fault ") ++ tail ++ newline)
@@ -80,9 +75,7 @@ unharmed-stands list cost before test tail unharmed =
           ++ codes " hurt " ++ listed (map decimal (unharmed.hurt i))
           ++ codes " split " ++ span_words (unharmed.split i) ++ codes " end " ++ end) ++ codes " fault ") ++ tail
           ++ newline)
-          ∙ between before test (codes " ") (codes "left ") left (codes " hurt ")
-          (codes "-") (codes " split ") (codes "- -")
-          (codes " end ") end (codes " fault ") tail newline;
+          ∙ simp append_assoc;
     }
 
 told-by : (before test cost tail : List ℕ) → Yless before → Yless test → Yless cost → Yless tail
