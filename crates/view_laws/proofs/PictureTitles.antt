@@ -1,6 +1,6 @@
 -- The titles of a picture are the first line of its trace, those of the cells and marks of each slot, and the legend's.
 use Rattle.std.proofs.Common.{◌≡◌, ℕ, ◌+◌, ◌-◌, ◌*◌, List, [], ◌∷◌, ◌++◌, map, length}
-use Rattle.std.proofs.Common.{refl, ◌∙◌, Option, Some, None, codes, decimal}
+use Rattle.std.proofs.Common.{refl, ap, subst, ◌∙◌, Option, Some, None, codes, decimal}
 use Rattle.std.proofs.Common.{Bool}
 use Rattle.std.specs.Prelude.{◌==◌, ◌%◌}
 use Rattle.std.specs.List.{flat_map}
@@ -349,6 +349,11 @@ marks-titles top =
 
 -- The whole.
 
+infixl 20 ◌▿◌
+-- lines without a title behind others
+◌▿◌ : {xs ys a : Lines} → Have xs a → Have ys [] → Have (xs ++ ys) a
+◌▿◌ {xs} {ys} {a} p q = subst (Have (xs ++ ys)) (append-nil a) (p ▹ q)
+
 pub picture_of-titles : (trace : WholeTrace) (span : Span)
     → Have (picture_of trace span) (first_text trace
     ∷ (flat_map (cell_titles trace) (shown_slots span) ++
@@ -360,19 +365,19 @@ picture_of-titles trace span =
     let beside : ℕ → Lines = λ t. beside_lines n span t (slot_at trace t) in
     let shown = flat_map (cell_titles trace) (shown_slots span) in
     let done = flat_map (texts_of_hosts trace) (shown_slots span) in
+    let front = first_text trace ∷ (shown ++ done) in
+    let entries = map word_text words in
     let all =
     head-titles trace span
     ▹ flat-none (band_lines n span) (below (bands n span)) (band-titles n span)
     ▹ flat-each cells (cell_titles trace) (shown_slots span) (slot-titles trace span)
     ▹ flat-each beside (texts_of_hosts trace) (shown_slots span) (beside-titles trace span)
-    ▹ keep-titles n span trace.keep ▹ back-titles n span trace.back ▹ words-titles top 0 words
+    ▿ keep-titles n span trace.keep ▿ back-titles n span trace.back ▹ words-titles top 0 words
     ▹ classes-titles (top + 118) ▹ marks-titles (top + 118)
-    ▹ untitled (ended (codes "</svg>")) [] [] (record { titled = refl; one = refl }) no-lines in record {
-      are = all.are ∙ nested (first_text trace ∷ []) shown done (map word_text words) class_titles mark_titles;
+    ▿ untitled (ended (codes "</svg>")) [] [] (record { titled = refl; one = refl }) no-lines in record {
+      are = all.are ∙ ap (λ (names : Lines). names ++ mark_titles) (append_assoc front entries class_titles)
+          ∙ append_assoc front (entries ++ class_titles) mark_titles
+          ∙ append_assoc (first_text trace ∷ shown) done legend_titles;
       once = all.once;
       each = all.each;
     }
-  where
-    nested : (a b c d e f : Lines) → a ++ [] ++ b ++ c ++ [] ++ [] ++ d ++ e ++ f
-        ++ [] ≡ a ++ (b ++ (c ++ (d ++ e ++ f)))
-    nested a b c d e f = simp (append_assoc, append-nil)

@@ -108,23 +108,17 @@ line_of adds = closed adds newline refl refl
 pub number : (n : ℕ) → Adds (decimal n) []
 number n = plain (decimal n) (plain-decimal n)
 
-title_parts : (x o t name u c : List ℕ) → x ++ o ++ (t ++ name ++ u) ++ c ≡ x ++ (o ++ t) ++ name ++ (u ++ c)
-title_parts x o t name u c = simp append_assoc refl
-
 -- a title behind the end of a tag and before another
 pub named : {x o c : List ℕ} {a : Lines} → Adds x a → Adds o [] → (name : List ℕ) → Plain name → Adds c []
     → Adds (x ++ (o ++ codes "<title>") ++ name ++ (codes "</title>" ++ c)) (a ++ [] ++ (name ∷ []) ++ [])
-named {x} {o} {c} {a} front end name n next =
-    subst (λ (bytes : List ℕ). Adds bytes (a ++ [] ++ (name ∷ []) ++ []))
-    (title_parts x o (codes "<title>") name (codes "</title>") c) (front ▸ end ▸ title name n ▸ next)
+named front end name n next = simp append_assoc (simp append_assoc at (front ▸ end ▸ title name n ▸ next))
 
 -- and before the end of its line
 pub closed_title : {x o : List ℕ} {a : Lines} → Adds x a → Adds o [] → (name : List ℕ) → Plain name → (last : List ℕ)
     → titles_in last ≡ [] → is_line last ≡ true
     → IsLineWith (x ++ (o ++ codes "<title>") ++ name ++ (codes "</title>" ++ last)) (a ++ [] ++ (name ∷ []))
-closed_title {x} {o} {a} front end name n last none one =
-    subst (λ (bytes : List ℕ). IsLineWith bytes (a ++ [] ++ (name ∷ [])))
-    (title_parts x o (codes "<title>") name (codes "</title>") last) (closed (front ▸ end ▸ title name n) last none one)
+closed_title front end name n last none one =
+    simp append_assoc (simp append_assoc at (closed (front ▸ end ▸ title name n) last none one))
 
 pub place-adds : (x y : ℕ) → Adds (place_attributes x y) []
 place-adds x y = plain (place_attributes x y) (simp parts)
