@@ -290,29 +290,28 @@ on_start f found other rest r later is =
     on_rule f.armed 4 (λ (x : NoStart). 0) (no_start_line f) found other rest r (start_rule f) later
     (subst (λ (s : Option ℕ). option_or (rule_in 4 s) other ≡ Some r) (start_map found) is)
 
--- lines in two parts, one behind the other
-in_row : (a b c d e : Lines) → (a ++ (b ++ (c ++ d))) ++ e ≡ a ++ (b ++ (c ++ (d ++ e)))
-in_row a b c d e =
-    append_assoc a (b ++ (c ++ d)) e ∙ ap (λ (ls : Lines). a ++ ls) (append_assoc b (c ++ d) e
-    ∙ ap (λ (ls : Lines). b ++ ls) (append_assoc c d e))
+-- lines of which the first are a list in two parts
+parted : (armed : Bool) (r : RuleSlot) (first others rest : Lines) → TellsRule armed r (first ++ (others ++ rest))
+    → TellsRule armed r ((first ++ others) ++ rest)
+parted armed r first others rest = subst (TellsRule armed r) (sym (append_assoc first others rest))
 
 first_line_told : (f : RightFiles) (b : BrokenRules) (r : RuleSlot) → first_broken b ≡ Some r
     → TellsRule f.armed r (warning_lines f b)
 unfolding warning_lines
 first_line_told f b r is =
-    subst (TellsRule f.armed r)
-    (sym (in_row (line_if (clocks_line f) b.conditions.clocks) (line_if (window_line f) b.conditions.window)
-    (line_if (disturbed_line f) b.conditions.disturbed) (line_if (no_start_line f) b.conditions.start) _))
+    parted f.armed r (line_if (clocks_line f) b.conditions.clocks) _ _
     (on_rule f.armed 1 past_slot (clocks_line f) b.conditions.clocks _ _ r (clocks_rule f) (λ is2.
-    on_window f b.conditions.window _ _ r (λ is3.
-    on_rule f.armed 3 (λ (d : Disturbed). d.slot) (disturbed_line f)
+    parted f.armed r (line_if (window_line f) b.conditions.window) _ _
+    (on_window f b.conditions.window _ _ r (λ is3.
+    parted f.armed r (line_if (disturbed_line f) b.conditions.disturbed) _ _
+    (on_rule f.armed 3 (λ (d : Disturbed). d.slot) (disturbed_line f)
     b.conditions.disturbed _ _ r (disturbed_rule f) (λ is4.
     on_start f b.conditions.start _ _ r (λ is5.
     on_rule f.armed 5 (λ (l : LostFrame). l.slot) (lost_line f) b.faults.lost _ _ r (lost_rule f) (λ is6.
     on_rule f.armed 6 (λ (e : EarlyFault). e.slot) (early_line f) b.faults.early _ _ r (early_rule f) (λ is7.
     on_rule f.armed 7 (λ (w : TooFew). w.slot) (few_line f) b.faults.few _ _ r (few_rule f) (λ is8.
-    last_rule f.armed 8 (λ (a : BrokenArm). a.slot) (arm_line f) b.arm r (arm_rule f) is8) is7) is6) is5) is4) is3) is2)
-    is)
+    last_rule f.armed 8 (λ (a : BrokenArm). a.slot) (arm_line f) b.arm r (arm_rule f) is8) is7) is6) is5) is4) is3))
+    is2)) is)
 
 zero_of : (warnings : Lines) → [] ≡ warnings → status_by_list [] [] warnings ≡ 0
 zero_of [] none = refl
