@@ -9,7 +9,7 @@ ghost use Rattle.ttp_base.specs.Sheet.{Puts};
 ghost use Rattle.chart_text.specs.Chart.{row_names};
 ghost use Rattle.chart_text.specs.Columns.{chart_bands, chart_y};
 
-use crate::frame::{Frame, chart_bands, chart_y};
+use crate::extent::{Extent, chart_bands, chart_y};
 use picture_text::{columns, make_node_row, make_text_of};
 use ttp_base::{Sheet, Sink};
 
@@ -43,11 +43,11 @@ fn put_names<K: Sink>(nodes: u8, band: u32, sheet: &mut Sheet, out: &mut K)
 
 /// Writes the names of the rows of all bands.
 #[tactic(auto, using(ttp_base::proofs::Puts::puts))]
-pub(crate) fn put_bands<K: Sink>(frame: Frame, sheet: &mut Sheet, out: &mut K)
+pub(crate) fn put_bands<K: Sink>(extent: Extent, sheet: &mut Sheet, out: &mut K)
     ensures { Puts sheet.old.failed (K.output out.old) sheet.new.failed (K.output out.new)
-        (lines_below (row_names frame.size.nodes) (chart_bands frame.size.nodes frame.many)) }
+        (lines_below (row_names extent.size.nodes) (chart_bands extent.size.nodes extent.many)) }
 {
-    for band in 0..chart_bands(frame) {
-        put_names(frame.size.nodes, band, sheet, out);
+    for band in 0..chart_bands(extent) {
+        put_names(extent.size.nodes, band, sheet, out);
     }
 }

@@ -11,7 +11,7 @@ ghost use Rattle.chart_text.specs.Columns.{beside_x};
 ghost use Rattle.chart_text.specs.Sums.{sends_class, faults_told_of};
 ghost use Rattle.chart_text.specs.Walks.{IsTally, AreTallies};
 
-use crate::frame::{Frame, beside_x, chart_corner, chart_x, chart_y};
+use crate::extent::{Extent, beside_x, chart_corner, chart_x, chart_y};
 use crate::sum::{Summed, make_harmful, make_sum};
 use crate::tally::{Tallies, Tally};
 use picture_text::{Corner, make_text_of};
@@ -31,7 +31,7 @@ fn sends_class(first: Option<Doing>) -> &'static str
 
 // Writes the cell of a node in a slot, where the slot has a fault of it.
 fn put_block<K: Sink>(
-    frame: Frame,
+    extent: Extent,
     column: u32,
     slot: u32,
     node: u8,
@@ -39,16 +39,16 @@ fn put_block<K: Sink>(
     sheet: &mut Sheet,
     out: &mut K,
 )
-    ensures { (faults : List FaultTold) → IsTally frame.size tally.now [] (faults_told_of node faults)
+    ensures { (faults : List FaultTold) → IsTally extent.size tally.now [] (faults_told_of node faults)
         → Puts sheet.old.failed (K.output out.old) sheet.new.failed (K.output out.new)
-        (block_lines frame.size column slot faults node) }
+        (block_lines extent.size column slot faults node) }
 {
     if tally.many != 0 {
-        let at = chart_corner(frame.size.nodes, column, node);
+        let at = chart_corner(extent.size.nodes, column, node);
         let of = Summed::OfCell { slot, node };
         make_sum(
             &mut sheet.line,
-            frame.size,
+            extent.size,
             of,
             sends_class(tally.first),
             tally,
@@ -60,42 +60,42 @@ fn put_block<K: Sink>(
 
 /// Writes the cells of all nodes of a slot.
 pub(crate) fn put_blocks<K: Sink>(
-    frame: Frame,
+    extent: Extent,
     column: u32,
     slot: u32,
     tallies: &Tallies,
     sheet: &mut Sheet,
     out: &mut K,
 )
-    ensures { (faults : List FaultTold) → AreTallies frame.size tallies.now [] faults
+    ensures { (faults : List FaultTold) → AreTallies extent.size tallies.now [] faults
         → Puts sheet.old.failed (K.output out.old) sheet.new.failed (K.output out.new)
-        (lines_below (block_lines frame.size column slot faults) frame.size.nodes) }
+        (lines_below (block_lines extent.size column slot faults) extent.size.nodes) }
 {
-    for node in 0..frame.size.nodes {
+    for node in 0..extent.size.nodes {
         let tally = &tallies.nodes[usize::from(node)];
-        put_block(frame, column, slot, node, tally, sheet, out);
+        put_block(extent, column, slot, node, tally, sheet, out);
     }
 }
 
 /// Writes what all faults of a slot come to.
 pub(crate) fn put_end<K: Sink>(
-    frame: Frame,
+    extent: Extent,
     column: u32,
     slot: u32,
     tally: &Tally,
     sheet: &mut Sheet,
     out: &mut K,
 )
-    ensures { (faults : List FaultTold) → IsTally frame.size tally.now [] faults
+    ensures { (faults : List FaultTold) → IsTally extent.size tally.now [] faults
         → Puts sheet.old.failed (K.output out.old) sheet.new.failed (K.output out.new)
-        (slot_sum_lines frame.size column slot faults) }
+        (slot_sum_lines extent.size column slot faults) }
 {
-    let nodes = frame.size.nodes;
+    let nodes = extent.size.nodes;
     let x = chart_x(nodes, column);
     let y = chart_y(nodes, column, nodes);
     let at = Corner { x, y: y + 5 };
     let of = Summed::OfSlot { slot };
-    make_sum(&mut sheet.line, frame.size, of, "", tally, at);
+    make_sum(&mut sheet.line, extent.size, of, "", tally, at);
     sheet.write(out);
     let at = Corner {
         x: x + 11,
@@ -106,16 +106,23 @@ pub(crate) fn put_end<K: Sink>(
 }
 
 // Writes what all faults of a node come to.
-fn put_node<K: Sink>(frame: Frame, x: u64, node: u8, tally: &Tally, sheet: &mut Sheet, out: &mut K)
+fn put_node<K: Sink>(
+    extent: Extent,
+    x: u64,
+    node: u8,
+    tally: &Tally,
+    sheet: &mut Sheet,
+    out: &mut K,
+)
     requires { x ≤ 1400 }
-    ensures { (faults : List FaultTold) → IsTally frame.size tally.now [] (faults_told_of node faults)
+    ensures { (faults : List FaultTold) → IsTally extent.size tally.now [] (faults_told_of node faults)
         → Puts sheet.old.failed (K.output out.old) sheet.new.failed (K.output out.new)
-        (node_sum_lines frame.size x faults node) }
+        (node_sum_lines extent.size x faults node) }
 {
-    let y = chart_y(frame.size.nodes, 0, node);
+    let y = chart_y(extent.size.nodes, 0, node);
     let at = Corner { x, y };
     let of = Summed::OfNode { node };
-    make_sum(&mut sheet.line, frame.size, of, "", tally, at);
+    make_sum(&mut sheet.line, extent.size, of, "", tally, at);
     sheet.write(out);
     let at = Corner {
         x: x + 53,
@@ -126,30 +133,30 @@ fn put_node<K: Sink>(frame: Frame, x: u64, node: u8, tally: &Tally, sheet: &mut 
 }
 
 // Writes this for each node.
-fn put_nodes<K: Sink>(frame: Frame, x: u64, tallies: &Tallies, sheet: &mut Sheet, out: &mut K)
+fn put_nodes<K: Sink>(extent: Extent, x: u64, tallies: &Tallies, sheet: &mut Sheet, out: &mut K)
     requires { x ≤ 1400 }
-    ensures { (faults : List FaultTold) → AreTallies frame.size tallies.now [] faults
+    ensures { (faults : List FaultTold) → AreTallies extent.size tallies.now [] faults
         → Puts sheet.old.failed (K.output out.old) sheet.new.failed (K.output out.new)
-        (lines_below (node_sum_lines frame.size x faults) frame.size.nodes) }
+        (lines_below (node_sum_lines extent.size x faults) extent.size.nodes) }
 {
-    for node in 0..frame.size.nodes {
+    for node in 0..extent.size.nodes {
         let tally = &tallies.nodes[usize::from(node)];
-        put_node(frame, x, node, tally, sheet, out);
+        put_node(extent, x, node, tally, sheet, out);
     }
 }
 
 /// Writes what all faults of each node come to, beside the first band.
-pub(crate) fn put_beside<K: Sink>(frame: Frame, tallies: &Tallies, sheet: &mut Sheet, out: &mut K)
-    ensures { (faults : List FaultTold) → AreTallies frame.size tallies.now [] faults
+pub(crate) fn put_beside<K: Sink>(extent: Extent, tallies: &Tallies, sheet: &mut Sheet, out: &mut K)
+    ensures { (faults : List FaultTold) → AreTallies extent.size tallies.now [] faults
         → Puts sheet.old.failed (K.output out.old) sheet.new.failed (K.output out.new)
-        (of_all_slots_lines frame.size frame.many faults) }
+        (of_all_slots_lines extent.size extent.many faults) }
 {
-    let x = beside_x(frame);
+    let x = beside_x(extent);
     make_text_of(&mut sheet.line, "keep", x - 4, 143, "of all slots:");
     sheet.write(out);
     make_text_of(&mut sheet.line, "slot", x + 11, 155, "worst");
     sheet.write(out);
     make_text_of(&mut sheet.line, "slot", x + 53, 155, "harmful");
     sheet.write(out);
-    put_nodes(frame, x, tallies, sheet, out);
+    put_nodes(extent, x, tallies, sheet, out);
 }

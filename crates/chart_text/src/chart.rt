@@ -23,8 +23,8 @@ use crate::block::put_beside;
 use crate::buffer::Buffer;
 use crate::column::put_columns;
 use crate::element::put_many;
+use crate::extent::{Extent, chart_height, key_top, list_top, most_columns};
 use crate::flag::{put_flag, test_slot};
-use crate::frame::{Frame, chart_height, key_top, list_top, most_columns};
 use crate::head::{make_harm, put_front, put_hidden, put_own, put_sums};
 use crate::key::{put_how_to_read, put_key, put_legend, put_words_meant};
 use crate::listed::put_worst;
@@ -124,18 +124,18 @@ fn keep_shown(marks: &mut [bool], nodes: u8, harm: Option<u32>, asked: Option<Sp
 
 // Makes the line of what is shown.
 #[tactic(auto, using(ttp_base::proofs::Room::room))]
-fn make_shown(line: &mut Line, frame: Frame, marks: &[bool], hidden: Option<u32>)
+fn make_shown(line: &mut Line, extent: Extent, marks: &[bool], hidden: Option<u32>)
     requires marks { length marks.now ≤ 20000 }
-    requires many { frame.many ≡ length (marked_slots marks.now) }
-    requires some { 1 ≤ frame.many }
-    ensures { line.new ≡ text_line [] 12 40 (slots_shown_text frame.size (marked_slots marks.now) hidden) }
+    requires many { extent.many ≡ length (marked_slots marks.now) }
+    requires some { 1 ≤ extent.many }
+    ensures { line.new ≡ text_line [] 12 40 (slots_shown_text extent.size (marked_slots marks.now) hidden) }
 {
     let first = marked_slot(marks, 0);
-    let last = marked_slot(marks, frame.many - 1);
+    let last = marked_slot(marks, extent.many - 1);
     open_text(line, 12, 40);
-    put_many(line, u64::from(frame.size.nodes), " nodes, ");
-    put_many(line, u64::from(frame.size.slots), " slots, shown: ");
-    put_many(line, u64::from(frame.many), " of them, ");
+    put_many(line, u64::from(extent.size.nodes), " nodes, ");
+    put_many(line, u64::from(extent.size.slots), " slots, shown: ");
+    put_many(line, u64::from(extent.many), " of them, ");
     put_many(line, u64::from(first), " to ");
     line.put_number(u64::from(last));
     put_hidden(line, hidden);
@@ -145,7 +145,7 @@ fn make_shown(line: &mut Line, frame: Frame, marks: &[bool], hidden: Option<u32>
 // Writes the head.
 fn put_head<K: Sink>(
     campaign: &Campaign<'_>,
-    frame: Frame,
+    extent: Extent,
     marks: &[bool],
     sums: Sums,
     found: &Found,
@@ -153,35 +153,35 @@ fn put_head<K: Sink>(
     sheet: &mut Sheet,
     out: &mut K,
 )
-    requires size { frame.size ≡ size_of_campaign campaign.now }
+    requires size { extent.size ≡ size_of_campaign campaign.now }
     requires marks { length marks.now ≤ 20000 }
-    requires shown { frame.many ≡ length (marked_slots marks.now) }
-    requires some { 1 ≤ frame.many }
-    requires listed { frame.listed ≡ many_listed frame.size campaign.now.faults }
-    requires tallies { AreTallies frame.size found.now.tallies [] campaign.now.faults }
-    requires most { found.now.survey.most ≡ most_lost frame.size campaign.now.faults }
+    requires shown { extent.many ≡ length (marked_slots marks.now) }
+    requires some { 1 ≤ extent.many }
+    requires listed { extent.listed ≡ many_listed extent.size campaign.now.faults }
+    requires tallies { AreTallies extent.size found.now.tallies [] campaign.now.faults }
+    requires most { found.now.survey.most ≡ most_lost extent.size campaign.now.faults }
     requires kept { sums.kept ≡ counts_sum (map (λ piece. piece.kept) campaign.now.pieces) }
     requires broken { sums.broken ≡ counts_sum (map (λ piece. piece.broken) campaign.now.pieces) }
     requires own { length campaign.now.own.text + length campaign.now.own.cost + 200 ≤ buffer.old.room }
     requires test { length campaign.now.own.test_text + 300 ≤ buffer.old.room }
     ensures puts { Puts sheet.old.failed (K.output out.old) sheet.new.failed (K.output out.new)
-        (chart_head frame.size campaign.now.own (marked_slots marks.now) campaign.now.faults
+        (chart_head extent.size campaign.now.own (marked_slots marks.now) campaign.now.faults
         (counts_sum (map (λ piece. piece.kept) campaign.now.pieces))
         (counts_sum (map (λ piece. piece.broken) campaign.now.pieces))) }
     ensures room { buffer.new.room ≡ buffer.old.room }
 {
-    let hidden = first_hidden(frame.size, marks, campaign.faults());
+    let hidden = first_hidden(extent.size, marks, campaign.faults());
     let all = found.tallies.all;
-    put_front(frame.size, chart_height(frame), sheet, out);
+    put_front(extent.size, chart_height(extent), sheet, out);
     make_harm(
         &mut sheet.line,
         all.harmful,
         all.many,
         found.survey.most,
-        frame.size.nodes,
+        extent.size.nodes,
     );
     sheet.write(out);
-    make_shown(&mut sheet.line, frame, marks, hidden);
+    make_shown(&mut sheet.line, extent, marks, hidden);
     sheet.write(out);
     put_own(campaign.own(), buffer, sheet, out);
     put_sums(sums, sheet, out);
@@ -190,7 +190,7 @@ fn put_head<K: Sink>(
 // Writes the columns and what stands beside them.
 fn put_body<K: Sink>(
     campaign: &Campaign<'_>,
-    frame: Frame,
+    extent: Extent,
     marks: &[bool],
     tallies: &Tallies,
     buffer: &mut Buffer,
@@ -198,21 +198,21 @@ fn put_body<K: Sink>(
     out: &mut K,
 )
     requires readable { IsReadable campaign.now }
-    requires marks { length marks.now ≡ frame.size.slots }
-    requires shown { frame.many ≡ length (marked_slots marks.now) }
-    requires tallies { AreTallies frame.size tallies.now [] campaign.now.faults }
+    requires marks { length marks.now ≡ extent.size.slots }
+    requires shown { extent.many ≡ length (marked_slots marks.now) }
+    requires tallies { AreTallies extent.size tallies.now [] campaign.now.faults }
     requires room { longest_text campaign.now.faults + 200 ≤ buffer.old.room }
     ensures puts { Puts sheet.old.failed (K.output out.old) sheet.new.failed (K.output out.new)
-        (chart_body frame.size campaign.now.own.test (marked_slots marks.now) campaign.now.faults) }
+        (chart_body extent.size campaign.now.own.test (marked_slots marks.now) campaign.now.faults) }
     ensures room { buffer.new.room ≡ buffer.old.room }
 {
-    put_bands(frame, sheet, out);
+    put_bands(extent, sheet, out);
     let mut ahead = Ahead::new(campaign.faults());
-    put_columns(frame, marks, &mut ahead, buffer, sheet, out);
-    put_beside(frame, tallies, sheet, out);
+    put_columns(extent, marks, &mut ahead, buffer, sheet, out);
+    put_beside(extent, tallies, sheet, out);
     let own = campaign.own();
     let column = place_in(marks, test_slot(&own.test));
-    put_flag(frame.size.nodes, column, &own.test, sheet, out);
+    put_flag(extent.size.nodes, column, &own.test, sheet, out);
 }
 
 // Writes the key and the table.
@@ -230,7 +230,7 @@ fn put_key_and_table<K: Sink>(top: u64, counts: &[u64; 252], sheet: &mut Sheet, 
 
 // Writes the list of the worst, the key and the table.
 fn put_end<K: Sink>(
-    frame: Frame,
+    extent: Extent,
     found: &Found,
     worst: &Worst<'_>,
     buffer: &mut Buffer,
@@ -238,23 +238,23 @@ fn put_end<K: Sink>(
     out: &mut K,
 )
     requires room { longest_text worst.now + 200 ≤ buffer.old.room }
-    ensures { (faults : List FaultTold) → frame.listed ≡ many_listed frame.size faults
-        → AreTallies frame.size found.now.tallies [] faults → found.now.survey.counts ≡ all_counts frame.size faults
-        → worst.now ≡ ten_worst frame.size faults
+    ensures { (faults : List FaultTold) → extent.listed ≡ many_listed extent.size faults
+        → AreTallies extent.size found.now.tallies [] faults → found.now.survey.counts ≡ all_counts extent.size faults
+        → worst.now ≡ ten_worst extent.size faults
         → Puts sheet.old.failed (K.output out.old) sheet.new.failed (K.output out.new)
-        (chart_end frame.size frame.many faults) }
+        (chart_end extent.size extent.many faults) }
 {
     let harmful = found.tallies.all.harmful;
     put_worst(
-        frame.size,
-        list_top(frame),
+        extent.size,
+        list_top(extent),
         harmful,
         worst,
         buffer,
         sheet,
         out,
     );
-    put_key_and_table(key_top(frame), &found.survey.counts, sheet, out);
+    put_key_and_table(key_top(extent), &found.survey.counts, sheet, out);
     sheet.put(b"</svg>\n", out);
 }
 
@@ -274,7 +274,7 @@ fn room_for(campaign: &Campaign<'_>, longest: usize) -> Option<usize>
 fn put_with_room<K: Sink>(
     alloc: Global,
     campaign: &Campaign<'_>,
-    frame: Frame,
+    extent: Extent,
     marks: &[bool],
     sums: Sums,
     found: &Found,
@@ -282,24 +282,24 @@ fn put_with_room<K: Sink>(
     out: &mut K,
 ) -> Result<(), ChartFault>
     requires readable { IsReadable campaign.now }
-    requires size { frame.size ≡ size_of_campaign campaign.now }
-    requires marks { length marks.now ≡ frame.size.slots }
-    requires shown { frame.many ≡ length (marked_slots marks.now) }
-    requires some { 1 ≤ frame.many }
-    requires listed { frame.listed ≡ many_listed frame.size campaign.now.faults }
-    requires counts { found.now.survey.counts ≡ all_counts frame.size campaign.now.faults }
+    requires size { extent.size ≡ size_of_campaign campaign.now }
+    requires marks { length marks.now ≡ extent.size.slots }
+    requires shown { extent.many ≡ length (marked_slots marks.now) }
+    requires some { 1 ≤ extent.many }
+    requires listed { extent.listed ≡ many_listed extent.size campaign.now.faults }
+    requires counts { found.now.survey.counts ≡ all_counts extent.size campaign.now.faults }
     requires longest { found.now.survey.longest ≡ longest_text campaign.now.faults }
-    requires most { found.now.survey.most ≡ most_lost frame.size campaign.now.faults }
-    requires tallies { AreTallies frame.size found.now.tallies [] campaign.now.faults }
+    requires most { found.now.survey.most ≡ most_lost extent.size campaign.now.faults }
+    requires tallies { AreTallies extent.size found.now.tallies [] campaign.now.faults }
     requires kept { sums.kept ≡ counts_sum (map (λ piece. piece.kept) campaign.now.pieces) }
     requires broken { sums.broken ≡ counts_sum (map (λ piece. piece.broken) campaign.now.pieces) }
-    requires worst { worst.now ≡ ten_worst frame.size campaign.now.faults }
+    requires worst { worst.now ≡ ten_worst extent.size campaign.now.faults }
     ensures ok { OnOk result (WroteLines (K.output out.old) (K.output out.new)
-        (chart_of frame.size campaign.now.own (marked_slots marks.now) campaign.now.faults
+        (chart_of extent.size campaign.now.own (marked_slots marks.now) campaign.now.faults
         (counts_sum (map (λ piece. piece.kept) campaign.now.pieces))
         (counts_sum (map (λ piece. piece.broken) campaign.now.pieces)))) }
     ensures failed { IfErr result (λ why. LeftOfChart why (marked_slots marks.now) (K.output out.old) (K.output out.new)
-        (chart_of frame.size campaign.now.own (marked_slots marks.now) campaign.now.faults
+        (chart_of extent.size campaign.now.own (marked_slots marks.now) campaign.now.faults
         (counts_sum (map (λ piece. piece.kept) campaign.now.pieces))
         (counts_sum (map (λ piece. piece.broken) campaign.now.pieces)))) }
 {
@@ -312,7 +312,7 @@ fn put_with_room<K: Sink>(
     let mut sheet = Sheet::new();
     put_head(
         campaign,
-        frame,
+        extent,
         marks,
         sums,
         found,
@@ -322,14 +322,14 @@ fn put_with_room<K: Sink>(
     );
     put_body(
         campaign,
-        frame,
+        extent,
         marks,
         &found.tallies,
         &mut buffer,
         &mut sheet,
         out,
     );
-    put_end(frame, found, worst, &mut buffer, &mut sheet, out);
+    put_end(extent, found, worst, &mut buffer, &mut sheet, out);
     match sheet.end() {
         Ok(()) => Ok(()),
         Err(_) => Err(ChartFault::Failed),
@@ -411,6 +411,6 @@ pub fn put_chart<K: Sink>(
         return Err(ChartFault::NoSlot);
     }
     let listed = worst.len() as u8;
-    let frame = Frame { size, many, listed };
-    put_with_room(alloc, campaign, frame, &marks, sums, &found, &worst, out)
+    let extent = Extent { size, many, listed };
+    put_with_room(alloc, campaign, extent, &marks, sums, &found, &worst, out)
 }

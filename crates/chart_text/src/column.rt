@@ -18,8 +18,8 @@ use crate::ahead::Ahead;
 use crate::block::{put_blocks, put_end};
 use crate::buffer::Buffer;
 use crate::element::make_pole;
+use crate::extent::{Extent, chart_x, chart_y};
 use crate::fault_mark::put_fault_mark;
-use crate::frame::{Frame, chart_x, chart_y};
 use crate::marks::has_mark;
 use crate::size::Size;
 use crate::tally::Tallies;
@@ -121,7 +121,7 @@ fn tally_slot(size: Size, slot: u32, from: &Ahead<'_>) -> Tallies
 // Writes the marks of the faults of a slot, which come next, and passes them.
 #[tactic(auto, using(ttp_base::proofs::Puts::puts))]
 fn put_marks<K: Sink>(
-    frame: Frame,
+    extent: Extent,
     column: Column,
     ahead: &mut Ahead<'_>,
     buffer: &mut Buffer,
@@ -131,7 +131,7 @@ fn put_marks<K: Sink>(
     requires order { in_order_from column.slot ahead.old ≡ true }
     requires room { longest_text ahead.old + 200 ≤ buffer.old.room }
     ensures puts { Puts sheet.old.failed (K.output out.old) sheet.new.failed (K.output out.new)
-        (flat_map (mark_lines frame.size column.number) (faults_told_in column.slot ahead.old)) }
+        (flat_map (mark_lines extent.size column.number) (faults_told_in column.slot ahead.old)) }
     ensures same { SameFrom (column.slot + 1) ahead.old ahead.new }
     ensures order { in_order_from column.slot ahead.new ≡ true }
     ensures few { length ahead.new ≤ length ahead.old }
@@ -142,7 +142,7 @@ fn put_marks<K: Sink>(
         if fault.shown.slot != column.slot {
             return;
         }
-        put_fault_mark(frame, column.number, &fault, buffer, sheet, out);
+        put_fault_mark(extent, column.number, &fault, buffer, sheet, out);
         ahead.pass();
     }
 }
@@ -150,7 +150,7 @@ fn put_marks<K: Sink>(
 // Writes the column of a slot.
 #[tactic(auto, using(ttp_base::proofs::Puts::puts))]
 fn put_column<K: Sink>(
-    frame: Frame,
+    extent: Extent,
     column: Column,
     ahead: &mut Ahead<'_>,
     buffer: &mut Buffer,
@@ -161,50 +161,50 @@ fn put_column<K: Sink>(
     requires few { length ahead.old < 2 ^ 63 }
     requires room { longest_text ahead.old + 200 ≤ buffer.old.room }
     ensures puts { Puts sheet.old.failed (K.output out.old) sheet.new.failed (K.output out.new)
-        (column_of frame.size column.number column.before column.slot (faults_told_in column.slot ahead.old)) }
+        (column_of extent.size column.number column.before column.slot (faults_told_in column.slot ahead.old)) }
     ensures same { SameFrom (column.slot + 1) ahead.old ahead.new }
     ensures order { in_order_from 0 ahead.new ≡ true }
     ensures few { length ahead.new ≤ length ahead.old }
     ensures short { longest_text ahead.new ≤ longest_text ahead.old }
     ensures room { buffer.new.room ≡ buffer.old.room }
 {
-    put_number(frame.size.nodes, column, sheet, out);
-    put_gap(frame.size.nodes, column, sheet, out);
+    put_number(extent.size.nodes, column, sheet, out);
+    put_gap(extent.size.nodes, column, sheet, out);
     pass_before(column.slot, ahead);
-    let tallies = tally_slot(frame.size, column.slot, ahead);
-    put_blocks(frame, column.number, column.slot, &tallies, sheet, out);
-    put_marks(frame, column, ahead, buffer, sheet, out);
-    put_end(frame, column.number, column.slot, &tallies.all, sheet, out);
+    let tallies = tally_slot(extent.size, column.slot, ahead);
+    put_blocks(extent, column.number, column.slot, &tallies, sheet, out);
+    put_marks(extent, column, ahead, buffer, sheet, out);
+    put_end(extent, column.number, column.slot, &tallies.all, sheet, out);
 }
 
 /// Writes the columns of all marked slots.
 #[tactic(auto, using(ttp_base::proofs::Puts::puts))]
 pub(crate) fn put_columns<K: Sink>(
-    frame: Frame,
+    extent: Extent,
     marks: &[bool],
     ahead: &mut Ahead<'_>,
     buffer: &mut Buffer,
     sheet: &mut Sheet,
     out: &mut K,
 )
-    requires marks { length marks.now ≡ frame.size.slots }
+    requires marks { length marks.now ≡ extent.size.slots }
     requires order { in_order_from 0 ahead.old ≡ true }
     requires few { length ahead.old < 2 ^ 63 }
     requires room { longest_text ahead.old + 200 ≤ buffer.old.room }
     ensures puts { Puts sheet.old.failed (K.output out.old) sheet.new.failed (K.output out.new)
-        (lines_below (column_lines frame.size (marked_slots marks.now) ahead.old) (length (marked_slots marks.now))) }
+        (lines_below (column_lines extent.size (marked_slots marks.now) ahead.old) (length (marked_slots marks.now))) }
     ensures room { buffer.new.room ≡ buffer.old.room }
 {
     let mut number = 0;
     let mut before = None;
-    for slot in 0..frame.size.slots {
+    for slot in 0..extent.size.slots {
         if has_mark(marks, slot) {
             let column = Column {
                 number,
                 slot,
                 before,
             };
-            put_column(frame, column, ahead, buffer, sheet, out);
+            put_column(extent, column, ahead, buffer, sheet, out);
             number += 1;
             before = Some(slot);
         }

@@ -11,7 +11,7 @@ ghost use Rattle.picture_text.specs.Cells.{mark};
 ghost use Rattle.whole_campaign.specs.Steps.{told_of};
 
 use crate::buffer::Buffer;
-use crate::frame::{Frame, chart_x, chart_y};
+use crate::extent::{Extent, chart_x, chart_y};
 use crate::kind::{marks_above, marks_left};
 use crate::look::{Look, fault_look, look_text};
 use picture_text::{Corner, close_mark, open_mark};
@@ -76,7 +76,7 @@ fn is_plain(look: Look) -> bool
 /// Writes the mark of a fault, where it has one.
 #[tactic(auto, using(ttp_base::proofs::Puts::puts_then, ttp_base::proofs::Puts::puts_none))]
 pub(crate) fn put_fault_mark<K: Sink>(
-    frame: Frame,
+    extent: Extent,
     column: u32,
     fault: &FaultLine<'_>,
     buffer: &mut Buffer,
@@ -85,15 +85,15 @@ pub(crate) fn put_fault_mark<K: Sink>(
 )
     requires room { length fault.now.text.now + 200 ≤ buffer.old.room }
     ensures puts { Puts sheet.old.failed (K.output out.old) sheet.new.failed (K.output out.new)
-        (mark_lines frame.size column (told_of fault.now)) }
+        (mark_lines extent.size column (told_of fault.now)) }
     ensures room { buffer.new.room ≡ buffer.old.room }
 {
-    let look = fault_look(frame.size, fault.shown);
+    let look = fault_look(extent.size, fault.shown);
     if !is_plain(look) {
         make_fault_mark(
             buffer,
             &mut sheet.line,
-            frame.size.nodes,
+            extent.size.nodes,
             column,
             look,
             fault,

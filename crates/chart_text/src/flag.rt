@@ -9,7 +9,7 @@ ghost use Rattle.chart_text.specs.Chart.{test_slot, test_name, test_flag};
 ghost use Rattle.chart_text.specs.Columns.{chart_x, chart_y};
 
 use crate::element::make_pole;
-use crate::frame::{chart_x, chart_y};
+use crate::extent::{chart_x, chart_y};
 use picture_text::{Corner, close_text, open_text_of, put_field};
 use ttp_base::{Line, Sheet, Sink};
 use ttp_world::{Back, Keep};

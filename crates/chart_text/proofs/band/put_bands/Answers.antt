@@ -4,5 +4,5 @@ use Rattle.chart_text.proofs.band.put_bands.Goals as goal
 
 pub loop-band-preserved : goal.loop-band-preserved
 loop-band-preserved g c =
-    puts_below _ _ _ _ _ _ (row_names c.args.frame.size.nodes) c.loop-band.band c.loop-band.invariant
+    puts_below _ _ _ _ _ _ (row_names c.args.extent.size.nodes) c.loop-band.band c.loop-band.invariant
     c.put_names.ensures

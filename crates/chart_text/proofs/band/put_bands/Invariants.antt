@@ -6,4 +6,4 @@ use Rattle.chart_text.proofs.band.put_bands.Given as goal
 abbrev pub invariant-loop-band : goal.invariant-loop-band
 invariant-loop-band g l =
     Puts l.fn.sheet.failed (g.K.Sink.output l.fn.out) l.sheet.failed (g.K.Sink.output l.out)
-    (lines_below (row_names l.frame.size.nodes) l.band)
+    (lines_below (row_names l.extent.size.nodes) l.band)

@@ -5,7 +5,7 @@ use Rattle.chart_text.proofs.block.put_block.Goals as goal
 
 pub returns-then-tally-ne0 : goal.returns-then-tally-ne0
 returns-then-tally-ne0 g c faults is =
-    let size = c.args.frame.size in
+    let size = c.args.extent.size in
     let these = faults_told_of c.args.node faults in
     along
     (block-some size c.args.column c.args.slot c.args.node c.args.tally.now these

@@ -4,8 +4,8 @@ use Rattle.chart_text.proofs.block.put_blocks.Goals as goal
 
 pub loop-node-preserved : goal.loop-node-preserved
 loop-node-preserved g c = λ faults are.
-    puts_below _ _ _ _ _ _ (block_lines c.args.frame.size c.args.column c.args.slot faults) c.loop-node.node
+    puts_below _ _ _ _ _ _ (block_lines c.args.extent.size c.args.column c.args.slot faults) c.loop-node.node
     (c.loop-node.invariant faults are) (c.put_block.ensures faults
-    (subst (λ (m : ℕ). IsTally c.args.frame.size (tally_of c.args.tallies.now.nodes m) []
+    (subst (λ (m : ℕ). IsTally c.args.extent.size (tally_of c.args.tallies.now.nodes m) []
     (faults_told_of c.loop-node.node faults)) (sym c.from.ensures)
-    (are.each c.loop-node.node (omega (arith, c.loop-node-test.true, c.args.frame.nodes.1)))))
+    (are.each c.loop-node.node (omega (arith, c.loop-node-test.true, c.args.extent.nodes.1)))))

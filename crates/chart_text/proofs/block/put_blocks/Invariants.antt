@@ -5,6 +5,6 @@ use Rattle.chart_text.proofs.block.put_blocks.Given as goal
 -- the nodes so far have their cells
 abbrev pub invariant-loop-node : goal.invariant-loop-node
 invariant-loop-node g l =
-    (faults : List FaultTold) → AreTallies l.frame.size l.tallies [] faults
+    (faults : List FaultTold) → AreTallies l.extent.size l.tallies [] faults
     → Puts l.fn.sheet.failed (g.K.Sink.output l.fn.out) l.sheet.failed (g.K.Sink.output l.out)
-    (lines_below (block_lines l.frame.size l.column l.slot faults) l.node)
+    (lines_below (block_lines l.extent.size l.column l.slot faults) l.node)

@@ -6,7 +6,7 @@ use Rattle.chart_text.proofs.block.put_end.Goals as goal
 
 pub returns : goal.returns
 returns g c faults is =
-    let size = c.args.frame.size in
+    let size = c.args.extent.size in
     let t = tallied size c.args.tally.now faults is in
     puts_two
     (rw (c.chart_x-x.ensures.value, c.chart_y-y.ensures.value) at c.make_sum.ensures

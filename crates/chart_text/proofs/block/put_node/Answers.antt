@@ -5,7 +5,7 @@ use Rattle.chart_text.proofs.block.put_node.Goals as goal
 
 pub returns : goal.returns
 returns g c faults is =
-    let size = c.args.frame.size in
+    let size = c.args.extent.size in
     let these = faults_told_of c.args.node faults in
     let t = tallied size c.args.tally.now these is in
     puts_two

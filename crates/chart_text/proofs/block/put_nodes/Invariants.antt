@@ -5,6 +5,6 @@ use Rattle.chart_text.proofs.block.put_nodes.Given as goal
 -- the nodes so far have their cells
 abbrev pub invariant-loop-node : goal.invariant-loop-node
 invariant-loop-node g l =
-    (faults : List FaultTold) → AreTallies l.frame.size l.tallies [] faults
+    (faults : List FaultTold) → AreTallies l.extent.size l.tallies [] faults
     → Puts l.fn.sheet.failed (g.K.Sink.output l.fn.out) l.sheet.failed (g.K.Sink.output l.out)
-    (lines_below (node_sum_lines l.frame.size l.x faults) l.node)
+    (lines_below (node_sum_lines l.extent.size l.x faults) l.node)

@@ -28,6 +28,6 @@ returns c =
     )
     (ap (λ (line : List ℕ). line ++ codes "</text>\n")
     (sym (gather-behind (codes "<text" ++ place_attributes 12 40 ++ codes ">")
-    (decimal c.args.frame.size.nodes ∷ codes " nodes, " ∷ decimal c.args.frame.size.slots ∷ codes " slots, shown: "
+    (decimal c.args.extent.size.nodes ∷ codes " nodes, " ∷ decimal c.args.extent.size.slots ∷ codes " slots, shown: "
     ∷ decimal (length shown) ∷ codes " of them, " ∷ decimal (get_or shown 0 0) ∷ codes " to "
     ∷ decimal (get_or shown (length shown - 1) 0) ∷ hidden_text c.args.hidden ∷ []))))

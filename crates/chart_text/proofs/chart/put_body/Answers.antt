@@ -8,7 +8,7 @@ use Rattle.chart_text.proofs.chart.put_body.Goals as goal
 
 pub returns-clause-puts : goal.returns-clause-puts
 returns-clause-puts g c =
-    let size = c.args.frame.size in
+    let size = c.args.extent.size in
     let shown = marked_slots c.args.marks.now in
     let faults = c.args.campaign.now.faults in
     let own : c.own-own.result.test ≡ c.args.campaign.now.own.test = ap (λ (o : OwnShown). o.test) c.own-own.ensures in

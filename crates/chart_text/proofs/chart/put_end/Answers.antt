@@ -8,13 +8,13 @@ use Rattle.chart_text.proofs.chart.put_end.Goals as goal
 
 pub returns : goal.returns
 returns g c faults listed are counts worst =
-    let size = c.args.frame.size in
+    let size = c.args.extent.size in
     let t = tallied size c.args.found.now.tallies.all faults are.whole in
     puts_both
     (puts_both
     (along (λ i. worst_lines size (c.list_top.ensures.value i) (t.harmful i) (worst i)) c.put_worst.ensures.puts)
     (along
     (λ i. key_and_table
-    ((c.key_top.ensures.value ∙ ap (key_top size.nodes c.args.frame.many) listed) i) (counts i))
+    ((c.key_top.ensures.value ∙ ap (key_top size.nodes c.args.extent.many) listed) i) (counts i))
     c.put_key_and_table.ensures))
     c.put.ensures

@@ -10,7 +10,7 @@ use Rattle.chart_text.proofs.chart.put_head.Goals as goal
 
 pub returns-clause-puts : goal.returns-clause-puts
 returns-clause-puts g c =
-    let size = c.args.frame.size in
+    let size = c.args.extent.size in
     let shown = marked_slots c.args.marks.now in
     let faults = c.args.campaign.now.faults in
     let t = tallied size c.args.found.now.tallies.all faults c.requires.tallies.whole in

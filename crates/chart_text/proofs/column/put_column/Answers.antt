@@ -7,7 +7,7 @@ returns-clause-puts g c =
     let these = faults_told_in c.args.column.slot c.pass_before.new.ahead in
     subst (λ (fs : List FaultTold). Puts c.args.sheet.now.failed (g.K.Sink.output c.args.out.now)
     c.put_end.new.sheet.failed (g.K.Sink.output c.put_end.new.out)
-    (column_of c.args.frame.size c.args.column.number c.args.column.before c.args.column.slot fs))
+    (column_of c.args.extent.size c.args.column.number c.args.column.before c.args.column.slot fs))
     (sym (c.pass_before.ensures.same c.args.column.slot (omega arith)))
     (puts_both
     (puts_both (puts_both (puts_both c.put_number.ensures c.put_gap.ensures)

@@ -14,7 +14,7 @@ loop-slot-preserved g c =
     let t = c.loop-slot.slot in
     let n = c.loop-slot.number in
     let all = c.args.ahead.now in
-    let size = c.args.frame.size in
+    let size = c.args.extent.size in
     let shown = marked_slots c.args.marks.now in
     elim c.if-has_mark.branch [
       | then-has_mark w ↦

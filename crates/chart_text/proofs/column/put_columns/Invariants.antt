@@ -10,7 +10,7 @@ invariant-loop-slot g l =
       low : l.number ≤ l.slot;
       before : l.before ≡ shown_before (marked_slots l.marks) l.number;
       puts : Puts l.fn.sheet.failed (g.K.Sink.output l.fn.out) l.sheet.failed (g.K.Sink.output l.out)
-          (lines_below (column_lines l.frame.size (marked_slots l.marks) l.fn.ahead) l.number);
+          (lines_below (column_lines l.extent.size (marked_slots l.marks) l.fn.ahead) l.number);
       same : SameFrom l.slot l.fn.ahead l.ahead;
       order : in_order_from 0 l.ahead ≡ true;
       few : length l.ahead ≤ length l.fn.ahead;

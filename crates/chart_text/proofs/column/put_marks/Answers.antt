@@ -16,7 +16,7 @@ loop-fault-preserved g c =
     record {
       puts = λ fails now p.
           c.loop-fault.invariant.puts fails now
-          (left_first (mark_lines c.args.frame.size c.args.column.number)
+          (left_first (mark_lines c.args.extent.size c.args.column.number)
           (faults_told_in slot old) (faults_told_in slot new) x _ _ _
           _ _ _ here c.put_fault_mark.ensures.puts p);
       same =

@@ -8,9 +8,9 @@ invariant-loop-fault g l =
     record {
       puts : (fails : Bool) (now : Output)
           → Puts l.sheet.failed (g.K.Sink.output l.out) fails now
-          (flat_map (mark_lines l.frame.size l.column.number) (faults_told_in l.column.slot l.ahead))
+          (flat_map (mark_lines l.extent.size l.column.number) (faults_told_in l.column.slot l.ahead))
           → Puts l.fn.sheet.failed (g.K.Sink.output l.fn.out) fails now
-          (flat_map (mark_lines l.frame.size l.column.number) (faults_told_in l.column.slot l.fn.ahead));
+          (flat_map (mark_lines l.extent.size l.column.number) (faults_told_in l.column.slot l.fn.ahead));
       same : SameFrom (l.column.slot + 1) l.fn.ahead l.ahead;
       order : in_order_from l.column.slot l.ahead ≡ true;
       few : length l.ahead ≤ length l.fn.ahead;

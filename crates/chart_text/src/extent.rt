@@ -1,4 +1,4 @@
-//! Where the elements of a chart stand.
+//! How much a chart shows, and where its elements stand.
 #![tactic(auto)]
 
 ghost use Rattle.std.specs.Prelude.{◌≡◌, ◌+◌, ◌*◌, ◌^◌, ◌≤◌, length};
@@ -9,7 +9,7 @@ use picture_text::{Corner, columns};
 
 /// The size of a campaign's runs, how many columns are shown, and how many of the worst faults are listed.
 #[derive(Clone, Copy)]
-pub(crate) struct Frame {
+pub(crate) struct Extent {
     pub(crate) size: Size,
     pub(crate) many: u32,
     pub(crate) listed: u8,
@@ -37,35 +37,35 @@ fn chart_band(nodes: u8) -> u64
 }
 
 /// How many bands there are.
-pub(crate) fn chart_bands(frame: Frame) -> u32
-    ensures value { result ≡ chart_bands frame.size.nodes frame.many }
+pub(crate) fn chart_bands(extent: Extent) -> u32
+    ensures value { result ≡ chart_bands extent.size.nodes extent.many }
     ensures few { result ≤ 20000 }
 {
-    frame.many.saturating_sub(1) / columns(frame.size.nodes) + 1
+    extent.many.saturating_sub(1) / columns(extent.size.nodes) + 1
 }
 
 /// Where the list of the worst faults begins.
 #[tactic(auto, using(crate::proofs::Places::bands_are_low))]
-pub(crate) fn list_top(frame: Frame) -> u64
-    ensures value { result ≡ list_top frame.size.nodes frame.many }
+pub(crate) fn list_top(extent: Extent) -> u64
+    ensures value { result ≡ list_top extent.size.nodes extent.many }
     ensures low { result ≤ 2 ^ 29 }
 {
-    132 + chart_band(frame.size.nodes) * u64::from(chart_bands(frame))
+    132 + chart_band(extent.size.nodes) * u64::from(chart_bands(extent))
 }
 
 /// Where the key begins.
-pub(crate) fn key_top(frame: Frame) -> u64
-    ensures value { result ≡ key_top frame.size.nodes frame.many frame.listed }
+pub(crate) fn key_top(extent: Extent) -> u64
+    ensures value { result ≡ key_top extent.size.nodes extent.many extent.listed }
     ensures low { result ≤ 2 ^ 30 }
 {
-    list_top(frame) + 32 + 20 * u64::from(frame.listed)
+    list_top(extent) + 32 + 20 * u64::from(extent.listed)
 }
 
 /// How high the chart is.
-pub(crate) fn chart_height(frame: Frame) -> u64
-    ensures { result ≡ chart_height frame.size.nodes frame.many frame.listed }
+pub(crate) fn chart_height(extent: Extent) -> u64
+    ensures { result ≡ chart_height extent.size.nodes extent.many extent.listed }
 {
-    key_top(frame) + 530
+    key_top(extent) + 530
 }
 
 /// The left edge of a column.
@@ -101,9 +101,9 @@ pub(crate) fn chart_corner(nodes: u8, column: u32, row: u8) -> Corner
 }
 
 /// The left edge of what stands beside the columns.
-pub(crate) fn beside_x(frame: Frame) -> u64
-    ensures value { result ≡ beside_x frame.size.nodes frame.many }
+pub(crate) fn beside_x(extent: Extent) -> u64
+    ensures value { result ≡ beside_x extent.size.nodes extent.many }
     ensures within { (84 ≤ result) × (result ≤ 1400) }
 {
-    84 + 24 * u64::from(columns(frame.size.nodes).min(frame.many))
+    84 + 24 * u64::from(columns(extent.size.nodes).min(extent.many))
 }
