@@ -9,8 +9,8 @@ ghost use Rattle.ttp_base.specs.Sheet.{Puts};
 ghost use Rattle.picture_text.specs.Window.{columns, bands, row_y};
 
 use crate::element::{close_text, make_text_of, open_text_of, put_field};
-use crate::frame::Frame;
 use crate::grid::{bands, columns, row_y};
+use crate::layout::Layout;
 use ttp_base::{Line, Sheet, Sink};
 
 /// Makes the name of the row of a node.
@@ -32,46 +32,50 @@ fn make_row(line: &mut Line, y: u64, name: &str)
 
 // Writes the names of the nodes beside the band that begins with this slot.
 #[tactic(auto, using(ttp_base::proofs::Puts::puts))]
-fn put_node_rows<K: Sink>(frame: Frame, slot: u32, sheet: &mut Sheet, out: &mut K)
+fn put_node_rows<K: Sink>(layout: Layout, slot: u32, sheet: &mut Sheet, out: &mut K)
     ensures { Puts sheet.old.failed (K.output out.old) sheet.new.failed (K.output out.new)
-        (map (λ k. row_line (row_y frame.head.nodes frame.span slot k + 14) (codes "node " ++ decimal k))
-        (below frame.head.nodes)) }
+        (map (λ k. row_line (row_y layout.head.nodes layout.span slot k + 14) (codes "node " ++ decimal k))
+        (below layout.head.nodes)) }
 {
-    for number in 0..frame.head.nodes {
-        make_node_row(&mut sheet.line, row_y(frame, slot, number) + 14, number);
+    for number in 0..layout.head.nodes {
+        make_node_row(&mut sheet.line, row_y(layout, slot, number) + 14, number);
         sheet.write(out);
     }
 }
 
 // Writes the names of the rows of a band.
 #[tactic(auto, using(ttp_base::proofs::Puts::puts))]
-fn put_band<K: Sink>(frame: Frame, band: u32, sheet: &mut Sheet, out: &mut K)
-    requires { band < bands frame.head.nodes frame.span }
+fn put_band<K: Sink>(layout: Layout, band: u32, sheet: &mut Sheet, out: &mut K)
+    requires { band < bands layout.head.nodes layout.span }
     ensures { Puts sheet.old.failed (K.output out.old) sheet.new.failed (K.output out.new)
-        (band_lines frame.head.nodes frame.span band) }
+        (band_lines layout.head.nodes layout.span band) }
 {
-    let nodes = frame.head.nodes;
-    let slot = frame.span.first + columns(nodes) * band;
-    put_node_rows(frame, slot, sheet, out);
-    make_row(&mut sheet.line, row_y(frame, slot, nodes) + 18, "members");
+    let nodes = layout.head.nodes;
+    let slot = layout.span.first + columns(nodes) * band;
+    put_node_rows(layout, slot, sheet, out);
+    make_row(&mut sheet.line, row_y(layout, slot, nodes) + 18, "members");
     sheet.write(out);
     make_row(
         &mut sheet.line,
-        row_y(frame, slot, nodes + 1) + 18,
+        row_y(layout, slot, nodes + 1) + 18,
         "clocks",
     );
     sheet.write(out);
-    make_row(&mut sheet.line, row_y(frame, slot, nodes + 2) + 18, "apart");
+    make_row(
+        &mut sheet.line,
+        row_y(layout, slot, nodes + 2) + 18,
+        "apart",
+    );
     sheet.write(out);
 }
 
 /// Writes the names of the rows of all bands.
 #[tactic(auto, using(ttp_base::proofs::Puts::puts_none, ttp_base::proofs::Puts::puts_below))]
-pub(crate) fn put_bands<K: Sink>(frame: Frame, sheet: &mut Sheet, out: &mut K)
+pub(crate) fn put_bands<K: Sink>(layout: Layout, sheet: &mut Sheet, out: &mut K)
     ensures { Puts sheet.old.failed (K.output out.old) sheet.new.failed (K.output out.new)
-        (lines_below (band_lines frame.head.nodes frame.span) (bands frame.head.nodes frame.span)) }
+        (lines_below (band_lines layout.head.nodes layout.span) (bands layout.head.nodes layout.span)) }
 {
-    for band in 0..bands(frame) {
-        put_band(frame, band, sheet, out);
+    for band in 0..bands(layout) {
+        put_band(layout, band, sheet, out);
     }
 }

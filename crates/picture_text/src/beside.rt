@@ -10,8 +10,8 @@ ghost use Rattle.ttp_base.specs.Sheet.{Puts};
 ghost use Rattle.picture_text.specs.Window.{row_y, column_x};
 
 use crate::element::{close_mark, make_text_of, open_mark, put_field, put_place};
-use crate::frame::{Corner, Frame};
 use crate::grid::{beside, corner};
+use crate::layout::{Corner, Layout};
 use crate::titles::put_host_text;
 use line_reader::Word;
 use shown_slot::{is_leaving_word, node_at, word_text};
@@ -33,7 +33,7 @@ fn make_why_box(line: &mut Line, word: Word, x: u64, y: u64)
 
 // Writes why a node left, if it did.
 fn put_why<K: Sink>(
-    frame: Frame,
+    layout: Layout,
     slot: u32,
     shown: &SlotShown<'_>,
     number: u8,
@@ -41,11 +41,11 @@ fn put_why<K: Sink>(
     out: &mut K,
 )
     ensures { Puts sheet.old.failed (K.output out.old) sheet.new.failed (K.output out.new)
-        (why_lines frame.head.nodes frame.span slot shown.now number) }
+        (why_lines layout.head.nodes layout.span slot shown.now number) }
 {
     let word = node_at(shown, number).word;
     if is_leaving_word(word) {
-        let at = corner(frame, slot, number);
+        let at = corner(layout, slot, number);
         make_why_box(&mut sheet.line, word, at.x + 20, at.y);
         sheet.write(out);
         make_text_of(
@@ -61,12 +61,18 @@ fn put_why<K: Sink>(
 
 // Writes why nodes left.
 #[tactic(auto, using(ttp_base::proofs::Puts::puts_none, ttp_base::proofs::Puts::puts_below))]
-fn put_whys<K: Sink>(frame: Frame, slot: u32, shown: &SlotShown<'_>, sheet: &mut Sheet, out: &mut K)
+fn put_whys<K: Sink>(
+    layout: Layout,
+    slot: u32,
+    shown: &SlotShown<'_>,
+    sheet: &mut Sheet,
+    out: &mut K,
+)
     ensures { Puts sheet.old.failed (K.output out.old) sheet.new.failed (K.output out.new)
-        (lines_below (why_lines frame.head.nodes frame.span slot shown.now) frame.head.nodes) }
+        (lines_below (why_lines layout.head.nodes layout.span slot shown.now) layout.head.nodes) }
 {
-    for number in 0..frame.head.nodes {
-        put_why(frame, slot, shown, number, sheet, out);
+    for number in 0..layout.head.nodes {
+        put_why(layout, slot, shown, number, sheet, out);
     }
 }
 
@@ -98,11 +104,11 @@ fn make_mark_of(
 }
 
 // Makes the mark of a host's line, beside the cell of its node.
-fn make_host_mark(line: &mut Line, frame: Frame, slot: u32, host_line: &HostLine)
-    ensures { line.new ≡ host_mark slot host_line.now (column_x frame.head.nodes frame.span slot)
-        (row_y frame.head.nodes frame.span slot (host_of host_line.now)) }
+fn make_host_mark(line: &mut Line, layout: Layout, slot: u32, host_line: &HostLine)
+    ensures { line.new ≡ host_mark slot host_line.now (column_x layout.head.nodes layout.span slot)
+        (row_y layout.head.nodes layout.span slot (host_of host_line.now)) }
 {
-    let cell = corner(frame, slot, host_of(host_line));
+    let cell = corner(layout, slot, host_of(host_line));
     match host_line {
         HostLine::Write { .. } => {
             let at = beside(cell, 0, 19);
@@ -124,20 +130,20 @@ fn make_host_mark(line: &mut Line, frame: Frame, slot: u32, host_line: &HostLine
 // Writes the marks of the lines of hosts.
 #[tactic(auto, using(ttp_base::proofs::Puts::puts))]
 fn put_marks<K: Sink>(
-    frame: Frame,
+    layout: Layout,
     slot: u32,
     shown: &SlotShown<'_>,
     sheet: &mut Sheet,
     out: &mut K,
 )
     ensures { Puts sheet.old.failed (K.output out.old) sheet.new.failed (K.output out.new)
-        (map (λ line. host_mark slot line (column_x frame.head.nodes frame.span slot)
-        (row_y frame.head.nodes frame.span slot (host_of line)))
+        (map (λ line. host_mark slot line (column_x layout.head.nodes layout.span slot)
+        (row_y layout.head.nodes layout.span slot (host_of line)))
         shown.now.hosts) }
 {
     let mut hosts = shown.hosts();
     while let Some(host_line) = hosts.next_line() {
-        make_host_mark(&mut sheet.line, frame, slot, &host_line);
+        make_host_mark(&mut sheet.line, layout, slot, &host_line);
         sheet.write(out);
     }
 }
@@ -145,15 +151,15 @@ fn put_marks<K: Sink>(
 /// Writes what stands beside the cells of a slot.
 #[tactic(auto, using(ttp_base::proofs::Puts::puts_then))]
 pub(crate) fn put_beside<K: Sink>(
-    frame: Frame,
+    layout: Layout,
     slot: u32,
     shown: &SlotShown<'_>,
     sheet: &mut Sheet,
     out: &mut K,
 )
     ensures { Puts sheet.old.failed (K.output out.old) sheet.new.failed (K.output out.new)
-        (beside_lines frame.head.nodes frame.span slot shown.now) }
+        (beside_lines layout.head.nodes layout.span slot shown.now) }
 {
-    put_whys(frame, slot, shown, sheet, out);
-    put_marks(frame, slot, shown, sheet, out);
+    put_whys(layout, slot, shown, sheet, out);
+    put_marks(layout, slot, shown, sheet, out);
 }

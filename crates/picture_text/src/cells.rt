@@ -14,8 +14,8 @@ ghost use Rattle.picture_text.specs.Window.{row_y, column_x};
 use crate::element::{
     close_cell, close_title, make_number_of, make_round, open_cell, open_title, put_field,
 };
-use crate::frame::{Corner, Frame};
 use crate::grid::{column_x, corner, row_y};
+use crate::layout::{Corner, Layout};
 use crate::members::{held_by_most, memberships_of};
 use crate::members_cell::put_members_cell;
 use crate::tables::letter;
@@ -100,21 +100,21 @@ fn put_class(line: &mut Line, node: &NodeShown, common: Common)
 // Makes the cell of a node.
 fn make_node_cell(
     line: &mut Line,
-    frame: Frame,
+    layout: Layout,
     slot: u32,
     number: u8,
     shown: &SlotShown<'_>,
     common: Common,
 )
-    ensures { line.new ≡ node_cell frame.head slot number (node_at shown.now number) common.most common.refused
-        (column_x frame.head.nodes frame.span slot) (row_y frame.head.nodes frame.span slot number) }
+    ensures { line.new ≡ node_cell layout.head slot number (node_at shown.now number) common.most common.refused
+        (column_x layout.head.nodes layout.span slot) (row_y layout.head.nodes layout.span slot number) }
 {
     let node = node_at(shown, number);
     open_cell(line);
     put_class(line, &node, common);
     open_title(line);
-    put_node_text(line, &frame.head, slot, number, &node);
-    close_title(line, corner(frame, slot, number));
+    put_node_text(line, &layout.head, slot, number, &node);
+    close_title(line, corner(layout, slot, number));
     line.put_text(letter(node.word));
     close_cell(line);
 }
@@ -122,7 +122,7 @@ fn make_node_cell(
 // Writes the cells of the nodes.
 #[tactic(auto, using(ttp_base::proofs::Puts::puts))]
 fn put_node_cells<K: Sink>(
-    frame: Frame,
+    layout: Layout,
     slot: u32,
     shown: &SlotShown<'_>,
     common: Common,
@@ -130,11 +130,11 @@ fn put_node_cells<K: Sink>(
     out: &mut K,
 )
     ensures { Puts sheet.old.failed (K.output out.old) sheet.new.failed (K.output out.new)
-        (map (λ k. node_cell frame.head slot k (node_at shown.now k) common.most common.refused (column_x frame.head.nodes frame.span slot)
-        (row_y frame.head.nodes frame.span slot k)) (below frame.head.nodes)) }
+        (map (λ k. node_cell layout.head slot k (node_at shown.now k) common.most common.refused (column_x layout.head.nodes layout.span slot)
+        (row_y layout.head.nodes layout.span slot k)) (below layout.head.nodes)) }
 {
-    for number in 0..frame.head.nodes {
-        make_node_cell(&mut sheet.line, frame, slot, number, shown, common);
+    for number in 0..layout.head.nodes {
+        make_node_cell(&mut sheet.line, layout, slot, number, shown, common);
         sheet.write(out);
     }
 }
@@ -182,18 +182,18 @@ fn put_apart_shown(line: &mut Line, range: Option<ClockRange>)
 // Makes the cell of the clocks, whose range is this.
 fn make_clocks_cell(
     line: &mut Line,
-    frame: Frame,
+    layout: Layout,
     slot: u32,
     shown: &SlotShown<'_>,
     range: Option<ClockRange>,
 )
     requires { range ≡ clock_range shown.now.nodes }
-    ensures { line.new ≡ clocks_cell slot shown.now (column_x frame.head.nodes frame.span slot)
-        (row_y frame.head.nodes frame.span slot (frame.head.nodes + 1) + 4) }
+    ensures { line.new ≡ clocks_cell slot shown.now (column_x layout.head.nodes layout.span slot)
+        (row_y layout.head.nodes layout.span slot (layout.head.nodes + 1) + 4) }
 {
     let at = Corner {
-        x: column_x(frame, slot),
-        y: row_y(frame, slot, frame.head.nodes + 1) + 4,
+        x: column_x(layout, slot),
+        y: row_y(layout, slot, layout.head.nodes + 1) + 4,
     };
     open_cell(line);
     line.put_text("none\"><title>");
@@ -232,19 +232,19 @@ fn put_far_shown(line: &mut Line, far: Option<usize>)
 // Makes the cell of the node whose clock is far from most, where the range of the clocks is this.
 fn make_far_cell(
     line: &mut Line,
-    frame: Frame,
+    layout: Layout,
     slot: u32,
     shown: &SlotShown<'_>,
     range: Option<ClockRange>,
 )
     requires { range ≡ clock_range shown.now.nodes }
-    ensures { line.new ≡ far_cell slot shown.now (column_x frame.head.nodes frame.span slot)
-        (row_y frame.head.nodes frame.span slot (frame.head.nodes + 2) + 4) }
+    ensures { line.new ≡ far_cell slot shown.now (column_x layout.head.nodes layout.span slot)
+        (row_y layout.head.nodes layout.span slot (layout.head.nodes + 2) + 4) }
 {
     let far = node_apart(range, shown.nodes());
     let at = Corner {
-        x: column_x(frame, slot),
-        y: row_y(frame, slot, frame.head.nodes + 2) + 4,
+        x: column_x(layout, slot),
+        y: row_y(layout, slot, layout.head.nodes + 2) + 4,
     };
     open_cell(line);
     line.put_text("apart\"><title>");
@@ -259,33 +259,33 @@ fn make_far_cell(
 // Writes the cells of the clocks.
 #[tactic(auto, using(ttp_base::proofs::Puts::puts))]
 fn put_clocks_cells<K: Sink>(
-    frame: Frame,
+    layout: Layout,
     slot: u32,
     shown: &SlotShown<'_>,
     sheet: &mut Sheet,
     out: &mut K,
 )
     ensures { Puts sheet.old.failed (K.output out.old) sheet.new.failed (K.output out.new)
-        (clocks_cell slot shown.now (column_x frame.head.nodes frame.span slot)
-        (row_y frame.head.nodes frame.span slot (frame.head.nodes + 1) + 4)
-        ∷ far_cell slot shown.now (column_x frame.head.nodes frame.span slot)
-        (row_y frame.head.nodes frame.span slot (frame.head.nodes + 2) + 4) ∷ []) }
+        (clocks_cell slot shown.now (column_x layout.head.nodes layout.span slot)
+        (row_y layout.head.nodes layout.span slot (layout.head.nodes + 1) + 4)
+        ∷ far_cell slot shown.now (column_x layout.head.nodes layout.span slot)
+        (row_y layout.head.nodes layout.span slot (layout.head.nodes + 2) + 4) ∷ []) }
 {
     let range = clock_range(shown.nodes());
-    make_clocks_cell(&mut sheet.line, frame, slot, shown, range);
+    make_clocks_cell(&mut sheet.line, layout, slot, shown, range);
     sheet.write(out);
-    make_far_cell(&mut sheet.line, frame, slot, shown, range);
+    make_far_cell(&mut sheet.line, layout, slot, shown, range);
     sheet.write(out);
 }
 
 // Writes the number of a slot, where it is due.
-fn put_number<K: Sink>(frame: Frame, slot: u32, sheet: &mut Sheet, out: &mut K)
+fn put_number<K: Sink>(layout: Layout, slot: u32, sheet: &mut Sheet, out: &mut K)
     ensures { Puts sheet.old.failed (K.output out.old) sheet.new.failed (K.output out.new)
-        (number_lines frame.head.nodes frame.span slot) }
+        (number_lines layout.head.nodes layout.span slot) }
 {
     if slot % 5 == 0 {
-        let x = column_x(frame, slot) + 9;
-        let y = row_y(frame, slot, 0) - 5;
+        let x = column_x(layout, slot) + 9;
+        let y = row_y(layout, slot, 0) - 5;
         make_number_of(&mut sheet.line, "slot", x, y, u64::from(slot));
         sheet.write(out);
     }
@@ -293,19 +293,19 @@ fn put_number<K: Sink>(frame: Frame, slot: u32, sheet: &mut Sheet, out: &mut K)
 
 // Writes the line of a round, where one begins in the slot.
 fn put_round<K: Sink>(
-    frame: Frame,
+    layout: Layout,
     slot: u32,
     shown: &SlotShown<'_>,
     sheet: &mut Sheet,
     out: &mut K,
 )
     ensures { Puts sheet.old.failed (K.output out.old) sheet.new.failed (K.output out.new)
-        (round_start_lines frame.head.nodes frame.span slot shown.now) }
+        (round_start_lines layout.head.nodes layout.span slot shown.now) }
 {
     if starts_round(shown.nodes()) {
-        let x = column_x(frame, slot) - 1;
-        let y = row_y(frame, slot, 0) - 3;
-        make_round(&mut sheet.line, x, y, 20 * u64::from(frame.head.nodes) + 6);
+        let x = column_x(layout, slot) - 1;
+        let y = row_y(layout, slot, 0) - 3;
+        make_round(&mut sheet.line, x, y, 20 * u64::from(layout.head.nodes) + 6);
         sheet.write(out);
     }
 }
@@ -313,23 +313,23 @@ fn put_round<K: Sink>(
 /// Writes the cells of a slot.
 #[tactic(auto, using(ttp_base::proofs::Puts::puts))]
 pub(crate) fn put_cells<K: Sink>(
-    frame: Frame,
+    layout: Layout,
     slot: u32,
     shown: &SlotShown<'_>,
     sheet: &mut Sheet,
     out: &mut K,
 )
     ensures { Puts sheet.old.failed (K.output out.old) sheet.new.failed (K.output out.new)
-        (cell_lines frame.head frame.span slot shown.now) }
+        (cell_lines layout.head layout.span slot shown.now) }
 {
     let found = memberships_of(shown.nodes());
     let common = Common {
         most: held_by_most(shown, &found),
         refused: is_refused(shown.nodes()),
     };
-    put_number(frame, slot, sheet, out);
-    put_round(frame, slot, shown, sheet, out);
-    put_node_cells(frame, slot, shown, common, sheet, out);
-    put_members_cell(frame, slot, shown, &found, sheet, out);
-    put_clocks_cells(frame, slot, shown, sheet, out);
+    put_number(layout, slot, sheet, out);
+    put_round(layout, slot, shown, sheet, out);
+    put_node_cells(layout, slot, shown, common, sheet, out);
+    put_members_cell(layout, slot, shown, &found, sheet, out);
+    put_clocks_cells(layout, slot, shown, sheet, out);
 }

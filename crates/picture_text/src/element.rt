@@ -5,7 +5,7 @@ ghost use Rattle.std.specs.Prelude.{◌≡◌, ◌+◌, ◌≤◌, [], ◌++◌,
 ghost use Rattle.picture_text.specs.Cells.{place_attributes, cell, mark};
 ghost use Rattle.picture_text.specs.Picture.{class_of, text_line, round_line};
 
-use crate::frame::Corner;
+use crate::layout::Corner;
 use ttp_base::Line;
 
 /// Adds a number behind a label.

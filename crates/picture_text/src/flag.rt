@@ -8,26 +8,26 @@ ghost use Rattle.picture_text.specs.Tables.{keep_name, keep_slot, back_name, bac
 ghost use Rattle.picture_text.specs.Window.{column_x, row_y};
 
 use crate::element::{close_text, open_text_of, put_field};
-use crate::frame::Frame;
 use crate::grid::{column_x, row_y};
+use crate::layout::Layout;
 use ttp_base::{Line, Sheet, Sink};
 use ttp_world::{Back, Keep};
 
-fn is_shown(frame: Frame, slot: u32) -> bool
-    ensures { result ≡ is_shown frame.span slot }
+fn is_shown(layout: Layout, slot: u32) -> bool
+    ensures { result ≡ is_shown layout.span slot }
 {
-    frame.span.first <= slot && slot <= frame.span.last
+    layout.span.first <= slot && slot <= layout.span.last
 }
 
 // Makes the line that stands for the flag of a slot.
-fn make_pole(line: &mut Line, frame: Frame, slot: u32)
-    ensures { line.new ≡ flag_pole frame.head.nodes frame.span slot }
+fn make_pole(line: &mut Line, layout: Layout, slot: u32)
+    ensures { line.new ≡ flag_pole layout.head.nodes layout.span slot }
 {
     line.clear();
     let words = "<path class=\"flag\" d=\"M";
-    put_field(line, words, column_x(frame, slot) - 1);
-    put_field(line, " ", row_y(frame, slot, 0) - 26);
-    put_field(line, "v", 20 * u64::from(frame.head.nodes) + 26);
+    put_field(line, words, column_x(layout, slot) - 1);
+    put_field(line, " ", row_y(layout, slot, 0) - 26);
+    put_field(line, "v", 20 * u64::from(layout.head.nodes) + 26);
     line.put_text("\"/>\n");
 }
 
@@ -54,27 +54,27 @@ fn keep_slot(keep: &Keep) -> u32
 }
 
 // Makes what the flag shows.
-fn make_keep_flag(line: &mut Line, frame: Frame, slot: u32, keep: &Keep)
-    ensures { line.new ≡ text_line (class_of (codes "keep")) (column_x frame.head.nodes frame.span slot - 4)
-        (row_y frame.head.nodes frame.span slot 0 - 17) (keep_name keep.now) }
+fn make_keep_flag(line: &mut Line, layout: Layout, slot: u32, keep: &Keep)
+    ensures { line.new ≡ text_line (class_of (codes "keep")) (column_x layout.head.nodes layout.span slot - 4)
+        (row_y layout.head.nodes layout.span slot 0 - 17) (keep_name keep.now) }
 {
-    let x = column_x(frame, slot) - 4;
-    let y = row_y(frame, slot, 0) - 17;
+    let x = column_x(layout, slot) - 4;
+    let y = row_y(layout, slot, 0) - 17;
     open_text_of(line, "keep", x, y);
     put_keep_name(line, keep);
     close_text(line);
 }
 
 /// Writes the flag of the hypothesis test, where its slot is shown.
-pub(crate) fn put_keep_flag<K: Sink>(frame: Frame, keep: Keep, sheet: &mut Sheet, out: &mut K)
+pub(crate) fn put_keep_flag<K: Sink>(layout: Layout, keep: Keep, sheet: &mut Sheet, out: &mut K)
     ensures { Puts sheet.old.failed (K.output out.old) sheet.new.failed (K.output out.new)
-        (keep_flag frame.head.nodes frame.span keep) }
+        (keep_flag layout.head.nodes layout.span keep) }
 {
     let slot = keep_slot(&keep);
-    if is_shown(frame, slot) {
-        make_pole(&mut sheet.line, frame, slot);
+    if is_shown(layout, slot) {
+        make_pole(&mut sheet.line, layout, slot);
         sheet.write(out);
-        make_keep_flag(&mut sheet.line, frame, slot, &keep);
+        make_keep_flag(&mut sheet.line, layout, slot, &keep);
         sheet.write(out);
     }
 }
@@ -102,27 +102,27 @@ fn back_slot(back: &Back) -> u32
 }
 
 // Makes what the flag shows.
-fn make_back_flag(line: &mut Line, frame: Frame, slot: u32, back: &Back)
-    ensures { line.new ≡ text_line (class_of (codes "back")) (column_x frame.head.nodes frame.span slot + 3)
-        (row_y frame.head.nodes frame.span slot 0 - 17) (back_name back.now) }
+fn make_back_flag(line: &mut Line, layout: Layout, slot: u32, back: &Back)
+    ensures { line.new ≡ text_line (class_of (codes "back")) (column_x layout.head.nodes layout.span slot + 3)
+        (row_y layout.head.nodes layout.span slot 0 - 17) (back_name back.now) }
 {
-    let x = column_x(frame, slot) + 3;
-    let y = row_y(frame, slot, 0) - 17;
+    let x = column_x(layout, slot) + 3;
+    let y = row_y(layout, slot, 0) - 17;
     open_text_of(line, "back", x, y);
     put_back_name(line, back);
     close_text(line);
 }
 
 // Writes the flag of the answer on armed nodes, where its slot is shown.
-fn put_flag_of<K: Sink>(frame: Frame, back: Back, sheet: &mut Sheet, out: &mut K)
+fn put_flag_of<K: Sink>(layout: Layout, back: Back, sheet: &mut Sheet, out: &mut K)
     ensures { Puts sheet.old.failed (K.output out.old) sheet.new.failed (K.output out.new)
-        (back_flag frame.head.nodes frame.span (Some back)) }
+        (back_flag layout.head.nodes layout.span (Some back)) }
 {
     let slot = back_slot(&back);
-    if is_shown(frame, slot) {
-        make_pole(&mut sheet.line, frame, slot);
+    if is_shown(layout, slot) {
+        make_pole(&mut sheet.line, layout, slot);
         sheet.write(out);
-        make_back_flag(&mut sheet.line, frame, slot, &back);
+        make_back_flag(&mut sheet.line, layout, slot, &back);
         sheet.write(out);
     }
 }
@@ -130,15 +130,15 @@ fn put_flag_of<K: Sink>(frame: Frame, back: Back, sheet: &mut Sheet, out: &mut K
 /// Writes it where the trace has such an answer.
 #[tactic(auto, using(ttp_base::proofs::Puts::puts_then, ttp_base::proofs::Puts::puts_none))]
 pub(crate) fn put_back_flag<K: Sink>(
-    frame: Frame,
+    layout: Layout,
     back: Option<Back>,
     sheet: &mut Sheet,
     out: &mut K,
 )
     ensures { Puts sheet.old.failed (K.output out.old) sheet.new.failed (K.output out.new)
-        (back_flag frame.head.nodes frame.span back) }
+        (back_flag layout.head.nodes layout.span back) }
 {
     if let Some(back) = back {
-        put_flag_of(frame, back, sheet, out);
+        put_flag_of(layout, back, sheet, out);
     }
 }

@@ -12,8 +12,8 @@ ghost use Rattle.picture_text.specs.Tables.{keep_meaning, back_meaning};
 ghost use Rattle.picture_text.specs.Window.{height};
 
 use crate::element::{close_text, open_text, open_text_of, put_field};
-use crate::frame::Frame;
 use crate::grid::height;
+use crate::layout::Layout;
 use crate::tables::{STYLE_LINES, returning_meaning, rule_meaning};
 use crate::window::Span;
 use shown_slot::{back_text, header_text, keep_text};
@@ -108,11 +108,11 @@ fn make_first(line: &mut Line, head: &Head)
 }
 
 // Makes the line of what is shown and what is left out.
-fn make_shown(line: &mut Line, frame: Frame, quiet: bool, strange: Option<u32>)
-    ensures { line.new ≡ text_line [] 12 40 (window_text frame.span frame.head.slots quiet strange) }
+fn make_shown(line: &mut Line, layout: Layout, quiet: bool, strange: Option<u32>)
+    ensures { line.new ≡ text_line [] 12 40 (window_text layout.span layout.head.slots quiet strange) }
 {
-    let Span { first, last } = frame.span;
-    let slots = frame.head.slots;
+    let Span { first, last } = layout.span;
+    let slots = layout.head.slots;
     open_text(line, 12, 40);
     put_field(line, "shown: slots ", u64::from(first));
     put_field(line, " to ", u64::from(last));
@@ -187,7 +187,7 @@ fn put_back_said<K: Sink>(back: Option<Back>, sheet: &mut Sheet, out: &mut K)
 /// Writes the head, where only quiet slots are before those shown or others too, and `strange` is the first strange slot
 /// past them.
 pub(crate) fn put_head<K: Sink>(
-    frame: Frame,
+    layout: Layout,
     quiet: bool,
     strange: Option<u32>,
     keep: Keep,
@@ -196,23 +196,23 @@ pub(crate) fn put_head<K: Sink>(
     out: &mut K,
 )
     ensures { Puts sheet.old.failed (K.output out.old) sheet.new.failed (K.output out.new)
-        (svg_line (height frame.head.nodes frame.span) ∷ ended (title_element (header_text frame.head)) ∷ style_lines
-        ++ ground_line (height frame.head.nodes frame.span)
-        ∷ text_line [] 12 20 (header_text frame.head)
-        ∷ text_line [] 12 40 (window_text frame.span frame.head.slots quiet strange)
+        (svg_line (height layout.head.nodes layout.span) ∷ ended (title_element (header_text layout.head)) ∷ style_lines
+        ++ ground_line (height layout.head.nodes layout.span)
+        ∷ text_line [] 12 20 (header_text layout.head)
+        ∷ text_line [] 12 40 (window_text layout.span layout.head.slots quiet strange)
         ∷ said_line 60 (keep_text keep) (keep_meaning keep) ∷ back_said back) }
 {
-    let high = height(frame);
+    let high = height(layout);
     make_svg(&mut sheet.line, high);
     sheet.write(out);
-    make_title(&mut sheet.line, &frame.head);
+    make_title(&mut sheet.line, &layout.head);
     sheet.write(out);
     put_styles(sheet, out);
     make_ground(&mut sheet.line, high);
     sheet.write(out);
-    make_first(&mut sheet.line, &frame.head);
+    make_first(&mut sheet.line, &layout.head);
     sheet.write(out);
-    make_shown(&mut sheet.line, frame, quiet, strange);
+    make_shown(&mut sheet.line, layout, quiet, strange);
     sheet.write(out);
     make_keep_said(&mut sheet.line, &keep);
     sheet.write(out);

@@ -10,8 +10,8 @@ ghost use Rattle.ttp_base.specs.Sheet.{Puts};
 ghost use Rattle.picture_text.specs.Tables.{words};
 
 use crate::element::{make_cell, make_mark, make_round, make_text};
-use crate::frame::Corner;
 use crate::grid::beside;
+use crate::layout::Corner;
 use crate::tables::{WORDS, letter, word_meaning, word_number};
 use shown_slot::word_text;
 use ttp_base::{Sheet, Sink};

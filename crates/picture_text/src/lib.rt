@@ -24,9 +24,9 @@ mod beside;
 mod cells;
 mod element;
 mod flag;
-mod frame;
 mod grid;
 mod head;
+mod layout;
 mod legend;
 mod members;
 mod members_cell;
@@ -41,8 +41,8 @@ pub use element::{
     close_cell, close_mark, close_text, make_mark, make_number_of, make_text, make_text_of,
     open_cell, open_mark, open_text, open_text_of, open_title, put_field, put_place,
 };
-pub use frame::Corner;
 pub use grid::{beside as place_beside, columns};
 pub use head::{back_meaning, put_keep_meaning};
+pub use layout::Corner;
 pub use picture::put_picture;
 pub use window::Span;

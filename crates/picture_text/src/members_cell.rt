@@ -8,8 +8,8 @@ ghost use Rattle.ttp_base.specs.Sheet.{Puts};
 ghost use Rattle.picture_text.specs.Window.{column_x, row_y};
 
 use crate::element::{close_cell, close_title, open_cell, open_title, put_field};
-use crate::frame::{Corner, Frame};
 use crate::grid::{column_x, row_y};
+use crate::layout::{Corner, Layout};
 use crate::members::{Memberships, holds};
 use shown_slot::is_holder;
 use ttp_base::{Line, Sheet, Sink, Text};
@@ -166,7 +166,7 @@ fn make_none(line: &mut Line, slot: u32, at: Corner)
 /// Writes the cell of the members that the nodes of a slot hold, where `found` are its memberships.
 #[tactic(auto, using(ttp_base::proofs::Puts::puts_then, ttp_base::proofs::Puts::puts_none))]
 pub(crate) fn put_members_cell<K: Sink>(
-    frame: Frame,
+    layout: Layout,
     slot: u32,
     shown: &SlotShown<'_>,
     found: &Memberships,
@@ -175,12 +175,12 @@ pub(crate) fn put_members_cell<K: Sink>(
 )
     requires { found.now ≡ shown_memberships shown.now.nodes }
     ensures { Puts sheet.old.failed (K.output out.old) sheet.new.failed (K.output out.new)
-        (members_cell frame.head slot shown.now (column_x frame.head.nodes frame.span slot)
-        (row_y frame.head.nodes frame.span slot frame.head.nodes + 4) ∷ []) }
+        (members_cell layout.head slot shown.now (column_x layout.head.nodes layout.span slot)
+        (row_y layout.head.nodes layout.span slot layout.head.nodes + 4) ∷ []) }
 {
     let at = Corner {
-        x: column_x(frame, slot),
-        y: row_y(frame, slot, frame.head.nodes) + 4,
+        x: column_x(layout, slot),
+        y: row_y(layout, slot, layout.head.nodes) + 4,
     };
     match found.words() {
         [] => {
@@ -188,11 +188,11 @@ pub(crate) fn put_members_cell<K: Sink>(
             sheet.write(out);
         }
         [_] => {
-            make_agreed(sheet, &frame.head, slot, shown, found, at);
+            make_agreed(sheet, &layout.head, slot, shown, found, at);
             sheet.write_long(out);
         }
         _ => {
-            make_different(sheet, &frame.head, slot, shown, found, at);
+            make_different(sheet, &layout.head, slot, shown, found, at);
             sheet.write_long(out);
         }
     }

@@ -16,9 +16,9 @@ use crate::band::put_bands;
 use crate::beside::put_beside;
 use crate::cells::put_cells;
 use crate::flag::{put_back_flag, put_keep_flag};
-use crate::frame::Frame;
 use crate::grid::legend_top;
 use crate::head::put_head;
+use crate::layout::Layout;
 use crate::legend::{put_classes, put_mark_entries, put_words};
 use crate::walk::{Shown, skipped, span_shown, strange_past};
 use crate::window::Span;
@@ -29,20 +29,20 @@ use whole_trace::{Slots, Whole};
 // Writes the cells of the slots shown, which begin with these.
 fn put_all_cells<K: Sink>(
     trace: &Whole<'_>,
-    frame: Frame,
+    layout: Layout,
     first: &Slots<'_>,
     sheet: &mut Sheet,
     out: &mut K,
 )
-    requires shown { frame.span.last < length trace.now.slots }
-    requires first { first.now ≡ drop frame.span.first trace.now.slots }
+    requires shown { layout.span.last < length trace.now.slots }
+    requires first { first.now ≡ drop layout.span.first trace.now.slots }
     ensures { Puts sheet.old.failed (K.output out.old) sheet.new.failed (K.output out.new)
-        (flat_map (λ t. cell_lines frame.head frame.span t (slot_at trace.now t)) (shown_slots frame.span)) }
+        (flat_map (λ t. cell_lines layout.head layout.span t (slot_at trace.now t)) (shown_slots layout.span)) }
 {
     let mut left = first.again();
-    for passed in 0..frame.span.last + 1 - frame.span.first {
+    for passed in 0..layout.span.last + 1 - layout.span.first {
         match left.next_slot() {
-            Some(shown) => put_cells(frame, frame.span.first + passed, &shown, sheet, out),
+            Some(shown) => put_cells(layout, layout.span.first + passed, &shown, sheet, out),
             None => unreachable!(),
         }
     }
@@ -51,20 +51,20 @@ fn put_all_cells<K: Sink>(
 // Writes what stands beside them.
 fn put_all_beside<K: Sink>(
     trace: &Whole<'_>,
-    frame: Frame,
+    layout: Layout,
     first: &Slots<'_>,
     sheet: &mut Sheet,
     out: &mut K,
 )
-    requires shown { frame.span.last < length trace.now.slots }
-    requires first { first.now ≡ drop frame.span.first trace.now.slots }
+    requires shown { layout.span.last < length trace.now.slots }
+    requires first { first.now ≡ drop layout.span.first trace.now.slots }
     ensures { Puts sheet.old.failed (K.output out.old) sheet.new.failed (K.output out.new)
-        (flat_map (λ t. beside_lines frame.head.nodes frame.span t (slot_at trace.now t)) (shown_slots frame.span)) }
+        (flat_map (λ t. beside_lines layout.head.nodes layout.span t (slot_at trace.now t)) (shown_slots layout.span)) }
 {
     let mut left = first.again();
-    for passed in 0..frame.span.last + 1 - frame.span.first {
+    for passed in 0..layout.span.last + 1 - layout.span.first {
         match left.next_slot() {
-            Some(shown) => put_beside(frame, frame.span.first + passed, &shown, sheet, out),
+            Some(shown) => put_beside(layout, layout.span.first + passed, &shown, sheet, out),
             None => unreachable!(),
         }
     }
@@ -73,34 +73,34 @@ fn put_all_beside<K: Sink>(
 // Writes the rows of the picture: their names, their cells and what stands beside them.
 fn put_rows<K: Sink>(
     trace: &Whole<'_>,
-    frame: Frame,
+    layout: Layout,
     first: &Slots<'_>,
     sheet: &mut Sheet,
     out: &mut K,
 )
-    requires shown { frame.span.last < length trace.now.slots }
-    requires first { first.now ≡ drop frame.span.first trace.now.slots }
+    requires shown { layout.span.last < length trace.now.slots }
+    requires first { first.now ≡ drop layout.span.first trace.now.slots }
     ensures { Puts sheet.old.failed (K.output out.old) sheet.new.failed (K.output out.new)
-        (lines_below (band_lines frame.head.nodes frame.span) (bands frame.head.nodes frame.span)
-        ++ flat_map (λ t. cell_lines frame.head frame.span t (slot_at trace.now t)) (shown_slots frame.span)
-        ++ flat_map (λ t. beside_lines frame.head.nodes frame.span t (slot_at trace.now t)) (shown_slots frame.span)) }
+        (lines_below (band_lines layout.head.nodes layout.span) (bands layout.head.nodes layout.span)
+        ++ flat_map (λ t. cell_lines layout.head layout.span t (slot_at trace.now t)) (shown_slots layout.span)
+        ++ flat_map (λ t. beside_lines layout.head.nodes layout.span t (slot_at trace.now t)) (shown_slots layout.span)) }
 {
-    put_bands(frame, sheet, out);
-    put_all_cells(trace, frame, first, sheet, out);
-    put_all_beside(trace, frame, first, sheet, out);
+    put_bands(layout, sheet, out);
+    put_all_cells(trace, layout, first, sheet, out);
+    put_all_beside(trace, layout, first, sheet, out);
 }
 
 // Writes what stands behind the rows.
-fn put_rest<K: Sink>(frame: Frame, keep: Keep, back: Option<Back>, sheet: &mut Sheet, out: &mut K)
+fn put_rest<K: Sink>(layout: Layout, keep: Keep, back: Option<Back>, sheet: &mut Sheet, out: &mut K)
     ensures { Puts sheet.old.failed (K.output out.old) sheet.new.failed (K.output out.new)
-        (keep_flag frame.head.nodes frame.span keep ++ back_flag frame.head.nodes frame.span back
-        ++ word_entries (legend_top frame.head.nodes frame.span) 0 words
-        ++ class_entries (legend_top frame.head.nodes frame.span + 118)
-        ++ mark_entries (legend_top frame.head.nodes frame.span + 118) ++ ended (codes "</svg>") ∷ []) }
+        (keep_flag layout.head.nodes layout.span keep ++ back_flag layout.head.nodes layout.span back
+        ++ word_entries (legend_top layout.head.nodes layout.span) 0 words
+        ++ class_entries (legend_top layout.head.nodes layout.span + 118)
+        ++ mark_entries (legend_top layout.head.nodes layout.span + 118) ++ ended (codes "</svg>") ∷ []) }
 {
-    let top = legend_top(frame);
-    put_keep_flag(frame, keep, sheet, out);
-    put_back_flag(frame, back, sheet, out);
+    let top = legend_top(layout);
+    put_keep_flag(layout, keep, sheet, out);
+    put_back_flag(layout, back, sheet, out);
     put_words(top, sheet, out);
     put_classes(top + 118, sheet, out);
     put_mark_entries(top + 118, sheet, out);
@@ -117,11 +117,11 @@ fn put_span<K: Sink>(trace: &Whole<'_>, shown: Shown, sheet: &mut Sheet, out: &m
 {
     let head = trace.head();
     let span = shown.span;
-    let frame = Frame { head, span };
+    let layout = Layout { head, span };
     let first = skipped(trace.slots(), span.first);
     let strange = strange_past(trace, shown, first.again());
     put_head(
-        frame,
+        layout,
         shown.is_quiet_before,
         strange,
         trace.keep(),
@@ -129,8 +129,8 @@ fn put_span<K: Sink>(trace: &Whole<'_>, shown: Shown, sheet: &mut Sheet, out: &m
         sheet,
         out,
     );
-    put_rows(trace, frame, &first, sheet, out);
-    put_rest(frame, trace.keep(), trace.back(), sheet, out);
+    put_rows(trace, layout, &first, sheet, out);
+    put_rest(layout, trace.keep(), trace.back(), sheet, out);
 }
 
 /// Writes the picture of a trace: of the slots that were asked for, as far as there are any, or of those that are

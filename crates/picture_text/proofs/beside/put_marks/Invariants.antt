@@ -6,10 +6,10 @@ abbrev pub invariant-loop-host_line : goal.invariant-loop-host_line
 invariant-loop-host_line g l =
     (fails : Bool) (now : Output)
     → Puts l.sheet.failed (g.K.Sink.output l.out) fails now (map (λ line. host_mark l.slot line
-    (column_x l.frame.head.nodes l.frame.span l.slot) (row_y l.frame.head.nodes l.frame.span l.slot (host_of line)))
+    (column_x l.layout.head.nodes l.layout.span l.slot) (row_y l.layout.head.nodes l.layout.span l.slot (host_of line)))
     l.hosts)
     → Puts l.fn.sheet.failed (g.K.Sink.output l.fn.out) fails now (map (λ line. host_mark l.slot line
-    (column_x l.frame.head.nodes l.frame.span l.slot) (row_y l.frame.head.nodes l.frame.span l.slot (host_of line)))
+    (column_x l.layout.head.nodes l.layout.span l.slot) (row_y l.layout.head.nodes l.layout.span l.slot (host_of line)))
     l.fn.shown.hosts)
 
 abbrev pub decreases-loop-host_line : goal.decreases-loop-host_line

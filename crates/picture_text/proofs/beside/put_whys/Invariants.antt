@@ -6,4 +6,4 @@ use Rattle.picture_text.proofs.beside.put_whys.Given as goal
 abbrev pub invariant-loop-number : goal.invariant-loop-number
 invariant-loop-number g l =
     Puts l.fn.sheet.failed (g.K.Sink.output l.fn.out) l.sheet.failed (g.K.Sink.output l.out)
-    (lines_below (why_lines l.frame.head.nodes l.frame.span l.slot l.shown) l.number)
+    (lines_below (why_lines l.layout.head.nodes l.layout.span l.slot l.shown) l.number)

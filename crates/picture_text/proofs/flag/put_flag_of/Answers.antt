@@ -7,12 +7,12 @@ use Rattle.picture_text.proofs.flag.put_flag_of.Goals as goal
 pub returns-then-is_shown : goal.returns-then-is_shown
 returns-then-is_shown g c =
     let same = c.back_slot-slot.ensures in
-    puts_where (is_shown c.args.frame.span (back_slot c.args.back)) _
-    (ap (is_shown c.args.frame.span) (sym same) ∙ sym c.is_shown.ensures ∙ c.if-is_shown.true)
+    puts_where (is_shown c.args.layout.span (back_slot c.args.back)) _
+    (ap (is_shown c.args.layout.span) (sym same) ∙ sym c.is_shown.ensures ∙ c.if-is_shown.true)
     (puts_two (rw same at c.make_pole.ensures) (rw same at c.make_back_flag.ensures)
     c.write.ensures c.write-then-is_shown.ensures)
 
 pub returns-else-is_shown : goal.returns-else-is_shown
 returns-else-is_shown g c =
-    puts_unless (is_shown c.args.frame.span (back_slot c.args.back)) _
-    (ap (is_shown c.args.frame.span) (sym c.back_slot-slot.ensures) ∙ sym c.is_shown.ensures ∙ c.if-is_shown.false)
+    puts_unless (is_shown c.args.layout.span (back_slot c.args.back)) _
+    (ap (is_shown c.args.layout.span) (sym c.back_slot-slot.ensures) ∙ sym c.is_shown.ensures ∙ c.if-is_shown.false)

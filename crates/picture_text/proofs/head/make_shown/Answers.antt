@@ -6,8 +6,8 @@ use Rattle.picture_text.proofs.head.make_shown.Goals as goal
 
 pub returns : goal.returns
 returns c =
-    let span = c.args.frame.span in
-    let slots = c.args.frame.head.slots in
+    let span = c.args.layout.span in
+    let slots = c.args.layout.head.slots in
     rw (
       c.close_text.ensures,
       c.put_more.ensures.text,

@@ -5,8 +5,8 @@ use Rattle.picture_text.proofs.picture.put_rest.Goals as goal
 
 pub returns : goal.returns
 returns g c =
-    let n = c.args.frame.head.nodes in
-    let span = c.args.frame.span in
+    let n = c.args.layout.head.nodes in
+    let span = c.args.layout.span in
     subst (λ (top : ℕ). Puts c.args.sheet.now.failed (g.K.Sink.output c.args.out.now) c.put.new.self.failed
     (g.K.Sink.output c.put.new.out)
     (keep_flag n span c.args.keep ++ back_flag n span c.args.back ++ word_entries top 0 words

@@ -1,12 +1,12 @@
-//! The frame of a picture, and places in it.
+//! What all places of a picture follow from, and the corners of its cells.
 ghost use Rattle.std.specs.Prelude.{◌^◌, ◌<◌, ◌≤◌};
 
 use crate::window::Span;
 use whole_trace::Head;
 
-/// The first line of the trace and the slots that are shown.
+/// The first line of the trace and the slots that are shown: where each cell stands follows from both.
 #[derive(Clone, Copy)]
-pub(crate) struct Frame {
+pub(crate) struct Layout {
     pub(crate) head: Head,
     pub(crate) span: Span,
     ghost few: { (1 ≤ head.nodes) × (head.nodes ≤ 24) },
