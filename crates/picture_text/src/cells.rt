@@ -76,16 +76,16 @@ fn refused_class(node: &NodeShown, refused: bool) -> &'static str
     }
 }
 
-/// What holds of a slot and stands in its nodes' cells: the members that most holders hold, and whether the frame is
+/// What the cells of a slot's nodes say of the slot: the members that most holders hold, and whether the frame is
 /// refused.
 #[derive(Clone, Copy)]
-struct Common {
+struct SlotFacts {
     most: Option<u32>,
     refused: bool,
 }
 
 // Adds the class of a node's cell.
-fn put_class(line: &mut Line, node: &NodeShown, common: Common)
+fn put_class(line: &mut Line, node: &NodeShown, common: SlotFacts)
     requires { length line.old ≤ 20 }
     ensures text { line.new ≡ line.old ++ node_class node.now common.most common.refused }
     ensures short { length line.new ≤ length line.old + 39 }
@@ -104,7 +104,7 @@ fn make_node_cell(
     slot: u32,
     number: u8,
     shown: &SlotShown<'_>,
-    common: Common,
+    common: SlotFacts,
 )
     ensures { line.new ≡ node_cell layout.head slot number (node_at shown.now number) common.most common.refused
         (column_x layout.head.nodes layout.span slot) (row_y layout.head.nodes layout.span slot number) }
@@ -125,7 +125,7 @@ fn put_node_cells<K: Sink>(
     layout: Layout,
     slot: u32,
     shown: &SlotShown<'_>,
-    common: Common,
+    common: SlotFacts,
     sheet: &mut Sheet,
     out: &mut K,
 )
@@ -323,7 +323,7 @@ pub(crate) fn put_cells<K: Sink>(
         (cell_lines layout.head layout.span slot shown.now) }
 {
     let found = memberships_of(shown.nodes());
-    let common = Common {
+    let common = SlotFacts {
         most: held_by_most(shown, &found),
         refused: is_refused(shown.nodes()),
     };

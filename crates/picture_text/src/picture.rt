@@ -20,7 +20,7 @@ use crate::grid::legend_top;
 use crate::head::put_head;
 use crate::layout::Layout;
 use crate::legend::{put_classes, put_mark_entries, put_words};
-use crate::walk::{Shown, skipped, span_shown, strange_past};
+use crate::walk::{Selection, skipped, span_shown, strange_past};
 use crate::window::Span;
 use ttp_base::{Failed, Sheet, Sink};
 use ttp_world::{Back, Keep};
@@ -108,7 +108,7 @@ fn put_rest<K: Sink>(layout: Layout, keep: Keep, back: Option<Back>, sheet: &mut
 }
 
 // Writes the picture of these slots.
-fn put_span<K: Sink>(trace: &Whole<'_>, shown: Shown, sheet: &mut Sheet, out: &mut K)
+fn put_span<K: Sink>(trace: &Whole<'_>, shown: Selection, sheet: &mut Sheet, out: &mut K)
     requires shown { (shown.span.first ≤ shown.span.last) × (shown.span.last < length trace.now.slots) }
     requires quiet { shown.is_quiet_before ≡ is_quiet_before shown.span.first trace.now.slots }
     requires calm { IsTrue shown.is_calm → position is_strange trace.now.slots ≡ None }

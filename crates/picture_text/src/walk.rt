@@ -10,7 +10,7 @@ use whole_trace::{Slots, Whole};
 
 /// The slots that a picture shows, and whether only quiet slots are before them.
 #[derive(Clone, Copy)]
-pub(crate) struct Shown {
+pub(crate) struct Selection {
     pub(crate) span: Span,
     pub(crate) is_quiet_before: bool,
     /// No slot of the trace is strange, where that came out when they were chosen.
@@ -19,7 +19,7 @@ pub(crate) struct Shown {
 
 // The first slot that is sought, or else 0, and whether there is none.
 #[derive(Clone, Copy)]
-struct Found {
+struct FirstSought {
     slot: u32,
     is_none: bool,
 }
@@ -54,18 +54,18 @@ pub(crate) fn skipped<'a>(slots: Slots<'a>, count: u32) -> Slots<'a>
     left
 }
 
-fn first_or_0(trace: &Whole<'_>, sought: Sought) -> Found
+fn first_or_0(trace: &Whole<'_>, sought: Sought) -> FirstSought
     requires { (1 ≤ length trace.now.slots) × (length trace.now.slots < 2 ^ 32) }
     ensures slot { result.slot ≡ first_or_0 sought trace.now.slots }
     ensures within { result.slot < length trace.now.slots }
     ensures none { IsTrue result.is_none → position (is_sought sought) trace.now.slots ≡ None }
 {
     match first_sought(trace.slots(), sought) {
-        Some(slot) => Found {
+        Some(slot) => FirstSought {
             slot,
             is_none: false,
         },
-        None => Found {
+        None => FirstSought {
             slot: 0,
             is_none: true,
         },
@@ -87,7 +87,7 @@ fn strange_behind(trace: &Whole<'_>, last: u32, from: Slots<'_>, first: u32) -> 
 }
 
 /// The first strange slot past the slots that are shown, of which the first ones of `from` are.
-pub(crate) fn strange_past(trace: &Whole<'_>, shown: Shown, from: Slots<'_>) -> Option<u32>
+pub(crate) fn strange_past(trace: &Whole<'_>, shown: Selection, from: Slots<'_>) -> Option<u32>
     requires last { (shown.span.first ≤ shown.span.last) × (shown.span.last < length trace.now.slots) }
     requires few { length trace.now.slots < 2 ^ 32 }
     requires from { from ≡ drop shown.span.first trace.now.slots }
@@ -138,7 +138,7 @@ fn span_from(nodes: u8, slots: u32, first: u32) -> Span
     }
 }
 
-fn chosen_span(trace: &Whole<'_>) -> Shown
+fn chosen_span(trace: &Whole<'_>) -> Selection
     ensures value { result.span ≡ chosen_span trace.now.head.nodes trace.now.slots }
     ensures within { (result.span.first ≤ result.span.last) × (result.span.last < length trace.now.slots) }
     ensures quiet { result.is_quiet_before ≡ is_quiet_before result.span.first trace.now.slots }
@@ -147,7 +147,7 @@ fn chosen_span(trace: &Whole<'_>) -> Shown
     let head = trace.head();
     let quiet = first_or_0(trace, Sought::Busy).slot;
     if head.slots <= quiet + 4 * columns(head.nodes) {
-        return Shown {
+        return Selection {
             span: span_from(head.nodes, head.slots, quiet),
             is_quiet_before: true,
             is_calm: false,
@@ -156,7 +156,7 @@ fn chosen_span(trace: &Whole<'_>) -> Shown
     let strange = first_or_0(trace, Sought::Strange);
     let rounds = rounds_left_out(head.nodes, head.slots, quiet, strange.slot);
     let first = quiet + u32::from(head.nodes) * rounds;
-    Shown {
+    Selection {
         span: span_from(head.nodes, head.slots, first),
         is_quiet_before: first <= quiet,
         is_calm: strange.is_none,
@@ -164,14 +164,14 @@ fn chosen_span(trace: &Whole<'_>) -> Shown
 }
 
 // The slots that were asked for, as far as there are any.
-fn asked_span(trace: &Whole<'_>, asked: Span) -> Shown
+fn asked_span(trace: &Whole<'_>, asked: Span) -> Selection
     requires { (asked.first ≤ asked.last) × (asked.first < length trace.now.slots) }
     ensures value { result.span ≡ span_shown trace.now.head.nodes trace.now.slots (Some asked) }
     ensures within { (result.span.first ≤ result.span.last) × (result.span.last < length trace.now.slots) }
     ensures quiet { result.is_quiet_before ≡ is_quiet_before result.span.first trace.now.slots }
     ensures calm { IsTrue result.is_calm → position is_strange trace.now.slots ≡ None }
 {
-    Shown {
+    Selection {
         span: Span {
             first: asked.first,
             last: asked.last.min(trace.head().slots - 1),
@@ -182,7 +182,7 @@ fn asked_span(trace: &Whole<'_>, asked: Span) -> Shown
 }
 
 /// The slots that were asked for, as far as there are any, or else those that are chosen.
-pub(crate) fn span_shown(trace: &Whole<'_>, asked: Option<Span>) -> Shown
+pub(crate) fn span_shown(trace: &Whole<'_>, asked: Option<Span>) -> Selection
     requires { IfSome asked (λ span. (span.first ≤ span.last) × (span.first < length trace.now.slots)) }
     ensures value { result.span ≡ span_shown trace.now.head.nodes trace.now.slots asked }
     ensures within { (result.span.first ≤ result.span.last) × (result.span.last < length trace.now.slots) }
