@@ -30,8 +30,8 @@ use crate::key::{put_how_to_read, put_key, put_legend, put_words_meant};
 use crate::listed::put_worst;
 use crate::marks::{count_marks, keep_asked, keep_from, marked_slot, place_in};
 use crate::size::Size;
-use crate::sums::{Sums, sums_of};
-use crate::survey::{Found, first_hidden, survey_of};
+use crate::sums::{CountsByTest, sums_of};
+use crate::survey::{Overview, first_hidden, survey_of};
 use crate::table::put_table;
 use crate::tally::Tallies;
 use crate::worst::Worst;
@@ -52,7 +52,7 @@ pub enum ChartFault {
 }
 
 // Marks the slots in which faults are tried, and gives the sums of what their pieces count.
-fn mark_tried(pieces: Pieces<'_>, marks: &mut [bool]) -> Sums
+fn mark_tried(pieces: Pieces<'_>, marks: &mut [bool]) -> CountsByTest
     requires none { (t : ℕ) → has_mark marks.old t ≡ false }
     requires kept { counts_fit (counts_sum (map (λ piece. piece.kept) pieces)) ≡ true }
     requires broken { counts_fit (counts_sum (map (λ piece. piece.broken) pieces)) ≡ true }
@@ -65,7 +65,11 @@ fn mark_tried(pieces: Pieces<'_>, marks: &mut [bool]) -> Sums
 
 // A mark for each slot of a run in which faults are tried, and the sums of what their pieces count.
 #[tactic(auto, using(crate::proofs::Slots::none_marked))]
-fn tried_marks(alloc: Global, slots: u32, pieces: Pieces<'_>) -> Result<(Vec<bool>, Sums), Memory>
+fn tried_marks(
+    alloc: Global,
+    slots: u32,
+    pieces: Pieces<'_>,
+) -> Result<(Vec<bool>, CountsByTest), Memory>
     requires kept { counts_fit (counts_sum (map (λ piece. piece.kept) pieces)) ≡ true }
     requires broken { counts_fit (counts_sum (map (λ piece. piece.broken) pieces)) ≡ true }
     ensures length { IfOk result (λ r. length r.0.items ≡ slots) }
@@ -147,8 +151,8 @@ fn put_head<K: Sink>(
     campaign: &Campaign<'_>,
     extent: Extent,
     marks: &[bool],
-    sums: Sums,
-    found: &Found,
+    sums: CountsByTest,
+    found: &Overview,
     buffer: &mut Buffer,
     sheet: &mut Sheet,
     out: &mut K,
@@ -231,7 +235,7 @@ fn put_key_and_table<K: Sink>(top: u64, counts: &[u64; 252], sheet: &mut Sheet, 
 // Writes the list of the worst, the key and the table.
 fn put_end<K: Sink>(
     extent: Extent,
-    found: &Found,
+    found: &Overview,
     worst: &Worst<'_>,
     buffer: &mut Buffer,
     sheet: &mut Sheet,
@@ -276,8 +280,8 @@ fn put_with_room<K: Sink>(
     campaign: &Campaign<'_>,
     extent: Extent,
     marks: &[bool],
-    sums: Sums,
-    found: &Found,
+    sums: CountsByTest,
+    found: &Overview,
     worst: &Worst<'_>,
     out: &mut K,
 ) -> Result<(), ChartFault>
@@ -355,7 +359,7 @@ fn shown_marks(
     size: Size,
     harm: Option<u32>,
     asked: Option<Span>,
-) -> Result<(Vec<bool>, Sums), Memory>
+) -> Result<(Vec<bool>, CountsByTest), Memory>
     requires readable { IsReadable campaign.now }
     requires size { size ≡ size_of_campaign campaign.now }
     requires nodes { (4 ≤ size.nodes) × (size.nodes ≤ 24) }

@@ -12,7 +12,7 @@ ghost use Rattle.chart_text.specs.Chart.{harm_text, hidden_text, test_meaning, c
 use crate::buffer::Buffer;
 use crate::element::put_many;
 use crate::size::Size;
-use crate::sums::Sums;
+use crate::sums::CountsByTest;
 use campaign::Counts;
 use picture_text::{
     back_meaning, close_text, open_text, open_text_of, put_field, put_keep_meaning,
@@ -146,7 +146,7 @@ fn make_counts(line: &mut Line, y: u64, place: &str, counts: &Counts)
 
 /// Writes the counts of all pieces.
 #[tactic(auto, using(ttp_base::proofs::Puts::puts))]
-pub(crate) fn put_sums<K: Sink>(sums: Sums, sheet: &mut Sheet, out: &mut K)
+pub(crate) fn put_sums<K: Sink>(sums: CountsByTest, sheet: &mut Sheet, out: &mut K)
     ensures { Puts sheet.old.failed (K.output out.old) sheet.new.failed (K.output out.new)
         (counted_lines sums.kept sums.broken) }
 {

@@ -12,7 +12,7 @@ use whole_campaign::{Pieces, no_runs};
 
 /// The sums of the counts of pieces: of the faults that the test covers, and of the others.
 #[derive(Clone, Copy)]
-pub(crate) struct Sums {
+pub(crate) struct CountsByTest {
     pub(crate) kept: Counts,
     pub(crate) broken: Counts,
 }
@@ -33,7 +33,7 @@ fn added(sum: Counts, more: Counts) -> Counts
 }
 
 /// The sums of the counts of all pieces, whose slots are marked on the way.
-pub(crate) fn sums_of(pieces: Pieces<'_>, marks: &mut [bool]) -> Sums
+pub(crate) fn sums_of(pieces: Pieces<'_>, marks: &mut [bool]) -> CountsByTest
     requires kept { counts_fit (counts_sum (map (λ piece. piece.kept) pieces)) ≡ true }
     requires broken { counts_fit (counts_sum (map (λ piece. piece.broken) pieces)) ≡ true }
     ensures marks { (t : ℕ) → t < length marks.old
@@ -42,13 +42,13 @@ pub(crate) fn sums_of(pieces: Pieces<'_>, marks: &mut [bool]) -> Sums
     ensures broken { result.broken ≡ counts_sum (map (λ piece. piece.broken) pieces.entry) }
 {
     let mut left = pieces;
-    let mut sums = Sums {
+    let mut sums = CountsByTest {
         kept: no_runs(),
         broken: no_runs(),
     };
     while let Some(piece) = left.next_piece() {
         mark_piece(marks, &piece);
-        sums = Sums {
+        sums = CountsByTest {
             kept: added(sums.kept, piece.kept),
             broken: added(sums.broken, piece.broken),
         };

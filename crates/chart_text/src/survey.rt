@@ -32,7 +32,7 @@ pub(crate) struct Survey {
 
 /// A survey of all faults, and what they come to.
 #[derive(Clone, Copy)]
-pub(crate) struct Found {
+pub(crate) struct Overview {
     pub(crate) survey: Survey,
     pub(crate) tallies: Tallies,
 }
@@ -99,7 +99,7 @@ impl Survey {
 }
 
 /// The survey of all faults, and the ten worst of them.
-pub(crate) fn survey_of<'a>(size: Size, faults: Faults<'a>, worst: &mut Worst<'a>) -> Found
+pub(crate) fn survey_of<'a>(size: Size, faults: Faults<'a>, worst: &mut Worst<'a>) -> Overview
     requires few { length faults < 2 ^ 63 }
     requires none { worst.old ≡ [] }
     ensures counts { result.survey.counts ≡ all_counts size faults.entry }
@@ -117,7 +117,7 @@ pub(crate) fn survey_of<'a>(size: Size, faults: Faults<'a>, worst: &mut Worst<'a
         tallies.note(size, &fault);
         worst.note(size, fault);
     }
-    Found { survey, tallies }
+    Overview { survey, tallies }
 }
 
 // Whether a fault is harm and its slot is not marked.
