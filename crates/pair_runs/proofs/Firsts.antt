@@ -18,7 +18,7 @@ use Rattle.fault_pairs.specs.Classes.{harm_of}
 use Rattle.fault_pairs.specs.Pairs.{seconds_of}
 use Rattle.fault_pairs.specs.PairText.{lines_of_told, pair_tolds, first_fault_line, first_fault_lines, told_of_pair}
 use Rattle.fault_pairs.specs.Sums.{PairTold, pair_counts}
-use Rattle.pair_runs.specs.declared.tried.Course.{Course}
+use Rattle.pair_runs.specs.declared.tried.FirstSetting.{FirstSetting}
 use Rattle.pair_runs.specs.Tries.{MayTryPairs, first_of, told_pair}
 use Rattle.pair_runs.specs.Written.{told_second, tolds_of_firsts, text_of_firsts}
 use Rattle.pair_runs.proofs.Groups.{tolds_later, later-few, behind-range}
@@ -35,55 +35,55 @@ left-fewer fault.Memory a c lines few = record {
 }
 
 -- what is told of its pairs
-abbrev pub pairs_of : Course → List PairTold
-pairs_of course =
-    map (told_second course)
-    (seconds_of course.common.list.now course.common.script.now course.common.within (first_of course))
+abbrev pub pairs_of : FirstSetting → List PairTold
+pairs_of setting =
+    map (told_second setting)
+    (seconds_of setting.common.list.now setting.common.script.now setting.common.within (first_of setting))
 
-pub tolds-first : (course : Course)
-    → course.first ≡ harm_of (summary_with course.common.list.now course.common.script.now course.one.now).cost
-    → pairs_of course ≡ tolds_of_firsts course.common (first_of course ∷ [])
-tolds-first course is =
-    let list = course.common.list.now in
-    let script = course.common.script.now in
-    (λ i. map (told_of_pair list script course.common.own (first_of course) (is i))
-    (seconds_of list script course.common.within (first_of course)))
-    ∙ sym (append-nil (pair_tolds list script course.common.within course.common.own (first_of course)))
+pub tolds-first : (setting : FirstSetting)
+    → setting.first ≡ harm_of (summary_with setting.common.list.now setting.common.script.now setting.one.now).cost
+    → pairs_of setting ≡ tolds_of_firsts setting.common (first_of setting ∷ [])
+tolds-first setting is =
+    let list = setting.common.list.now in
+    let script = setting.common.script.now in
+    (λ i. map (told_of_pair list script setting.common.own (first_of setting) (is i))
+    (seconds_of list script setting.common.within (first_of setting)))
+    ∙ sym (append-nil (pair_tolds list script setting.common.within setting.common.own (first_of setting)))
 
 -- there are not many
-pub pairs-few : (course : Course) → MayTryPairs course → length course.behind.now
-    ≤ 384 → length (pairs_of course) ≤ 7680384
-pairs-few course may few =
+pub pairs-few : (setting : FirstSetting) → MayTryPairs setting → length setting.behind.now
+    ≤ 384 → length (pairs_of setting) ≤ 7680384
+pairs-few setting may few =
     let slots = ap (λ (s : Script). s.slots) may.more in
-    let end = min (suc (course.slot + course.common.within)) course.more.now.slots in
-    let all : map (told_pair course 0) course.behind.now
-    ++ flat_map (tolds_later course) (range_with_len (course.slot + 1) (end - (course.slot + 1))) ≡ pairs_of course =
-    ap (λ ps. map (told_pair course 0) course.behind.now ++ ps) (behind-range course end refl)
-    ∙ seconds-told course may.more in
+    let end = min (suc (setting.slot + setting.common.within)) setting.more.now.slots in
+    let all : map (told_pair setting 0) setting.behind.now
+    ++ flat_map (tolds_later setting) (range_with_len (setting.slot + 1) (end - (setting.slot + 1))) ≡ pairs_of setting =
+    ap (λ ps. map (told_pair setting 0) setting.behind.now ++ ps) (behind-range setting end refl)
+    ∙ seconds-told setting may.more in
     let long = sym (ap length all)
-    ∙ length-append (map (told_pair course 0) course.behind.now)
-    (flat_map (tolds_later course) (range_with_len (course.slot + 1) (end - (course.slot + 1)))) in
+    ∙ length-append (map (told_pair setting 0) setting.behind.now)
+    (flat_map (tolds_later setting) (range_with_len (setting.slot + 1) (end - (setting.slot + 1)))) in
     omega (
       arith,
       long,
-      length-map course.behind.now (told_pair course 0),
-      later-few course may.may.valid (course.slot + 1) (end - (course.slot + 1)),
+      length-map setting.behind.now (told_pair setting 0),
+      later-few setting may.may.valid (setting.slot + 1) (end - (setting.slot + 1)),
       may.may.script.slots.1,
       slots,
       few,
     )
 
-pub lines-first : (course : Course)
-    → course.first ≡ harm_of (summary_with course.common.list.now course.common.script.now course.one.now).cost
-    → course.more.now ≡ with_fault course.common.script.now course.one.now
-    → lines_of_told (pairs_of course) ++ first_fault_line course.common.list.now (first_of course)
-    (summary course.common.list.now course.more.now) (pair_counts (pairs_of course)) ∷ []
-    ≡ text_of_firsts course.common (first_of course ∷ [])
-lines-first course is more =
-    let list = course.common.list.now in
-    let script = course.common.script.now in
-    let told = λ (harm : Harm). map (told_of_pair list script course.common.own (first_of course) harm)
-    (seconds_of list script course.common.within (first_of course)) in
+pub lines-first : (setting : FirstSetting)
+    → setting.first ≡ harm_of (summary_with setting.common.list.now setting.common.script.now setting.one.now).cost
+    → setting.more.now ≡ with_fault setting.common.script.now setting.one.now
+    → lines_of_told (pairs_of setting) ++ first_fault_line setting.common.list.now (first_of setting)
+    (summary setting.common.list.now setting.more.now) (pair_counts (pairs_of setting)) ∷ []
+    ≡ text_of_firsts setting.common (first_of setting ∷ [])
+lines-first setting is more =
+    let list = setting.common.list.now in
+    let script = setting.common.script.now in
+    let told = λ (harm : Harm). map (told_of_pair list script setting.common.own (first_of setting) harm)
+    (seconds_of list script setting.common.within (first_of setting)) in
     (λ i. lines_of_told (told (is i))
-    ++ first_fault_line list (first_of course) (summary list (more i)) (pair_counts (told (is i))) ∷ [])
-    ∙ sym (append-nil (first_fault_lines list script course.common.within course.common.own (first_of course)))
+    ++ first_fault_line list (first_of setting) (summary list (more i)) (pair_counts (told (is i))) ∷ [])
+    ∙ sym (append-nil (first_fault_lines list script setting.common.within setting.common.own (first_of setting)))

@@ -16,8 +16,8 @@ use Rattle.ttp_world.specs.ZerosWorld.{zeros_world}
 use Rattle.fault_pairs.specs.Pairs.{FirstFault, second_apart, firsts_among, seconds_in}
 use Rattle.fault_pairs.specs.PairText.{apart_line}
 use Rattle.fault_pairs.specs.Sums.{PairTold, told_apart, are_so_far_apart, distances}
-use Rattle.pair_runs.specs.declared.tried.Common.{Common}
-use Rattle.pair_runs.specs.declared.tried.Course.{Course}
+use Rattle.pair_runs.specs.declared.tried.PairsSetting.{PairsSetting}
+use Rattle.pair_runs.specs.declared.tried.FirstSetting.{FirstSetting}
 use Rattle.pair_runs.specs.Counted.{distances_of}
 use Rattle.pair_runs.specs.Tries.{told_pair}
 use Rattle.pair_runs.specs.Written.{first_with, told_second, tolds_behind, faults_at}
@@ -92,23 +92,23 @@ texts-next f slot faults i d inside =
 
 -- The pairs of which the second fault comes in a later slot.
 
-abbrev pub tolds_later : Course → ℕ → List PairTold
-tolds_later course later =
-    map (told_pair course (later - course.slot)) (faults_at course.common.list.now course.more.now later)
+abbrev pub tolds_later : FirstSetting → ℕ → List PairTold
+tolds_later setting later =
+    map (told_pair setting (later - setting.slot)) (faults_at setting.common.list.now setting.more.now later)
 
-later-each : (course : Course) (slots : List ℕ)
-    → map (told_second course) (flat_map (seconds_in course.common.list.now course.more.now
-    (zeros_world course.common.list.now course.more.now course.more.now.slots) course.slot) slots)
-    ≡ flat_map (tolds_later course) slots
-later-each course [] = refl
-later-each course (later ∷ slots) =
-    let list = course.common.list.now in
-    let more = course.more.now in
+later-each : (setting : FirstSetting) (slots : List ℕ)
+    → map (told_second setting) (flat_map (seconds_in setting.common.list.now setting.more.now
+    (zeros_world setting.common.list.now setting.more.now setting.more.now.slots) setting.slot) slots)
+    ≡ flat_map (tolds_later setting) slots
+later-each setting [] = refl
+later-each setting (later ∷ slots) =
+    let list = setting.common.list.now in
+    let more = setting.more.now in
     let history = zeros_world list more more.slots in
-    map-append (told_second course) (seconds_in list more history course.slot later)
-    (flat_map (seconds_in list more history course.slot) slots)
-    ∙ (λ i. map-map (told_second course) (second_apart (later - course.slot)) (faults_at list more later) i
-    ++ later-each course slots i)
+    map-append (told_second setting) (seconds_in list more history setting.slot later)
+    (flat_map (seconds_in list more history setting.slot) slots)
+    ∙ (λ i. map-map (told_second setting) (second_apart (later - setting.slot)) (faults_at list more later) i
+    ++ later-each setting slots i)
 
 -- there are not many
 flat-few : {X : Type 0} (f : ℕ → List X) (ks : List ℕ) → ((k : ℕ) → length (f k) ≤ 384)
@@ -116,29 +116,29 @@ flat-few : {X : Type 0} (f : ℕ → List X) (ks : List ℕ) → ((k : ℕ) → 
 flat-few f [] few = omega arith
 flat-few f (k ∷ ks) few = omega (arith, length-append (f k) (flat_map f ks), flat-few f ks few, few k)
 
-pub later-few : (course : Course) → IsValid course.common.list.now → (a n : ℕ)
-    → length (flat_map (tolds_later course) (range_with_len a n)) ≤ 384 * n
-later-few course valid a n =
-    let each : (later : ℕ) → length (tolds_later course later) ≤ 384 =
+pub later-few : (setting : FirstSetting) → IsValid setting.common.list.now → (a n : ℕ)
+    → length (flat_map (tolds_later setting) (range_with_len a n)) ≤ 384 * n
+later-few setting valid a n =
+    let each : (later : ℕ) → length (tolds_later setting later) ≤ 384 =
     λ later. subst (λ (m : ℕ). m ≤ 384)
-    (sym (length-map (faults_at course.common.list.now course.more.now later) (told_pair course (later - course.slot))))
-    (at-few course.common.list.now course.more.now later valid) in
-    omega (arith, flat-few (tolds_later course) (range_with_len a n) each, length-range_with_len a n)
+    (sym (length-map (faults_at setting.common.list.now setting.more.now later) (told_pair setting (later - setting.slot))))
+    (at-few setting.common.list.now setting.more.now later valid) in
+    omega (arith, flat-few (tolds_later setting) (range_with_len a n) each, length-range_with_len a n)
 
 -- they are those of the slots up to an end
-pub behind-range : (course : Course) (end : ℕ) → end
-    ≡ min (suc (course.slot + course.common.within)) course.more.now.slots
-    → flat_map (tolds_later course) (range_with_len (course.slot + 1) (end - (course.slot + 1))) ≡ tolds_behind course
-behind-range course end is =
-    let next : course.slot + 1 ≡ suc course.slot = omega arith in
-    (λ i. flat_map (tolds_later course) (range_with_len (next i) (is i - next i)))
-    ∙ ap (flat_map (tolds_later course))
-    (sym (slots-range course.more.now (suc course.slot) (course.slot + course.common.within)))
-    ∙ sym (later-each course _)
+pub behind-range : (setting : FirstSetting) (end : ℕ) → end
+    ≡ min (suc (setting.slot + setting.common.within)) setting.more.now.slots
+    → flat_map (tolds_later setting) (range_with_len (setting.slot + 1) (end - (setting.slot + 1))) ≡ tolds_behind setting
+behind-range setting end is =
+    let next : setting.slot + 1 ≡ suc setting.slot = omega arith in
+    (λ i. flat_map (tolds_later setting) (range_with_len (next i) (is i - next i)))
+    ∙ ap (flat_map (tolds_later setting))
+    (sym (slots-range setting.more.now (suc setting.slot) (setting.slot + setting.common.within)))
+    ∙ sym (later-each setting _)
 
 -- First faults of a range.
 
-pub firsts-range : (common : Common) (end : ℕ) → end ≡ min (suc common.last) common.script.now.slots
+pub firsts-range : (common : PairsSetting) (end : ℕ) → end ≡ min (suc common.last) common.script.now.slots
     → firsts_between common (min common.first end) (end - min common.first end) ≡ all_firsts common
 firsts-range common end is =
     ap (flat_map (firsts_of common)) (from-first common.first end
@@ -172,7 +172,7 @@ lines-each tolds (d ∷ ds) = by (list_any (are_so_far_apart d) tolds) (lines-ea
     by false rest = rest
 
 -- the lines of all distances are those of the distances that some pair has
-pub lines-distances : (common : Common) (tolds : List PairTold)
+pub lines-distances : (common : PairsSetting) (tolds : List PairTold)
     → distance_lines tolds (distances_of common)
     ≡ map (apart_line tolds) (distances common.script.now common.within tolds)
 lines-distances common tolds = lines-each tolds (below (distances_of common))

@@ -13,23 +13,23 @@ use Rattle.fault_pairs.specs.Classes.{has_line}
 use Rattle.fault_pairs.specs.Pairs.{second_apart, seconds_beside, seconds_behind, seconds_of}
 use Rattle.fault_pairs.specs.PairText.{lines_of_told}
 use Rattle.fault_pairs.specs.Sums.{PairTold}
-use Rattle.pair_runs.specs.declared.tried.Course.{Course}
-use Rattle.pair_runs.specs.declared.tried.Told.{Told}
+use Rattle.pair_runs.specs.declared.tried.FirstSetting.{FirstSetting}
+use Rattle.pair_runs.specs.declared.tried.PairResult.{PairResult}
 use Rattle.pair_runs.specs.Tries.{shortened, told_pair, first_of}
 use Rattle.pair_runs.specs.Written.{told_second, tolds_behind}
 use Rattle.pair_runs.proofs.Counted.{lines-append}
 
-pub line-told : (told : Told) (pair : PairTold) → told ≡ shortened pair → has_line told.class ≡ true
+pub line-told : (told : PairResult) (pair : PairTold) → told ≡ shortened pair → has_line told.class ≡ true
     → told.line ∷ [] ≡ lines_of_told (pair ∷ [])
 line-told told pair is has =
-    let here : has_line pair.class ≡ true = sym (ap (λ (t : Told). has_line t.class) is) ∙ has in
-    ap (λ (t : Told). t.line ∷ []) is ∙ ap (λ (b : Bool). cond b pair.line [] ∷ []) here
+    let here : has_line pair.class ≡ true = sym (ap (λ (t : PairResult). has_line t.class) is) ∙ has in
+    ap (λ (t : PairResult). t.line ∷ []) is ∙ ap (λ (b : Bool). cond b pair.line [] ∷ []) here
     ∙ ap (λ (b : Bool). map (λ (t : PairTold). t.line) (cond b (pair ∷ []) [])) (sym here)
 
-pub no-line : (told : Told) (pair : PairTold) → told ≡ shortened pair → has_line told.class ≡ false
+pub no-line : (told : PairResult) (pair : PairTold) → told ≡ shortened pair → has_line told.class ≡ false
     → [] ≡ lines_of_told (pair ∷ [])
 no-line told pair is has =
-    let here : has_line pair.class ≡ false = sym (ap (λ (t : Told). has_line t.class) is) ∙ has in
+    let here : has_line pair.class ≡ false = sym (ap (λ (t : PairResult). has_line t.class) is) ∙ has in
     ap (λ (b : Bool). map (λ (t : PairTold). t.line) (cond b (pair ∷ []) [])) (sym here)
 
 -- a pair that stands for none
@@ -51,14 +51,14 @@ lines-split pairs i inside =
     ∙ sym (lines-append (take (i + 1) pairs) rest) ∙ ap lines_of_told (take-append-drop (i + 1) pairs)
 
 -- all pairs of a first fault are those of its slot and those behind
-pub seconds-told : (course : Course) → course.more.now ≡ with_fault course.common.script.now course.one.now
-    → map (told_pair course 0) course.behind.now ++ tolds_behind course
-    ≡ map (told_second course)
-    (seconds_of course.common.list.now course.common.script.now course.common.within (first_of course))
-seconds-told course is =
-    let list = course.common.list.now in
-    let later = λ (s : Script). seconds_behind list s (zeros_world list s s.slots) course.slot course.common.within in
-    (λ i. sym (map-map (told_second course) (second_apart 0) course.behind.now) i
-    ++ map (told_second course) (later (is i)))
-    ∙ sym (map-append (told_second course) (seconds_beside (first_of course))
-    (later (with_fault course.common.script.now course.one.now)))
+pub seconds-told : (setting : FirstSetting) → setting.more.now ≡ with_fault setting.common.script.now setting.one.now
+    → map (told_pair setting 0) setting.behind.now ++ tolds_behind setting
+    ≡ map (told_second setting)
+    (seconds_of setting.common.list.now setting.common.script.now setting.common.within (first_of setting))
+seconds-told setting is =
+    let list = setting.common.list.now in
+    let later = λ (s : Script). seconds_behind list s (zeros_world list s s.slots) setting.slot setting.common.within in
+    (λ i. sym (map-map (told_second setting) (second_apart 0) setting.behind.now) i
+    ++ map (told_second setting) (later (is i)))
+    ∙ sym (map-append (told_second setting) (seconds_beside (first_of setting))
+    (later (with_fault setting.common.script.now setting.one.now)))

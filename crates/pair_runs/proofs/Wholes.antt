@@ -12,26 +12,26 @@ use Rattle.campaign.specs.Lines.{summary}
 use Rattle.fault_pairs.specs.Classes.{harm_of}
 use Rattle.fault_pairs.specs.PairText.{pair_tolds, first_fault_lines, pair_counts_line, sum_lines, pairs_lines}
 use Rattle.fault_pairs.specs.Sums.{PairTold, pair_counts, told_kept, told_broken}
-use Rattle.pair_runs.specs.declared.tried.Common.{Common}
+use Rattle.pair_runs.specs.declared.tried.PairsSetting.{PairsSetting}
 use Rattle.pair_runs.specs.Counted.{distances_of}
 use Rattle.pair_runs.specs.Written.{all_firsts, tolds_of_firsts, text_of_firsts}
 use Rattle.pair_runs.specs.Written.{opening_lines, ending_lines, distance_lines}
 use Rattle.pair_runs.proofs.Groups.{lines-distances}
 
-abbrev pub all_tolds : Common → List PairTold
+abbrev pub all_tolds : PairsSetting → List PairTold
 all_tolds common = tolds_of_firsts common (all_firsts common)
 
-abbrev pub behind_front : Common → Lines
+abbrev pub behind_front : PairsSetting → Lines
 behind_front common = text_of_firsts common (all_firsts common) ++ ending_lines (distances_of common) (all_tolds common)
 
-ends : (common : Common) (tolds : List PairTold)
+ends : (common : PairsSetting) (tolds : List PairTold)
     → ending_lines (distances_of common) tolds ≡ sum_lines common.script.now common.within tolds
 ends common tolds =
     ap (λ ls. ls ++ pair_counts_line (codes "kept ") (pair_counts (told_kept tolds))
     ∷ pair_counts_line (codes "broken ") (pair_counts (told_broken tolds)) ∷ []) (lines-distances common tolds)
 
 -- where the harm of the script's own run is known
-pub all-lines : (common : Common) → common.own ≡ harm_of (summary common.list.now common.script.now).cost
+pub all-lines : (common : PairsSetting) → common.own ≡ harm_of (summary common.list.now common.script.now).cost
     → opening_lines common ++ behind_front common
     ≡ pairs_lines common.list.now common.script.now common.first common.last common.within
 all-lines common own =
@@ -43,7 +43,7 @@ all-lines common own =
     ++ sum_lines script common.within (flat_map (pair_tolds list script common.within (own i)) firsts))
 
 -- where it ends in the lines of first faults
-pub left-in_firsts : (common : Common) (why : CampaignFault) (a b d : Output)
+pub left-in_firsts : (common : PairsSetting) (why : CampaignFault) (a b d : Output)
     → common.own ≡ harm_of (summary common.list.now common.script.now).cost → WroteLines a b (opening_lines common)
     → LeftBy why b d (text_of_firsts common (all_firsts common))
     → LeftFewerBy why a d (pairs_lines common.list.now common.script.now common.first common.last common.within)

@@ -8,7 +8,7 @@ use Rattle.pair_classes.specs.declared.sums.Sums.{Sums}
 use Rattle.pair_classes.specs.Ordered.{AreFewPairs}
 use Rattle.pair_classes.specs.Summed.{AreSumsOf, AreFewSums}
 use Rattle.pair_runs.specs.declared.tally.Tally.{Tally}
-use Rattle.pair_runs.specs.declared.tried.Common.{Common}
+use Rattle.pair_runs.specs.declared.tried.PairsSetting.{PairsSetting}
 
 -- a slot has no more faults than this, a first fault no more second ones, and the first faults of a slot no more pairs
 abbrev pub most_tried : ℕ
@@ -21,7 +21,7 @@ abbrev pub most_of_slot : ℕ
 most_of_slot = 2949267456
 
 -- so many distances are counted
-abbrev pub distances_of : Common → ℕ
+abbrev pub distances_of : PairsSetting → ℕ
 distances_of common = min (suc common.within) common.script.now.slots
 
 -- the sums of some pairs for so many distances, of which no count is more than so many

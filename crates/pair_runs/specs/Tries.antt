@@ -17,16 +17,16 @@ use Rattle.fault_pairs.specs.Pairs.{FirstFault, second_apart}
 use Rattle.fault_pairs.specs.PairText.{told_of_pair}
 use Rattle.fault_pairs.specs.Sums.{PairTold}
 use Rattle.pair_runs.specs.declared.singles.Single.{Single}
-use Rattle.pair_runs.specs.declared.tried.Common.{Common}
-use Rattle.pair_runs.specs.declared.tried.Course.{Course}
-use Rattle.pair_runs.specs.declared.tried.Told.{Told}
+use Rattle.pair_runs.specs.declared.tried.PairsSetting.{PairsSetting}
+use Rattle.pair_runs.specs.declared.tried.FirstSetting.{FirstSetting}
+use Rattle.pair_runs.specs.declared.tried.PairResult.{PairResult}
 
 -- what a fault costs alone
 abbrev pub IsSingle : Medl → Script → Single → Type 0
 IsSingle list script single = single.harm ≡ harm_of (summary_with list script single.fault).cost
 
 -- the script may be run with two faults more, and what its own run did is there
-pub record MayPair (common : Common) : Type 0 where
+pub record MayPair (common : PairsSetting) : Type 0 where
   pub valid : IsValid common.list.now
   pub script : IsValidScript common.list.now common.script.now
   pub room : length common.script.now.events + 1 < EVENT_LIMIT
@@ -42,28 +42,28 @@ pub record MayBegin (list : Medl) (script : Script) (slot : ℕ) (fault : Event)
   pub later : comes_later slot fault ≡ true
 
 -- a first fault that may begin in its slot
-pub record MayTryPairs (course : Course) : Type 0 where
-  pub may : MayPair course.common
-  pub slot : course.slot < course.common.script.now.slots
-  pub one : MayBegin course.common.list.now course.common.script.now course.slot course.one.now
-  pub behind : All (MayStand course.common.list.now course.common.script.now) course.behind.now
-  pub more : course.more.now ≡ with_fault course.common.script.now course.one.now
-  pub valid : IsValidScript course.common.list.now course.more.now
-  pub first : course.first ≡ harm_of (summary_with course.common.list.now course.common.script.now course.one.now).cost
+pub record MayTryPairs (setting : FirstSetting) : Type 0 where
+  pub may : MayPair setting.common
+  pub slot : setting.slot < setting.common.script.now.slots
+  pub one : MayBegin setting.common.list.now setting.common.script.now setting.slot setting.one.now
+  pub behind : All (MayStand setting.common.list.now setting.common.script.now) setting.behind.now
+  pub more : setting.more.now ≡ with_fault setting.common.script.now setting.one.now
+  pub valid : IsValidScript setting.common.list.now setting.more.now
+  pub first : setting.first ≡ harm_of (summary_with setting.common.list.now setting.common.script.now setting.one.now).cost
 
 -- the first fault
-abbrev pub first_of : Course → FirstFault
-first_of course = record { slot = course.slot; fault = course.one.now; behind = course.behind.now }
+abbrev pub first_of : FirstSetting → FirstFault
+first_of setting = record { slot = setting.slot; fault = setting.one.now; behind = setting.behind.now }
 
 -- what is told of a pair
-abbrev pub told_pair : Course → ℕ → Event → PairTold
-told_pair course apart two =
-    told_of_pair course.common.list.now course.common.script.now course.common.own (first_of course) course.first
+abbrev pub told_pair : FirstSetting → ℕ → Event → PairTold
+told_pair setting apart two =
+    told_of_pair setting.common.list.now setting.common.script.now setting.common.own (first_of setting) setting.first
     (second_apart apart two)
 
 -- so much of it is kept: the line where the class has one
-abbrev pub shortened : PairTold → Told
+abbrev pub shortened : PairTold → PairResult
 shortened told = record { yes = told.yes; class = told.class; line = if has_line told.class then told.line else [] }
 
-abbrev pub pair_tried : Course → ℕ → Event → Told
-pair_tried course apart two = shortened (told_pair course apart two)
+abbrev pub pair_tried : FirstSetting → ℕ → Event → PairResult
+pair_tried setting apart two = shortened (told_pair setting apart two)

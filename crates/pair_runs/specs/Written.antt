@@ -15,11 +15,11 @@ use Rattle.fault_pairs.specs.PairText.{pair_tolds, first_fault_lines, pairs_head
 use Rattle.fault_pairs.specs.PairText.{told_of_pair, apart_line, pair_counts_line}
 use Rattle.fault_pairs.specs.Sums.{PairTold, pair_counts, told_kept, told_broken, are_so_far_apart}
 use Rattle.ttp_world.specs.declared.script.Event.{Event}
-use Rattle.pair_runs.specs.declared.ahead.Ahead.{Ahead}
-use Rattle.pair_runs.specs.declared.put.Work.{Work}
+use Rattle.pair_runs.specs.declared.ahead.OwnAhead.{OwnAhead}
+use Rattle.pair_runs.specs.declared.put.Workspace.{Workspace}
 use Rattle.pair_runs.specs.declared.singles.Singles.{Singles}
-use Rattle.pair_runs.specs.declared.tried.Common.{Common}
-use Rattle.pair_runs.specs.declared.tried.Course.{Course}
+use Rattle.pair_runs.specs.declared.tried.PairsSetting.{PairsSetting}
+use Rattle.pair_runs.specs.declared.tried.FirstSetting.{FirstSetting}
 use Rattle.pair_runs.specs.Tries.{IsSingle, first_of}
 
 -- how many slots of singles are kept
@@ -32,12 +32,12 @@ pub record AreSingles (list : Medl) (script : Script) (rows : List Singles) : Ty
   pub each : All (λ row. All (IsSingle list script) row.all.items) rows
 
 -- the run ahead of the first faults, and what single faults cost up to its slot
-pub record IsAhead (list : Medl) (script : Script) (ahead : Ahead) : Type 0 where
+pub record IsAhead (list : Medl) (script : Script) (ahead : OwnAhead) : Type 0 where
   pub own : IsOwnAfter ahead.own list script ahead.next
   pub rows : AreSingles list script ahead.rows.items
 
 -- runs of a list, whatever they have done
-pub record IsWork (list : Medl) (work : Work) : Type 0 where
+pub record IsWorkspace (list : Medl) (work : Workspace) : Type 0 where
   pub run : IsRunOfList work.run.run list
   pub past : IsOwnOf work.past list
 
@@ -50,39 +50,39 @@ abbrev pub first_with : ℕ → Event → List Event → FirstFault
 first_with slot one behind = record { slot = slot; fault = one; behind = behind }
 
 -- what is told of a pair of a first fault, and of those of which the second comes in a later slot
-abbrev pub told_second : Course → SecondFault → PairTold
-told_second course two =
-    told_of_pair course.common.list.now course.common.script.now course.common.own (first_of course) course.first two
+abbrev pub told_second : FirstSetting → SecondFault → PairTold
+told_second setting two =
+    told_of_pair setting.common.list.now setting.common.script.now setting.common.own (first_of setting) setting.first two
 
-abbrev pub tolds_behind : Course → List PairTold
-tolds_behind course =
-    map (told_second course) (seconds_behind course.common.list.now course.more.now
-    (zeros_world course.common.list.now course.more.now course.more.now.slots) course.slot course.common.within)
+abbrev pub tolds_behind : FirstSetting → List PairTold
+tolds_behind setting =
+    map (told_second setting) (seconds_behind setting.common.list.now setting.more.now
+    (zeros_world setting.common.list.now setting.more.now setting.more.now.slots) setting.slot setting.common.within)
 
 -- the first faults of a slot, of so many slots from one on, and of the range
-abbrev pub firsts_of : Common → ℕ → List FirstFault
+abbrev pub firsts_of : PairsSetting → ℕ → List FirstFault
 firsts_of common slot = firsts_among slot (faults_at common.list.now common.script.now slot)
 
-abbrev pub firsts_between : Common → ℕ → ℕ → List FirstFault
+abbrev pub firsts_between : PairsSetting → ℕ → ℕ → List FirstFault
 firsts_between common from count = flat_map (firsts_of common) (range_with_len from count)
 
-abbrev pub all_firsts : Common → List FirstFault
+abbrev pub all_firsts : PairsSetting → List FirstFault
 all_firsts common =
     firsts_from common.list.now common.script.now
     (zeros_world common.list.now common.script.now common.script.now.slots)
     common.first common.last
 
 -- what is told of the pairs of some first faults, and their lines
-abbrev pub tolds_of_firsts : Common → List FirstFault → List PairTold
+abbrev pub tolds_of_firsts : PairsSetting → List FirstFault → List PairTold
 tolds_of_firsts common firsts =
     flat_map (pair_tolds common.list.now common.script.now common.within common.own) firsts
 
-abbrev pub text_of_firsts : Common → List FirstFault → Lines
+abbrev pub text_of_firsts : PairsSetting → List FirstFault → Lines
 text_of_firsts common firsts =
     flat_map (first_fault_lines common.list.now common.script.now common.within common.own) firsts
 
 -- the lines before those of first faults
-abbrev pub opening_lines : Common → Lines
+abbrev pub opening_lines : PairsSetting → Lines
 opening_lines common =
     pairs_head_line common.list.now common.script.now common.first common.last common.within
     ∷ own_line common.list.now (summary common.list.now common.script.now) ∷ []

@@ -8,7 +8,7 @@ ghost use Rattle.pair_runs.specs.Tries.{MayPair};
 ghost use Rattle.pair_runs.specs.Written.{slots_kept, AreSingles, IsAhead, faults_at};
 
 use crate::singles::Singles;
-use crate::tried::Common;
+use crate::tried::PairsSetting;
 use fault_runs::{OwnRun, row_of};
 use run_costs::SeenRun;
 use single_faults::faults_in;
@@ -21,7 +21,7 @@ const SLOTS_KEPT: u32 = 256;
 
 /// The script's own run, ahead of the first faults, and what single faults cost in the newest of its slots.
 #[derive(Drop)]
-pub(crate) struct Ahead {
+pub(crate) struct OwnAhead {
     own: OwnRun,
     next: u32,
     pub(crate) rows: Vec<Singles>,
@@ -63,15 +63,15 @@ fn no_rows(alloc: Global) -> Result<Vec<Singles>, Memory>
     Ok(rows)
 }
 
-impl Ahead {
+impl OwnAhead {
     /// Before the first slot.
-    pub(crate) fn new(alloc: Global, list: &Medl, script: &Script) -> Result<Ahead, Memory>
+    pub(crate) fn new(alloc: Global, list: &Medl, script: &Script) -> Result<OwnAhead, Memory>
         requires valid { IsValid list.now }
         requires script { IsValidScript list.now script.now }
         ensures ahead { IfOk result (λ ahead. IsAhead list.now script.now ahead) }
         ensures next { IfOk result (λ ahead. ahead.next ≡ 0) }
     {
-        Ok(Ahead {
+        Ok(OwnAhead {
             own: OwnRun::new(alloc, list, script)?,
             next: 0,
             rows: no_rows(alloc)?,
@@ -82,7 +82,7 @@ impl Ahead {
     fn look_at(
         &mut self,
         alloc: Global,
-        common: &Common,
+        common: &PairsSetting,
         slot: u32,
         run: &mut SeenRun,
     ) -> Result<(), Memory>
@@ -118,7 +118,7 @@ impl Ahead {
     pub(crate) fn look_to(
         &mut self,
         alloc: Global,
-        common: &Common,
+        common: &PairsSetting,
         end: u32,
         run: &mut SeenRun,
     ) -> Result<(), Memory>

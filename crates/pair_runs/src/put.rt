@@ -22,15 +22,15 @@ ghost use Rattle.pair_classes.specs.Summed.{AreSumsOf};
 ghost use Rattle.pair_runs.specs.Counted.{most_tried, most_of_first, most_of_slot, distances_of, HasFewPairs, HasFewSums};
 ghost use Rattle.pair_runs.specs.Counted.{PutPairs, PutFirsts};
 ghost use Rattle.pair_runs.specs.Tries.{IsSingle, MayPair, IsPastRun, MayBegin, MayTryPairs, first_of, told_pair, shortened};
-ghost use Rattle.pair_runs.specs.Written.{AreSingles, IsAhead, IsWork, faults_at, told_second, tolds_behind, first_with};
+ghost use Rattle.pair_runs.specs.Written.{AreSingles, IsAhead, IsWorkspace, faults_at, told_second, tolds_behind, first_with};
 ghost use Rattle.pair_runs.specs.Written.{tolds_of_firsts, text_of_firsts, firsts_of, firsts_between, all_firsts};
 ghost use Rattle.pair_runs.specs.Written.{opening_lines, ending_lines, lines_at, distance_lines};
 
-use crate::ahead::{Ahead, faults_at, place_of};
+use crate::ahead::{OwnAhead, faults_at, place_of};
 use crate::harm::harm_of;
 use crate::singles::{Single, Singles};
 use crate::tally::Tally;
-use crate::tried::{Common, Course, Told, try_beside};
+use crate::tried::{FirstSetting, PairResult, PairsSetting, try_beside};
 use campaign::Cost;
 use fault_pairs::PairCounts;
 use fault_runs::campaign_text::{Text, put_cost, put_own};
@@ -47,7 +47,7 @@ use ttp_world::{Event, Medl, Script};
 
 /// Where runs and lines are made.
 #[derive(Drop)]
-pub(crate) struct Work {
+pub(crate) struct Workspace {
     // A run that is made for one fault, and forgotten.
     run: SeenRun,
     // That of the script with the first fault.
@@ -85,7 +85,7 @@ fn put_formed<K: Sink>(
 }
 
 // How many distances are counted.
-fn distances_of(common: &Common) -> u32
+fn distances_of(common: &PairsSetting) -> u32
     requires { MayPair common.now }
     ensures { result ≡ distances_of common.now }
 {
@@ -97,7 +97,7 @@ fn distances_of(common: &Common) -> u32
 }
 
 // The slot behind the last one that pairs of a slot reach to.
-fn end_behind(common: &Common, slot: u32) -> u32
+fn end_behind(common: &PairsSetting, slot: u32) -> u32
     requires may { MayPair common.now }
     requires slot { slot < common.now.script.now.slots }
     ensures { result ≡ min (suc (slot + common.now.within)) common.now.script.now.slots }
@@ -110,7 +110,7 @@ fn end_behind(common: &Common, slot: u32) -> u32
 }
 
 // The slot behind the last one of the range.
-fn end_of(common: &Common) -> u32
+fn end_of(common: &PairsSetting) -> u32
     requires { MayPair common.now }
     ensures { result ≡ min (suc common.now.last) common.now.script.now.slots }
 {
@@ -123,7 +123,7 @@ fn end_of(common: &Common) -> u32
 
 // Counts a pair, and writes its line where it has one.
 fn put_told<K: Sink>(
-    told: &Told,
+    told: &PairResult,
     apart: u32,
     tally: &mut Tally,
     out: &mut K,
@@ -144,7 +144,7 @@ fn put_told<K: Sink>(
 
 // The same of those of a slot.
 fn put_tolds<K: Sink>(
-    all: &[Told],
+    all: &[PairResult],
     apart: u32,
     tally: &mut Tally,
     out: &mut K,
@@ -169,7 +169,7 @@ fn put_tolds<K: Sink>(
 fn put_seconds<R: Threads + Sync, K: Sink>(
     rt: &R,
     alloc: Global,
-    course: &Course,
+    setting: &FirstSetting,
     apart: u32,
     past: &SeenRun,
     singles: &[Single],
@@ -177,20 +177,20 @@ fn put_seconds<R: Threads + Sync, K: Sink>(
     tally: &mut Tally,
     out: &mut K,
 ) -> Result<(), CampaignFault>
-    requires may { MayTryPairs course.now }
-    requires past { IsPastRun course.now.common.list.now course.now.more.now past.now }
-    requires singles { All (IsSingle course.now.common.list.now course.now.common.script.now) singles.now }
-    requires faults { All (MayStand course.now.common.list.now course.now.common.script.now) faults.now }
+    requires may { MayTryPairs setting.now }
+    requires past { IsPastRun setting.now.common.list.now setting.now.more.now past.now }
+    requires singles { All (IsSingle setting.now.common.list.now setting.now.common.script.now) singles.now }
+    requires faults { All (MayStand setting.now.common.list.now setting.now.common.script.now) faults.now }
     requires count { length faults.now ≤ most_tried }
-    requires apart { apart < distances_of course.now.common }
-    requires few { (most : ℕ) × HasFewPairs (distances_of course.now.common) most tally.old × (most + most_tried < 2 ^ 62) }
+    requires apart { apart < distances_of setting.now.common }
+    requires few { (most : ℕ) × HasFewPairs (distances_of setting.now.common) most tally.old × (most + most_tried < 2 ^ 62) }
     ensures ok { OnOk result (PutPairs (K.output out.old) (K.output out.new) tally.old tally.new
-        (map (told_pair course.now apart) faults.now)) }
+        (map (told_pair setting.now apart) faults.now)) }
     ensures err { IfErr result (λ why. LeftBy why (K.output out.old) (K.output out.new)
-        (lines_of_told (map (told_pair course.now apart) faults.now))) }
+        (lines_of_told (map (told_pair setting.now apart) faults.now))) }
 {
-    let threads = course.common.threads;
-    let Ok(all) = try_beside(rt, alloc, course, apart, past, singles, faults, threads) else {
+    let threads = setting.common.threads;
+    let Ok(all) = try_beside(rt, alloc, setting, apart, past, singles, faults, threads) else {
         return Err(CampaignFault::Memory);
     };
     put_tolds(all.as_slice(), apart, tally, out)
@@ -200,37 +200,37 @@ fn put_seconds<R: Threads + Sync, K: Sink>(
 fn put_later<R: Threads + Sync, K: Sink>(
     rt: &R,
     alloc: Global,
-    course: &Course,
+    setting: &FirstSetting,
     rows: &[Singles],
     later: u32,
     past: &mut OwnRun,
     tally: &mut Tally,
     out: &mut K,
 ) -> Result<(), CampaignFault>
-    requires may { MayTryPairs course.now }
-    requires rows { AreSingles course.now.common.list.now course.now.common.script.now rows.now }
-    requires behind { course.now.slot ≤ later }
-    requires later { later < course.now.common.script.now.slots }
-    requires near { later - course.now.slot < distances_of course.now.common }
-    requires past { IsOwnAfter past.old course.now.common.list.now course.now.more.now later }
-    requires few { (most : ℕ) × HasFewPairs (distances_of course.now.common) most tally.old × (most + most_tried < 2 ^ 62) }
-    ensures past { IsOwnAfter past.new course.now.common.list.now course.now.more.now (later + 1) }
+    requires may { MayTryPairs setting.now }
+    requires rows { AreSingles setting.now.common.list.now setting.now.common.script.now rows.now }
+    requires behind { setting.now.slot ≤ later }
+    requires later { later < setting.now.common.script.now.slots }
+    requires near { later - setting.now.slot < distances_of setting.now.common }
+    requires past { IsOwnAfter past.old setting.now.common.list.now setting.now.more.now later }
+    requires few { (most : ℕ) × HasFewPairs (distances_of setting.now.common) most tally.old × (most + most_tried < 2 ^ 62) }
+    ensures past { IsOwnAfter past.new setting.now.common.list.now setting.now.more.now (later + 1) }
     ensures ok { OnOk result (PutPairs (K.output out.old) (K.output out.new) tally.old tally.new
-        (map (told_pair course.now (later - course.now.slot)) (faults_at course.now.common.list.now course.now.more.now later))) }
+        (map (told_pair setting.now (later - setting.now.slot)) (faults_at setting.now.common.list.now setting.now.more.now later))) }
     ensures err { IfErr result (λ why. LeftBy why (K.output out.old) (K.output out.new) (lines_of_told
-        (map (told_pair course.now (later - course.now.slot)) (faults_at course.now.common.list.now course.now.more.now later)))) }
+        (map (told_pair setting.now (later - setting.now.slot)) (faults_at setting.now.common.list.now setting.now.more.now later)))) }
 {
-    let (list, more) = (course.common.list, course.more);
+    let (list, more) = (setting.common.list, setting.more);
     past.step(list, more, later);
     let Ok(faults) = faults_at(alloc, list, more, past, later) else {
         return Err(CampaignFault::Memory);
     };
     let row = &rows[place_of(later)];
-    let apart = later - course.slot;
+    let apart = later - setting.slot;
     put_seconds(
         rt,
         alloc,
-        course,
+        setting,
         apart,
         &past.before,
         row.kept(),
@@ -244,23 +244,23 @@ fn put_later<R: Threads + Sync, K: Sink>(
 fn put_behind<R: Threads + Sync, K: Sink>(
     rt: &R,
     alloc: Global,
-    course: &Course,
+    setting: &FirstSetting,
     rows: &[Singles],
     past: &mut OwnRun,
     tally: &mut Tally,
     out: &mut K,
 ) -> Result<(), CampaignFault>
-    requires may { MayTryPairs course.now }
-    requires rows { AreSingles course.now.common.list.now course.now.common.script.now rows.now }
-    requires past { IsOwnAfter past.old course.now.common.list.now course.now.more.now (course.now.slot + 1) }
-    requires few { (most : ℕ) × HasFewPairs (distances_of course.now.common) most tally.old × (most + most_of_first < 2 ^ 62) }
-    ensures past { OnOk result (IsOwnOf past.new course.now.common.list.now) }
-    ensures ok { OnOk result (PutPairs (K.output out.old) (K.output out.new) tally.old tally.new (tolds_behind course.now)) }
+    requires may { MayTryPairs setting.now }
+    requires rows { AreSingles setting.now.common.list.now setting.now.common.script.now rows.now }
+    requires past { IsOwnAfter past.old setting.now.common.list.now setting.now.more.now (setting.now.slot + 1) }
+    requires few { (most : ℕ) × HasFewPairs (distances_of setting.now.common) most tally.old × (most + most_of_first < 2 ^ 62) }
+    ensures past { OnOk result (IsOwnOf past.new setting.now.common.list.now) }
+    ensures ok { OnOk result (PutPairs (K.output out.old) (K.output out.new) tally.old tally.new (tolds_behind setting.now)) }
     ensures err { IfErr result (λ why. LeftBy why (K.output out.old) (K.output out.new)
-        (lines_of_told (tolds_behind course.now))) }
+        (lines_of_told (tolds_behind setting.now))) }
 {
-    for later in course.slot + 1..end_behind(&course.common, course.slot) {
-        if let Err(why) = put_later(rt, alloc, course, rows, later, past, tally, out) {
+    for later in setting.slot + 1..end_behind(&setting.common, setting.slot) {
+        if let Err(why) = put_later(rt, alloc, setting, rows, later, past, tally, out) {
             return Err(why);
         }
     }
@@ -271,32 +271,42 @@ fn put_behind<R: Threads + Sync, K: Sink>(
 fn put_pairs_of<R: Threads + Sync, K: Sink>(
     rt: &R,
     alloc: Global,
-    course: &Course,
+    setting: &FirstSetting,
     rows: &[Singles],
     past: &mut OwnRun,
     tally: &mut Tally,
     out: &mut K,
 ) -> Result<(), CampaignFault>
-    requires may { MayTryPairs course.now }
-    requires rows { AreSingles course.now.common.list.now course.now.common.script.now rows.now }
-    requires behind { length course.now.behind.now ≤ most_tried }
-    requires past { IsOwnAfter past.old course.now.common.list.now course.now.more.now course.now.slot }
-    requires few { (most : ℕ) × HasFewPairs (distances_of course.now.common) most tally.old × (most + most_of_first < 2 ^ 61) }
-    ensures past { OnOk result (IsOwnOf past.new course.now.common.list.now) }
+    requires may { MayTryPairs setting.now }
+    requires rows { AreSingles setting.now.common.list.now setting.now.common.script.now rows.now }
+    requires behind { length setting.now.behind.now ≤ most_tried }
+    requires past { IsOwnAfter past.old setting.now.common.list.now setting.now.more.now setting.now.slot }
+    requires few { (most : ℕ) × HasFewPairs (distances_of setting.now.common) most tally.old × (most + most_of_first < 2 ^ 61) }
+    ensures past { OnOk result (IsOwnOf past.new setting.now.common.list.now) }
     ensures ok { OnOk result (PutPairs (K.output out.old) (K.output out.new) tally.old tally.new
-        (map (told_second course.now) (seconds_of course.now.common.list.now course.now.common.script.now
-        course.now.common.within (first_of course.now)))) }
+        (map (told_second setting.now) (seconds_of setting.now.common.list.now setting.now.common.script.now
+        setting.now.common.within (first_of setting.now)))) }
     ensures err { IfErr result (λ why. LeftBy why (K.output out.old) (K.output out.new) (lines_of_told
-        (map (told_second course.now) (seconds_of course.now.common.list.now course.now.common.script.now
-        course.now.common.within (first_of course.now))))) }
+        (map (told_second setting.now) (seconds_of setting.now.common.list.now setting.now.common.script.now
+        setting.now.common.within (first_of setting.now))))) }
 {
-    past.step(course.common.list, course.more, course.slot);
-    let row = &rows[place_of(course.slot)];
-    let (before, behind) = (&past.before, course.behind);
-    if let Err(why) = put_seconds(rt, alloc, course, 0, before, row.kept(), behind, tally, out) {
+    past.step(setting.common.list, setting.more, setting.slot);
+    let row = &rows[place_of(setting.slot)];
+    let (before, behind) = (&past.before, setting.behind);
+    if let Err(why) = put_seconds(
+        rt,
+        alloc,
+        setting,
+        0,
+        before,
+        row.kept(),
+        behind,
+        tally,
+        out,
+    ) {
         return Err(why);
     }
-    put_behind(rt, alloc, course, rows, past, tally, out)
+    put_behind(rt, alloc, setting, rows, past, tally, out)
 }
 
 // The line of a first fault, whose script this is.
@@ -327,38 +337,38 @@ fn put_first_line<K: Sink>(
 fn put_course<R: Threads + Sync, K: Sink>(
     rt: &R,
     alloc: Global,
-    course: &Course,
+    setting: &FirstSetting,
     cost: &Cost,
     before: &SeenRun,
     rows: &[Singles],
-    work: &mut Work,
+    work: &mut Workspace,
     tally: &mut Tally,
     out: &mut K,
 ) -> Result<(), CampaignFault>
-    requires may { MayTryPairs course.now }
-    requires cost { cost.now ≡ (summary course.now.common.list.now course.now.more.now).cost }
-    requires before { IsSeenAfter before.now course.now.common.list.now course.now.common.script.now course.now.slot }
-    requires rows { AreSingles course.now.common.list.now course.now.common.script.now rows.now }
-    requires behind { length course.now.behind.now ≤ most_tried }
-    requires work { IsWork course.now.common.list.now work.old }
-    requires few { (most : ℕ) × HasFewSums (distances_of course.now.common) most tally.old.sums × (most + most_of_first < 2 ^ 61) }
-    ensures work { OnOk result (IsWork course.now.common.list.now work.new) }
-    ensures few { (most : ℕ) → HasFewSums (distances_of course.now.common) most tally.old.sums
-        → OnOk result (HasFewSums (distances_of course.now.common) (most + most_of_first) tally.new.sums) }
+    requires may { MayTryPairs setting.now }
+    requires cost { cost.now ≡ (summary setting.now.common.list.now setting.now.more.now).cost }
+    requires before { IsSeenAfter before.now setting.now.common.list.now setting.now.common.script.now setting.now.slot }
+    requires rows { AreSingles setting.now.common.list.now setting.now.common.script.now rows.now }
+    requires behind { length setting.now.behind.now ≤ most_tried }
+    requires work { IsWorkspace setting.now.common.list.now work.old }
+    requires few { (most : ℕ) × HasFewSums (distances_of setting.now.common) most tally.old.sums × (most + most_of_first < 2 ^ 61) }
+    ensures work { OnOk result (IsWorkspace setting.now.common.list.now work.new) }
+    ensures few { (most : ℕ) → HasFewSums (distances_of setting.now.common) most tally.old.sums
+        → OnOk result (HasFewSums (distances_of setting.now.common) (most + most_of_first) tally.new.sums) }
     ensures ok { OnOk result (PutFirsts (K.output out.old) (K.output out.new) tally.old tally.new
-        (tolds_of_firsts course.now.common (first_of course.now ∷ [])) (text_of_firsts course.now.common (first_of course.now ∷ []))) }
+        (tolds_of_firsts setting.now.common (first_of setting.now ∷ [])) (text_of_firsts setting.now.common (first_of setting.now ∷ []))) }
     ensures err { IfErr result (λ why. LeftBy why (K.output out.old) (K.output out.new)
-        (text_of_firsts course.now.common (first_of course.now ∷ []))) }
+        (text_of_firsts setting.now.common (first_of setting.now ∷ []))) }
 {
-    let (list, more) = (course.common.list, course.more);
+    let (list, more) = (setting.common.list, setting.more);
     tally.begin();
-    work.past.go_on_from(before, list, more, course.one);
-    if let Err(why) = put_pairs_of(rt, alloc, course, rows, &mut work.past, tally, out) {
+    work.past.go_on_from(before, list, more, setting.one);
+    if let Err(why) = put_pairs_of(rt, alloc, setting, rows, &mut work.past, tally, out) {
         return Err(why);
     }
     put_first_line(
         list,
-        course.one,
+        setting.one,
         more,
         cost,
         &tally.counts,
@@ -371,13 +381,13 @@ fn put_course<R: Threads + Sync, K: Sink>(
 fn put_group<R: Threads + Sync, K: Sink>(
     rt: &R,
     alloc: Global,
-    common: &Common,
+    common: &PairsSetting,
     before: &SeenRun,
     rows: &[Singles],
     slot: u32,
     one: &Event,
     behind: &[Event],
-    work: &mut Work,
+    work: &mut Workspace,
     tally: &mut Tally,
     out: &mut K,
 ) -> Result<(), CampaignFault>
@@ -388,9 +398,9 @@ fn put_group<R: Threads + Sync, K: Sink>(
     requires one { MayBegin common.now.list.now common.now.script.now slot one.now }
     requires behind { All (MayStand common.now.list.now common.now.script.now) behind.now }
     requires count { length behind.now ≤ most_tried }
-    requires work { IsWork common.now.list.now work.old }
+    requires work { IsWorkspace common.now.list.now work.old }
     requires few { (most : ℕ) × HasFewSums (distances_of common.now) most tally.old.sums × (most + most_of_first < 2 ^ 61) }
-    ensures work { OnOk result (IsWork common.now.list.now work.new) }
+    ensures work { OnOk result (IsWorkspace common.now.list.now work.new) }
     ensures few { (most : ℕ) → HasFewSums (distances_of common.now) most tally.old.sums
         → OnOk result (HasFewSums (distances_of common.now) (most + most_of_first) tally.new.sums) }
     ensures ok { OnOk result (PutFirsts (K.output out.old) (K.output out.new) tally.old tally.new
@@ -407,8 +417,8 @@ fn put_group<R: Threads + Sync, K: Sink>(
     let Ok(cost) = cost_from(alloc, list, script, one, &more, before, &mut work.run) else {
         return Err(CampaignFault::Memory);
     };
-    let course = Course {
-        common: Common {
+    let setting = FirstSetting {
+        common: PairsSetting {
             list: &*list,
             script: &*script,
             first: common.first,
@@ -423,19 +433,19 @@ fn put_group<R: Threads + Sync, K: Sink>(
         first: harm_of(&cost),
         more: &more,
     };
-    put_course(rt, alloc, &course, &cost, before, rows, work, tally, out)
+    put_course(rt, alloc, &setting, &cost, before, rows, work, tally, out)
 }
 
 // All first faults of a slot.
 fn put_groups<R: Threads + Sync, K: Sink>(
     rt: &R,
     alloc: Global,
-    common: &Common,
+    common: &PairsSetting,
     before: &SeenRun,
     rows: &[Singles],
     slot: u32,
     faults: &[Event],
-    work: &mut Work,
+    work: &mut Workspace,
     tally: &mut Tally,
     out: &mut K,
 ) -> Result<(), CampaignFault>
@@ -445,9 +455,9 @@ fn put_groups<R: Threads + Sync, K: Sink>(
     requires rows { AreSingles common.now.list.now common.now.script.now rows.now }
     requires faults { All (MayBegin common.now.list.now common.now.script.now slot) faults.now }
     requires count { length faults.now ≤ most_tried }
-    requires work { IsWork common.now.list.now work.old }
+    requires work { IsWorkspace common.now.list.now work.old }
     requires few { (most : ℕ) × HasFewSums (distances_of common.now) most tally.old.sums × (most + most_of_slot < 2 ^ 60) }
-    ensures work { OnOk result (IsWork common.now.list.now work.new) }
+    ensures work { OnOk result (IsWorkspace common.now.list.now work.new) }
     ensures ok { OnOk result (PutFirsts (K.output out.old) (K.output out.new) tally.old tally.new
         (tolds_of_firsts common.now (firsts_among slot faults.now)) (text_of_firsts common.now (firsts_among slot faults.now))) }
     ensures few { (most : ℕ) → HasFewSums (distances_of common.now) most tally.old.sums
@@ -470,11 +480,11 @@ fn put_groups<R: Threads + Sync, K: Sink>(
 fn put_slot<R: Threads + Sync, K: Sink>(
     rt: &R,
     alloc: Global,
-    common: &Common,
+    common: &PairsSetting,
     slot: u32,
     own: &mut OwnRun,
-    ahead: &mut Ahead,
-    work: &mut Work,
+    ahead: &mut OwnAhead,
+    work: &mut Workspace,
     tally: &mut Tally,
     out: &mut K,
 ) -> Result<(), CampaignFault>
@@ -482,11 +492,11 @@ fn put_slot<R: Threads + Sync, K: Sink>(
     requires slot { slot < common.now.script.now.slots }
     requires own { IsOwnAfter own.old common.now.list.now common.now.script.now slot }
     requires ahead { IsAhead common.now.list.now common.now.script.now ahead.old }
-    requires work { IsWork common.now.list.now work.old }
+    requires work { IsWorkspace common.now.list.now work.old }
     requires few { (most : ℕ) × HasFewSums (distances_of common.now) most tally.old.sums × (most + most_of_slot < 2 ^ 60) }
     ensures own { IsOwnAfter own.new common.now.list.now common.now.script.now (slot + 1) }
     ensures ahead { OnOk result (IsAhead common.now.list.now common.now.script.now ahead.new) }
-    ensures work { OnOk result (IsWork common.now.list.now work.new) }
+    ensures work { OnOk result (IsWorkspace common.now.list.now work.new) }
     ensures few { (most : ℕ) → HasFewSums (distances_of common.now) most tally.old.sums
         → OnOk result (HasFewSums (distances_of common.now) (most + most_of_slot) tally.new.sums) }
     ensures ok { OnOk result (PutFirsts (K.output out.old) (K.output out.new) tally.old tally.new
@@ -534,12 +544,12 @@ fn skip(list: &Medl, script: &Script, end: u32, own: &mut OwnRun)
 fn put_range<R: Threads + Sync, K: Sink>(
     rt: &R,
     alloc: Global,
-    common: &Common,
+    common: &PairsSetting,
     from: u32,
     end: u32,
     own: &mut OwnRun,
-    ahead: &mut Ahead,
-    work: &mut Work,
+    ahead: &mut OwnAhead,
+    work: &mut Workspace,
     tally: &mut Tally,
     out: &mut K,
 ) -> Result<(), CampaignFault>
@@ -548,7 +558,7 @@ fn put_range<R: Threads + Sync, K: Sink>(
     requires from { from ≤ end }
     requires own { IsOwnAfter own.old common.now.list.now common.now.script.now from }
     requires ahead { IsAhead common.now.list.now common.now.script.now ahead.old }
-    requires work { IsWork common.now.list.now work.old }
+    requires work { IsWorkspace common.now.list.now work.old }
     requires few { HasFewSums (distances_of common.now) 0 tally.old.sums }
     ensures ok { OnOk result (PutFirsts (K.output out.old) (K.output out.new) tally.old tally.new
         (tolds_of_firsts common.now (firsts_between common.now from (end - from)))
@@ -647,7 +657,7 @@ fn put_sums<K: Sink>(
 
 // The head, and the line of the script's own run, with these words of what it cost.
 fn put_front<K: Sink>(
-    common: &Common,
+    common: &PairsSetting,
     words: &[u8],
     line: &mut Text,
     out: &mut K,
@@ -672,17 +682,17 @@ fn put_front<K: Sink>(
 fn put_slots<R: Threads + Sync, K: Sink>(
     rt: &R,
     alloc: Global,
-    common: &Common,
+    common: &PairsSetting,
     own: &mut OwnRun,
-    ahead: &mut Ahead,
-    work: &mut Work,
+    ahead: &mut OwnAhead,
+    work: &mut Workspace,
     tally: &mut Tally,
     out: &mut K,
 ) -> Result<(), CampaignFault>
     requires may { MayPair common.now }
     requires own { IsOwnAfter own.old common.now.list.now common.now.script.now 0 }
     requires ahead { IsAhead common.now.list.now common.now.script.now ahead.old }
-    requires work { IsWork common.now.list.now work.old }
+    requires work { IsWorkspace common.now.list.now work.old }
     requires few { HasFewSums (distances_of common.now) 0 tally.old.sums }
     ensures ok { OnOk result (PutFirsts (K.output out.old) (K.output out.new) tally.old tally.new
         (tolds_of_firsts common.now (all_firsts common.now)) (text_of_firsts common.now (all_firsts common.now))) }
@@ -699,11 +709,11 @@ fn put_slots<R: Threads + Sync, K: Sink>(
 fn put_lines<R: Threads + Sync, K: Sink>(
     rt: &R,
     alloc: Global,
-    common: &Common,
+    common: &PairsSetting,
     words: &[u8],
     own: &mut OwnRun,
-    ahead: &mut Ahead,
-    work: &mut Work,
+    ahead: &mut OwnAhead,
+    work: &mut Workspace,
     tally: &mut Tally,
     out: &mut K,
 ) -> Result<(), CampaignFault>
@@ -711,7 +721,7 @@ fn put_lines<R: Threads + Sync, K: Sink>(
     requires words { words.now ≡ cost_words common.now.list.now (summary common.now.list.now common.now.script.now).cost }
     requires own { IsOwnAfter own.old common.now.list.now common.now.script.now 0 }
     requires ahead { IsAhead common.now.list.now common.now.script.now ahead.old }
-    requires work { IsWork common.now.list.now work.old }
+    requires work { IsWorkspace common.now.list.now work.old }
     requires few { HasFewSums (distances_of common.now) 0 tally.old.sums }
     requires none { AreSumsOf (distances_of common.now) [] tally.old.sums }
     ensures ok { OnOk result (WroteLines (K.output out.old) (K.output out.new)
@@ -740,12 +750,12 @@ fn words_of(alloc: Global, list: &Medl, cost: &Cost) -> Result<Text, Memory>
 }
 
 // Runs that have not begun.
-fn new_work(alloc: Global, list: &Medl, script: &Script) -> Result<Work, Memory>
+fn new_work(alloc: Global, list: &Medl, script: &Script) -> Result<Workspace, Memory>
     requires valid { IsValid list.now }
     requires script { IsValidScript list.now script.now }
-    ensures { IfOk result (λ work. IsWork list.now work) }
+    ensures { IfOk result (λ work. IsWorkspace list.now work) }
 {
-    Ok(Work {
+    Ok(Workspace {
         run: SeenRun::new(alloc, list, script)?,
         past: OwnRun::new(alloc, list, script)?,
         line: Text::new(alloc),
@@ -756,7 +766,7 @@ fn new_work(alloc: Global, list: &Medl, script: &Script) -> Result<Work, Memory>
 fn put_all<R: Threads + Sync, K: Sink>(
     rt: &R,
     alloc: Global,
-    common: &Common,
+    common: &PairsSetting,
     words: &[u8],
     out: &mut K,
 ) -> Result<(), CampaignFault>
@@ -771,7 +781,7 @@ fn put_all<R: Threads + Sync, K: Sink>(
     let Ok(mut own) = OwnRun::new(alloc, list, script) else {
         return Err(CampaignFault::Memory);
     };
-    let Ok(mut ahead) = Ahead::new(alloc, list, script) else {
+    let Ok(mut ahead) = OwnAhead::new(alloc, list, script) else {
         return Err(CampaignFault::Memory);
     };
     let Ok(mut work) = new_work(alloc, list, script) else {
@@ -825,7 +835,7 @@ pub fn put_pairs<R: Threads + Sync, K: Sink>(
     let Ok(words) = words_of(alloc, list, &cost) else {
         return Err(CampaignFault::Memory);
     };
-    let common = Common {
+    let common = PairsSetting {
         list,
         script,
         first,

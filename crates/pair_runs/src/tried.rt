@@ -32,7 +32,7 @@ use ttp_world::{Back, Event, Keep, Medl, Script};
 
 /// What all pairs read.
 #[derive(Clone, Copy)]
-pub(crate) struct Common<'a> {
+pub(crate) struct PairsSetting<'a> {
     pub(crate) list: &'a Medl,
     pub(crate) script: &'a Script,
     pub(crate) first: u32,
@@ -45,8 +45,8 @@ pub(crate) struct Common<'a> {
 
 /// What all pairs of a first fault read.
 #[derive(Clone, Copy)]
-pub(crate) struct Course<'a> {
-    pub(crate) common: Common<'a>,
+pub(crate) struct FirstSetting<'a> {
+    pub(crate) common: PairsSetting<'a>,
     /// The slot, the first fault, those that are tried behind it in the slot, and what it costs alone.
     pub(crate) slot: u32,
     pub(crate) one: &'a Event,
@@ -58,7 +58,7 @@ pub(crate) struct Course<'a> {
 
 /// What is told of a pair.
 #[derive(Drop)]
-pub(crate) struct Told {
+pub(crate) struct PairResult {
     pub(crate) yes: bool,
     pub(crate) class: PairClass,
     /// Its line, where its class has one.
@@ -93,7 +93,7 @@ fn says_yes(list: &Medl, script: &Script) -> bool
 // The line of a pair of this class, so many slots apart; `both` is the script with both faults, and `cost` what its run cost.
 fn form_line(
     alloc: Global,
-    course: &Course,
+    setting: &FirstSetting,
     apart: u32,
     two: &Event,
     class: PairClass,
@@ -101,29 +101,29 @@ fn form_line(
     both: &Script,
     cost: &Cost,
 ) -> Result<Text, Memory>
-    requires may { MayTryPairs course.now }
-    requires script { IsValidScript course.now.common.list.now both.now }
+    requires may { MayTryPairs setting.now }
+    requires script { IsValidScript setting.now.common.list.now both.now }
     requires ordered { AreOrdered harms.now }
-    requires cost { cost.now ≡ (summary course.now.common.list.now both.now).cost }
+    requires cost { cost.now ≡ (summary setting.now.common.list.now both.now).cost }
     requires harm { harms.now.both ≡ harm_of cost.now }
-    ensures { IfOk result (λ line. line ≡ pair_line course.now.common.list.now class (first_of course.now)
-        (second_apart apart two.now) course.now.common.own harms.now.one harms.now.two
-        (summary course.now.common.list.now both.now)) }
+    ensures { IfOk result (λ line. line ≡ pair_line setting.now.common.list.now class (first_of setting.now)
+        (second_apart apart two.now) setting.now.common.own harms.now.one harms.now.two
+        (summary setting.now.common.list.now both.now)) }
 {
     let mut line = Text::new(alloc);
     let pair = Pair {
-        slot: course.slot,
+        slot: setting.slot,
         apart,
-        one: course.one,
+        one: setting.one,
         two,
     };
-    let list = course.common.list;
+    let list = setting.common.list;
     put_pair(
         &mut line,
         list,
         class,
         &pair,
-        &course.common.own,
+        &setting.common.own,
         harms,
         both,
         cost,
@@ -134,7 +134,7 @@ fn form_line(
 // The same where its class has one, and else none.
 fn line_of(
     alloc: Global,
-    course: &Course,
+    setting: &FirstSetting,
     apart: u32,
     two: &Event,
     class: PairClass,
@@ -142,60 +142,65 @@ fn line_of(
     both: &Script,
     cost: &Cost,
 ) -> Result<Text, Memory>
-    requires may { MayTryPairs course.now }
-    requires script { IsValidScript course.now.common.list.now both.now }
+    requires may { MayTryPairs setting.now }
+    requires script { IsValidScript setting.now.common.list.now both.now }
     requires ordered { AreOrdered harms.now }
-    requires cost { cost.now ≡ (summary course.now.common.list.now both.now).cost }
+    requires cost { cost.now ≡ (summary setting.now.common.list.now both.now).cost }
     requires harm { harms.now.both ≡ harm_of cost.now }
-    ensures { IfOk result (λ line. line ≡ (if has_line class then pair_line course.now.common.list.now class (first_of course.now)
-        (second_apart apart two.now) course.now.common.own harms.now.one harms.now.two
-        (summary course.now.common.list.now both.now) else [])) }
+    ensures { IfOk result (λ line. line ≡ (if has_line class then pair_line setting.now.common.list.now class (first_of setting.now)
+        (second_apart apart two.now) setting.now.common.own harms.now.one harms.now.two
+        (summary setting.now.common.list.now both.now) else [])) }
 {
     if has_line(class) {
-        return form_line(alloc, course, apart, two, class, harms, both, cost);
+        return form_line(alloc, setting, apart, two, class, harms, both, cost);
     }
     Ok(Text::new(alloc))
 }
 
 // What a second fault costs alone: it is known, or run from the first slot on.
-fn alone(alloc: Global, course: &Course, singles: &[Single], two: &Event) -> Result<Harm, Memory>
-    requires may { MayTryPairs course.now }
-    requires singles { All (IsSingle course.now.common.list.now course.now.common.script.now) singles.now }
-    requires two { MayStand course.now.common.list.now course.now.common.script.now two.now }
+fn alone(
+    alloc: Global,
+    setting: &FirstSetting,
+    singles: &[Single],
+    two: &Event,
+) -> Result<Harm, Memory>
+    requires may { MayTryPairs setting.now }
+    requires singles { All (IsSingle setting.now.common.list.now setting.now.common.script.now) singles.now }
+    requires two { MayStand setting.now.common.list.now setting.now.common.script.now two.now }
     ensures { IfOk result (λ harm. harm
-        ≡ harm_of (summary_with course.now.common.list.now course.now.common.script.now two.now).cost) }
+        ≡ harm_of (summary_with setting.now.common.list.now setting.now.common.script.now two.now).cost) }
 {
     match find(singles, two) {
         Some(harm) => Ok(harm),
-        None => harm_alone(alloc, course.common.list, course.common.script, two),
+        None => harm_alone(alloc, setting.common.list, setting.common.script, two),
     }
 }
 
 // What is told of a pair so many slots apart, by the script with both faults and what its run cost.
 fn told_by(
     alloc: Global,
-    course: &Course,
+    setting: &FirstSetting,
     apart: u32,
     two: &Event,
     harms: &Harms,
     both: &Script,
     cost: &Cost,
-) -> Result<Told, Memory>
-    requires may { MayTryPairs course.now }
-    requires two { MayStand course.now.common.list.now course.now.common.script.now two.now }
-    requires both { both.now ≡ with_fault course.now.more.now two.now }
-    requires script { IsValidScript course.now.common.list.now both.now }
-    requires cost { cost.now ≡ (summary course.now.common.list.now both.now).cost }
+) -> Result<PairResult, Memory>
+    requires may { MayTryPairs setting.now }
+    requires two { MayStand setting.now.common.list.now setting.now.common.script.now two.now }
+    requires both { both.now ≡ with_fault setting.now.more.now two.now }
+    requires script { IsValidScript setting.now.common.list.now both.now }
+    requires cost { cost.now ≡ (summary setting.now.common.list.now both.now).cost }
     requires harm { harms.now.both ≡ harm_of cost.now }
-    requires first { harms.now.one ≡ course.now.first }
+    requires first { harms.now.one ≡ setting.now.first }
     requires second { harms.now.two
-        ≡ harm_of (summary_with course.now.common.list.now course.now.common.script.now two.now).cost }
-    ensures { IfOk result (λ told. told ≡ pair_tried course.now apart two.now) }
+        ≡ harm_of (summary_with setting.now.common.list.now setting.now.common.script.now two.now).cost }
+    ensures { IfOk result (λ told. told ≡ pair_tried setting.now apart two.now) }
 {
-    let class = pair_class(fault_node(course.one), fault_node(two), harms);
-    let line = line_of(alloc, course, apart, two, class, harms, both, cost)?;
-    Ok(Told {
-        yes: says_yes(course.common.list, both),
+    let class = pair_class(fault_node(setting.one), fault_node(two), harms);
+    let line = line_of(alloc, setting, apart, two, class, harms, both, cost)?;
+    Ok(PairResult {
+        yes: says_yes(setting.common.list, both),
         class,
         line,
     })
@@ -204,77 +209,85 @@ fn told_by(
 // The run of a pair, whose script this is, by the run with the first fault as far as it has come. It is made in `run`.
 fn try_both(
     alloc: Global,
-    course: &Course,
+    setting: &FirstSetting,
     apart: u32,
     past: &SeenRun,
     singles: &[Single],
     two: &Event,
     both: &Script,
     run: &mut SeenRun,
-) -> Result<Told, Memory>
-    requires may { MayTryPairs course.now }
-    requires past { IsPastRun course.now.common.list.now course.now.more.now past.now }
-    requires singles { All (IsSingle course.now.common.list.now course.now.common.script.now) singles.now }
-    requires two { MayStand course.now.common.list.now course.now.common.script.now two.now }
-    requires both { both.now ≡ with_fault course.now.more.now two.now }
-    requires script { IsValidScript course.now.common.list.now both.now }
-    requires run { IsRunOfList run.old.run course.now.common.list.now }
-    ensures told { IfOk result (λ told. told ≡ pair_tried course.now apart two.now) }
-    ensures run { OnOk result (IsRunOfList run.new.run course.now.common.list.now) }
+) -> Result<PairResult, Memory>
+    requires may { MayTryPairs setting.now }
+    requires past { IsPastRun setting.now.common.list.now setting.now.more.now past.now }
+    requires singles { All (IsSingle setting.now.common.list.now setting.now.common.script.now) singles.now }
+    requires two { MayStand setting.now.common.list.now setting.now.common.script.now two.now }
+    requires both { both.now ≡ with_fault setting.now.more.now two.now }
+    requires script { IsValidScript setting.now.common.list.now both.now }
+    requires run { IsRunOfList run.old.run setting.now.common.list.now }
+    ensures told { IfOk result (λ told. told ≡ pair_tried setting.now apart two.now) }
+    ensures run { OnOk result (IsRunOfList run.new.run setting.now.common.list.now) }
 {
-    let cost = cost_from(alloc, course.common.list, course.more, two, both, past, run)?;
+    let cost = cost_from(
+        alloc,
+        setting.common.list,
+        setting.more,
+        two,
+        both,
+        past,
+        run,
+    )?;
     let harms = Harms {
         both: harm_of(&cost),
-        one: course.first,
-        two: alone(alloc, course, singles, two)?,
+        one: setting.first,
+        two: alone(alloc, setting, singles, two)?,
     };
-    told_by(alloc, course, apart, two, &harms, both, &cost)
+    told_by(alloc, setting, apart, two, &harms, both, &cost)
 }
 
 // The same of a second fault alone.
 fn try_one(
     alloc: Global,
-    course: &Course,
+    setting: &FirstSetting,
     apart: u32,
     past: &SeenRun,
     singles: &[Single],
     two: &Event,
     run: &mut SeenRun,
-) -> Result<Told, Memory>
-    requires may { MayTryPairs course.now }
-    requires past { IsPastRun course.now.common.list.now course.now.more.now past.now }
-    requires singles { All (IsSingle course.now.common.list.now course.now.common.script.now) singles.now }
-    requires two { MayStand course.now.common.list.now course.now.common.script.now two.now }
-    requires run { IsRunOfList run.old.run course.now.common.list.now }
-    ensures told { IfOk result (λ told. told ≡ pair_tried course.now apart two.now) }
-    ensures run { OnOk result (IsRunOfList run.new.run course.now.common.list.now) }
+) -> Result<PairResult, Memory>
+    requires may { MayTryPairs setting.now }
+    requires past { IsPastRun setting.now.common.list.now setting.now.more.now past.now }
+    requires singles { All (IsSingle setting.now.common.list.now setting.now.common.script.now) singles.now }
+    requires two { MayStand setting.now.common.list.now setting.now.common.script.now two.now }
+    requires run { IsRunOfList run.old.run setting.now.common.list.now }
+    ensures told { IfOk result (λ told. told ≡ pair_tried setting.now apart two.now) }
+    ensures run { OnOk result (IsRunOfList run.new.run setting.now.common.list.now) }
 {
-    more_is_valid(course.common.list, course.more, two);
-    let both = with_fault(alloc, course.more, two)?;
-    try_both(alloc, course, apart, past, singles, two, &both, run)
+    more_is_valid(setting.common.list, setting.more, two);
+    let both = with_fault(alloc, setting.more, two)?;
+    try_both(alloc, setting, apart, past, singles, two, &both, run)
 }
 
 // Adds those of some second faults, one after another.
 fn add_each(
     alloc: Global,
-    course: &Course,
+    setting: &FirstSetting,
     apart: u32,
     past: &SeenRun,
     singles: &[Single],
     faults: &[Event],
     run: &mut SeenRun,
-    all: &mut Vec<Told>,
+    all: &mut Vec<PairResult>,
 ) -> Result<(), Memory>
-    requires may { MayTryPairs course.now }
-    requires past { IsPastRun course.now.common.list.now course.now.more.now past.now }
-    requires singles { All (IsSingle course.now.common.list.now course.now.common.script.now) singles.now }
-    requires faults { All (MayStand course.now.common.list.now course.now.common.script.now) faults.now }
-    requires run { IsRunOfList run.old.run course.now.common.list.now }
+    requires may { MayTryPairs setting.now }
+    requires past { IsPastRun setting.now.common.list.now setting.now.more.now past.now }
+    requires singles { All (IsSingle setting.now.common.list.now setting.now.common.script.now) singles.now }
+    requires faults { All (MayStand setting.now.common.list.now setting.now.common.script.now) faults.now }
+    requires run { IsRunOfList run.old.run setting.now.common.list.now }
     requires none { all.old.items ≡ [] }
-    ensures { OnOk result (all.new.items ≡ map (pair_tried course.now apart) faults.now) }
+    ensures { OnOk result (all.new.items ≡ map (pair_tried setting.now apart) faults.now) }
 {
     for two in faults {
-        all.push(try_one(alloc, course, apart, past, singles, two, run)?)?;
+        all.push(try_one(alloc, setting, apart, past, singles, two, run)?)?;
     }
     Ok(())
 }
@@ -282,25 +295,25 @@ fn add_each(
 // Those of some second faults. A run is made where there are any.
 fn try_each(
     alloc: Global,
-    course: &Course,
+    setting: &FirstSetting,
     apart: u32,
     past: &SeenRun,
     singles: &[Single],
     faults: &[Event],
-) -> Result<Vec<Told>, Memory>
-    requires may { MayTryPairs course.now }
-    requires past { IsPastRun course.now.common.list.now course.now.more.now past.now }
-    requires singles { All (IsSingle course.now.common.list.now course.now.common.script.now) singles.now }
-    requires faults { All (MayStand course.now.common.list.now course.now.common.script.now) faults.now }
-    ensures { IfOk result (λ all. all.items ≡ map (pair_tried course.now apart) faults.now) }
+) -> Result<Vec<PairResult>, Memory>
+    requires may { MayTryPairs setting.now }
+    requires past { IsPastRun setting.now.common.list.now setting.now.more.now past.now }
+    requires singles { All (IsSingle setting.now.common.list.now setting.now.common.script.now) singles.now }
+    requires faults { All (MayStand setting.now.common.list.now setting.now.common.script.now) faults.now }
+    ensures { IfOk result (λ all. all.items ≡ map (pair_tried setting.now apart) faults.now) }
 {
     let mut all = Vec::new(alloc);
     if faults.is_empty() {
         return Ok(all);
     }
-    let mut run = SeenRun::new(alloc, course.common.list, course.common.script)?;
+    let mut run = SeenRun::new(alloc, setting.common.list, setting.common.script)?;
     add_each(
-        alloc, course, apart, past, singles, faults, &mut run, &mut all,
+        alloc, setting, apart, past, singles, faults, &mut run, &mut all,
     )?;
     Ok(all)
 }
@@ -313,36 +326,36 @@ fn try_each(
 pub(crate) fn try_beside<R: Threads + Sync>(
     rt: &R,
     alloc: Global,
-    course: &Course,
+    setting: &FirstSetting,
     apart: u32,
     past: &SeenRun,
     singles: &[Single],
     faults: &[Event],
     threads: usize,
-) -> Result<Vec<Told>, Memory>
-    requires may { MayTryPairs course.now }
-    requires past { IsPastRun course.now.common.list.now course.now.more.now past.now }
-    requires singles { All (IsSingle course.now.common.list.now course.now.common.script.now) singles.now }
-    requires faults { All (MayStand course.now.common.list.now course.now.common.script.now) faults.now }
-    ensures { IfOk result (λ all. all.items ≡ map (pair_tried course.now apart) faults.now) }
+) -> Result<Vec<PairResult>, Memory>
+    requires may { MayTryPairs setting.now }
+    requires past { IsPastRun setting.now.common.list.now setting.now.more.now past.now }
+    requires singles { All (IsSingle setting.now.common.list.now setting.now.common.script.now) singles.now }
+    requires faults { All (MayStand setting.now.common.list.now setting.now.common.script.now) faults.now }
+    ensures { IfOk result (λ all. all.items ≡ map (pair_tried setting.now apart) faults.now) }
 {
     if threads < 2 || faults.len() < 2 {
-        return try_each(alloc, course, apart, past, singles, faults);
+        return try_each(alloc, setting, apart, past, singles, faults);
     }
     let (front, back) = faults.split_at(faults.len() / 2);
     let half = threads - threads / 2;
-    let try_front = || -> Result<Vec<Told>, Memory>
-        requires { IsSync R.row × MayTryPairs course.now × IsPastRun course.now.common.list.now course.now.more.now past.now
-            × All (IsSingle course.now.common.list.now course.now.common.script.now) singles.now
-            × All (MayStand course.now.common.list.now course.now.common.script.now) front.now }
-        ensures { IfOk result (λ all. all.items ≡ map (pair_tried course.entry.now apart) front.entry.now) }
-    { try_beside(rt, alloc, course, apart, past, singles, front, half) };
-    let try_back = || -> Result<Vec<Told>, Memory>
-        requires { IsSync R.row × MayTryPairs course.now × IsPastRun course.now.common.list.now course.now.more.now past.now
-            × All (IsSingle course.now.common.list.now course.now.common.script.now) singles.now
-            × All (MayStand course.now.common.list.now course.now.common.script.now) back.now }
-        ensures { IfOk result (λ all. all.items ≡ map (pair_tried course.entry.now apart) back.entry.now) }
-    { try_beside(rt, alloc, course, apart, past, singles, back, half) };
+    let try_front = || -> Result<Vec<PairResult>, Memory>
+        requires { IsSync R.row × MayTryPairs setting.now × IsPastRun setting.now.common.list.now setting.now.more.now past.now
+            × All (IsSingle setting.now.common.list.now setting.now.common.script.now) singles.now
+            × All (MayStand setting.now.common.list.now setting.now.common.script.now) front.now }
+        ensures { IfOk result (λ all. all.items ≡ map (pair_tried setting.entry.now apart) front.entry.now) }
+    { try_beside(rt, alloc, setting, apart, past, singles, front, half) };
+    let try_back = || -> Result<Vec<PairResult>, Memory>
+        requires { IsSync R.row × MayTryPairs setting.now × IsPastRun setting.now.common.list.now setting.now.more.now past.now
+            × All (IsSingle setting.now.common.list.now setting.now.common.script.now) singles.now
+            × All (MayStand setting.now.common.list.now setting.now.common.script.now) back.now }
+        ensures { IfOk result (λ all. all.items ≡ map (pair_tried setting.entry.now apart) back.entry.now) }
+    { try_beside(rt, alloc, setting, apart, past, singles, back, half) };
     let (first, second) = join(rt, try_front, try_back);
     let mut all = first?;
     let mut rest = second?;

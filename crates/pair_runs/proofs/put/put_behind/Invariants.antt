@@ -9,7 +9,7 @@ use Rattle.pair_runs.proofs.put.put_behind.Given as goal
 -- the pairs of the slots so far were counted, and their lines written
 abbrev pub invariant-loop-later : goal.invariant-loop-later
 invariant-loop-later g l = record {
-  past : IsOwnAfter l.past l.course.common.list.now l.course.more.now l.later;
+  past : IsOwnAfter l.past l.setting.common.list.now l.setting.more.now l.later;
   put : PutPairs (g.K.Sink.output l.initial.out) (g.K.Sink.output l.out) l.initial.tally l.tally
-      (flat_map (tolds_later l.course) (range_with_len (l.course.slot + 1) (l.later - (l.course.slot + 1))));
+      (flat_map (tolds_later l.setting) (range_with_len (l.setting.slot + 1) (l.later - (l.setting.slot + 1))));
 }

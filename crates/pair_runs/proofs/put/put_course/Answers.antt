@@ -32,24 +32,24 @@ go_on_from-requires-clause-slots g c =
 
 pub go_on_from-requires-clause-other : goal.go_on_from-requires-clause-other
 go_on_from-requires-clause-other g c =
-    let course = c.args.course.now in
-    seen-of c.args.before.now course.common.list.now course.common.script.now course.slot c.requires.before
+    let setting = c.args.setting.now in
+    seen-of c.args.before.now setting.common.list.now setting.common.script.now setting.slot c.requires.before
 
 pub put_pairs_of-requires-clause-past : goal.put_pairs_of-requires-clause-past
 put_pairs_of-requires-clause-past g c κs within =
-    let course = c.args.course.now in
-    let list = course.common.list.now in
-    let script = course.common.script.now in
+    let setting = c.args.setting.now in
+    let list = setting.common.list.now in
+    let script = setting.common.script.now in
     let before = c.requires.before in
     let count = before.count in
-    subst (λ (n : ℕ). IsOwnAfter c.go_on_from.new.self list course.more.now n) count
+    subst (λ (n : ℕ). IsOwnAfter c.go_on_from.new.self list setting.more.now n) count
     (c.go_on_from.ensures script c.requires.may.more
-    (subst (λ (n : ℕ). comes_later n course.one.now ≡ true) (sym count) c.requires.may.one.later)
+    (subst (λ (n : ℕ). comes_later n setting.one.now ≡ true) (sym count) c.requires.may.one.later)
     (subst (λ (n : ℕ). IsSeenAfter c.args.before.now list script n) (sym count) before))
 
 pub put_pairs_of-requires-clause-few : goal.put_pairs_of-requires-clause-few
 put_pairs_of-requires-clause-few g c κs within =
-    let distances = distances_of c.args.course.now.common in (
+    let distances = distances_of c.args.setting.now.common in (
       c.requires.few.0,
       record {
         sums = subst (λ (s : Sums). HasFewSums distances c.requires.few.0 s)
@@ -61,10 +61,10 @@ put_pairs_of-requires-clause-few g c κs within =
 
 pub returns-in-Err-clause-err : goal.returns-in-Err-clause-err
 returns-in-Err-clause-err g c =
-    let course = c.args.course.now in
+    let setting = c.args.setting.now in
     subst (λ (lines : Lines). LeftBy c.in-Err.why (g.K.Sink.output c.args.out.now)
     (g.K.Sink.output c.put_pairs_of.new.out) lines)
-    (lines-first course c.requires.may.first c.requires.may.more)
+    (lines-first setting c.requires.may.first c.requires.may.more)
     (leaves-more c.in-Err.why (g.K.Sink.output c.args.out.now)
     (g.K.Sink.output c.put_pairs_of.new.out) _ _ c.in-Err.ensures.err)
 
@@ -74,59 +74,59 @@ returns-clause-work g c =
 
 pub returns-clause-ok : goal.returns-clause-ok
 returns-clause-ok g c =
-    let course = c.args.course.now in
-    let list = course.common.list.now in
-    let told = map (told_second course)
-    (seconds_of list course.common.script.now course.common.within (first_of course)) in
+    let setting = c.args.setting.now in
+    let list = setting.common.list.now in
+    let told = map (told_second setting)
+    (seconds_of list setting.common.script.now setting.common.within (first_of setting)) in
     let o = g.K.Sink.output c.args.out.now in
     let p = g.K.Sink.output c.put_pairs_of.new.out in
     let q = g.K.Sink.output c.put_first_line.new.out in
     let u = c.put_pairs_of.new.tally in
     let put = c.in_default.ensures.ok in
-    let line = λ (counts : PairCounts). first_fault_line list (first_of course) (summary list course.more.now) counts in
+    let line = λ (counts : PairCounts). first_fault_line list (first_of setting) (summary list setting.more.now) counts in
     let counted = put.counts [] c.begin.ensures.counts in
     ok-weaker (WroteLines p q (line u.counts ∷ [])) (PutFirsts o q c.args.tally.now u _ _) c.put_first_line.result
     (λ wrote. record {
       wrote = subst (λ (lines : Lines). WroteLines o q lines)
           (ap (λ (counts : PairCounts). lines_of_told told ++ line counts ∷ []) counted
-          ∙ lines-first course c.requires.may.first c.requires.may.more)
+          ∙ lines-first setting c.requires.may.first c.requires.may.more)
           (Wrote-join o p q (lines_of_told told) (line u.counts ∷ []) put.wrote wrote);
       sums = subst (λ (ps : List PairTold). AddsTo c.args.tally.now.sums u.sums ps)
-          (tolds-first course c.requires.may.first)
+          (tolds-first setting c.requires.may.first)
           (subst (λ (s : Sums). AddsTo s u.sums told) c.begin.ensures.sums put.sums);
     })
-    (c.put_first_line.ensures.ok (first_of course) refl)
+    (c.put_first_line.ensures.ok (first_of setting) refl)
 
 pub returns-clause-err : goal.returns-clause-err
 returns-clause-err g c =
-    let course = c.args.course.now in
-    let list = course.common.list.now in
-    let told = map (told_second course)
-    (seconds_of list course.common.script.now course.common.within (first_of course)) in
+    let setting = c.args.setting.now in
+    let list = setting.common.list.now in
+    let told = map (told_second setting)
+    (seconds_of list setting.common.script.now setting.common.within (first_of setting)) in
     let o = g.K.Sink.output c.args.out.now in
     let p = g.K.Sink.output c.put_pairs_of.new.out in
     let q = g.K.Sink.output c.put_first_line.new.out in
     let u = c.put_pairs_of.new.tally in
     let put = c.in_default.ensures.ok in
-    let line = λ (counts : PairCounts). first_fault_line list (first_of course) (summary list course.more.now) counts in
+    let line = λ (counts : PairCounts). first_fault_line list (first_of setting) (summary list setting.more.now) counts in
     let counted = put.counts [] c.begin.ensures.counts in
     err-weaker (λ (why : CampaignFault). LeftFewerBy why p q (line u.counts ∷ []))
     (λ (why : CampaignFault). LeftBy why o q _)
     c.put_first_line.result
     (λ why few. subst (λ (lines : Lines). LeftBy why o q lines)
     (ap (λ (counts : PairCounts). lines_of_told told ++ line counts ∷ []) counted
-    ∙ lines-first course c.requires.may.first c.requires.may.more)
+    ∙ lines-first setting c.requires.may.first c.requires.may.more)
     (leaves-after why o p q (lines_of_told told) (line u.counts ∷ []) put.wrote
     (left-fewer why p q (line u.counts ∷ []) few)))
-    (c.put_first_line.ensures.err (first_of course) refl)
+    (c.put_first_line.ensures.err (first_of setting) refl)
 
 pub returns-clause-few : goal.returns-clause-few
 returns-clause-few g c = λ most has.
-    let course = c.args.course.now in
-    let distances = distances_of course.common in
-    let told = pairs_of course in
+    let setting = c.args.setting.now in
+    let distances = distances_of setting.common in
+    let told = pairs_of setting in
     let u = c.put_pairs_of.new.tally in
-    let few = pairs-few course c.requires.may c.requires.behind in
+    let few = pairs-few setting c.requires.may c.requires.behind in
     ok-always _ c.put_first_line.result
     (sums-weaker distances (most + length told) (most + most_of_first) u.sums
     (c.in_default.ensures.ok.sums.few distances most

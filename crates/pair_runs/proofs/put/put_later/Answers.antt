@@ -25,8 +25,8 @@ bounds-rows-place_of g c = omega (arith, c.place_of.ensures, c.requires.rows.cou
 
 pub put_seconds-requires-clause-singles : goal.put_seconds-requires-clause-singles
 put_seconds-requires-clause-singles g c κs within =
-    let list = c.args.course.now.common.list.now in
-    let script = c.args.course.now.common.script.now in
+    let list = c.args.setting.now.common.list.now in
+    let script = c.args.setting.now.common.script.now in
     subst (λ (all : List Single). All (IsSingle list script) all) (sym c.kept.ensures)
     (subst (λ (row : Singles). All (IsSingle list script) row.all.items) (sym c.index-rows-place_of.is)
     (c.requires.rows.each c.place_of.result c.index-rows-place_of.result
@@ -34,30 +34,30 @@ put_seconds-requires-clause-singles g c κs within =
 
 pub put_seconds-requires-clause-faults : goal.put_seconds-requires-clause-faults
 put_seconds-requires-clause-faults g c κs within =
-    let course = c.args.course.now in
+    let setting = c.args.setting.now in
     rw (c.as_slice.ensures, c.in-Ok.ensures)
-    (at-stand course.common.list.now course.common.script.now course.more.now course.one.now c.args.later
+    (at-stand setting.common.list.now setting.common.script.now setting.more.now setting.one.now c.args.later
     c.requires.may.may.valid c.requires.later c.requires.may.more)
 
 pub put_seconds-requires-clause-count : goal.put_seconds-requires-clause-count
 put_seconds-requires-clause-count g c κs within =
-    let course = c.args.course.now in
+    let setting = c.args.setting.now in
     rw (c.as_slice.ensures, c.in-Ok.ensures)
-    (at-few course.common.list.now course.more.now c.args.later c.requires.may.may.valid)
+    (at-few setting.common.list.now setting.more.now c.args.later c.requires.may.may.valid)
 
 pub returns-clause-ok : goal.returns-clause-ok
 returns-clause-ok g c =
-    let course = c.args.course.now in
+    let setting = c.args.setting.now in
     subst (λ (faults : List Event). OnOk c.put_seconds.result (PutPairs (g.K.Sink.output c.args.out.now)
     (g.K.Sink.output c.put_seconds.new.out) c.args.tally.now c.put_seconds.new.tally
-    (map (told_pair course (c.args.later - course.slot)) faults)))
+    (map (told_pair setting (c.args.later - setting.slot)) faults)))
     (c.as_slice.ensures ∙ c.in-Ok.ensures) c.put_seconds.ensures.ok
 
 pub returns-clause-err : goal.returns-clause-err
 returns-clause-err g c =
-    let course = c.args.course.now in
+    let setting = c.args.setting.now in
     subst (λ (faults : List Event).
     IfErr c.put_seconds.result (λ (why : CampaignFault). LeftBy why (g.K.Sink.output c.args.out.now)
     (g.K.Sink.output c.put_seconds.new.out)
-    (lines_of_told (map (told_pair course (c.args.later - course.slot)) faults))))
+    (lines_of_told (map (told_pair setting (c.args.later - setting.slot)) faults))))
     (c.as_slice.ensures ∙ c.in-Ok.ensures) c.put_seconds.ensures.err

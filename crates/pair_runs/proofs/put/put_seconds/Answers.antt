@@ -10,19 +10,19 @@ use Rattle.pair_runs.proofs.put.put_seconds.Goals as goal
 
 pub put_tolds-requires-clause-count : goal.put_tolds-requires-clause-count
 put_tolds-requires-clause-count g c =
-    let all : c.as_slice.result.now ≡ map (pair_tried c.args.course.now c.args.apart) c.args.faults.now =
+    let all : c.as_slice.result.now ≡ map (pair_tried c.args.setting.now c.args.apart) c.args.faults.now =
     c.as_slice.ensures.value ∙ c.in-Ok.ensures in
     subst (λ (n : ℕ). n ≤ most_tried)
-    (sym (ap length all ∙ length-map c.args.faults.now (pair_tried c.args.course.now c.args.apart)))
+    (sym (ap length all ∙ length-map c.args.faults.now (pair_tried c.args.setting.now c.args.apart)))
     c.requires.count
 
 pub put_tolds-requires-clause-few : goal.put_tolds-requires-clause-few
 put_tolds-requires-clause-few g c =
-    (distances_of c.args.course.now.common, c.requires.few.0, c.requires.few.1, c.requires.apart, c.requires.few.2)
+    (distances_of c.args.setting.now.common, c.requires.few.0, c.requires.few.1, c.requires.apart, c.requires.few.2)
 
 pub returns-clause-ok : goal.returns-clause-ok
 returns-clause-ok g c =
-    let told = told_pair c.args.course.now c.args.apart in
+    let told = told_pair c.args.setting.now c.args.apart in
     let faults = c.args.faults.now in
     let all = c.as_slice.ensures.value ∙ c.in-Ok.ensures ∙ sym (map-map shortened told faults) in
     c.put_tolds.ensures.ok (map told faults) all
@@ -30,7 +30,7 @@ returns-clause-ok g c =
 
 pub returns-clause-err : goal.returns-clause-err
 returns-clause-err g c =
-    let told = told_pair c.args.course.now c.args.apart in
+    let told = told_pair c.args.setting.now c.args.apart in
     let faults = c.args.faults.now in
     let all = c.as_slice.ensures.value ∙ c.in-Ok.ensures ∙ sym (map-map shortened told faults) in
     c.put_tolds.ensures.err (map told faults) all

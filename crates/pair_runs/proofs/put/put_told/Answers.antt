@@ -7,7 +7,7 @@ use Rattle.fault_runs.specs.declared.put.CampaignFault.{CampaignFault}
 use Rattle.fault_runs.specs.Ends.{LeftBy}
 use Rattle.fault_runs.proofs.Results.{ok-weaker}
 use Rattle.fault_pairs.specs.Sums.{PairTold}
-use Rattle.pair_runs.specs.declared.tried.Told.{Told}
+use Rattle.pair_runs.specs.declared.tried.PairResult.{PairResult}
 use Rattle.pair_runs.specs.Counted.{PutPairs}
 use Rattle.pair_runs.proofs.Told.{line-told, no-line}
 use Rattle.pair_runs.proofs.put.put_told.Goals as goal
@@ -35,8 +35,8 @@ returns-then-has_line-clause-ok g c = λ pair is at.
     let told = c.args.told.now in
     let o = g.K.Sink.output c.args.out.now in
     let p = g.K.Sink.output c.write.new.out in
-    let yes : pair.yes ≡ told.yes = sym (ap (λ (t : Told). t.yes) is) in
-    let class = ap (λ (t : Told). t.class) is in
+    let yes : pair.yes ≡ told.yes = sym (ap (λ (t : PairResult). t.yes) is) in
+    let class = ap (λ (t : PairResult). t.class) is in
     let same = ap (λ (line : List ℕ). line ∷ []) c.bytes.ensures
     ∙ line-told told pair is (sym c.has_line.ensures ∙ c.if-has_line.true) in
     ok-weaker (WroteLines o p (c.bytes.result.now ∷ []))
@@ -63,8 +63,8 @@ pub returns-clause-ok : goal.returns-clause-ok
 returns-clause-ok g c = λ pair is at.
     let told = c.args.told.now in
     let o = g.K.Sink.output c.args.out.now in
-    let yes : pair.yes ≡ told.yes = sym (ap (λ (t : Told). t.yes) is) in
-    let class = ap (λ (t : Told). t.class) is in
+    let yes : pair.yes ≡ told.yes = sym (ap (λ (t : PairResult). t.yes) is) in
+    let class = ap (λ (t : PairResult). t.class) is in
     record {
       wrote = subst (λ (lines : Lines). WroteLines o o lines)
           (no-line told pair is (sym c.has_line.ensures ∙ c.if-has_line.false)) (Wrote-none o);

@@ -4,7 +4,7 @@ use Rattle.std.specs.Prelude.{map}
 use Rattle.std.proofs.lemmas.List.{length-map, get_or-map, take_more}
 use Rattle.fault_pairs.specs.PairText.{lines_of_told}
 use Rattle.fault_pairs.specs.Sums.{PairTold}
-use Rattle.pair_runs.specs.declared.tried.Told.{Told}
+use Rattle.pair_runs.specs.declared.tried.PairResult.{PairResult}
 use Rattle.pair_runs.specs.Counted.{PutPairs}
 use Rattle.pair_runs.specs.Tries.{shortened}
 use Rattle.pair_runs.proofs.Counted.{few-weaker, pairs-none, pairs-join, left-in}
@@ -32,13 +32,13 @@ put_told-requires g c =
     }
 
 -- the pair of the run that is told
-one-of : (pairs : List PairTold) (all : List Told) (told : Told) (i : ℕ) → all
+one-of : (pairs : List PairTold) (all : List PairResult) (told : PairResult) (i : ℕ) → all
     ≡ map shortened pairs → told ≡ get_or all i told
     → i < length all → (i < length pairs) × (told ≡ shortened (get_or pairs i no_told))
 one-of pairs all told i are is inside =
     let within : i < length pairs = omega (arith, ap length are, length-map pairs shortened, inside) in (
       within,
-      is ∙ ap (λ (xs : List Told). get_or xs i told) are ∙ get_or-map shortened pairs i no_told told within,
+      is ∙ ap (λ (xs : List PairResult). get_or xs i told) are ∙ get_or-map shortened pairs i no_told told within,
     )
 
 pub loop-told-preserved : goal.loop-told-preserved

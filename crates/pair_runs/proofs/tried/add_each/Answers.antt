@@ -7,7 +7,7 @@ use Rattle.pair_runs.proofs.tried.add_each.Goals as goal
 
 pub loop-two-preserved : goal.loop-two-preserved
 loop-two-preserved c =
-    let tried = pair_tried c.args.course.now c.args.apart in
+    let tried = pair_tried c.args.setting.now c.args.apart in
     let faults = c.args.faults.now in
     let i = c.loop-two.two-index in
     let two = c.two-item.result in

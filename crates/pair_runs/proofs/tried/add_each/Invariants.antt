@@ -7,5 +7,5 @@ use Rattle.pair_runs.proofs.tried.add_each.Given as goal
 -- those so far
 abbrev pub invariant-loop-two : goal.invariant-loop-two
 invariant-loop-two l =
-    (l.all.items ≡ map (pair_tried l.course l.apart) (take l.two-index l.faults))
-    × IsRunOfList l.run.run l.course.common.list.now
+    (l.all.items ≡ map (pair_tried l.setting l.apart) (take l.two-index l.faults))
+    × IsRunOfList l.run.run l.setting.common.list.now

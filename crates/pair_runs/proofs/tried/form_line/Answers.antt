@@ -9,15 +9,15 @@ use Rattle.pair_runs.proofs.tried.form_line.Goals as goal
 
 pub put_pair-requires-clause-hurt : goal.put_pair-requires-clause-hurt
 put_pair-requires-clause-hurt c =
-    cost-ordered c.args.course.now.common.list.now c.args.both.now c.args.cost.now
+    cost-ordered c.args.setting.now.common.list.now c.args.both.now c.args.cost.now
     c.requires.may.may.valid c.requires.cost
 
 pub returns : goal.returns
 returns c =
-    let list = c.args.course.now.common.list.now in
-    let line = λ (cost : Cost). pair_line list c.args.class (first_of c.args.course.now)
-    (second_apart c.args.apart c.args.two.now) c.args.course.now.common.own c.args.harms.now.one c.args.harms.now.two
+    let list = c.args.setting.now.common.list.now in
+    let line = λ (cost : Cost). pair_line list c.args.class (first_of c.args.setting.now)
+    (second_apart c.args.apart c.args.two.now) c.args.setting.now.common.own c.args.harms.now.one c.args.harms.now.two
     (told_summary list c.args.both.now cost) in
-    c.in_ok-put_pair.ensures (first_of c.args.course.now) refl refl
+    c.in_ok-put_pair.ensures (first_of c.args.setting.now) refl refl
     ∙ ap (λ (old : List ℕ). old ++ line c.args.cost.now) c.new-line.ensures
     ∙ ap line c.requires.cost

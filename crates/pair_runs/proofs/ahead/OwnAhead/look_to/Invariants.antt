@@ -1,7 +1,7 @@
 use Rattle.std.proofs.Common.{◌≡◌}
 use Rattle.run_costs.specs.Standing.{IsRunOfList}
 use Rattle.pair_runs.specs.Written.{IsAhead}
-use Rattle.pair_runs.proofs.ahead.Ahead.look_to.Given as goal
+use Rattle.pair_runs.proofs.ahead.OwnAhead.look_to.Given as goal
 
 -- it has come to this slot
 abbrev pub invariant-loop-slot : goal.invariant-loop-slot

@@ -4,7 +4,7 @@ use Rattle.std.proofs.lemmas.List.Elements.{All-set}
 use Rattle.pair_runs.specs.declared.singles.Singles.{Singles}
 use Rattle.pair_runs.specs.Tries.{IsSingle}
 use Rattle.pair_runs.proofs.Begins.{at-stands}
-use Rattle.pair_runs.proofs.ahead.Ahead.look_at.Goals as goal
+use Rattle.pair_runs.proofs.ahead.OwnAhead.look_at.Goals as goal
 
 pub of-requires-clause-faults : goal.of-requires-clause-faults
 of-requires-clause-faults c =
