@@ -12,7 +12,7 @@ use Rattle.campaign.specs.Lines.{summary, summary_with, run_line, is_same_cost}
 use Rattle.run_costs.specs.Standing.{IsRunOfList, IsSeenAfter}
 use Rattle.fault_runs.specs.Merging.{IsSettledFrom}
 use Rattle.fault_runs.specs.declared.own.OwnRun.{OwnRun}
-use Rattle.fault_runs.specs.declared.tried.Common.{Common}
+use Rattle.fault_runs.specs.declared.tried.CampaignSetting.{CampaignSetting}
 use Rattle.fault_runs.specs.declared.tried.Tried.{Tried}
 
 -- the script's own run has done so many slots, and what it was before stands beside it
@@ -27,7 +27,7 @@ pub record IsOwnOf (own : OwnRun) (list : Medl) : Type 0 where
 
 -- the script may be run with one fault more; there are the words of what its own run costs, from which slot on that is
 -- settled, and the memberships that are left in it
-pub record MayTry (common : Common) : Type 0 where
+pub record MayTry (common : CampaignSetting) : Type 0 where
   pub valid : IsValid common.list.now
   pub script : IsValidScript common.list.now common.script.now
   pub room : length common.script.now.events < EVENT_LIMIT

@@ -10,7 +10,7 @@ ghost use Rattle.run_costs.specs.States.{state_at};
 ghost use Rattle.fault_runs.specs.Merging.{is_loss_in, is_waiting, IsSameDeed, IsOwnIn};
 ghost use Rattle.fault_runs.specs.Tries.{MayTry};
 
-use crate::tried::Common;
+use crate::tried::CampaignSetting;
 use campaign::Cost;
 use run_costs::{SeenRun, cost_from};
 use std::alloc::Global;
@@ -143,7 +143,7 @@ fn may_merge(slot: u32, event: &Event, settled: u32) -> bool
 // What the run of a script with a loss in this slot alone costs, by the script's own run, which is settled behind it.
 fn cost_merged(
     alloc: Global,
-    common: &Common,
+    common: &CampaignSetting,
     event: &Event,
     more: &Script,
     past: &SeenRun,
@@ -181,7 +181,7 @@ fn cost_merged(
 /// Where memory was refused.
 pub(crate) fn cost_beside(
     alloc: Global,
-    common: &Common,
+    common: &CampaignSetting,
     event: &Event,
     more: &Script,
     past: &SeenRun,

@@ -23,7 +23,7 @@ ghost use Rattle.fault_runs.specs.Tries.{MayTry, IsOwnAfter, tried_of, tried_lin
 use crate::campaign_text::Text;
 use crate::own::OwnRun;
 use crate::tally::Tally;
-use crate::tried::{Common, Tried, form_words, try_beside};
+use crate::tried::{CampaignSetting, Tried, form_words, try_beside};
 use crate::whole::{WholeRun, whole_of};
 use campaign::Cost;
 use single_faults::faults_in;
@@ -153,7 +153,7 @@ fn tried_in(
 fn put_slot<R: Threads + Sync, K: Sink>(
     rt: &R,
     alloc: Global,
-    common: &Common,
+    common: &CampaignSetting,
     first: u32,
     last: u32,
     threads: usize,
@@ -210,7 +210,7 @@ fn end_of(script: &Script, last: u32) -> u32
 fn put_slots<R: Threads + Sync, K: Sink>(
     rt: &R,
     alloc: Global,
-    common: &Common,
+    common: &CampaignSetting,
     first: u32,
     last: u32,
     threads: usize,
@@ -243,7 +243,7 @@ fn put_slots<R: Threads + Sync, K: Sink>(
 
 // The head, and the line of the script's own run.
 fn put_front<K: Sink>(
-    common: &Common,
+    common: &CampaignSetting,
     first: u32,
     last: u32,
     tally: &mut Tally,
@@ -286,7 +286,7 @@ fn put_end<K: Sink>(tally: &mut Tally, out: &mut K) -> Result<(), CampaignFault>
 fn put_lines<R: Threads + Sync, K: Sink>(
     rt: &R,
     alloc: Global,
-    common: &Common,
+    common: &CampaignSetting,
     first: u32,
     last: u32,
     threads: usize,
@@ -358,7 +358,7 @@ pub fn put_own_line<K: Sink>(
         return Err(CampaignFault::Memory);
     };
     let (whole, words) = own;
-    let common = Common {
+    let common = CampaignSetting {
         list,
         script,
         own: words.bytes(),
@@ -412,7 +412,7 @@ pub fn put_campaign<R: Threads + Sync, K: Sink>(
     let Ok(mut own) = OwnRun::new(alloc, list, script) else {
         return Err(CampaignFault::Memory);
     };
-    let common = Common {
+    let common = CampaignSetting {
         list,
         script,
         own: words.bytes(),

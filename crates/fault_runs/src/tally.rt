@@ -14,7 +14,7 @@ ghost use Rattle.fault_runs.specs.Runs.{AreAtMost, HasAtMost, AreCountsOf, IsTal
 ghost use Rattle.fault_runs.specs.Tries.{MayTry, tried_of};
 
 use crate::campaign_text::{Text, put_counts, put_head, put_own};
-use crate::tried::{Common, Tried};
+use crate::tried::{CampaignSetting, Tried};
 use campaign::{Cost, Counts};
 use std::alloc::Global;
 use ttp_base::{Memory, NodeSet};
@@ -144,7 +144,12 @@ impl Tally {
     }
 
     /// The first line.
-    pub(crate) fn form_head(&mut self, common: &Common, first: u32, last: u32) -> Result<(), Memory>
+    pub(crate) fn form_head(
+        &mut self,
+        common: &CampaignSetting,
+        first: u32,
+        last: u32,
+    ) -> Result<(), Memory>
         requires { IsValid common.now.list.now }
         ensures line { OnOk result (self.new.line ≡ head_line common.now.list.now common.now.script.now first last) }
         ensures kept { self.new.kept ≡ self.old.kept }
@@ -155,7 +160,7 @@ impl Tally {
     }
 
     /// The line of the script's own run.
-    pub(crate) fn form_own(&mut self, common: &Common) -> Result<(), Memory>
+    pub(crate) fn form_own(&mut self, common: &CampaignSetting) -> Result<(), Memory>
         requires { MayTry common.now }
         ensures line { OnOk result (self.new.line
             ≡ own_line common.now.list.now (summary common.now.list.now common.now.script.now)) }

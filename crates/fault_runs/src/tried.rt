@@ -28,7 +28,7 @@ use ttp_world::{Entry, Event, Medl, Script};
 
 /// What all runs of a campaign read.
 #[derive(Clone, Copy)]
-pub(crate) struct Common<'a> {
+pub(crate) struct CampaignSetting<'a> {
     pub(crate) list: &'a Medl,
     pub(crate) script: &'a Script,
     /// The words of what the script's own run costs.
@@ -81,7 +81,7 @@ fn line_of(
 // The run of a fault, whose script this is.
 fn try_more(
     alloc: Global,
-    common: &Common,
+    common: &CampaignSetting,
     past: &SeenRun,
     row: &[Entry],
     slot: u32,
@@ -116,7 +116,7 @@ fn try_more(
 // `words`, and it is made in `run`.
 fn try_one(
     alloc: Global,
-    common: &Common,
+    common: &CampaignSetting,
     past: &SeenRun,
     row: &[Entry],
     slot: u32,
@@ -139,7 +139,7 @@ fn try_one(
 // Adds those of some faults, one after another.
 fn add_each(
     alloc: Global,
-    common: &Common,
+    common: &CampaignSetting,
     past: &SeenRun,
     row: &[Entry],
     slot: u32,
@@ -164,7 +164,7 @@ fn add_each(
 // Adds those of some faults, made in one run after another.
 fn add_all(
     alloc: Global,
-    common: &Common,
+    common: &CampaignSetting,
     past: &SeenRun,
     row: &[Entry],
     slot: u32,
@@ -187,7 +187,7 @@ fn add_all(
 // Those of some faults. A run is made where there are any.
 fn try_each(
     alloc: Global,
-    common: &Common,
+    common: &CampaignSetting,
     past: &SeenRun,
     row: &[Entry],
     slot: u32,
@@ -214,7 +214,7 @@ fn try_each(
 pub(crate) fn try_beside<R: Threads + Sync>(
     rt: &R,
     alloc: Global,
-    common: &Common,
+    common: &CampaignSetting,
     past: &SeenRun,
     row: &[Entry],
     slot: u32,
