@@ -12,7 +12,7 @@ use Rattle.clock_margins.specs.Sweeps.{values_from}
 use Rattle.margin_laws.proofs.Behind.{values-parts}
 use Rattle.margin_text.specs.declared.told.Told.{Told}
 use Rattle.margin_text.specs.Taken.{value_told}
-use Rattle.margin_runs.specs.declared.tried.Common.{Common}
+use Rattle.margin_runs.specs.declared.tried.SweepSetting.{SweepSetting}
 use Rattle.margin_runs.specs.Tries.{tolds_from, are_told}
 use Rattle.margin_runs.specs.Written.{tolds_so_far}
 
@@ -55,7 +55,7 @@ tolds-parts list script sweep first a b =
     ap (λ zs. map told zs) (values-parts first a b)
     ∙ map-append told (values_from first a) (values_from (first +ℤ pos a) b)
 
-pub so-far-more : (common : Common) (reach done some : ℕ)
+pub so-far-more : (common : SweepSetting) (reach done some : ℕ)
     → tolds_so_far common reach done
     ++ tolds_from common.list.now common.script.now common.sweep (neg_ℤ (pos reach) +ℤ pos done) some
     ≡ tolds_so_far common reach (done + some)
@@ -63,7 +63,7 @@ so-far-more common reach done some =
     sym (tolds-parts common.list.now common.script.now common.sweep (neg_ℤ (pos reach)) done some)
 
 -- those behind some of them
-pub so-far-rest : (common : Common) (reach done count : ℕ) → done ≤ count
+pub so-far-rest : (common : SweepSetting) (reach done count : ℕ) → done ≤ count
     → (rest : List ValueTold) × (tolds_so_far common reach count ≡ tolds_so_far common reach done ++ rest)
 so-far-rest common reach done count less =
     let some = count - done in
@@ -73,7 +73,7 @@ so-far-rest common reach done count less =
     )
 
 -- all of them
-pub so-far-all : (common : Common) (reach count : ℕ) → count ≡ 2 * reach + 1
+pub so-far-all : (common : SweepSetting) (reach count : ℕ) → count ≡ 2 * reach + 1
     → tolds_so_far common reach count ≡ tolds_of common.list.now common.script.now reach common.sweep
 so-far-all common reach count is =
     let all : count ≡ suc (2 * reach) = omega (arith, is) in

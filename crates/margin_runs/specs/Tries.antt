@@ -17,7 +17,7 @@ use Rattle.margin_text.specs.Taken.{value_told}
 use Rattle.run_costs.specs.declared.run.Run.{Run}
 use Rattle.run_costs.specs.Standing.{IsRunAfter, IsSeenAfter}
 use Rattle.margin_runs.specs.declared.beside.BesideRun.{BesideRun}
-use Rattle.margin_runs.specs.declared.tried.Common.{Common}
+use Rattle.margin_runs.specs.declared.tried.SweepSetting.{SweepSetting}
 
 -- the run has done so many slots, and memberships were split where it says so
 pub record IsBesideAfter (beside : BesideRun) (list : Medl) (script : Script) (slots : ℕ) : Type 0 where
@@ -30,7 +30,7 @@ pub record IsUnbegun (run : Run) (list : Medl) : Type 0 where
   pub before : (script : Script) → IsRunAfter run list script 0
 
 -- a valid script with room for one event more, and a node and a slot that it has
-pub record MayTrySweep (common : Common) : Type 0 where
+pub record MayTrySweep (common : SweepSetting) : Type 0 where
   pub valid : IsValid common.list.now
   pub script : IsValidScript common.list.now common.script.now
   pub room : length common.script.now.events < EVENT_LIMIT
@@ -38,7 +38,7 @@ pub record MayTrySweep (common : Common) : Type 0 where
   pub slot : IfSome common.sweep.slot (λ slot. slot < common.script.now.slots)
 
 -- the script's own run, beside the node that is swept; it has come to the slot of the jumps
-pub record IsPastOfSweep (common : Common) (past : BesideRun) : Type 0 where
+pub record IsPastOfSweep (common : SweepSetting) (past : BesideRun) : Type 0 where
   pub run : IsBesideAfter past common.list.now common.script.now past.run.slots
   pub node : past.node ≡ common.sweep.node
   pub slot : IfSome common.sweep.slot (λ slot. past.run.slots ≡ slot)

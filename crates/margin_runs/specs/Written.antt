@@ -24,13 +24,13 @@ use Rattle.clock_margins.specs.Sweeps.{drift_sweep, jump_sweep, jumpers, sweeps}
 use Rattle.margin_laws.specs.Behind.{closed_ranges}
 use Rattle.margin_text.specs.declared.swept.Swept.{Swept}
 use Rattle.margin_text.specs.Taken.{IsWritable, IsSweptOf, HasFew}
-use Rattle.margin_runs.specs.declared.tried.Common.{Common}
+use Rattle.margin_runs.specs.declared.tried.SweepSetting.{SweepSetting}
 use Rattle.margin_runs.specs.Tries.{tolds_from, range_lines}
 
 -- A sweep.
 
 -- what is told of so many values of a sweep, from the least one on
-abbrev pub tolds_so_far : Common → ℕ → ℕ → List ValueTold
+abbrev pub tolds_so_far : SweepSetting → ℕ → ℕ → List ValueTold
 tolds_so_far common reach count =
     tolds_from common.list.now common.script.now common.sweep (neg_ℤ (pos reach)) count
 

@@ -23,7 +23,7 @@ ghost use Rattle.margin_runs.specs.Written.{AreSwept, MayPut, lines_swept, drift
 ghost use Rattle.margin_runs.specs.Written.{all_jumps, all_sweeps, lines_in_front};
 
 use crate::beside::BesideRun;
-use crate::tried::{Common, try_beside};
+use crate::tried::{SweepSetting, try_beside};
 use campaign::Span;
 use clock_margins::{Margin, Sweep, Total};
 use fault_runs::{CampaignFault, put_own_line};
@@ -158,7 +158,7 @@ fn some_values(alloc: Global, reach: u32, done: u32, some: u32) -> Result<Vec<i6
 fn put_values<R: Threads + Sync, K: Sink>(
     rt: &R,
     alloc: Global,
-    common: &Common,
+    common: &SweepSetting,
     past: &BesideRun,
     reach: u32,
     done: u32,
@@ -196,7 +196,7 @@ fn put_values<R: Threads + Sync, K: Sink>(
 fn put_ranges<R: Threads + Sync, K: Sink>(
     rt: &R,
     alloc: Global,
-    common: &Common,
+    common: &SweepSetting,
     past: &BesideRun,
     reach: u32,
     threads: usize,
@@ -260,7 +260,7 @@ fn put_last<K: Sink>(
 fn put_sweep<R: Threads + Sync, K: Sink>(
     rt: &R,
     alloc: Global,
-    common: &Common,
+    common: &SweepSetting,
     past: &BesideRun,
     reach: u32,
     threads: usize,
@@ -300,7 +300,7 @@ fn put_sweep<R: Threads + Sync, K: Sink>(
 fn put_counted<R: Threads + Sync, K: Sink>(
     rt: &R,
     alloc: Global,
-    common: &Common,
+    common: &SweepSetting,
     past: &BesideRun,
     reach: u32,
     threads: usize,
@@ -372,7 +372,7 @@ fn put_drift<R: Threads + Sync, K: Sink>(
     let Ok(past) = BesideRun::new(alloc, list, script, node) else {
         return Err(CampaignFault::Memory);
     };
-    let common = Common {
+    let common = SweepSetting {
         list,
         script,
         sweep: Sweep { node, slot: None },
@@ -470,7 +470,7 @@ fn put_jump<R: Threads + Sync, K: Sink>(
     let Ok(past) = past_of(alloc, list, script, node, slot) else {
         return Err(CampaignFault::Memory);
     };
-    let common = Common {
+    let common = SweepSetting {
         list,
         script,
         sweep: Sweep {

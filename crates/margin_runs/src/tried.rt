@@ -25,7 +25,7 @@ use ttp_world::{Event, Medl, Script};
 
 /// What all runs of a sweep read.
 #[derive(Clone, Copy)]
-pub(crate) struct Common<'a> {
+pub(crate) struct SweepSetting<'a> {
     pub(crate) list: &'a Medl,
     pub(crate) script: &'a Script,
     pub(crate) sweep: Sweep,
@@ -62,7 +62,7 @@ fn try_script(
 // What is told of a drift, made in `run` by a script whose drift of the node is any other.
 fn try_drift(
     alloc: Global,
-    common: &Common,
+    common: &SweepSetting,
     start: &Run,
     value: &i64,
     more: Script,
@@ -91,7 +91,7 @@ fn try_drift(
 // What is told of a jump, made in `run` by the script's own run before its slot.
 fn try_jump(
     alloc: Global,
-    common: &Common,
+    common: &SweepSetting,
     past: &BesideRun,
     slot: u32,
     value: &i64,
@@ -124,7 +124,7 @@ fn try_jump(
 // Adds what is told of some drifts, one after another.
 fn add_drifts(
     alloc: Global,
-    common: &Common,
+    common: &SweepSetting,
     start: &Run,
     values: &[i64],
     run: &mut BesideRun,
@@ -154,7 +154,7 @@ fn add_drifts(
 // The same of jumps.
 fn add_jumps(
     alloc: Global,
-    common: &Common,
+    common: &SweepSetting,
     past: &BesideRun,
     slot: u32,
     values: &[i64],
@@ -180,7 +180,7 @@ fn add_jumps(
 // What is told of some values, one after another.
 fn try_each(
     alloc: Global,
-    common: &Common,
+    common: &SweepSetting,
     past: &BesideRun,
     values: &[i64],
 ) -> Result<Vec<Told>, Memory>
@@ -209,7 +209,7 @@ fn try_each(
 pub(crate) fn try_beside<R: Threads + Sync>(
     rt: &R,
     alloc: Global,
-    common: &Common,
+    common: &SweepSetting,
     past: &BesideRun,
     values: &[i64],
     threads: usize,

@@ -7,7 +7,7 @@ use Rattle.fault_runs.specs.declared.put.CampaignFault.{CampaignFault}
 use Rattle.fault_runs.specs.declared.put.CampaignFault.TheVariants as fault
 use Rattle.fault_runs.specs.Ends.{LeftBy}
 use Rattle.margin_text.specs.declared.told.Told.{Told}
-use Rattle.margin_runs.specs.declared.tried.Common.{Common}
+use Rattle.margin_runs.specs.declared.tried.SweepSetting.{SweepSetting}
 use Rattle.margin_runs.specs.Tries.{tolds_from, are_told, clock_limit}
 use Rattle.margin_runs.specs.Written.{IsPutOf, AreWritable, closed_lines, tolds_so_far}
 use Rattle.margin_runs.proofs.Puts.{none-left}
@@ -17,7 +17,7 @@ use Rattle.margin_runs.proofs.Writable.{tolds-writable}
 use Rattle.margin_runs.proofs.put.put_values.Goals as goal
 
 -- those that were told, behind the others
-whole : (common : Common) (reach done some : ℕ) (values : List ℤ) (all : List Told)
+whole : (common : SweepSetting) (reach done some : ℕ) (values : List ℤ) (all : List Told)
     → values ≡ values_from (neg_ℤ (pos reach) +ℤ pos done) some
     → are_told all ≡ map (told_of_value common.list.now common.script.now common.sweep) values
     → tolds_so_far common reach done ++ are_told all ≡ tolds_so_far common reach (done + some)
