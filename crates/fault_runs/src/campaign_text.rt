@@ -1,13 +1,13 @@
 //! The text of a campaign, line by line.
 //!
-//! A [`Text`] grows, and contracts see it as the list of its bytes; [`put_head`], [`put_own`], [`put_run`]
+//! A `GrowingText` grows, and contracts see it as the list of its bytes; [`put_head`], [`put_own`], [`put_run`]
 //! and [`put_counts`] add a line to it: the head, the line of the script as it is, the line of a fault, and
 //! the counts. A line is formed from what the run cost, which the crate takes as it is told, in words that
 //! [`put_cost`] forms by themselves, since two costs are the same where their words are; what the test of a
 //! script says it asks of the crate hypothesis. `try_one` of fault_runs forms the line of a fault:
 //!
 //! ```text
-//! let mut line = Text::new(alloc);
+//! let mut line = GrowingText::new(alloc);
 //! let yes = put_run(&mut line, common.list, &more, fault, words.bytes())?;
 //! let is_same = common.own == words.bytes();
 //! ```
@@ -26,7 +26,3 @@ mod lines;
 pub use cost_words::{put_cost, put_nodes};
 pub use fault_words::put_fault;
 pub use lines::{fault_node, put_counts, put_head, put_own, put_place, put_run, put_test};
-use ttp_base::GrowingText;
-
-/// The text that lines are added to.
-pub type Text = GrowingText;

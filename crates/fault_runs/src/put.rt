@@ -20,7 +20,6 @@ ghost use Rattle.fault_runs.specs.Runs.{most_tried, HasAtMost, AreCountsOf, IsTa
 ghost use Rattle.fault_runs.specs.Merging.{IsWholeRun};
 ghost use Rattle.fault_runs.specs.Tries.{MayTry, IsOwnAfter, tried_of, tried_lines};
 
-use crate::campaign_text::Text;
 use crate::own::OwnRun;
 use crate::tally::Tally;
 use crate::tried::{CampaignSetting, Tried, form_words, try_beside};
@@ -29,7 +28,7 @@ use campaign::Cost;
 use single_faults::faults_in;
 use std::alloc::Global;
 use std::thread::Threads;
-use ttp_base::{List, Memory, Sink};
+use ttp_base::{GrowingText, List, Memory, Sink};
 use ttp_world::{Entry, Event, Medl, NodeState, Script};
 
 /// Why a campaign was not written whole.
@@ -313,18 +312,18 @@ fn put_lines<R: Threads + Sync, K: Sink>(
 }
 
 // The words of what a run costs.
-fn words_of(alloc: Global, list: &Medl, cost: &Cost) -> Result<Text, Memory>
+fn words_of(alloc: Global, list: &Medl, cost: &Cost) -> Result<GrowingText, Memory>
     requires valid { IsValid list.now }
     requires cost { (script : Script) × (cost.now ≡ (summary list.now script).cost) }
     ensures { IfOk result (λ words. words ≡ cost_words list.now cost.now) }
 {
-    let mut words = Text::new(alloc);
+    let mut words = GrowingText::new(alloc);
     form_words(list, cost, &mut words)?;
     Ok(words)
 }
 
 // What the script's own run came to, and the words of what it costs.
-fn own_whole(alloc: Global, list: &Medl, script: &Script) -> Result<(WholeRun, Text), Memory>
+fn own_whole(alloc: Global, list: &Medl, script: &Script) -> Result<(WholeRun, GrowingText), Memory>
     requires valid { IsValid list.now }
     requires script { IsValidScript list.now script.now }
     ensures whole { IfOk result (λ own. IsWholeRun list.now script.now own.0) }

@@ -13,11 +13,11 @@ ghost use Rattle.campaign.specs.Lines.{counts_of, is_same_cost, has_hurt, is_tor
 ghost use Rattle.fault_runs.specs.Runs.{AreAtMost, HasAtMost, AreCountsOf, IsTallyOf};
 ghost use Rattle.fault_runs.specs.Tries.{MayTry, tried_of};
 
-use crate::campaign_text::{Text, put_counts, put_head, put_own};
+use crate::campaign_text::{put_counts, put_head, put_own};
 use crate::tried::{CampaignSetting, Tried};
 use campaign::{Cost, Counts};
 use std::alloc::Global;
-use ttp_base::{Memory, NodeSet};
+use ttp_base::{GrowingText, Memory, NodeSet};
 use ttp_world::{EVENT_LIMIT, Script};
 
 /// What the runs so far come to, and where the lines of no fault are formed.
@@ -26,7 +26,7 @@ pub(crate) struct Tally {
     kept: Counts,
     broken: Counts,
     /// The newest of these lines.
-    pub(crate) line: Text,
+    pub(crate) line: GrowingText,
 }
 
 /// Whether a campaign may be run with a script: it has room for one event more.
@@ -113,7 +113,7 @@ impl Tally {
         Tally {
             kept: no_counts(),
             broken: no_counts(),
-            line: Text::new(alloc),
+            line: GrowingText::new(alloc),
         }
     }
 

@@ -15,7 +15,7 @@ ghost use Rattle.run_costs.specs.Standing.{IsRunOfList};
 ghost use Rattle.fault_runs.specs.Merging.{IsOwnIn};
 ghost use Rattle.fault_runs.specs.Tries.{MayTry, tried_of};
 
-use crate::campaign_text::{Text, put_cost, put_run};
+use crate::campaign_text::{put_cost, put_run};
 use crate::merged::cost_beside;
 use campaign::Cost;
 use run_costs::SeenRun;
@@ -23,7 +23,7 @@ use single_faults::laws::more_is_valid;
 use single_faults::with_fault;
 use std::alloc::Global;
 use std::thread::{Threads, available_parallelism, join};
-use ttp_base::{Memory, NodeSet};
+use ttp_base::{GrowingText, Memory, NodeSet};
 use ttp_world::{Entry, Event, Medl, Script};
 
 /// What all runs of a campaign read.
@@ -42,7 +42,7 @@ pub(crate) struct CampaignSetting<'a> {
 /// The run of a script with one fault more: its line, and what is counted of it.
 #[derive(Drop)]
 pub(crate) struct Tried {
-    pub(crate) line: Text,
+    pub(crate) line: GrowingText,
     pub(crate) yes: bool,
     pub(crate) cost: Cost,
     /// Whether it costs what the script's own run does.
@@ -50,7 +50,7 @@ pub(crate) struct Tried {
 }
 
 /// The words of a cost, in place of those that were there.
-pub(crate) fn form_words(list: &Medl, cost: &Cost, words: &mut Text) -> Result<(), Memory>
+pub(crate) fn form_words(list: &Medl, cost: &Cost, words: &mut GrowingText) -> Result<(), Memory>
     requires valid { IsValid list.now }
     requires hurt { in_order cost.now.hurt ≡ cost.now.hurt }
     ensures { OnOk result (words.new ≡ cost_words list.now cost.now) }
@@ -66,14 +66,14 @@ fn line_of(
     more: &Script,
     fault: &Event,
     words: &[u8],
-) -> Result<(Text, bool), Memory>
+) -> Result<(GrowingText, bool), Memory>
     requires valid { IsValid list.now }
     requires script { IsValidScript list.now more.now }
     ensures line { (cost : Cost) → words.now ≡ cost_words list.now cost
         → IfOk result (λ shown. shown.0 ≡ fault_line list.now fault.now (told_summary list.now more.now cost)) }
     ensures yes { IfOk result (λ shown. shown.1 ≡ says_yes list.now more.now) }
 {
-    let mut line = Text::new(alloc);
+    let mut line = GrowingText::new(alloc);
     let yes = put_run(&mut line, list, more, fault, words)?;
     Ok((line, yes))
 }
@@ -87,7 +87,7 @@ fn try_more(
     slot: u32,
     fault: &Event,
     more: &Script,
-    words: &mut Text,
+    words: &mut GrowingText,
     run: &mut SeenRun,
 ) -> Result<Tried, Memory>
     requires may { MayTry common.now }
@@ -121,7 +121,7 @@ fn try_one(
     row: &[Entry],
     slot: u32,
     fault: &Event,
-    words: &mut Text,
+    words: &mut GrowingText,
     run: &mut SeenRun,
 ) -> Result<Tried, Memory>
     requires may { MayTry common.now }
@@ -144,7 +144,7 @@ fn add_each(
     row: &[Entry],
     slot: u32,
     faults: &[Event],
-    words: &mut Text,
+    words: &mut GrowingText,
     run: &mut SeenRun,
     all: &mut Vec<Tried>,
 ) -> Result<(), Memory>
@@ -177,7 +177,7 @@ fn add_all(
     requires none { all.old.items ≡ [] }
     ensures { OnOk result (all.new.items ≡ map (tried_of common.now.list.now common.now.script.now) faults.now) }
 {
-    let mut words = Text::new(alloc);
+    let mut words = GrowingText::new(alloc);
     let mut run = SeenRun::new(alloc, common.list, common.script)?;
     add_each(
         alloc, common, past, row, slot, faults, &mut words, &mut run, all,

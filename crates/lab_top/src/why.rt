@@ -18,10 +18,9 @@ ghost use Rattle.why_answers.specs.Answer.{why_answer};
 
 use crate::check::load_script_text;
 use commands::{FileFault, SCRIPT_LIMIT, file_fault_line, load_list, say};
-use fault_runs::campaign_text::Text;
 use script_text::{ScriptError, read_script};
 use std::alloc::Global;
-use ttp_base::{Failed, Library, Sheet, Sink};
+use ttp_base::{Failed, GrowingText, Library, Sheet, Sink};
 use ttp_world::{Medl, Script};
 use why_answers::{WhyAnswer, why_answer};
 
@@ -81,7 +80,7 @@ fn load_read<L: Library, K: Sink>(
 }
 
 // Writes lines.
-fn put_texts<K: Sink>(lines: &[Text], sheet: &mut Sheet, out: &mut K)
+fn put_texts<K: Sink>(lines: &[GrowingText], sheet: &mut Sheet, out: &mut K)
     ensures { Puts sheet.old.failed (K.output out.old) sheet.new.failed (K.output out.new) lines.now }
 {
     for line in lines {
@@ -90,7 +89,7 @@ fn put_texts<K: Sink>(lines: &[Text], sheet: &mut Sheet, out: &mut K)
 }
 
 // The same, and whether all were written.
-fn write_texts<K: Sink>(lines: &[Text], out: &mut K) -> Result<(), Failed>
+fn write_texts<K: Sink>(lines: &[GrowingText], out: &mut K) -> Result<(), Failed>
     ensures ok { OnOk result (WroteLines (K.output out.old) (K.output out.new) lines.now) }
     ensures failed { OnErr result (CutShort (K.output out.old) (K.output out.new) lines.now) }
 {

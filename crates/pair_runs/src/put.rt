@@ -33,7 +33,7 @@ use crate::tally::Tally;
 use crate::tried::{FirstSetting, PairResult, PairsSetting, try_beside};
 use campaign::Cost;
 use fault_pairs::PairCounts;
-use fault_runs::campaign_text::{Text, put_cost, put_own};
+use fault_runs::campaign_text::{put_cost, put_own};
 use fault_runs::{CampaignFault, OwnRun};
 use pair_classes::{Sums, has_line};
 use pair_text::{put_apart, put_first, put_head, put_sum};
@@ -42,7 +42,7 @@ use single_faults::laws::more_is_valid;
 use single_faults::with_fault;
 use std::alloc::Global;
 use std::thread::Threads;
-use ttp_base::{Memory, Sink};
+use ttp_base::{GrowingText, Memory, Sink};
 use ttp_world::{Event, Medl, Script};
 
 /// Where runs and lines are made.
@@ -52,7 +52,7 @@ pub(crate) struct Workspace {
     run: SeenRun,
     // That of the script with the first fault.
     past: OwnRun,
-    line: Text,
+    line: GrowingText,
 }
 
 // Writes a line.
@@ -70,7 +70,7 @@ fn write<K: Sink>(line: &[u8], out: &mut K) -> Result<(), CampaignFault>
 // Writes the line that was to be formed, if it was.
 fn put_formed<K: Sink>(
     formed: Result<(), Memory>,
-    line: &Text,
+    line: &GrowingText,
     out: &mut K,
 ) -> Result<(), CampaignFault>
     ensures ok { (due : Items ℕ) → OnOk formed (line.now ≡ due)
@@ -316,7 +316,7 @@ fn put_first_line<K: Sink>(
     more: &Script,
     cost: &Cost,
     counts: &PairCounts,
-    line: &mut Text,
+    line: &mut GrowingText,
     out: &mut K,
 ) -> Result<(), CampaignFault>
     requires valid { IsValid list.now }
@@ -578,7 +578,7 @@ fn put_range<R: Threads + Sync, K: Sink>(
 fn put_distance<K: Sink>(
     sums: &Sums,
     distance: u32,
-    line: &mut Text,
+    line: &mut GrowingText,
     out: &mut K,
 ) -> Result<(), CampaignFault>
     requires { distance < length sums.now.apart.items }
@@ -600,7 +600,7 @@ fn put_distance<K: Sink>(
 fn put_distances<K: Sink>(
     sums: &Sums,
     distances: u32,
-    line: &mut Text,
+    line: &mut GrowingText,
     out: &mut K,
 ) -> Result<(), CampaignFault>
     requires { (tolds : Items PairTold) × AreSumsOf distances tolds sums.now }
@@ -621,7 +621,7 @@ fn put_distances<K: Sink>(
 fn put_counts_line<K: Sink>(
     name: &str,
     counts: &PairCounts,
-    line: &mut Text,
+    line: &mut GrowingText,
     out: &mut K,
 ) -> Result<(), CampaignFault>
     ensures ok { OnOk result (WroteLines (K.output out.old) (K.output out.new) (pair_counts_line name.now counts.now ∷ [])) }
@@ -637,7 +637,7 @@ fn put_counts_line<K: Sink>(
 fn put_sums<K: Sink>(
     sums: &Sums,
     distances: u32,
-    line: &mut Text,
+    line: &mut GrowingText,
     out: &mut K,
 ) -> Result<(), CampaignFault>
     requires { (tolds : Items PairTold) × AreSumsOf distances tolds sums.now }
@@ -659,7 +659,7 @@ fn put_sums<K: Sink>(
 fn put_front<K: Sink>(
     common: &PairsSetting,
     words: &[u8],
-    line: &mut Text,
+    line: &mut GrowingText,
     out: &mut K,
 ) -> Result<(), CampaignFault>
     requires may { MayPair common.now }
@@ -739,12 +739,12 @@ fn put_lines<R: Threads + Sync, K: Sink>(
 }
 
 // The words of what a run cost.
-fn words_of(alloc: Global, list: &Medl, cost: &Cost) -> Result<Text, Memory>
+fn words_of(alloc: Global, list: &Medl, cost: &Cost) -> Result<GrowingText, Memory>
     requires valid { IsValid list.now }
     requires cost { (script : Script) × (cost.now ≡ (summary list.now script).cost) }
     ensures { IfOk result (λ words. words ≡ cost_words list.now cost.now) }
 {
-    let mut words = Text::new(alloc);
+    let mut words = GrowingText::new(alloc);
     put_cost(&mut words, list, cost)?;
     Ok(words)
 }
@@ -758,7 +758,7 @@ fn new_work(alloc: Global, list: &Medl, script: &Script) -> Result<Workspace, Me
     Ok(Workspace {
         run: SeenRun::new(alloc, list, script)?,
         past: OwnRun::new(alloc, list, script)?,
-        line: Text::new(alloc),
+        line: GrowingText::new(alloc),
     })
 }
 

@@ -18,7 +18,7 @@ use crate::harm::harm_of;
 use crate::singles::{Single, find, harm_alone};
 use campaign::Cost;
 use fault_pairs::{Harm, PairClass};
-use fault_runs::campaign_text::{Text, fault_node};
+use fault_runs::campaign_text::fault_node;
 use hypothesis::{has_arm, keeps, returns};
 use pair_classes::{Harms, has_line, pair_class};
 use pair_text::{Pair, put_pair};
@@ -27,7 +27,7 @@ use single_faults::laws::more_is_valid;
 use single_faults::with_fault;
 use std::alloc::Global;
 use std::thread::{Threads, join};
-use ttp_base::Memory;
+use ttp_base::{GrowingText, Memory};
 use ttp_world::{Back, Event, Keep, Medl, Script};
 
 /// What all pairs read.
@@ -62,7 +62,7 @@ pub(crate) struct PairResult {
     pub(crate) yes: bool,
     pub(crate) class: PairClass,
     /// Its line, where its class has one.
-    pub(crate) line: Text,
+    pub(crate) line: GrowingText,
 }
 
 fn is_kept(keep: Keep) -> bool
@@ -100,7 +100,7 @@ fn form_line(
     harms: &Harms,
     both: &Script,
     cost: &Cost,
-) -> Result<Text, Memory>
+) -> Result<GrowingText, Memory>
     requires may { MayTryPairs setting.now }
     requires script { IsValidScript setting.now.common.list.now both.now }
     requires ordered { AreOrdered harms.now }
@@ -110,7 +110,7 @@ fn form_line(
         (second_apart apart two.now) setting.now.common.own harms.now.one harms.now.two
         (summary setting.now.common.list.now both.now)) }
 {
-    let mut line = Text::new(alloc);
+    let mut line = GrowingText::new(alloc);
     let pair = Pair {
         slot: setting.slot,
         apart,
@@ -141,7 +141,7 @@ fn line_of(
     harms: &Harms,
     both: &Script,
     cost: &Cost,
-) -> Result<Text, Memory>
+) -> Result<GrowingText, Memory>
     requires may { MayTryPairs setting.now }
     requires script { IsValidScript setting.now.common.list.now both.now }
     requires ordered { AreOrdered harms.now }
@@ -154,7 +154,7 @@ fn line_of(
     if has_line(class) {
         return form_line(alloc, setting, apart, two, class, harms, both, cost);
     }
-    Ok(Text::new(alloc))
+    Ok(GrowingText::new(alloc))
 }
 
 // What a second fault costs alone: it is known, or run from the first slot on.

@@ -1,6 +1,6 @@
 //! The text of pairs of faults, line by line.
 //!
-//! Each function adds a line to a growing [`Text`]: the head, the line of a pair ([`put_pair`]) and of a first fault
+//! Each function adds a line to a growing `GrowingText`: the head, the line of a pair ([`put_pair`]) and of a first fault
 //! ([`put_first`]), and the sums ([`put_sum`], [`put_apart`]). The lines are those of `specs/PairText.antt` of the crate
 //! fault_pairs; what a run cost and what its test says are written as in a campaign (`campaign_text` of fault_runs):
 //!

@@ -13,9 +13,9 @@ ghost use Rattle.pair_text.specs.Words.{pairs_head_words};
 use crate::words::{put_counts, put_pair_faults, put_pair_harms, put_pair_place, put_run};
 use campaign::Cost;
 use fault_pairs::{Harm, PairClass, PairCounts};
-use fault_runs::campaign_text::{Text, fault_node, put_fault, put_place};
+use fault_runs::campaign_text::{fault_node, put_fault, put_place};
 use pair_classes::Harms;
-use ttp_base::Memory;
+use ttp_base::{GrowingText, Memory};
 use ttp_world::{Event, Medl, Script};
 
 /// Two faults, the slot in which the first one begins, and how many slots later the second one does.
@@ -29,7 +29,7 @@ pub struct Pair<'a> {
 
 // Adds the first line, by its first words and its numbers.
 fn put_head_words(
-    text: &mut Text,
+    text: &mut GrowingText,
     name: &str,
     nodes: u8,
     slots: u32,
@@ -53,7 +53,7 @@ fn put_head_words(
 ///
 /// As of each of these functions, where memory was refused; some of the line may have been added.
 pub fn put_head(
-    text: &mut Text,
+    text: &mut GrowingText,
     list: &Medl,
     script: &Script,
     first: u32,
@@ -74,7 +74,7 @@ pub fn put_head(
 ///
 /// Where memory was refused; some of the line may have been added.
 pub fn put_pair(
-    text: &mut Text,
+    text: &mut GrowingText,
     list: &Medl,
     class: PairClass,
     pair: &Pair,
@@ -105,7 +105,7 @@ pub fn put_pair(
 ///
 /// Where memory was refused; some of the line may have been added.
 pub fn put_first(
-    text: &mut Text,
+    text: &mut GrowingText,
     list: &Medl,
     fault: &Event,
     more: &Script,
@@ -133,7 +133,7 @@ pub fn put_first(
 /// # Errors
 ///
 /// Where memory was refused; some of the line may have been added.
-pub fn put_sum(text: &mut Text, name: &str, counts: &PairCounts) -> Result<(), Memory>
+pub fn put_sum(text: &mut GrowingText, name: &str, counts: &PairCounts) -> Result<(), Memory>
     ensures { OnOk result (text.new ≡ text.old ++ pair_counts_line name.now counts.now) }
 {
     text.put(name)?;
@@ -146,7 +146,7 @@ pub fn put_sum(text: &mut Text, name: &str, counts: &PairCounts) -> Result<(), M
 /// # Errors
 ///
 /// Where memory was refused; some of the line may have been added.
-pub fn put_apart(text: &mut Text, distance: u32, counts: &PairCounts) -> Result<(), Memory>
+pub fn put_apart(text: &mut GrowingText, distance: u32, counts: &PairCounts) -> Result<(), Memory>
     ensures { OnOk result (text.new
         ≡ text.old ++ pair_counts_line (codes "apart " ++ decimal distance ++ codes " ") counts.now) }
 {

@@ -13,13 +13,13 @@ ghost use Rattle.pair_classes.specs.Ordered.{IsOrdered, AreOrdered};
 
 use campaign::Cost;
 use fault_pairs::{Harm, PairClass, PairCounts};
-use fault_runs::campaign_text::{Text, fault_node, put_cost, put_fault, put_nodes, put_test};
+use fault_runs::campaign_text::{fault_node, put_cost, put_fault, put_nodes, put_test};
 use pair_classes::{Harms, newly_left, third_nodes};
-use ttp_base::{Memory, NodeSet};
+use ttp_base::{GrowingText, Memory, NodeSet};
 use ttp_world::{Event, Medl, Script};
 
 // Adds the word of a class.
-fn put_class(text: &mut Text, class: PairClass) -> Result<(), Memory>
+fn put_class(text: &mut GrowingText, class: PairClass) -> Result<(), Memory>
     ensures { OnOk result (text.new ≡ text.old ++ class_word class) }
 {
     match class {
@@ -34,7 +34,7 @@ fn put_class(text: &mut Text, class: PairClass) -> Result<(), Memory>
 }
 
 /// Adds how many pairs there are, and how many of each class.
-pub(crate) fn put_counts(text: &mut Text, counts: &PairCounts) -> Result<(), Memory>
+pub(crate) fn put_counts(text: &mut GrowingText, counts: &PairCounts) -> Result<(), Memory>
     ensures { OnOk result (text.new ≡ text.old ++ counts_words counts.now) }
 {
     text.put_labelled("pairs ", counts.pairs)?;
@@ -49,7 +49,7 @@ pub(crate) fn put_counts(text: &mut Text, counts: &PairCounts) -> Result<(), Mem
 
 /// Adds what the test of a script says and what its run cost. Returns whether it says yes.
 pub(crate) fn put_run(
-    text: &mut Text,
+    text: &mut GrowingText,
     list: &Medl,
     script: &Script,
     cost: &Cost,
@@ -67,7 +67,7 @@ pub(crate) fn put_run(
 
 /// Adds where a pair stands: its class, its slots and its nodes.
 pub(crate) fn put_pair_place(
-    text: &mut Text,
+    text: &mut GrowingText,
     class: PairClass,
     slot: u32,
     apart: u32,
@@ -85,7 +85,7 @@ pub(crate) fn put_pair_place(
 }
 
 // Adds the nodes of a set.
-fn put_third(text: &mut Text, third: NodeSet) -> Result<(), Memory>
+fn put_third(text: &mut GrowingText, third: NodeSet) -> Result<(), Memory>
     requires { IsOrdered third }
     ensures { OnOk result (text.new ≡ text.old ++ listed (map decimal third)) }
 {
@@ -94,7 +94,7 @@ fn put_third(text: &mut Text, third: NodeSet) -> Result<(), Memory>
 
 /// Adds how many nodes the faults of a pair cost alone, and the third nodes.
 pub(crate) fn put_pair_harms(
-    text: &mut Text,
+    text: &mut GrowingText,
     own: &Harm,
     first: u8,
     second: u8,
@@ -113,7 +113,11 @@ pub(crate) fn put_pair_harms(
 }
 
 /// Adds the two faults of a pair.
-pub(crate) fn put_pair_faults(text: &mut Text, one: &Event, two: &Event) -> Result<(), Memory>
+pub(crate) fn put_pair_faults(
+    text: &mut GrowingText,
+    one: &Event,
+    two: &Event,
+) -> Result<(), Memory>
     ensures { OnOk result (text.new ≡ text.old ++ pair_faults one.now two.now) }
 {
     text.put(" fault ")?;

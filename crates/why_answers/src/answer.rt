@@ -7,20 +7,19 @@ ghost use Rattle.why_answers.specs.Answer.{answer_of_node, answer_of_slot, why_a
 use crate::departures::departure_slot;
 use crate::notices::{no_node_line, no_slot_line, stays_line};
 use crate::told::lines_on_entry;
-use fault_runs::campaign_text::Text;
 use std::alloc::Global;
-use ttp_base::{List, Memory};
+use ttp_base::{GrowingText, List, Memory};
 use ttp_world::{Medl, Script};
 
 /// A status, and the lines that are due with it, each with its line feed.
 #[derive(Drop)]
 pub struct WhyAnswer {
     pub status: u8,
-    pub lines: List<Text>,
+    pub lines: List<GrowingText>,
 }
 
 // One line, with its status.
-fn said(alloc: Global, status: u8, line: Text) -> Result<WhyAnswer, Memory>
+fn said(alloc: Global, status: u8, line: GrowingText) -> Result<WhyAnswer, Memory>
     ensures { IfOk result (λ answer. answer ≡ why_answered status (line ∷ [])) }
 {
     let mut lines = List::new(alloc);

@@ -6,11 +6,10 @@ ghost use Rattle.why_answers.specs.Answer.{lines_on_entry};
 
 use causes::{Cause, Spot};
 use entry_causes::{cause, root};
-use fault_runs::campaign_text::Text;
 use line_numbers::line_numbers;
 use run_rows::RunRows;
 use std::alloc::Global;
-use ttp_base::{List, Memory};
+use ttp_base::{GrowingText, List, Memory};
 use ttp_world::{Entry, Medl, Script};
 use why_lines::why_lines;
 use why_story::Causes;
@@ -55,7 +54,7 @@ pub(crate) fn lines_on_entry(
     bytes: &[u8],
     node: u8,
     slot: u32,
-) -> Result<List<Text>, Memory>
+) -> Result<List<GrowingText>, Memory>
     requires valid { IsValid list.now }
     requires script { IsValidScript list.now script.now }
     requires bytes { length bytes.now ≤ 1048576 }

@@ -11,10 +11,9 @@ use crate::named::put_named;
 use crate::order::all_in_file_order;
 use crate::told::put_story;
 use causes::{LineNumbers, Story};
-use fault_runs::campaign_text::Text;
 use reduced_runs::{entry_alone, entry_word};
 use std::alloc::Global;
-use ttp_base::{List, Memory};
+use ttp_base::{GrowingText, List, Memory};
 use ttp_world::{Entry, Medl, Script};
 use why_story::{Causes, story};
 use why_words::{put_alone, put_why_head};
@@ -32,20 +31,20 @@ fn head_line(
     script: &Script,
     node: u8,
     slot: u32,
-) -> Result<Text, Memory>
+) -> Result<GrowingText, Memory>
     requires { IsValid list.now }
     ensures { IfOk result (λ line. line ≡ why_head list.now script.now node slot) }
 {
-    let mut line = Text::new(alloc);
+    let mut line = GrowingText::new(alloc);
     put_why_head(&mut line, list, script, node, slot)?;
     Ok(line)
 }
 
 // The last line.
-fn last_line(alloc: Global, alone: &Entry, suffices: bool) -> Result<Text, Memory>
+fn last_line(alloc: Global, alone: &Entry, suffices: bool) -> Result<GrowingText, Memory>
     ensures { IfOk result (λ line. line ≡ alone_line alone.now suffices) }
 {
-    let mut line = Text::new(alloc);
+    let mut line = GrowingText::new(alloc);
     put_alone(&mut line, alone, suffices)?;
     Ok(line)
 }
@@ -60,7 +59,7 @@ fn lines_told<C: Causes>(
     slot: u32,
     node: u8,
     story: &Story,
-) -> Result<List<Text>, Memory>
+) -> Result<List<GrowingText>, Memory>
     requires valid { IsValid list.now }
     requires script { IsValidScript list.now script.now }
     requires slot { slot < script.now.slots }
@@ -108,7 +107,7 @@ pub fn why_lines<C: Causes>(
     causes: &C,
     slot: u32,
     node: u8,
-) -> Result<List<Text>, Memory>
+) -> Result<List<GrowingText>, Memory>
     requires valid { IsValid list.now }
     requires script { IsValidScript list.now script.now }
     requires slot { slot < script.now.slots }

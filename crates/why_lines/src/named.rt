@@ -6,10 +6,9 @@ ghost use Rattle.ttp_world.specs.Trace.{number_or_dash};
 ghost use Rattle.causes.specs.WhyText.{line_words, needed_word, script_line_line};
 
 use causes::{LineNumbers, ScriptLine};
-use fault_runs::campaign_text::Text;
 use reduced_runs::is_needed;
 use std::alloc::Global;
-use ttp_base::{List, Memory};
+use ttp_base::{GrowingText, List, Memory};
 use ttp_world::{Entry, Medl, Script};
 use why_story::states_fault;
 use why_words::{number_of, put_event};
@@ -33,7 +32,7 @@ fn drift_of(script: &Script, node: u8) -> i64
     }
 }
 
-fn put_or_dash(text: &mut Text, number: Option<u32>) -> Result<(), Memory>
+fn put_or_dash(text: &mut GrowingText, number: Option<u32>) -> Result<(), Memory>
     ensures { OnOk result (text.new ≡ text.old ++ number_or_dash number) }
 {
     match number {
@@ -43,7 +42,7 @@ fn put_or_dash(text: &mut Text, number: Option<u32>) -> Result<(), Memory>
 }
 
 // Adds a line as a script may have it.
-fn put_line_words(text: &mut Text, script: &Script, line: ScriptLine) -> Result<(), Memory>
+fn put_line_words(text: &mut GrowingText, script: &Script, line: ScriptLine) -> Result<(), Memory>
     ensures { OnOk result (text.new ≡ text.old ++ line_words script.now line) }
 {
     match line {
@@ -101,10 +100,10 @@ fn named_line(
     numbers: &LineNumbers,
     line: ScriptLine,
     needed: &str,
-) -> Result<Text, Memory>
+) -> Result<GrowingText, Memory>
     ensures { IfOk result (λ text. text ≡ script_line_line script.now numbers.now line needed.now) }
 {
-    let mut text = Text::new(alloc);
+    let mut text = GrowingText::new(alloc);
     text.put("line ")?;
     text.put_number(u64::from(number_of(numbers, line)))?;
     text.put(" needed ")?;
@@ -130,7 +129,7 @@ pub(crate) fn put_named(
     node: u8,
     entry: &Entry,
     suffices: bool,
-    lines: &mut List<Text>,
+    lines: &mut List<GrowingText>,
 ) -> Result<(), Memory>
     requires valid { IsValid list.now }
     requires script { IsValidScript list.now script.now }

@@ -7,9 +7,8 @@ ghost use Rattle.why_story.specs.RunSource.{AreRunSpots, IsRunSpot, source_slots
 
 use crate::order::in_file_order;
 use causes::{LineNumbers, Spot, Story, Told};
-use fault_runs::campaign_text::Text;
 use std::alloc::Global;
-use ttp_base::{List, Memory};
+use ttp_base::{GrowingText, List, Memory};
 use ttp_world::Medl;
 use why_story::Causes;
 use why_words::{put_named_line, put_root};
@@ -53,11 +52,11 @@ fn named_of(alloc: Global, spots: &[Spot], entries: &[Spot]) -> Result<List<Spot
 }
 
 // What the root adds to the line of an entry, if there is one.
-fn root_words<C: Causes>(alloc: Global, causes: &C, root: &[Spot]) -> Result<Text, Memory>
+fn root_words<C: Causes>(alloc: Global, causes: &C, root: &[Spot]) -> Result<GrowingText, Memory>
     requires { AreRunSpots (C.source causes.now) root.now }
     ensures { IfOk result (λ words. words ≡ root_words (source_slots (C.source causes.now)) root.now) }
 {
-    let mut words = Text::new(alloc);
+    let mut words = GrowingText::new(alloc);
     if let Some(spot) = root.first() {
         put_root(&mut words, &causes.entry(spot.slot, spot.node), spot.slot)?;
     }
@@ -73,7 +72,7 @@ fn told_line<C: Causes>(
     spots: &[Spot],
     root: &[Spot],
     told: &Told,
-) -> Result<Text, Memory>
+) -> Result<GrowingText, Memory>
     requires root { AreRunSpots (C.source causes.now) root.now }
     requires told { IsRunSpot (C.source causes.now) told.now.spot }
     ensures { IfOk result (λ line. line
@@ -83,7 +82,7 @@ fn told_line<C: Causes>(
     let lines = in_file_order(alloc, numbers, told.cause.lines.as_slice())?;
     let named = named_of(alloc, spots, told.cause.entries.as_slice())?;
     let words = root_words(alloc, causes, root)?;
-    let mut line = Text::new(alloc);
+    let mut line = GrowingText::new(alloc);
     put_named_line(
         alloc,
         &mut line,
@@ -117,7 +116,7 @@ pub(crate) fn put_story<C: Causes>(
     numbers: &LineNumbers,
     causes: &C,
     story: &Story,
-    lines: &mut List<Text>,
+    lines: &mut List<GrowingText>,
 ) -> Result<(), Memory>
     requires root { AreRunSpots (C.source causes.now) story.now.root }
     requires told { AreRunSpots (C.source causes.now) (map (λ t. t.spot) story.now.told) }

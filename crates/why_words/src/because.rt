@@ -7,13 +7,17 @@ ghost use Rattle.causes.specs.WhyText.{node_word, each_words, lacked_words, miss
 use crate::lists::{put_node_behind, put_nodes, put_number_behind, put_pair, put_three};
 use crate::miss::put_miss;
 use causes::{Because, LineNumbers, Miss};
-use fault_runs::campaign_text::Text;
 use std::alloc::Global;
-use ttp_base::Memory;
+use ttp_base::{GrowingText, Memory};
 use ttp_world::Medl;
 
 // Adds a number between two texts.
-fn put_number_within(text: &mut Text, front: &str, number: u32, behind: &str) -> Result<(), Memory>
+fn put_number_within(
+    text: &mut GrowingText,
+    front: &str,
+    number: u32,
+    behind: &str,
+) -> Result<(), Memory>
     ensures { OnOk result (text.new ≡ text.old ++ (front.now ++ decimal number ++ behind.now)) }
 {
     put_number_behind(text, front, number)?;
@@ -21,7 +25,7 @@ fn put_number_within(text: &mut Text, front: &str, number: u32, behind: &str) ->
 }
 
 // Adds the members that a node lacks too, if it lacks some.
-fn put_lacked(text: &mut Text, peer: u8, lacked: &[u8]) -> Result<(), Memory>
+fn put_lacked(text: &mut GrowingText, peer: u8, lacked: &[u8]) -> Result<(), Memory>
     ensures { OnOk result (text.new ≡ text.old ++ lacked_words peer lacked.now) }
 {
     if lacked.is_empty() {
@@ -35,7 +39,7 @@ fn put_lacked(text: &mut Text, peer: u8, lacked: &[u8]) -> Result<(), Memory>
 
 // Adds three numbers, each behind a text.
 fn put_counts(
-    text: &mut Text,
+    text: &mut GrowingText,
     first: &str,
     accepted: u8,
     second: &str,
@@ -52,7 +56,7 @@ fn put_counts(
 }
 
 fn put_outvoted(
-    text: &mut Text,
+    text: &mut GrowingText,
     list: &Medl,
     numbers: &LineNumbers,
     accepted: u8,
@@ -77,7 +81,7 @@ fn put_outvoted(
 }
 
 fn put_holds_one(
-    text: &mut Text,
+    text: &mut GrowingText,
     list: &Medl,
     numbers: &LineNumbers,
     sender: u8,
@@ -91,7 +95,7 @@ fn put_holds_one(
 }
 
 fn put_holds_not(
-    text: &mut Text,
+    text: &mut GrowingText,
     list: &Medl,
     numbers: &LineNumbers,
     sender: u8,
@@ -104,7 +108,7 @@ fn put_holds_not(
 }
 
 // Adds what is said of both channels, once where it is one text.
-fn put_each(text: &mut Text, a: &[u8], b: &[u8]) -> Result<(), Memory>
+fn put_each(text: &mut GrowingText, a: &[u8], b: &[u8]) -> Result<(), Memory>
     ensures { OnOk result (text.new ≡ text.old ++ each_words a.now b.now) }
 {
     if a == b {
@@ -118,17 +122,22 @@ fn put_each(text: &mut Text, a: &[u8], b: &[u8]) -> Result<(), Memory>
 }
 
 // The words of a reason.
-fn words_of(alloc: Global, list: &Medl, numbers: &LineNumbers, miss: &Miss) -> Result<Text, Memory>
+fn words_of(
+    alloc: Global,
+    list: &Medl,
+    numbers: &LineNumbers,
+    miss: &Miss,
+) -> Result<GrowingText, Memory>
     ensures { IfOk result (λ words. words ≡ miss_words list.now numbers.now miss.now) }
 {
-    let mut words = Text::new(alloc);
+    let mut words = GrowingText::new(alloc);
     put_miss(&mut words, list, numbers, miss)?;
     Ok(words)
 }
 
 fn put_missed_on_each(
     alloc: Global,
-    text: &mut Text,
+    text: &mut GrowingText,
     list: &Medl,
     numbers: &LineNumbers,
     a: &Miss,
@@ -149,7 +158,7 @@ fn put_missed_on_each(
 /// Where memory was refused; some of it may have been added.
 pub fn put_because(
     alloc: Global,
-    text: &mut Text,
+    text: &mut GrowingText,
     list: &Medl,
     numbers: &LineNumbers,
     because: &Because,

@@ -10,21 +10,20 @@ ghost use Rattle.causes.specs.WhyText.{line_number_words};
 use crate::because::put_because;
 use crate::lists::{put_comma, put_dash, put_number_behind, put_numbers_of};
 use causes::{Because, LineNumbers, ScriptLine, Spot};
-use fault_runs::campaign_text::Text;
 use line_text::PEER;
 use reduced_runs::entry_word;
 use std::alloc::Global;
-use ttp_base::Memory;
+use ttp_base::{GrowingText, Memory};
 use ttp_world::{Entry, Medl, Script};
 
-fn put_spot(text: &mut Text, spot: Spot) -> Result<(), Memory>
+fn put_spot(text: &mut GrowingText, spot: Spot) -> Result<(), Memory>
     ensures { OnOk result (text.new ≡ text.old ++ spot_word spot) }
 {
     text.put_number(u64::from(spot.slot))?;
     put_number_behind(text, ":", u32::from(spot.node))
 }
 
-fn put_spots(text: &mut Text, spots: &[Spot]) -> Result<(), Memory>
+fn put_spots(text: &mut GrowingText, spots: &[Spot]) -> Result<(), Memory>
     ensures { OnOk result (text.new ≡ text.old ++ listed (map spot_word spots.now)) }
 {
     for (place, spot) in spots.iter().enumerate() {
@@ -46,7 +45,7 @@ fn peer_of(node: u8, entry: &Entry) -> Option<u8>
     }
 }
 
-fn put_or_dash(text: &mut Text, number: Option<u8>) -> Result<(), Memory>
+fn put_or_dash(text: &mut GrowingText, number: Option<u8>) -> Result<(), Memory>
     ensures { OnOk result (text.new ≡ text.old ++ number_or_dash number) }
 {
     match number {
@@ -60,7 +59,12 @@ fn put_or_dash(text: &mut Text, number: Option<u8>) -> Result<(), Memory>
 /// # Errors
 ///
 /// Where memory was refused; some of it may have been added.
-pub fn put_entry_head(text: &mut Text, slot: u32, node: u8, entry: &Entry) -> Result<(), Memory>
+pub fn put_entry_head(
+    text: &mut GrowingText,
+    slot: u32,
+    node: u8,
+    entry: &Entry,
+) -> Result<(), Memory>
     ensures { OnOk result (text.new ≡ text.old ++ entry_head slot node entry.now) }
 {
     put_number_behind(text, "slot ", slot)?;
@@ -76,7 +80,7 @@ pub fn put_entry_head(text: &mut Text, slot: u32, node: u8, entry: &Entry) -> Re
 /// # Errors
 ///
 /// Where memory was refused; some of it may have been added.
-pub fn put_root(text: &mut Text, entry: &Entry, slot: u32) -> Result<(), Memory>
+pub fn put_root(text: &mut GrowingText, entry: &Entry, slot: u32) -> Result<(), Memory>
     ensures { OnOk result (text.new ≡ text.old ++ root_part entry.now slot) }
 {
     text.put(", by the ")?;
@@ -86,7 +90,7 @@ pub fn put_root(text: &mut Text, entry: &Entry, slot: u32) -> Result<(), Memory>
 
 // Adds the lines that an entry names, and the entries.
 fn put_named(
-    text: &mut Text,
+    text: &mut GrowingText,
     numbers: &LineNumbers,
     lines: &[ScriptLine],
     entries: &[Spot],
@@ -107,7 +111,7 @@ fn put_named(
 /// Where memory was refused; some of it may have been added.
 pub fn put_named_line(
     alloc: Global,
-    text: &mut Text,
+    text: &mut GrowingText,
     list: &Medl,
     numbers: &LineNumbers,
     spot: Spot,
@@ -130,7 +134,7 @@ pub fn put_named_line(
 
 // Adds four numbers, each behind a text.
 fn put_four(
-    text: &mut Text,
+    text: &mut GrowingText,
     first: &str,
     nodes: u32,
     second: &str,
@@ -155,7 +159,7 @@ fn put_four(
 ///
 /// Where memory was refused; some of it may have been added.
 pub fn put_why_head(
-    text: &mut Text,
+    text: &mut GrowingText,
     list: &Medl,
     script: &Script,
     node: u8,
@@ -184,7 +188,7 @@ pub fn put_why_head(
 /// # Errors
 ///
 /// Where memory was refused; some of it may have been added.
-pub fn put_alone(text: &mut Text, alone: &Entry, suffices: bool) -> Result<(), Memory>
+pub fn put_alone(text: &mut GrowingText, alone: &Entry, suffices: bool) -> Result<(), Memory>
     ensures { OnOk result (text.new ≡ text.old ++ alone_line alone.now suffices) }
 {
     if suffices {

@@ -4,11 +4,11 @@ ghost use Rattle.ttp_world.specs.declared.script.Event.TheVariants as event;
 ghost use Rattle.campaign.specs.CostText.{channels_word};
 ghost use Rattle.causes.specs.WhyText.{named_event_words};
 
-use fault_runs::campaign_text::{Text, put_fault};
-use ttp_base::Memory;
+use fault_runs::campaign_text::put_fault;
+use ttp_base::{GrowingText, Memory};
 use ttp_world::{Channels, Event};
 
-fn put_channels(text: &mut Text, channels: Channels) -> Result<(), Memory>
+fn put_channels(text: &mut GrowingText, channels: Channels) -> Result<(), Memory>
     ensures { OnOk result (text.new ≡ text.old ++ channels_word channels) }
 {
     match (channels.a, channels.b) {
@@ -19,7 +19,7 @@ fn put_channels(text: &mut Text, channels: Channels) -> Result<(), Memory>
 }
 
 fn put_flip(
-    text: &mut Text,
+    text: &mut GrowingText,
     node: u8,
     channels: Channels,
     bit: u16,
@@ -37,7 +37,7 @@ fn put_flip(
     text.put_number(u64::from(slot))
 }
 
-fn put_error(text: &mut Text, node: u8, value: i64, from: u32, to: u32) -> Result<(), Memory>
+fn put_error(text: &mut GrowingText, node: u8, value: i64, from: u32, to: u32) -> Result<(), Memory>
     ensures { OnOk result (text.new ≡ text.old ++ named_event_words (event.Error node value from to)) }
 {
     text.put("error ")?;
@@ -50,7 +50,7 @@ fn put_error(text: &mut Text, node: u8, value: i64, from: u32, to: u32) -> Resul
     text.put_number(u64::from(to))
 }
 
-fn put_arm(text: &mut Text, node: u8, slot: u32) -> Result<(), Memory>
+fn put_arm(text: &mut GrowingText, node: u8, slot: u32) -> Result<(), Memory>
     ensures { OnOk result (text.new ≡ text.old ++ named_event_words (event.Arm node slot)) }
 {
     text.put("arm ")?;
@@ -64,7 +64,7 @@ fn put_arm(text: &mut Text, node: u8, slot: u32) -> Result<(), Memory>
 /// # Errors
 ///
 /// Where memory was refused; some of it may have been added.
-pub fn put_event(text: &mut Text, event: &Event) -> Result<(), Memory>
+pub fn put_event(text: &mut GrowingText, event: &Event) -> Result<(), Memory>
     ensures { OnOk result (text.new ≡ text.old ++ named_event_words event.now) }
 {
     match event {

@@ -5,18 +5,17 @@ ghost use Rattle.fault_runs.specs.Listing.{comma_before, dash_for};
 ghost use Rattle.causes.specs.WhyText.{number_of_line, number_word, line_number_words, number_words, node_word};
 
 use causes::{LineNumbers, ScriptLine};
-use fault_runs::campaign_text::Text;
-use ttp_base::Memory;
+use ttp_base::{GrowingText, Memory};
 
 /// A comma, unless the word of this place is the first.
-pub(crate) fn put_comma(text: &mut Text, place: usize) -> Result<(), Memory>
+pub(crate) fn put_comma(text: &mut GrowingText, place: usize) -> Result<(), Memory>
     ensures { OnOk result (text.new ≡ text.old ++ comma_before place) }
 {
     if place == 0 { Ok(()) } else { text.put(",") }
 }
 
 /// A dash where there are no words.
-pub(crate) fn put_dash(text: &mut Text, count: usize) -> Result<(), Memory>
+pub(crate) fn put_dash(text: &mut GrowingText, count: usize) -> Result<(), Memory>
     ensures { OnOk result (text.new ≡ text.old ++ dash_for count) }
 {
     if count == 0 { text.put("-") } else { Ok(()) }
@@ -45,7 +44,7 @@ pub fn number_of(numbers: &LineNumbers, line: ScriptLine) -> u32
 
 /// Adds the number of a line.
 pub(crate) fn put_number_of(
-    text: &mut Text,
+    text: &mut GrowingText,
     numbers: &LineNumbers,
     line: ScriptLine,
 ) -> Result<(), Memory>
@@ -56,7 +55,7 @@ pub(crate) fn put_number_of(
 
 /// Adds the numbers of lines, as they stand.
 pub(crate) fn put_numbers_of(
-    text: &mut Text,
+    text: &mut GrowingText,
     numbers: &LineNumbers,
     lines: &[ScriptLine],
 ) -> Result<(), Memory>
@@ -70,14 +69,14 @@ pub(crate) fn put_numbers_of(
 }
 
 // Adds a node's number.
-fn put_number(text: &mut Text, node: u8) -> Result<(), Memory>
+fn put_number(text: &mut GrowingText, node: u8) -> Result<(), Memory>
     ensures { OnOk result (text.new ≡ text.old ++ decimal node) }
 {
     text.put_number(u64::from(node))
 }
 
 /// Adds the numbers of nodes.
-pub(crate) fn put_nodes(text: &mut Text, nodes: &[u8]) -> Result<(), Memory>
+pub(crate) fn put_nodes(text: &mut GrowingText, nodes: &[u8]) -> Result<(), Memory>
     ensures { OnOk result (text.new ≡ text.old ++ number_words nodes.now) }
 {
     for (place, node) in nodes.iter().enumerate() {
@@ -88,7 +87,7 @@ pub(crate) fn put_nodes(text: &mut Text, nodes: &[u8]) -> Result<(), Memory>
 }
 
 /// Adds `node` and its number.
-pub(crate) fn put_node(text: &mut Text, node: u8) -> Result<(), Memory>
+pub(crate) fn put_node(text: &mut GrowingText, node: u8) -> Result<(), Memory>
     ensures { OnOk result (text.new ≡ text.old ++ node_word node) }
 {
     text.put("node ")?;
@@ -96,7 +95,7 @@ pub(crate) fn put_node(text: &mut Text, node: u8) -> Result<(), Memory>
 }
 
 /// Adds a text and a node behind it.
-pub(crate) fn put_node_behind(text: &mut Text, front: &str, node: u8) -> Result<(), Memory>
+pub(crate) fn put_node_behind(text: &mut GrowingText, front: &str, node: u8) -> Result<(), Memory>
     ensures { OnOk result (text.new ≡ text.old ++ (front.now ++ node_word node)) }
 {
     text.put(front)?;
@@ -104,7 +103,11 @@ pub(crate) fn put_node_behind(text: &mut Text, front: &str, node: u8) -> Result<
 }
 
 /// Adds a text and a number behind it.
-pub(crate) fn put_number_behind(text: &mut Text, front: &str, number: u32) -> Result<(), Memory>
+pub(crate) fn put_number_behind(
+    text: &mut GrowingText,
+    front: &str,
+    number: u32,
+) -> Result<(), Memory>
     ensures { OnOk result (text.new ≡ text.old ++ (front.now ++ decimal number)) }
 {
     text.put(front)?;
@@ -112,7 +115,12 @@ pub(crate) fn put_number_behind(text: &mut Text, front: &str, number: u32) -> Re
 }
 
 /// Adds two nodes with a text between them.
-pub(crate) fn put_pair(text: &mut Text, node: u8, between: &str, other: u8) -> Result<(), Memory>
+pub(crate) fn put_pair(
+    text: &mut GrowingText,
+    node: u8,
+    between: &str,
+    other: u8,
+) -> Result<(), Memory>
     ensures { OnOk result (text.new ≡ text.old ++ (node_word node ++ between.now ++ node_word other)) }
 {
     put_node(text, node)?;
@@ -121,7 +129,7 @@ pub(crate) fn put_pair(text: &mut Text, node: u8, between: &str, other: u8) -> R
 
 /// Adds three.
 pub(crate) fn put_three(
-    text: &mut Text,
+    text: &mut GrowingText,
     node: u8,
     before_second: &str,
     second: u8,

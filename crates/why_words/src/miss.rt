@@ -9,11 +9,10 @@ use crate::lists::{
     put_three,
 };
 use causes::{ClockNote, LineNumbers, Miss, ScriptLine};
-use fault_runs::campaign_text::Text;
-use ttp_base::Memory;
+use ttp_base::{GrowingText, Memory};
 use ttp_world::Medl;
 
-fn put_uncorrected(text: &mut Text, note: &ClockNote) -> Result<(), Memory>
+fn put_uncorrected(text: &mut GrowingText, note: &ClockNote) -> Result<(), Memory>
     ensures { OnOk result (text.new ≡ text.old ++ uncorrected_words note.now) }
 {
     if !note.is_uncorrected {
@@ -23,7 +22,7 @@ fn put_uncorrected(text: &mut Text, note: &ClockNote) -> Result<(), Memory>
     text.put(" not corrected")
 }
 
-fn put_joined(text: &mut Text, node: u8, joined: Option<u32>) -> Result<(), Memory>
+fn put_joined(text: &mut GrowingText, node: u8, joined: Option<u32>) -> Result<(), Memory>
     ensures { OnOk result (text.new ≡ text.old ++ joined_words node joined) }
 {
     match joined {
@@ -35,14 +34,14 @@ fn put_joined(text: &mut Text, node: u8, joined: Option<u32>) -> Result<(), Memo
     }
 }
 
-fn put_note(text: &mut Text, note: &ClockNote) -> Result<(), Memory>
+fn put_note(text: &mut GrowingText, note: &ClockNote) -> Result<(), Memory>
     ensures { OnOk result (text.new ≡ text.old ++ note_words note.now) }
 {
     put_uncorrected(text, note)?;
     put_joined(text, note.node, note.joined)
 }
 
-fn put_notes(text: &mut Text, notes: &[ClockNote]) -> Result<(), Memory>
+fn put_notes(text: &mut GrowingText, notes: &[ClockNote]) -> Result<(), Memory>
     ensures { OnOk result (text.new ≡ text.old ++ flat_map note_words notes.now) }
 {
     for note in notes {
@@ -52,7 +51,7 @@ fn put_notes(text: &mut Text, notes: &[ClockNote]) -> Result<(), Memory>
 }
 
 fn put_clock(
-    text: &mut Text,
+    text: &mut GrowingText,
     list: &Medl,
     numbers: &LineNumbers,
     deviation: i64,
@@ -68,7 +67,7 @@ fn put_clock(
 }
 
 fn put_left(
-    text: &mut Text,
+    text: &mut GrowingText,
     list: &Medl,
     numbers: &LineNumbers,
     node: u8,
@@ -81,7 +80,7 @@ fn put_left(
 }
 
 fn put_differs(
-    text: &mut Text,
+    text: &mut GrowingText,
     list: &Medl,
     numbers: &LineNumbers,
     holds: u8,
@@ -95,7 +94,7 @@ fn put_differs(
 }
 
 fn put_neither(
-    text: &mut Text,
+    text: &mut GrowingText,
     list: &Medl,
     numbers: &LineNumbers,
     sender: u8,
@@ -109,7 +108,7 @@ fn put_neither(
 }
 
 fn put_both(
-    text: &mut Text,
+    text: &mut GrowingText,
     list: &Medl,
     numbers: &LineNumbers,
     sender: u8,
@@ -124,7 +123,7 @@ fn put_both(
 
 // Adds a text and the number of a line behind it.
 fn put_with_line(
-    text: &mut Text,
+    text: &mut GrowingText,
     front: &str,
     numbers: &LineNumbers,
     line: ScriptLine,
@@ -137,7 +136,7 @@ fn put_with_line(
 
 // Adds a text and the numbers of lines behind it.
 fn put_with_lines(
-    text: &mut Text,
+    text: &mut GrowingText,
     front: &str,
     numbers: &LineNumbers,
     lines: &[ScriptLine],
@@ -149,7 +148,7 @@ fn put_with_lines(
 }
 
 // Adds a node and a text behind it.
-fn put_with_node(text: &mut Text, node: u8, behind: &str) -> Result<(), Memory>
+fn put_with_node(text: &mut GrowingText, node: u8, behind: &str) -> Result<(), Memory>
     ensures { OnOk result (text.new ≡ text.old ++ (node_word node ++ behind.now)) }
 {
     put_node(text, node)?;
@@ -157,7 +156,7 @@ fn put_with_node(text: &mut Text, node: u8, behind: &str) -> Result<(), Memory>
 }
 
 // Adds a text and the numbers of nodes behind it.
-fn put_collision(text: &mut Text, nodes: &[u8]) -> Result<(), Memory>
+fn put_collision(text: &mut GrowingText, nodes: &[u8]) -> Result<(), Memory>
     ensures { OnOk result (text.new ≡ text.old ++ (codes "collision of nodes " ++ number_words nodes.now)) }
 {
     text.put("collision of nodes ")?;
@@ -170,7 +169,7 @@ fn put_collision(text: &mut Text, nodes: &[u8]) -> Result<(), Memory>
 ///
 /// Where memory was refused; some of it may have been added.
 pub fn put_miss(
-    text: &mut Text,
+    text: &mut GrowingText,
     list: &Medl,
     numbers: &LineNumbers,
     miss: &Miss,

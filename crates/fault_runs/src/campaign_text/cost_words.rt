@@ -6,26 +6,25 @@ ghost use Rattle.ttp_world.specs.Trace.{reason_word};
 ghost use Rattle.campaign.specs.CostText.{listed, leave_word, span_words, members_word, cost_words};
 ghost use Rattle.fault_runs.specs.Listing.{comma_before, dash_for, in_order};
 
-use crate::campaign_text::Text;
 use campaign::{Cost, Leave, Span};
-use ttp_base::{Memory, NodeSet};
+use ttp_base::{GrowingText, Memory, NodeSet};
 use ttp_world::{Medl, Reason};
 
 // Adds a comma, unless the word of this place is the first.
-fn put_comma(text: &mut Text, place: usize) -> Result<(), Memory>
+fn put_comma(text: &mut GrowingText, place: usize) -> Result<(), Memory>
     ensures { OnOk result (text.new ≡ text.old ++ comma_before place) }
 {
     if place == 0 { Ok(()) } else { text.put(",") }
 }
 
 // Adds a dash where there are no words.
-fn put_dash(text: &mut Text, count: usize) -> Result<(), Memory>
+fn put_dash(text: &mut GrowingText, count: usize) -> Result<(), Memory>
     ensures { OnOk result (text.new ≡ text.old ++ dash_for count) }
 {
     if count == 0 { text.put("-") } else { Ok(()) }
 }
 
-fn put_reason(text: &mut Text, reason: Reason) -> Result<(), Memory>
+fn put_reason(text: &mut GrowingText, reason: Reason) -> Result<(), Memory>
     ensures { OnOk result (text.new ≡ text.old ++ reason_word reason) }
 {
     match reason {
@@ -35,7 +34,7 @@ fn put_reason(text: &mut Text, reason: Reason) -> Result<(), Memory>
     }
 }
 
-fn put_leave(text: &mut Text, leave: Leave) -> Result<(), Memory>
+fn put_leave(text: &mut GrowingText, leave: Leave) -> Result<(), Memory>
     ensures { OnOk result (text.new ≡ text.old ++ leave_word leave) }
 {
     text.put_number(u64::from(leave.node))?;
@@ -44,7 +43,7 @@ fn put_leave(text: &mut Text, leave: Leave) -> Result<(), Memory>
     put_reason(text, leave.reason)
 }
 
-fn put_leaves(text: &mut Text, leaves: &[Leave]) -> Result<(), Memory>
+fn put_leaves(text: &mut GrowingText, leaves: &[Leave]) -> Result<(), Memory>
     ensures { OnOk result (text.new ≡ text.old ++ listed (map leave_word leaves.now)) }
 {
     for (place, leave) in leaves.iter().enumerate() {
@@ -59,7 +58,7 @@ fn put_leaves(text: &mut Text, leaves: &[Leave]) -> Result<(), Memory>
 /// # Errors
 ///
 /// Where memory was refused; some of it may have been added.
-pub fn put_nodes(text: &mut Text, nodes: NodeSet) -> Result<(), Memory>
+pub fn put_nodes(text: &mut GrowingText, nodes: NodeSet) -> Result<(), Memory>
     ensures { OnOk result (text.new ≡ text.old ++ listed (map decimal (in_order nodes))) }
 {
     let mut place: usize = 0;
@@ -73,7 +72,7 @@ pub fn put_nodes(text: &mut Text, nodes: NodeSet) -> Result<(), Memory>
     put_dash(text, place)
 }
 
-fn put_span(text: &mut Text, span: Option<Span>) -> Result<(), Memory>
+fn put_span(text: &mut GrowingText, span: Option<Span>) -> Result<(), Memory>
     ensures { OnOk result (text.new ≡ text.old ++ span_words span) }
 {
     match span {
@@ -85,7 +84,7 @@ fn put_span(text: &mut Text, span: Option<Span>) -> Result<(), Memory>
     }
 }
 
-fn put_members(text: &mut Text, list: &Medl, members: NodeSet) -> Result<(), Memory>
+fn put_members(text: &mut GrowingText, list: &Medl, members: NodeSet) -> Result<(), Memory>
     requires { IsValid list.now }
     ensures { OnOk result (text.new ≡ text.old ++ members_word list.now members) }
 {
@@ -96,7 +95,7 @@ fn put_members(text: &mut Text, list: &Medl, members: NodeSet) -> Result<(), Mem
     }
 }
 
-fn put_memberships(text: &mut Text, list: &Medl, sets: &[NodeSet]) -> Result<(), Memory>
+fn put_memberships(text: &mut GrowingText, list: &Medl, sets: &[NodeSet]) -> Result<(), Memory>
     requires { IsValid list.now }
     ensures { OnOk result (text.new ≡ text.old ++ listed (map (members_word list.now) sets.now)) }
 {
@@ -112,7 +111,7 @@ fn put_memberships(text: &mut Text, list: &Medl, sets: &[NodeSet]) -> Result<(),
 /// # Errors
 ///
 /// Where memory was refused; some of it may have been added.
-pub fn put_cost(text: &mut Text, list: &Medl, cost: &Cost) -> Result<(), Memory>
+pub fn put_cost(text: &mut GrowingText, list: &Medl, cost: &Cost) -> Result<(), Memory>
     requires valid { IsValid list.now }
     requires hurt { in_order cost.now.hurt ≡ cost.now.hurt }
     ensures { OnOk result (text.new ≡ text.old ++ cost_words list.now cost.now) }

@@ -3,11 +3,10 @@ ghost use Rattle.std.specs.Prelude.{◌≡◌, ◌++◌, OnOk};
 ghost use Rattle.ttp_world.specs.declared.script.Event.TheVariants as event;
 ghost use Rattle.campaign.specs.CostText.{channels_word, kind_word, loss_words, fault_words};
 
-use crate::campaign_text::Text;
-use ttp_base::Memory;
+use ttp_base::{GrowingText, Memory};
 use ttp_world::{Channels, Event, Fault};
 
-fn put_channels(text: &mut Text, channels: Channels) -> Result<(), Memory>
+fn put_channels(text: &mut GrowingText, channels: Channels) -> Result<(), Memory>
     ensures { OnOk result (text.new ≡ text.old ++ channels_word channels) }
 {
     match (channels.a, channels.b) {
@@ -17,7 +16,7 @@ fn put_channels(text: &mut Text, channels: Channels) -> Result<(), Memory>
     }
 }
 
-fn put_kind(text: &mut Text, fault: Fault) -> Result<(), Memory>
+fn put_kind(text: &mut GrowingText, fault: Fault) -> Result<(), Memory>
     ensures { OnOk result (text.new ≡ text.old ++ kind_word fault) }
 {
     match fault {
@@ -27,7 +26,7 @@ fn put_kind(text: &mut Text, fault: Fault) -> Result<(), Memory>
 }
 
 fn put_loss(
-    text: &mut Text,
+    text: &mut GrowingText,
     word: &str,
     node: u8,
     channels: Channels,
@@ -46,7 +45,7 @@ fn put_loss(
     text.put_labelled(" ", u64::from(to))
 }
 
-fn put_jump(text: &mut Text, node: u8, value: i64, slot: u32) -> Result<(), Memory>
+fn put_jump(text: &mut GrowingText, node: u8, value: i64, slot: u32) -> Result<(), Memory>
     ensures { OnOk result (text.new ≡ text.old ++ fault_words (event.Jump node value slot)) }
 {
     text.put_labelled("jump ", u64::from(node))?;
@@ -60,7 +59,7 @@ fn put_jump(text: &mut Text, node: u8, value: i64, slot: u32) -> Result<(), Memo
 /// # Errors
 ///
 /// Where memory was refused; some of it may have been added.
-pub fn put_fault(text: &mut Text, fault: &Event) -> Result<(), Memory>
+pub fn put_fault(text: &mut GrowingText, fault: &Event) -> Result<(), Memory>
     ensures { OnOk result (text.new ≡ text.old ++ fault_words fault.now) }
 {
     match fault {

@@ -9,15 +9,14 @@ ghost use Rattle.campaign.specs.Lines.{head_line, own_line, fault_slot, fault_no
 ghost use Rattle.campaign.specs.Lines.{counts_line};
 ghost use Rattle.fault_runs.specs.Told.{told_summary, keep_words, back_words, head_words, run_words};
 
-use crate::campaign_text::Text;
 use crate::campaign_text::fault_words::put_fault;
 use campaign::Counts;
 use hypothesis::{has_arm, keeps, returns};
-use ttp_base::Memory;
+use ttp_base::{GrowingText, Memory};
 use ttp_world::{Back, Event, Keep, Medl, Script};
 
 // Adds the line of the hypothesis test, without its line feed. Returns whether it says yes.
-fn put_keep(text: &mut Text, keep: Keep) -> Result<bool, Memory>
+fn put_keep(text: &mut GrowingText, keep: Keep) -> Result<bool, Memory>
     ensures text { OnOk result (text.new ≡ text.old ++ keep_words keep) }
     ensures yes { IfOk result (λ yes. yes ≡ is_kept keep) }
 {
@@ -35,7 +34,7 @@ fn put_keep(text: &mut Text, keep: Keep) -> Result<bool, Memory>
 }
 
 // The same for the line on armed nodes.
-fn put_back(text: &mut Text, back: Back) -> Result<bool, Memory>
+fn put_back(text: &mut GrowingText, back: Back) -> Result<bool, Memory>
     ensures text { OnOk result (text.new ≡ text.old ++ back_words back) }
     ensures yes { IfOk result (λ yes. yes ≡ is_owed back) }
 {
@@ -57,7 +56,7 @@ fn put_back(text: &mut Text, back: Back) -> Result<bool, Memory>
 /// # Errors
 ///
 /// Where memory was refused; some of it may have been added.
-pub fn put_test(text: &mut Text, list: &Medl, script: &Script) -> Result<bool, Memory>
+pub fn put_test(text: &mut GrowingText, list: &Medl, script: &Script) -> Result<bool, Memory>
     requires valid { IsValid list.now }
     requires script { IsValidScript list.now script.now }
     ensures text { OnOk result (text.new ≡ text.old ++ test_words list.now script.now) }
@@ -72,7 +71,7 @@ pub fn put_test(text: &mut Text, list: &Medl, script: &Script) -> Result<bool, M
 
 // Adds the first line, by its first words and its numbers.
 fn put_head_words(
-    text: &mut Text,
+    text: &mut GrowingText,
     name: &str,
     nodes: u8,
     slots: u32,
@@ -94,7 +93,7 @@ fn put_head_words(
 ///
 /// As of each of these functions, where memory was refused; some of the line may have been added.
 pub fn put_head(
-    text: &mut Text,
+    text: &mut GrowingText,
     list: &Medl,
     script: &Script,
     first: u32,
@@ -110,7 +109,7 @@ pub fn put_head(
 // Adds what stands behind the place of a run, up to the fault. Returns whether the test of the script says
 // yes.
 fn put_run_words(
-    text: &mut Text,
+    text: &mut GrowingText,
     list: &Medl,
     script: &Script,
     words: &[u8],
@@ -133,7 +132,12 @@ fn put_run_words(
 /// # Errors
 ///
 /// Where memory was refused; some of the line may have been added.
-pub fn put_own(text: &mut Text, list: &Medl, script: &Script, words: &[u8]) -> Result<(), Memory>
+pub fn put_own(
+    text: &mut GrowingText,
+    list: &Medl,
+    script: &Script,
+    words: &[u8],
+) -> Result<(), Memory>
     requires valid { IsValid list.now }
     requires script { IsValidScript list.now script.now }
     ensures { (cost : Cost) → words.now ≡ cost_words list.now cost
@@ -170,7 +174,7 @@ pub fn fault_node(fault: &Event) -> u8
 /// # Errors
 ///
 /// Where memory was refused; some of it may have been added.
-pub fn put_place(text: &mut Text, fault: &Event) -> Result<(), Memory>
+pub fn put_place(text: &mut GrowingText, fault: &Event) -> Result<(), Memory>
     ensures { OnOk result (text.new ≡ text.old ++ place_words fault.now) }
 {
     text.put_labelled("slot ", u64::from(fault_slot(fault)))?;
@@ -181,7 +185,7 @@ pub fn put_place(text: &mut Text, fault: &Event) -> Result<(), Memory>
 /// Adds the line of a fault, with these words of what the run of the script that has it cost. Returns
 /// whether the test of that script says yes.
 pub fn put_run(
-    text: &mut Text,
+    text: &mut GrowingText,
     list: &Medl,
     script: &Script,
     fault: &Event,
@@ -206,7 +210,7 @@ pub fn put_run(
 /// # Errors
 ///
 /// Where memory was refused; some of the line may have been added.
-pub fn put_counts(text: &mut Text, name: &str, counts: &Counts) -> Result<(), Memory>
+pub fn put_counts(text: &mut GrowingText, name: &str, counts: &Counts) -> Result<(), Memory>
     ensures { OnOk result (text.new ≡ text.old ++ counts_line name.now counts.now) }
 {
     text.put_labelled(name, counts.runs)?;
