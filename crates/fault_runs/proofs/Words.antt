@@ -9,7 +9,7 @@ pub use Rattle.campaign.specs.declared.cost.Counts.{Counts}
 pub use Rattle.fault_runs.specs.Ends.{LeftBy, LeftFewerBy, WroteFewer}
 pub use Rattle.fault_runs.specs.Runs.{AreAtMost, HasAtMost, IsTallyOf, end_lines, entries_of, fault_lines, front_lines}
 pub use Rattle.fault_runs.specs.Runs.{most_tried, tried_before, tried_in}
-pub use Rattle.fault_runs.specs.Tries.{tried_lines, tried_of}
+pub use Rattle.fault_runs.specs.Tries.{all_tried, tried_at, tried_lines, tried_of}
 pub use Rattle.fault_runs.specs.declared.put.CampaignFault.{CampaignFault}
 pub use Rattle.fault_runs.specs.declared.tried.Tried.{Tried}
 pub use Rattle.std.proofs.Common.{Bool, Err, List, Ok, Result, [], ap, append-nil, append_assoc, arith, cond, drop}

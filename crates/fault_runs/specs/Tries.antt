@@ -11,6 +11,7 @@ use Rattle.campaign.specs.CostText.{cost_words}
 use Rattle.campaign.specs.Lines.{summary, summary_with, run_line, is_same_cost}
 use Rattle.run_costs.specs.Standing.{IsRunOfList, IsSeenAfter}
 use Rattle.fault_runs.specs.Merging.{IsSettledFrom}
+use Rattle.fault_runs.specs.Runs.{tried_in, tried_before}
 use Rattle.fault_runs.specs.declared.own.OwnRun.{OwnRun}
 use Rattle.fault_runs.specs.declared.tried.CampaignSetting.{CampaignSetting}
 use Rattle.fault_runs.specs.declared.tried.Tried.{Tried}
@@ -34,6 +35,14 @@ pub record MayTry (common : CampaignSetting) : Type 0 where
   pub own : common.own.now ≡ cost_words common.list.now (summary common.list.now common.script.now).cost
   pub settled : IsSettledFrom common.list.now common.script.now common.settled
   pub end : common.end.now ≡ (summary common.list.now common.script.now).cost.end
+
+-- the faults that are tried in a slot, and all
+abbrev pub tried_at : CampaignSetting → ℕ → List Event
+tried_at common slot = tried_in common.list.now common.script.now common.first common.last slot
+
+abbrev pub all_tried : CampaignSetting → List Event
+all_tried common =
+    tried_before common.list.now common.script.now common.first common.last common.script.now.slots
 
 -- what is told of the run with a fault
 abbrev pub tried_of : Medl → Script → Event → Tried

@@ -142,7 +142,6 @@ fn may_merge(slot: u32, event: &Event, settled: u32) -> bool
 
 // What the run of a script with a loss in this slot alone costs, by the script's own run, which is settled behind it.
 fn cost_merged(
-    alloc: Global,
     common: &CampaignSetting,
     event: &Event,
     more: &Script,
@@ -161,7 +160,7 @@ fn cost_merged(
     ensures cost { IfOk result (λ cost. cost ≡ (summary common.now.list.now more.now).cost) }
     ensures run { OnOk result (IsRunOfList run.new.run common.now.list.now) }
 {
-    let list = common.list;
+    let (alloc, list) = (common.alloc, common.list);
     run.go_on_from(past, list, more, event);
     run.step(list, more, slot);
     if did_same(run.states(list), row) {
@@ -180,7 +179,6 @@ fn cost_merged(
 ///
 /// Where memory was refused.
 pub(crate) fn cost_beside(
-    alloc: Global,
     common: &CampaignSetting,
     event: &Event,
     more: &Script,
@@ -198,7 +196,8 @@ pub(crate) fn cost_beside(
     ensures run { OnOk result (IsRunOfList run.new.run common.now.list.now) }
 {
     if may_merge(slot, event, common.settled) {
-        return cost_merged(alloc, common, event, more, past, row, slot, run);
+        return cost_merged(common, event, more, past, row, slot, run);
     }
-    cost_from(alloc, common.list, common.script, event, more, past, run)
+    let (alloc, list, script) = (common.alloc, common.list, common.script);
+    cost_from(alloc, list, script, event, more, past, run)
 }

@@ -15,10 +15,10 @@ ghost use Rattle.campaign.specs.Tried.{row_of};
 ghost use Rattle.ttp_world.specs.ZerosWorld.{zeros_world};
 ghost use Rattle.fault_runs.specs.declared.put.CampaignFault.TheVariants as fault;
 ghost use Rattle.fault_runs.specs.Ends.{LeftBy, LeftFewerBy, WroteFewer};
-ghost use Rattle.fault_runs.specs.Runs.{tried_in, tried_before, entries_of, fault_lines, front_lines, end_lines};
+ghost use Rattle.fault_runs.specs.Runs.{entries_of, fault_lines, front_lines, end_lines};
 ghost use Rattle.fault_runs.specs.Runs.{most_tried, HasAtMost, AreCountsOf, IsTallyOf};
 ghost use Rattle.fault_runs.specs.Merging.{IsWholeRun};
-ghost use Rattle.fault_runs.specs.Tries.{MayTry, IsOwnAfter, tried_of, tried_lines};
+ghost use Rattle.fault_runs.specs.Tries.{MayTry, IsOwnAfter, tried_at, all_tried, tried_of, tried_lines};
 
 use crate::own::OwnRun;
 use crate::tally::Tally;
@@ -127,35 +127,23 @@ fn is_in_range(first: u32, last: u32, slot: u32) -> bool
 }
 
 // The faults that are tried in a slot, by what each node does in it: none where it is not in the range.
-fn tried_in(
-    alloc: Global,
-    list: &Medl,
-    script: &Script,
-    first: u32,
-    last: u32,
-    row: &[Entry],
-    slot: u32,
-) -> Result<List<Event>, Memory>
-    requires valid { IsValid list.now }
-    requires script { IsValidScript list.now script.now }
-    requires slot { slot < script.now.slots }
-    requires row { row.now ≡ row_of (zeros_world list.now script.now script.now.slots) slot }
-    ensures { IfOk result (λ faults. faults ≡ tried_in list.now script.now first last slot) }
+fn tried_in(common: &CampaignSetting, row: &[Entry], slot: u32) -> Result<List<Event>, Memory>
+    requires may { MayTry common.now }
+    requires slot { slot < common.now.script.now.slots }
+    requires row { row.now
+        ≡ row_of (zeros_world common.now.list.now common.now.script.now common.now.script.now.slots) slot }
+    ensures { IfOk result (λ faults. faults ≡ tried_at common.now slot) }
 {
-    if is_in_range(first, last, slot) {
-        return faults_in(alloc, list, script, row, slot);
+    if is_in_range(common.first, common.last, slot) {
+        return faults_in(common.alloc, common.list, common.script, row, slot);
     }
-    Ok(List::new(alloc))
+    Ok(List::new(common.alloc))
 }
 
 // The next slot of the script's own run, and the runs of its faults.
 fn put_slot<R: Threads + Sync, K: Sink>(
     rt: &R,
-    alloc: Global,
     common: &CampaignSetting,
-    first: u32,
-    last: u32,
-    threads: usize,
     own: &mut OwnRun,
     slot: u32,
     tally: &mut Tally,
@@ -167,28 +155,23 @@ fn put_slot<R: Threads + Sync, K: Sink>(
     requires few { HasAtMost (most_tried * slot) tally.old }
     ensures run { IsOwnAfter own.new common.now.list.now common.now.script.now (slot + 1) }
     ensures told { (before : Items Event) → IsTallyOf common.now.list.now common.now.script.now before tally.old
-        → OnOk result (IsTallyOf common.now.list.now common.now.script.now
-        (before ++ tried_in common.now.list.now common.now.script.now first last slot) tally.new) }
+        → OnOk result (IsTallyOf common.now.list.now common.now.script.now (before ++ tried_at common.now slot) tally.new) }
     ensures few { OnOk result (HasAtMost (most_tried * (slot + 1)) tally.new) }
     ensures ok { OnOk result (WroteLines (K.output out.old) (K.output out.new)
-        (fault_lines common.now.list.now common.now.script.now
-        (tried_in common.now.list.now common.now.script.now first last slot))) }
+        (fault_lines common.now.list.now common.now.script.now (tried_at common.now slot))) }
     ensures err { IfErr result (λ why. LeftBy why (K.output out.old) (K.output out.new)
-        (fault_lines common.now.list.now common.now.script.now
-        (tried_in common.now.list.now common.now.script.now first last slot))) }
+        (fault_lines common.now.list.now common.now.script.now (tried_at common.now slot))) }
 {
-    let (list, script) = (common.list, common.script);
-    own.step(list, script, slot);
-    let Ok(row) = row_of(alloc, own.states(list)) else {
+    own.step(common.list, common.script, slot);
+    let Ok(row) = row_of(common.alloc, own.states(common.list)) else {
         return Err(CampaignFault::Memory);
     };
     let row = row.as_slice();
-    let Ok(faults) = tried_in(alloc, list, script, first, last, row, slot) else {
+    let Ok(faults) = tried_in(common, row, slot) else {
         return Err(CampaignFault::Memory);
     };
-    let past = &own.before;
-    let faults = faults.as_slice();
-    let Ok(all) = try_beside(rt, alloc, common, past, row, slot, faults, threads) else {
+    let (past, faults, threads) = (&own.before, faults.as_slice(), common.threads);
+    let Ok(all) = try_beside(rt, common, past, row, slot, faults, threads) else {
         return Err(CampaignFault::Memory);
     };
     put_all(all.as_slice(), slot, tally, out)
@@ -208,11 +191,7 @@ fn end_of(script: &Script, last: u32) -> u32
 // The runs of all faults, by the script's own run, which has not begun, and goes no further than the range.
 fn put_slots<R: Threads + Sync, K: Sink>(
     rt: &R,
-    alloc: Global,
     common: &CampaignSetting,
-    first: u32,
-    last: u32,
-    threads: usize,
     own: &mut OwnRun,
     tally: &mut Tally,
     out: &mut K,
@@ -221,19 +200,14 @@ fn put_slots<R: Threads + Sync, K: Sink>(
     requires run { IsOwnAfter own.old common.now.list.now common.now.script.now 0 }
     requires few { HasAtMost 0 tally.old }
     requires told { IsTallyOf common.now.list.now common.now.script.now [] tally.old }
-    ensures told { OnOk result (IsTallyOf common.now.list.now common.now.script.now
-        (tried_before common.now.list.now common.now.script.now first last common.now.script.now.slots) tally.new) }
+    ensures told { OnOk result (IsTallyOf common.now.list.now common.now.script.now (all_tried common.now) tally.new) }
     ensures ok { OnOk result (WroteLines (K.output out.old) (K.output out.new)
-        (fault_lines common.now.list.now common.now.script.now
-        (tried_before common.now.list.now common.now.script.now first last common.now.script.now.slots))) }
+        (fault_lines common.now.list.now common.now.script.now (all_tried common.now))) }
     ensures err { IfErr result (λ why. LeftBy why (K.output out.old) (K.output out.new)
-        (fault_lines common.now.list.now common.now.script.now
-        (tried_before common.now.list.now common.now.script.now first last common.now.script.now.slots))) }
+        (fault_lines common.now.list.now common.now.script.now (all_tried common.now))) }
 {
-    for slot in 0..end_of(common.script, last) {
-        if let Err(why) = put_slot(
-            rt, alloc, common, first, last, threads, own, slot, tally, out,
-        ) {
+    for slot in 0..end_of(common.script, common.last) {
+        if let Err(why) = put_slot(rt, common, own, slot, tally, out) {
             return Err(why);
         }
     }
@@ -243,8 +217,6 @@ fn put_slots<R: Threads + Sync, K: Sink>(
 // The head, and the line of the script's own run.
 fn put_front<K: Sink>(
     common: &CampaignSetting,
-    first: u32,
-    last: u32,
     tally: &mut Tally,
     out: &mut K,
 ) -> Result<(), CampaignFault>
@@ -254,15 +226,15 @@ fn put_front<K: Sink>(
     ensures told { OnOk result (IsTallyOf common.now.list.now common.now.script.now [] tally.new) }
     ensures few { OnOk result (HasAtMost 0 tally.new) }
     ensures ok { OnOk result (WroteLines (K.output out.old) (K.output out.new)
-        (front_lines common.now.list.now common.now.script.now first last)) }
+        (front_lines common.now.list.now common.now.script.now common.now.first common.now.last)) }
     ensures err { IfErr result (λ why. LeftFewerBy why (K.output out.old) (K.output out.new)
-        (front_lines common.now.list.now common.now.script.now first last)) }
+        (front_lines common.now.list.now common.now.script.now common.now.first common.now.last)) }
 {
-    let formed = tally.form_head(common, first, last);
+    let formed = tally.form_head(common);
     if let Err(why) = put_formed(formed, tally, out) {
         return Err(why);
     }
-    let formed = tally.form_own(common);
+    let formed = tally.form_own(common.list, common.script, common.own);
     put_formed(formed, tally, out)
 }
 
@@ -284,28 +256,22 @@ fn put_end<K: Sink>(tally: &mut Tally, out: &mut K) -> Result<(), CampaignFault>
 // All lines, by the script's own run, which has not begun.
 fn put_lines<R: Threads + Sync, K: Sink>(
     rt: &R,
-    alloc: Global,
     common: &CampaignSetting,
-    first: u32,
-    last: u32,
-    threads: usize,
     own: &mut OwnRun,
     out: &mut K,
 ) -> Result<(), CampaignFault>
     requires may { MayTry common.now }
     requires run { IsOwnAfter own.old common.now.list.now common.now.script.now 0 }
     ensures ok { OnOk result (WroteLines (K.output out.old) (K.output out.new)
-        (campaign_lines common.now.list.now common.now.script.now first last)) }
+        (campaign_lines common.now.list.now common.now.script.now common.now.first common.now.last)) }
     ensures err { IfErr result (λ why. LeftFewerBy why (K.output out.old) (K.output out.new)
-        (campaign_lines common.now.list.now common.now.script.now first last)) }
+        (campaign_lines common.now.list.now common.now.script.now common.now.first common.now.last)) }
 {
-    let mut tally = Tally::new(alloc);
-    if let Err(why) = put_front(common, first, last, &mut tally, out) {
+    let mut tally = Tally::new(common.alloc);
+    if let Err(why) = put_front(common, &mut tally, out) {
         return Err(why);
     }
-    if let Err(why) = put_slots(
-        rt, alloc, common, first, last, threads, own, &mut tally, out,
-    ) {
+    if let Err(why) = put_slots(rt, common, own, &mut tally, out) {
         return Err(why);
     }
     put_end(&mut tally, out)
@@ -356,16 +322,9 @@ pub fn put_own_line<K: Sink>(
     let Ok(own) = own_whole(alloc, list, script) else {
         return Err(CampaignFault::Memory);
     };
-    let (whole, words) = own;
-    let common = CampaignSetting {
-        list,
-        script,
-        own: words.bytes(),
-        settled: whole.settled,
-        end: whole.cost.end.as_slice(),
-    };
+    let (_, words) = own;
     let mut tally = Tally::new(alloc);
-    let formed = tally.form_own(&common);
+    let formed = tally.form_own(list, script, words.bytes());
     put_formed(formed, &tally, out)
 }
 
@@ -412,11 +371,15 @@ pub fn put_campaign<R: Threads + Sync, K: Sink>(
         return Err(CampaignFault::Memory);
     };
     let common = CampaignSetting {
+        alloc,
         list,
         script,
+        first,
+        last,
+        threads,
         own: words.bytes(),
         settled: whole.settled,
         end: whole.cost.end.as_slice(),
     };
-    put_lines(rt, alloc, &common, first, last, threads, &mut own, out)
+    put_lines(rt, &common, &mut own, out)
 }

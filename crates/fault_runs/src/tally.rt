@@ -7,18 +7,20 @@ ghost use Rattle.ttp_world.specs.declared.script.Event.{Event};
 ghost use Rattle.ttp_world.specs.declared.script.Script.{Script};
 ghost use Rattle.ttp_world.specs.declared.script.TheConstants.{EVENT_LIMIT};
 ghost use Rattle.ttp_world.specs.Medl.{IsValid};
+ghost use Rattle.ttp_world.specs.Script.{IsValidScript};
 ghost use Rattle.campaign.specs.declared.cost.Cost.{Cost};
+ghost use Rattle.campaign.specs.CostText.{cost_words};
 ghost use Rattle.campaign.specs.Lines.{Summary, summary, head_line, own_line, counts_line};
 ghost use Rattle.campaign.specs.Lines.{counts_of, is_same_cost, has_hurt, is_torn};
 ghost use Rattle.fault_runs.specs.Runs.{AreAtMost, HasAtMost, AreCountsOf, IsTallyOf};
-ghost use Rattle.fault_runs.specs.Tries.{MayTry, tried_of};
+ghost use Rattle.fault_runs.specs.Tries.{tried_of};
 
 use crate::campaign_text::{put_counts, put_head, put_own};
 use crate::tried::{CampaignSetting, Tried};
 use campaign::{Cost, Counts};
 use std::alloc::Global;
 use ttp_base::{GrowingText, Memory, NodeSet};
-use ttp_world::{EVENT_LIMIT, Script};
+use ttp_world::{EVENT_LIMIT, Medl, Script};
 
 /// What the runs so far come to, and where the lines of no fault are formed.
 #[derive(Drop)]
@@ -144,31 +146,34 @@ impl Tally {
     }
 
     /// The first line.
-    pub(crate) fn form_head(
-        &mut self,
-        common: &CampaignSetting,
-        first: u32,
-        last: u32,
-    ) -> Result<(), Memory>
+    pub(crate) fn form_head(&mut self, common: &CampaignSetting) -> Result<(), Memory>
         requires { IsValid common.now.list.now }
-        ensures line { OnOk result (self.new.line ≡ head_line common.now.list.now common.now.script.now first last) }
+        ensures line { OnOk result (self.new.line
+            ≡ head_line common.now.list.now common.now.script.now common.now.first common.now.last) }
         ensures kept { self.new.kept ≡ self.old.kept }
         ensures broken { self.new.broken ≡ self.old.broken }
     {
         self.line.clear();
-        put_head(&mut self.line, common.list, common.script, first, last)
+        let (list, script) = (common.list, common.script);
+        put_head(&mut self.line, list, script, common.first, common.last)
     }
 
     /// The line of the script's own run.
-    pub(crate) fn form_own(&mut self, common: &CampaignSetting) -> Result<(), Memory>
-        requires { MayTry common.now }
-        ensures line { OnOk result (self.new.line
-            ≡ own_line common.now.list.now (summary common.now.list.now common.now.script.now)) }
+    pub(crate) fn form_own(
+        &mut self,
+        list: &Medl,
+        script: &Script,
+        words: &[u8],
+    ) -> Result<(), Memory>
+        requires valid { IsValid list.now }
+        requires script { IsValidScript list.now script.now }
+        requires words { words.now ≡ cost_words list.now (summary list.now script.now).cost }
+        ensures line { OnOk result (self.new.line ≡ own_line list.now (summary list.now script.now)) }
         ensures kept { self.new.kept ≡ self.old.kept }
         ensures broken { self.new.broken ≡ self.old.broken }
     {
         self.line.clear();
-        put_own(&mut self.line, common.list, common.script, common.own)
+        put_own(&mut self.line, list, script, words)
     }
 
     /// The counts of the runs whose test says yes.

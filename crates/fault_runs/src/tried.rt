@@ -29,8 +29,14 @@ use ttp_world::{Entry, Event, Medl, Script};
 /// What all runs of a campaign read.
 #[derive(Clone, Copy)]
 pub(crate) struct CampaignSetting<'a> {
+    pub(crate) alloc: Global,
     pub(crate) list: &'a Medl,
     pub(crate) script: &'a Script,
+    /// The first and the last slot of the range.
+    pub(crate) first: u32,
+    pub(crate) last: u32,
+    /// In how many threads the runs of a slot are made.
+    pub(crate) threads: usize,
     /// The words of what the script's own run costs.
     pub(crate) own: &'a [u8],
     /// From which slot on that run is settled.
@@ -80,7 +86,6 @@ fn line_of(
 
 // The run of a fault, whose script this is.
 fn try_more(
-    alloc: Global,
     common: &CampaignSetting,
     past: &SeenRun,
     row: &[Entry],
@@ -99,9 +104,9 @@ fn try_more(
     ensures run { OnOk result (IsRunOfList run.new.run common.now.list.now) }
 {
     let list = common.list;
-    let cost = cost_beside(alloc, common, fault, more, past, row, slot, run)?;
+    let cost = cost_beside(common, fault, more, past, row, slot, run)?;
     form_words(list, &cost, words)?;
-    let shown = line_of(alloc, list, more, fault, words.bytes())?;
+    let shown = line_of(common.alloc, list, more, fault, words.bytes())?;
     let is_same = common.own == words.bytes();
     let (line, yes) = shown;
     Ok(Tried {
@@ -115,7 +120,6 @@ fn try_more(
 // The run of a fault, by the script's own run before its slot and what each node does in that slot. Its cost is formed in
 // `words`, and it is made in `run`.
 fn try_one(
-    alloc: Global,
     common: &CampaignSetting,
     past: &SeenRun,
     row: &[Entry],
@@ -132,13 +136,12 @@ fn try_one(
     ensures run { OnOk result (IsRunOfList run.new.run common.now.list.now) }
 {
     more_is_valid(common.list, common.script, fault);
-    let more = with_fault(alloc, common.script, fault)?;
-    try_more(alloc, common, past, row, slot, fault, &more, words, run)
+    let more = with_fault(common.alloc, common.script, fault)?;
+    try_more(common, past, row, slot, fault, &more, words, run)
 }
 
 // Adds those of some faults, one after another.
 fn add_each(
-    alloc: Global,
     common: &CampaignSetting,
     past: &SeenRun,
     row: &[Entry],
@@ -156,14 +159,13 @@ fn add_each(
     ensures { OnOk result (all.new.items ≡ map (tried_of common.now.list.now common.now.script.now) faults.now) }
 {
     for fault in faults {
-        all.push(try_one(alloc, common, past, row, slot, fault, words, run)?)?;
+        all.push(try_one(common, past, row, slot, fault, words, run)?)?;
     }
     Ok(())
 }
 
 // Adds those of some faults, made in one run after another.
 fn add_all(
-    alloc: Global,
     common: &CampaignSetting,
     past: &SeenRun,
     row: &[Entry],
@@ -177,16 +179,13 @@ fn add_all(
     requires none { all.old.items ≡ [] }
     ensures { OnOk result (all.new.items ≡ map (tried_of common.now.list.now common.now.script.now) faults.now) }
 {
-    let mut words = GrowingText::new(alloc);
-    let mut run = SeenRun::new(alloc, common.list, common.script)?;
-    add_each(
-        alloc, common, past, row, slot, faults, &mut words, &mut run, all,
-    )
+    let mut words = GrowingText::new(common.alloc);
+    let mut run = SeenRun::new(common.alloc, common.list, common.script)?;
+    add_each(common, past, row, slot, faults, &mut words, &mut run, all)
 }
 
 // Those of some faults. A run is made where there are any.
 fn try_each(
-    alloc: Global,
     common: &CampaignSetting,
     past: &SeenRun,
     row: &[Entry],
@@ -198,11 +197,11 @@ fn try_each(
     requires faults { All (MayStand common.now.list.now common.now.script.now) faults.now }
     ensures { IfOk result (λ all. all.items ≡ map (tried_of common.now.list.now common.now.script.now) faults.now) }
 {
-    let mut all = Vec::new(alloc);
+    let mut all = Vec::new(common.alloc);
     if faults.is_empty() {
         return Ok(all);
     }
-    add_all(alloc, common, past, row, slot, faults, &mut all)?;
+    add_all(common, past, row, slot, faults, &mut all)?;
     Ok(all)
 }
 
@@ -213,7 +212,6 @@ fn try_each(
 #[tactic(auto, using(crate::proofs::Tries::halves_tried))]
 pub(crate) fn try_beside<R: Threads + Sync>(
     rt: &R,
-    alloc: Global,
     common: &CampaignSetting,
     past: &SeenRun,
     row: &[Entry],
@@ -227,7 +225,7 @@ pub(crate) fn try_beside<R: Threads + Sync>(
     ensures { IfOk result (λ all. all.items ≡ map (tried_of common.now.list.now common.now.script.now) faults.now) }
 {
     if threads < 2 || faults.len() < 2 {
-        return try_each(alloc, common, past, row, slot, faults);
+        return try_each(common, past, row, slot, faults);
     }
     let (front, back) = faults.split_at(faults.len() / 2);
     let half = threads - threads / 2;
@@ -236,13 +234,13 @@ pub(crate) fn try_beside<R: Threads + Sync>(
             × All (MayStand common.now.list.now common.now.script.now) front.now }
         ensures { IfOk result (λ all. all.items
             ≡ map (tried_of common.entry.now.list.now common.entry.now.script.now) front.entry.now) }
-    { try_beside(rt, alloc, common, past, row, slot, front, half) };
+    { try_beside(rt, common, past, row, slot, front, half) };
     let try_back = || -> Result<Vec<Tried>, Memory>
         requires { IsSync R.row × MayTry common.now × IsOwnIn common.now.list.now common.now.script.now slot past.now row.now
             × All (MayStand common.now.list.now common.now.script.now) back.now }
         ensures { IfOk result (λ all. all.items
             ≡ map (tried_of common.entry.now.list.now common.entry.now.script.now) back.entry.now) }
-    { try_beside(rt, alloc, common, past, row, slot, back, half) };
+    { try_beside(rt, common, past, row, slot, back, half) };
     let (first, second) = join(rt, try_front, try_back);
     let mut all = first?;
     let mut rest = second?;

@@ -7,7 +7,7 @@
 //!
 //! ```text
 //! more_is_valid(common.list, common.script, fault);
-//! let more = with_fault(alloc, common.script, fault)?;
+//! let more = with_fault(common.alloc, common.script, fault)?;
 //! ```
 //!
 //! [`laws::more_is_valid`] wants room for one event more and a fault that may stand in the script;

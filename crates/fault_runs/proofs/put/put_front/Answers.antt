@@ -6,8 +6,9 @@ use Rattle.fault_runs.proofs.put.put_front.Goals as goal
 
 pub returns-in-Err-clause-err : goal.returns-in-Err-clause-err
 returns-in-Err-clause-err g c =
-    let head = head_line c.args.common.now.list.now c.args.common.now.script.now c.args.first c.args.last in
-    let own = own_line c.args.common.now.list.now (summary c.args.common.now.list.now c.args.common.now.script.now) in
+    let common = c.args.common.now in
+    let head = head_line common.list.now common.script.now common.first common.last in
+    let own = own_line common.list.now (summary common.list.now common.script.now) in
     fewer-more c.in-Err.why (g.K.Sink.output c.args.out.now) (g.K.Sink.output c.put_formed.new.out) (head ∷ [])
     (own ∷ []) (c.in-Err.ensures.err head c.form_head-formed.ensures.line)
 
@@ -15,8 +16,8 @@ pub returns : goal.returns
 returns g c =
     let list = c.args.common.now.list.now in
     let script = c.args.common.now.script.now in
-    let first = c.args.first in
-    let last = c.args.last in
+    let first = c.args.common.now.first in
+    let last = c.args.common.now.last in
     let a = g.K.Sink.output c.args.out.now in
     let b = g.K.Sink.output c.put_formed.new.out in
     let d = g.K.Sink.output c.put_formed-2.new.out in

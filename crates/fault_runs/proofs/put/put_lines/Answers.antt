@@ -1,17 +1,19 @@
 use Rattle.fault_runs.proofs.Words.{map, WroteLines, summary, summary_with, campaign_lines, CampaignFault}
-use Rattle.fault_runs.proofs.Words.{LeftFewerBy, end_lines, tried_before}
+use Rattle.fault_runs.proofs.Words.{LeftFewerBy, end_lines, all_tried}
 use Rattle.fault_runs.proofs.Wholes.{front-left, faults-left, counts-left, all-written}
 use Rattle.fault_runs.proofs.Results.{ok-weaker, err-weaker}
 use Rattle.fault_runs.proofs.put.put_lines.Goals as goal
 
 pub returns-in-Err-clause-err : goal.returns-in-Err-clause-err
 returns-in-Err-clause-err g c =
-    front-left c.args.common.now.list.now c.args.common.now.script.now c.args.first c.args.last c.in-Err.why
+    let common = c.args.common.now in
+    front-left common.list.now common.script.now common.first common.last c.in-Err.why
     (g.K.Sink.output c.args.out.now) (g.K.Sink.output c.put_front.new.out) c.in-Err.ensures.err
 
 pub returns-in-Err-put_slots-clause-err : goal.returns-in-Err-put_slots-clause-err
 returns-in-Err-put_slots-clause-err g c =
-    faults-left c.args.common.now.list.now c.args.common.now.script.now c.args.first c.args.last
+    let common = c.args.common.now in
+    faults-left common.list.now common.script.now common.first common.last
     c.in-Err-put_slots.why (g.K.Sink.output c.args.out.now) (g.K.Sink.output c.put_front.new.out)
     (g.K.Sink.output c.put_slots.new.out) c.in_default.ensures.ok c.in-Err-put_slots.ensures.err
 
@@ -19,8 +21,8 @@ pub returns : goal.returns
 returns g c =
     let list = c.args.common.now.list.now in
     let script = c.args.common.now.script.now in
-    let first = c.args.first in
-    let last = c.args.last in
+    let first = c.args.common.now.first in
+    let last = c.args.common.now.last in
     let a = g.K.Sink.output c.args.out.now in
     let b = g.K.Sink.output c.put_front.new.out in
     let d = g.K.Sink.output c.put_slots.new.out in
@@ -29,7 +31,7 @@ returns g c =
     let faults = c.in_default-put_slots.ensures.ok in
     let counts = c.in_default-put_slots.ensures.told in
     let own = (summary list script).cost in
-    let runs = map (summary_with list script) (tried_before list script first last script.slots) in
+    let runs = map (summary_with list script) (all_tried c.args.common.now) in
     record {
       ok =
           ok-weaker (WroteLines d e (end_lines list own runs)) (WroteLines a e (campaign_lines list script first last))

@@ -7,8 +7,8 @@ abbrev pub invariant-loop-slot : goal.invariant-loop-slot
 invariant-loop-slot g l =
     IsOwnAfter l.own l.common.list.now l.common.script.now l.slot
     × IsTallyOf l.common.list.now l.common.script.now
-    (tried_before l.common.list.now l.common.script.now l.first l.last l.slot) l.tally
+    (tried_before l.common.list.now l.common.script.now l.common.first l.common.last l.slot) l.tally
     × HasAtMost (most_tried * l.slot) l.tally
     × WroteLines (g.K.Sink.output l.initial.out) (g.K.Sink.output l.out)
     (fault_lines l.common.list.now l.common.script.now
-    (tried_before l.common.list.now l.common.script.now l.first l.last l.slot))
+    (tried_before l.common.list.now l.common.script.now l.common.first l.common.last l.slot))

@@ -7,17 +7,17 @@ use Rattle.fault_runs.proofs.put.tried_in.Goals as goal
 
 pub faults_in-requires-clause-row : goal.faults_in-requires-clause-row
 faults_in-requires-clause-row c =
-    let list = c.args.list.now in
-    let script = c.args.script.now in
+    let list = c.args.common.now.list.now in
+    let script = c.args.common.now.script.now in
     ap length (c.requires.row ∙ zeros-row list script c.args.slot script.slots c.requires.slot)
     ∙ length-next_row list script c.args.slot
 
 pub returns-then-is_in_range : goal.returns-then-is_in_range
 returns-then-is_in_range c =
-    let list = c.args.list.now in
-    let script = c.args.script.now in
-    let first = c.args.first in
-    let last = c.args.last in
+    let list = c.args.common.now.list.now in
+    let script = c.args.common.now.script.now in
+    let first = c.args.common.now.first in
+    let last = c.args.common.now.last in
     let slot = c.args.slot in
     let row = row_of (zeros_world list script script.slots) slot in
     let told : faults_in list script c.args.row.now slot ≡ tried_in list script first last slot =
@@ -28,8 +28,8 @@ returns-then-is_in_range c =
 
 pub returns : goal.returns
 returns c =
-    let list = c.args.list.now in
-    let script = c.args.script.now in
+    let list = c.args.common.now.list.now in
+    let script = c.args.common.now.script.now in
     let slot = c.args.slot in
     c.new.ensures
     ∙ ap (λ (b : Bool). cond b (faults_in list script (row_of (zeros_world list script script.slots) slot) slot) [])

@@ -3,7 +3,7 @@ use Rattle.fault_runs.proofs.tally.Tally.form_own.Goals as goal
 
 pub returns-clause-line : goal.returns-clause-line
 returns-clause-line c =
-    let list = c.args.common.now.list.now in
-    let script = c.args.common.now.script.now in
+    let list = c.args.list.now in
+    let script = c.args.script.now in
     subst (λ (old : List ℕ). OnOk c.put_own.result (c.put_own.new.text ≡ old ++ own_line list (summary list script)))
-    c.clear.ensures (c.put_own.ensures (summary list script).cost c.requires.own)
+    c.clear.ensures (c.put_own.ensures (summary list script).cost c.requires.words)
