@@ -7,18 +7,16 @@ use Rattle.std.proofs.lemmas.List.{map-append}
 use Rattle.ttp_base.specs.Outside.{Output, WroteLines}
 use Rattle.ttp_base.specs.Text.{Lines}
 use Rattle.ttp_base.proofs.Outputs.{Wrote-join}
-use Rattle.ttp_world.specs.declared.medl.Medl.{Medl}
-use Rattle.ttp_world.specs.declared.script.Script.{Script}
 use Rattle.clock_margins.specs.declared.margin.Margin.{Margin}
 use Rattle.clock_margins.specs.declared.margin.Sweep.{Sweep}
 use Rattle.clock_margins.specs.declared.margin.Total.{Total}
-use Rattle.clock_margins.specs.MarginText.{sweep_lines, sweep_margin}
 use Rattle.clock_margins.specs.Sums.{total_of}
 use Rattle.margin_text.specs.Taken.{IsFewOf}
 use Rattle.fault_runs.specs.declared.put.CampaignFault.{CampaignFault}
 use Rattle.fault_runs.specs.Ends.{LeftBy}
 use Rattle.fault_runs.proofs.Endings.{leaves-after, leaves-more}
-use Rattle.margin_runs.specs.Written.{AreSwept, lines_swept}
+use Rattle.margin_runs.specs.declared.tried.SweepSetting.{SweepSetting}
+use Rattle.margin_runs.specs.Written.{AreSwept, lines_of_sweep, lines_swept, margin_of_sweep}
 
 pub total-more : (m n : ℕ) (total : Total) → m ≤ n → IsFewOf m total → IsFewOf n total
 total-more m n total less few = record {
@@ -31,56 +29,56 @@ total-more m n total less few = record {
   };
 }
 
-module _ (list : Medl) (script : Script) (reach : ℕ) where
+module _ (common : SweepSetting) where
   pub lines-both : (xs ys : List Sweep)
-      → lines_swept list script reach (xs ++ ys) ≡ lines_swept list script reach xs ++ lines_swept list script reach ys
-  lines-both xs ys = flat_map-append (sweep_lines list script reach) xs ys
+      → lines_swept common (xs ++ ys) ≡ lines_swept common xs ++ lines_swept common ys
+  lines-both xs ys = flat_map-append (lines_of_sweep common) xs ys
 
   pub lines-next : (swept : List Sweep) (sweep : Sweep)
-      → lines_swept list script reach swept ++ sweep_lines list script reach sweep
-      ≡ lines_swept list script reach (swept ++ sweep ∷ [])
+      → lines_swept common swept ++ lines_of_sweep common sweep
+      ≡ lines_swept common (swept ++ sweep ∷ [])
   lines-next swept sweep =
-      ap (λ (lines : Lines). lines_swept list script reach swept ++ lines)
-      (sym (append-nil (sweep_lines list script reach sweep)))
+      ap (λ (lines : Lines). lines_swept common swept ++ lines)
+      (sym (append-nil (lines_of_sweep common sweep)))
       ∙ sym (lines-both swept (sweep ∷ []))
 
   pub swept-next : (start before now : Output) (swept : List Sweep) (sweep : Sweep) (margin : Margin) (old new : Total)
-      → AreSwept start before list script reach swept old → WroteLines before now (sweep_lines list script reach sweep)
-      → margin ≡ sweep_margin list script reach sweep
+      → AreSwept start before common swept old → WroteLines before now (lines_of_sweep common sweep)
+      → margin ≡ margin_of_sweep common sweep
       → ((margins : List Margin) → old ≡ total_of margins → new ≡ total_of (margins ++ margin ∷ []))
-      → AreSwept start now list script reach (swept ++ sweep ∷ []) new
+      → AreSwept start now common (swept ++ sweep ∷ []) new
   swept-next start before now swept sweep margin old new are wrote is counted =
-      let margins = map (sweep_margin list script reach) swept in
+      let margins = map (margin_of_sweep common) swept in
       record {
         wrote =
             subst (λ (lines : Lines). WroteLines start now lines) (lines-next swept sweep)
-            (Wrote-join start before now (lines_swept list script reach swept)
-            (sweep_lines list script reach sweep) are.wrote
+            (Wrote-join start before now (lines_swept common swept)
+            (lines_of_sweep common sweep) are.wrote
             wrote);
         total =
             counted margins are.total
             ∙ ap (λ (m : Margin). total_of (margins ++ m ∷ [])) is
-            ∙ sym (ap total_of (map-append (sweep_margin list script reach) swept (sweep ∷ [])));
+            ∙ sym (ap total_of (map-append (margin_of_sweep common) swept (sweep ∷ [])));
       }
 
   pub swept-left : (why : CampaignFault) (start before now : Output)
       (swept : List Sweep) (sweep : Sweep) (total : Total)
-      → AreSwept start before list script reach swept total
-      → LeftBy why before now (sweep_lines list script reach sweep)
-      → LeftBy why start now (lines_swept list script reach (swept ++ sweep ∷ []))
+      → AreSwept start before common swept total
+      → LeftBy why before now (lines_of_sweep common sweep)
+      → LeftBy why start now (lines_swept common (swept ++ sweep ∷ []))
   swept-left why start before now swept sweep total are left =
       subst (λ (lines : Lines). LeftBy why start now lines) (lines-next swept sweep)
-      (leaves-after why start before now (lines_swept list script reach swept)
-      (sweep_lines list script reach sweep) are.wrote
+      (leaves-after why start before now (lines_swept common swept)
+      (lines_of_sweep common sweep) are.wrote
       left)
 
   -- with more sweeps behind them
   pub more-left : (why : CampaignFault) (start now : Output) (swept more : List Sweep)
-      → LeftBy why start now (lines_swept list script reach swept)
-      → LeftBy why start now (lines_swept list script reach (swept ++ more))
+      → LeftBy why start now (lines_swept common swept)
+      → LeftBy why start now (lines_swept common (swept ++ more))
   more-left why start now swept more left =
       subst (λ (lines : Lines). LeftBy why start now lines) (sym (lines-both swept more))
-      (leaves-more why start now (lines_swept list script reach swept) (lines_swept list script reach more) left)
+      (leaves-more why start now (lines_swept common swept) (lines_swept common more) left)
 
 -- The sweeps of those that pass a test, one after another.
 

@@ -55,29 +55,29 @@ tolds-parts list script sweep first a b =
     ap (λ zs. map told zs) (values-parts first a b)
     ∙ map-append told (values_from first a) (values_from (first +ℤ pos a) b)
 
-pub so-far-more : (common : SweepSetting) (reach done some : ℕ)
-    → tolds_so_far common reach done
-    ++ tolds_from common.list.now common.script.now common.sweep (neg_ℤ (pos reach) +ℤ pos done) some
-    ≡ tolds_so_far common reach (done + some)
-so-far-more common reach done some =
-    sym (tolds-parts common.list.now common.script.now common.sweep (neg_ℤ (pos reach)) done some)
+pub so-far-more : (common : SweepSetting) (sweep : Sweep) (done some : ℕ)
+    → tolds_so_far common sweep done
+    ++ tolds_from common.list.now common.script.now sweep (neg_ℤ (pos common.reach) +ℤ pos done) some
+    ≡ tolds_so_far common sweep (done + some)
+so-far-more common sweep done some =
+    sym (tolds-parts common.list.now common.script.now sweep (neg_ℤ (pos common.reach)) done some)
 
 -- those behind some of them
-pub so-far-rest : (common : SweepSetting) (reach done count : ℕ) → done ≤ count
-    → (rest : List ValueTold) × (tolds_so_far common reach count ≡ tolds_so_far common reach done ++ rest)
-so-far-rest common reach done count less =
+pub so-far-rest : (common : SweepSetting) (sweep : Sweep) (done count : ℕ) → done ≤ count
+    → (rest : List ValueTold) × (tolds_so_far common sweep count ≡ tolds_so_far common sweep done ++ rest)
+so-far-rest common sweep done count less =
     let some = count - done in
     let all : done + some ≡ count = omega (arith, less) in (
-      tolds_from common.list.now common.script.now common.sweep (neg_ℤ (pos reach) +ℤ pos done) some,
-      sym (so-far-more common reach done some ∙ ap (tolds_so_far common reach) all),
+      tolds_from common.list.now common.script.now sweep (neg_ℤ (pos common.reach) +ℤ pos done) some,
+      sym (so-far-more common sweep done some ∙ ap (tolds_so_far common sweep) all),
     )
 
 -- all of them
-pub so-far-all : (common : SweepSetting) (reach count : ℕ) → count ≡ 2 * reach + 1
-    → tolds_so_far common reach count ≡ tolds_of common.list.now common.script.now reach common.sweep
-so-far-all common reach count is =
-    let all : count ≡ suc (2 * reach) = omega (arith, is) in
-    ap (tolds_so_far common reach) all
+pub so-far-all : (common : SweepSetting) (sweep : Sweep) (count : ℕ) → count ≡ 2 * common.reach + 1
+    → tolds_so_far common sweep count ≡ tolds_of common.list.now common.script.now common.reach sweep
+so-far-all common sweep count is =
+    let all : count ≡ suc (2 * common.reach) = omega (arith, is) in
+    ap (tolds_so_far common sweep) all
 
 values-count : (first : ℤ) (count : ℕ) → length (values_from first count) ≡ count
 values-count first zero = refl

@@ -1,31 +1,33 @@
 -- The parts of the text, one after another: the first two lines, those of sweeps, and the last one.
 use Rattle.std.proofs.Common.{◌≡◌, ℕ, List, [], ◌∷◌, ◌++◌, map, ap, subst, Option}
+use Rattle.std.specs.Prelude.{flat_map}
 use Rattle.ttp_base.specs.Outside.{Output, WroteLines}
 use Rattle.ttp_base.specs.Text.{Lines}
 use Rattle.ttp_base.proofs.Outputs.{Wrote-join}
 use Rattle.ttp_world.specs.declared.medl.Medl.{Medl}
 use Rattle.ttp_world.specs.declared.script.Script.{Script}
 use Rattle.campaign.specs.declared.cost.Span.{Span}
-use Rattle.clock_margins.specs.MarginText.{sweep_margin, all_line, margin_lines}
+use Rattle.clock_margins.specs.MarginText.{sweep_lines, sweep_margin, all_line, margin_lines}
 use Rattle.clock_margins.specs.Sweeps.{reach}
 use Rattle.fault_runs.specs.declared.put.CampaignFault.{CampaignFault}
 use Rattle.fault_runs.specs.Ends.{LeftBy, LeftFewerBy}
 use Rattle.fault_runs.proofs.Endings.{fewer-after, fewer-more, more-is_fewer}
-use Rattle.margin_runs.specs.Written.{lines_swept, all_sweeps, lines_in_front}
+use Rattle.margin_runs.specs.Written.{all_sweeps, lines_in_front}
 
 module _ (list : Medl) (script : Script) (asked : Option Span) (far : ℕ) (is : far ≡ reach list asked) where
   abbrev front : Lines
   front = lines_in_front list script asked
 
   abbrev lines : Lines
-  lines = lines_swept list script far (all_sweeps list script asked)
+  lines = flat_map (sweep_lines list script far) (all_sweeps list script asked)
 
   abbrev pub last_line : List ℕ
   last_line = all_line asked (map (sweep_margin list script far) (all_sweeps list script asked))
 
   whole : front ++ (lines ++ last_line ∷ []) ≡ margin_lines list script asked
   whole =
-      ap (λ (r : ℕ). lines_in_front list script asked ++ (lines_swept list script r (all_sweeps list script asked)
+      ap (λ (r : ℕ). lines_in_front list script asked
+      ++ (flat_map (sweep_lines list script r) (all_sweeps list script asked)
       ++ all_line asked (map (sweep_margin list script r) (all_sweeps list script asked)) ∷ [])) is
 
   -- where it ends in the first two lines

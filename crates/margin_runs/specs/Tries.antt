@@ -1,5 +1,5 @@
 -- The runs of values, as they are told before they are taken.
-use Rattle.std.specs.Prelude.{◌≡◌, ℕ, ◌<◌, ℤ, length, List, map, Option, Some, None, IfSome}
+use Rattle.std.specs.Prelude.{◌≡◌, ℕ, ◌<◌, ◌≤◌, ℤ, length, List, map, Option, Some, None, IfSome}
 use Rattle.ttp_base.specs.Text.{Lines}
 use Rattle.ttp_world.specs.declared.medl.Medl.{Medl}
 use Rattle.ttp_world.specs.declared.script.Script.{Script}
@@ -29,24 +29,25 @@ pub record IsBesideAfter (beside : BesideRun) (list : Medl) (script : Script) (s
 pub record IsUnbegun (run : Run) (list : Medl) : Type 0 where
   pub before : (script : Script) → IsRunAfter run list script 0
 
--- a valid script with room for one event more, and a node and a slot that it has
-pub record MayTrySweep (common : SweepSetting) : Type 0 where
-  pub valid : IsValid common.list.now
-  pub script : IsValidScript common.list.now common.script.now
-  pub room : length common.script.now.events < EVENT_LIMIT
-  pub node : common.sweep.node < length common.list.now.slots
-  pub slot : IfSome common.sweep.slot (λ slot. slot < common.script.now.slots)
-
--- the script's own run, beside the node that is swept; it has come to the slot of the jumps
-pub record IsPastOfSweep (common : SweepSetting) (past : BesideRun) : Type 0 where
-  pub run : IsBesideAfter past common.list.now common.script.now past.run.slots
-  pub node : past.node ≡ common.sweep.node
-  pub slot : IfSome common.sweep.slot (λ slot. past.run.slots ≡ slot)
-
 -- the most that a line of a script says of a drift or of a jump
 abbrev pub clock_limit : Option ℕ → ℕ
 clock_limit None = DRIFT_LIMIT
 clock_limit (Some slot) = JUMP_LIMIT
+
+-- a valid script with room for one event more, a node and a slot that it has, and values that a line may say
+pub record MayTrySweep (common : SweepSetting) (sweep : Sweep) : Type 0 where
+  pub valid : IsValid common.list.now
+  pub script : IsValidScript common.list.now common.script.now
+  pub room : length common.script.now.events < EVENT_LIMIT
+  pub node : sweep.node < length common.list.now.slots
+  pub slot : IfSome sweep.slot (λ slot. slot < common.script.now.slots)
+  pub reach : common.reach ≤ clock_limit sweep.slot
+
+-- the script's own run, beside the node that is swept; it has come to the slot of the jumps
+pub record IsPastOfSweep (common : SweepSetting) (sweep : Sweep) (past : BesideRun) : Type 0 where
+  pub run : IsBesideAfter past common.list.now common.script.now past.run.slots
+  pub node : past.node ≡ sweep.node
+  pub slot : IfSome sweep.slot (λ slot. past.run.slots ≡ slot)
 
 -- what is told of so many values from one on
 abbrev pub tolds_from : Medl → Script → Sweep → ℤ → ℕ → List ValueTold

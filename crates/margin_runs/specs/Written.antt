@@ -14,6 +14,7 @@ use Rattle.campaign.specs.declared.cost.Span.{Span}
 use Rattle.campaign.specs.Lines.{own_line, summary}
 use Rattle.campaign.specs.Tried.{is_timed}
 use Rattle.ttp_world.specs.ZerosWorld.{zeros_world}
+use Rattle.clock_margins.specs.declared.margin.Margin.{Margin}
 use Rattle.clock_margins.specs.declared.margin.Sweep.{Sweep}
 use Rattle.clock_margins.specs.declared.margin.Total.{Total}
 use Rattle.clock_margins.specs.MarginText.{margins_head, sweep_lines, sweep_margin}
@@ -30,9 +31,9 @@ use Rattle.margin_runs.specs.Tries.{tolds_from, range_lines}
 -- A sweep.
 
 -- what is told of so many values of a sweep, from the least one on
-abbrev pub tolds_so_far : SweepSetting → ℕ → ℕ → List ValueTold
-tolds_so_far common reach count =
-    tolds_from common.list.now common.script.now common.sweep (neg_ℤ (pos reach)) count
+abbrev pub tolds_so_far : SweepSetting → Sweep → ℕ → List ValueTold
+tolds_so_far common sweep count =
+    tolds_from common.list.now common.script.now sweep (neg_ℤ (pos common.reach)) count
 
 -- the lines of the ranges that no value more can make longer
 abbrev pub closed_lines : Medl → Sweep → List ValueTold → Lines
@@ -64,22 +65,27 @@ most_in_slot = 144000096
 
 -- Sweeps.
 
--- the lines of some sweeps
-abbrev pub lines_swept : Medl → Script → ℕ → List Sweep → Lines
-lines_swept list script reach swept = flat_map (sweep_lines list script reach) swept
+-- the lines of a sweep, and of some
+abbrev pub lines_of_sweep : SweepSetting → Sweep → Lines
+lines_of_sweep common sweep = sweep_lines common.list.now common.script.now common.reach sweep
+
+abbrev pub lines_swept : SweepSetting → List Sweep → Lines
+lines_swept common swept = flat_map (lines_of_sweep common) swept
+
+-- what a sweep comes to
+abbrev pub margin_of_sweep : SweepSetting → Sweep → Margin
+margin_of_sweep common sweep = sweep_margin common.list.now common.script.now common.reach sweep
 
 -- from one output to another these sweeps were written, and they come to this
-pub record AreSwept (start now : Output) (list : Medl) (script : Script) (reach : ℕ)
-    (swept : List Sweep) (all : Total) : Type 0
-  where
-    pub wrote : WroteLines start now (lines_swept list script reach swept)
-    pub total : all ≡ total_of (map (sweep_margin list script reach) swept)
+pub record AreSwept (start now : Output) (common : SweepSetting) (swept : List Sweep) (all : Total) : Type 0 where
+  pub wrote : WroteLines start now (lines_swept common swept)
+  pub total : all ≡ total_of (map (margin_of_sweep common) swept)
 
 -- a script with room for one event more
-pub record MayPut (list : Medl) (given : Script) : Type 0 where
-  pub valid : IsValid list
-  pub script : IsValidScript list given
-  pub room : length given.events < EVENT_LIMIT
+pub record MayPut (common : SweepSetting) : Type 0 where
+  pub valid : IsValid common.list.now
+  pub script : IsValidScript common.list.now common.script.now
+  pub room : length common.script.now.events < EVENT_LIMIT
 
 -- Which sweeps there are.
 

@@ -8,7 +8,7 @@ ghost use Rattle.ttp_world.specs.Medl.{IsValid};
 ghost use Rattle.ttp_world.specs.Script.{IsValidScript, is_ever_on};
 ghost use Rattle.ttp_world.specs.ZerosWorld.{zeros_world};
 ghost use Rattle.clock_margins.specs.declared.margin.Sweep.{Sweep};
-ghost use Rattle.clock_margins.specs.MarginText.{tolds_of, sweep_lines, sweep_margin, margin_lines};
+ghost use Rattle.clock_margins.specs.MarginText.{tolds_of, margin_lines};
 ghost use Rattle.clock_margins.specs.Outcomes.{ValueTold};
 ghost use Rattle.clock_margins.specs.Ranges.{ranges_of};
 ghost use Rattle.clock_margins.specs.Sweeps.{reach, value_limit, values_from};
@@ -17,10 +17,10 @@ ghost use Rattle.margin_laws.specs.Behind.{open_range};
 ghost use Rattle.margin_text.specs.Taken.{value_told, IsSweptOf, HasFew, AreCountsUpTo, IsFewOf};
 ghost use Rattle.run_costs.specs.States.{AreShown, state_at};
 ghost use Rattle.run_costs.specs.Standing.{IsRunAfter};
-ghost use Rattle.margin_runs.specs.Tries.{IsBesideAfter, MayTrySweep, IsPastOfSweep, clock_limit, are_told, range_lines};
+ghost use Rattle.margin_runs.specs.Tries.{IsBesideAfter, MayTrySweep, IsPastOfSweep, are_told, range_lines};
 ghost use Rattle.margin_runs.specs.Written.{AreWritable, IsPutOf, closed_lines, tolds_so_far, most_values, most_in_sweep, most_in_slot};
-ghost use Rattle.margin_runs.specs.Written.{AreSwept, MayPut, lines_swept, drifts_of, all_drifts, jump_sweeps_of, jumps_in, jumps_asked};
-ghost use Rattle.margin_runs.specs.Written.{all_jumps, all_sweeps, lines_in_front};
+ghost use Rattle.margin_runs.specs.Written.{AreSwept, MayPut, lines_of_sweep, margin_of_sweep, lines_swept, drifts_of, all_drifts};
+ghost use Rattle.margin_runs.specs.Written.{jump_sweeps_of, jumps_in, jumps_asked, all_jumps, all_sweeps, lines_in_front};
 
 use crate::beside::BesideRun;
 use crate::tried::{SweepSetting, try_beside};
@@ -157,71 +157,63 @@ fn some_values(alloc: Global, reach: u32, done: u32, some: u32) -> Result<Vec<i6
 // Runs so many values more, and takes them.
 fn put_values<R: Threads + Sync, K: Sink>(
     rt: &R,
-    alloc: Global,
     common: &SweepSetting,
+    sweep: Sweep,
     past: &BesideRun,
-    reach: u32,
     done: u32,
     some: u32,
-    threads: usize,
     line: &mut Text<ROOM>,
     swept: &mut Swept,
     out: &mut K,
 ) -> Result<(), CampaignFault>
-    requires may { MayTrySweep common.now }
-    requires past { IsPastOfSweep common.now past.now }
-    requires reach { reach ≤ clock_limit common.now.sweep.slot }
-    requires count { done + some ≤ 2 * reach + 1 }
-    requires put { (start : Output) × IsPutOf start (K.output out.old) common.now.list.now common.now.sweep
-        (tolds_so_far common.now reach done) swept.old }
-    ensures ok { (start : Output) → IsPutOf start (K.output out.old) common.now.list.now common.now.sweep
-        (tolds_so_far common.now reach done) swept.old
-        → OnOk result (IsPutOf start (K.output out.new) common.now.list.now common.now.sweep
-        (tolds_so_far common.now reach (done + some)) swept.new) }
-    ensures err { (start : Output) → IsPutOf start (K.output out.old) common.now.list.now common.now.sweep
-        (tolds_so_far common.now reach done) swept.old
-        → IfErr result (λ why. LeftBy why start (K.output out.new) (closed_lines common.now.list.now common.now.sweep
-        (tolds_so_far common.now reach (done + some)))) }
+    requires may { MayTrySweep common.now sweep }
+    requires past { IsPastOfSweep common.now sweep past.now }
+    requires count { done + some ≤ 2 * common.now.reach + 1 }
+    requires put { (start : Output) × IsPutOf start (K.output out.old) common.now.list.now sweep
+        (tolds_so_far common.now sweep done) swept.old }
+    ensures ok { (start : Output) → IsPutOf start (K.output out.old) common.now.list.now sweep
+        (tolds_so_far common.now sweep done) swept.old
+        → OnOk result (IsPutOf start (K.output out.new) common.now.list.now sweep
+        (tolds_so_far common.now sweep (done + some)) swept.new) }
+    ensures err { (start : Output) → IsPutOf start (K.output out.old) common.now.list.now sweep
+        (tolds_so_far common.now sweep done) swept.old
+        → IfErr result (λ why. LeftBy why start (K.output out.new) (closed_lines common.now.list.now sweep
+        (tolds_so_far common.now sweep (done + some)))) }
 {
-    let Ok(values) = some_values(alloc, reach, done, some) else {
+    let Ok(values) = some_values(common.alloc, common.reach, done, some) else {
         return Err(CampaignFault::Memory);
     };
-    let Ok(all) = try_beside(rt, alloc, common, past, values.as_slice(), threads) else {
+    let values = values.as_slice();
+    let Ok(all) = try_beside(rt, common, sweep, past, values, common.threads) else {
         return Err(CampaignFault::Memory);
     };
-    put_tolds(common.list, common.sweep, all, line, swept, out)
+    put_tolds(common.list, sweep, all, line, swept, out)
 }
 
 // Runs all values of a sweep, and writes the lines of all ranges but the last.
 fn put_ranges<R: Threads + Sync, K: Sink>(
     rt: &R,
-    alloc: Global,
     common: &SweepSetting,
+    sweep: Sweep,
     past: &BesideRun,
-    reach: u32,
-    threads: usize,
     line: &mut Text<ROOM>,
     swept: &mut Swept,
     out: &mut K,
 ) -> Result<(), CampaignFault>
-    requires may { MayTrySweep common.now }
-    requires past { IsPastOfSweep common.now past.now }
-    requires reach { reach ≤ clock_limit common.now.sweep.slot }
-    requires put { (start : Output) × IsPutOf start (K.output out.old) common.now.list.now common.now.sweep [] swept.old }
-    ensures ok { (start : Output) → IsPutOf start (K.output out.old) common.now.list.now common.now.sweep [] swept.old
-        → OnOk result (IsPutOf start (K.output out.new) common.now.list.now common.now.sweep
-        (tolds_of common.now.list.now common.now.script.now reach common.now.sweep) swept.new) }
-    ensures err { (start : Output) → IsPutOf start (K.output out.old) common.now.list.now common.now.sweep [] swept.old
-        → IfErr result (λ why. LeftBy why start (K.output out.new)
-        (sweep_lines common.now.list.now common.now.script.now reach common.now.sweep)) }
+    requires may { MayTrySweep common.now sweep }
+    requires past { IsPastOfSweep common.now sweep past.now }
+    requires put { (start : Output) × IsPutOf start (K.output out.old) common.now.list.now sweep [] swept.old }
+    ensures ok { (start : Output) → IsPutOf start (K.output out.old) common.now.list.now sweep [] swept.old
+        → OnOk result (IsPutOf start (K.output out.new) common.now.list.now sweep
+        (tolds_of common.now.list.now common.now.script.now common.now.reach sweep) swept.new) }
+    ensures err { (start : Output) → IsPutOf start (K.output out.old) common.now.list.now sweep [] swept.old
+        → IfErr result (λ why. LeftBy why start (K.output out.new) (lines_of_sweep common.now sweep)) }
 {
-    let count = 2 * reach + 1;
+    let count = 2 * common.reach + 1;
     let mut done = 0;
     while done < count {
         let some = AT_ONCE.min(count - done);
-        if let Err(why) = put_values(
-            rt, alloc, common, past, reach, done, some, threads, line, swept, out,
-        ) {
+        if let Err(why) = put_values(rt, common, sweep, past, done, some, line, swept, out) {
             return Err(why);
         }
         done += some;
@@ -259,36 +251,28 @@ fn put_last<K: Sink>(
 // The lines of a sweep. Returns what it comes to.
 fn put_sweep<R: Threads + Sync, K: Sink>(
     rt: &R,
-    alloc: Global,
     common: &SweepSetting,
+    sweep: Sweep,
     past: &BesideRun,
-    reach: u32,
-    threads: usize,
     line: &mut Text<ROOM>,
     out: &mut K,
 ) -> Result<Margin, CampaignFault>
-    requires may { MayTrySweep common.now }
-    requires past { IsPastOfSweep common.now past.now }
-    requires reach { reach ≤ clock_limit common.now.sweep.slot }
-    ensures margin { IfOk result (λ margin. margin
-        ≡ sweep_margin common.now.list.now common.now.script.now reach common.now.sweep) }
+    requires may { MayTrySweep common.now sweep }
+    requires past { IsPastOfSweep common.now sweep past.now }
+    ensures margin { IfOk result (λ margin. margin ≡ margin_of_sweep common.now sweep) }
     ensures few { IfOk result (λ margin. AreCountsUpTo most_values margin.counts) }
-    ensures ok { OnOk result (WroteLines (K.output out.old) (K.output out.new)
-        (sweep_lines common.now.list.now common.now.script.now reach common.now.sweep)) }
-    ensures err { IfErr result (λ why. LeftBy why (K.output out.old) (K.output out.new)
-        (sweep_lines common.now.list.now common.now.script.now reach common.now.sweep)) }
+    ensures ok { OnOk result (WroteLines (K.output out.old) (K.output out.new) (lines_of_sweep common.now sweep)) }
+    ensures err { IfErr result (λ why.
+        LeftBy why (K.output out.old) (K.output out.new) (lines_of_sweep common.now sweep)) }
 {
-    let (list, sweep) = (common.list, common.sweep);
     let mut swept = Swept::new(sweep.node);
-    if let Err(why) = put_ranges(
-        rt, alloc, common, past, reach, threads, line, &mut swept, out,
-    ) {
+    if let Err(why) = put_ranges(rt, common, sweep, past, line, &mut swept, out) {
         return Err(why);
     }
-    if let Err(why) = put_last(list, sweep, line, &swept, out) {
+    if let Err(why) = put_last(common.list, sweep, line, &swept, out) {
         return Err(why);
     }
-    let margin = swept.margin(reach);
+    let margin = swept.margin(common.reach);
     form_margin(line, sweep, &margin);
     if let Err(why) = put_line(line, out) {
         return Err(why);
@@ -299,30 +283,26 @@ fn put_sweep<R: Threads + Sync, K: Sink>(
 // The same, and counts it.
 fn put_counted<R: Threads + Sync, K: Sink>(
     rt: &R,
-    alloc: Global,
     common: &SweepSetting,
+    sweep: Sweep,
     past: &BesideRun,
-    reach: u32,
-    threads: usize,
     line: &mut Text<ROOM>,
     total: &mut Total,
     out: &mut K,
 ) -> Result<(), CampaignFault>
-    requires may { MayTrySweep common.now }
-    requires past { IsPastOfSweep common.now past.now }
-    requires reach { reach ≤ clock_limit common.now.sweep.slot }
+    requires may { MayTrySweep common.now sweep }
+    requires past { IsPastOfSweep common.now sweep past.now }
     requires few { IsFewOf (2 ^ 61) total.old }
     ensures few { (most : ℕ) → IsFewOf most total.old → OnOk result (IsFewOf (most + most_in_sweep) total.new) }
     ensures ok { (start : Output) (swept : List Sweep)
-        → AreSwept start (K.output out.old) common.now.list.now common.now.script.now reach swept total.old
-        → OnOk result (AreSwept start (K.output out.new) common.now.list.now common.now.script.now reach
-        (swept ++ common.now.sweep ∷ []) total.new) }
+        → AreSwept start (K.output out.old) common.now swept total.old
+        → OnOk result (AreSwept start (K.output out.new) common.now (swept ++ sweep ∷ []) total.new) }
     ensures err { (start : Output) (swept : List Sweep)
-        → AreSwept start (K.output out.old) common.now.list.now common.now.script.now reach swept total.old
+        → AreSwept start (K.output out.old) common.now swept total.old
         → IfErr result (λ why. LeftBy why start (K.output out.new)
-        (lines_swept common.now.list.now common.now.script.now reach (swept ++ common.now.sweep ∷ []))) }
+        (lines_swept common.now (swept ++ sweep ∷ []))) }
 {
-    match put_sweep(rt, alloc, common, past, reach, threads, line, out) {
+    match put_sweep(rt, common, sweep, past, line, out) {
         Ok(margin) => {
             *total = with_margin(total, &margin);
             Ok(())
@@ -342,70 +322,56 @@ fn is_ever_on(script: &Script, node: u8) -> bool
 // The drift of a node, if it is ever on.
 fn put_drift<R: Threads + Sync, K: Sink>(
     rt: &R,
-    alloc: Global,
-    list: &Medl,
-    script: &Script,
+    common: &SweepSetting,
     node: u8,
-    reach: u32,
-    threads: usize,
     line: &mut Text<ROOM>,
     total: &mut Total,
     out: &mut K,
 ) -> Result<(), CampaignFault>
-    requires may { MayPut list.now script.now }
-    requires node { node < length list.now.slots }
-    requires reach { reach ≤ DRIFT_LIMIT }
+    requires may { MayPut common.now }
+    requires node { node < length common.now.list.now.slots }
+    requires reach { common.now.reach ≤ DRIFT_LIMIT }
     requires few { IsFewOf (2 ^ 61) total.old }
     ensures few { (most : ℕ) → IsFewOf most total.old → OnOk result (IsFewOf (most + most_in_sweep) total.new) }
     ensures ok { (begin : Output) (swept : List Sweep)
-        → AreSwept begin (K.output out.old) list.now script.now reach swept total.old
-        → OnOk result (AreSwept begin (K.output out.new) list.now script.now reach
-        (swept ++ drifts_of script.now node) total.new) }
+        → AreSwept begin (K.output out.old) common.now swept total.old
+        → OnOk result (AreSwept begin (K.output out.new) common.now
+        (swept ++ drifts_of common.now.script.now node) total.new) }
     ensures err { (begin : Output) (swept : List Sweep)
-        → AreSwept begin (K.output out.old) list.now script.now reach swept total.old
+        → AreSwept begin (K.output out.old) common.now swept total.old
         → IfErr result (λ why. LeftBy why begin (K.output out.new)
-        (lines_swept list.now script.now reach (swept ++ drifts_of script.now node))) }
+        (lines_swept common.now (swept ++ drifts_of common.now.script.now node))) }
 {
-    if !is_ever_on(script, node) {
+    if !is_ever_on(common.script, node) {
         return Ok(());
     }
-    let Ok(past) = BesideRun::new(alloc, list, script, node) else {
+    let Ok(past) = BesideRun::new(common.alloc, common.list, common.script, node) else {
         return Err(CampaignFault::Memory);
     };
-    let common = SweepSetting {
-        list,
-        script,
-        sweep: Sweep { node, slot: None },
-    };
-    put_counted(rt, alloc, &common, &past, reach, threads, line, total, out)
+    let sweep = Sweep { node, slot: None };
+    put_counted(rt, common, sweep, &past, line, total, out)
 }
 
 // The drifts of all nodes.
 fn put_drifts<R: Threads + Sync, K: Sink>(
     rt: &R,
-    alloc: Global,
-    list: &Medl,
-    script: &Script,
-    reach: u32,
-    threads: usize,
+    common: &SweepSetting,
     line: &mut Text<ROOM>,
     total: &mut Total,
     out: &mut K,
 ) -> Result<(), CampaignFault>
-    requires may { MayPut list.now script.now }
-    requires reach { reach ≤ DRIFT_LIMIT }
+    requires may { MayPut common.now }
+    requires reach { common.now.reach ≤ DRIFT_LIMIT }
     requires few { IsFewOf 0 total.old }
-    ensures ok { (begin : Output) → AreSwept begin (K.output out.old) list.now script.now reach [] total.old
-        → OnOk result (AreSwept begin (K.output out.new) list.now script.now reach
-        (all_drifts list.now script.now) total.new) }
-    ensures err { (begin : Output) → AreSwept begin (K.output out.old) list.now script.now reach [] total.old
+    ensures ok { (begin : Output) → AreSwept begin (K.output out.old) common.now [] total.old
+        → OnOk result (AreSwept begin (K.output out.new) common.now
+        (all_drifts common.now.list.now common.now.script.now) total.new) }
+    ensures err { (begin : Output) → AreSwept begin (K.output out.old) common.now [] total.old
         → IfErr result (λ why. LeftBy why begin (K.output out.new)
-        (lines_swept list.now script.now reach (all_drifts list.now script.now))) }
+        (lines_swept common.now (all_drifts common.now.list.now common.now.script.now))) }
 {
-    for node in 0..list.nodes() {
-        if let Err(why) = put_drift(
-            rt, alloc, list, script, node, reach, threads, line, total, out,
-        ) {
+    for node in 0..common.list.nodes() {
+        if let Err(why) = put_drift(rt, common, node, line, total, out) {
             return Err(why);
         }
     }
@@ -413,21 +379,15 @@ fn put_drifts<R: Threads + Sync, K: Sink>(
 }
 
 // The script's own run before a slot, where a node counts as faulty besides.
-fn past_of(
-    alloc: Global,
-    list: &Medl,
-    script: &Script,
-    node: u8,
-    slot: u32,
-) -> Result<BesideRun, Memory>
-    requires valid { IsValid list.now }
-    requires script { IsValidScript list.now script.now }
-    requires node { node < length list.now.slots }
-    requires slot { slot < script.now.slots }
-    ensures run { IfOk result (λ run. IsBesideAfter run list.now script.now slot) }
+fn past_of(common: &SweepSetting, node: u8, slot: u32) -> Result<BesideRun, Memory>
+    requires may { MayPut common.now }
+    requires node { node < length common.now.list.now.slots }
+    requires slot { slot < common.now.script.now.slots }
+    ensures run { IfOk result (λ run. IsBesideAfter run common.now.list.now common.now.script.now slot) }
     ensures node { IfOk result (λ run. run.node ≡ node) }
 {
-    let mut past = BesideRun::new(alloc, list, script, node)?;
+    let (list, script) = (common.list, common.script);
+    let mut past = BesideRun::new(common.alloc, list, script, node)?;
     for before in 0..slot {
         past.step(list, script, before);
     }
@@ -437,48 +397,40 @@ fn past_of(
 // The jump of a node in a slot, by what it did there.
 fn put_jump<R: Threads + Sync, K: Sink>(
     rt: &R,
-    alloc: Global,
-    list: &Medl,
-    script: &Script,
+    common: &SweepSetting,
     slot: u32,
     node: u8,
     entry: &Entry,
-    reach: u32,
-    threads: usize,
     line: &mut Text<ROOM>,
     total: &mut Total,
     out: &mut K,
 ) -> Result<(), CampaignFault>
-    requires may { MayPut list.now script.now }
-    requires node { node < length list.now.slots }
-    requires slot { slot < script.now.slots }
-    requires reach { reach ≤ JUMP_LIMIT }
+    requires may { MayPut common.now }
+    requires node { node < length common.now.list.now.slots }
+    requires slot { slot < common.now.script.now.slots }
+    requires reach { common.now.reach ≤ JUMP_LIMIT }
     requires few { IsFewOf (2 ^ 61) total.old }
     ensures few { (most : ℕ) → IsFewOf most total.old → OnOk result (IsFewOf (most + most_in_sweep) total.new) }
     ensures ok { (begin : Output) (swept : List Sweep)
-        → AreSwept begin (K.output out.old) list.now script.now reach swept total.old
-        → OnOk result (AreSwept begin (K.output out.new) list.now script.now reach
+        → AreSwept begin (K.output out.old) common.now swept total.old
+        → OnOk result (AreSwept begin (K.output out.new) common.now
         (swept ++ jump_sweeps_of slot node entry.now) total.new) }
     ensures err { (begin : Output) (swept : List Sweep)
-        → AreSwept begin (K.output out.old) list.now script.now reach swept total.old
+        → AreSwept begin (K.output out.old) common.now swept total.old
         → IfErr result (λ why. LeftBy why begin (K.output out.new)
-        (lines_swept list.now script.now reach (swept ++ jump_sweeps_of slot node entry.now))) }
+        (lines_swept common.now (swept ++ jump_sweeps_of slot node entry.now))) }
 {
     if !is_timed(entry) {
         return Ok(());
     }
-    let Ok(past) = past_of(alloc, list, script, node, slot) else {
+    let Ok(past) = past_of(common, node, slot) else {
         return Err(CampaignFault::Memory);
     };
-    let common = SweepSetting {
-        list,
-        script,
-        sweep: Sweep {
-            node,
-            slot: Some(slot),
-        },
+    let sweep = Sweep {
+        node,
+        slot: Some(slot),
     };
-    put_counted(rt, alloc, &common, &past, reach, threads, line, total, out)
+    put_counted(rt, common, sweep, &past, line, total, out)
 }
 
 // What a node did, by what is shown of it.
@@ -492,47 +444,32 @@ fn entry_in(states: &[NodeState], node: u8) -> &Entry
 // The jumps of all nodes in a slot, by what is shown of them after it.
 fn put_slot<R: Threads + Sync, K: Sink>(
     rt: &R,
-    alloc: Global,
-    list: &Medl,
-    script: &Script,
+    common: &SweepSetting,
     slot: u32,
     states: &[NodeState],
-    reach: u32,
-    threads: usize,
     line: &mut Text<ROOM>,
     total: &mut Total,
     out: &mut K,
 ) -> Result<(), CampaignFault>
-    requires may { MayPut list.now script.now }
-    requires slot { slot < script.now.slots }
-    requires shown { AreShown list.now script.now (zeros_world list.now script.now (slot + 1)) states.now }
-    requires reach { reach ≤ JUMP_LIMIT }
+    requires may { MayPut common.now }
+    requires slot { slot < common.now.script.now.slots }
+    requires shown { AreShown common.now.list.now common.now.script.now
+        (zeros_world common.now.list.now common.now.script.now (slot + 1)) states.now }
+    requires reach { common.now.reach ≤ JUMP_LIMIT }
     requires few { IsFewOf (most_in_slot * slot) total.old }
     ensures few { OnOk result (IsFewOf (most_in_slot * (slot + 1)) total.new) }
     ensures ok { (begin : Output) (swept : List Sweep)
-        → AreSwept begin (K.output out.old) list.now script.now reach swept total.old
-        → OnOk result (AreSwept begin (K.output out.new) list.now script.now reach
-        (swept ++ jumps_in list.now script.now slot) total.new) }
+        → AreSwept begin (K.output out.old) common.now swept total.old
+        → OnOk result (AreSwept begin (K.output out.new) common.now
+        (swept ++ jumps_in common.now.list.now common.now.script.now slot) total.new) }
     ensures err { (begin : Output) (swept : List Sweep)
-        → AreSwept begin (K.output out.old) list.now script.now reach swept total.old
+        → AreSwept begin (K.output out.old) common.now swept total.old
         → IfErr result (λ why. LeftBy why begin (K.output out.new)
-        (lines_swept list.now script.now reach (swept ++ jumps_in list.now script.now slot))) }
+        (lines_swept common.now (swept ++ jumps_in common.now.list.now common.now.script.now slot))) }
 {
-    for node in 0..list.nodes() {
-        if let Err(why) = put_jump(
-            rt,
-            alloc,
-            list,
-            script,
-            slot,
-            node,
-            entry_in(states, node),
-            reach,
-            threads,
-            line,
-            total,
-            out,
-        ) {
+    for node in 0..common.list.nodes() {
+        let entry = entry_in(states, node);
+        if let Err(why) = put_jump(rt, common, slot, node, entry, line, total, out) {
             return Err(why);
         }
     }
@@ -549,73 +486,61 @@ fn is_in_range(asked: Span, slot: u32) -> bool
 // The next slot of the script's own run, and the jumps in it, if it is in the range.
 fn put_asked<R: Threads + Sync, K: Sink>(
     rt: &R,
-    alloc: Global,
-    list: &Medl,
-    script: &Script,
+    common: &SweepSetting,
     asked: Span,
     own: &mut Run,
     slot: u32,
-    reach: u32,
-    threads: usize,
     line: &mut Text<ROOM>,
     total: &mut Total,
     out: &mut K,
 ) -> Result<(), CampaignFault>
-    requires may { MayPut list.now script.now }
-    requires slot { slot < script.now.slots }
-    requires own { IsRunAfter own.old list.now script.now slot }
-    requires reach { reach ≤ JUMP_LIMIT }
+    requires may { MayPut common.now }
+    requires slot { slot < common.now.script.now.slots }
+    requires own { IsRunAfter own.old common.now.list.now common.now.script.now slot }
+    requires reach { common.now.reach ≤ JUMP_LIMIT }
     requires few { IsFewOf (most_in_slot * slot) total.old }
-    ensures own { IsRunAfter own.new list.now script.now (slot + 1) }
+    ensures own { IsRunAfter own.new common.now.list.now common.now.script.now (slot + 1) }
     ensures few { OnOk result (IsFewOf (most_in_slot * (slot + 1)) total.new) }
     ensures ok { (begin : Output) (swept : List Sweep)
-        → AreSwept begin (K.output out.old) list.now script.now reach swept total.old
-        → OnOk result (AreSwept begin (K.output out.new) list.now script.now reach
-        (swept ++ jumps_asked list.now script.now asked slot) total.new) }
+        → AreSwept begin (K.output out.old) common.now swept total.old
+        → OnOk result (AreSwept begin (K.output out.new) common.now
+        (swept ++ jumps_asked common.now.list.now common.now.script.now asked slot) total.new) }
     ensures err { (begin : Output) (swept : List Sweep)
-        → AreSwept begin (K.output out.old) list.now script.now reach swept total.old
+        → AreSwept begin (K.output out.old) common.now swept total.old
         → IfErr result (λ why. LeftBy why begin (K.output out.new)
-        (lines_swept list.now script.now reach (swept ++ jumps_asked list.now script.now asked slot))) }
+        (lines_swept common.now (swept ++ jumps_asked common.now.list.now common.now.script.now asked slot))) }
 {
-    own.step(list, script, slot);
+    own.step(common.list, common.script, slot);
     if !is_in_range(asked, slot) {
         return Ok(());
     }
-    let states = own.states(list);
-    put_slot(
-        rt, alloc, list, script, slot, states, reach, threads, line, total, out,
-    )
+    let states = own.states(common.list);
+    put_slot(rt, common, slot, states, line, total, out)
 }
 
 // The jumps in all slots of a range.
 fn put_slots<R: Threads + Sync, K: Sink>(
     rt: &R,
-    alloc: Global,
-    list: &Medl,
-    script: &Script,
+    common: &SweepSetting,
     asked: Span,
     own: &mut Run,
-    reach: u32,
-    threads: usize,
     line: &mut Text<ROOM>,
     total: &mut Total,
     out: &mut K,
 ) -> Result<(), CampaignFault>
-    requires may { MayPut list.now script.now }
-    requires own { IsRunAfter own.old list.now script.now 0 }
-    requires reach { reach ≤ JUMP_LIMIT }
+    requires may { MayPut common.now }
+    requires own { IsRunAfter own.old common.now.list.now common.now.script.now 0 }
+    requires reach { common.now.reach ≤ JUMP_LIMIT }
     requires few { IsFewOf 0 total.old }
-    ensures ok { (begin : Output) → AreSwept begin (K.output out.old) list.now script.now reach [] total.old
-        → OnOk result (AreSwept begin (K.output out.new) list.now script.now reach
-        (all_jumps list.now script.now asked) total.new) }
-    ensures err { (begin : Output) → AreSwept begin (K.output out.old) list.now script.now reach [] total.old
+    ensures ok { (begin : Output) → AreSwept begin (K.output out.old) common.now [] total.old
+        → OnOk result (AreSwept begin (K.output out.new) common.now
+        (all_jumps common.now.list.now common.now.script.now asked) total.new) }
+    ensures err { (begin : Output) → AreSwept begin (K.output out.old) common.now [] total.old
         → IfErr result (λ why. LeftBy why begin (K.output out.new)
-        (lines_swept list.now script.now reach (all_jumps list.now script.now asked))) }
+        (lines_swept common.now (all_jumps common.now.list.now common.now.script.now asked))) }
 {
-    for slot in 0..script.slots {
-        if let Err(why) = put_asked(
-            rt, alloc, list, script, asked, own, slot, reach, threads, line, total, out,
-        ) {
+    for slot in 0..common.script.slots {
+        if let Err(why) = put_asked(rt, common, asked, own, slot, line, total, out) {
             return Err(why);
         }
     }
@@ -625,62 +550,52 @@ fn put_slots<R: Threads + Sync, K: Sink>(
 // All sweeps that are asked for.
 fn put_sweeps<R: Threads + Sync, K: Sink>(
     rt: &R,
-    alloc: Global,
-    list: &Medl,
-    script: &Script,
+    common: &SweepSetting,
     asked: Option<Span>,
-    reach: u32,
-    threads: usize,
     line: &mut Text<ROOM>,
     total: &mut Total,
     out: &mut K,
 ) -> Result<(), CampaignFault>
-    requires may { MayPut list.now script.now }
-    requires reach { reach ≤ value_limit asked }
+    requires may { MayPut common.now }
+    requires reach { common.now.reach ≤ value_limit asked }
     requires few { IsFewOf 0 total.old }
-    ensures ok { (begin : Output) → AreSwept begin (K.output out.old) list.now script.now reach [] total.old
-        → OnOk result (AreSwept begin (K.output out.new) list.now script.now reach
-        (all_sweeps list.now script.now asked) total.new) }
-    ensures err { (begin : Output) → AreSwept begin (K.output out.old) list.now script.now reach [] total.old
+    ensures ok { (begin : Output) → AreSwept begin (K.output out.old) common.now [] total.old
+        → OnOk result (AreSwept begin (K.output out.new) common.now
+        (all_sweeps common.now.list.now common.now.script.now asked) total.new) }
+    ensures err { (begin : Output) → AreSwept begin (K.output out.old) common.now [] total.old
         → IfErr result (λ why. LeftBy why begin (K.output out.new)
-        (lines_swept list.now script.now reach (all_sweeps list.now script.now asked))) }
+        (lines_swept common.now (all_sweeps common.now.list.now common.now.script.now asked))) }
 {
     match asked {
-        None => put_drifts(rt, alloc, list, script, reach, threads, line, total, out),
+        None => put_drifts(rt, common, line, total, out),
         Some(asked) => {
-            let Ok(mut own) = Run::new(alloc, list) else {
+            let Ok(mut own) = Run::new(common.alloc, common.list) else {
                 return Err(CampaignFault::Memory);
             };
-            put_slots(
-                rt, alloc, list, script, asked, &mut own, reach, threads, line, total, out,
-            )
+            put_slots(rt, common, asked, &mut own, line, total, out)
         }
     }
 }
 
 // The first line and that of the script's own run.
 fn put_front<K: Sink>(
-    alloc: Global,
-    list: &Medl,
-    script: &Script,
+    common: &SweepSetting,
     asked: Option<Span>,
-    far: u32,
     line: &mut Text<ROOM>,
     out: &mut K,
 ) -> Result<(), CampaignFault>
-    requires valid { IsValid list.now }
-    requires script { IsValidScript list.now script.now }
-    requires room { length script.now.events < EVENT_LIMIT }
-    requires reach { far ≡ reach list.now asked }
-    ensures ok { OnOk result (WroteLines (K.output out.old) (K.output out.new) (lines_in_front list.now script.now asked)) }
+    requires may { MayPut common.now }
+    requires reach { common.now.reach ≡ reach common.now.list.now asked }
+    ensures ok { OnOk result (WroteLines (K.output out.old) (K.output out.new)
+        (lines_in_front common.now.list.now common.now.script.now asked)) }
     ensures err { IfErr result (λ why. LeftFewerBy why (K.output out.old) (K.output out.new)
-        (lines_in_front list.now script.now asked)) }
+        (lines_in_front common.now.list.now common.now.script.now asked)) }
 {
-    form_head(line, list, script, asked, far);
+    form_head(line, common.list, common.script, asked, common.reach);
     if let Err(why) = put_line(line, out) {
         return Err(why);
     }
-    put_own_line(alloc, list, script, out)
+    put_own_line(common.alloc, common.list, common.script, out)
 }
 
 /// Writes the margins of a script over the drifts of all nodes, or over the jumps in the slots of a range, each line as one
@@ -712,14 +627,19 @@ pub fn put_margins<R: Threads + Sync, K: Sink>(
         (margin_lines list.now script.now asked)) }
 {
     let reach = reach_of(list, asked);
+    let common = SweepSetting {
+        alloc,
+        list,
+        script,
+        reach,
+        threads,
+    };
     let mut line = Text::new();
     let mut total = no_sweeps();
-    if let Err(why) = put_front(alloc, list, script, asked, reach, &mut line, out) {
+    if let Err(why) = put_front(&common, asked, &mut line, out) {
         return Err(why);
     }
-    if let Err(why) = put_sweeps(
-        rt, alloc, list, script, asked, reach, threads, &mut line, &mut total, out,
-    ) {
+    if let Err(why) = put_sweeps(rt, &common, asked, &mut line, &mut total, out) {
         return Err(why);
     }
     form_all(&mut line, asked, &total);

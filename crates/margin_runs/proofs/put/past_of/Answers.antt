@@ -6,4 +6,5 @@ pub returns-clause-run : goal.returns-clause-run
 returns-clause-run c =
     let last : c.loop-before.before ≡ c.args.slot =
     omega (arith, c.loop-before-test.false, c.loop-before.auto.before-end) in
-    subst (IsBesideAfter c.loop-before.past c.args.list.now c.args.script.now) last c.loop-before.invariant.0
+    let common = c.args.common.now in
+    subst (IsBesideAfter c.loop-before.past common.list.now common.script.now) last c.loop-before.invariant.0

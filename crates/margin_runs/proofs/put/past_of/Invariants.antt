@@ -4,4 +4,4 @@ use Rattle.margin_runs.proofs.put.past_of.Given as goal
 
 -- the run has come so far
 abbrev pub invariant-loop-before : goal.invariant-loop-before
-invariant-loop-before l = IsBesideAfter l.past l.list l.script l.before × (l.past.node ≡ l.node)
+invariant-loop-before l = IsBesideAfter l.past l.common.list.now l.common.script.now l.before × (l.past.node ≡ l.node)

@@ -18,12 +18,12 @@ returns-in-Ok-clause-few g c = λ most few.
 pub returns-in-Ok-clause-ok : goal.returns-in-Ok-clause-ok
 returns-in-Ok-clause-ok g c = λ start swept are.
     let common = c.args.common.now in
-    swept-next common.list.now common.script.now c.args.reach start (g.K.Sink.output c.args.out.now)
-    (g.K.Sink.output c.put_sweep.new.out) swept common.sweep c.in-Ok.margin c.args.total.now c.with_margin.result are
+    swept-next common start (g.K.Sink.output c.args.out.now)
+    (g.K.Sink.output c.put_sweep.new.out) swept c.args.sweep c.in-Ok.margin c.args.total.now c.with_margin.result are
     c.in-Ok.ensures.ok c.in-Ok.ensures.margin c.with_margin.ensures.total
 
 pub returns-in-Err-clause-err : goal.returns-in-Err-clause-err
 returns-in-Err-clause-err g c = λ start swept are.
     let common = c.args.common.now in
-    swept-left common.list.now common.script.now c.args.reach c.in-Err.why start (g.K.Sink.output c.args.out.now)
-    (g.K.Sink.output c.put_sweep.new.out) swept common.sweep c.args.total.now are c.in-Err.ensures.err
+    swept-left common c.in-Err.why start (g.K.Sink.output c.args.out.now)
+    (g.K.Sink.output c.put_sweep.new.out) swept c.args.sweep c.args.total.now are c.in-Err.ensures.err

@@ -12,7 +12,7 @@ invariant-loop-node g l =
     record {
       few : IsFewOf (l.node * most_in_sweep) l.total;
       swept : (begin : Output)
-          → AreSwept begin (g.K.Sink.output l.initial.out) l.list l.script l.reach [] l.initial.total
-          → AreSwept begin (g.K.Sink.output l.out) l.list l.script l.reach
-          (flat_map (drifts_of l.script) (below l.node)) l.total;
+          → AreSwept begin (g.K.Sink.output l.initial.out) l.common [] l.initial.total
+          → AreSwept begin (g.K.Sink.output l.out) l.common
+          (flat_map (drifts_of l.common.script.now) (below l.node)) l.total;
     }

@@ -12,8 +12,8 @@ use Rattle.margin_runs.proofs.put.put_front.Goals as goal
 
 pub returns-in-Err-clause-err : goal.returns-in-Err-clause-err
 returns-in-Err-clause-err g c =
-    let head = margins_head c.args.list.now c.args.script.now c.args.asked in
-    let own = own_line c.args.list.now (summary c.args.list.now c.args.script.now) in
+    let head = margins_head c.args.common.now.list.now c.args.common.now.script.now c.args.asked in
+    let own = own_line c.args.common.now.list.now (summary c.args.common.now.list.now c.args.common.now.script.now) in
     let a = g.K.Sink.output c.args.out.now in
     let b = g.K.Sink.output c.put_line.new.out in
     fewer-more c.in-Err.why a b (head ∷ []) (own ∷ [])
@@ -21,8 +21,8 @@ returns-in-Err-clause-err g c =
 
 pub returns : goal.returns
 returns g c =
-    let list = c.args.list.now in
-    let script = c.args.script.now in
+    let list = c.args.common.now.list.now in
+    let script = c.args.common.now.script.now in
     let head = margins_head list script c.args.asked in
     let own = own_line list (summary list script) in
     let a = g.K.Sink.output c.args.out.now in

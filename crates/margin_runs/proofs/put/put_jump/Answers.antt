@@ -20,9 +20,7 @@ returns-then-not-is_timed g c =
       few = λ most few. total-more most (most + most_in_sweep) c.args.total.now (omega arith) few;
       ok = λ begin swept are.
           subst
-          (λ (xs : List Sweep). AreSwept begin (g.K.Sink.output c.args.out.now)
-          c.args.list.now c.args.script.now c.args.reach xs
-          c.args.total.now)
+          (λ (xs : List Sweep). AreSwept begin (g.K.Sink.output c.args.out.now) c.args.common.now xs c.args.total.now)
           (sym (ap (λ (b : Bool). swept ++ cond b (jump_sweep c.args.slot c.args.node ∷ []) []) off ∙ append-nil swept))
           are;
       err = λ begin swept are. tt;
@@ -31,18 +29,15 @@ returns-then-not-is_timed g c =
 -- where memory is refused, the sweeps before it stand
 pub returns-in_default-clause-err : goal.returns-in_default-clause-err
 returns-in_default-clause-err g c = λ begin swept are.
-    let list = c.args.list.now in
-    let script = c.args.script.now in
-    let reach = c.args.reach in
     let out = g.K.Sink.output c.args.out.now in
     let on : is_timed c.args.entry.now ≡ true = sym c.is_timed.ensures ∙ c.if-not-is_timed.false in
     let sweep = jump_sweep c.args.slot c.args.node in
     subst (λ (b : Bool). LeftBy fault.Memory begin out
-    (lines_swept list script reach (swept ++ cond b (sweep ∷ []) [])))
+    (lines_swept c.args.common.now (swept ++ cond b (sweep ∷ []) [])))
     (sym on) (record {
-      whole = lines_swept list script reach swept;
-      rest = lines_swept list script reach (sweep ∷ []);
-      text = lines-both list script reach swept (sweep ∷ []);
+      whole = lines_swept c.args.common.now swept;
+      rest = lines_swept c.args.common.now (sweep ∷ []);
+      text = lines-both c.args.common.now swept (sweep ∷ []);
       wrote = are.wrote;
     })
 
@@ -52,14 +47,16 @@ put_counted-requires-clause-may g c κs within = record {
   script = c.requires.may.script;
   room = c.requires.may.room;
   node = c.requires.node;
+  reach = c.requires.reach;
   slot = c.requires.slot;
 }
 
 pub put_counted-requires-clause-past : goal.put_counted-requires-clause-past
 put_counted-requires-clause-past g c κs within =
+    let common = c.args.common.now in
     let run = c.in-Ok.ensures.run in
     record {
-      run = subst (IsBesideAfter c.in-Ok.past c.args.list.now c.args.script.now) (sym run.run.count) run;
+      run = subst (IsBesideAfter c.in-Ok.past common.list.now common.script.now) (sym run.run.count) run;
       node = c.in-Ok.ensures.node;
       slot = run.run.count;
     }
@@ -69,7 +66,7 @@ returns-clause-ok g c = λ begin swept are.
     let on : is_timed c.args.entry.now ≡ true = sym c.is_timed.ensures ∙ c.if-not-is_timed.false in
     subst
     (λ (b : Bool). OnOk c.put_counted.result
-    (AreSwept begin (g.K.Sink.output c.put_counted.new.out) c.args.list.now c.args.script.now c.args.reach
+    (AreSwept begin (g.K.Sink.output c.put_counted.new.out) c.args.common.now
     (swept ++ cond b (jump_sweep c.args.slot c.args.node ∷ []) []) c.put_counted.new.total))
     (sym on) (c.put_counted.ensures.ok begin swept are)
 
@@ -79,6 +76,5 @@ returns-clause-err g c = λ begin swept are.
     subst
     (λ (b : Bool). IfErr c.put_counted.result
     (λ (why : CampaignFault). LeftBy why begin (g.K.Sink.output c.put_counted.new.out)
-    (lines_swept c.args.list.now c.args.script.now c.args.reach
-    (swept ++ cond b (jump_sweep c.args.slot c.args.node ∷ []) []))))
+    (lines_swept c.args.common.now (swept ++ cond b (jump_sweep c.args.slot c.args.node ∷ []) []))))
     (sym on) (c.put_counted.ensures.err begin swept are)

@@ -11,6 +11,10 @@ use Rattle.fault_runs.proofs.Results.{ok-weaker, err-weaker}
 use Rattle.margin_runs.proofs.Whole.{last_line, front-left, sweeps-left, last-left, all-written}
 use Rattle.margin_runs.proofs.put.put_margins.Goals as goal
 
+pub put_front-requires-clause-may : goal.put_front-requires-clause-may
+put_front-requires-clause-may g c =
+    record { valid = c.requires.valid; script = c.requires.script; room = c.requires.room }
+
 pub put_sweeps-requires-clause-may : goal.put_sweeps-requires-clause-may
 put_sweeps-requires-clause-may g c κs within =
     record { valid = c.requires.valid; script = c.requires.script; room = c.requires.room }

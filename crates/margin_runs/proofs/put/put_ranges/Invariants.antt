@@ -7,13 +7,13 @@ use Rattle.margin_runs.proofs.put.put_ranges.Given as goal
 abbrev pub invariant-loop-done : goal.invariant-loop-done
 invariant-loop-done g l =
     record {
-      within : l.done ≤ 2 * l.reach + 1;
+      within : l.done ≤ 2 * l.common.reach + 1;
       put : (start : Output)
-          → IsPutOf start (g.K.Sink.output l.initial.out) l.common.list.now l.common.sweep
-          (tolds_so_far l.common l.reach 0) l.initial.swept
-          → IsPutOf start (g.K.Sink.output l.out) l.common.list.now l.common.sweep
-          (tolds_so_far l.common l.reach l.done) l.swept;
+          → IsPutOf start (g.K.Sink.output l.initial.out) l.common.list.now l.sweep
+          (tolds_so_far l.common l.sweep 0) l.initial.swept
+          → IsPutOf start (g.K.Sink.output l.out) l.common.list.now l.sweep
+          (tolds_so_far l.common l.sweep l.done) l.swept;
     }
 
 abbrev pub decreases-loop-done : goal.decreases-loop-done
-decreases-loop-done g l = 2 * l.reach + 1 - l.done
+decreases-loop-done g l = 2 * l.common.reach + 1 - l.done

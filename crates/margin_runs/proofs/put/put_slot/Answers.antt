@@ -19,9 +19,7 @@ loop-node-init g c =
       few = subst (λ (n : ℕ). IsFewOf n c.args.total.now) none c.requires.few;
       swept = λ begin swept are.
           subst
-          (λ (xs : List Sweep). AreSwept begin (g.K.Sink.output c.args.out.now)
-          c.args.list.now c.args.script.now c.args.reach xs
-          c.args.total.now)
+          (λ (xs : List Sweep). AreSwept begin (g.K.Sink.output c.args.out.now) c.args.common.now xs c.args.total.now)
           (sym (append-nil swept)) are;
     }
 
@@ -32,15 +30,15 @@ pub put_jump-requires-clause-few : goal.put_jump-requires-clause-few
 put_jump-requires-clause-few g c κs within =
     let node = c.loop-node.node in
     let valid = c.requires.may.script in
-    let most = nodes-most c.args.list.now c.requires.may.valid in
+    let most = nodes-most c.args.common.now.list.now c.requires.may.valid in
     total-more (most_in_slot * c.args.slot + node * most_in_sweep) (2 ^ 61) c.loop-node.total
     (omega (arith, c.loop-node-test.true, c.nodes-node-end.ensures, most, c.requires.slot, valid.slots.1))
     c.loop-node.invariant.few
 
 pub loop-node-preserved : goal.loop-node-preserved
 loop-node-preserved g c =
-    let list = c.args.list.now in
-    let script = c.args.script.now in
+    let list = c.args.common.now.list.now in
+    let script = c.args.common.now.script.now in
     let slot = c.args.slot in
     let node = c.loop-node.node in
     let before = flat_map (jumps_at list script slot) (below node) in
@@ -56,7 +54,7 @@ loop-node-preserved g c =
           (c.in_default.ensures.few (most_in_slot * slot + node * most_in_sweep) c.loop-node.invariant.few);
       swept = λ begin swept are.
           subst
-          (λ (xs : List Sweep). AreSwept begin (g.K.Sink.output c.put_jump.new.out) list script c.args.reach xs
+          (λ (xs : List Sweep). AreSwept begin (g.K.Sink.output c.put_jump.new.out) c.args.common.now xs
           c.put_jump.new.total)
           (append_assoc swept before (jump_sweeps_of slot node c.entry_in.result.now)
           ∙ ap (λ (xs : List Sweep). swept ++ (before ++ xs)) here
@@ -66,10 +64,9 @@ loop-node-preserved g c =
 
 pub returns-in-Err-clause-err : goal.returns-in-Err-clause-err
 returns-in-Err-clause-err g c = λ begin swept are.
-    let list = c.args.list.now in
-    let script = c.args.script.now in
+    let list = c.args.common.now.list.now in
+    let script = c.args.common.now.script.now in
     let slot = c.args.slot in
-    let reach = c.args.reach in
     let node = c.loop-node.node in
     let why = c.in-Err.why in
     let now = g.K.Sink.output c.put_jump.new.out in
@@ -85,14 +82,14 @@ returns-in-Err-clause-err g c = λ begin swept are.
     ∙ append_assoc (swept ++ before) (jumps_at list script slot node) split.0
     ∙ append_assoc swept before (jumps_at list script slot node ++ split.0)
     ∙ ap (λ (xs : List Sweep). swept ++ xs) (sym split.1 ∙ sym (jumps-whole list script slot)) in
-    subst (λ (xs : List Sweep). LeftBy why begin now (lines_swept list script reach xs)) all
-    (more-left list script reach why begin now ((swept ++ before) ++ done) split.0
+    subst (λ (xs : List Sweep). LeftBy why begin now (lines_swept c.args.common.now xs)) all
+    (more-left c.args.common.now why begin now ((swept ++ before) ++ done) split.0
     (c.in-Err.ensures.err begin (swept ++ before) (c.loop-node.invariant.swept begin swept are)))
 
 pub returns : goal.returns
 returns g c =
-    let list = c.args.list.now in
-    let script = c.args.script.now in
+    let list = c.args.common.now.list.now in
+    let script = c.args.common.now.script.now in
     let slot = c.args.slot in
     let node = c.loop-node.node in
     let most = nodes-most list c.requires.may.valid in
@@ -104,7 +101,7 @@ returns g c =
           (omega (arith, last, most)) c.loop-node.invariant.few;
       ok = λ begin swept are.
           subst
-          (λ (xs : List Sweep). AreSwept begin (g.K.Sink.output c.loop-node.out) list script c.args.reach (swept ++ xs)
+          (λ (xs : List Sweep). AreSwept begin (g.K.Sink.output c.loop-node.out) c.args.common.now (swept ++ xs)
           c.loop-node.total)
           (ap (λ (n : ℕ). flat_map (jumps_at list script slot) (below n)) last ∙ sym (jumps-whole list script slot))
           (c.loop-node.invariant.swept begin swept are);

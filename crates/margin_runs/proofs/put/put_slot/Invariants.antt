@@ -14,7 +14,7 @@ invariant-loop-node g l =
     record {
       few : IsFewOf (most_in_slot * l.slot + l.node * most_in_sweep) l.total;
       swept : (begin : Output) (swept : List Sweep)
-          → AreSwept begin (g.K.Sink.output l.initial.out) l.list l.script l.reach swept l.initial.total
-          → AreSwept begin (g.K.Sink.output l.out) l.list l.script l.reach
-          (swept ++ flat_map (jumps_at l.list l.script l.slot) (below l.node)) l.total;
+          → AreSwept begin (g.K.Sink.output l.initial.out) l.common swept l.initial.total
+          → AreSwept begin (g.K.Sink.output l.out) l.common
+          (swept ++ flat_map (jumps_at l.common.list.now l.common.script.now l.slot) (below l.node)) l.total;
     }

@@ -11,10 +11,10 @@ use Rattle.margin_runs.proofs.put.put_slots.Given as goal
 abbrev pub invariant-loop-slot : goal.invariant-loop-slot
 invariant-loop-slot g l =
     record {
-      own : IsRunAfter l.own l.list l.script l.slot;
+      own : IsRunAfter l.own l.common.list.now l.common.script.now l.slot;
       few : IsFewOf (most_in_slot * l.slot) l.total;
       swept : (begin : Output)
-          → AreSwept begin (g.K.Sink.output l.initial.out) l.list l.script l.reach [] l.initial.total
-          → AreSwept begin (g.K.Sink.output l.out) l.list l.script l.reach
-          (flat_map (jumps_asked l.list l.script l.asked) (below l.slot)) l.total;
+          → AreSwept begin (g.K.Sink.output l.initial.out) l.common [] l.initial.total
+          → AreSwept begin (g.K.Sink.output l.out) l.common
+          (flat_map (jumps_asked l.common.list.now l.common.script.now l.asked) (below l.slot)) l.total;
     }

@@ -53,9 +53,9 @@ put_last-requires g c =
     record {
       valid = may.valid;
       swept = (
-        tolds_of common.list.now common.script.now c.args.reach common.sweep,
+        tolds_of common.list.now common.script.now common.reach c.args.sweep,
         put.swept,
-        tolds-writable common.list.now common.script.now common.sweep (values c.args.reach) may.valid,
+        tolds-writable common.list.now common.script.now c.args.sweep (values common.reach) may.valid,
       );
       node = omega (arith, may.node, nodes-most common.list.now may.valid);
     }
@@ -70,15 +70,15 @@ returns-in-Err-put_last-clause-err g c =
       few = c.new-swept.ensures.few;
       wrote = Wrote-none out;
     }) in
-    let tolds = tolds_of common.list.now common.script.now c.args.reach common.sweep in
-    last-left common.list.now common.script.now c.args.reach common.sweep c.in-Err-put_last.why out
+    let tolds = tolds_of common.list.now common.script.now common.reach c.args.sweep in
+    last-left common.list.now common.script.now common.reach c.args.sweep c.in-Err-put_last.why out
     (g.K.Sink.output c.put_ranges.new.out) (g.K.Sink.output c.put_last.new.out) put.wrote
     (c.in-Err-put_last.ensures.err tolds put.swept)
 
 pub margin-margin-requires : goal.margin-margin-requires
 margin-margin-requires g c =
     let common = c.args.common.now in
-    let reach = c.args.reach in
+    let reach = common.reach in
     let out = g.K.Sink.output c.args.out.now in
     let put = c.in_default.ensures.ok out (record {
       swept = c.new-swept.ensures.swept;
@@ -86,14 +86,14 @@ margin-margin-requires g c =
       few = c.new-swept.ensures.few;
       wrote = Wrote-none out;
     }) in
-    let tolds = tolds_of common.list.now common.script.now reach common.sweep in
+    let tolds = tolds_of common.list.now common.script.now reach c.args.sweep in
     let count : length tolds ≡ suc (2 * reach) =
-    tolds-count common.list.now common.script.now common.sweep (neg_ℤ (pos reach)) (suc (2 * reach)) in
-    let few = limit-few common.sweep.slot in
+    tolds-count common.list.now common.script.now c.args.sweep (neg_ℤ (pos reach)) (suc (2 * reach)) in
+    let few = limit-few c.args.sweep.slot in
     record {
-      reach = omega (arith, few, c.requires.reach);
+      reach = omega (arith, few, may.reach);
       few =
-          few-more (length tolds) (2 ^ 62) c.put_ranges.new.swept (omega (arith, count, few, c.requires.reach)) put.few;
+          few-more (length tolds) (2 ^ 62) c.put_ranges.new.swept (omega (arith, count, few, may.reach)) put.few;
       swept = (tolds, put.swept);
     }
 
@@ -102,8 +102,8 @@ returns-in-Err-put_line-clause-err g c =
     let common = c.args.common.now in
     let list = common.list.now in
     let script = common.script.now in
-    let sweep = common.sweep in
-    let reach = c.args.reach in
+    let sweep = c.args.sweep in
+    let reach = common.reach in
     let out = g.K.Sink.output c.args.out.now in
     let put = c.in_default.ensures.ok out (record {
       swept = c.new-swept.ensures.swept;
@@ -129,8 +129,8 @@ returns g c =
     let common = c.args.common.now in
     let list = common.list.now in
     let script = common.script.now in
-    let sweep = common.sweep in
-    let reach = c.args.reach in
+    let sweep = c.args.sweep in
+    let reach = common.reach in
     let out = g.K.Sink.output c.args.out.now in
     let put = c.in_default.ensures.ok out (record {
       swept = c.new-swept.ensures.swept;
@@ -152,7 +152,7 @@ returns g c =
       margin = margin;
       few =
           margin-few most_values reach tolds c.put_ranges.new.swept c.margin-margin.result put.swept put.few
-          (omega (arith, count, limit, c.requires.reach)) told;
+          (omega (arith, count, limit, may.reach)) told;
       ok =
           sweep-written list script reach sweep out (g.K.Sink.output c.put_ranges.new.out) last now put.wrote
           (c.in_default-put_last.ensures.ok tolds put.swept)

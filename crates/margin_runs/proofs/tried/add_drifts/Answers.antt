@@ -24,7 +24,7 @@ loop-value-init c = (
   (
     pos 0,
     c.with_drift-more.ensures
-        ∙ ap (λ (s : Script). with_drift s c.args.common.now.sweep.node (pos 0)) c.in_ok-copy.ensures,
+        ∙ ap (λ (s : Script). with_drift s c.args.sweep.node (pos 0)) c.in_ok-copy.ensures,
   ),
 )
 
@@ -38,7 +38,7 @@ pub loop-value-preserved : goal.loop-value-preserved
 loop-value-preserved c =
     let list = c.args.common.now.list.now in
     let script = c.args.common.now.script.now in
-    let sweep = c.args.common.now.sweep in
+    let sweep = c.args.sweep in
     let values = c.args.values.now in
     let i = c.loop-value.value-index in
     let value = get_or values i (pos 0) in

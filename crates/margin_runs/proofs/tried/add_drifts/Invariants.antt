@@ -9,7 +9,7 @@ use Rattle.margin_runs.proofs.tried.add_drifts.Given as goal
 abbrev pub invariant-loop-value : goal.invariant-loop-value
 invariant-loop-value l =
     (are_told l.all.items
-    ≡ map (told_of_value l.common.list.now l.common.script.now l.common.sweep) (take l.value-index l.values))
+    ≡ map (told_of_value l.common.list.now l.common.script.now l.sweep) (take l.value-index l.values))
     × IsRunOfList l.run.run.run l.common.list.now
-    × (l.run.node ≡ l.common.sweep.node)
-    × ((v : ℤ) × (l.more ≡ with_drift l.common.script.now l.common.sweep.node v))
+    × (l.run.node ≡ l.sweep.node)
+    × ((v : ℤ) × (l.more ≡ with_drift l.common.script.now l.sweep.node v))

@@ -21,7 +21,7 @@ loop-value-preserved c =
     let value = get_or values i (pos 0) in
     let more : take i values ++ value ∷ [] ≡ take (i + 1) values =
     sym (take_more values i (pos 0) c.loop-value-test.true) in (
-      told-more c.args.common.now.list.now c.args.common.now.script.now c.args.common.now.sweep values i value
+      told-more c.args.common.now.list.now c.args.common.now.script.now c.args.sweep values i value
           c.loop-value.all.items c.push.new.self.items c.in_ok-try_jump.field-0 more c.in_ok-push.ensures.items
           c.loop-value.invariant.0 c.in_ok-try_jump.ensures.told,
       c.in_ok-try_jump.ensures.run,

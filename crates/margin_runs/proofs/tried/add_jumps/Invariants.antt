@@ -8,6 +8,6 @@ use Rattle.margin_runs.proofs.tried.add_jumps.Given as goal
 abbrev pub invariant-loop-value : goal.invariant-loop-value
 invariant-loop-value l =
     (are_told l.all.items
-    ≡ map (told_of_value l.common.list.now l.common.script.now l.common.sweep) (take l.value-index l.values))
+    ≡ map (told_of_value l.common.list.now l.common.script.now l.sweep) (take l.value-index l.values))
     × IsRunOfList l.run.run.run l.common.list.now
-    × (l.run.node ≡ l.common.sweep.node)
+    × (l.run.node ≡ l.sweep.node)

@@ -10,7 +10,7 @@ use Rattle.margin_runs.proofs.tried.try_drift.Goals as goal
 pub with_drift-more-requires : goal.with_drift-more-requires
 with_drift-more-requires c =
     let script = c.args.common.now.script.now in
-    let node = c.args.common.now.sweep.node in
+    let node = c.args.sweep.node in
     let may = c.requires.may in
     let valid = may.script in
     let more : length c.args.more.drift ≡ length script.drift =
@@ -21,7 +21,7 @@ pub begin-requires-clause-script : goal.begin-requires-clause-script
 begin-requires-clause-script c =
     let list = c.args.common.now.list.now in
     let script = c.args.common.now.script.now in
-    let node = c.args.common.now.sweep.node in
+    let node = c.args.sweep.node in
     let may = c.requires.may in
     let inside : node < length list.slots = omega (arith, may.node) in
     let same : c.with_drift-more.result ≡ with_drift script node c.args.value.now =
@@ -38,7 +38,7 @@ pub try_script-requires-clause-script : goal.try_script-requires-clause-script
 try_script-requires-clause-script c =
     let list = c.args.common.now.list.now in
     let script = c.args.common.now.script.now in
-    let node = c.args.common.now.sweep.node in
+    let node = c.args.sweep.node in
     let may = c.requires.may in
     let inside : node < length list.slots = omega (arith, may.node) in
     let same : c.with_drift-more.result ≡ with_drift script node c.args.value.now =
@@ -52,7 +52,7 @@ pub returns-clause-told : goal.returns-clause-told
 returns-clause-told c =
     let list = c.args.common.now.list.now in
     let script = c.args.common.now.script.now in
-    let node = c.args.common.now.sweep.node in
+    let node = c.args.sweep.node in
     let value : ℤ = c.args.value.now in
     let same : c.with_drift-more.result ≡ with_drift script node value =
     c.with_drift-more.ensures ∙ ap (λ (s : Script). with_drift s node value) c.requires.more.1
@@ -64,6 +64,6 @@ returns-clause-told c =
 pub returns-clause-more : goal.returns-clause-more
 returns-clause-more c =
     let script = c.args.common.now.script.now in
-    let node = c.args.common.now.sweep.node in
+    let node = c.args.sweep.node in
     c.with_drift-more.ensures ∙ ap (λ (s : Script). with_drift s node c.args.value.now) c.requires.more.1
     ∙ drift-twice script node c.requires.more.0 c.args.value.now

@@ -65,9 +65,9 @@ pub returns-clause-told : goal.returns-clause-told
 returns-clause-told c =
     let list = c.args.common.now.list.now in
     let script = c.args.common.now.script.now in
-    let node = c.args.common.now.sweep.node in
+    let node = c.args.sweep.node in
     let value : ℤ = c.args.value.now in
-    let slot = c.args.common.now.sweep.slot in
+    let slot = c.args.sweep.slot in
     let same : told_by_script list c.in_ok-more.more c.go_on_from.new.self.node value
     ≡ told_by_script list (with_clock_value script node slot value) node value =
     ap (λ (k : ℕ). told_by_script list c.in_ok-more.more k value) (c.go_on_from.ensures.node ∙ c.requires.node)
