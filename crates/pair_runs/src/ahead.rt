@@ -79,13 +79,7 @@ impl OwnAhead {
     }
 
     // Runs the next slot, and its single faults where pairs reach to it.
-    fn look_at(
-        &mut self,
-        alloc: Global,
-        common: &PairsSetting,
-        slot: u32,
-        run: &mut SeenRun,
-    ) -> Result<(), Memory>
+    fn look_at(&mut self, common: &PairsSetting, slot: u32, run: &mut SeenRun) -> Result<(), Memory>
         requires may { MayPair common.now }
         requires slot { slot < common.now.script.now.slots }
         requires ahead { IsAhead common.now.list.now common.now.script.now self.old }
@@ -95,7 +89,7 @@ impl OwnAhead {
         ensures next { OnOk result (self.new.next ≡ slot + 1) }
         ensures run { OnOk result (IsRunOfList run.new.run common.now.list.now) }
     {
-        let (list, script) = (common.list, common.script);
+        let (alloc, list, script) = (common.alloc, common.list, common.script);
         self.own.step(list, script, slot);
         self.next = slot + 1;
         if slot < common.first {
@@ -117,7 +111,6 @@ impl OwnAhead {
     /// Runs the slots before this one that it has not run yet.
     pub(crate) fn look_to(
         &mut self,
-        alloc: Global,
         common: &PairsSetting,
         end: u32,
         run: &mut SeenRun,
@@ -130,7 +123,7 @@ impl OwnAhead {
         ensures run { OnOk result (IsRunOfList run.new.run common.now.list.now) }
     {
         for slot in self.next..end {
-            self.look_at(alloc, common, slot, run)?;
+            self.look_at(common, slot, run)?;
         }
         Ok(())
     }

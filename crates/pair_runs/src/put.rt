@@ -168,7 +168,6 @@ fn put_tolds<K: Sink>(
 // The pairs of a first fault and some second ones, so many slots behind it.
 fn put_seconds<R: Threads + Sync, K: Sink>(
     rt: &R,
-    alloc: Global,
     setting: &FirstSetting,
     apart: u32,
     past: &SeenRun,
@@ -190,7 +189,7 @@ fn put_seconds<R: Threads + Sync, K: Sink>(
         (lines_of_told (map (told_pair setting.now apart) faults.now))) }
 {
     let threads = setting.common.threads;
-    let Ok(all) = try_beside(rt, alloc, setting, apart, past, singles, faults, threads) else {
+    let Ok(all) = try_beside(rt, setting, apart, past, singles, faults, threads) else {
         return Err(CampaignFault::Memory);
     };
     put_tolds(all.as_slice(), apart, tally, out)
@@ -199,7 +198,6 @@ fn put_seconds<R: Threads + Sync, K: Sink>(
 // Those of a later slot, which is the next one of the run with the first fault.
 fn put_later<R: Threads + Sync, K: Sink>(
     rt: &R,
-    alloc: Global,
     setting: &FirstSetting,
     rows: &[Singles],
     later: u32,
@@ -222,14 +220,13 @@ fn put_later<R: Threads + Sync, K: Sink>(
 {
     let (list, more) = (setting.common.list, setting.more);
     past.step(list, more, later);
-    let Ok(faults) = faults_at(alloc, list, more, past, later) else {
+    let Ok(faults) = faults_at(setting.common.alloc, list, more, past, later) else {
         return Err(CampaignFault::Memory);
     };
     let row = &rows[place_of(later)];
     let apart = later - setting.slot;
     put_seconds(
         rt,
-        alloc,
         setting,
         apart,
         &past.before,
@@ -243,7 +240,6 @@ fn put_later<R: Threads + Sync, K: Sink>(
 // Those of all later slots.
 fn put_behind<R: Threads + Sync, K: Sink>(
     rt: &R,
-    alloc: Global,
     setting: &FirstSetting,
     rows: &[Singles],
     past: &mut OwnRun,
@@ -260,7 +256,7 @@ fn put_behind<R: Threads + Sync, K: Sink>(
         (lines_of_told (tolds_behind setting.now))) }
 {
     for later in setting.slot + 1..end_behind(&setting.common, setting.slot) {
-        if let Err(why) = put_later(rt, alloc, setting, rows, later, past, tally, out) {
+        if let Err(why) = put_later(rt, setting, rows, later, past, tally, out) {
             return Err(why);
         }
     }
@@ -270,7 +266,6 @@ fn put_behind<R: Threads + Sync, K: Sink>(
 // All pairs of a first fault, by the run with it before its slot.
 fn put_pairs_of<R: Threads + Sync, K: Sink>(
     rt: &R,
-    alloc: Global,
     setting: &FirstSetting,
     rows: &[Singles],
     past: &mut OwnRun,
@@ -293,20 +288,10 @@ fn put_pairs_of<R: Threads + Sync, K: Sink>(
     past.step(setting.common.list, setting.more, setting.slot);
     let row = &rows[place_of(setting.slot)];
     let (before, behind) = (&past.before, setting.behind);
-    if let Err(why) = put_seconds(
-        rt,
-        alloc,
-        setting,
-        0,
-        before,
-        row.kept(),
-        behind,
-        tally,
-        out,
-    ) {
+    if let Err(why) = put_seconds(rt, setting, 0, before, row.kept(), behind, tally, out) {
         return Err(why);
     }
-    put_behind(rt, alloc, setting, rows, past, tally, out)
+    put_behind(rt, setting, rows, past, tally, out)
 }
 
 // The line of a first fault, whose script this is.
@@ -336,7 +321,6 @@ fn put_first_line<K: Sink>(
 // A first fault, whose cost this is: the lines of its pairs, and its own.
 fn put_course<R: Threads + Sync, K: Sink>(
     rt: &R,
-    alloc: Global,
     setting: &FirstSetting,
     cost: &Cost,
     before: &SeenRun,
@@ -363,7 +347,7 @@ fn put_course<R: Threads + Sync, K: Sink>(
     let (list, more) = (setting.common.list, setting.more);
     tally.begin();
     work.past.go_on_from(before, list, more, setting.one);
-    if let Err(why) = put_pairs_of(rt, alloc, setting, rows, &mut work.past, tally, out) {
+    if let Err(why) = put_pairs_of(rt, setting, rows, &mut work.past, tally, out) {
         return Err(why);
     }
     put_first_line(
@@ -380,7 +364,6 @@ fn put_course<R: Threads + Sync, K: Sink>(
 // A first fault, and those that are tried behind it in its slot.
 fn put_group<R: Threads + Sync, K: Sink>(
     rt: &R,
-    alloc: Global,
     common: &PairsSetting,
     before: &SeenRun,
     rows: &[Singles],
@@ -409,7 +392,7 @@ fn put_group<R: Threads + Sync, K: Sink>(
     ensures err { IfErr result (λ why. LeftBy why (K.output out.old) (K.output out.new)
         (text_of_firsts common.now (first_with slot one.now behind.now ∷ []))) }
 {
-    let (list, script) = (common.list, common.script);
+    let (alloc, list, script) = (common.alloc, common.list, common.script);
     more_is_valid(list, script, one);
     let Ok(more) = with_fault(alloc, script, one) else {
         return Err(CampaignFault::Memory);
@@ -419,6 +402,7 @@ fn put_group<R: Threads + Sync, K: Sink>(
     };
     let setting = FirstSetting {
         common: PairsSetting {
+            alloc,
             list: &*list,
             script: &*script,
             first: common.first,
@@ -433,13 +417,12 @@ fn put_group<R: Threads + Sync, K: Sink>(
         first: harm_of(&cost),
         more: &more,
     };
-    put_course(rt, alloc, &setting, &cost, before, rows, work, tally, out)
+    put_course(rt, &setting, &cost, before, rows, work, tally, out)
 }
 
 // All first faults of a slot.
 fn put_groups<R: Threads + Sync, K: Sink>(
     rt: &R,
-    alloc: Global,
     common: &PairsSetting,
     before: &SeenRun,
     rows: &[Singles],
@@ -468,7 +451,7 @@ fn put_groups<R: Threads + Sync, K: Sink>(
     for i in 0..faults.len() {
         let (one, behind) = (&faults[i], &faults[i + 1..]);
         if let Err(why) = put_group(
-            rt, alloc, common, before, rows, slot, one, behind, work, tally, out,
+            rt, common, before, rows, slot, one, behind, work, tally, out,
         ) {
             return Err(why);
         }
@@ -479,7 +462,6 @@ fn put_groups<R: Threads + Sync, K: Sink>(
 // The next slot of the script's own run, and its first faults.
 fn put_slot<R: Threads + Sync, K: Sink>(
     rt: &R,
-    alloc: Global,
     common: &PairsSetting,
     slot: u32,
     own: &mut OwnRun,
@@ -504,9 +486,9 @@ fn put_slot<R: Threads + Sync, K: Sink>(
     ensures err { IfErr result (λ why. LeftBy why (K.output out.old) (K.output out.new)
         (text_of_firsts common.now (firsts_of common.now slot))) }
 {
-    let (list, script) = (common.list, common.script);
+    let (alloc, list, script) = (common.alloc, common.list, common.script);
     own.step(list, script, slot);
-    let Ok(()) = ahead.look_to(alloc, common, end_behind(common, slot), &mut work.run) else {
+    let Ok(()) = ahead.look_to(common, end_behind(common, slot), &mut work.run) else {
         return Err(CampaignFault::Memory);
     };
     let Ok(faults) = faults_at(alloc, list, script, own, slot) else {
@@ -515,7 +497,6 @@ fn put_slot<R: Threads + Sync, K: Sink>(
     let (before, rows) = (&own.before, ahead.rows.as_slice());
     put_groups(
         rt,
-        alloc,
         common,
         before,
         rows,
@@ -543,7 +524,6 @@ fn skip(list: &Medl, script: &Script, end: u32, own: &mut OwnRun)
 // All first faults of a range of slots, from one on, by the script's own run before it.
 fn put_range<R: Threads + Sync, K: Sink>(
     rt: &R,
-    alloc: Global,
     common: &PairsSetting,
     from: u32,
     end: u32,
@@ -567,7 +547,7 @@ fn put_range<R: Threads + Sync, K: Sink>(
         (text_of_firsts common.now (firsts_between common.now from (end - from)))) }
 {
     for slot in from..end {
-        if let Err(why) = put_slot(rt, alloc, common, slot, own, ahead, work, tally, out) {
+        if let Err(why) = put_slot(rt, common, slot, own, ahead, work, tally, out) {
             return Err(why);
         }
     }
@@ -681,7 +661,6 @@ fn put_front<K: Sink>(
 // All first faults, by the script's own run, which has not begun.
 fn put_slots<R: Threads + Sync, K: Sink>(
     rt: &R,
-    alloc: Global,
     common: &PairsSetting,
     own: &mut OwnRun,
     ahead: &mut OwnAhead,
@@ -702,13 +681,12 @@ fn put_slots<R: Threads + Sync, K: Sink>(
     let end = end_of(common);
     let from = common.first.min(end);
     skip(common.list, common.script, from, own);
-    put_range(rt, alloc, common, from, end, own, ahead, work, tally, out)
+    put_range(rt, common, from, end, own, ahead, work, tally, out)
 }
 
 // All lines, by runs that have not begun.
 fn put_lines<R: Threads + Sync, K: Sink>(
     rt: &R,
-    alloc: Global,
     common: &PairsSetting,
     words: &[u8],
     own: &mut OwnRun,
@@ -732,7 +710,7 @@ fn put_lines<R: Threads + Sync, K: Sink>(
     if let Err(why) = put_front(common, words, &mut work.line, out) {
         return Err(why);
     }
-    if let Err(why) = put_slots(rt, alloc, common, own, ahead, work, tally, out) {
+    if let Err(why) = put_slots(rt, common, own, ahead, work, tally, out) {
         return Err(why);
     }
     put_sums(&tally.sums, distances_of(common), &mut work.line, out)
@@ -765,7 +743,6 @@ fn new_work(alloc: Global, list: &Medl, script: &Script) -> Result<Workspace, Me
 // All lines, by the words of what the script's own run cost.
 fn put_all<R: Threads + Sync, K: Sink>(
     rt: &R,
-    alloc: Global,
     common: &PairsSetting,
     words: &[u8],
     out: &mut K,
@@ -777,7 +754,7 @@ fn put_all<R: Threads + Sync, K: Sink>(
     ensures err { IfErr result (λ why. LeftFewerBy why (K.output out.old) (K.output out.new)
         (pairs_lines common.now.list.now common.now.script.now common.now.first common.now.last common.now.within)) }
 {
-    let (list, script) = (common.list, common.script);
+    let (alloc, list, script) = (common.alloc, common.list, common.script);
     let Ok(mut own) = OwnRun::new(alloc, list, script) else {
         return Err(CampaignFault::Memory);
     };
@@ -791,7 +768,7 @@ fn put_all<R: Threads + Sync, K: Sink>(
         return Err(CampaignFault::Memory);
     };
     put_lines(
-        rt, alloc, common, words, &mut own, &mut ahead, &mut work, &mut tally, out,
+        rt, common, words, &mut own, &mut ahead, &mut work, &mut tally, out,
     )
 }
 
@@ -836,6 +813,7 @@ pub fn put_pairs<R: Threads + Sync, K: Sink>(
         return Err(CampaignFault::Memory);
     };
     let common = PairsSetting {
+        alloc,
         list,
         script,
         first,
@@ -844,5 +822,5 @@ pub fn put_pairs<R: Threads + Sync, K: Sink>(
         own: harm_of(&cost),
         threads,
     };
-    put_all(rt, alloc, &common, words.bytes(), out)
+    put_all(rt, &common, words.bytes(), out)
 }

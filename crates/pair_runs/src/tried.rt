@@ -33,6 +33,7 @@ use ttp_world::{Back, Event, Keep, Medl, Script};
 /// What all pairs read.
 #[derive(Clone, Copy)]
 pub(crate) struct PairsSetting<'a> {
+    pub(crate) alloc: Global,
     pub(crate) list: &'a Medl,
     pub(crate) script: &'a Script,
     pub(crate) first: u32,
@@ -92,7 +93,6 @@ fn says_yes(list: &Medl, script: &Script) -> bool
 
 // The line of a pair of this class, so many slots apart; `both` is the script with both faults, and `cost` what its run cost.
 fn form_line(
-    alloc: Global,
     setting: &FirstSetting,
     apart: u32,
     two: &Event,
@@ -110,7 +110,7 @@ fn form_line(
         (second_apart apart two.now) setting.now.common.own harms.now.one harms.now.two
         (summary setting.now.common.list.now both.now)) }
 {
-    let mut line = GrowingText::new(alloc);
+    let mut line = GrowingText::new(setting.common.alloc);
     let pair = Pair {
         slot: setting.slot,
         apart,
@@ -133,7 +133,6 @@ fn form_line(
 
 // The same where its class has one, and else none.
 fn line_of(
-    alloc: Global,
     setting: &FirstSetting,
     apart: u32,
     two: &Event,
@@ -152,33 +151,28 @@ fn line_of(
         (summary setting.now.common.list.now both.now) else [])) }
 {
     if has_line(class) {
-        return form_line(alloc, setting, apart, two, class, harms, both, cost);
+        return form_line(setting, apart, two, class, harms, both, cost);
     }
-    Ok(GrowingText::new(alloc))
+    Ok(GrowingText::new(setting.common.alloc))
 }
 
 // What a second fault costs alone: it is known, or run from the first slot on.
-fn alone(
-    alloc: Global,
-    setting: &FirstSetting,
-    singles: &[Single],
-    two: &Event,
-) -> Result<Harm, Memory>
+fn alone(setting: &FirstSetting, singles: &[Single], two: &Event) -> Result<Harm, Memory>
     requires may { MayTryPairs setting.now }
     requires singles { All (IsSingle setting.now.common.list.now setting.now.common.script.now) singles.now }
     requires two { MayStand setting.now.common.list.now setting.now.common.script.now two.now }
     ensures { IfOk result (λ harm. harm
         ≡ harm_of (summary_with setting.now.common.list.now setting.now.common.script.now two.now).cost) }
 {
+    let (list, script) = (setting.common.list, setting.common.script);
     match find(singles, two) {
         Some(harm) => Ok(harm),
-        None => harm_alone(alloc, setting.common.list, setting.common.script, two),
+        None => harm_alone(setting.common.alloc, list, script, two),
     }
 }
 
 // What is told of a pair so many slots apart, by the script with both faults and what its run cost.
 fn told_by(
-    alloc: Global,
     setting: &FirstSetting,
     apart: u32,
     two: &Event,
@@ -198,7 +192,7 @@ fn told_by(
     ensures { IfOk result (λ told. told ≡ pair_tried setting.now apart two.now) }
 {
     let class = pair_class(fault_node(setting.one), fault_node(two), harms);
-    let line = line_of(alloc, setting, apart, two, class, harms, both, cost)?;
+    let line = line_of(setting, apart, two, class, harms, both, cost)?;
     Ok(PairResult {
         yes: says_yes(setting.common.list, both),
         class,
@@ -208,7 +202,6 @@ fn told_by(
 
 // The run of a pair, whose script this is, by the run with the first fault as far as it has come. It is made in `run`.
 fn try_both(
-    alloc: Global,
     setting: &FirstSetting,
     apart: u32,
     past: &SeenRun,
@@ -227,26 +220,18 @@ fn try_both(
     ensures told { IfOk result (λ told. told ≡ pair_tried setting.now apart two.now) }
     ensures run { OnOk result (IsRunOfList run.new.run setting.now.common.list.now) }
 {
-    let cost = cost_from(
-        alloc,
-        setting.common.list,
-        setting.more,
-        two,
-        both,
-        past,
-        run,
-    )?;
+    let (alloc, list) = (setting.common.alloc, setting.common.list);
+    let cost = cost_from(alloc, list, setting.more, two, both, past, run)?;
     let harms = Harms {
         both: harm_of(&cost),
         one: setting.first,
-        two: alone(alloc, setting, singles, two)?,
+        two: alone(setting, singles, two)?,
     };
-    told_by(alloc, setting, apart, two, &harms, both, &cost)
+    told_by(setting, apart, two, &harms, both, &cost)
 }
 
 // The same of a second fault alone.
 fn try_one(
-    alloc: Global,
     setting: &FirstSetting,
     apart: u32,
     past: &SeenRun,
@@ -263,13 +248,12 @@ fn try_one(
     ensures run { OnOk result (IsRunOfList run.new.run setting.now.common.list.now) }
 {
     more_is_valid(setting.common.list, setting.more, two);
-    let both = with_fault(alloc, setting.more, two)?;
-    try_both(alloc, setting, apart, past, singles, two, &both, run)
+    let both = with_fault(setting.common.alloc, setting.more, two)?;
+    try_both(setting, apart, past, singles, two, &both, run)
 }
 
 // Adds those of some second faults, one after another.
 fn add_each(
-    alloc: Global,
     setting: &FirstSetting,
     apart: u32,
     past: &SeenRun,
@@ -287,14 +271,13 @@ fn add_each(
     ensures { OnOk result (all.new.items ≡ map (pair_tried setting.now apart) faults.now) }
 {
     for two in faults {
-        all.push(try_one(alloc, setting, apart, past, singles, two, run)?)?;
+        all.push(try_one(setting, apart, past, singles, two, run)?)?;
     }
     Ok(())
 }
 
 // Those of some second faults. A run is made where there are any.
 fn try_each(
-    alloc: Global,
     setting: &FirstSetting,
     apart: u32,
     past: &SeenRun,
@@ -307,14 +290,13 @@ fn try_each(
     requires faults { All (MayStand setting.now.common.list.now setting.now.common.script.now) faults.now }
     ensures { IfOk result (λ all. all.items ≡ map (pair_tried setting.now apart) faults.now) }
 {
-    let mut all = Vec::new(alloc);
+    let mut all = Vec::new(setting.common.alloc);
     if faults.is_empty() {
         return Ok(all);
     }
-    let mut run = SeenRun::new(alloc, setting.common.list, setting.common.script)?;
-    add_each(
-        alloc, setting, apart, past, singles, faults, &mut run, &mut all,
-    )?;
+    let (list, script) = (setting.common.list, setting.common.script);
+    let mut run = SeenRun::new(setting.common.alloc, list, script)?;
+    add_each(setting, apart, past, singles, faults, &mut run, &mut all)?;
     Ok(all)
 }
 
@@ -325,7 +307,6 @@ fn try_each(
 #[tactic(auto, using(crate::proofs::Tries::halves_tried))]
 pub(crate) fn try_beside<R: Threads + Sync>(
     rt: &R,
-    alloc: Global,
     setting: &FirstSetting,
     apart: u32,
     past: &SeenRun,
@@ -340,7 +321,7 @@ pub(crate) fn try_beside<R: Threads + Sync>(
     ensures { IfOk result (λ all. all.items ≡ map (pair_tried setting.now apart) faults.now) }
 {
     if threads < 2 || faults.len() < 2 {
-        return try_each(alloc, setting, apart, past, singles, faults);
+        return try_each(setting, apart, past, singles, faults);
     }
     let (front, back) = faults.split_at(faults.len() / 2);
     let half = threads - threads / 2;
@@ -349,13 +330,13 @@ pub(crate) fn try_beside<R: Threads + Sync>(
             × All (IsSingle setting.now.common.list.now setting.now.common.script.now) singles.now
             × All (MayStand setting.now.common.list.now setting.now.common.script.now) front.now }
         ensures { IfOk result (λ all. all.items ≡ map (pair_tried setting.entry.now apart) front.entry.now) }
-    { try_beside(rt, alloc, setting, apart, past, singles, front, half) };
+    { try_beside(rt, setting, apart, past, singles, front, half) };
     let try_back = || -> Result<Vec<PairResult>, Memory>
         requires { IsSync R.row × MayTryPairs setting.now × IsPastRun setting.now.common.list.now setting.now.more.now past.now
             × All (IsSingle setting.now.common.list.now setting.now.common.script.now) singles.now
             × All (MayStand setting.now.common.list.now setting.now.common.script.now) back.now }
         ensures { IfOk result (λ all. all.items ≡ map (pair_tried setting.entry.now apart) back.entry.now) }
-    { try_beside(rt, alloc, setting, apart, past, singles, back, half) };
+    { try_beside(rt, setting, apart, past, singles, back, half) };
     let (first, second) = join(rt, try_front, try_back);
     let mut all = first?;
     let mut rest = second?;
