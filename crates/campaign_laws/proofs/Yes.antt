@@ -67,7 +67,7 @@ kept-each P p (set ∷ sets) each = by (p set) (kept-each P p sets each.1)
     by true rest = (each.0, rest)
     by false rest = rest
 
--- and of each that is told once
+-- What holds of each set of a list holds of each that is told once.
 once-each : (P : List ℕ → Type 0) (sets : List (List ℕ)) → AllByRecursion P sets → AllByRecursion P (each_once sets)
 once-each P [] all = tt
 once-each P (set ∷ sets) all =

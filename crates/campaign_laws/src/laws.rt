@@ -1,4 +1,4 @@
-//! The laws of the lines of a campaign. The functions do nothing; their contracts are the laws.
+//! The laws of the lines of a campaign. The functions do nothing, and take no memory; their contracts are the laws.
 ghost use Rattle.std.specs.Prelude.{◌≡◌, ℕ, ◌<◌, ◌≤◌, [], None, map, length, All, IsTrue};
 ghost use Rattle.ttp_world.specs.declared.script.TheConstants.{EVENT_LIMIT};
 ghost use Rattle.ttp_world.specs.Diary.{History};
@@ -17,8 +17,6 @@ use ttp_world::{Medl, Script};
 
 /// What a line tells of a script is read of every run of it by legal message numbers: the test, who left
 /// and who was hurt, when memberships were split and which are left.
-///
-/// It does nothing, and takes no memory.
 pub fn same_cost(list: &Medl, script: &Script)
     requires valid { IsValid list.now }
     requires script { IsValidScript list.now script.now }
@@ -29,8 +27,6 @@ pub fn same_cost(list: &Medl, script: &Script)
 /// Where the test of a script says yes, no node that is correct by it has left in the run that a line tells
 /// (`hurt`), and such nodes held one membership after each slot, whenever they were active and not in doubt
 /// (`split`).
-///
-/// It does nothing, and takes no memory.
 pub fn yes_is_safe(list: &Medl, script: &Script)
     requires valid { IsValid list.now }
     requires script { IsValidScript list.now script.now }
@@ -39,10 +35,9 @@ pub fn yes_is_safe(list: &Medl, script: &Script)
     ensures split { (summary list.now script.now).cost.split ≡ None }
 {}
 
-/// Where besides each node that is faulty at the end of the run became so two rounds before it or earlier, and was not armed
-/// since, one membership is left at most: all active nodes that are not in doubt hold it.
-///
-/// It does nothing, and takes no memory.
+/// One membership is left at most, where the test of a script says yes, and each node that is faulty at the end of the
+/// run became so two rounds before it or earlier, and was not armed since: all active nodes that are not in doubt hold
+/// it.
 pub fn one_is_left(list: &Medl, script: &Script)
     requires valid { IsValid list.now }
     requires script { IsValidScript list.now script.now }
@@ -51,11 +46,9 @@ pub fn one_is_left(list: &Medl, script: &Script)
     ensures { length (summary list.now script.now).cost.end ≤ 1 }
 {}
 
-/// So the line of counts of the runs whose test says yes counts none in which a node is hurt (`hurt`), and
-/// none in which memberships are split (`split`), whatever range is asked for. The script is to have room
-/// for one event more.
-///
-/// It does nothing, and takes no memory.
+/// The line `kept`, which counts the runs whose test says yes, counts none in which a node is hurt (`hurt`), and none
+/// in which memberships are split (`split`), whatever range is asked for. The script is to have room for one event
+/// more.
 pub fn kept_is_safe(list: &Medl, script: &Script)
     requires valid { IsValid list.now }
     requires script { IsValidScript list.now script.now }
@@ -68,10 +61,8 @@ pub fn kept_is_safe(list: &Medl, script: &Script)
         (faults_from list.now script.now history first last))).split ≡ 0 }
 {}
 
-/// So each line of a campaign in which the test says yes has the words `hurt - split - -`, and the line `kept`
-/// has `hurt 0 split 0`: of the text as it is read, line by line. The script is to have room for one event more.
-///
-/// It does nothing, and takes no memory.
+/// Each line of a campaign in which the test says yes has the words `hurt - split - -`, and the line `kept` has `hurt 0
+/// split 0`: of the text as it is read, line by line. The script is to have room for one event more.
 pub fn lines_are_safe(list: &Medl, script: &Script)
     requires valid { IsValid list.now }
     requires script { IsValidScript list.now script.now }
