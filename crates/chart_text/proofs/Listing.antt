@@ -19,7 +19,7 @@ pub told-at : (lines : List FaultLine) (n : ℕ) (x : FaultLine) → n < length 
     → drop n (map told_of lines) ≡ told_of x ∷ drop (n + 1) (map told_of lines)
 told-at lines n x less is = rw add-one (told-next lines n x less is)
 
--- the same of a list that the lines tell
+-- Where the lines tell a list of faults, the list's next fault is the next line's.
 pub told-view : (lines : List FaultLine) (view : List FaultTold) (n : ℕ) (x : FaultLine) → map told_of lines ≡ view
     → n < length lines → x ≡ get_or lines n x → drop n view ≡ told_of x ∷ drop (n + 1) view
 told-view lines view n x same less is =

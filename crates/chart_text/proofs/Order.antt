@@ -58,7 +58,7 @@ none-here s x rest order other =
     none-before s (s + 1) (x ∷ rest) (omega arith)
     (order-reached s (s + 1) x rest order (omega (arith, parts.0, other)))
 
--- The same faults from a slot on.
+-- Two lists that have the same faults in each slot from t on.
 
 pub same-passed : (t : ℕ) (all : List FaultTold) (x : FaultTold) (rest : List FaultTold) → SameFrom t all (x ∷ rest)
     → x.shown.slot < t

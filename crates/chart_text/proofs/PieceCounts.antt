@@ -82,7 +82,7 @@ module _ (of : Piece → Counts) (sum all : Counts) (left rest : List Piece) (pi
   piece-fits fits =
       part-fits (counts_together sum (of piece)) (counts_sum (map of rest)) (ap counts_fit piece-added ∙ fits)
 
--- and no piece more
+-- Where no piece is left, the sum so far is the sum of all.
 pub none-left : (of : Piece → Counts) (sum all : Counts) (left : List Piece) → left ≡ []
     → counts_together sum (counts_sum (map of left)) ≡ all → sum ≡ all
 none-left of sum all left is known =

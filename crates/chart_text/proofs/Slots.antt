@@ -39,7 +39,7 @@ position-none p xs none = found_nowhere p xs (nowhere p xs none)
 pub past-marks : (marks : List Bool) (t : ℕ) → length marks ≤ t → has_mark marks t ≡ false
 past-marks marks t past = get_or-eq_default marks false past
 
--- and one that has a mark is within them
+-- a slot that has a mark is within the marks
 pub within-marks : (marks : List Bool) (t : ℕ) → has_mark marks t ≡ true → t < length marks
 within-marks marks t is =
     elim (cases_lt t (length marks)) [
@@ -201,7 +201,7 @@ placed p n (suc k) is =
     (sym (ap (λ (j : ℕ). filter p (below j)) same ∙ ap (filter p) (below-next m) ∙ filter-append p (below m) (m ∷ [])))
     (placed-more p n (filter p (below m)) (filter p (m ∷ [])) (placed p n k is))
 
--- the same for the marks of a list
+-- a marked slot has its place among all slots that a list of marks has
 placed-mark : (marks : List Bool) (t : ℕ) → t < length marks → has_mark marks t ≡ true
     → Placed (has_mark marks) t (marked_slots marks)
 placed-mark marks t within is =
@@ -226,7 +226,7 @@ place-marked marks t within is =
     (λ inside. eq-eqb (get_or (marked_slots marks) (length (filter (has_mark marks) (below t))) 0) t p.at))
     p.within
 
--- and that another one stands nowhere
+-- a slot without a mark has no place among the marked ones
 pub place-unmarked : (marks : List Bool) (t : ℕ) → has_mark marks t ≡ false → place_in (marked_slots marks) t ≡ None
 place-unmarked marks t none = position-none (λ s. s == t) (marked_slots marks) (marked-any marks t ∙ none)
 

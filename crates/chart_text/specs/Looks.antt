@@ -17,7 +17,7 @@ use Rattle.chart_text.specs.declared.size.Size.{Size}
 abbrev pub leaves_two : FaultShown → Bool
 leaves_two fault = nat_le 2 fault.memberships
 
--- and two rounds of all nodes were left to mend it
+-- two memberships or more are left at the end, though two rounds of all nodes were left to mend it
 abbrev pub leaves_two_for_good : Size → FaultShown → Bool
 leaves_two_for_good size fault = leaves_two fault && nat_le (fault.slot + 2 * size.nodes) size.slots
 
@@ -74,7 +74,7 @@ look_number look.Split = 6
 look_number look.Torn = 7
 look_number look.Dead = 8
 
--- the name of a look, which is its class too
+-- the name of a look, by which the style sheet has its class
 abbrev pub look_text : Look → List ℕ
 look_text look.Same = codes "same"
 look_text look.SameOut = codes "same out"

@@ -34,7 +34,7 @@ impl<'a> Ahead<'a> {
         Ahead { first, rest }
     }
 
-    /// The same faults once more, for a second walk from here on.
+    /// The faults that are still to come, for a second walk from here on.
     pub(crate) fn again(&self) -> Ahead<'a>
         ensures { result ≡ self.now }
     {

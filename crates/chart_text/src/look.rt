@@ -52,7 +52,7 @@ fn leaves_two(fault: FaultShown) -> bool
     2 <= fault.memberships
 }
 
-// And whether there was time to mend it.
+// Whether two memberships are left at the end, though there was time to mend it.
 fn leaves_two_for_good(size: Size, fault: FaultShown) -> bool
     ensures { result ≡ leaves_two_for_good size fault }
 {
@@ -146,7 +146,7 @@ const LOOK_TEXTS: [&str; 9] = [
     "same", "same out", "cost", "cost out", "late", "hurt", "split", "torn", "dead",
 ];
 
-/// The name of a look, which is its class too.
+/// The name of a look, by which the style sheet has its class.
 pub(crate) fn look_text(look: Look) -> &'static str
     ensures text { result.now ≡ look_text look }
     ensures short { length result.now ≤ 8 }

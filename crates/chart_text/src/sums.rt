@@ -17,7 +17,7 @@ pub(crate) struct CountsByTest {
     pub(crate) broken: Counts,
 }
 
-// Two counts of the same, added up.
+// Adds up two counts, number by number.
 fn added(sum: Counts, more: Counts) -> Counts
     requires { counts_fit (counts_together sum more) ≡ true }
     ensures { result ≡ counts_together sum more }
