@@ -33,7 +33,7 @@ at_next lines n piece more is =
     let next : suc n ≡ n + 1 = omega arith in
     (sym step.0 ∙ sym (numbered lines n), sym step.1 ∙ ap (λ (k : ℕ). drop k lines) next)
 
--- and one past the last line
+-- Past the last line of a text each numbered line is empty, and nothing follows it.
 pub at_past : (lines : List (List ℕ)) (n m : ℕ) → drop n lines ≡ [] → n < m
     → ([] ≡ line_numbered lines m) × ([] ≡ drop m lines)
 at_past lines n m is less =

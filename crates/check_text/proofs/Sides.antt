@@ -49,7 +49,7 @@ unfolding list_from
 found_value text wrongs found small agrees some none =
     rw (le-ltb list_limit (length text) small) (value_of wrongs found (medl_of text) agrees some none)
 
--- and none is in others
+-- in bytes that are too many no list is found, and none is read
 pub large_value : (text : List ℕ) → nat_lt list_limit (length text) ≡ true → None ≡ read_value (list_from text)
 unfolding list_from
 large_value text large = rw large refl
@@ -64,7 +64,7 @@ unfolding list_fault_lines
 side_is name text wrongs rounds modes places stop words is_wrongs is_rounds is_modes is_places is_stop is_words =
     rw (is_words, is_stop, is_places, is_modes, is_rounds, is_wrongs) refl
 
--- as many as there are errors
+-- a list has as many lines as errors
 pub side_count : (name : List ℕ) (side : ListSide) → length (list_side_lines name side) ≡ length side.wrongs
 side_count name side = length-map (below (length side.wrongs)) _ ∙ length-range_with_len 0 (length side.wrongs)
 

@@ -58,7 +58,7 @@ EndsLine line = (front : List ℕ) × (line ≡ front ++ newline)
 abbrev AllEnd : Lines → Type 0
 AllEnd lines = AllByRecursion EndsLine lines
 
--- so its pieces are lines
+-- The pieces of a line that ends with a line feed are lines.
 
 each_before : (b : ℕ) (lines : Lines) → is_newline b ≡ false → 0 < length lines → AreLines lines
     → AreLines (before_lines b lines)
@@ -273,7 +273,7 @@ nothing_put : (o : Output) (lines : Lines) → 0 < length lines → WroteFewer o
 nothing_put o [] some = absurd (omega (arith, some))
 nothing_put o (line ∷ lines) some = fewer-none o line lines
 
--- so where nothing was written, never all was
+-- Where nothing was written, less was written than `check` has to.
 pub check_fewer : (o : Output) (file : Named) (script : Option Named) → WroteFewer o o (check_lines file script)
 check_fewer o file script = nothing_put o (check_lines file script) (check_lines-some file script)
 

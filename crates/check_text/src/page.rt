@@ -46,7 +46,7 @@ fn write_line<K: Sink>(line: &[u8], out: &mut K) -> Option<CampaignFault>
     None
 }
 
-// The same of a line that was to be formed, if it was.
+// Writes a line that was to be formed, if it was.
 #[tactic(auto, using(crate::proofs::Pages::puts))]
 fn write_formed<K: Sink>(
     formed: Result<(), Memory>,

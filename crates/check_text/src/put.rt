@@ -144,7 +144,7 @@ fn put_script_side<K: Sink>(
     }
 }
 
-// The same, where a script is looked at.
+// Writes the lines on the script, where one is looked at.
 fn put_script_lines<K: Sink>(
     alloc: Global,
     script: Option<Named<'_>>,

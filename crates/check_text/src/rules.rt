@@ -98,7 +98,7 @@ fn told_lines(
     warning_lines(alloc, &files, broken)
 }
 
-// The same, where the test says yes too, which needs no line of the script.
+// The lines on the broken rules of a right script, none where the test says yes.
 fn broken_lines(
     alloc: Global,
     file: Named<'_>,
