@@ -10,7 +10,7 @@ pub kept_items : {X Z : Type 0} (v : Vec X Z) {there new : List X} → there ≡
     → new ≡ there → (with_items v new).items ≡ v.items
 kept_items v value len kept = with_items_is v _ (ap length kept ∙ len) ∙ kept ∙ value
 
--- So it is of the first items, so many, and of one that is put behind them.
+-- What holds of each of the first k items, and of one that is pushed behind them, holds of the first k + 1.
 pub pushed_more : {A : Type 0} (P : ℕ → A → Type 0) (d : A) (k : ℕ) (xs : List A) (x : A) → length xs ≡ k
     → ((j : ℕ) → j < k → P j (get_or xs j d)) → P k x → (j : ℕ) → j < k + 1 → P j (get_or (xs ++ x ∷ []) j d)
 pushed_more P d k xs x count so last =
@@ -18,13 +18,13 @@ pushed_more P d k xs x count so last =
     (λ j near. subst (P j) (sym (get_or_append_left xs (x ∷ []) d j (omega (arith, near, count)))) (so j near))
     (subst (P k) (sym (get_or_push xs x d k count)) last)
 
--- So it is at the first places, so many, between what was there and what is, and the others are as they were.
+-- P holds at the first k places, between what was there and what is now; all other places are as they were.
 pub record AreChanged {A : Type 0} (P : ℕ → A → A → Type 0) (d : A) (k : ℕ) (old now : List A) : Type 0 where
   pub count : length now ≡ length old
   pub done : (j : ℕ) → j < k → P j (get_or old j d) (get_or now j d)
   pub rest : (j : ℕ) → k ≤ j → get_or now j d ≡ get_or old j d
 
--- and at one more
+-- One place more is changed: P holds at the first k + 1.
 pub changed_more : {A : Type 0} {P : ℕ → A → A → Type 0} {d : A} {k : ℕ} {old now : List A} (x new : A)
     → AreChanged P d k old now → k < length now → x ≡ get_or now k x → P k x new
     → AreChanged P d (k + 1) old (set now k new)

@@ -37,7 +37,7 @@ pub record IsDeliverable (list : Medl) (k : ℕ) (d : Delivered) : Type 0 where
   pub some : 1 ≤ (plan_at list d.sender).payload
   pub size : length d.payload ≡ (plan_at list d.sender).payload
 
--- So it is of the entry that a node makes.
+-- Where a node judges a frame, what is delivered of the frame can be handed on to its host.
 
 judged : (list : Medl) (k : ℕ) (past : NodePast) (h : Hearing) (v : Verdict) (deviation : ℤ)
     → (coming_place list past).slot ≢ k

@@ -94,7 +94,7 @@ read_there Q k from [] all some = absurd (omega arith)
 read_there Q k from (r ∷ reads) all some = read_here Q k from r (is_read_at k (source_place from) r) refl all.0
     (λ not_here. read_there Q k from reads all.1 (omega (arith, one_more k from r reads false not_here some)))
 
--- The ring of a source is there, so is its reader.
+-- A reader that is lent of a ring has room for the n reads that are made of it.
 lent_room : (list : Medl) (k : ℕ) (from : Source) (messages : List (List ℕ)) (pairs : List Message)
     (w : Option WriterState) (n : ℕ) → IsSource list k from → IsRingOf (incoming_shape list k from) messages pairs w
     → 1 ≤ n → IsSomeAnd (lent w n) (λ (r : ReaderState). n ≤ r.spare)

@@ -63,7 +63,7 @@ left_due : {reads done : List HostRead} {whole now : List (List ReadLine)}
     → map read_of (queue_of now k) ≡ filter (is_host k) rest
 left_due rest split due so k = grind (steps, append_cancel_left, filter-append, filter-map, map-append)
 
--- So the first line that is left for the host of the next read is that read's.
+-- The first line that is left in the queue of the next read's host is that read's.
 module _ {reads done : List HostRead} {whole now : List (List ReadLine)} {lines : List ReadLine} (r : HostRead)
     (later : List HostRead) (split : reads ≡ done ++ r ∷ later) (due : AreDue reads whole)
     (so : AreInOrder done whole now lines) where
@@ -222,7 +222,7 @@ pub pairs_told : (list : Medl) (script : Script) (after : History) (lines : List
 pairs_told list script after [] k from all = refl
 pairs_told list script after (line ∷ lines) k from all = grind (steps, pairs_told list script after lines k from all.1)
 
--- and that lie between the messages of their rings before the slot and after it
+-- A line shows a message between the newest of its ring before the slot and the newest after it.
 pub record IsLegalLine (list : Medl) (script : Script) (before after : History) (line : ReadLine) : Type 0 where
   pub least : newest_number (ring_messages list script before line.host line.source) ≤ line.pair.number
   pub most : line.pair.number ≤ newest_number (ring_messages list script after line.host line.source)

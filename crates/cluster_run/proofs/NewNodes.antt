@@ -57,7 +57,7 @@ pub new_written : (list : Medl) (script : Script) (k : ℕ) (w : Option WriterSt
     → IsRingOf (message_shape list k) (words_written list script k 0) [] w
 new_written list script k w new = grind (steps, new_ring_if, zero_words)
 
--- and what they read
+-- A new ring that a host reads holds one message, of zeros.
 new_read_if : (own empty : Bool) (shape : Shape) (messages : List (List ℕ)) (w : Option WriterState)
     → messages ≡ replicate shape.width 0 ∷ [] → IsNew (cond own None (cond empty None (Some shape))) w
     → IsRingOf (cond own None (cond empty None (Some shape))) messages [] w
@@ -98,7 +98,7 @@ new_nodes list script nodes new = record {
       (new.rings.incoming k near from);
 }
 
--- and what hosts wrote before it, the zeros, is bytes
+-- Before slot 0 hosts have written nothing but zeros, which are bytes.
 pub new_bytes : (list : Medl) (script : Script) → AreBytesBefore list script 0
 new_bytes list script k = grind steps
 

@@ -11,7 +11,8 @@ use Rattle.cluster_run.proofs.Words.{IsLeft, within_list}
 use Rattle.nbw_ring.specs.Attempts.{Gets}
 use Rattle.ttp_world.proofs.LineLists.{each-append}
 
--- So many reads keep the ring, what was loaded and got never falls back, and each takes room for one message at most.
+-- Up to n reads leave the ring as it was; what a reader has loaded and got never falls back, and each read takes room
+-- for one message at most.
 
 pub record KeepsReader (n : ℕ) (old new : ReaderState) : Type 0 where
   pub ring : new.ring ≡ old.ring
@@ -59,7 +60,7 @@ clear_before n (Some old) (Some mid) (Some new) keeps clear = λ more. omega (ar
 clear_before n (Some old) (Some mid) None keeps clear = absurd keeps
 clear_before n old mid new keeps clear = tt
 
--- So each read got a message.
+-- A read whose message nobody has overwritten at its newest load got that message.
 
 intact : (n : ℕ) (old mid new : ReaderState) → KeepsReader n old mid
     → Reads mid.ring.shape.buffers (Some mid) (Some new)

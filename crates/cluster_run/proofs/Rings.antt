@@ -32,7 +32,7 @@ pub ring_more : {shape : Shape} {messages : List (List ℕ)} {pairs : List Messa
     → IsRing shape (messages ++ more) pairs (record w { messages = w.messages ++ more; steps = n })
 ring_more {w = w} more n ring = grind steps
 
--- and once a reader is settled
+-- A ring with the pairs of one reader more, which is settled.
 pub settled_ring : {shape : Shape} {messages : List (List ℕ)} {pairs : List Message} {w : WriterState} (r : ReaderState)
     → IsRing shape messages pairs w → (shape.buffers ≢ 1 → r.tries ≡ length r.got) → HasSeen w r
     → IsRing shape messages (pairs ++ r.got) (with_joined w r)

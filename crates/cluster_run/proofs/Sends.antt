@@ -175,7 +175,7 @@ fetched_may list k loaded end None f ring fetches is = absurd (none-some f is)
 fetched_may list k true (Some w) (Some f1) f ring fetches is = grind steps
 fetched_may list k loaded end (Some f1) f ring fetches is = absurd fetches
 
--- and still after writes
+-- A fetcher that may be settled may be settled after the hosts' writes.
 after_own : (writes : List HostWrite) (k len : ℕ) (end : HostState) (f : ReaderState) → MaySettle end len f
     → MaySettle (after_writes writes k end) len f
 after_own writes k len None f may = absurd may.own
@@ -253,7 +253,7 @@ module _ {at : CurrentSlot} {numbers : Numbers} {seats : List Seat} {ends : List
       (ring_loaded k (omega (arith, near, count)))
       (rw (lent.each k near) at (tries.each k (omega (arith, near, lent.count)))) is)
 
-  -- so the messages in frames are chosen
+  -- Once all fetchers are settled, each frame's message is chosen.
   pub have_chosen : {settled_ends : List HostState} {chosen : List Chosen} (before : List Chosen)
       → AreBytesBefore list script (at.slot + 1)
       → ((k : ℕ) → k < length list.slots → FetchesOne (plan_at list k).payload (is_loaded s k) (host_at ends k)

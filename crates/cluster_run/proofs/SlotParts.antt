@@ -33,13 +33,13 @@ at_back : {X : Type 0} {half : ℕ} {whole front back : List X} (d : X) (j : ℕ
 at_back {front = front} {back = back} d j parts =
     (λ i. get_or (parts.is i) (sym parts.count i + j) d) ∙ get_or-append-add front back j d
 
--- and of what is read of it
+-- What a function makes of a list in two parts is in two parts.
 mapped : {A B : Type 0} (f : A → B) {half : ℕ} {whole front back : List A} → AreParts half whole front back
     → AreParts half (map f whole) (map f front) (map f back)
 mapped f {front = front} {back = back} parts =
     record { is = ap (map f) parts.is ∙ map-append f front back; count = length-map front f ∙ parts.count }
 
--- as many desks have as many rings
+-- Two lists of desks with equal rings are equally long.
 pub same_many : (xs ys : List Desk) → map rings_of (desk_ends xs) ≡ map rings_of (desk_ends ys) → length xs ≡ length ys
 same_many xs ys same = grind steps
 
@@ -194,7 +194,7 @@ part_ready at nodes may =
       may = may_end at nodes may;
     }
 
--- so it has ended once all have
+-- The slot has ended for all nodes, once it has for the part that begins with node 0.
 pub ends_slot : (at : CurrentSlot) (old new : Nodes) {ds ds' : List Desk} → ArePlannedNodes at old
     → new.host_ends ≡ old.host_ends → new.chosen ≡ old.chosen
     → HasPartEnded at.list.now at.script.now old.medium 0 old.seats.items new.seats.items ds ds'

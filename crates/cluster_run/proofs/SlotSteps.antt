@@ -197,7 +197,7 @@ module _ (so : TakenSlot) where
       → HoldsCame list script before k (pairs_read list script so.numbers k) (end_at (desk_ends so.mid.desks.items) k)
   came k node = record { each = λ from. rw (← so.plans.desks) at (so.stands.stands.read k node from) }
 
-  -- so the numbers told are those of the world
+  -- The numbers that nodes tell of what they delivered are those of the world's slot.
   numbers_delivered : (k : ℕ) → k < length list.slots
       → get_or (desk_numbers so.new.desks.items) k None ≡ number_told list script row before k
   numbers_delivered k node = so.tells.handed_are.numbers_are k (omega (arith, node, ends_count))
@@ -385,7 +385,7 @@ module _ (so : TakenSlot) where
       legal = legal;
     }
 
--- So a cluster whose nodes were taken through it is next to what it stood for.
+-- A cluster whose nodes were taken through a slot is next to what it stood for.
 pub next_cluster : (course : Course) (at : Progress) {nodes : Nodes} {numbers : Numbers} (new : Nodes)
     (report : SlotReport) → at.nodes ≡ Some nodes → ClusterStandsFor (cluster_at course at) numbers
     → ((ns : Numbers) → NodesStandAt course.list.now course.script.now at.done (nodes_view nodes) ns

@@ -30,7 +30,7 @@ abbrev pub delivered_to : ControllerState → Option Delivered → ControllerSta
 delivered_to end None = end
 delivered_to end (Some got) = written_at end (source.Node got.sender) (words_of_payload got.payload)
 
--- and the status of the slot was published after it
+-- a node's end once the slot was handed on to its host: what was delivered, and then the status
 abbrev pub handed_on : ControllerState → Outcome → ControllerState
 handed_on end outcome = written_at (delivered_to end outcome.delivered) source.Status outcome.status.words
 
@@ -82,7 +82,7 @@ pub record IsPartReady (l : Medl) (sc : Script) (carried : Carried) (first : ℕ
   pub count : length desks ≡ length seats
   pub may : MayEnd l sc carried first seats (desk_ends desks)
 
--- and after it: the controllers have ended the slot, and have handed on what it left
+-- the controllers of a part have ended the slot, and have handed on what it left
 pub record HasPartEnded (l : Medl) (sc : Script) (carried : Carried) (first : ℕ) (seats seats' : List Seat)
     (desks desks' : List Desk) : Type 0 where
   pub count : length seats' ≡ length seats

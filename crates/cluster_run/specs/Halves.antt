@@ -23,7 +23,7 @@ pub record AreHalves (at : CurrentSlot) (old new : Nodes) (front back : EndJob) 
   pub host_ends : new.host_ends ≡ old.host_ends
   pub chosen : new.chosen ≡ old.chosen
 
--- and they were put back, one behind the other
+-- the two halves were put back, one behind the other
 pub record ArePutBack (old : Nodes) (front back : EndJob) (new : Nodes) : Type 0 where
   pub seats : new.seats.items ≡ front.seats.items ++ back.seats.items
   pub desks : new.desks.items ≡ front.desks.items ++ back.desks.items

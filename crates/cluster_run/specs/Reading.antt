@@ -72,7 +72,7 @@ pub record IsRead (read : HostRead) (old new : Option ReadersState) : Type 0 whe
       → reader_in new other ≡ reader_in old other
   pub calls : calls_in new ≡ calls_after (calls_in old) read.source (reader_in new read.source)
 
--- so many reads of a reader, one after another
+-- n reads of one reader, one after another
 abbrev pub ReadsMany : ℕ → Option ReaderState → Option ReaderState → Type 0
 ReadsMany zero old new = new ≡ old
 ReadsMany (suc n) old new = (mid : Option ReaderState) × ReadsMany n old mid × Reads (buffers_of mid) mid new

@@ -33,7 +33,7 @@ pub record NodesStandAt (list : Medl) (script : Script) (slot : ℕ) (nodes : No
   pub count : length numbers ≡ slot
   pub stands : NodesStandFor list script nodes numbers
 
--- so they do for some
+-- the nodes stand for some numbers, of as many slots
 pub record StandsForSome (list : Medl) (script : Script) (slot : ℕ) (nodes : NodesView) : Type 0 where
   pub numbers : Numbers
   pub at : NodesStandAt list script slot nodes numbers

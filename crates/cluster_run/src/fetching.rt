@@ -33,7 +33,7 @@ fn fetch_loaded<G: Gate>(
     Ok(())
 }
 
-// The same, if its frame carries a message.
+// Fetches the message of a node's frame and chooses it, if the frame carries one.
 fn fetch_for<G: Gate>(
     end: &mut HostEnd,
     loaded: bool,

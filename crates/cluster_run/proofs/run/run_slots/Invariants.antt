@@ -1,7 +1,7 @@
 use Rattle.cluster_run.proofs.Words.{◌≡◌, ◌+◌, cluster_at, IsOnCourse}
 use Rattle.cluster_run.proofs.run.run_slots.Given as goal
 
--- so many slots were done, and the watcher was told of them
+-- The loop's counter says how many slots were done, and the watcher was told of each.
 abbrev pub invariant-loop : goal.invariant-loop
 invariant-loop g l = record {
   within : IsOnCourse l.course l.at;
