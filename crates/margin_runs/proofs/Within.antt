@@ -12,7 +12,7 @@ pub limit-few : (slot : Option ℕ) → clock_limit slot ≤ 1000000
 limit-few None = omega arith
 limit-few (Some slot) = omega arith
 
--- so many from one on, of which the last is within the limit
+-- Values from a first one on, of which the last is within the limit, are all within it.
 values-within : (most : ℕ) (first : ℤ) (count : ℕ) → neg_ℤ (pos most) ≤ℤ first
     → (first +ℤ pos count) ≤ℤ (pos most +ℤ pos 1)
     → All (IsWithinSpan most) (values_from first count)

@@ -105,7 +105,7 @@ fn put_told<K: Sink>(
     }
 }
 
-// The same of some values.
+// Notes some values of a sweep, and writes the line of each range that they end.
 fn put_tolds<K: Sink>(
     list: &Medl,
     sweep: Sweep,
@@ -141,7 +141,7 @@ fn value_at(reach: u32, place: u32) -> i64
     i64::from(place) - i64::from(reach)
 }
 
-// So many values of a sweep, behind those that are done.
+// The next values of a sweep, behind those that are done.
 fn some_values(alloc: Global, reach: u32, done: u32, some: u32) -> Result<Vec<i64>, Memory>
     requires reach { reach ≤ 1000000 }
     requires count { done + some ≤ 2 * reach + 1 }
@@ -280,7 +280,7 @@ fn put_sweep<R: Threads + Sync, K: Sink>(
     Ok(margin)
 }
 
-// The same, and counts it.
+// Writes the lines of a sweep, and counts its margin.
 fn put_counted<R: Threads + Sync, K: Sink>(
     rt: &R,
     common: &SweepSetting,

@@ -29,7 +29,7 @@ pub(crate) fn test_of(list: &Medl, script: &Script) -> Text<64>
     }
 }
 
-// The same events.
+// A copy of events.
 fn copies_of(alloc: Global, events: &[Event]) -> Result<List<Event>, Memory>
     ensures { IfOk result (λ all. all ≡ events.now) }
 {
@@ -40,7 +40,7 @@ fn copies_of(alloc: Global, events: &[Event]) -> Result<List<Event>, Memory>
     Ok(all)
 }
 
-/// The same script.
+/// A copy of a script.
 pub(crate) fn copy_of_script(alloc: Global, script: &Script) -> Result<Script, Memory>
     requires list { (list : Medl) × IsValidScript list script.now }
     ensures { IfOk result (λ copy. copy ≡ script.now) }
@@ -60,7 +60,7 @@ pub(crate) fn copy_of_script(alloc: Global, script: &Script) -> Result<Script, M
     })
 }
 
-// The same drifts, but for one node.
+// Drifts in which one node's is replaced.
 fn drift_set(drift: List<i64>, node: u8, value: &i64) -> List<i64>
     requires { node < length drift }
     ensures { result ≡ set drift node value.now }

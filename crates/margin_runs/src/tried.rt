@@ -155,7 +155,7 @@ fn add_drifts(
     Ok(())
 }
 
-// The same of jumps.
+// Tells of the runs of some jumps, each from its slot on.
 fn add_jumps(
     common: &SweepSetting,
     sweep: Sweep,
