@@ -1,4 +1,4 @@
-//! The law.
+//! The law. The function does nothing, and takes no memory; its contract is the law.
 ghost use Rattle.std.specs.Prelude.{◌≡◌, [], ℕ, false, IsTrue};
 ghost use Rattle.ttp_world.specs.Medl.{IsValid};
 ghost use Rattle.ttp_world.specs.Script.{IsValidScript};
@@ -8,10 +8,8 @@ ghost use Rattle.clock_margins.specs.Outcomes.{outcome_beside, whom_it_costs, is
 
 use ttp_world::{Medl, Script};
 
-/// Where the test of a script says yes, no node is hurt whichever counts as faulty besides (`hurt`), memberships were never
-/// split (`split`), and so it costs no others (`costs`).
-///
-/// It does nothing, and takes no memory.
+/// Where the test of a script says yes, its run costs no others (`costs`): no node is hurt, whichever counts as faulty
+/// besides (`hurt`), and memberships were never split (`split`).
 pub fn yes_costs_no_others(list: &Medl, script: &Script)
     requires valid { IsValid list.now }
     requires script { IsValidScript list.now script.now }
