@@ -1,4 +1,4 @@
-//! The laws of pairs. The functions do nothing; their contracts are the laws.
+//! The laws of pairs. The functions do nothing, and take no memory; their contracts are the laws.
 ghost use Rattle.std.specs.Prelude.{◌≡◌, ℕ, ◌+◌, ◌≤◌, ◌<◌, [], ◌∷◌, ◌++◌, List, map, length, true, None};
 ghost use Rattle.ttp_world.specs.declared.script.Event.{Event};
 ghost use Rattle.ttp_world.specs.declared.script.TheConstants.{EVENT_LIMIT};
@@ -17,16 +17,12 @@ ghost use Rattle.pair_laws.specs.Ranges.{firsts_of_range, pairs_of_range, lines_
 use ttp_world::{Medl, Script};
 
 /// In each line of counts the seven classes add up to the pairs.
-///
-/// It does nothing, and takes no memory.
 pub fn classes_add_up()
     ensures { (tolds : List PairTold) → classes_sum (pair_counts tolds) ≡ (pair_counts tolds).pairs }
 {}
 
 /// The counts of all first faults of a range of slots (`firsts`), those of all distances that have a line (`apart`), and those
 /// of the pairs whose test says yes and whose test says no (`tests`), add up to the counts of all its pairs.
-///
-/// It does nothing, and takes no memory.
 pub fn sums_add_up(list: &Medl, script: &Script)
     ensures firsts { (first last within : ℕ)
         → sum_of_counts (map (counts_of_first list.now script.now within) (firsts_of_range list.now script.now first last))
@@ -39,12 +35,10 @@ pub fn sums_add_up(list: &Medl, script: &Script)
         → counts_of_both (pair_counts (told_kept tolds)) (pair_counts (told_broken tolds)) ≡ pair_counts tolds }
 {}
 
-/// The lines of first faults and of their pairs stand behind the first two lines, in the order of the range, and are followed
-/// by the sums (`text`). Those of two ranges, the second of which begins behind the first, are those of both (`lines`). The
-/// pairs of both are those of the one and the other (`pairs`), and so are those of each distance and of each answer of the test
-/// (`apart`, `kept`, `broken`), of which the counts add up (`counts`).
-///
-/// It does nothing, and takes no memory.
+/// The lines of first faults and of their pairs stand behind the first two lines, in the order of the range, and are
+/// followed by the sums (`text`). The lines and the pairs of two ranges, the second of which begins behind the first,
+/// are those of both, one after the other (`lines`, `pairs`). Pairs of a distance, and of an answer of the test, are
+/// picked range by range (`apart`, `kept`, `broken`), and counts add up (`counts`).
 pub fn pieces_add_up(list: &Medl, script: &Script)
     ensures text { (first last within : ℕ) → pairs_lines list.now script.now first last within
         ≡ pairs_head_line list.now script.now first last within ∷ own_line list.now (summary list.now script.now)
@@ -65,19 +59,16 @@ pub fn pieces_add_up(list: &Medl, script: &Script)
 {}
 
 /// The first faults of a range are the faults that a campaign tries there, in its order.
-///
-/// It does nothing, and takes no memory.
 pub fn firsts_are_of_a_campaign(list: &Medl, script: &Script)
     ensures { (history : History) (first last : ℕ)
         → map (λ (one : FirstFault). one.fault) (firsts_from list.now script.now history first last)
         ≡ faults_from list.now script.now history first last }
 {}
 
-/// Where the test of a script with two faults says yes, no node that is correct by it has left in the run that the line of the
-/// pair tells (`hurt`), and such nodes held one membership after each slot, whenever they were active and not in doubt (`split`).
-/// So of the pairs of a range that say yes none is divided (`divided`). The script is to have room for two events more.
-///
-/// It does nothing, and takes no memory.
+/// Where the test of a script with two faults says yes, no node that is correct by it has left in the run that the line
+/// of the pair tells (`hurt`), and such nodes held one membership after each slot, whenever they were active and not in
+/// doubt (`split`): of a range's pairs that say yes none is divided (`divided`). The script is to have room for two
+/// events more.
 pub fn yes_costs_nobody_else(list: &Medl, script: &Script)
     requires valid { IsValid list.now }
     requires script { IsValidScript list.now script.now }
