@@ -55,7 +55,7 @@ style_lines =
     ∷ ended (codes "text{font:12px DejaVu Sans Mono,Consolas,monospace}g text{text-anchor:middle;font-size:11px}")
     ∷ map word_style words ++ map ended styles ++ ended (codes "</style>") ∷ []
 
--- what is left out before the first slot shown, where only quiet slots are or others too
+-- what is left out before the first slot shown: quiet slots alone, or any
 abbrev pub before_text : ℕ → Bool → List ℕ
 before_text first quiet =
     if first == 0
@@ -64,7 +64,7 @@ before_text first quiet =
     then codes "; before: all nodes off or listening"
     else codes "; before: ttplab picture TRACE 0 " ++ decimal (first - 1)
 
--- and behind the last one of so many
+-- what is left out behind the last slot shown, of all slots of the trace
 abbrev pub behind_text : ℕ → ℕ → List ℕ
 behind_text last slots =
     if last + 1 == slots
@@ -231,7 +231,7 @@ abbrev pub round_entry : ℕ → ℕ → List ℕ → Lines
 round_entry top i meaning =
     round_line (legend_x i + 9) (legend_y top i) 19 ∷ legend_text (legend_x i) (legend_y top i) meaning ∷ []
 
--- and a mark, so far to the right and below
+-- an entry of the key that is a mark, moved to the right and down
 abbrev pub mark_entry : ℕ → ℕ → List ℕ → List ℕ → ℕ → ℕ → List ℕ → Lines
 mark_entry top i class shape right down meaning =
     mark class shape (legend_x i + right) (legend_y top i + down) meaning

@@ -60,7 +60,7 @@ strange_past last slots = option_map (λ s. last + 1 + s) (position is_strange (
 
 -- The slots that are shown.
 
--- as many columns as whole rounds of n nodes need
+-- how many columns whole rounds of n nodes need
 abbrev pub columns : ℕ → ℕ
 columns n = n * (48 / n)
 
