@@ -34,7 +34,7 @@ pub record IsOfForm (form : Option Form) (ending : BenchEnding) : Type 0 where
   pub usage : ending.status ≡ 2 → form ≡ None
   -- only the forms that take a trace answer status 1
   pub differs : ending.status ≡ 1 → takes_trace form ≡ true
-  -- but for `run`, nothing stands where memory is refused
+  -- where memory is refused, nothing stands, unless the form is `run`
   pub lets : is_run form ≡ false → ending.unfinished ≡ no_texts
   -- what is kept beside a text tells whether a cluster ran
   pub keeps : (lines : Lines) (kept : Option ClusterView) → IsKeptBeside ttpbench ending.texts lines kept
@@ -106,7 +106,7 @@ one_of : (form : Option Form) (same : Bool) (ending other : BenchEnding) → IsO
 one_of form true ending other p q = p
 one_of form false ending other p q = q
 
--- the traces are made of lines, and so are their first ones
+-- The traces and their first lines are made of lines.
 
 fronts-each : (list : Medl) (script : Script) → AreOfLines ttpbench (those (fronts list script))
 fronts-each list script lines (inl none) = subst AreLines (sym none) tt

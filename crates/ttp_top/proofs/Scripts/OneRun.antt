@@ -30,7 +30,7 @@ messages_before-only list script k (suc slot) none =
     λ i. messages_before-only list script k slot none i
     ++ filter_map (payload_of_host k) (writes_in-none script slot none i)
 
--- so a legal number is 0
+-- Where no host writes, a legal number is 0.
 legal_number-first : (list : Medl) (script : Script) (slot k i : ℕ) → IsUnhosted script
     → IsTrue (is_legal_message list script slot k (Some i)) → i ≡ 0
 legal_number-first list script slot k i none legal =
@@ -69,7 +69,7 @@ chosen_first list script numbers new k none legal node loaded =
     (length list.slots) k k nothing_chosen node (omega arith)
     ∙ ap (message_chosen list script slot k) (told ∙ first)
 
--- so a slot has one choice of legal numbers
+-- Where no host does anything, a slot has one choice of legal numbers.
 next_same : (list : Medl) (script : Script) (numbers : Numbers) (new other : SlotNumbers) → IsUnhosted script
     → IsLegal list script (new ∷ numbers) → IsLegal list script (other ∷ numbers) → new ≡ other
 next_same list script numbers new other none legal other_legal =

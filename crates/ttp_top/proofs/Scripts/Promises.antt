@@ -79,7 +79,7 @@ module _ (list script : List ℕ) (before now : Outside) (answer : BenchAnswer)
   run_told : told_ending before.files.held (plan_of (Some (run list script))) ≡ Some (trace_ending medl right)
   run_told = both_told list script from_script before now medl right files
 
-  -- and no count of a name rises that a run asks for
+  -- A run asks for no name whose count of failures rises.
   quiet : AllAsk (Quiet before now) (plan_of (Some (run list script)))
   quiet =
       both_ask (Quiet before now) list script from_script files.list_quiet files.script_quiet (λ medl right. tt)

@@ -48,7 +48,7 @@ slot_written old new s first before now wrote w =
           (subst (WroteLines before now) told.lines wrote);
     }
 
--- and where it is cut short, one of the traces is
+-- A slot's lines that are cut short leave one of the traces cut short.
 pub slot_cut : (old new : ClusterView) → HasDoneSlot old new → (first before now : Output)
     → CutShort before now (report_lines new.list new.report) → HasWritten first before old
     → CutOf (traces old.list old.script) first now

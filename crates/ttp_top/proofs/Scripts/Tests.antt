@@ -36,7 +36,7 @@ keep_said list script a b c status wrote (inr stopped) =
       none = refl;
     })
 
--- or it was cut short itself
+-- The line of `keeps` was cut short.
 pub keep_cut : (list : Medl) (script : Script) (a b : Output) → CutShort a b (keep_line (keeps list script) ∷ [])
     → Says ttpbench (keep_ending list script) a b (alone 6)
 keep_cut list script a b cut =
