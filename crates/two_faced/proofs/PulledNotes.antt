@@ -19,7 +19,7 @@ abbrev pub AreTurns : (ℕ → Type 0) → ℕ → List ℕ → Type 0
 AreTurns group n [] = Unit {0}
 AreTurns group n (p ∷ ps) = group p × (p < n) × AreTurns group p ps
 
--- as many notes as senders
+-- There are as many notes as senders.
 pub length-noted : (z : ℕ) (w : ℤ) (began : ℕ → ℤ) (c : ℤ) (ds : List ℤ) (ps : List ℕ) → Locate z w began c ds ps
     → length ds ≡ length ps
 length-noted z w began c [] [] h = refl

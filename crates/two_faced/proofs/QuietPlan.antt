@@ -75,7 +75,7 @@ pub sound-always : (plan : FaultPlan) (slot k : ℕ) → plan.incidents ≡ [] �
 sound-always plan slot k none stay =
     ap is_sound_fate (fate-always plan slot k none stay) ∙ begin-sound (has_node plan.begin k)
 
--- And none returns, since only a lost node does.
+-- A plan without incidents loses no node, and only a lost node returns.
 
 never-lost : (plan : FaultPlan) (slot k : ℕ) (fate : Fate) → plan.incidents ≡ [] → IsTold plan slot k fate
     → is_lost fate ≡ true → ⊥

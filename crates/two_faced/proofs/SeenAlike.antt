@@ -37,7 +37,7 @@ seen_in-alike list script z start (row ∷ one) (row_too ∷ other) runs =
     ∙ ap (λ slot. apart_after list script z slot (row_too ∷ other)) slots in
     λ i. seen_with_slot start (before i) (record { value = apart i; slot = slots i })
 
--- so what is seen where frames carry zeros is what is seen by any legal numbers
+-- What is seen where frames carry zeros is what is seen where they carry any legal messages.
 pub seen_of-zeros : (list : Medl) (script : Script) (z start : ℕ) (numbers : Numbers) → IsValidScript list script
     → IsLegalRun list script numbers → seen_in list script z start (zeros_world list script script.slots)
     ≡ seen_in list script z start (world list script numbers)

@@ -22,7 +22,7 @@ pub widest-clock : (f : ℕ → Option ℤ) (k : ℕ) (ks : List ℕ) (z : ℤ) 
     → widest_with (Some (with_clock span z)) (filter_map f ks) ≡ widest_with span (filter_map f (k ∷ ks))
 widest-clock f k ks z span is = rw is (sym (widest_with-more span z (filter_map f ks)))
 
--- and one whose does not
+-- a node whose clock does not count
 pub widest-none : (f : ℕ → Option ℤ) (k : ℕ) (ks : List ℕ) (span : Option Span) → f k ≡ None
     → widest_with span (filter_map f ks) ≡ widest_with span (filter_map f (k ∷ ks))
 widest-none f k ks span is = rw is refl

@@ -17,7 +17,7 @@ AreJudgedCorrect list script row history =
     (p r : ℕ) → p < length list.slots → r < length list.slots → r ≢ p → IsTrue (is_on script r (length history))
     → IsTrue (is_sending (entry_of row p)) → TellsOf list script history p r (entry_of row r)
 
--- so it was in each slot after a slot
+-- in each slot behind this one all nodes that are on judged all frames correct
 abbrev pub JudgedCorrectSince : Medl → Script → ℕ → History → Type 0
 JudgedCorrectSince list script slot [] = Unit {0}
 JudgedCorrectSince list script slot (row ∷ history) =

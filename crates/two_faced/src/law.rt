@@ -1,5 +1,5 @@
-//! The law of clocks with one two-faced sender, and what holds of a script that may have one. The functions do nothing;
-//! their contracts are the laws.
+//! The law of clocks with one two-faced sender, and what holds of a script that may have one. The functions do nothing,
+//! and take no memory; their contracts are the laws.
 ghost use Rattle.std.specs.Prelude.{◌≡◌, ℕ, suc, ◌+◌, ◌<◌, ◌≤◌, ◌-ℤ◌, ◌≤ℤ◌, [], length, IsTrue};
 ghost use Rattle.ttp_world.specs.declared.medl.Medl.{Medl};
 ghost use Rattle.ttp_world.specs.declared.node.Phase.TheVariants as phase;
@@ -50,8 +50,6 @@ pub fn clocks_near()
 /// (`correct`). All nodes that are on hold one membership (`members`), and the clocks of any two of them,
 /// that of the two-faced node too, are no further apart than the bound (`clocks`), in microticks. So what
 /// [`find_seen`](crate::find_seen) answers is no more than the bound (`seen`).
-///
-/// It does nothing, and takes no memory.
 pub fn halved(list: &Medl, script: &Script, node: u8, start: u32)
     requires valid { IsValid list.now }
     requires script { IsValidScript list.now script.now }
