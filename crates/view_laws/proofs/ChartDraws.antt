@@ -228,7 +228,7 @@ end-draws size c t faults =
     sum-draws size (summed.OfSlot t) [] faults (chart_x size.nodes c) (chart_y size.nodes c size.nodes + 5) refl
     ◃ harmful-draws (harmful_among size faults) (chart_x size.nodes c + 11) (chart_y size.nodes c size.nodes + 35)
 
--- all faults of a list are plain, those of a slot too
+-- All faults of a slot are plain, where those of the whole list are.
 plain-in_slot : (t : ℕ) (faults : List FaultTold) → ArePlain faults → ArePlain (faults_told_in t faults)
 plain-in_slot t [] are = tt
 plain-in_slot t (fault ∷ faults) are =

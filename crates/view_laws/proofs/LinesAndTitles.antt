@@ -46,7 +46,7 @@ picture_lines-each trace asked = (picture_of-titles trace (span_shown trace.head
 abbrev pub Unmarked : List ℕ → Type 0
 Unmarked text = list_any is_markup text ≡ false
 
--- as plain texts do not
+-- A plain text has no markup.
 pub unmarked : (text : List ℕ) → Plain text → Unmarked text
 unmarked [] is = refl
 unmarked (c ∷ text) is =

@@ -116,7 +116,7 @@ node-begins : (head : Head) (t k : ℕ) (node : NodeShown)
     ++ (decimal t ++ (codes " node " ++ (decimal k ++ 32 ∷ node_rest head node)))
 node-begins head t k node = gathered [] (pieces_of_node head t k node)
 
--- and behind the word host
+-- the pieces of a host's line behind the word host
 abbrev host_pieces : HostLine → Lines
 host_pieces (by_host.Write host number) = decimal host ∷ codes " write " ∷ decimal number ∷ []
 host_pieces (by_host.Read host from number payload) =
@@ -132,7 +132,7 @@ host-begins t (by_host.Write host number) =
 host-begins t (by_host.Read host from number payload) =
     gathered [] (codes "slot " ∷ decimal t ∷ codes " host " ∷ host_pieces (by_host.Read host from number payload))
 
--- and behind the number of the slot in the titles under those of the nodes
+-- what the titles below the nodes' rows say behind the number of the slot
 abbrev said_rest : Head → SlotLines → List ℕ → List ℕ
 said_rest head slot [] = codes "members -"
 said_rest head slot (members ∷ others) = codes "members" ++ flat_map (membership_text head slot)
