@@ -1,4 +1,4 @@
--- The changes of a node whose line shows the same as before but for its peer and the frames that it accepted.
+-- The changes of a node whose line differs from the one before in its peer and the frames that it accepted alone.
 use Rattle.wave_text.proofs.Words.{◌≡◌, ℕ, List, [], ◌++◌, ◌∷◌, Some, ap, ◌∙◌, codes, if◌then◌else◌, append-nil, Lines}
 use Rattle.wave_text.proofs.Words.{Word, word_text, sends, NodeShown, NodeVariable, node_value, bit_text, phase_text}
 use Rattle.wave_text.proofs.Words.{held_text, unless_off, number_or_nothing, number_text, wires_text, node_code}

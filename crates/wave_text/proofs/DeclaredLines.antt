@@ -1,4 +1,4 @@
--- Each line before the slots of a waveform is one line, and so is each line of the whole.
+-- Each line of a waveform is one line: those before its slots, and those of the whole.
 use Rattle.wave_text.proofs.Words.{ℕ, ◌-◌, ◌*◌, List, [], ◌∷◌, ◌++◌, map, refl, Option, Some, None, arith, codes}
 use Rattle.wave_text.proofs.Words.{decimal, flat_map, below, newline, hex, lines_below, is_line-append, source_word}
 use Rattle.wave_text.proofs.Words.{each-append, IsLine, Head, WholeTrace, Port, What, trace_ports, header_text}

@@ -37,7 +37,7 @@ its_port k (what.Read wanted) (line.Read host from number payload) m is =
     let both = and_parts (host == k) (same_source wanted from) g.0 in
     (sym (eqb-true host k both.0), ap (λ (s : Source). what.Read s) (one_source wanted from both.1))
 
--- and it has one of that
+-- a line of a host has one message, of what it writes or reads
 pub its_message : (shown : HostLine) → message_in_line (host_in shown) (what_in shown) shown ≡ Some (message_said shown)
 its_message (line.Write host number) =
     ap (λ (b : Bool). cond b (Some (record { number = number; payload = [] })) None) (eq-eqb host host refl)

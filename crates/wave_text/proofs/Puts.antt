@@ -31,7 +31,7 @@ puts_at {X} {k} {g} {h} {a} {b} {c} f xs i d less p q =
     (puts_then k g h a b c (flat_map f (take i xs)) (f (get_or xs i d)) p q)
 
 module _ {X : Type 0} where
-  -- the same where each has one line
+  -- where each item has one line, a loop that puts the next item's has put those of one item more
   pub puts_line_at : {k g h : Bool} {a b c : Output} {one : List ℕ} (f : X → List ℕ) (xs : List X) (i : ℕ) (d : X)
       → i < length xs → Puts k a g b (map f (take i xs)) → one ≡ f (get_or xs i d) → Puts g b h c (one ∷ [])
       → Puts k a h c (map f (take (i + 1) xs))

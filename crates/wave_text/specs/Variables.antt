@@ -31,7 +31,7 @@ abbrev pub data_variables : What → List PortVariable
 data_variables what.Write = []
 data_variables (what.Read from) = of_port.Data ∷ []
 
--- and all that it writes or reads has a number
+-- what a host writes or reads has a number, and what it reads bytes besides
 abbrev pub port_variables : What → List PortVariable
 port_variables does = of_port.Number ∷ data_variables does
 
