@@ -10,7 +10,7 @@ use Rattle.causes.specs.declared.cause.Spot.{Spot}
 use Rattle.ttp_world.proofs.LineLists.{each-append}
 use Rattle.ttp_world.proofs.SmallTests.{both}
 
--- The same entry.
+-- Spots that compare as equal are equal.
 
 same-number : (a b : ℕ) → (a == b) ≡ true → a ≡ b
 same-number a b is = grind (arith, nat_tests)

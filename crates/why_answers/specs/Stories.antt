@@ -74,7 +74,7 @@ abbrev pub LeadBack : List Told → Type 0
 LeadBack [] = Unit {0}
 LeadBack (t ∷ older) = (leads_back (spots_told older) t.cause ≡ true) × LeadBack older
 
--- but the newest may not
+-- each entry but the newest names a line, or a clock past the window, or an older one that does
 abbrev pub OthersLeadBack : List Told → Type 0
 OthersLeadBack [] = Unit {0}
 OthersLeadBack (t ∷ older) = LeadBack older

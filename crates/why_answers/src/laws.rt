@@ -1,4 +1,4 @@
-//! What holds of the text of `why`. The functions do nothing; their contracts are the laws.
+//! What holds of the text of `why`. The functions do nothing, and take no memory; their contracts are the laws.
 ghost use Rattle.std.specs.Prelude.{◌≡◌, ℕ, ◌<◌, ◌++◌, true, codes, length, map, suc, reverse, List as Items};
 ghost use Rattle.std.specs.List.{AllByRecursion, AllZip, list_any};
 ghost use Rattle.ttp_base.specs.Text.{newline};
@@ -22,8 +22,6 @@ use ttp_world::{Medl, Script};
 
 /// A line of the script is listed if and only if an entry that is told names it (`listed`). The numbers of the lines that are
 /// listed, and of those that an entry shows, rise (`rising`), and an entry shows the lines that it names (`shown`).
-///
-/// It does nothing, and takes no memory.
 pub fn lines_are_listed(list: &Medl, script: &Script, numbers: &LineNumbers)
     ensures listed { (k slot n : ℕ) → has_line_number numbers.now n (lines_listed list.now script.now numbers.now k slot)
         ≡ list_any (λ t. has_line_number numbers.now n t.cause.lines) (why_told list.now script.now k slot) }
@@ -35,8 +33,6 @@ pub fn lines_are_listed(list: &Medl, script: &Script, numbers: &LineNumbers)
 /// Each entry that is named is told above where it is named (`above`), and the line of an entry shows all that it names
 /// (`shown`). The last is the one that was asked for, and each other is named by one below it (`named`) and leads back: it
 /// names a line, or a clock past the window, or an entry above that leads back (`leads`).
-///
-/// It does nothing, and takes no memory.
 pub fn stories_hold_together(list: &Medl, script: &Script)
     ensures above { (k slot : ℕ) → k < length list.now.slots → AreNamedAbove (why_told list.now script.now k slot) }
     ensures shown { (k slot : ℕ) → k < length list.now.slots
@@ -47,20 +43,17 @@ pub fn stories_hold_together(list: &Medl, script: &Script)
     ensures leads { (k slot : ℕ) → k < length list.now.slots → OthersLeadBack (why_told list.now script.now k slot) }
 {}
 
-/// A cause of an entry is an entry of an earlier slot, or of the same one and hangs less on what is heard in it: so it stands
-/// above the entry.
-///
-/// It does nothing, and takes no memory.
+/// A cause of an entry stands above the entry: it is an entry of an earlier slot, or one of its slot that hangs less on
+/// what is heard in it.
 pub fn causes_stand_above(list: &Medl, script: &Script)
     ensures { (count : ℕ) (spot : Spot) → spot.slot < count
         → AllByRecursion (λ cause. StandsAbove (first_slots list.now script.now count) cause spot)
         (cause_at (first_slots list.now script.now count) spot).entries }
 {}
 
-/// The text has a line for each entry that is told, the oldest first, and each begins with the entry's slot, node, word and
-/// peer (`text`). So does a line of the trace of each run of the script by legal message numbers (`trace`).
-///
-/// It does nothing, and takes no memory.
+/// The text has a line for each entry that is told, the oldest first, which begins with the entry's slot, node, word
+/// and peer (`text`). With these a line of the trace begins too, in each run of the script by legal message numbers
+/// (`trace`).
 pub fn lines_begin_as_in_the_trace(list: &Medl, script: &Script, numbers: &LineNumbers)
     requires script { IsValidScript list.now script.now }
     ensures text { (k slot : ℕ) → AllZip (λ line t. BeginWith (head_told (first_slots list.now script.now (suc slot)) t) line)
@@ -73,8 +66,6 @@ pub fn lines_begin_as_in_the_trace(list: &Medl, script: &Script, numbers: &LineN
 {}
 
 /// Where all fault lines of a script are among the lines that the text lists, its last line is `alone yes`.
-///
-/// It does nothing, and takes no memory.
 pub fn all_lines_suffice(list: &Medl, script: &Script, numbers: &LineNumbers)
     ensures { (k slot : ℕ)
         → names_all_faults (lines_listed list.now script.now numbers.now k slot) script.now ≡ true
@@ -84,8 +75,6 @@ pub fn all_lines_suffice(list: &Medl, script: &Script, numbers: &LineNumbers)
 /// The entry by which `alone` and `needed` are told, in the run in which of all fault lines some are left, is that of the trace
 /// of the script without the others: one of its lines begins with this slot, node, word and peer, whatever the legal message
 /// numbers.
-///
-/// It does nothing, and takes no memory.
 pub fn entries_alone_are_of_a_trace(list: &Medl, script: &Script, lines: &[ScriptLine])
     requires script { IsValidScript list.now script.now }
     ensures { (legal : Numbers) (k slot : ℕ)
