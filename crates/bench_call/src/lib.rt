@@ -107,8 +107,10 @@ pub fn bench<R: Threads + Wait + Sync, L: Library, K: Sink, G: Gate>(
     ensures verify { (list script trace : List ℕ) → form_of (texts_of words.now) ≡ Some (verify list script trace)
         → VerifyPromise list script trace (outside (L.files library.old) (K.output out.old))
         (outside (L.files library.new) (K.output out.new)) (answer result kept.new) }
-    // The same for `modes`, which writes of a trace which mode each node runs; where the script keeps the single-fault
-    // hypothesis, the lines of all correct nodes show one mode after each slot from the start on.
+    // For `modes`, in its own words: status 0 says that the third file is the trace of a run, and writes which mode
+    // each node runs in it, and status 1 names the first wrong line; with status 6 the text was cut short, and with
+    // status 7 nothing is written. Where the script keeps the single-fault hypothesis, the lines of all correct nodes
+    // show one mode after each slot from the start on.
     ensures modes { (list script trace : List ℕ) → form_of (texts_of words.now) ≡ Some (modes list script trace)
         → ModesPromise list script trace (outside (L.files library.old) (K.output out.old))
         (outside (L.files library.new) (K.output out.new)) (answer result kept.new) }
