@@ -1,4 +1,4 @@
--- The members of a node as a slot begins are nodes of the list, and so is the one that it doubts.
+-- The members of a node as a slot begins, and the node that it doubts, are nodes of the list.
 use Rattle.std.proofs.Common.{◌≡◌, ℕ, zero, suc, ◌<◌, Bool, true, false, cond, [], length, subst, sym, ap, ◌∙◌}
 use Rattle.std.specs.Prelude.{filter}
 use Rattle.ttp_world.specs.ZerosWorld.{all_zeros, zeros_world}
@@ -114,7 +114,7 @@ doubt-in list script slot k valid node =
     (sym (node_of-slot_after list script (zeros_world list script slot) k node))
     (doubt-of_list list script slot k valid node)
 
--- as it is asked for
+-- The node x of an acknowledgement that doubts x is below what is known of any node that is doubted.
 pub doubt-of : (a : Ack) (n : ℕ) → IfDoubted a (λ x. x < n) → (x : ℕ) → a ≡ ack.Doubt x → x < n
 doubt-of a n is x doubts = subst (λ (b : Ack). IfDoubted b (λ x. x < n)) doubts is
 

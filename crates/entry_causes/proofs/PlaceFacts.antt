@@ -21,7 +21,7 @@ place-before list script slot k valid node =
     (sym (node_of-slot_after list script (zeros_world list script slot) k node))
     (place-of_list list script slot k valid node)
 
--- and that of the slot
+-- The place of a node in a slot is one of the list.
 pub place-coming : (list : Medl) (script : Script) (slot k : ℕ) → IsValid list → k < length list.slots
     → IsPlaceOf list (next_place list (past_in k (slot_in list script slot)).place)
 place-coming list script slot k valid node =

@@ -16,6 +16,6 @@ the_one (p ∷ q ∷ others) = None
 abbrev pub sends_in : RunSlot → ℕ → Bool
 sends_in s k = is_sending (entry_in_slot k s)
 
--- and something of its frame remains on a channel
+-- node k sends in a slot, and something of its frame is left on the channel
 abbrev pub is_left_on : Channel → RunSlot → ℕ → Bool
 is_left_on c s k = sends_in s k && not (has_send_fault s.begun.script fault.Silence k c s.begun.number)
