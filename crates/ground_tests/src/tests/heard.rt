@@ -34,7 +34,7 @@ const ALL_B: FirstFrame = FirstFrame {
     ..ALL_A
 };
 
-// The same without node 3 or node 0.
+// Frames on channel A without node 3, or without node 0, among the members.
 const NOT_3_A: FirstFrame = FirstFrame {
     members: 0b0011,
     ..ALL_A
@@ -64,8 +64,8 @@ const OF_2: FirstFrame = FirstFrame {
     payload: &[7, 9],
 };
 
-// As it comes to a node whose clock is 4 ahead and that reads 1 too much: 7 late, or so late that it is outside the
-// window, 997.
+// What comes to a node whose clock is 4 ahead and that reads 1 too much: frames 7 late, or so late, by 997, that they
+// are outside the window.
 const RIGHT_A: Came = Came::Frame(&ALL_A, 10);
 
 const RIGHT_B: Came = Came::Frame(&ALL_B, 10);

@@ -42,7 +42,7 @@ const EACH: [bool; 2] = [true, true];
 
 // What they send, and how far their clocks are ahead.
 const SENT: [([u8; 3], i64); 2] = [([0x10, 0xa5, 0xff], -7), ([0x11, 0x00, 0x3c], 40)];
-// The same as it is heard without faults.
+// What is heard of these two without faults.
 const ZERO: Sound = Sound::Bits(&[0x10, 0xa5, 0xff], -7);
 
 const ONE: Sound = Sound::Bits(&[0x11, 0x00, 0x3c], 40);
