@@ -25,7 +25,7 @@ const FIVE_NODES: &str =
 
 const START: &str = "slots 15\non 0 0\non 1 0\non 2 0\non 3 0\non 4 0\n";
 
-// The same where host 1 reads its status.
+// All five nodes are on, and host 1 reads its status in slot 11.
 const POLLED: &str = "slots 15\non 0 0\non 1 0\non 2 0\non 3 0\non 4 0\nread 1 11 status\n";
 
 // A call of `bench`: its words, what the library holds under `list`, `script` and `trace`, and which call of the

@@ -33,7 +33,7 @@ fn counted_up(job: CountedUp) -> CountedUp
     }
 }
 
-// The same by the worker, who takes so many looks for it.
+// Counts a number up as the worker does, which takes the time of so many looks.
 fn served_up(job: CountedUp, looks: u32) -> CountedUp
     requires { job.count < 1000 }
     ensures { result.count ≡ job.count + 1 }

@@ -202,7 +202,7 @@ fn a_host_reads_what_its_controller_wrote(rt: HostRuntime) {
     assert!(rt; reads_after(&rt, rt.alloc()));
 }
 
-// The same where the host reads beside the controller's turn.
+// Whether a host that reads beside its controller's turn reads early messages or the first ones.
 fn reads_beside<R: Threads + Wait + Sync>(rt: &R, alloc: Global, list: &[u8]) -> bool {
     let Some((port, end, readers)) = read_port(alloc, list) else {
         return false;
