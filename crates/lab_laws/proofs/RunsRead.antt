@@ -47,7 +47,7 @@ slots-with list script e valid stands = record {
       (valid-among list script (script.events ++ e ∷ []) e stands);
 }
 
--- and is asked by the same test
+-- A script with one event more, which arms no node, is asked by the test that it was asked by.
 armed-with : (script : Script) (e : Event) → is_arm e ≡ false → has_arm (with_fault script e) ≡ has_arm script
 armed-with script e unarmed =
     list_any-append is_arm script.events (e ∷ [])

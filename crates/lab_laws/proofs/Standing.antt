@@ -204,7 +204,7 @@ stands-world list script (new ∷ numbers) k valid node =
     stands-next list script (world list script numbers) (messages_chosen list script (length numbers) new.sent) k valid
     (world-of_list list script numbers valid) node (stands-world list script numbers k valid node)
 
--- so its counts have at most three digits
+-- What is shown of a node names nodes of the list, and its counts go up to the number of nodes.
 pub record IsShownIn (list : Medl) (k : ℕ) (past : NodePast) : Type 0 where
   pub peer : IfSome (peer_of k past.entry) (λ p. p < length list.slots)
   pub accepted : past.accepted ≤ length list.slots

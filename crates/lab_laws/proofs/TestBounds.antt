@@ -68,7 +68,7 @@ least_of-in bound (n ∷ ns) all =
     lesser-in bound n (least_of ns) (All-head (λ m. m < bound) n ns all)
     (least_of-in bound ns (All-tail (λ m. m < bound) n ns all))
 
--- the first that comes too early
+-- The first slot of a list that comes too early is within the bound of all.
 early-in : (bound gap earliest : ℕ) (slots : List ℕ) → AllByRecursion (λ n. n < bound) slots
     → IsIn bound (first_too_early gap earliest slots)
 early-in bound gap earliest [] all = tt

@@ -55,7 +55,7 @@ state_listed k state message = record {
   offset = state.offset;
 }
 
--- and in the slot of a row
+-- what is listed of a node in the slot of a row, with the message that its line shows
 abbrev pub node_listed : Medl → Script → List Entry → History → ℕ → NodeShown
 node_listed list script row before k =
     let state = state_of (node_past list script (row ∷ before) k) in
