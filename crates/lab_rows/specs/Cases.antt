@@ -22,7 +22,7 @@ bare_slot_at k = record {
   live = 1;
 }
 
--- so many, with a window of so much
+-- a list of n nodes whose frames carry nothing, with this window
 abbrev pub bare_list_within : ℕ → ℕ → Medl
 bare_list_within n window = record {
   version = 1;

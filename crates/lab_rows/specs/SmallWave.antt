@@ -135,7 +135,7 @@ small_slot_0 =
     ∷ codes "$end"
     ∷ []
 
--- and then what changes
+-- what changes in slot 1
 abbrev pub small_slot_1 : Lines
 small_slot_1 =
     codes "#1"

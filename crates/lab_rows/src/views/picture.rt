@@ -7,7 +7,7 @@ ghost use Rattle.lab_rows.specs.Small.{small, slot_0, slot_1, slot_2};
 ghost use Rattle.lab_rows.specs.Slots.{idle};
 ghost use Rattle.lab_rows.specs.SmallPicture.{small_picture};
 
-/// The same trace, whole, of which all slots are shown.
+/// The picture of the small trace, of which all slots are shown.
 pub fn small_trace()
     ensures { picture_lines small None ≡ small_picture }
 {}
