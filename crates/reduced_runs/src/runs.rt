@@ -107,7 +107,7 @@ pub fn entry_alone(
     entry_in_run(alloc, list, &fewer, slot, node)
 }
 
-// Two lines are the same.
+// Whether two lines are equal.
 fn is_same(a: &ScriptLine, b: &ScriptLine) -> bool
     ensures { result ≡ is_same_line a.now b.now }
 {
