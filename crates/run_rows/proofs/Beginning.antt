@@ -43,7 +43,8 @@ jump_taken-phase phase.Active list k on armed past jump =
     cond_both ((coming_place list past).slot == k) (own_act past) act.Judge (λ a. jump_taken a jump ≡ jump)
     (λ b. own-jumps past jump) (λ b. refl)
 
--- So the clock of a node, by its phase.
+-- Where the clock of a node stands as a slot begins, by its phase: a jump is taken, unless the node is off and stays
+-- off.
 pub clock-begun : (list : Medl) (k : ℕ) (on armed : Bool) (past : NodePast) (jump : ℤ)
     → past.offset +ℤ jump_taken (act list k on armed past) jump
     ≡ past.offset +ℤ cond (is_off_phase past.phase && not on) (pos 0) jump

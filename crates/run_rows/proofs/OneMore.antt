@@ -28,7 +28,7 @@ use Rattle.ttp_world.specs.declared.script.Script.{Script}
 
 -- The notes.
 
--- so many there are
+-- How many notes an entry leaves, by the place and by how many there were.
 length-notes : (active begins sync : Bool) (d : Option ℤ) (notes : List ℤ)
     → length (cond active (cond sync (option_to_list d) [] ++ cond begins [] notes) [])
     ≡ cond active (cond (sync && is_some d) 1 0 + cond begins 0 (length notes)) 0
@@ -143,7 +143,7 @@ place-of_list list script (suc slot) k valid node =
     (row_after-of_list list script (zeros_world list script slot) (all_zeros list) valid
     (zeros-of_list list script slot valid))))
 
--- and by what the node did in one slot more
+-- The place of a node after one slot more is a place of the list.
 pub next-of_list : (list : Medl) (script : Script) (slot k : ℕ) → IsValid list → k < length list.slots
     → IsPlaceOf list
     (place_after list k (node_past list script (zeros_world list script slot) k).place

@@ -26,11 +26,11 @@ kept_with place notes limit = record {
 abbrev pub kept_of : NodePast → Kept
 kept_of past = kept_with past.place (length past.notes) past.limit
 
--- so many notes an entry adds in a slot of this place
+-- how many notes an entry adds in a slot of this place
 abbrev pub notes_added : Medl → Place → Entry → ℕ
 notes_added list place e = if (plan_at list place.slot).sync && is_some (deviation_noted e) then 1 else 0
 
--- so many there are after it
+-- how many notes there are after it, if there were `count` before
 abbrev pub notes_counted : Medl → ℕ → Place → Entry → ℕ
 notes_counted list count place e =
     if is_active_entry e then notes_added list place e + (if begins_round place e then 0 else count) else 0

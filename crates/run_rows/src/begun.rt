@@ -114,7 +114,7 @@ fn off() -> NodeState
     }
 }
 
-// What no node is.
+// What stands in the places behind the last node.
 fn nothing_begun() -> NodeBegun {
     NodeBegun {
         cstate: CState {
