@@ -156,7 +156,7 @@ impl Progress {
         }
     }
 
-    // Takes the range from the first line: `ttplab campaign 1 nodes N slots T from FIRST to LAST`, and `pairs` likewise.
+    // Takes the range from the first line: `ttplab campaign 1 nodes N slots T from FIRST to LAST`, or that of `pairs`.
     fn begin(&mut self, line: &str) {
         let slots = number_in(line.split(' ').nth(6));
         let first = number_in(line.split(' ').nth(8));
