@@ -29,7 +29,7 @@ fn kept_after(list: &Medl, script: &Script, start: Start, last: u32) -> u32
     again.step(list, script, last).bits()
 }
 
-// The same by the test on armed nodes.
+// The faulty nodes after a slot by the test on armed nodes, walked from the start on.
 fn back_after(list: &Medl, script: &Script, start: Start, last: u32) -> u32
     requires valid { IsValid list.now }
     requires script { IsValidScript list.now script.now }
