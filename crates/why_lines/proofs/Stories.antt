@@ -27,7 +27,7 @@ told-within source told i d within is all =
     (All-get_or (IsRunSpot source) (map (λ t. t.spot) told) i d.spot
     (omega (arith, within, length-map told (λ (t : Told). t.spot))) all)
 
--- and so is the root, wherever it is named
+-- A root that is told at its own place alone is told of spots of the run.
 pub root-within : (source : RunSource) (i : ℕ) (root : List Spot)
     → AreRunSpots source root → AreRunSpots source (root_at i root)
 root-within source zero root all = all
