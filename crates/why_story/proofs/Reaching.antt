@@ -74,7 +74,7 @@ Reaches-other run count rank marked s now marks other = record {
       (other_rank run marked s older (rank_of_entry (entry_at_spot run s) == rank) other);
 }
 
--- one that is told
+-- What is told from spot s on, where s is marked and is told itself.
 told_here : (run : RunSlots) (before : List Told) (marked : List Spot) (s : Spot)
     (older : List Spot) (b : Bool) → b ≡ true
     → has_spot marked s ≡ true
