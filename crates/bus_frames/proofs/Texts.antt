@@ -94,7 +94,7 @@ module _ (run : TraceRun) (list : Medl) (script : Script) (whole : Numbers) (slo
         (Wrote-join a b c (lines_so_far list script (first_numbers script whole slot))
         (frame_slot_lines list script made.row older) before more)
 
-    -- or the sink fails within them
+    -- the lines of the slot are cut short, and with them the whole text
     pub cut-next : CutShort b c
         (frame_slot_lines list script made.row (world list script (first_numbers script whole slot)))
         → CutShort a c (frame_lines list script whole)
