@@ -30,7 +30,7 @@ goes-on (entry.Sent message) modes on = refl
 goes-on (entry.Judged sender v deviation) modes on = refl
 goes-on _ modes on = absurd (false≢true on)
 
--- and who knew its mode knows it after the slot
+-- A node that knows its mode knows it after the next slot.
 knows-on : (ends : Bool) (request : Option ℕ) (modes : Modes) → IsSome modes.mode
     → IsSome (switched_at ends (with_request request modes)).mode
 knows-on false request modes knows = knows

@@ -186,7 +186,7 @@ module _ (list : Medl) (script : Script) (group : ℕ → Bool) (row : List Entr
       ∙ ap (λ a. option_or a (mode_delivered list (delivered_of list script history row k)))
       (sym (accepts-unsent list script slot j k (entry_of row k) accepted))
 
-  -- and both accept what third nodes send
+  -- Two nodes that send nothing accept the same messages of third nodes.
   same-messages : (j k : ℕ) → IsIn list group j → IsIn list group k → j ≢ k → message_of (entry_of row j) ≡ None
       → message_of (entry_of row k) ≡ None → (p : ℕ)
       → new_messages p (delivered_of list script history row j)

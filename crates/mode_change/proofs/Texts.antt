@@ -68,7 +68,7 @@ module _ (run : TraceRun) (list : Medl) (script : Script) (numbers : Numbers) (s
           (Wrote-join a b c (mode_head list script ∷ mode_history_lines list script before)
           (mode_slot_lines list script made.row before) wrote (more script made.row before (sym made.long) known))
 
-      -- or the sink fails within them
+      -- the lines of the slot are cut short, and with them the whole text
       pub cut-next : ((said : Script) (row : List Entry) (history : History) → slot ≡ length history
           → KnowAll nodes list said (row ∷ history) → CutShort b c (mode_slot_lines list said row history))
           → CutShort a c (mode_lines list script numbers)

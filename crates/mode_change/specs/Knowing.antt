@@ -70,7 +70,7 @@ pub record IsPastRow (plant : PlantView) (chosen : List Chosen) (list : Medl) (s
   pub delivered : (k : ℕ) → k < length list.slots
       → (outcome_at plant k).delivered ≡ delivered_of list script history row k
   pub from : (k : ℕ) → k < length list.slots → IsFromList list (outcome_at plant k).delivered
-  -- and so can its place
+  -- the place of each node can be told by what it did
   pub join : (k : ℕ) → k < length list.slots → IsJoinOfList list (entry_of row k)
   pub place : (k : ℕ) → k < length list.slots
       → place_of list k (diary_of (row ∷ history) k)

@@ -12,7 +12,7 @@ use Rattle.mode_change.specs.Modes.{mode_of, next_of}
 pub record RunsOneMode (list : Medl) (script : Script) (group : ℕ → Bool) (history : History) : Type 0 where
   -- each node of the group knows which mode it runs
   pub knows : (k : ℕ) → IsIn list group k → IsSome (mode_of list script history k)
-  -- any two run the same, and have the same next one, or none
+  -- any two nodes of the group run one mode, and have one next mode, or none
   pub mode : (j k : ℕ) → IsIn list group j → IsIn list group k
       → mode_of list script history j ≡ mode_of list script history k
   pub next : (j k : ℕ) → IsIn list group j → IsIn list group k

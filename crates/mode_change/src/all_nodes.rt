@@ -24,7 +24,7 @@ pub(crate) fn new_nodes(alloc: Global, list: &Medl) -> Result<Vec<NodeModes>, Me
     Ok(nodes.into_vec())
 }
 
-/// The same after a slot more, which the plant is past.
+/// Notes one slot more of all nodes, which the plant is past.
 pub(crate) fn know_slot(plant: &Plant, chosen: &[Chosen], nodes: &mut [NodeModes], list: &Medl)
     requires list { IsValid list.now }
     requires stepped { HasStepped plant.now chosen.now nodes.old list.now }

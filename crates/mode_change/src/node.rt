@@ -226,7 +226,7 @@ pub(crate) fn new_node(list: &Medl) -> NodeModes
     }
 }
 
-/// The same after one slot more, by its entry, the message that was chosen for its frame, and what it
+/// What is known of a node after one slot more, by its entry, the message that was chosen for its frame, and what it
 /// delivered.
 pub(crate) fn node_after(
     old: &NodeModes,
