@@ -50,7 +50,7 @@ pub record NotedInSlot (list : Medl) (script : Script) (plan : FaultPlan) (slot 
   pub jumped : (k since : ℕ) → k < length list.slots → fate_of plan slot k ≡ Falling Jumping since
       → NotesNothing (entry_of row k)
 
--- so it was in each slot up to this one
+-- each slot up to this one was noted by a plan: the start, and every slot behind it
 abbrev pub NotedByPlan : Medl → Script → ClusterStart → FaultPlan → ℕ → History → Type 0
 NotedByPlan list script start plan slot [] = ⊥
 NotedByPlan list script start plan zero (row ∷ history) = StartedByPlan list script start plan row history
