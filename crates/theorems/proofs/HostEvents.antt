@@ -16,7 +16,7 @@ is_host_event_below slot (event.Write node at payload) = nat_lt at slot
 is_host_event_below slot (event.Read node at from) = nat_lt at slot
 is_host_event_below slot _ = false
 
--- so many events of a list are
+-- how many events of a list are of a host, in slots below this one
 abbrev pub host_events_below : List Event → ℕ → ℕ
 host_events_below events slot = count_by (is_host_event_below slot) events
 

@@ -110,7 +110,7 @@ status_messages-short list script (row ∷ history) k =
     (is_some (delivered_of list script history row k)) ∷ []) (status_messages-short list script history k)
     (short-one 4 _ (omega arith))
 
--- As digits.
+-- A message is short as digits too: 480 of them at most.
 
 pub message-short : (list : Medl) (script : Script) (history : History) (k : ℕ) (from : Source) (i : ℕ) → IsValid list
     → length (message_hex from (get_or (ring_messages list script history k from) i [])) ≤ 480
