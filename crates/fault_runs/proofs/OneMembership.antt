@@ -1,4 +1,4 @@
--- Where all nodes hold one membership, or none, so do some of them.
+-- Where all nodes hold one membership, or none, some of them hold no two.
 use Rattle.std.proofs.Common.{◌≡◌, ℕ, Bool, true, false, cond, not, ◌&&◌, ◌||◌}
 use Rattle.std.proofs.Common.{List, [], ◌∷◌, Some, None, refl, ap, sym}
 use Rattle.std.proofs.Common.{subst, ◌∙◌}
@@ -29,7 +29,7 @@ not-two : (m : List ℕ) (xs : List (List ℕ)) → AreAll m xs → has_two (eac
 not-two m [] all = refl
 not-two m (x ∷ xs) all = two-others x xs ∙ others-none m x xs all.0 all.1
 
--- and so they are where there are no two
+-- Where a list has no two memberships, all of them are one.
 same-if : (m x : List ℕ) (b c : Bool) → bytes_eq m x ≡ b → (not b || c) ≡ false → (x ≡ m) × (c ≡ false)
 same-if m x true c same none = (sym (same_bytes m x same), none)
 same-if m x false c same none = absurd (false≢true (sym none))

@@ -27,7 +27,7 @@ pub record IsNear (e : Entry) (one other : SlotSurroundings) : Type 0 where
   pub drift : one.drift ≡ other.drift
   pub silent : is_waiting e ≡ true → one.is_silent ≡ other.is_silent
 
--- so it is in each slot of a history
+-- In each slot of a history, what comes to node k from outside is near under both scripts.
 abbrev pub AreNear : Script → Script → ℕ → History → Type 0
 AreNear one other k [] = Unit {0}
 AreNear one other k (row ∷ history) =
@@ -75,7 +75,7 @@ module _ (list : Medl) (one other : Script) where
       let silent = silences-near history k near in
       λ i. record (node_past list one history k) { silent_slots = silent i; offset = offset i }
 
-  -- The slot after it, of which the scripts say the same.
+  -- One slot more, of which both scripts say alike: what a node is after it does not differ.
   module _ (history : History) (chosen : List Chosen)
       (pasts : (k : ℕ) → node_past list one history k ≡ node_past list other history k)
       (now : (k : ℕ) → SayAlike one other k (length history)) where

@@ -63,7 +63,7 @@ module _ (list : Medl) (script : Script) (e : Event) (slot : ℕ) (is : is_loss_
           near n k,
         )
 
-    -- So they are in all slots behind it.
+    -- The worlds of both scripts are equal in all slots behind the loss.
     pub worlds-same : (m : ℕ) → zeros_world list script (slot + 1 + m) ≡ zeros_world list more (slot + 1 + m)
     worlds-same zero =
         let same : slot + 1 ≡ slot + 1 + 0 = omega arith in
@@ -218,7 +218,7 @@ module _ (list : Medl) (script : Script) (e : Event) (slot : ℕ) (begins : slot
   ]
 
 module _ (list : Medl) (script : Script) (e : Event) (slot settled : ℕ) where
-  -- So the cost of the whole run is that of the slots up to it, with the memberships that are left in the own run.
+  -- The cost of the whole run is that of the slots up to the loss, with the memberships that are left in the own run.
   pub merged-cost : (row : List Entry) (now : List NodeState) (end : List (List ℕ)) (cost : Cost)
       → is_loss_in slot e ≡ true → slot ≤ begins_at e → slot < script.slots → settled ≤ slot + 1
       → IsSettledFrom list script settled → end ≡ (summary list script).cost.end → row ≡ next_row list script slot

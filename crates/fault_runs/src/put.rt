@@ -79,7 +79,7 @@ fn put_tried<K: Sink>(tried: &Tried, tally: &mut Tally, out: &mut K) -> Result<(
     }
 }
 
-// The same for those of a slot.
+// Counts the runs of a slot's faults, and writes their lines.
 fn put_all<K: Sink>(
     all: &[Tried],
     slot: u32,

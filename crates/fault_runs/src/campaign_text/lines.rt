@@ -33,7 +33,7 @@ fn put_keep(text: &mut GrowingText, keep: Keep) -> Result<bool, Memory>
     }
 }
 
-// The same for the line on armed nodes.
+// Adds what the test on armed nodes says, and answers whether it says yes.
 fn put_back(text: &mut GrowingText, back: Back) -> Result<bool, Memory>
     ensures text { OnOk result (text.new ≡ text.old ++ back_words back) }
     ensures yes { IfOk result (λ yes. yes ≡ is_owed back) }
