@@ -56,14 +56,15 @@ pub record IsOfForm (form : Option LabForm) (ending : LabEnding) : Type 0 where
   pub final : IsFinal ttplab ending
   -- the usage line answers words of no form alone
   pub usage : ending.status ≡ 2 → form ≡ None
-  -- and status 1 that of `frames`, `check` and `why` alone
+  -- status 1 answers `frames`, `check` and `why` alone
   pub differs : ending.status ≡ 1 → tells_differences form ≡ true
   -- only forms that read a list refuse one
   pub lists : ending.status ≡ 3 → reads_list form ≡ true
-  -- but for a form that writes lines of a list and a script, nothing stands where memory is refused
+  -- where memory is refused, nothing stands, unless the form writes lines of a list and a script
   pub lets : may_be_begun form ≡ false → ending.unfinished ≡ no_texts
 
--- each line of a view of what a text is taken for is one line, and so is the line that refuses a text
+-- Each line that a view writes of what a text is taken for is one line, and the kind that a refusal names has no line
+-- feed.
 record IsOfLines {Value : Type 0} (view : View Value) : Type 0 where
   plain : has 10 view.kind ≡ false
   each : (text : List ℕ) (value : Value) → view.taken text ≡ Ok value → AreLines (view.lines value)
@@ -117,7 +118,7 @@ no_script form fault = record {
   lets = λ other. refl;
 }
 
--- lines of a list and a script are lines, and so are the first ones
+-- First lines of a text of lines are lines.
 
 begun-each : (text : Lines) → AreLines text → AreOfLines ttplab (those (begun text))
 begun-each text each lines some = lines_front lines (some.next ∷ some.rest) (subst AreLines some.begins each)

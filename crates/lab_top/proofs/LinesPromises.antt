@@ -45,7 +45,7 @@ pub shows_cut : (text : Lines) (before now : Output) → CutShort before now tex
 shows_cut text before now cut =
     inl (inr (record { status = refl; text = record { lines = text; among = refl; cut = cut }; none = refl }))
 
--- none are first lines too, of a text that has one
+-- Of a text that has a line, no lines at all are fewer than all.
 pub none_of : (text : Lines) (before now : Output) → IsProperFront text [] → Wrote before now []
     → WroteFewer before now text
 none_of text before now one none =

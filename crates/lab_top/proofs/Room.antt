@@ -75,7 +75,7 @@ line_room list said line None before size =
           one.1.0 size))
     ]
 
--- where a list of faults is empty, so are its parts
+-- Two lists of faults that make an empty one are both empty.
 from_none : {P : Type 0} (number : ℕ) (found : List LineFault) (more : List ScriptError)
     → errors_at number found ++ more ≡ [] → (found ≡ [] → more ≡ [] → P) → P
 from_none number [] more none holds = holds refl none
@@ -119,7 +119,7 @@ script_of-room list text script valid size is =
     of_lines (script_faults list 1 [] lines) script (stated_script list (statements_of [] lines)) is
     (λ none. omega (arith, size, size-lines_of text, lines_room list 1 [] lines none (AreValid-none list valid)))
 
--- so has one that was loaded
+-- A script that was loaded has room for one event more.
 pub room_of : (list script : List ℕ) (before now : Outside) (medl : Medl) (right : Script)
     → TookBoth list script before now medl right → length right.events < EVENT_LIMIT
 room_of list script before now medl right took =

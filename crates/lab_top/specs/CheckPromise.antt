@@ -13,7 +13,7 @@ pub record GaveFile (name : List ℕ) (limit : ℕ) (before : Outside) (file : N
   pub name_is : file.name ≡ name
   pub gives : Gives (before.files.held name) limit file.text
 
--- the same of a script, where one is named
+-- a script was loaded, where one is named, and none where none is
 abbrev pub GaveBeside : Option (List ℕ) → Outside → Option Named → Type 0
 GaveBeside None before None = Unit {0}
 GaveBeside None before (Some file) = ⊥

@@ -37,7 +37,7 @@ pub record WroteDifference (medl : Medl) (right : Script) (text : List ℕ) (bef
   pub first : IsDifference medl right text lines
   pub wrote : WroteLines before now lines
 
--- or it was cut short
+-- the line that names the first wrong line of a text was cut short
 pub record CutDifference (medl : Medl) (right : Script) (text : List ℕ) (before now : Output) : Type 0 where
   pub lines : Lines
   pub first : IsDifference medl right text lines

@@ -46,7 +46,7 @@ pub record ToldList (list : List ℕ) (before now : Outside) : Type 0 where
   pub wrong : list_from bytes ≡ Err fault
   pub wrote : WroteLines before.output now.output (file_fault_line (codes "list") fault ∷ [])
 
--- or with the script that was loaded, for the list that was loaded before
+-- the line was written that says what is wrong with the script that was loaded, for the list that was loaded before it
 pub record ToldScript (list script : List ℕ) (before now : Outside) : Type 0 where
   pub list_bytes : List ℕ
   pub list_gives : Gives (before.files.held list) list_limit list_bytes

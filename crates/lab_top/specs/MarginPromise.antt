@@ -91,8 +91,8 @@ pub record MarginPromise (list script : List ℕ) (asked : Option Span) (before 
   pub open text use *
   -- Of the text that is written with status 0 it says what its ranges, its sums and a yes are worth.
   pub worth : status ≡ 0 → WroteMargins list script asked before now
-  -- The sweeps of two ranges that join are those of the whole, one after the other, and so are their lines; what both
-  -- come to is what the whole comes to.
+  -- The sweeps and the lines of two ranges that join are those of the whole, one after the other; what both ranges come
+  -- to is what the whole comes to.
   pub pieces : (first last end : ℕ) → asked ≡ Some (record { first = first; last = end }) → first ≤ last → last ≤ end
       → (medl : Medl) (right : Script)
       → AreInPieces medl right (record { first = first; last = last }) (record { first = last + 1; last = end }) asked

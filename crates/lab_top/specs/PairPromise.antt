@@ -40,8 +40,8 @@ pub record AreRead (list : Medl) (script : Script) (within : ℕ) : Type 0 where
       ++ first_fault_line list one (summary list (with_fault script one.fault))
       (pair_counts (pair_tolds list script within (own_harm list script) one)) ∷ []
 
--- The counts of a text add up: the seven classes to the pairs, and the first faults, the distances, and both answers of
--- the test to the same.
+-- The counts of a text add up: the seven classes to the pairs of their line; those of the first faults, of the
+-- distances, and of both answers of the test, to those of all pairs.
 pub record AddUp (list : Medl) (script : Script) (first last within : ℕ) : Type 0 where
   pub classes : (tolds : List PairTold) → classes_sum (pair_counts tolds) ≡ (pair_counts tolds).pairs
   pub firsts : sum_of_counts (map (counts_of_first list script within) (firsts_of_range list script first last))
@@ -76,8 +76,8 @@ pub record WrotePairs (list script : List ℕ) (first last within : ℕ) (before
   -- What a yes is worth, where the script has room for two events more.
   pub worth : length right.events + 1 < EVENT_LIMIT → IsWorth medl right first last within
 
--- the lines of first faults and their pairs of two ranges, one after the other, are those of a whole, and so are the
--- pairs counted
+-- Two ranges that join make a whole: the lines of first faults and pairs, one after the other, and the counts, added
+-- up.
 pub record ArePiecesOf (list : Medl) (script : Script) (first middle last within : ℕ) : Type 0 where
   pub lines : lines_of_range list script first middle within ++ lines_of_range list script (middle + 1) last within
       ≡ lines_of_range list script first last within

@@ -30,7 +30,7 @@ abbrev pub value_read : {Value : Type 0} → Result Value ℕ → Result Value T
 value_read (Ok value) = Ok value
 value_read (Err line) = Err (fault.Line line)
 
--- and so are more bytes than these
+-- a text of more bytes than the limit is refused as too large, any other read
 abbrev pub value_within : {Value : Type 0} → (List ℕ → Result Value ℕ) → ℕ → List ℕ → Result Value TextFault
 value_within read limit text = if nat_lt limit (length text) then Err fault.TooLarge else value_read (read text)
 

@@ -1,5 +1,5 @@
--- What is the own part of `ttplab` in the promise of a call: each text that it may write is said by itself, and so are
--- the first lines that want of memory may leave of one; it keeps nothing for its caller.
+-- What is the own part of `ttplab` in the promise of a call: which texts it may write, which first lines of one want of
+-- memory may leave, and that it keeps nothing for its caller.
 use Rattle.std.specs.Prelude.{◌≡◌, ℕ, List, ◌∷◌, ◌++◌, None}
 use Rattle.ttp_base.specs.Text.{Lines}
 use Rattle.ttp_world.specs.declared.medl.Medl.{Medl}

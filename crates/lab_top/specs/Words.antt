@@ -92,7 +92,7 @@ campaign_of_range list script (Some first) (Some last) =
     if nat_le first last then Some (campaign list script first last) else None
 campaign_of_range list script _ _ = None
 
--- the margins over the jumps in the slots that two words name, likewise
+-- the margins over the jumps in the slots that two words name, if both name one and the first is not past the last
 abbrev pub margins_of_range : List ℕ → List ℕ → Option ℕ → Option ℕ → Option LabForm
 margins_of_range list script (Some first) (Some last) =
     if nat_le first last then Some (margins list script (Some (record { first = first; last = last }))) else None

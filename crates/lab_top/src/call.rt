@@ -172,7 +172,9 @@ pub fn lab<R: Threads + Sync, L: Library, K: Sink>(
     ensures wave { (trace : List ℕ) → lab_form_of (texts_of words.now) ≡ Some (wave trace)
         → WavePromise trace (outside (L.files library.old) (K.output out.old))
         (outside (L.files library.new) (K.output out.new)) result }
-    // The same for `picture`, of the slots that are asked for, or else of those that are chosen.
+    // For `picture`, in its own words: status 0 is exactly the picture of the trace that the file holds, of the slots that
+    // are asked for, or else of those that are chosen, and status 4 the line on a text that is no trace; with status 6 it
+    // was cut short, and with status 7 nothing is written.
     ensures picture { (trace : List ℕ) (asked : Option Span) → lab_form_of (texts_of words.now) ≡ Some (picture trace asked)
         → PicturePromise trace asked (outside (L.files library.old) (K.output out.old))
         (outside (L.files library.new) (K.output out.new)) result }

@@ -31,7 +31,7 @@ fn load_list_text<L: Library, K: Sink>(
     load_text(alloc, name, LIST_LIMIT, b"load: list\n", library, out)
 }
 
-// The same of the script.
+// Loads the script of this name. Where it can't, the answer is the status.
 pub(crate) fn load_script_text<L: Library, K: Sink>(
     alloc: Global,
     name: &str,
@@ -58,7 +58,7 @@ fn show_check<K: Sink>(alloc: Global, list: Named<'_>, script: Option<Named<'_>>
     }
 }
 
-// The same of these texts.
+// Writes what is wrong with this list, which has no script beside it, and answers the status.
 fn show_list<K: Sink>(alloc: Global, list: &str, text: &[u8], out: &mut K) -> u8
     ensures { ShowsEnding ttplab (check_ending (record { name = list.now; text = text.now }) None) (K.output out.old)
         (K.output out.new) (alone result) }

@@ -35,7 +35,7 @@ fn put_help<K: Sink>(sheet: &mut Sheet, out: &mut K)
     sheet.put_lines(&HELP_LINES, out);
 }
 
-// The same, and whether all was written.
+// Writes the help, and says whether all of it was written.
 fn write_help<K: Sink>(out: &mut K) -> Result<(), Failed>
     ensures ok { OnOk result (WroteLines (K.output out.old) (K.output out.new) help_lines) }
     ensures failed { OnErr result (CutShort (K.output out.old) (K.output out.new) help_lines) }

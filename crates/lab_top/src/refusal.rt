@@ -77,7 +77,7 @@ pub(crate) fn refuse_trace<K: Sink>(out: &mut K, fault: TextFault) -> u8
     say(out, trace_fault_line(fault).bytes(), 4)
 }
 
-/// The same of a campaign.
+/// Says why a campaign is not shown, with status 4, or 6 where the line could not be written. Takes no memory.
 pub(crate) fn refuse_campaign<K: Sink>(out: &mut K, fault: TextFault) -> u8
     ensures { HasSaid (refused_text (codes "campaign") fault) (K.output out.old) (K.output out.new) result }
 {

@@ -88,7 +88,7 @@ fn put_texts<K: Sink>(lines: &[GrowingText], sheet: &mut Sheet, out: &mut K)
     }
 }
 
-// The same, and whether all were written.
+// Writes lines, and says whether all were written.
 fn write_texts<K: Sink>(lines: &[GrowingText], out: &mut K) -> Result<(), Failed>
     ensures ok { OnOk result (WroteLines (K.output out.old) (K.output out.new) lines.now) }
     ensures failed { OnErr result (CutShort (K.output out.old) (K.output out.new) lines.now) }
@@ -130,7 +130,7 @@ fn show<K: Sink>(
     }
 }
 
-// The same of the script of this name for a list.
+// Reads the script of this name for a list, writes why its entry is what it is, and answers the status.
 fn show_read<L: Library, K: Sink>(
     alloc: Global,
     list: &Medl,
