@@ -24,7 +24,7 @@ fn put_number_within(
     text.put(behind)
 }
 
-// Adds the members that a node lacks too, if it lacks some.
+// Adds the members that a node lacks besides, if it lacks some.
 fn put_lacked(text: &mut GrowingText, peer: u8, lacked: &[u8]) -> Result<(), Memory>
     ensures { OnOk result (text.new ≡ text.old ++ lacked_words peer lacked.now) }
 {
