@@ -20,7 +20,7 @@ most_of_first = 7680384
 abbrev pub most_of_slot : ℕ
 most_of_slot = 2949267456
 
--- so many distances are counted
+-- how many distances are counted
 abbrev pub distances_of : PairsSetting → ℕ
 distances_of common = min (suc common.within) common.script.now.slots
 

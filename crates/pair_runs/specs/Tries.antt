@@ -61,7 +61,7 @@ told_pair setting apart two =
     told_of_pair setting.common.list.now setting.common.script.now setting.common.own (first_of setting) setting.first
     (second_apart apart two)
 
--- so much of it is kept: the line where the class has one
+-- what is kept of a pair that was told: the answer of its test, its class, and its line where the class has one
 abbrev pub shortened : PairTold → PairResult
 shortened told = record { yes = told.yes; class = told.class; line = if has_line told.class then told.line else [] }
 

@@ -20,7 +20,7 @@ fn left_nodes(leaves: &[Leave]) -> NodeSet
     left
 }
 
-/// So much of a cost as is compared.
+/// What of a cost is compared.
 pub(crate) fn harm_of(cost: &Cost) -> Harm
     requires { IsOrdered (left_nodes cost.now.left) }
     ensures { result ≡ harm_of cost.now }

@@ -142,7 +142,7 @@ fn put_told<K: Sink>(
     Ok(())
 }
 
-// The same of those of a slot.
+// Counts the pairs of one second slot, and writes the lines of those whose class has one.
 fn put_tolds<K: Sink>(
     all: &[PairResult],
     apart: u32,

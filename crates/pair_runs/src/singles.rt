@@ -57,7 +57,7 @@ pub(crate) fn harm_with(
     Ok(harm_of(&cost))
 }
 
-/// The same from its first slot on.
+/// What a fault alone costs, run from the script's first slot on.
 pub(crate) fn harm_alone(
     alloc: Global,
     list: &Medl,

@@ -131,7 +131,7 @@ fn form_line(
     Ok(line)
 }
 
-// The same where its class has one, and else none.
+// The line of a pair where its class has one, and else an empty one.
 fn line_of(
     setting: &FirstSetting,
     apart: u32,
@@ -230,7 +230,7 @@ fn try_both(
     told_by(setting, apart, two, &harms, both, &cost)
 }
 
-// The same of a second fault alone.
+// Runs the script with the first fault and this second one, and tells of the pair.
 fn try_one(
     setting: &FirstSetting,
     apart: u32,

@@ -5,7 +5,7 @@ use Rattle.ttp_world.specs.declared.script.Script.{Script}
 use Rattle.pair_runs.specs.Tries.{IsSingle}
 use Rattle.pair_runs.proofs.ahead.no_rows.Given as goal
 
--- so many, and nothing is told of any fault
+-- the loop's counter says how many rows there are, and none tells of a fault
 abbrev pub invariant-loop : goal.invariant-loop
 invariant-loop l =
     (length l.rows.items ≡ l.counter)
