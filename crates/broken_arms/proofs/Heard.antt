@@ -9,7 +9,7 @@ use Rattle.ttp_world.specs.declared.script.Script.{Script}
 use Rattle.ttp_world.specs.Hypothesis.{ClusterStart}
 use Rattle.broken_arms.specs.declared.reasons.NotOwed.{NotOwed}
 use Rattle.broken_arms.specs.Arms.{unheard, unheard_in}
-use Rattle.broken_faults.proofs.Over.{or-some}
+use Rattle.broken_arms.proofs.FromBelow.{or-some}
 
 pub all-heard : (list : Medl) (script : Script) (start : ClusterStart) (k a n : ℕ)
     → ((t : ℕ) → a ≤ t → t < a + n → unheard_in list script start k t ≡ None)

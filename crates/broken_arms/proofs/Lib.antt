@@ -1,3 +1,4 @@
+pub mod FromBelow
 pub mod Owed
 pub mod ArmSlots
 pub mod Since

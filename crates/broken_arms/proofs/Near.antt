@@ -13,7 +13,7 @@ use Rattle.ttp_world.specs.Returning.{is_near_fault, two_rounds, four_rounds}
 use Rattle.hypothesis.specs.Walks.{all_in}
 use Rattle.broken_arms.specs.Arms.{near_fault}
 use Rattle.broken_faults.specs.Faults.{faulty_in, new_faults_in, faults_before}
-use Rattle.broken_faults.proofs.Over.{faults_from, before-split}
+use Rattle.broken_arms.proofs.FromBelow.{faults_from, before-split}
 
 abbrev pub fault_at : ℕ → ℕ → FaultyNode
 fault_at slot node = record { slot = slot; node = node }

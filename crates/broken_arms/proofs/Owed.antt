@@ -22,7 +22,7 @@ use Rattle.broken_arms.specs.Arms.{near_fault, own_event_slot, own_line_slot, de
 use Rattle.broken_arms.specs.Arms.{unheard_in, unheard, offer_fails, hearing_fails}
 use Rattle.broken_arms.specs.Arms.{by_own_line, only_arm_fails, by_near_fault, why_not_owed}
 use Rattle.broken_faults.specs.Faults.{faulty_in, faults_before}
-use Rattle.broken_faults.proofs.Newest.{all-append}
+use Rattle.broken_arms.proofs.FromBelow.{all-append}
 
 -- What is found is there.
 

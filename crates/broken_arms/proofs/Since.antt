@@ -11,7 +11,7 @@ use Rattle.ttp_world.specs.declared.medl.Medl.{Medl}
 use Rattle.ttp_world.specs.declared.script.Script.{Script}
 use Rattle.ttp_world.specs.Hypothesis.{ClusterStart, FaultyNode, numbers_of, lesser, jumpers_in, nodes_made, loss_in}
 use Rattle.ttp_world.specs.Returning.{slots_before, faulty_since, faulty_at, is_forgiven, is_long_faulty, two_rounds}
-use Rattle.hypothesis.proofs.Firsts.{nothing}
+use Rattle.broken_arms.proofs.FromBelow.{nothing}
 use Rattle.hypothesis.specs.Walks.{all_in}
 use Rattle.broken_arms.specs.Arms.{faulty_from, by_since, by_near_fault, near_fault, why_not_owed}
 use Rattle.broken_faults.specs.Faults.{faulty_in}

@@ -7,7 +7,7 @@ use Rattle.ttp_world.specs.declared.script.Script.{Script}
 use Rattle.ttp_world.specs.Hypothesis.{ClusterStart, is_steady, nodes_of, numbers_of}
 use Rattle.ttp_world.specs.Medl.{IsValid}
 use Rattle.ttp_world.specs.Returning.{has_four_before, slots_before, faulty_since}
-use Rattle.hypothesis.proofs.SlotSteps.{same_steady}
+use Rattle.broken_faults.proofs.FromBelow.{same_steady}
 use Rattle.broken_faults.specs.declared.few.Seen.{Seen}
 use Rattle.broken_faults.specs.Faults.{few_after, few_in}
 use Rattle.broken_faults.specs.Seen.{IsSeenAt}

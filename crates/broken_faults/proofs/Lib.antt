@@ -1,3 +1,5 @@
+pub mod ForAbove
+pub mod FromBelow
 pub mod Kept
 pub mod Named
 pub mod Over

@@ -8,7 +8,7 @@ use Rattle.ttp_world.specs.declared.script.Script.{Script}
 use Rattle.ttp_world.specs.Hypothesis.{ClusterStart, FaultyNode, first_too_early, nodes_made, loss_in, jumpers_in}
 use Rattle.ttp_world.specs.Returning.{slots_before, joinings, back_loss_broken, back_distance_broken, back_sync_broken}
 use Rattle.hypothesis.specs.Walks.{all_in}
-use Rattle.hypothesis.proofs.FaultSlots.{slots-all_in, slots-later}
+use Rattle.broken_faults.proofs.FromBelow.{slots-all_in, slots-later}
 use Rattle.broken_faults.specs.declared.early.EarlyFault.{EarlyFault}
 use Rattle.broken_faults.specs.declared.early.Since.{Since}
 use Rattle.broken_faults.specs.declared.early.Since.TheVariants as since

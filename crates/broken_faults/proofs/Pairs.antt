@@ -4,7 +4,7 @@ use Rattle.std.proofs.Common.{sym, ◌∙◌, arith, Some}
 use Rattle.std.proofs.lemmas.Bool.{ne_eqb, eq-eqb}
 use Rattle.std.specs.List.{filter, range_with_len, All}
 use Rattle.std.specs.Prelude.{◌==◌, slice_get}
-use Rattle.hypothesis.proofs.Ranges.{small-sieve}
+use Rattle.broken_faults.proofs.FromBelow.{small-sieve}
 use Rattle.ttp_base.proofs.NodeLists.{without_node-filter}
 use Rattle.ttp_base.specs.NodeSet.{below, most_nodes, without_node}
 

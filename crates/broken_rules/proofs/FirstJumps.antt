@@ -8,7 +8,7 @@ use Rattle.std.specs.Prelude.{◌==◌}
 use Rattle.ttp_world.specs.declared.script.Event.{Event}
 use Rattle.ttp_world.specs.declared.script.Event.TheVariants as event
 use Rattle.ttp_world.specs.Hypothesis.{lesser, least_of}
-use Rattle.hypothesis.proofs.Least.{lesser_of, with_found, least-next}
+use Rattle.broken_rules.proofs.FromBelow.{lesser_of, with_found, least-next}
 use Rattle.broken_rules.specs.Jumps.{jump_slot}
 
 -- an event that is no jump lets no clock jump

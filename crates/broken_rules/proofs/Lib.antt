@@ -1,3 +1,4 @@
+pub mod FromBelow
 pub mod Pairs
 pub mod FirstJumps
 pub mod Slots

@@ -16,7 +16,7 @@ use Rattle.ttp_world.specs.Hypothesis.{is_far_jump, is_jump_before, lesser, leas
 use Rattle.ttp_world.specs.Hypothesis.{outside_broken, start_of, needed}
 use Rattle.ttp_world.specs.Returning.{disturbed_slot, disturbance_broken, is_arm, has_arm, needed_back}
 use Rattle.ttp_world.specs.Script.{reading_error, jump_of}
-use Rattle.broken_arms.proofs.ArmSlots.{found-passes}
+use Rattle.broken_rules.proofs.FromBelow.{found-passes}
 use Rattle.broken_rules.specs.declared.jumps.Disturbed.{Disturbed}
 use Rattle.broken_rules.specs.declared.clocks.PastBound.TheVariants as past
 use Rattle.broken_rules.specs.Clocks.{past_bound_in, past_bound, past_slot}

@@ -19,7 +19,7 @@ use Rattle.controller.specs.PlantView.{PlantView}
 use Rattle.medium.specs.declared.arrival.Arrival.{Arrival}
 use Rattle.medium.specs.Shows.{Shows}
 use Rattle.medium.specs.StandsFor.{ShowsCarried, sent_by}
-use Rattle.ttp_frame.proofs.Frames.{length-frame}
+use Rattle.ttp_frame.proofs.ForAbove.{length-frame}
 use Rattle.bus_frames.specs.declared.sending.Sending.{Sending}
 use Rattle.bus_frames.specs.FrameText.{frame_line}
 use Rattle.bus_frames.specs.Sending.{frames_sent, sending_in}

@@ -34,8 +34,7 @@ use Rattle.controller.specs.ControllerWithin.{IsPossible}
 use Rattle.controller.specs.Passes.{delivered_at}
 use Rattle.controller.specs.PlantStands.{ShowsNode, outcome_at}
 use Rattle.controller.specs.PlantView.{PlantView}
-use Rattle.controller.proofs.Endings.{sends-own}
-use Rattle.controller.proofs.Sets.{only-room, with_node-room}
+use Rattle.controller.proofs.ForAbove.{sends-own, only-room, with_node-room}
 use Rattle.bus_frames.specs.declared.sending.Sending.{Sending}
 use Rattle.bus_frames.specs.Sending.{header_by, sending_in, size_by, state_by}
 use Rattle.bus_frames.specs.Standing.{HasByteRoom, SlotStands, frame_with, frames_told}

@@ -16,8 +16,7 @@ use Rattle.ttp_world.specs.Past.{NodePast}
 use Rattle.ttp_world.specs.Returning.{is_sound}
 use Rattle.frame_fates.specs.Alike.{unnumbered, unnumbered_row, unnumbered_history}
 use Rattle.frame_fates.specs.Runs.{AreRuns}
-use Rattle.frame_fates.proofs.RunsAlike.{older, runs-pasts, runs-entries}
-use Rattle.frame_fates.proofs.Unnumbered.{entry_of-unnumbered}
+use Rattle.campaign_laws.proofs.FromBelow.{older, runs-pasts, runs-entries, entry_of-unnumbered}
 use Rattle.campaign.specs.Cost.{leave_after, newest_leave, leaves, is_hurt_in, is_hurt, hurt_nodes}
 use Rattle.campaign.specs.Cost.{faulty_by_test, firm_members, each_once, memberships, has_two, is_split, span_after}
 use Rattle.campaign.specs.Cost.{split_span, cost_of}

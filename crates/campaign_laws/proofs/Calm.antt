@@ -18,7 +18,7 @@ use Rattle.ttp_world.specs.Returning.{back_faulty_after, is_sound}
 use Rattle.ttp_world.specs.Safety.{newest_slot, is_settled, members_of_node, are_same_members, has_left, IsSafe}
 use Rattle.ttp_world.specs.Script.{is_armed}
 use Rattle.ttp_world.proofs.Starts.{on-by as implied}
-use Rattle.safety_laws.proofs.Among.{not-settled as negated}
+use Rattle.campaign_laws.proofs.FromBelow.{not-settled as negated}
 
 -- none of the nodes that are correct where these are faulty has left, and they hold one membership unless in doubt
 pub record IsCalm (list : Medl) (script : Script) (history : History) (faulty : List ℕ) : Type 0 where

@@ -34,14 +34,9 @@ use Rattle.ttp_world.specs.Starts.{StartsAlone}
 use Rattle.ttp_world.specs.World.{Numbers, node_past, world, messages_chosen}
 use Rattle.ttp_world.proofs.LegalRuns.{legal-whole, legal-none}
 use Rattle.ttp_world.proofs.Worlds.{length-world}
-use Rattle.safety_laws.proofs.KeptPlan.{kept-plan}
+use Rattle.campaign_laws.proofs.FromBelow.{kept-plan, node_past-step, first_due, WaitAll-world, kept-safe}
+use Rattle.campaign_laws.proofs.FromBelow.{returned-safe, returned-by_plan, zeros-legal, act-off as off-act}
 use Rattle.safety_laws.specs.NodeSlot.{NodeSlot, node_slot, next_past}
-use Rattle.safety_laws.proofs.NodeSlots.{node_past-step}
-use Rattle.safety_laws.proofs.StartSlot.{first_due}
-use Rattle.safety_laws.proofs.Waiting.{WaitAll-world}
-use Rattle.safety_laws.proofs.Kept.{kept-safe}
-use Rattle.safety_laws.proofs.Returned.{returned-safe}
-use Rattle.safety_laws.proofs.ReturnsByPlan.{returned-by_plan}
 use Rattle.campaign.specs.Cost.{is_kept, is_owed, says_yes, says_yes_if, faulty_by_test}
 use Rattle.campaign.specs.Cost.{faulty_if, is_firm, firm_members}
 use Rattle.campaign.specs.Cost.{each_once, memberships, has_two, is_split, split_span, span_after, span_with, cost_of}
@@ -49,10 +44,8 @@ use Rattle.campaign.specs.declared.cost.Cost.{Cost}
 use Rattle.campaign.specs.Lines.{summary}
 use Rattle.ttp_world.specs.ZerosWorld.{zeros_world}
 use Rattle.campaign_laws.specs.Ends.{faulty_nodes_if, IsOver, AreOver}
-use Rattle.frame_fates.proofs.ZerosRuns.{zeros-legal}
 use Rattle.campaign_laws.proofs.Alike.{cost-alike}
 use Rattle.campaign_laws.proofs.Yes.{IsUnharmed, all-inactive, waiting, yes-unharmed}
-use Rattle.safety_laws.proofs.Idle.{act-off as off-act}
 
 -- A node that is not on is off.
 

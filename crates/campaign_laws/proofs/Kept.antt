@@ -15,7 +15,7 @@ use Rattle.campaign.specs.declared.cost.Span.{Span}
 use Rattle.campaign.specs.Lines.{Summary, costs_of, has_hurt, summary_with}
 use Rattle.campaign.specs.Tried.{with_fault}
 use Rattle.single_faults.specs.Tried.{MayStand}
-use Rattle.single_faults.proofs.Valid.{with_fault-valid}
+use Rattle.campaign_laws.proofs.FromBelow.{with_fault-valid}
 use Rattle.campaign_laws.proofs.Yes.{IsUnharmed, yes-line}
 
 pub unharmed-unhurt : (cost : Cost) → IsUnharmed cost → has_hurt cost ≡ false

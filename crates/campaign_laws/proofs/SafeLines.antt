@@ -16,8 +16,7 @@ use Rattle.ttp_world.specs.declared.script.TheConstants.{EVENT_LIMIT}
 use Rattle.ttp_world.specs.Medl.{IsValid}
 use Rattle.ttp_world.specs.Script.{IsValidScript}
 use Rattle.single_faults.specs.Tried.{MayStand}
-use Rattle.single_faults.proofs.Stand.{faults_from-stand}
-use Rattle.single_faults.proofs.Valid.{with_fault-valid}
+use Rattle.campaign_laws.proofs.FromBelow.{faults_from-stand, with_fault-valid}
 use Rattle.campaign.specs.declared.cost.Cost.{Cost}
 use Rattle.campaign.specs.declared.cost.Counts.{Counts}
 use Rattle.campaign.specs.Cost.{says_yes}

@@ -27,21 +27,15 @@ use Rattle.ttp_world.specs.Starts.{StartsAlone}
 use Rattle.ttp_world.specs.World.{SlotNumbers, Numbers, world}
 use Rattle.ttp_world.proofs.LegalRuns.{legal-whole, legal-none}
 use Rattle.ttp_world.proofs.LegalShapes.{legal-older}
-use Rattle.safety_laws.proofs.KeptPlan.{kept-plan}
-use Rattle.safety_laws.proofs.StartSlot.{first_due}
-use Rattle.safety_laws.proofs.Waiting.{WaitAll, WaitAll-world}
-use Rattle.safety_laws.proofs.Kept.{kept-safe}
-use Rattle.safety_laws.proofs.Returned.{returned-safe}
-use Rattle.safety_laws.proofs.ReturnsByPlan.{returned-by_plan}
+use Rattle.campaign_laws.proofs.FromBelow.{kept-plan, first_due, WaitAll, WaitAll-world, kept-safe, returned-safe}
+use Rattle.campaign_laws.proofs.FromBelow.{returned-by_plan, zeros-legal, waiting-unleft as waiting-stays}
 use Rattle.campaign.specs.Cost.{is_kept, is_owed, says_yes, says_yes_if, faulty_by_test, faulty_if, is_hurt_in, is_hurt}
 use Rattle.campaign.specs.Cost.{is_firm, firm_members, each_once, memberships, has_two, is_split, split_span}
 use Rattle.campaign.specs.Cost.{span_after, cost_of}
 use Rattle.campaign.specs.declared.cost.Cost.{Cost}
 use Rattle.ttp_world.specs.ZerosWorld.{zeros_world}
-use Rattle.frame_fates.proofs.ZerosRuns.{zeros-legal}
 use Rattle.campaign_laws.proofs.Alike.{cost-alike}
 use Rattle.campaign_laws.proofs.Calm.{IsCalm, safe-calm, back-calm}
-use Rattle.safety_laws.proofs.Begins.{waiting-unleft as waiting-stays}
 
 -- nobody is hurt, and no memberships are split
 pub record IsUnharmed (cost : Cost) : Type 0 where

@@ -1,3 +1,4 @@
+pub mod FromBelow
 pub mod Places
 pub mod Slots
 pub mod Counting

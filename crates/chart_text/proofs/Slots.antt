@@ -19,7 +19,7 @@ use Rattle.std.proofs.lemmas.List.Sums.{position_or_len_is}
 use Rattle.ttp_base.specs.NodeSet.{has_node}
 use Rattle.ttp_base.proofs.Below.{below-next}
 use Rattle.ttp_base.proofs.NodeSets.{has_node-filter, has_node-sieve, same_sieve, filter-filter}
-use Rattle.picture_text.proofs.Sought.{found_at, found_nowhere}
+use Rattle.chart_text.proofs.FromBelow.{found_at, found_nowhere}
 use Rattle.chart_text.specs.Columns.{tried_slots, place_in}
 use Rattle.ttp_world.proofs.ListFacts.{node-out as fails, one-more as passes, nodes-length as count-passes}
 

@@ -15,7 +15,7 @@ pub use Rattle.chart_text.specs.declared.tally.Tallies.{Tallies}
 pub use Rattle.chart_text.specs.declared.tally.Tally.{Tally}
 pub use Rattle.ttp_base.proofs.Puts.{puts_both, puts_first, puts_one, puts_two}
 pub use Rattle.ttp_base.proofs.Puts.{puts_below}
-pub use Rattle.picture_text.proofs.Rows.{one_more}
+pub use Rattle.chart_text.proofs.FromBelow.{one_more, one-small}
 pub use Rattle.picture_text.specs.Cells.{place_attributes}
 pub use Rattle.picture_text.specs.Picture.{row_line}
 pub use Rattle.ttp_base.specs.Sheet.{Puts}
@@ -33,7 +33,6 @@ pub use Rattle.std.specs.Result.{OnOk}
 pub use Rattle.ttp_base.specs.NodeSet.{below}
 pub use Rattle.ttp_base.specs.Outside.{Output, WroteLines}
 pub use Rattle.ttp_base.specs.Text.{Lines, lines_below, newline}
-pub use Rattle.whole_campaign.proofs.Rooms.{one-small}
 pub use Rattle.whole_campaign.specs.Due.{as_count}
 pub use Rattle.whole_campaign.specs.Faults.{first_place}
 pub use Rattle.whole_campaign.specs.Readable.{counts_sum, in_order_from}

@@ -6,7 +6,7 @@ use Rattle.chart_text.specs.Worst.{listed_lines}
 use Rattle.std.proofs.Common.{Ok, Err, ◌↔◌}
 use Rattle.std.specs.Result.{IsOk, OnErr}
 use Rattle.ttp_base.specs.Outside.{CutShort}
-use Rattle.picture_text.proofs.Ending.{end_ok, end_failed}
+use Rattle.chart_text.proofs.FromBelow.{end_ok, end_failed}
 use Rattle.ttp_base.proofs.Puts.{puts_then, puts_none}
 
 -- what is left of a list: the lines of its first item and those of the others, or none

@@ -37,7 +37,7 @@ use Rattle.list_errors.specs.Errors.{version_known, rounds_known, modes_known}
 use Rattle.list_errors.specs.Errors.{top_wrongs, below_wrongs, table_wrongs, has_utf16_mark}
 use Rattle.list_errors.specs.Errors.{begins_script, said_from, not_toml}
 use Rattle.list_errors.specs.Errors.{document_wrongs, list_wrongs}
-use Rattle.list_errors.proofs.TableAgree.{large_wrongs, small_wrongs, agrees}
+use Rattle.check_text.proofs.FromBelow.{large_wrongs, small_wrongs, agrees}
 use Rattle.list_words.specs.Words.{list_fault_name}
 
 -- it is called by the words of the reader's fault

@@ -1,3 +1,4 @@
+pub mod FromBelow
 pub mod Pages
 pub mod LinesAt
 pub mod Sides

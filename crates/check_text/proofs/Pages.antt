@@ -9,11 +9,10 @@ use Rattle.ttp_base.specs.Outside.{Output, WroteLines, CutShort}
 use Rattle.ttp_base.specs.Text.{Lines, newline, is_newline, before_lines, lines_of}
 use Rattle.ttp_base.proofs.Below.{map-next}
 use Rattle.ttp_base.proofs.Outputs.{Wrote-join, Wrote-none, CutShort-after, CutShort-more}
-use Rattle.line_text.proofs.Cuts.{first_line, concat-lines_of}
+use Rattle.check_text.proofs.FromBelow.{first_line, concat-lines_of, fewer-after, fewer-more, fewer-none}
 use Rattle.fault_runs.specs.declared.put.CampaignFault.{CampaignFault}
 use Rattle.fault_runs.specs.declared.put.CampaignFault.TheVariants as fault
 use Rattle.fault_runs.specs.Ends.{LeftFewerBy, WroteFewer}
-use Rattle.fault_runs.proofs.Endings.{fewer-after, fewer-more, fewer-none}
 use Rattle.check_text.specs.Page.{HasPutSoFar, PutsOn, pieces_of}
 
 -- no lines, and lines in two parts

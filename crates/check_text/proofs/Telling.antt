@@ -40,7 +40,7 @@ use Rattle.broken_rules.specs.declared.start.NoStart.TheVariants as why
 use Rattle.broken_rules.specs.Clocks.{past_slot}
 use Rattle.broken_rules.specs.Conditions.{window_named}
 use Rattle.broken_rules.specs.Rules.{RuleSlot, rule_in, first_broken, start_named, broken_rules}
-use Rattle.broken_rules.proofs.Told.{named}
+use Rattle.check_text.proofs.FromBelow.{named}
 use Rattle.warning_words.specs.Warnings.{RightFiles, line_if, warning_lines}
 use Rattle.warning_words.specs.Warnings.{clocks_line, window_line, disturbed_line, no_start_line, lost_line, early_line}
 use Rattle.warning_words.specs.Warnings.{few_line, arm_line}

@@ -19,7 +19,7 @@ use Rattle.script_text.specs.Lines.{lines_of_file}
 use Rattle.commands.specs.Lines.{AreLines}
 use Rattle.commands.specs.Read.{list_from, script_from, script_limit}
 use Rattle.fault_runs.specs.Ends.{WroteFewer}
-use Rattle.fault_runs.proofs.Endings.{fewer-none}
+use Rattle.check_text.proofs.FromBelow.{fewer-none}
 use Rattle.list_errors.specs.declared.error.Wrong.TheVariants as wrong
 use Rattle.list_errors.specs.Errors.{list_wrongs, rounds_said, modes_said}
 use Rattle.list_places.specs.Places.{found_places, stop_told}

@@ -24,7 +24,7 @@ use Rattle.ttp_world.specs.declared.node.Verdict.{Verdict}
 use Rattle.ttp_world.specs.Act.{coming_place}
 use Rattle.ttp_world.proofs.EntriesMade.{listening_entry-holds}
 use Rattle.controller.specs.ControllerWithin.{IsPossible}
-use Rattle.controller.proofs.Endings.{possible-at}
+use Rattle.cluster_run.proofs.FromBelow.{possible-at}
 use Rattle.ttp_world.proofs.LegalNumbers.{ring_messages-few as few_came}
 use Rattle.cluster_run.proofs.Changes.{AreChanged, changed_more}
 use Rattle.cluster_run.proofs.Rings.{ring_more, ring_count, ring_takes, room_of}

@@ -12,7 +12,7 @@ use Rattle.trace_text.specs.ReportText.{HasMessage, IsListed, node_texts, source
 use Rattle.trace_text.specs.ReportText.{write_text}
 use Rattle.ttp_world.proofs.HostPayloads.{IsMessageOf}
 use Rattle.line_text.specs.LineParts.{HasDigits}
-use Rattle.line_text.proofs.MemberDigits.{state_of-digits}
+use Rattle.cluster_run.proofs.FromBelow.{state_of-digits}
 use Rattle.cluster_run.specs.NextSlots.{next_row}
 use Rattle.cluster_run.specs.Texts.{TellsNext}
 use Rattle.ttp_world.specs.declared.script.Source.TheVariants as source

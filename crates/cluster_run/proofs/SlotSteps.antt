@@ -21,7 +21,7 @@ use Rattle.cluster_run.proofs.Words.{IsOnCourse, ClusterSteps}
 use Rattle.ttp_world.proofs.Carried.{AreOfHosts, delivered_of-row_in, message_of-row_in}
 use Rattle.nbw_ring.specs.Numbers.{newest_number as newest_in, IsMessageOf}
 use Rattle.controller.specs.Passes.{IsOutcomeOf}
-use Rattle.controller.proofs.Plants.{left_at}
+use Rattle.cluster_run.proofs.FromBelow.{left_at}
 use Rattle.ttp_world.proofs.LegalRuns.{are_same_numbers-refl as same_numbers}
 use Rattle.ttp_world.proofs.LineLists.{map_of_map}
 use Rattle.cluster_run.specs.declared.progress.Progress.{Progress}

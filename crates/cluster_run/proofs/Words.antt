@@ -1,5 +1,6 @@
 -- The words of this crate's proofs, from one place.
-pub use Rattle.host_port.proofs.ReaderLists.{read_alike, within_list, written_rings, set_back}
+pub use Rattle.cluster_run.proofs.FromBelow.{read_alike, within_list, written_rings, set_back, each-back, each-front}
+pub use Rattle.cluster_run.proofs.FromBelow.{each-joined, each-of, words_tell}
 pub use Rattle.ttp_world.proofs.WorldFacts.{payload_few, plan-short as plan_few}
 pub use Rattle.ttp_world.specs.Messages.{newest_number, delivered_of, in_messages, message_of, new_messages}
 pub use Rattle.ttp_world.specs.Messages.{ring_messages, status_words}
@@ -39,7 +40,6 @@ pub use Rattle.cluster_run.specs.Standing.{cluster_of, nodes_view}
 pub use Rattle.cluster_run.specs.declared.current.CurrentSlot.{CurrentSlot}
 pub use Rattle.cluster_run.specs.declared.nodes.Desk.{Desk}
 pub use Rattle.cluster_run.specs.declared.nodes.Nodes.{Nodes}
-pub use Rattle.controller.proofs.Parts.{each-back, each-front, each-joined, each-of}
 pub use Rattle.controller.specs.Passes.{AreChosen, HaveBegun, HaveEnded, StandAfter, StandsAfter, delivered_at}
 pub use Rattle.controller.specs.PlantStands.{no_outcome, outcomes_of}
 pub use Rattle.controller.specs.PlantWithin.{IsControllerOf, IsEnded, most_ahead}
@@ -54,7 +54,6 @@ pub use Rattle.host_port.specs.declared.report.NodeLine.{NodeLine}
 pub use Rattle.host_port.specs.declared.report.ReadLine.{ReadLine}
 pub use Rattle.host_port.specs.declared.report.SlotReport.{SlotReport}
 pub use Rattle.host_port.specs.declared.report.WriteLine.{WriteLine}
-pub use Rattle.line_text.proofs.PayloadWords.{words_tell}
 pub use Rattle.line_text.specs.HostLines.{AreBytes, HasWords, bytes_in, message_in}
 pub use Rattle.nbw_ring.specs.Numbers.{limit, most_number}
 pub use Rattle.nbw_ring.specs.States.{ReaderState, RingState, WriterState, new_reader, with_joined}

@@ -1,4 +1,5 @@
 mod Parts
+pub mod ForAbove
 pub mod FaultLines
 pub mod Fronts
 pub mod Right

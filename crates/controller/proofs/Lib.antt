@@ -1,5 +1,6 @@
 pub mod Endings
 pub mod Flags
+pub mod ForAbove
 pub mod Heard
 pub mod InSlot
 pub mod KnownFrames

@@ -4,7 +4,7 @@ use Rattle.causes.specs.Judged.{doubt_entries}
 use Rattle.causes.specs.RunSlots.{entry_in_slot, is_judged_so, is_miss, is_tentative, node_spot}
 use Rattle.causes.specs.declared.cause.Spot.{Spot}
 use Rattle.entry_causes.proofs.Past.{spot-in}
-use Rattle.run_rows.proofs.Slots.{past_slots_in-down, past_slots_in-zero}
+use Rattle.entry_causes.proofs.FromBelow.{past_slots_in-down, past_slots_in-zero}
 use Rattle.run_rows.specs.Rows.{past_slots_in, slot_in}
 use Rattle.ttp_world.specs.declared.medl.Medl.{Medl}
 use Rattle.ttp_world.specs.declared.script.Script.{Script}

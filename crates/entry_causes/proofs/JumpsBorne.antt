@@ -3,7 +3,7 @@ use Rattle.std.proofs.Common.{◌≡◌, ℕ, ◌-◌, ◌<◌, Bool, true, fals
 use Rattle.causes.specs.Clocks.{clock_taken, comes_on, jumps_borne_since, jumps_clock, was_averaged}
 use Rattle.causes.specs.LinesOf.{lines_where}
 use Rattle.causes.specs.declared.cause.ScriptLine.{ScriptLine}
-use Rattle.run_rows.proofs.Slots.{past_slots_in-down, past_slots_in-zero, slot_in-number, slot_in-script}
+use Rattle.entry_causes.proofs.FromBelow.{past_slots_in-down, past_slots_in-zero, slot_in-number, slot_in-script}
 use Rattle.run_rows.specs.Rows.{past_slots_in, slot_in}
 use Rattle.ttp_world.specs.declared.medl.Medl.{Medl}
 use Rattle.ttp_world.specs.declared.script.Script.{Script}

@@ -4,6 +4,7 @@ pub mod Decisions
 pub mod Doubts
 pub mod Drops
 pub mod FlipFacts
+pub mod FromBelow
 pub mod Gathered
 pub mod Joinables
 pub mod JumpsBorne

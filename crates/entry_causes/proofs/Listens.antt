@@ -12,7 +12,8 @@ use Rattle.causes.specs.Sources as causes
 use Rattle.causes.specs.Sources.{all_sources, no_sources, with_sources}
 use Rattle.entry_causes.proofs.Past.{spot-in, take-down, take-none}
 use Rattle.entry_causes.specs.Told.{is_named}
-use Rattle.run_rows.proofs.Slots.{length-past_slots_in, past_slots_in-down, past_slots_in-next, past_slots_in-zero}
+use Rattle.entry_causes.proofs.FromBelow.{length-past_slots_in, past_slots_in-down, past_slots_in-next}
+use Rattle.entry_causes.proofs.FromBelow.{past_slots_in-zero}
 use Rattle.run_rows.specs.Rows.{past_slots_in, slot_in}
 use Rattle.ttp_world.specs.declared.medl.Medl.{Medl}
 use Rattle.ttp_world.specs.declared.node.Entry.{Entry}

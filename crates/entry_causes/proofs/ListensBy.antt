@@ -9,7 +9,7 @@ use Rattle.causes.specs.RunSlots.{node_spot}
 use Rattle.causes.specs.Sources.{no_sources, only_entries}
 use Rattle.causes.specs.declared.cause.Spot.{Spot}
 use Rattle.entry_causes.proofs.Past.{spot-in}
-use Rattle.run_rows.proofs.Slots.{length-past_slots_in, past_slots_in-down, past_slots_in-zero, slot_in-script}
+use Rattle.entry_causes.proofs.FromBelow.{length-past_slots_in, past_slots_in-down, past_slots_in-zero, slot_in-script}
 use Rattle.run_rows.specs.Rows.{past_slots_in, slot_in}
 use Rattle.ttp_world.specs.Events.{arms}
 use Rattle.ttp_world.specs.declared.medl.Medl.{Medl}

@@ -4,7 +4,7 @@ use Rattle.std.specs.Prelude.{filter}
 use Rattle.ttp_world.specs.ZerosWorld.{all_zeros, zeros_world}
 use Rattle.causes.specs.RunSlots.{entry_in_slot, past_in}
 use Rattle.entry_causes.specs.Differences.{IfDoubted}
-use Rattle.run_costs.proofs.Rows.{next_row}
+use Rattle.entry_causes.proofs.FromBelow.{next_row}
 use Rattle.run_rows.specs.Rows.{slot_in}
 use Rattle.ttp_base.specs.NodeSet.{below}
 use Rattle.ttp_world.proofs.Entries.{new_entry-follows}

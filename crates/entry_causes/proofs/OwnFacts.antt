@@ -18,7 +18,7 @@ use Rattle.causes.specs.declared.cause.Spot.{Spot}
 use Rattle.entry_causes.proofs.Past.{slots_to-past, spot-in}
 use Rattle.entry_causes.proofs.Since.{take-up}
 use Rattle.entry_causes.specs.Told.{settled_in}
-use Rattle.run_rows.proofs.Slots.{past_slots_in-down, past_slots_in-next, past_slots_in-zero, slot_in-number}
+use Rattle.entry_causes.proofs.FromBelow.{past_slots_in-down, past_slots_in-next, past_slots_in-zero, slot_in-number}
 use Rattle.run_rows.specs.Rows.{past_slots_in, slot_in}
 use Rattle.ttp_base.specs.NodeSet.{has_node}
 use Rattle.ttp_world.specs.Acknowledgement.{is_correct}

@@ -4,8 +4,8 @@ use Rattle.causes.specs.Members.{entry_at_spot, newest_entry_of}
 use Rattle.causes.specs.OwnSlots.{slots_before_one}
 use Rattle.causes.specs.RunSlots.{entry_in_slot, node_spot, slots_to}
 use Rattle.causes.specs.declared.cause.Spot.{Spot}
-use Rattle.run_rows.proofs.Slots.{length-past_slots_in, past_slots_in-down, past_slots_in-next, past_slots_in-suc}
-use Rattle.run_rows.proofs.Slots.{past_slots_in-zero, slot_in-number}
+use Rattle.entry_causes.proofs.FromBelow.{length-past_slots_in, past_slots_in-down, past_slots_in-next}
+use Rattle.entry_causes.proofs.FromBelow.{past_slots_in-suc, past_slots_in-zero, slot_in-number}
 use Rattle.run_rows.specs.Rows.{past_slots_in, slot_in}
 use Rattle.ttp_world.specs.declared.medl.Medl.{Medl}
 use Rattle.ttp_world.specs.declared.script.Script.{Script}

@@ -2,7 +2,7 @@
 use Rattle.std.proofs.Common.{ℕ, ◌<◌, length, subst, sym}
 use Rattle.ttp_world.specs.ZerosWorld.{zeros_world}
 use Rattle.causes.specs.RunSlots.{past_in}
-use Rattle.run_rows.proofs.OneMore.{place-of_list}
+use Rattle.entry_causes.proofs.FromBelow.{place-of_list}
 use Rattle.run_rows.specs.Rows.{slot_in}
 use Rattle.ttp_world.proofs.Lists.{IsPlaceOf, IsPlaceOf-next}
 use Rattle.ttp_world.proofs.Slots.{node_of-slot_after}

@@ -8,7 +8,7 @@ use Rattle.causes.specs.Said.{joined_from, said, speaks_of}
 use Rattle.causes.specs.declared.cause.Spot.{Spot}
 use Rattle.entry_causes.proofs.Past.{entry_at_spot-before}
 use Rattle.entry_causes.proofs.Walks.{said-none, step_by}
-use Rattle.run_rows.proofs.Slots.{past_slots_in-suc, past_slots_in-zero, slot_in-number}
+use Rattle.entry_causes.proofs.FromBelow.{past_slots_in-suc, past_slots_in-zero, slot_in-number}
 use Rattle.run_rows.specs.Rows.{past_slots_in, slot_in}
 use Rattle.ttp_world.specs.declared.medl.Medl.{Medl}
 use Rattle.ttp_world.specs.declared.script.Script.{Script}

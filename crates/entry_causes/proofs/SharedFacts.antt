@@ -8,7 +8,7 @@ use Rattle.causes.specs.RunSlots.{place_of_node}
 use Rattle.causes.specs.Said.{said}
 use Rattle.ttp_world.proofs.WorldFacts.{has_node-append}
 use Rattle.entry_causes.proofs.Past.{slots_before-past}
-use Rattle.run_rows.proofs.Slots.{slot_in-list, slot_in-number}
+use Rattle.entry_causes.proofs.FromBelow.{slot_in-list, slot_in-number}
 use Rattle.run_rows.specs.Rows.{past_slots_in, slot_in}
 use Rattle.ttp_base.proofs.NodeSets.{same_sieve}
 use Rattle.ttp_base.specs.NodeSet.{below, has_node}

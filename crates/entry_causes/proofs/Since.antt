@@ -4,8 +4,8 @@ use Rattle.std.proofs.Common.{false, cond, [], ◌∷◌, length, take, filter}
 use Rattle.std.proofs.Common.{ltb, ap, sym, ◌∙◌, refl, arith, inl, inr}
 use Rattle.std.proofs.lemmas.Bool.{cases_eq, le-ltb, lt-ltb}
 use Rattle.causes.specs.RunSlots.{RunSlot, RunSlots, back_to, entry_in_slot, since_own}
-use Rattle.run_rows.proofs.Slots.{length-past_slots_in, past_slots_in-next, past_slots_in-suc, past_slots_in-zero}
-use Rattle.run_rows.proofs.Slots.{slot_in-number}
+use Rattle.entry_causes.proofs.FromBelow.{length-past_slots_in, past_slots_in-next, past_slots_in-suc}
+use Rattle.entry_causes.proofs.FromBelow.{past_slots_in-zero, slot_in-number}
 use Rattle.run_rows.specs.Rows.{past_slots_in, slot_in}
 use Rattle.ttp_world.specs.Acknowledgement.{is_sent_or_joined}
 use Rattle.ttp_world.specs.declared.medl.Medl.{Medl}

@@ -7,7 +7,7 @@ use Rattle.causes.specs.Members.{Difference, difference_of, difference_reason, d
 use Rattle.causes.specs.Members.{is_one_of, members_due, members_reason, members_reason_of, members_sent, telling_of}
 use Rattle.causes.specs.RunSlots.{RunSlot, RunSlots, doubted_in, past_in}
 use Rattle.entry_causes.specs.Differences.{IfDoubted, said_first}
-use Rattle.run_rows.proofs.Slots.{slot_in-list}
+use Rattle.entry_causes.proofs.FromBelow.{slot_in-list}
 use Rattle.run_rows.specs.Rows.{slot_in}
 use Rattle.ttp_base.proofs.NodeLists.{without_node-filter}
 use Rattle.ttp_base.specs.NodeSet.{below, has_node, without_node}

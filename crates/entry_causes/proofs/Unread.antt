@@ -13,8 +13,8 @@ use Rattle.causes.specs.Sources.{has_sources, sources_of}
 use Rattle.causes.specs.declared.cause.Spot.{Spot}
 use Rattle.entry_causes.proofs.Past.{drop-past, spot-in, take-down, take-none}
 use Rattle.entry_causes.specs.Notes.{unread_in}
-use Rattle.run_rows.proofs.Slots.{length-past_slots_in, past_slots_in-down, past_slots_in-next, past_slots_in-suc}
-use Rattle.run_rows.proofs.Slots.{past_slots_in-zero, slot_in-list, slot_in-number}
+use Rattle.entry_causes.proofs.FromBelow.{length-past_slots_in, past_slots_in-down, past_slots_in-next}
+use Rattle.entry_causes.proofs.FromBelow.{past_slots_in-suc, past_slots_in-zero, slot_in-list, slot_in-number}
 use Rattle.run_rows.specs.Rows.{past_slots_in, slot_in}
 use Rattle.ttp_world.specs.Diary.{begins_stint}
 use Rattle.ttp_world.specs.declared.medl.Medl.{Medl}

@@ -1,5 +1,7 @@
 pub mod Counts
 pub mod Endings
+pub mod ForAbove
+pub mod FromBelow
 pub mod LineWords
 pub mod Listing
 pub mod Losses

@@ -12,7 +12,7 @@ use Rattle.ttp_world.specs.Safety.{members_of_node}
 use Rattle.ttp_world.proofs.NumberWords.{bytes_eq-same}
 use Rattle.ttp_world.proofs.SmallTests.{spelled as same_bytes}
 use Rattle.campaign.specs.Cost.{each_once, firm_members, has_two, is_firm, memberships}
-use Rattle.run_costs.proofs.Distinct.{two-others}
+use Rattle.fault_runs.proofs.FromBelow.{two-others}
 
 -- all sets are this one
 abbrev AreAll : List ℕ → List (List ℕ) → Type 0

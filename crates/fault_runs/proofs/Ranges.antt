@@ -8,7 +8,7 @@ use Rattle.std.proofs.Common.{zero, suc, ◌-◌}
 use Rattle.std.specs.Prelude.{All, flat_map, min}
 use Rattle.std.proofs.lemmas.List.Elements.{All-nil}
 use Rattle.single_faults.specs.Tried.{MayStand}
-use Rattle.single_faults.proofs.Stand.{faults_in-stand}
+use Rattle.fault_runs.proofs.FromBelow.{faults_in-stand, next_row, zeros-next}
 use Rattle.std.proofs.lemmas.List.FromFn.{length-map-range_with_len, length-range_with_len}
 use Rattle.std.proofs.lemmas.Bool.{cases_eq, cases_lt, lt-leb, and_right}
 use Rattle.ttp_base.proofs.Below.{flat_map-next}
@@ -21,7 +21,6 @@ use Rattle.ttp_world.specs.Medium.{is_sending}
 use Rattle.campaign.specs.Tried.{losses_from, losses_of, jump_sizes, jumps_of, faults_of}
 use Rattle.campaign.specs.Tried.{is_hearing, is_timed, faults_from}
 use Rattle.run_costs.specs.States.{off_state, AreShown}
-use Rattle.run_costs.proofs.Rows.{next_row, zeros-next}
 use Rattle.ttp_world.proofs.ZerosWorlds.{length-zeros_world}
 
 -- of those that pass a test, or nothing of the others

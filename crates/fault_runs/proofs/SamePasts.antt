@@ -18,7 +18,7 @@ use Rattle.ttp_world.specs.Past.{silent_slots_of}
 use Rattle.ttp_world.specs.World.{chosen_of, frames_in, hearing_in, jump_taken, no_node, node_after, node_past, row_in}
 use Rattle.ttp_world.specs.World.{slot_after, step}
 use Rattle.controller.specs.Agreement.{SayAlike}
-use Rattle.controller.proofs.SameSlots.{armed-same, error-same, heard-same, jump-same}
+use Rattle.fault_runs.proofs.FromBelow.{armed-same, error-same, heard-same, jump-same}
 use Rattle.fault_runs.specs.Merging.{is_waiting}
 
 -- What came from outside is the same for a node that made this entry, but for a silence that it did not count.

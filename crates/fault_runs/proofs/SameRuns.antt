@@ -19,11 +19,9 @@ use Rattle.campaign.specs.Cost.{split_span, span_after, memberships, has_two, fa
 use Rattle.campaign.specs.Tried.{with_fault}
 use Rattle.ttp_world.specs.ZerosWorld.{all_zeros}
 use Rattle.controller.specs.Agreement.{begins_at}
-use Rattle.controller.proofs.SameSlots.{surroundings_in-same}
+use Rattle.fault_runs.proofs.FromBelow.{surroundings_in-same, zeros-longer, filter_map_agree-below, next_row}
+use Rattle.fault_runs.proofs.FromBelow.{zeros-next}
 use Rattle.run_costs.specs.States.{off_state, state_at, AreShown}
-use Rattle.run_costs.proofs.Later.{zeros-longer}
-use Rattle.run_costs.proofs.Nodes.{filter_map_agree-below}
-use Rattle.run_costs.proofs.Rows.{next_row, zeros-next}
 use Rattle.ttp_world.proofs.ZerosWorlds.{length-zeros_world}
 use Rattle.fault_runs.specs.Merging.{has_just_left, is_waiting, is_left_entry, is_loss_in}
 use Rattle.fault_runs.specs.Merging.{IsSameDeed, HasSettledAt, IsSettledFrom}

@@ -11,7 +11,7 @@ use Rattle.std.proofs.lemmas.Nat.{xor_of_8}
 use Rattle.std.proofs.lemmas.Nat.Bits.{and_pow, bit_at-lt}
 use Rattle.std.proofs.Math.Pow.{pow-lt}
 use Rattle.ttp_frame.specs.Bytes.{xor_bytes}
-use Rattle.ttp_frame.proofs.Flips.{AreBytes}
+use Rattle.frame_fates.proofs.FromBelow.{AreBytes}
 use Rattle.ttp_world.specs.Medium.{flip_in_byte, flip_bit, flip_bits}
 
 -- A bit.

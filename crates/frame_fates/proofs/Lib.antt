@@ -1,3 +1,5 @@
+pub mod ForAbove
+pub mod FromBelow
 pub mod FlipMasks
 pub mod TakenAlike
 pub mod HeardAlike

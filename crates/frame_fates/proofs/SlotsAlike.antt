@@ -23,7 +23,7 @@ use Rattle.ttp_world.specs.Reception.{Hearing}
 use Rattle.ttp_world.specs.Script.{flipped_bits, IsValidScript}
 use Rattle.ttp_world.specs.World.{BegunSlot, node_of, sends_payload, is_loaded, chosen_of, frames_of, frames_in}
 use Rattle.ttp_world.specs.World.{hearing_in, entry_in, row_in}
-use Rattle.medium.proofs.Headers.{header_stays}
+use Rattle.frame_fates.proofs.FromBelow.{header_stays}
 use Rattle.frame_fates.specs.Alike.{unnumbered, unnumbered_row}
 use Rattle.frame_fates.proofs.FlipMasks.{mask_of}
 use Rattle.frame_fates.proofs.HeardAlike.{AreAllSentAlike, AreSignalsAlike, heard-alike}

@@ -14,9 +14,8 @@ use Rattle.ttp_world.specs.Reception.{Expected, expected_header, expected_length
 use Rattle.ttp_world.specs.Reception.{is_expected_form, view_of_frame, view_of_bits}
 use Rattle.ttp_frame.specs.declared.judging.FrameMatch.{FrameMatch}
 use Rattle.ttp_frame.specs.declared.judging.FrameMatch.TheVariants.{Match, Differs, Invalid}
-use Rattle.ttp_frame.proofs.Flips.{length-xor_bytes}
-use Rattle.ttp_frame.proofs.FlippedFrames.{AreAlike, AreAlike-flipped, match_of-alike, is_formed-alike, joinable-alike}
-use Rattle.ttp_frame.proofs.Frames.{length-frame}
+use Rattle.frame_fates.proofs.FromBelow.{length-xor_bytes, AreAlike, AreAlike-flipped, match_of-alike, is_formed-alike}
+use Rattle.frame_fates.proofs.FromBelow.{joinable-alike, length-frame}
 use Rattle.ttp_frame.specs.Bytes.{xor_bytes}
 use Rattle.frame_fates.proofs.FlipMasks.{mask_of, flip_bits-mask, length-mask_of, mask_of-AreBytes}
 

@@ -1,3 +1,4 @@
+pub mod FromBelow
 pub mod Channels
 pub mod Nodes
 pub mod Unflipped

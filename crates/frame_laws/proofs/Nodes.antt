@@ -23,10 +23,8 @@ use Rattle.ttp_world.proofs.Slots.{entry_of-row_in, node_of-slot_after}
 use Rattle.bus_frames.specs.FrameText.{bus_line}
 use Rattle.bus_frames.specs.Sending.{sending_in}
 use Rattle.bus_frames.specs.Standing.{frame_with, frames_told, lines_of_node, payload_with}
-use Rattle.bus_frames.proofs.Acts.{ActsBy, acts-by}
-use Rattle.bus_frames.proofs.Sent.{frames-sent, sends, sends-by, silent-by}
-use Rattle.bus_frames.proofs.States.{members-nodes, state_after}
-use Rattle.bus_frames.proofs.Told.{state-by}
+use Rattle.frame_laws.proofs.FromBelow.{ActsBy, acts-by, frames-sent, sends, sends-by, silent-by, members-nodes}
+use Rattle.frame_laws.proofs.FromBelow.{state_after, state-by}
 
 module _ (list : Medl) (script : Script) (before : History)
     (chosen : List Chosen) (k : ℕ) (node : k < length list.slots)

@@ -11,8 +11,7 @@ use Rattle.std.proofs.lemmas.Bool.Decides.{nat_tests}
 use Rattle.std.proofs.lemmas.List.{append-nil, take-append-drop, drop-drop}
 use Rattle.line_form.specs.Forms.{LineForm, Values, fit, well, line_values, spelled, spelled_before, spelled_line}
 use Rattle.line_form.specs.Kinds.{fits_kind, is_byte, payload, signed}
-use Rattle.line_form.proofs.FormLaws.{read_again}
-use Rattle.line_form.proofs.Tests.{both_true, is_le, is_lt}
+use Rattle.frame_laws.proofs.FromBelow.{read_again, both_true, is_le, is_lt, length-cstate_bytes}
 use Rattle.ttp_base.proofs.Gathered.{gathered}
 use Rattle.ttp_base.specs.NodeSet.{set_bits}
 use Rattle.ttp_base.specs.Text.{hex_bytes, newline}
@@ -27,7 +26,6 @@ use Rattle.ttp_world.specs.Medl.{is_wide, member_bytes, member_width}
 use Rattle.ttp_frame.specs.Match.{match_of}
 use Rattle.ttp_frame.specs.declared.judging.FrameMatch.{FrameMatch}
 use Rattle.ttp_frame.specs.declared.judging.FrameMatch.TheVariants.{Match, Differs, Invalid}
-use Rattle.ttp_frame.proofs.Frames.{length-cstate_bytes}
 use Rattle.bus_frames.specs.declared.sending.Sending.{Sending}
 use Rattle.bus_frames.specs.FrameText.{byte_words, channel_letter, found_word, frame_kind}
 use Rattle.bus_frames.specs.FrameText.{line_front, match_word, signal_line}

@@ -29,17 +29,13 @@ use Rattle.ttp_world.proofs.Worlds.{length-world, row_of_world}
 use Rattle.ttp_frame.specs.Match.{match_of}
 use Rattle.ttp_frame.specs.declared.judging.FrameMatch.{FrameMatch}
 use Rattle.ttp_frame.specs.declared.judging.FrameMatch.TheVariants.{Match, Differs, Invalid}
-use Rattle.ttp_frame.proofs.Undisturbed.{fits-frame}
+use Rattle.frame_laws.proofs.FromBelow.{fits-frame, legal-names, sends-own, sends, loaded-by, long-payload, size-plan}
 use Rattle.frame_fates.specs.Runs.{IsWritten}
-use Rattle.frame_fates.proofs.NamedRuns.{legal-names}
 use Rattle.controller.specs.ControllerWithin.{IsPossible}
-use Rattle.controller.proofs.Endings.{sends-own}
 use Rattle.bus_frames.specs.declared.sending.Sending.{Sending}
 use Rattle.bus_frames.specs.FrameText.{found_word, match_word}
 use Rattle.bus_frames.specs.Sending.{sending_in}
 use Rattle.bus_frames.specs.Standing.{frame_with, frames_told, payload_with}
-use Rattle.bus_frames.proofs.Sent.{sends}
-use Rattle.bus_frames.proofs.Told.{loaded-by, long-payload, size-plan}
 use Rattle.frame_laws.proofs.Nodes.{frame-told, sending}
 
 -- a frame fits what its sender expects of it

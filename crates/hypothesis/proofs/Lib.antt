@@ -1,3 +1,4 @@
+pub mod ForAbove
 pub mod Ranges
 pub mod Unions
 pub mod Least

@@ -26,9 +26,8 @@ use Rattle.ttp_world.specs.Trace.{reason_word, member_digits}
 use Rattle.ttp_world.specs.TraceNumbers.{is_digit, append_digit}
 use Rattle.ttp_world.proofs.NumberWords.{number_named-decimal}
 use Rattle.ttp_world.proofs.TraceWords.{has-entry_word}
-use Rattle.line_text.proofs.Options.{guarded}
+use Rattle.lab_laws.proofs.FromBelow.{guarded, again}
 use Rattle.line_form.specs.Kinds.{read, hexed_or}
-use Rattle.line_form.proofs.KindLaws.{again}
 use Rattle.campaign.specs.CostText.{span_words}
 use Rattle.whole_campaign.specs.declared.listed.Kind.TheVariants as kind
 use Rattle.whole_campaign.specs.Words.{is_reason, leaving_in, split_in}

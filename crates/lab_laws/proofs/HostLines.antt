@@ -37,11 +37,9 @@ use Rattle.line_text.specs.HostLines.{AreBytes, message_line}
 use Rattle.line_reader.specs.declared.trace_line.TraceLine.TheVariants as line
 use Rattle.line_reader.specs.TraceLines.{FitsRead, FitsWrite}
 use Rattle.line_reader.specs.WorldLines.{bytes_of_message}
-use Rattle.line_reader.proofs.LineValues.{status-value}
+use Rattle.lab_laws.proofs.FromBelow.{status-value, value-again, host_events-most, host_events-next}
 use Rattle.whole_trace.specs.Due.{is_below, source_node}
 use Rattle.whole_trace.specs.Whole.{value_of}
-use Rattle.whole_trace.proofs.Pieces.{value-again}
-use Rattle.theorems.proofs.HostEvents.{host_events-most, host_events-next}
 use Rattle.lab_laws.specs.TakenTrace.{IsOfBytes}
 use Rattle.lab_laws.proofs.StatusWords.{AreWords, statuses-small}
 

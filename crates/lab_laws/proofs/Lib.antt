@@ -3,6 +3,7 @@ pub mod CostsOfRuns
 pub mod CostsRead
 pub mod Counted
 pub mod FaultsRead
+pub mod FromBelow
 pub mod GoingOn
 pub mod Groups
 pub mod HostLines

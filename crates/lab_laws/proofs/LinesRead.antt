@@ -21,8 +21,7 @@ use Rattle.line_text.specs.Labels.{after_label}
 use Rattle.line_reader.specs.declared.trace_line.TraceLine.TheVariants as line
 use Rattle.line_reader.specs.Reading.{line_in}
 use Rattle.line_reader.specs.TraceLines.{keep_text, back_text}
-use Rattle.line_reader.proofs.LineValues.{keep-value, back-value}
-use Rattle.line_reader.proofs.WrittenLines.{line-again}
+use Rattle.lab_laws.proofs.FromBelow.{keep-value, back-value, line-again}
 use Rattle.whole_trace.specs.Due.{is_keep, is_back}
 use Rattle.campaign.specs.Cost.{says_yes_if}
 use Rattle.campaign.specs.CostText.{test_words_if}

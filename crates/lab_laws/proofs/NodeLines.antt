@@ -40,11 +40,9 @@ use Rattle.ttp_world.proofs.Worlds.{row_of_world, length-world}
 use Rattle.line_text.specs.Numerals.{message_digits}
 use Rattle.line_reader.specs.TraceLines.{fits_word, FitsAck, FitsMembers, FitsOffset, FitsNode}
 use Rattle.line_reader.specs.WorldLines.{line_of_node, word_of}
-use Rattle.line_reader.proofs.LineValues.{node-value}
+use Rattle.lab_laws.proofs.FromBelow.{node-value, value-again, small_states}
 use Rattle.whole_trace.specs.Due.{are_members, doubted, has_digits, is_below, is_node_line}
 use Rattle.whole_trace.specs.Whole.{value_of}
-use Rattle.whole_trace.proofs.Pieces.{value-again}
-use Rattle.theorems.proofs.SmallStates.{small_states}
 use Rattle.lab_laws.specs.TakenTrace.{head_of_run}
 use Rattle.lab_laws.proofs.Standing.{IsDoubtIn, shown-in}
 

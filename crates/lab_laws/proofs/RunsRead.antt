@@ -11,7 +11,7 @@ use Rattle.lab_laws.proofs.Words.{test_said, own_told, doing_of, shown_of_run}
 use Rattle.std.proofs.lemmas.List.Elements.{All-push}
 use Rattle.ttp_world.specs.declared.script.Event.TheVariants as event
 use Rattle.campaign.specs.Tried.{with_fault}
-use Rattle.run_costs.proofs.Distinct.{bytes_eq-sym}
+use Rattle.lab_laws.proofs.FromBelow.{bytes_eq-sym}
 use Rattle.whole_campaign.specs.declared.due.Due.TheVariants as due
 use Rattle.whole_campaign.specs.Own.{OwnShown, own_of_line}
 use Rattle.lab_laws.proofs.TestBounds.{valid-slots}

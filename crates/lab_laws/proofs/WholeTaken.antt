@@ -22,12 +22,11 @@ use Rattle.ttp_world.proofs.Worlds.{length-world, row_of_world}
 use Rattle.line_reader.specs.declared.trace_line.TraceLine.TheVariants as line
 use Rattle.line_reader.specs.TraceLines.{FitsHeader}
 use Rattle.line_reader.specs.WorldLines.{head_of}
-use Rattle.line_reader.proofs.LineValues.{back-value, keep-value}
+use Rattle.lab_laws.proofs.FromBelow.{back-value, keep-value, value-again}
 use Rattle.whole_trace.specs.declared.due.Due.TheVariants as due
 use Rattle.whole_trace.specs.declared.due.Outline.{Outline}
 use Rattle.whole_trace.specs.Due.{is_head, lies_within}
 use Rattle.whole_trace.specs.Whole.{SlotsFrom, WholeTrace, judged, no_slots, value_of, whole_in, whole_or_line}
-use Rattle.whole_trace.proofs.Pieces.{value-again}
 use Rattle.lab_laws.specs.TakenTrace.{IsOfBytes, back_if, head_of_run, slot_listed, slots_listed}
 use Rattle.lab_laws.specs.TakenTrace.{trace_of_run}
 use Rattle.lab_laws.proofs.Reading.{EndsWith, one_line}

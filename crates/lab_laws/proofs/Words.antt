@@ -10,8 +10,7 @@ pub use Rattle.campaign.specs.declared.cost.Leave.{Leave}
 pub use Rattle.campaign.specs.declared.cost.Span.{Span}
 pub use Rattle.line_reader.specs.Reading.{◌>>=◌}
 pub use Rattle.line_reader.specs.TraceLines.{slot_digits}
-pub use Rattle.line_text.proofs.LabelTexts.{label-again}
-pub use Rattle.line_text.proofs.WrittenNumbers.{numeral-again}
+pub use Rattle.lab_laws.proofs.FromBelow.{label-again, numeral-again}
 pub use Rattle.std.proofs.Common.{All, Bool, IfSome, List, None, Option, Some, [], ap, append_assoc, arith, codes, cond}
 pub use Rattle.std.proofs.Common.{decimal, false, fold, length, not, refl, subst, suc, sym, true, zero, ℕ, ◌&&◌, ◌++◌}
 pub use Rattle.std.proofs.Common.{◌+◌, ◌-◌, ◌<◌, ◌^◌, ◌||◌, ◌∙◌, ◌∷◌, ◌≡◌, ◌≤◌}

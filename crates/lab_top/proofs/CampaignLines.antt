@@ -34,7 +34,7 @@ use Rattle.campaign.specs.Lines.{summary, head_line, own_line, fault_line, count
 use Rattle.campaign.specs.Lines.{fault_slot, fault_node, run_line, lines_with, campaign_lines}
 use Rattle.campaign.specs.Tried.{with_fault, faults_from}
 use Rattle.ttp_world.specs.ZerosWorld.{zeros_world}
-use Rattle.wave_text.proofs.Feeds.{HasNone, none-append, none-decimal}
+use Rattle.lab_top.proofs.FromBelow.{HasNone, none-append, none-decimal}
 use Rattle.commands.specs.Lines.{AreLines}
 
 pub ended : (text : List ℕ) → HasNone text → is_line (text ++ newline) ≡ true

@@ -6,7 +6,7 @@ use Rattle.ttp_base.specs.Text.{Lines}
 use Rattle.campaign.specs.Lines.{campaign_lines}
 use Rattle.commands.specs.Plan.{Outside}
 use Rattle.commands.specs.Promise.{Promise}
-use Rattle.campaign_laws.proofs.SafeLines.{campaign_lines-safe}
+use Rattle.lab_top.proofs.FromBelow.{campaign_lines-safe}
 use Rattle.lab_top.specs.CampaignPromise.{WroteSafe, CampaignPromise}
 use Rattle.lab_top.specs.Forms.{lines_plan}
 use Rattle.lab_top.specs.LinesPromise.{WroteAll}

@@ -17,7 +17,7 @@ use Rattle.commands.specs.Lines.{HasSaid}
 use Rattle.commands.specs.Outcome.{Refused, ShowsEnding}
 use Rattle.commands.specs.Plan.{whole_ending}
 use Rattle.commands.specs.Texts.{no_texts, alone, one}
-use Rattle.commands.proofs.Loads.{said}
+use Rattle.lab_top.proofs.FromBelow.{said}
 use Rattle.lab_top.specs.declared.refusal.TextFault.{TextFault}
 use Rattle.lab_top.specs.declared.refusal.TextFault.TheVariants as fault
 use Rattle.lab_top.specs.Forms.{viewed_ending}

@@ -5,15 +5,13 @@ use Rattle.ttp_base.specs.Outside.{Load, HasRisen, Output, Wrote, WroteLines, Cu
 use Rattle.ttp_base.specs.Text.{Lines}
 use Rattle.fault_runs.specs.Ends.{WroteFewer}
 use Rattle.check_text.specs.Check.{Named, check_lines, check_status}
-use Rattle.check_text.proofs.Telling.{is_told}
-use Rattle.check_text.proofs.Written.{check_lines-some}
+use Rattle.lab_top.proofs.FromBelow.{is_told, check_lines-some, AllAsk, end_comes, Quiet, told_shows, told_cut}
+use Rattle.lab_top.proofs.FromBelow.{told_leaves}
 use Rattle.commands.specs.Outcome.{Showed, ShowsEnding}
 use Rattle.commands.specs.Plan.{Outside, ends, Comes, told_ending}
 use Rattle.commands.specs.Promise.{IsUnfinished, Promise}
 use Rattle.commands.specs.Read.{list_limit}
 use Rattle.commands.specs.Texts.{WroteAmong, alone}
-use Rattle.commands.proofs.Plans.{AllAsk, end_comes}
-use Rattle.commands.proofs.Told.{Quiet, told_shows, told_cut, told_leaves}
 use Rattle.lab_top.specs.CheckPromise.{GaveFile, GaveBeside, WroteCheck, BeganCheck}
 use Rattle.lab_top.specs.CheckPromise.{HoldsFile, HoldsBeside, CheckPromise}
 use Rattle.lab_top.specs.Forms.{check_ending, check_plan}

@@ -12,7 +12,7 @@ use Rattle.commands.specs.Plan.{line_ending, whole_ending}
 use Rattle.commands.specs.Texts.{one, those}
 use Rattle.lab_top.specs.Forms.{frames_ending}
 use Rattle.trace_check.specs.Difference.{differs_line, IsDifference}
-use Rattle.trace_check.proofs.Differences.{differs_line-is_line}
+use Rattle.lab_top.proofs.FromBelow.{differs_line-is_line}
 use Rattle.lab_top.specs.Frames.{frames_named}
 use Rattle.lab_top.specs.Texts.{differences, LabAnswer, ttplab}
 

@@ -13,11 +13,11 @@ use Rattle.trace_check.specs.Answer.{is_trace}
 use Rattle.campaign.specs.Lines.{campaign_lines}
 use Rattle.clock_margins.specs.MarginText.{margin_lines}
 use Rattle.fault_pairs.specs.PairText.{pairs_lines}
-use Rattle.wave_text.proofs.DeclaredLines.{wave_lines-each}
-use Rattle.view_laws.proofs.LinesAndTitles.{picture_lines-each}
-use Rattle.view_laws.proofs.CampaignsRead.{campaign-draws}
+use Rattle.lab_top.proofs.FromBelow.{wave_lines-each, picture_lines-each, campaign-draws, check_lines-each}
+use Rattle.lab_top.proofs.FromBelow.{check_status-one, AreOfLines, IsFinal, SaysLine, one_text, lines_front, text_final}
+use Rattle.lab_top.proofs.FromBelow.{line_final, refused_list-final, refused_script-final, Every, after_every}
+use Rattle.lab_top.proofs.FromBelow.{list_every, both_every}
 use Rattle.check_text.specs.Check.{Named, check_lines}
-use Rattle.check_text.proofs.Written.{check_lines-each, check_status-one}
 use Rattle.script_gen.specs.Generator.{generated}
 use Rattle.script_lines.specs.ScriptLines.{script_lines}
 use Rattle.commands.specs.declared.read.FileFault.{FileFault}
@@ -26,9 +26,6 @@ use Rattle.commands.specs.Lines.{AreLines}
 use Rattle.commands.specs.Plan.{ends, said_ending, whole_ending}
 use Rattle.commands.specs.Read.{script_from}
 use Rattle.commands.specs.Texts.{one, those, no_texts}
-use Rattle.commands.proofs.Lines.{AreOfLines, IsFinal, SaysLine, one_text, lines_front, text_final, line_final}
-use Rattle.commands.proofs.Lines.{refused_list-final, refused_script-final}
-use Rattle.commands.proofs.Plans.{Every, after_every, list_every, both_every}
 use Rattle.lab_top.specs.declared.refusal.TextFault.{TextFault}
 use Rattle.lab_top.specs.Forms.{lab_usage_line, viewed_ending, view_plan, lines_ending, lines_plan, script_ending}
 use Rattle.lab_top.specs.Forms.{script_form_plan, frames_ending, frames_plan, check_ending, check_plan, lab_plan_of}

@@ -30,7 +30,7 @@ use Rattle.bus_frames.specs.FrameText.{spaced, byte_words, line_front}
 use Rattle.bus_frames.specs.FrameText.{found_word, signal_line, frame_line, bus_line, channel_lines, frame_slot_lines}
 use Rattle.bus_frames.specs.FrameText.{frame_history_lines, frame_lines}
 use Rattle.bus_frames.specs.Sending.{frames_sent, sending_in}
-use Rattle.wave_text.proofs.Feeds.{HasNone, none-append, none-decimal}
+use Rattle.lab_top.proofs.FromBelow.{HasNone, none-append, none-decimal}
 use Rattle.commands.specs.Lines.{AreLines}
 use Rattle.lab_top.proofs.CampaignLines.{ended}
 

@@ -8,10 +8,10 @@ use Rattle.ttp_base.specs.Outside.{Output, Wrote, WroteLines, CutShort}
 use Rattle.ttp_base.specs.Text.{Lines}
 use Rattle.ttp_world.specs.declared.medl.Medl.{Medl}
 use Rattle.ttp_world.specs.declared.script.Script.{Script}
-use Rattle.medl_text.proofs.Valid.{medl_of-valid}
-use Rattle.script_text.proofs.RightFiles.{script_of-valid}
+use Rattle.lab_top.proofs.FromBelow.{medl_of-valid, script_of-valid, trace-short, both_came, both_told, both_ask}
+use Rattle.lab_top.proofs.FromBelow.{AllAsk, end_comes, Quiet, told_shows, told_cut, HaveAtMost, is_trace-short}
+use Rattle.lab_top.proofs.FromBelow.{is_trace-front, first_wrong-front}
 use Rattle.trace_check.specs.Answer.{is_trace}
-use Rattle.theorems.proofs.TraceLength.{trace-short}
 use Rattle.commands.specs.Files.{trace_plan}
 use Rattle.commands.specs.Outcome.{Showed}
 use Rattle.commands.specs.Plan.{Outside, whole_ending, ends, Comes, told_ending}
@@ -19,9 +19,6 @@ use Rattle.commands.specs.Promise.{Promise}
 use Rattle.commands.specs.Read.{trace_limit}
 use Rattle.commands.specs.Right.{MayBe, AreRight}
 use Rattle.commands.specs.Texts.{one, those, IsAmong, CutAmong}
-use Rattle.commands.proofs.Both.{both_came, both_told, both_ask}
-use Rattle.commands.proofs.Plans.{AllAsk, end_comes}
-use Rattle.commands.proofs.Told.{Quiet, told_shows, told_cut}
 use Rattle.lab_top.specs.Forms.{frames_ending, frames_plan}
 use Rattle.trace_check.specs.Difference.{IsDifference}
 use Rattle.lab_top.specs.Frames.{frames_named}
@@ -30,7 +27,6 @@ use Rattle.lab_top.specs.FramesPromise.{ToldDifference, AreAllTold}
 use Rattle.lab_top.specs.FramesPromise.{FramesPromise}
 use Rattle.lab_top.specs.Texts.{differences, LabEnding, LabPlan, LabAnswer, ttplab}
 use Rattle.lab_top.specs.ViewPromise.{WroteOrNone}
-use Rattle.trace_check.proofs.Fronts.{HaveAtMost, is_trace-short, is_trace-front, first_wrong-front}
 use Rattle.lab_top.proofs.RefusedFiles.{RefusesNone, list_refused, script_refused, list_due, script_due}
 
 -- ---- the verdict

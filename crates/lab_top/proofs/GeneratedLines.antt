@@ -14,7 +14,7 @@ use Rattle.ttp_world.specs.declared.script.Script.{Script}
 use Rattle.ttp_world.specs.Script.{on_slot, drift_of}
 use Rattle.ttp_world.proofs.LineLists.{each-append}
 use Rattle.campaign.specs.CostText.{channels_word}
-use Rattle.wave_text.proofs.Feeds.{HasNone, none-decimal, none-source}
+use Rattle.lab_top.proofs.FromBelow.{HasNone, none-decimal, none-source}
 use Rattle.commands.specs.Lines.{AreLines}
 use Rattle.script_lines.specs.ScriptLines.{event_words, event_line, slots_line, on_line, on_lines, drift_line}
 use Rattle.script_lines.specs.ScriptLines.{drift_lines, all_on_lines, all_drift_lines, script_lines}

@@ -1,3 +1,4 @@
+pub mod FromBelow
 pub mod Room
 pub mod CampaignLines
 pub mod MarginLines

@@ -5,18 +5,15 @@ use Rattle.ttp_base.specs.Outside.{Held, HasRisen, Output, Wrote, WroteLines, Cu
 use Rattle.ttp_base.specs.Text.{Lines}
 use Rattle.ttp_world.specs.declared.medl.Medl.{Medl}
 use Rattle.ttp_world.specs.declared.script.Script.{Script}
-use Rattle.medl_text.proofs.Valid.{medl_of-valid}
-use Rattle.script_text.proofs.RightFiles.{script_of-valid}
+use Rattle.lab_top.proofs.FromBelow.{medl_of-valid, script_of-valid, CameBoth, both_came, both_told, both_ask, AllAsk}
+use Rattle.lab_top.proofs.FromBelow.{all_come, both_every, end_comes, wrote_nothing, Quiet, told_shows, told_cut}
+use Rattle.lab_top.proofs.FromBelow.{told_leaves}
 use Rattle.fault_runs.specs.Ends.{WroteFewer}
 use Rattle.commands.specs.Outcome.{Showed, ShowsEnding}
 use Rattle.commands.specs.Plan.{Outside, ends, Comes, told_ending}
 use Rattle.commands.specs.Promise.{IsUnfinished, Promise}
 use Rattle.commands.specs.Right.{AreTold}
 use Rattle.commands.specs.Texts.{Texts, those, no_texts, WroteAmong, alone}
-use Rattle.commands.proofs.Both.{CameBoth, both_came, both_told, both_ask}
-use Rattle.commands.proofs.Plans.{AllAsk, all_come, both_every, end_comes}
-use Rattle.commands.proofs.Promises.{wrote_nothing}
-use Rattle.commands.proofs.Told.{Quiet, told_shows, told_cut, told_leaves}
 use Rattle.lab_top.specs.Forms.{lines_ending, lines_plan}
 use Rattle.lab_top.specs.LinesPromise.{MayBeBoth, WroteAll, WroteSome, LinesPromise}
 use Rattle.lab_top.specs.Texts.{IsProperFront, begun, LabSets, LabEnding, LabPlan, LabAnswer, ttplab}

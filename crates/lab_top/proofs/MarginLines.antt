@@ -8,7 +8,7 @@ use Rattle.line_form.specs.Kinds.{Kind, number, signed, hexed, hexed_or, one_of}
 use Rattle.line_form.specs.Kinds.{payload, or_dash, commas, named, joined, free}
 use Rattle.line_form.specs.Kinds.{Value, spell, each_behind, listed_words}
 use Rattle.line_form.specs.Forms.{LineForm, Values, spelled, spelled_line}
-use Rattle.line_form.proofs.FormLaws.{spelled-more}
+use Rattle.lab_top.proofs.FromBelow.{spelled-more, HasNone, none-append, none-decimal}
 use Rattle.ttp_base.specs.Text.{newline, is_line}
 use Rattle.ttp_base.proofs.Lines.{is_line-append}
 use Rattle.ttp_base.proofs.Numerals.{has, has-signed, has-hex}
@@ -27,7 +27,6 @@ use Rattle.clock_margins.specs.Outcomes.{ValueTold, told_of_value}
 use Rattle.clock_margins.specs.Ranges.{Range, is_told_as, range_alone, range_before, ranges_of}
 use Rattle.clock_margins.specs.Sums.{total_of}
 use Rattle.clock_margins.specs.Sweeps.{swept_script, reach, values, sweeps}
-use Rattle.wave_text.proofs.Feeds.{HasNone, none-append, none-decimal}
 use Rattle.commands.specs.Lines.{AreLines}
 use Rattle.lab_top.proofs.CampaignLines.{ended, test-none, own-is_line}
 

@@ -19,13 +19,8 @@ use Rattle.clock_margins.specs.Forms.{clock_place}
 use Rattle.clock_margins.specs.MarginText.{tolds_of, sweep_lines, sweep_margin, margin_lines}
 use Rattle.clock_margins.specs.Sums.{total_of}
 use Rattle.clock_margins.specs.Sweeps.{with_clock_value, swept_script, reach, value_limit, jump_sweep, jumpers}
-use Rattle.single_faults.proofs.Valid.{with_fault-valid}
-use Rattle.pair_laws.proofs.Joined.{each-cut}
-use Rattle.margin_laws.proofs.Added.{sweep-counted, together}
-use Rattle.margin_laws.proofs.Spread.{sweep-spread, apart-all}
-use Rattle.margin_runs.proofs.Drifts.{drift-valid}
-use Rattle.margin_safety.proofs.Fewer.{never-split}
-use Rattle.margin_safety.proofs.Safe.{yes-harmless}
+use Rattle.lab_top.proofs.FromBelow.{with_fault-valid, each-cut, sweep-counted, together, sweep-spread, apart-all}
+use Rattle.lab_top.proofs.FromBelow.{drift-valid, never-split, yes-harmless}
 use Rattle.commands.specs.Plan.{Outside}
 use Rattle.commands.specs.Promise.{Promise}
 use Rattle.lab_top.specs.Forms.{lines_plan}

@@ -24,7 +24,7 @@ use Rattle.fault_pairs.specs.PairText.{pair_faults, pair_line, first_fault_line,
 use Rattle.fault_pairs.specs.PairText.{apart_line, told_of_pair}
 use Rattle.fault_pairs.specs.PairText.{pair_tolds, lines_of_told, first_fault_lines, sum_lines, pairs_lines}
 use Rattle.fault_pairs.specs.Sums.{PairTold, pair_counts, told_kept, told_broken, distances}
-use Rattle.wave_text.proofs.Feeds.{HasNone, none-append, none-decimal}
+use Rattle.lab_top.proofs.FromBelow.{HasNone, none-append, none-decimal}
 use Rattle.commands.specs.Lines.{AreLines}
 use Rattle.lab_top.proofs.CampaignLines.{ended, test-none, cost-none, fault-none, listed-none, own-is_line}
 

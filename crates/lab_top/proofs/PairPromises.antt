@@ -9,11 +9,8 @@ use Rattle.fault_pairs.specs.Pairs.{firsts_in}
 use Rattle.fault_pairs.specs.PairText.{first_fault_lines, pairs_lines}
 use Rattle.fault_pairs.specs.Sums.{PairTold, pair_counts}
 use Rattle.pair_laws.specs.Ranges.{own_harm, firsts_of_range, pairs_of_first, pairs_of_range}
-use Rattle.pair_laws.proofs.Counted.{classes-counted, counts-append, counts-flat, counts-parted}
-use Rattle.pair_laws.proofs.Distances.{counts-by_distance}
-use Rattle.pair_laws.proofs.Firsts.{faults-same, pairs-near}
-use Rattle.pair_laws.proofs.Joined.{each-cut}
-use Rattle.pair_laws.proofs.Kept.{pair-unharmed, none-divided, pairs-mild}
+use Rattle.lab_top.proofs.FromBelow.{classes-counted, counts-append, counts-flat, counts-parted, counts-by_distance}
+use Rattle.lab_top.proofs.FromBelow.{faults-same, pairs-near, each-cut, pair-unharmed, none-divided, pairs-mild}
 use Rattle.commands.specs.Plan.{Outside}
 use Rattle.commands.specs.Promise.{Promise}
 use Rattle.lab_top.specs.Forms.{lines_plan}

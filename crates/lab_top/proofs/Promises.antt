@@ -5,9 +5,7 @@ use Rattle.commands.specs.Outcome.{Follows}
 use Rattle.commands.specs.Plan.{Outside}
 use Rattle.commands.specs.Promise.{IsUnfinished, Promise}
 use Rattle.commands.specs.Texts.{Texts, WroteAmong}
-use Rattle.commands.proofs.Lines.{IsFinal, SaysLine}
-use Rattle.commands.proofs.Plans.{all_come, every_weaker}
-use Rattle.commands.proofs.Promises.{wrote_nothing, promise}
+use Rattle.lab_top.proofs.FromBelow.{IsFinal, SaysLine, all_come, every_weaker, wrote_nothing, promise}
 use Rattle.lab_top.specs.Forms.{lab_plan_of}
 use Rattle.lab_top.specs.Promise.{LabPromise}
 use Rattle.lab_top.specs.Texts.{LabSets, LabAnswer, ttplab}

@@ -9,7 +9,7 @@ use Rattle.commands.specs.Outcome.{Follows}
 use Rattle.commands.specs.Plan.{Outside, outside, after}
 use Rattle.commands.specs.Read.{script_from}
 use Rattle.commands.specs.Texts.{alone}
-use Rattle.commands.proofs.Loads.{CameTo, bytes_came, no_bytes, said}
+use Rattle.lab_top.proofs.FromBelow.{CameTo, bytes_came, no_bytes, said}
 use Rattle.lab_top.specs.Texts.{LabPlan, ttplab}
 use Rattle.lab_top.specs.Why.{read_script_plan}
 

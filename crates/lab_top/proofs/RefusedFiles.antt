@@ -16,10 +16,8 @@ use Rattle.commands.specs.Plan.{told_ending}
 use Rattle.commands.specs.Promise.{EachName, NoneAskedRose, Promise}
 use Rattle.commands.specs.Read.{list_limit, list_from, script_limit, script_from}
 use Rattle.commands.specs.Texts.{WroteAmong}
-use Rattle.commands.proofs.Fronts.{list_from-front, script_from-front}
-use Rattle.commands.proofs.Plans.{Every, all_come, end_comes, told_comes}
-use Rattle.commands.proofs.Promises.{wrote_nothing}
-use Rattle.commands.proofs.Told.{Quiet}
+use Rattle.lab_top.proofs.FromBelow.{list_from-front, script_from-front, Every, all_come, end_comes, told_comes}
+use Rattle.lab_top.proofs.FromBelow.{wrote_nothing, Quiet}
 use Rattle.lab_top.specs.LinesPromise.{ToldList, ToldScript}
 use Rattle.lab_top.specs.Texts.{LabEnding, LabPlan, LabAnswer, ttplab}
 use Rattle.lab_top.specs.ViewPromise.{HoldsText, WroteOrNone}

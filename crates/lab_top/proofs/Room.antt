@@ -8,7 +8,8 @@ use Rattle.ttp_world.specs.declared.medl.Medl.{Medl}
 use Rattle.ttp_world.specs.declared.script.Script.{Script}
 use Rattle.ttp_world.specs.declared.script.TheConstants.{EVENT_LIMIT}
 use Rattle.ttp_world.specs.Medl.{IsValid}
-use Rattle.medl_text.proofs.Valid.{medl_of-valid}
+use Rattle.lab_top.proofs.FromBelow.{medl_of-valid, line_right, with_end, size_of, size-lines_of, AreValid}
+use Rattle.lab_top.proofs.FromBelow.{AreValid-none, right_list, right_script}
 use Rattle.script_text.specs.declared.error.LineFault.{LineFault}
 use Rattle.script_text.specs.declared.error.ScriptError.{ScriptError}
 use Rattle.script_text.specs.Faults.{slots_of, events_of, line_faults, keyword_statements, statements_after}
@@ -17,12 +18,8 @@ use Rattle.script_text.specs.ScriptFile.{errors_at, script_faults, statements_of
 use Rattle.script_text.specs.ScriptFile.{script_or_fault, lines_script, script_of}
 use Rattle.script_text.specs.Statement.{Statement, says_slots, says_on, says_drift}
 use Rattle.script_text.specs.Statement.{says_event, keyword_of, statement_of}
-use Rattle.script_text.proofs.RightFiles.{line_right}
-use Rattle.script_text.proofs.Sizes.{with_end, size_of, size-lines_of}
-use Rattle.script_text.proofs.Valid.{AreValid, AreValid-none}
 use Rattle.commands.specs.Files.{TookBoth}
 use Rattle.commands.specs.Plan.{Outside}
-use Rattle.commands.proofs.Right.{right_list, right_script}
 
 -- the bytes that are still owed where no line has said the run's slots
 abbrev owed : Option ℕ → ℕ

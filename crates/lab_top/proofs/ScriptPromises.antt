@@ -13,10 +13,8 @@ use Rattle.commands.specs.Outcome.{Showed}
 use Rattle.commands.specs.Plan.{Outside, ends, said_ending, after, Comes, told_ending}
 use Rattle.commands.specs.Promise.{Promise}
 use Rattle.commands.specs.Read.{list_limit, list_from}
-use Rattle.commands.proofs.Fronts.{list_from-front}
-use Rattle.commands.proofs.Plans.{AllAsk, list_every, end_comes}
-use Rattle.commands.proofs.Right.{right_list, may_be}
-use Rattle.commands.proofs.Told.{Quiet, told_shows, told_cut}
+use Rattle.lab_top.proofs.FromBelow.{list_from-front, AllAsk, list_every, end_comes, right_list, may_be, Quiet}
+use Rattle.lab_top.proofs.FromBelow.{told_shows, told_cut}
 use Rattle.lab_top.specs.LinesPromise.{ToldList}
 use Rattle.lab_top.specs.Forms.{script_ending, script_form_plan}
 use Rattle.lab_top.specs.ScriptPromise.{WroteScript, ScriptPromise}

@@ -7,9 +7,7 @@ use Rattle.commands.specs.Outcome.{Showed}
 use Rattle.commands.specs.Plan.{Outside, ends, Comes, told_ending}
 use Rattle.commands.specs.Promise.{Promise}
 use Rattle.commands.specs.Read.{trace_limit}
-use Rattle.commands.proofs.Plans.{AllAsk, end_comes}
-use Rattle.commands.proofs.Right.{may_be}
-use Rattle.commands.proofs.Told.{Quiet, told_shows, told_cut}
+use Rattle.lab_top.proofs.FromBelow.{AllAsk, end_comes, may_be, Quiet, told_shows, told_cut}
 use Rattle.lab_top.specs.declared.refusal.TextFault.{TextFault}
 use Rattle.lab_top.specs.Forms.{viewed_ending, view_plan}
 use Rattle.lab_top.specs.Refusals.{text_fault_line}

@@ -48,7 +48,7 @@ use Rattle.why_answers.specs.Answer.{answer_of_departure, answer_of_node, answer
 use Rattle.why_answers.specs.Answer.{departure_slot, no_node_line, no_slot_line}
 use Rattle.why_answers.specs.Answer.{stays_line, why_answer, why_answered}
 use Rattle.why_answers.specs.declared.answer.WhyAnswer.{WhyAnswer}
-use Rattle.wave_text.proofs.Feeds.{HasNone, none-append, none-decimal}
+use Rattle.lab_top.proofs.FromBelow.{HasNone, none-append, none-decimal}
 use Rattle.commands.specs.Lines.{AreLines}
 use Rattle.lab_top.proofs.CampaignLines.{channels-none, ended, fault-none, listed-none}
 

@@ -6,17 +6,14 @@ use Rattle.ttp_base.specs.Outside.{HasRisen, Wrote, WroteLines, CutShort}
 use Rattle.ttp_base.specs.Text.{Lines}
 use Rattle.ttp_world.specs.declared.medl.Medl.{Medl}
 use Rattle.ttp_world.specs.declared.script.Script.{Script}
-use Rattle.medl_text.proofs.Valid.{medl_of-valid}
-use Rattle.script_text.proofs.RightFiles.{script_of-valid}
+use Rattle.lab_top.proofs.FromBelow.{medl_of-valid, script_of-valid, list_from-front, script_from-front, AllAsk}
+use Rattle.lab_top.proofs.FromBelow.{after_every, end_comes, list_every, right_list, right_script, may_be}
+use Rattle.lab_top.proofs.FromBelow.{list_from-right, script_from-right, Quiet, told_shows, told_cut}
 use Rattle.commands.specs.Files.{refused_script}
 use Rattle.commands.specs.Outcome.{Showed}
 use Rattle.commands.specs.Plan.{Outside, told_ending}
 use Rattle.commands.specs.Promise.{Promise}
 use Rattle.commands.specs.Read.{list_limit, script_limit, script_from}
-use Rattle.commands.proofs.Fronts.{list_from-front, script_from-front}
-use Rattle.commands.proofs.Plans.{AllAsk, after_every, end_comes, list_every}
-use Rattle.commands.proofs.Right.{right_list, right_script, may_be, list_from-right, script_from-right}
-use Rattle.commands.proofs.Told.{Quiet, told_shows, told_cut}
 use Rattle.lab_top.specs.LinesPromise.{ToldList, ToldScript}
 use Rattle.lab_top.specs.Texts.{LabEnding, LabAnswer, ttplab}
 use Rattle.lab_top.specs.ViewPromise.{WroteOrNone}

@@ -1,3 +1,4 @@
+pub mod ForAbove
 pub mod Putting
 pub mod Options
 pub mod Closing

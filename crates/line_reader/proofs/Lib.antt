@@ -1,3 +1,5 @@
+pub mod ForAbove
+pub mod FromBelow
 pub mod ValueLaws
 pub mod LineValues
 pub mod Options

@@ -26,7 +26,7 @@ use Rattle.line_reader.specs.TraceLines.{word_text, text_of}
 use Rattle.line_text.specs.HostLines.{message_line}
 use Rattle.line_reader.specs.WorldLines.{word_of, line_of_node, bytes_of_message}
 use Rattle.line_text.specs.LineParts.{listed_line}
-use Rattle.line_text.proofs.PayloadWords.{eight_bytes}
+use Rattle.line_reader.proofs.FromBelow.{eight_bytes}
 
 word_of-text : (e : Entry) → entry_word e ≡ word_text (word_of e)
 word_of-text entry.Off = refl

@@ -1,2 +1,2 @@
 -- Where a chain of readings gives a value.
-pub use Rattle.line_form.proofs.Tests.{Bound, bound}
+pub use Rattle.line_reader.proofs.FromBelow.{Bound, bound}

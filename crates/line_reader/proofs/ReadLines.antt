@@ -7,13 +7,9 @@ use Rattle.std.specs.List.{list_all}
 use Rattle.std.proofs.lemmas.Bool.{and_parts, ltb-true, leb-true}
 use Rattle.ttp_base.specs.Text.{hex_bytes}
 use Rattle.ttp_world.specs.Trace.{node_line_text}
-use Rattle.line_text.proofs.Options.{guarded, some_same}
+use Rattle.line_reader.proofs.FromBelow.{guarded, some_same, reads-found, spelled-gathered, each_fits, bound}
 use Rattle.line_form.specs.Kinds.{numeral, numeral_in, hex_number, is_byte, ◌>>=◌}
 use Rattle.line_form.specs.Forms.{LineForm, Values, spelled, fit, well, line_values}
-use Rattle.line_form.proofs.FormLaws.{reads-found}
-use Rattle.line_form.proofs.Gathered.{spelled-gathered}
-use Rattle.line_form.proofs.Parts.{each_fits}
-use Rattle.line_form.proofs.Tests.{bound}
 use Rattle.line_reader.specs.declared.trace_line.TraceLine.{TraceLine}
 use Rattle.line_reader.specs.Reading.{head_in, node_in, write_line_in, read_line_in}
 use Rattle.line_reader.specs.Reading.{kept_in, broken_in, owed_in, refused_in}

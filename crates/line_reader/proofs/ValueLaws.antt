@@ -21,7 +21,7 @@ use Rattle.line_text.specs.HostLines.{AreBytes}
 use Rattle.line_form.specs.declared.named.Named.{Named}
 use Rattle.line_form.specs.declared.named.Named.TheVariants as choice
 use Rattle.line_form.specs.Kinds.{spell, fits_kind, number, hexed_or, or_dash, is_byte, count_of_digits}
-use Rattle.line_form.proofs.Tests.{is_lt, is_le, both_true}
+use Rattle.line_reader.proofs.FromBelow.{is_lt, is_le, both_true}
 use Rattle.line_reader.specs.declared.trace_line.NodeLine.{NodeLine}
 use Rattle.line_reader.specs.declared.trace_line.TraceLine.{TraceLine}
 use Rattle.line_reader.specs.declared.trace_line.TraceLine.TheVariants as line

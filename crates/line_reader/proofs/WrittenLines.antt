@@ -10,9 +10,7 @@ use Rattle.ttp_world.specs.declared.keep.Back.TheVariants as back
 use Rattle.ttp_world.specs.declared.keep.Keep.TheVariants as keep
 use Rattle.line_form.specs.Kinds.{has_byte, ◌>>=◌}
 use Rattle.line_form.specs.Forms.{Values, spelled, fit, lines_part}
-use Rattle.line_form.proofs.FormLaws.{read_again, no_feed}
-use Rattle.line_form.proofs.Parts.{other_line}
-use Rattle.line_form.proofs.Tests.{is_lt, is_le}
+use Rattle.line_reader.proofs.FromBelow.{read_again, no_feed, other_line, is_lt, is_le}
 use Rattle.line_reader.specs.declared.trace_line.TraceLine.{TraceLine}
 use Rattle.line_reader.specs.declared.trace_line.TraceLine.TheVariants as line
 use Rattle.line_reader.specs.Reading.{head_in, node_in, write_line_in, read_line_in}

@@ -1,6 +1,8 @@
 pub mod Cuts
 pub mod DecimalDigits
 pub mod FirstLines
+pub mod ForAbove
+pub mod FromBelow
 pub mod LabelTexts
 pub mod MemberDigits
 pub mod Options

@@ -1,3 +1,4 @@
+pub mod FromBelow
 pub mod Agree
 pub mod TableAgree
 pub mod Keys

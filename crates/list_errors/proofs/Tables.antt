@@ -7,7 +7,7 @@ use Rattle.toml.specs.Data.{Members, as_table}
 use Rattle.toml.specs.View.{view, items_view}
 use Rattle.toml.specs.declared.value.Value.{Value}
 use Rattle.medl_text.specs.ListFile.{are_tables, tables_of, element_of}
-use Rattle.medl_text.proofs.Counts.{length-tables_of}
+use Rattle.list_errors.proofs.FromBelow.{length-tables_of}
 
 pub tables_of-take : (n : ℕ) (vs : List Value) → tables_of (items_view (take n vs)) ≡ take n (tables_of (items_view vs))
 tables_of-take zero vs = refl

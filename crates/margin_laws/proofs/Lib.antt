@@ -1,3 +1,4 @@
+pub mod ForAbove
 pub mod Spread
 pub mod Added
 pub mod Behind

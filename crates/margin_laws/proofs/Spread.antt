@@ -5,7 +5,7 @@ use Rattle.std.specs.Prelude.{flat_map, if◌then◌else◌}
 use Rattle.std.specs.Str.{bytes_eq}
 use Rattle.std.proofs.lemmas.Bool.{and_parts}
 use Rattle.std.proofs.lemmas.Int.{ints}
-use Rattle.line_form.proofs.NumberWords.{same_text}
+use Rattle.line_form.proofs.ForAbove.{same_text}
 use Rattle.ttp_world.specs.declared.medl.Medl.{Medl}
 use Rattle.ttp_world.specs.declared.script.Script.{Script}
 use Rattle.clock_margins.specs.declared.margin.Outcome.{Outcome}

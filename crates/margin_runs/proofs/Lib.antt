@@ -1,4 +1,5 @@
 pub mod Drifts
+pub mod FromBelow
 pub mod Puts
 pub mod Shown
 pub mod SplitBeside

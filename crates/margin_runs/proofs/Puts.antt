@@ -16,14 +16,13 @@ use Rattle.std.specs.List.{cons_option}
 use Rattle.clock_margins.specs.Outcomes.{ValueTold}
 use Rattle.clock_margins.specs.Ranges.{Range, ranges_of}
 use Rattle.margin_laws.specs.Behind.{closed_ranges, open_range}
-use Rattle.margin_laws.proofs.Behind.{closed-open, closed-more}
+use Rattle.margin_runs.proofs.FromBelow.{closed-open, closed-more, leaves-after, leaves-more}
 use Rattle.margin_text.specs.declared.swept.Swept.{Swept}
 use Rattle.margin_text.specs.declared.told.Told.{Told}
 use Rattle.margin_text.specs.Taken.{value_told, IsSweptOf, HasFew, AreCountsUpTo}
 use Rattle.fault_runs.specs.declared.put.CampaignFault.{CampaignFault}
 use Rattle.fault_runs.specs.declared.put.CampaignFault.TheVariants as fault
 use Rattle.fault_runs.specs.Ends.{LeftBy, LeftFewerBy}
-use Rattle.fault_runs.proofs.Endings.{leaves-after, leaves-more}
 use Rattle.margin_runs.specs.Tries.{range_lines, are_told}
 use Rattle.margin_runs.specs.Written.{IsPutOf, closed_lines}
 

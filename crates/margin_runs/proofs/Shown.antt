@@ -15,7 +15,7 @@ use Rattle.ttp_world.specs.ZerosWorld.{zeros_world}
 use Rattle.clock_margins.specs.declared.margin.Sweep.{Sweep}
 use Rattle.clock_margins.specs.Sweeps.{jump_sweep}
 use Rattle.run_costs.specs.States.{AreShown, state_at, off_state}
-use Rattle.fault_runs.proofs.Ranges.{shown-row, flat_map-filter}
+use Rattle.margin_runs.proofs.FromBelow.{shown-row, flat_map-filter}
 use Rattle.margin_runs.specs.Written.{jump_sweeps_of, jumps_in, jumps_asked, all_jumps}
 use Rattle.margin_runs.proofs.Sweeping.{picked}
 

@@ -16,10 +16,8 @@ use Rattle.campaign.specs.Tried.{with_fault}
 use Rattle.ttp_world.specs.ZerosWorld.{zeros_world}
 use Rattle.clock_margins.specs.Outcomes.{is_sound_beside, is_split_beside, was_split_beside}
 use Rattle.run_costs.specs.Told.{AreSound}
-use Rattle.run_costs.proofs.Later.{zeros-longer}
-use Rattle.run_costs.proofs.LaterFaults.{faulty_by_test-longer}
+use Rattle.margin_runs.proofs.FromBelow.{zeros-longer, faulty_by_test-longer, next_row, zeros-next}
 use Rattle.ttp_world.proofs.ZerosWorlds.{length-zeros_world}
-use Rattle.run_costs.proofs.Rows.{next_row, zeros-next}
 
 -- the correct nodes but one are those that count
 pub sound-beside : (list : Medl) (script : Script) (slot node : ℕ) (correct : List ℕ)

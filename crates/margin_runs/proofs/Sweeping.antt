@@ -14,7 +14,7 @@ use Rattle.clock_margins.specs.Sums.{total_of}
 use Rattle.margin_text.specs.Taken.{IsFewOf}
 use Rattle.fault_runs.specs.declared.put.CampaignFault.{CampaignFault}
 use Rattle.fault_runs.specs.Ends.{LeftBy}
-use Rattle.fault_runs.proofs.Endings.{leaves-after, leaves-more}
+use Rattle.margin_runs.proofs.FromBelow.{leaves-after, leaves-more}
 use Rattle.margin_runs.specs.declared.tried.SweepSetting.{SweepSetting}
 use Rattle.margin_runs.specs.Written.{AreSwept, lines_of_sweep, lines_swept, margin_of_sweep}
 

@@ -9,7 +9,7 @@ use Rattle.clock_margins.specs.declared.margin.Sweep.{Sweep}
 use Rattle.clock_margins.specs.MarginText.{tolds_of}
 use Rattle.clock_margins.specs.Outcomes.{ValueTold, told_of_value}
 use Rattle.clock_margins.specs.Sweeps.{values_from}
-use Rattle.margin_laws.proofs.Behind.{values-parts}
+use Rattle.margin_runs.proofs.FromBelow.{values-parts}
 use Rattle.margin_text.specs.declared.told.Told.{Told}
 use Rattle.margin_text.specs.Taken.{value_told}
 use Rattle.margin_runs.specs.declared.tried.SweepSetting.{SweepSetting}

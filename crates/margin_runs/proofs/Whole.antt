@@ -11,7 +11,7 @@ use Rattle.clock_margins.specs.MarginText.{sweep_lines, sweep_margin, all_line, 
 use Rattle.clock_margins.specs.Sweeps.{reach}
 use Rattle.fault_runs.specs.declared.put.CampaignFault.{CampaignFault}
 use Rattle.fault_runs.specs.Ends.{LeftBy, LeftFewerBy}
-use Rattle.fault_runs.proofs.Endings.{fewer-after, fewer-more, more-is_fewer}
+use Rattle.margin_runs.proofs.FromBelow.{fewer-after, fewer-more, more-is_fewer}
 use Rattle.margin_runs.specs.Written.{all_sweeps, lines_in_front}
 
 module _ (list : Medl) (script : Script) (asked : Option Span) (far : ℕ) (is : far ≡ reach list asked) where

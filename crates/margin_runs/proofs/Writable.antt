@@ -19,10 +19,8 @@ use Rattle.clock_margins.specs.Outcomes.{ValueTold, outcome_beside, told_of_valu
 use Rattle.clock_margins.specs.Ranges.{Range, is_told_as, range_alone, range_before, ranges_of}
 use Rattle.clock_margins.specs.Sweeps.{swept_script}
 use Rattle.margin_laws.specs.Behind.{closed_ranges, open_range}
-use Rattle.margin_laws.proofs.Behind.{closed-open}
+use Rattle.margin_runs.proofs.FromBelow.{closed-open, nodes-left, in_order-sieve}
 use Rattle.margin_text.specs.Taken.{IsInOrder, IsWritable}
-use Rattle.run_costs.proofs.LeftNodes.{nodes-left}
-use Rattle.fault_runs.proofs.Orders.{in_order-sieve}
 use Rattle.margin_runs.specs.Written.{AreWritable}
 
 -- An outcome.

@@ -17,7 +17,7 @@ use Rattle.campaign.specs.declared.cost.Span.{Span}
 use Rattle.campaign.specs.Cost.{faulty_by_test, is_firm, firm_members, each_once}
 use Rattle.campaign.specs.Cost.{has_two, is_split, span_after, split_span}
 use Rattle.clock_margins.specs.Outcomes.{is_sound_beside, is_split_beside, was_split_beside, costs_by, is_others}
-use Rattle.run_costs.proofs.Distinct.{two-others}
+use Rattle.run_costs.proofs.ForAbove.{two-others}
 
 abbrev is_other : List ℕ → List ℕ → Bool
 is_other m x = not (bytes_eq m x)

@@ -7,7 +7,7 @@ use Rattle.std.proofs.lemmas.Bool.{false≢true}
 use Rattle.clock_margins.specs.Outcomes.{ValueTold}
 use Rattle.clock_margins.specs.Ranges.{Range, range_alone}
 use Rattle.margin_laws.specs.Behind.{range_behind, closed_ranges, open_range}
-use Rattle.margin_laws.proofs.Behind.{closed-open}
+use Rattle.margin_text.proofs.FromBelow.{closed-open}
 use Rattle.margin_text.specs.declared.range.OpenRange.{OpenRange}
 use Rattle.margin_text.specs.Taken.{range_of, ranges_closed}
 

@@ -1,3 +1,4 @@
+pub mod FromBelow
 pub mod Words
 pub mod Sets
 pub mod Signs

@@ -1,3 +1,4 @@
+pub mod ForAbove
 pub mod Tables
 pub mod Counts
 pub mod Lines

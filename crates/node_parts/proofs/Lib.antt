@@ -1,3 +1,4 @@
+pub mod ForAbove
 pub mod Halves
 pub mod KeptNotes
 pub mod MiddleTwo

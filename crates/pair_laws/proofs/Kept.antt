@@ -18,8 +18,7 @@ use Rattle.campaign.specs.Lines.{summary_with, fault_node}
 use Rattle.campaign.specs.Tried.{with_fault, faults_in, row_of, slots_between}
 use Rattle.ttp_world.specs.ZerosWorld.{zeros_world}
 use Rattle.single_faults.specs.Tried.{MayStand}
-use Rattle.single_faults.proofs.Stand.{faults_in-stand}
-use Rattle.single_faults.proofs.Valid.{with_fault-valid}
+use Rattle.single_faults.proofs.ForAbove.{faults_in-stand, with_fault-valid}
 use Rattle.campaign_laws.proofs.Yes.{IsUnharmed, yes-line}
 use Rattle.fault_pairs.specs.declared.pair.Harm.{Harm}
 use Rattle.fault_pairs.specs.declared.pair.PairClass.TheVariants as class

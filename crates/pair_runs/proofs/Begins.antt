@@ -26,9 +26,8 @@ use Rattle.campaign.specs.Tried.{losses_between, losses_from, losses_of}
 use Rattle.campaign.specs.Tried.{jump_sizes, jumps_of, faults_of, faults_in, with_fault, row_of}
 use Rattle.ttp_world.specs.ZerosWorld.{zeros_world}
 use Rattle.single_faults.specs.Tried.{MayStand}
-use Rattle.single_faults.proofs.Stand.{faults_in-stand}
+use Rattle.pair_runs.proofs.FromBelow.{faults_in-stand, tried-few}
 use Rattle.run_costs.specs.Later.{comes_later}
-use Rattle.fault_runs.proofs.Ranges.{tried-few}
 use Rattle.pair_runs.specs.Tries.{MayBegin}
 use Rattle.pair_runs.specs.Written.{faults_at}
 

@@ -9,7 +9,7 @@ use Rattle.ttp_base.specs.Text.{Lines}
 use Rattle.ttp_base.proofs.Outputs.{Wrote-none, Wrote-join}
 use Rattle.fault_runs.specs.declared.put.CampaignFault.{CampaignFault}
 use Rattle.fault_runs.specs.Ends.{LeftBy}
-use Rattle.fault_runs.proofs.Endings.{leaves-after, leaves-more}
+use Rattle.pair_runs.proofs.FromBelow.{leaves-after, leaves-more}
 use Rattle.fault_pairs.specs.declared.pair.PairCounts.{PairCounts}
 use Rattle.fault_pairs.specs.Classes.{has_line}
 use Rattle.fault_pairs.specs.PairText.{lines_of_told}

@@ -19,8 +19,7 @@ use Rattle.campaign.specs.declared.cost.Leave.{Leave}
 use Rattle.campaign.specs.Cost.{newest_leave}
 use Rattle.campaign.specs.Lines.{summary}
 use Rattle.ttp_world.specs.ZerosWorld.{zeros_world}
-use Rattle.run_costs.proofs.LeftNodes.{nodes-left}
-use Rattle.fault_runs.proofs.Orders.{in_order-sieve}
+use Rattle.pair_runs.proofs.FromBelow.{nodes-left, in_order-sieve}
 use Rattle.fault_pairs.specs.declared.pair.Harm.{Harm}
 use Rattle.fault_pairs.specs.Classes.{left_nodes, harm_of}
 use Rattle.pair_classes.specs.Ordered.{IsOrdered}

@@ -1,6 +1,7 @@
 pub mod Begins
 pub mod Counted
 pub mod Firsts
+pub mod FromBelow
 pub mod Groups
 pub mod Harms
 pub mod Owns

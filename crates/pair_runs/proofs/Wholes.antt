@@ -7,7 +7,7 @@ use Rattle.ttp_world.specs.declared.medl.Medl.{Medl}
 use Rattle.ttp_world.specs.declared.script.Script.{Script}
 use Rattle.fault_runs.specs.declared.put.CampaignFault.{CampaignFault}
 use Rattle.fault_runs.specs.Ends.{WroteFewer, LeftBy, LeftFewerBy}
-use Rattle.fault_runs.proofs.Endings.{fewer-none, fewer-after, leaves-more, more-is_fewer}
+use Rattle.pair_runs.proofs.FromBelow.{fewer-none, fewer-after, leaves-more, more-is_fewer}
 use Rattle.campaign.specs.Lines.{summary}
 use Rattle.fault_pairs.specs.Classes.{harm_of}
 use Rattle.fault_pairs.specs.PairText.{pair_tolds, first_fault_lines, pair_counts_line, sum_lines, pairs_lines}

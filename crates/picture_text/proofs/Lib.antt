@@ -1,3 +1,4 @@
+pub mod ForAbove
 pub mod PlainTexts
 pub mod Ending
 pub mod Whole

@@ -8,8 +8,7 @@ use Rattle.std.proofs.lemmas.List.Elements.{All-weaker}
 use Rattle.ttp_world.specs.Clock.{sorted, middle_half, fta}
 use Rattle.ttp_world.specs.Script.{sum_ℤ}
 use Rattle.ttp_world.proofs.Averages.{Between, fta-between}
-use Rattle.node_parts.proofs.Rounding.{half_about}
-use Rattle.node_parts.proofs.Sorted.{AreBelow, AreBelow-sorted, length-sorted}
+use Rattle.node_parts.proofs.ForAbove.{half_about, AreBelow, AreBelow-sorted, length-sorted}
 
 -- a number lies no further from 0 than w
 abbrev pub IsUpTo : ℤ → ℤ → Type 0

@@ -16,8 +16,7 @@ use Rattle.ttp_world.specs.Returning.{FaultySlot, faulty_since, is_arm, disturba
 use Rattle.ttp_world.specs.Safety.{newest_slot}
 use Rattle.ttp_world.specs.World.{step}
 use Rattle.controller.specs.Agreement.{begins_at}
-use Rattle.controller.proofs.LaterEvents.{agree-more}
-use Rattle.controller.proofs.SameWorlds.{step-same}
+use Rattle.run_costs.proofs.FromBelow.{agree-more, step-same}
 use Rattle.hypothesis.specs.FaultySlots.{kept_slots}
 use Rattle.hypothesis.specs.Standing.{told_start, HaveSameNodes}
 use Rattle.campaign.specs.Cost.{is_hurt_in, is_hurt, hurt_nodes, has_two, memberships, is_split, split_span, span_after}

@@ -8,8 +8,7 @@ use Rattle.ttp_world.specs.Diary.{History}
 use Rattle.ttp_world.specs.Past.{state_of}
 use Rattle.ttp_world.specs.World.{node_past}
 use Rattle.controller.specs.Agreement.{begins_at}
-use Rattle.controller.proofs.LaterEvents.{agree-more}
-use Rattle.controller.proofs.SameWorlds.{node_past-same}
+use Rattle.run_costs.proofs.FromBelow.{agree-more, node_past-same}
 use Rattle.campaign.specs.Tried.{with_fault}
 use Rattle.ttp_world.specs.ZerosWorld.{zeros_world}
 use Rattle.run_costs.specs.States.{AreShown}

@@ -27,7 +27,7 @@ use Rattle.ttp_world.specs.Returning.{stayed_in, slots_before, faulty_at}
 use Rattle.ttp_world.specs.Returning.{started_since, is_arm, has_arm, disturbed_slot, disturbance_broken}
 use Rattle.ttp_world.specs.Script.{is_on, is_ever_on, incidents_of, has_jump}
 use Rattle.controller.specs.Agreement.{AgreeBelow, begins_at}
-use Rattle.controller.proofs.LaterEvents.{agree-more}
+use Rattle.run_costs.proofs.FromBelow.{agree-more}
 use Rattle.hypothesis.specs.Walks.{joined_in}
 use Rattle.campaign.specs.Cost.{faulty_if, faulty_by_test}
 use Rattle.campaign.specs.Tried.{with_fault}

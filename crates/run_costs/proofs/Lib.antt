@@ -1,3 +1,5 @@
+pub mod ForAbove
+pub mod FromBelow
 pub mod Distinct
 pub mod Later
 pub mod LeftNodes

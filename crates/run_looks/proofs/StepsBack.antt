@@ -3,7 +3,7 @@ use Rattle.std.proofs.Common.{◌≡◌, ℕ, ◌-◌, ◌<◌, Bool, true, fals
 use Rattle.causes.specs.RunSlots.{RunSlot, RunSlots, back_to, entry_in_slot, is_judged_so, judged_since_own, judged_so}
 use Rattle.causes.specs.RunSlots.{node_spot, since_own, spots_at_node}
 use Rattle.run_looks.specs.Back.{judged_in}
-use Rattle.run_rows.proofs.Slots.{slot_in-number, past_slots_in-down, past_slots_in-zero}
+use Rattle.run_looks.proofs.FromBelow.{slot_in-number, past_slots_in-down, past_slots_in-zero}
 use Rattle.run_rows.specs.Rows.{slot_in, past_slots_in}
 use Rattle.ttp_world.specs.Acknowledgement.{is_sent_or_joined}
 use Rattle.ttp_world.specs.declared.medl.Medl.{Medl}

@@ -7,7 +7,7 @@ use Rattle.std.proofs.lemmas.List.{get_or-set_same, get_or_default}
 use Rattle.std.specs.Prelude.{slice_set}
 use Rattle.ttp_world.specs.ZerosWorld.{zeros_world}
 use Rattle.controller.specs.Limits.{most_clock}
-use Rattle.run_costs.proofs.Rows.{next_row}
+use Rattle.run_rows.proofs.FromBelow.{next_row}
 use Rattle.run_costs.specs.States.{AreShown, off_state}
 use Rattle.run_rows.proofs.OneMore.{shown-entry}
 use Rattle.run_rows.specs.Begun.{AreBegun, begun_shown, nothing_begun}

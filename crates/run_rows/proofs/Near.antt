@@ -5,8 +5,7 @@ use Rattle.std.proofs.lemmas.Int.{fits_signed_from_abs, ints, to_z-of_z}
 use Rattle.std.proofs.lemmas.Option.{slice_get_cases}
 use Rattle.std.specs.Prelude.{slice_get}
 use Rattle.ttp_world.specs.ZerosWorld.{zeros_world}
-use Rattle.controller.proofs.Near.{ended-clock}
-use Rattle.controller.proofs.Parts.{each-of}
+use Rattle.run_rows.proofs.FromBelow.{ended-clock, each-of}
 use Rattle.controller.specs.Limits.{most_clock}
 use Rattle.controller.specs.PlantStands.{PlantStandsFor}
 use Rattle.controller.specs.PlantView.{PlantView}

@@ -3,7 +3,7 @@ use Rattle.std.proofs.Common.{◌≡◌, ℕ, zero, suc, ◌+◌, ◌<◌, Bool,
 use Rattle.std.proofs.Common.{ℤ, Option, Some, None, is_some, refl, ap, sym, ◌∙◌, add-one, arith, subst}
 use Rattle.std.specs.Option.{option_to_list}
 use Rattle.ttp_world.specs.ZerosWorld.{all_zeros, zeros_world}
-use Rattle.run_costs.proofs.Rows.{next_row, zeros-next}
+use Rattle.run_rows.proofs.FromBelow.{next_row, zeros-next}
 use Rattle.run_costs.specs.States.{AreShown, state_at}
 use Rattle.run_rows.specs.Kept.{kept_next, kept_of, kept_with, notes_counted}
 use Rattle.run_rows.specs.declared.row.Kept.{Kept}

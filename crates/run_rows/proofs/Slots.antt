@@ -6,7 +6,7 @@ use Rattle.std.proofs.Math.Nat.{eq-or-lt_of_le}
 use Rattle.controller.specs.Limits.{most_clock}
 use Rattle.ttp_world.specs.ZerosWorld.{zeros_world}
 use Rattle.ttp_world.proofs.ZerosWorlds.{length-zeros_world}
-use Rattle.run_costs.proofs.Rows.{next_row}
+use Rattle.run_rows.proofs.FromBelow.{next_row}
 use Rattle.run_rows.specs.Begun.{begun_shown}
 use Rattle.run_rows.specs.Rows.{AreRowsNear, node_row, slot_in, past_slots_in}
 use Rattle.run_rows.specs.declared.row.NodeRow.{NodeRow}

@@ -18,7 +18,7 @@ use Rattle.safety_laws.proofs.Delivered.{is_judgement, delivers-unjudged, messag
 use Rattle.safety_laws.proofs.Delivered.{given-good}
 use Rattle.safety_laws.proofs.WorldSteps.{in-row, stayed-before, own-sent, notes-other, started-by_plan}
 use Rattle.safety_laws.proofs.Together.{KeepsClocks, turn-next, run-by_plan}
-use Rattle.precision.proofs.Frames.{told_goes as tells-on}
+use Rattle.safety_laws.proofs.FromBelow.{told_goes as tells-on}
 use Rattle.safety_laws.proofs.RoundNotes.{goes-silent as nothing-on}
 
 -- By the plan the frame of node p is accepted in a slot.

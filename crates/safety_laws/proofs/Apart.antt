@@ -9,8 +9,7 @@ use Rattle.safety_laws.proofs.Words.{AreNear, drift_in, correction, product_up}
 use Rattle.std.proofs.lemmas.List.Elements.{All-weaker}
 use Rattle.ttp_world.specs.Clock.{fta}
 use Rattle.ttp_world.proofs.Averages.{fta-between}
-use Rattle.precision.proofs.Averages.{fta-near}
-use Rattle.precision.proofs.Rounds.{product_more, product_upto, wider_of as wider-still}
+use Rattle.safety_laws.proofs.FromBelow.{fta-near, product_more, product_upto, wider_of as wider-still}
 use Rattle.ttp_world.proofs.SmallTests.{plus_none}
 
 -- how far a frame that is noted in a round can lie from another clock after slot m, by the clock and the note together

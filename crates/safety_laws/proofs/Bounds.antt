@@ -10,13 +10,12 @@ use Rattle.precision.specs.Spread.{spread_rejoining, needed_rejoining}
 use Rattle.precision.specs.Company.{IsCompanyRun, IsCompanySettled, slots_over, HoldsCompanyClocksWithin}
 use Rattle.precision.specs.Company.{HoldsSettledClocksWithin, HoldsCompanyDeviationsWithin}
 use Rattle.precision.specs.Company.{HoldsSettledDeviationsWithin}
-use Rattle.precision.proofs.Limits.{needed_window}
-use Rattle.precision.proofs.Runs.{company_clocks, settled_clocks, company_deviations, settled_deviations}
+use Rattle.safety_laws.proofs.FromBelow.{needed_window, company_clocks, settled_clocks, company_deviations}
+use Rattle.safety_laws.proofs.FromBelow.{settled_deviations, le_trans as no-more}
 use Rattle.safety_laws.proofs.Returns.{enters-late}
 use Rattle.safety_laws.proofs.Company.{sound-calm, ran-company, company-in}
 use Rattle.safety_laws.proofs.RoundNotes.{tight-stays, place-slot}
 use Rattle.safety_laws.proofs.BeganTogether.{number-of, counted-run}
-use Rattle.node_parts.proofs.Sorted.{le_trans as no-more}
 
 -- a node that is sound before the coming slot and after it
 abbrev stays_sound : FaultPlan → ℕ → ℕ → Bool

@@ -13,7 +13,7 @@ use Rattle.ttp_world.specs.Clock.{notes_of}
 use Rattle.ttp_world.specs.Diary.{ends_round}
 use Rattle.precision.specs.Together.{NotedAlike, Nothing, OneFrame, EndsLaterRound}
 use Rattle.precision.specs.Company.{AreCalm, IsCalmIn, IsNotedOf, StayedInCompany, GrewTogether, RanAsCompany}
-use Rattle.precision.proofs.Entries.{place_of-active, notes_of-active}
+use Rattle.safety_laws.proofs.FromBelow.{place_of-active, notes_of-active}
 use Rattle.safety_laws.proofs.FateTells.{armed-fallen}
 use Rattle.safety_laws.proofs.Persists.{lost-unsound}
 use Rattle.safety_laws.proofs.Returns.{any-of, of-any, armed-by}

@@ -27,7 +27,7 @@ use Rattle.safety_laws.proofs.Receivers.{sound-judge, judges-good}
 use Rattle.safety_laws.proofs.PlanTurns.{slot_of, slot_number, good_plan, IsSoundOwner, MaySend, sound-sends}
 use Rattle.safety_laws.proofs.WorldSteps.{stayed-before, own-sent, notes-other, sender-before}
 use Rattle.ttp_world.specs.Fitting.{payload_in}
-use Rattle.ttp_frame.proofs.Undisturbed.{payload_in-frame}
+use Rattle.safety_laws.proofs.FromBelow.{payload_in-frame}
 use Rattle.safety_laws.specs.SameFrames.{payload_of_number}
 use Rattle.safety_laws.proofs.OwnSlots.{act_made-sends, sent-own}
 use Rattle.safety_laws.proofs.Payloads.{HasPayload-world}

@@ -17,8 +17,7 @@ use Rattle.ttp_world.specs.Fitting.{header_in, carried, is_joinable_state, is_co
 use Rattle.ttp_world.specs.Fitting.{joinable_cstate, joinable}
 use Rattle.ttp_world.proofs.Filters.{each-sieve}
 use Rattle.ttp_world.proofs.Lists.{IsPlaceOf}
-use Rattle.ttp_frame.proofs.FlippedFrames.{joinable-implicit}
-use Rattle.ttp_frame.proofs.Undisturbed.{FitsBytes, carried-frame}
+use Rattle.safety_laws.proofs.FromBelow.{joinable-implicit, FitsBytes, carried-frame}
 use Rattle.safety_laws.proofs.GroupSets.{AreNodes-with}
 use Rattle.safety_laws.proofs.Views.{is_expected_form-own}
 

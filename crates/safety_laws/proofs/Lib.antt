@@ -25,7 +25,9 @@ pub mod EventLines
 pub mod FateSteps
 pub mod FateTells
 pub mod FaultySets
+pub mod ForAbove
 pub mod FourNodes
+pub mod FromBelow
 pub mod GroupSets
 pub mod Groups
 pub mod Hearing

@@ -12,9 +12,7 @@ use Rattle.safety_laws.proofs.Words.{is_good_slot, FollowsPlan, planned_place, I
 use Rattle.safety_laws.proofs.Words.{IsTight}
 use Rattle.std.proofs.lemmas.List.Elements.{All-cons}
 use Rattle.ttp_world.specs.declared.node.Entry.TheVariants as entry
-use Rattle.precision.proofs.Entries.{offset_corrected}
-use Rattle.precision.proofs.Frames.{joins_nothing}
-use Rattle.precision.proofs.Rounds.{product_once as once}
+use Rattle.safety_laws.proofs.FromBelow.{offset_corrected, joins_nothing, product_once as once}
 use Rattle.safety_laws.proofs.Apart.{noted_width}
 use Rattle.safety_laws.proofs.Bounds.{tight-clocks, tight-deviations}
 use Rattle.safety_laws.proofs.RoundNotes.{none-silent, sender-in, place-slot, index-next, tight-stays}

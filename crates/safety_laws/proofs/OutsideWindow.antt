@@ -16,7 +16,7 @@ use Rattle.ttp_world.specs.Act.{active_act, coming_place}
 use Rattle.ttp_world.specs.Hypothesis.{is_far_jump}
 use Rattle.ttp_world.specs.Script.{has_jump}
 use Rattle.ttp_world.specs.World.{jump_taken}
-use Rattle.precision.proofs.Rounds.{product_four}
+use Rattle.safety_laws.proofs.FromBelow.{product_four}
 use Rattle.safety_laws.proofs.Apart.{jump_width, apart-upto}
 use Rattle.safety_laws.proofs.JumpedClock.{JumpsAfter, jumped_in, stays-apart, IsJumpTold, jump-told, jumped-back}
 use Rattle.safety_laws.proofs.JumpedClock.{sound-till, jump-tight}

@@ -9,7 +9,7 @@ use Rattle.safety_laws.proofs.Words.{tally, FollowsPlan, planned_place, sound-fr
 use Rattle.safety_laws.proofs.Words.{NotesNothing, NotedInSlot, IsTight}
 use Rattle.std.proofs.lemmas.List.{length-append}
 use Rattle.ttp_world.specs.declared.node.Entry.TheVariants as entry
-use Rattle.precision.proofs.Frames.{begun_place, told_goes as goes-telling}
+use Rattle.safety_laws.proofs.FromBelow.{begun_place, told_goes as goes-telling}
 
 -- One entry.
 

@@ -14,7 +14,7 @@ use Rattle.ttp_world.specs.declared.medl.Kind.TheVariants as kind
 use Rattle.ttp_world.specs.declared.node.ChannelView.TheVariants as view
 use Rattle.ttp_world.specs.Fitting.{fits, is_formed}
 use Rattle.ttp_world.specs.Reception.{view_of_frame}
-use Rattle.ttp_frame.proofs.Undisturbed.{is_formed-other, fits-same_place}
+use Rattle.safety_laws.proofs.FromBelow.{is_formed-other, fits-same_place}
 use Rattle.ttp_world.proofs.SmallTests.{near_of_test as within-bounds}
 
 -- C-states of one place are the same exactly where their members are

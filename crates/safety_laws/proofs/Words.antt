@@ -21,13 +21,10 @@ pub use Rattle.safety_laws.specs.Places.{planned_place}
 pub use Rattle.safety_laws.specs.Plan.{Change, Incident, Jumping, FaultPlan, Receiving, Return, Sending, enters}
 pub use Rattle.safety_laws.specs.Plan.{incident_at, is_armed_by, fault_plan_of, sender}
 pub use Rattle.safety_laws.specs.Told.{IsFalling, IsLossOf, IsTold}
-pub use Rattle.precision.proofs.Averages.{AreNear, IsUpTo}
-pub use Rattle.precision.proofs.ClockBounds.{drift_within, error_within}
-pub use Rattle.precision.proofs.Entries.{clock_at-still, continued_active, first_slot_first, later_slot_later}
-pub use Rattle.precision.proofs.Entries.{notes_anew, notes_more, place_continued}
-pub use Rattle.precision.proofs.Frames.{frame_of, frame_of-node}
-pub use Rattle.precision.proofs.Rounds.{correction, drift_in, product_up}
-pub use Rattle.precision.proofs.Runs.{clock_after, round_notes}
+pub use Rattle.safety_laws.proofs.FromBelow.{AreNear, IsUpTo, drift_within, error_within, clock_at-still}
+pub use Rattle.safety_laws.proofs.FromBelow.{continued_active, first_slot_first, later_slot_later, notes_anew}
+pub use Rattle.safety_laws.proofs.FromBelow.{notes_more, place_continued, frame_of, frame_of-node, correction, drift_in}
+pub use Rattle.safety_laws.proofs.FromBelow.{product_up, clock_after, round_notes, HavePlaces-AreNodes, is_formed-frame}
 pub use Rattle.precision.specs.Spread.{spread}
 pub use Rattle.precision.specs.Together.{BeganTogether, BeginsOn, IsIn, TellsOf, clock_at, measured}
 pub use Rattle.safety_laws.specs.ByFate.{IsByFate, IsCounted, IsFallenAt, IsFallingAt, IsListeningAt, IsSoundAt, doubts}
@@ -79,7 +76,6 @@ pub use Rattle.ttp_base.proofs.Below.{below-lt}
 pub use Rattle.ttp_base.proofs.NodeLists.{with_node-nil}
 pub use Rattle.ttp_base.specs.NodeSet.{below, has_node, most_nodes, without_node}
 unfoldable pub use Rattle.ttp_base.specs.NodeSet.{members_in, with_node}
-pub use Rattle.ttp_frame.proofs.Undisturbed.{HavePlaces-AreNodes, is_formed-frame}
 pub use Rattle.ttp_world.proofs.Filters.{each-filter}
 pub use Rattle.ttp_world.proofs.LegalShapes.{legal-older, legal-shapes}
 pub use Rattle.ttp_world.proofs.Lists.{nodes-most}

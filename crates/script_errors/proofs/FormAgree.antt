@@ -14,7 +14,7 @@ use Rattle.script_text.specs.Faults.{further_faults, stated_faults}
 use Rattle.script_text.specs.Faults.{form_faults, keyword_statements}
 use Rattle.script_text.specs.declared.error.LineFault.{LineFault}
 use Rattle.script_text.specs.declared.error.LineFault.TheVariants as faults
-use Rattle.script_text.proofs.Kept.{form_faults-word, form_faults-no_slots, form_faults-stated}
+use Rattle.script_errors.proofs.FromBelow.{form_faults-word, form_faults-no_slots, form_faults-stated}
 use Rattle.script_errors.specs.declared.error.Form.{Form}
 use Rattle.script_errors.specs.declared.error.Form.TheVariants as form
 use Rattle.script_errors.specs.declared.error.ScriptError.{ScriptError}

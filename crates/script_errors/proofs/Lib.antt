@@ -1,3 +1,4 @@
+pub mod FromBelow
 pub mod Comments
 pub mod SpotWords
 pub mod Stages

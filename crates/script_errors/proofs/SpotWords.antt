@@ -8,7 +8,7 @@ use Rattle.std.proofs.lemmas.List.Folds.{list_all_more}
 use Rattle.std.proofs.lemmas.List.Splits.{slice_split-cons_yes}
 use Rattle.std.proofs.Math.ListN.{drop_of_length-le}
 use Rattle.script_text.specs.Lines.{is_blank, is_part, has_bytes, words_of_line}
-use Rattle.script_text.proofs.Cuts.{words_of-empty, words_of-front, words_of-whole}
+use Rattle.script_errors.proofs.FromBelow.{words_of-empty, words_of-front, words_of-whole}
 use Rattle.script_errors.specs.Spots.{spot_text, spot_texts, spots_from, spots_of}
 
 -- a blank says nothing

@@ -8,7 +8,7 @@ use Rattle.ttp_base.specs.Faults.{first_fault}
 use Rattle.ttp_world.specs.declared.medl.Medl.{Medl}
 use Rattle.script_text.specs.Lines.{lines_of_file, words_of_line, is_blank, is_line_feed}
 use Rattle.script_text.specs.Lines.{without_return, without_empty_end}
-use Rattle.script_text.proofs.Cuts.{lines_of-cut, lines_of-rest}
+use Rattle.script_errors.proofs.FromBelow.{lines_of-cut, lines_of-rest}
 use Rattle.script_text.specs.Faults.{line_faults}
 use Rattle.script_text.specs.ScriptFile.{script_faults, stated_script, statements_of, script_of, lines_script}
 use Rattle.script_text.specs.declared.error.LineFault.TheVariants as faults

@@ -6,7 +6,7 @@ use Rattle.ttp_world.specs.declared.script.Event.TheVariants as event
 use Rattle.ttp_world.specs.Script.{write_in, payload_of_host}
 use Rattle.script_text.specs.Faults.{is_write_at}
 use Rattle.script_text.specs.Statement.{says_event}
-use Rattle.script_text.proofs.Kept.{count_one}
+use Rattle.script_laws.proofs.FromBelow.{count_one}
 
 -- an event is a write of node k in slot t
 abbrev pub writes_at : ℕ → ℕ → Event → Bool

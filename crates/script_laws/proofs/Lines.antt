@@ -7,7 +7,7 @@ use Rattle.std.proofs.lemmas.Bool.Decides.{nat_tests}
 use Rattle.ttp_base.proofs.Numerals.{has}
 use Rattle.ttp_world.proofs.SmallTests.{or_parts}
 use Rattle.script_text.specs.Lines.{is_line_feed, without_return, lines_of_file}
-use Rattle.script_text.proofs.Cuts.{lines_of-cut}
+use Rattle.script_laws.proofs.FromBelow.{lines_of-cut}
 use Rattle.script_laws.proofs.Words.{take-front, drop-front}
 
 feed_at : (text rest : List ℕ) → has 10 text ≡ false → position_or_len is_line_feed (text ++ 10 ∷ rest) ≡ length text

@@ -15,7 +15,7 @@ use Rattle.ttp_world.specs.Script.{IsWithinSpan, on_slot, drift_of}
 use Rattle.script_lines.specs.ScriptLines.{on_line, on_lines, drift_line, drift_lines}
 use Rattle.script_text.specs.Faults.{slots_of, on_of, drift_stated, events_of, is_write_at}
 use Rattle.script_text.specs.Statement.{Statement, says_slots, says_on, says_drift}
-use Rattle.script_text.proofs.Kept.{count_none}
+use Rattle.script_laws.proofs.FromBelow.{count_none}
 use Rattle.script_laws.proofs.Events.{Stands}
 use Rattle.script_laws.proofs.Heads.{on_read, drift_read}
 use Rattle.script_laws.proofs.Reading.{Reads, reads_none, reads_more, reads_then}

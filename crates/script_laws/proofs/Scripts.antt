@@ -21,15 +21,13 @@ use Rattle.ttp_world.specs.Medl.{IsValid}
 use Rattle.ttp_world.specs.Script.{IsValidEvent, IsWithinSpan, on_slot, drift_of}
 use Rattle.script_gen.specs.Generator.{both_channels, drift_by, all_events, generated}
 use Rattle.ttp_world.proofs.Lists.{nodes-most}
-use Rattle.script_gen.proofs.Valid.{all-valid}
+use Rattle.script_laws.proofs.FromBelow.{all-valid, lines_of-empty, count_one}
 use Rattle.script_lines.specs.ScriptLines.{event_words, event_line, slots_line, script_lines}
 use Rattle.script_lines.specs.ScriptLines.{all_on_lines, all_drift_lines}
 use Rattle.script_text.specs.Faults.{slots_of, stated_slots, on_of, drift_stated, events_of, is_write_at}
 use Rattle.script_text.specs.Lines.{lines_of_file}
 use Rattle.script_text.specs.ScriptFile.{script_of, lines_script, script_faults, statements_of, stated_script}
 use Rattle.script_text.specs.Statement.{Statement, says_slots, says_event}
-use Rattle.script_text.proofs.Cuts.{lines_of-empty}
-use Rattle.script_text.proofs.Kept.{count_one}
 use Rattle.script_laws.proofs.Counts.{writes_at, messages-counted}
 use Rattle.script_laws.proofs.Events.{Stands, error_read, send_read, receive_read, write_read, status_read, node_read}
 use Rattle.script_laws.proofs.Heads.{slots_read}

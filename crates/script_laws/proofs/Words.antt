@@ -6,7 +6,7 @@ use Rattle.std.proofs.lemmas.List.{take_all}
 use Rattle.ttp_base.proofs.Numerals.{has, has-append}
 use Rattle.ttp_world.proofs.SmallTests.{or_parts}
 use Rattle.script_text.specs.Lines.{is_blank, is_part, words_of_line}
-use Rattle.script_text.proofs.Cuts.{words_of-front, words_of-whole, words_of-empty}
+use Rattle.script_laws.proofs.FromBelow.{words_of-front, words_of-whole, words_of-empty}
 
 -- What stands before another text.
 

@@ -1,3 +1,4 @@
+pub mod ForAbove
 pub mod Cuts
 pub mod Digits
 pub mod Spelling

@@ -1,3 +1,4 @@
+pub mod ForAbove
 pub mod HostEvents
 pub mod HostLineLength
 pub mod MessageSizes

@@ -14,13 +14,12 @@ use Rattle.ttp_world.specs.Script.{IsValidScript}
 use Rattle.ttp_world.specs.World.{Numbers, world}
 use Rattle.ttp_world.proofs.LegalRuns.{legal-whole, legal-none}
 use Rattle.ttp_world.proofs.Worlds.{length-world}
-use Rattle.safety_laws.proofs.Kept.{kept-safe, kept-clocks, kept-deviations, kept-alike, kept-stands_alike}
-use Rattle.safety_laws.proofs.Returned.{returned-safe}
+use Rattle.safety_laws.proofs.ForAbove.{kept-safe, kept-clocks, kept-deviations, kept-alike, kept-stands_alike}
+use Rattle.safety_laws.proofs.ForAbove.{returned-safe}
+use Rattle.two_faced.proofs.ForAbove.{runs-active, runs-judged, runs-members, runs-clocks, rules-hold}
 use Rattle.mode_change.proofs.Alike.{one-mode}
 use Rattle.two_faced.specs.declared.faced.Faced.TheVariants as faced
 use Rattle.two_faced.specs.Faced.{faced_of}
-use Rattle.two_faced.proofs.Judged.{runs-active, runs-judged, runs-members, runs-clocks}
-use Rattle.two_faced.proofs.Rules.{rules-hold}
 use Rattle.theorems.specs.FacedRun.{AreTogether, IsFacedRun}
 use Rattle.theorems.specs.KeptRun.{AreClocksNear, HaveJudgedAlike, RunOneMode, IsKeptRun, IsBackRun}
 use Rattle.theorems.specs.SomeRun.{SomeRun}

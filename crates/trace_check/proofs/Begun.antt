@@ -4,7 +4,7 @@ use Rattle.trace_check.proofs.Words.{arith, append_assoc, map, concat, concat-ap
 use Rattle.trace_check.proofs.Words.{Lines, after_label, BeginsWith, Departs}
 use Rattle.std.proofs.lemmas.List.{append-nil}
 use Rattle.trace_check.proofs.Labels.{no_line}
-use Rattle.line_text.proofs.LabelTexts.{label-takes as behind-line}
+use Rattle.trace_check.proofs.FromBelow.{label-takes as behind-line}
 
 pub begins-more : (text rest line more : List ℕ) (lines : Lines) → BeginsWith text lines rest → rest ≡ line ++ more
     → BeginsWith text (lines ++ line ∷ []) more

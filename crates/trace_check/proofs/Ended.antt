@@ -7,7 +7,7 @@ use Rattle.trace_check.proofs.Words.{delivered_of-row_in, in_messages-some, IsOu
 use Rattle.trace_check.proofs.Words.{PlantView, Incoming, HasEnded, IsPast, row_after}
 use Rattle.std.proofs.lemmas.List.{append-nil}
 use Rattle.line_text.specs.LineParts.{HasDigits}
-use Rattle.line_text.proofs.MemberDigits.{state_of-digits}
+use Rattle.trace_check.proofs.FromBelow.{state_of-digits}
 
 -- all histories that a plant stands for have as many slots
 pub ended-slot : (plant : PlantView) (incoming other : Incoming) (list : Medl) (slot : ℕ) (script : Script)

@@ -4,7 +4,7 @@ use Rattle.trace_check.proofs.Words.{Script, IsLegal, trace_head, Numbers, legal
 use Rattle.trace_check.proofs.Words.{BeginsWith, FollowerStandsFor, StandsAt, GoesOnTo}
 use Rattle.std.proofs.Common.{append-nil}
 use Rattle.trace_check.proofs.Wholes.{lines_so_far, goes_on-begins}
-use Rattle.line_text.proofs.LabelTexts.{label-takes as behind-line}
+use Rattle.trace_check.proofs.FromBelow.{label-takes as behind-line}
 
 pub record HasFollowed (f : Follower) (list : Medl) (script : Script) (slot : ℕ) (text rest : List ℕ) : Type 0 where
   pub numbers : Numbers

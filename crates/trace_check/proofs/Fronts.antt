@@ -13,7 +13,7 @@ use Rattle.ttp_world.specs.declared.script.Script.{Script}
 use Rattle.ttp_world.specs.Legal.{IsLegalRun}
 use Rattle.ttp_world.specs.Trace.{trace_lines}
 use Rattle.ttp_world.specs.World.{Numbers}
-use Rattle.line_text.proofs.Cuts.{concat-lines_of}
+use Rattle.trace_check.proofs.FromBelow.{concat-lines_of}
 use Rattle.trace_check.specs.Answer.{is_trace, BeginsAsTrace, IsFirstWrong}
 use Rattle.trace_check.proofs.Outcomes.{begins-right}
 use Rattle.trace_check.proofs.OwnNumbers.{is_trace-numbers}

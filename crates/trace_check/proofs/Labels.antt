@@ -3,7 +3,7 @@ use Rattle.trace_check.proofs.Words.{◌≡◌, List, ◌++◌, ℕ, None, subst
 use Rattle.std.proofs.Common.{Result, Ok, Err}
 use Rattle.std.specs.Prelude.{IfErr}
 use Rattle.std.specs.Result.{IsErrAnd}
-use Rattle.line_text.proofs.LabelTexts.{label-again}
+use Rattle.trace_check.proofs.FromBelow.{label-again}
 
 pub passed_up : {T E : Type 0} (r : Result T E) (e : E) (P : E → Type 0) → IsErrAnd r (λ y. y ≡ e) → P e → IfErr r P
 passed_up (Ok x) e P is p = absurd is

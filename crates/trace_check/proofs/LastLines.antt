@@ -9,7 +9,7 @@ use Rattle.ttp_world.specs.Hypothesis.{keeps}
 use Rattle.ttp_world.specs.Returning.{returns}
 use Rattle.ttp_world.specs.Trace.{keep_line, back_line, back_lines}
 use Rattle.trace_check.proofs.Labels.{no_line}
-use Rattle.line_text.proofs.LabelTexts.{label-takes as behind-line}
+use Rattle.trace_check.proofs.FromBelow.{label-takes as behind-line}
 
 module _ (list : Medl) (script : Script) (keep : Keep) (kept : keep ≡ keeps list script) where
   -- no line of the hypothesis test

@@ -1,3 +1,5 @@
+pub mod ForAbove
+pub mod FromBelow
 pub mod Counts
 pub mod Differences
 pub mod OwnNumbers

@@ -7,7 +7,7 @@ use Rattle.ttp_world.specs.declared.node.Entry.TheVariants as entry
 use Rattle.ttp_world.specs.Past.{NodePast}
 use Rattle.ttp_world.specs.Trace.{node_line}
 use Rattle.frame_fates.specs.Alike.{unnumbered, unnumbered_past, sender_delivered}
-use Rattle.frame_fates.proofs.RunsAlike.{runs-pasts, runs-deliveries, runs-received}
+use Rattle.trace_check.proofs.FromBelow.{runs-pasts, runs-deliveries, runs-received}
 
 -- Entries with one number are one, if they are alike.
 

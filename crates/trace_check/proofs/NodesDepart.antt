@@ -14,7 +14,7 @@ use Rattle.std.proofs.lemmas.List.{append-nil}
 use Rattle.ttp_world.specs.declared.node.Entry.TheVariants as entry
 use Rattle.ttp_world.specs.Trace.{number_or_dash}
 use Rattle.ttp_world.proofs.LineWords.{node_line-words}
-use Rattle.line_text.proofs.WrittenNumbers.{numeral-again}
+use Rattle.trace_check.proofs.FromBelow.{numeral-again}
 use Rattle.trace_check.specs.Outgoing.{number_by_line}
 use Rattle.ttp_world.proofs.LineLists.{each-append as both_parts}
 

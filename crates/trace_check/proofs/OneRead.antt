@@ -12,7 +12,7 @@ use Rattle.ttp_world.specs.declared.script.Source.TheVariants as source
 use Rattle.ttp_world.specs.Legal.{is_same_ring, is_same_source}
 use Rattle.trace_check.proofs.Labels.{no_line}
 use Rattle.trace_check.proofs.Rings.{after-few, new_read-none, new_read-some}
-use Rattle.line_text.proofs.LabelTexts.{label-takes as behind-line}
+use Rattle.trace_check.proofs.FromBelow.{label-takes as behind-line}
 use Rattle.ttp_world.proofs.LegalReads.{same_read, not_older_if}
 
 -- Where floors are.

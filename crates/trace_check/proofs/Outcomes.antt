@@ -11,7 +11,7 @@ use Rattle.std.proofs.Math.Seq.{take-length}
 use Rattle.trace_check.specs.Answer.{BeginsAsTrace}
 use Rattle.trace_check.proofs.Counts.{lines_in_all, length-trace_lines}
 use Rattle.trace_check.proofs.OwnNumbers.{IsTrace}
-use Rattle.line_text.proofs.Cuts.{concat-lines_of}
+use Rattle.trace_check.proofs.FromBelow.{concat-lines_of}
 
 -- Beginnings.
 

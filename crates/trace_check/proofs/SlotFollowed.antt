@@ -22,9 +22,8 @@ use Rattle.ttp_world.specs.Legal.{all_reads}
 use Rattle.ttp_world.specs.World.{messages_chosen}
 use Rattle.ttp_world.proofs.Carried.{row_in-same}
 use Rattle.ttp_world.proofs.LegalShapes.{legal-message, legal-reads, reads-never_fall}
-use Rattle.frame_fates.proofs.NamedRuns.{legal-names, named-run}
+use Rattle.trace_check.proofs.FromBelow.{legal-names, named-run, chosen-step}
 use Rattle.controller.specs.PlantStands.{MayStep, PlantStandsFor, Steps}
-use Rattle.controller.proofs.Payloads.{chosen-step}
 use Rattle.trace_check.specs.Outgoing.{number_by_line}
 use Rattle.trace_check.proofs.Counts.{length-read_messages}
 use Rattle.trace_check.proofs.NodesAlike.{node_line-same}

@@ -3,7 +3,7 @@ pub use Rattle.controller.specs.Passes.{AreChosen, IsOutcomeOf}
 pub use Rattle.controller.specs.PlantStands.{ShowsNode, outcome_at}
 pub use Rattle.controller.specs.PlantView.{PlantView}
 pub use Rattle.frame_fates.specs.Runs.{AreRuns}
-pub use Rattle.line_text.proofs.Cuts.{AreLines, AreLines-take, lines_of-behind}
+pub use Rattle.trace_check.proofs.FromBelow.{AreLines, AreLines-take, lines_of-behind}
 pub use Rattle.line_text.specs.Labels.{after_label}
 pub use Rattle.line_text.specs.Numerals.{message_digits}
 unfoldable pub use Rattle.line_text.specs.Numerals.{numeral_in}

@@ -1,3 +1,4 @@
+pub mod FromBelow
 pub mod Writes
 pub mod Slots
 pub mod Texts

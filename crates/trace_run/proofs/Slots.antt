@@ -26,15 +26,12 @@ use Rattle.ttp_world.proofs.Worlds.{length-world, row_of_world}
 use Rattle.controller.specs.Passes.{AreChosen, CarriesFrames, IsOutcomeOf}
 use Rattle.controller.specs.PlantStands.{PlantStandsFor, MayStep, IsStep, Steps, outcome_at}
 use Rattle.controller.specs.PlantView.{PlantView}
-use Rattle.controller.proofs.Payloads.{chosen-step}
+use Rattle.trace_run.proofs.FromBelow.{chosen-step, lines_in, length-legal_slot, legal-small, line-names, node-at}
+use Rattle.trace_run.proofs.FromBelow.{taken-named, chosen-of_hosts, chosen-sizes, taken-legal, has-chosen, trace-cut}
+use Rattle.trace_run.proofs.FromBelow.{legal-drop as legal-first}
 use Rattle.trace_check.specs.declared.outgoing.Outgoing.{Outgoing}
 use Rattle.trace_check.specs.Following.{lines_of_slot}
 use Rattle.trace_check.specs.Outgoing.{Chooses, HoldsNewest, number_by_text, number_by_line}
-use Rattle.trace_check.proofs.Counts.{lines_in, length-legal_slot}
-use Rattle.trace_check.proofs.NodesDepart.{legal-small, line-names, node-at, taken-named}
-use Rattle.trace_check.proofs.SlotChosen.{chosen-of_hosts, chosen-sizes, taken-legal}
-use Rattle.trace_check.proofs.SlotFollowed.{has-chosen}
-use Rattle.trace_check.proofs.Wholes.{trace-cut, legal-drop as legal-first}
 use Rattle.trace_run.specs.declared.run.TraceRun.{TraceRun}
 use Rattle.trace_run.specs.Run.{first_numbers, first_lines, HasMade, IsTraceAt, IsMade}
 

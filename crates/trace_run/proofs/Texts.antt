@@ -14,7 +14,7 @@ use Rattle.ttp_world.specs.World.{Numbers}
 use Rattle.ttp_world.proofs.TraceLines.{trace_lines-each}
 use Rattle.ttp_world.proofs.TraceNumbers.{numbers_in-trace}
 use Rattle.trace_check.specs.Answer.{is_trace}
-use Rattle.trace_check.proofs.OwnNumbers.{IsTrace, is_trace-numbers}
+use Rattle.trace_run.proofs.FromBelow.{IsTrace, is_trace-numbers}
 use Rattle.trace_run.specs.declared.run.TraceRun.{TraceRun}
 use Rattle.trace_run.specs.Run.{TraceStandsFor, first_lines, first_numbers, IsTraceAt}
 

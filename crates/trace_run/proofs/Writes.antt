@@ -10,7 +10,7 @@ use Rattle.ttp_world.specs.Script.{HostWrite, writes_in, IsValidScript}
 use Rattle.ttp_world.specs.Trace.{more_write_lines}
 use Rattle.trace_check.specs.declared.outgoing.Outgoing.{Outgoing}
 use Rattle.trace_check.specs.Outgoing.{HasChosen, HoldsNewest}
-use Rattle.trace_check.proofs.Written.{HasWritten, written-none, written-more, written-all, number-small}
+use Rattle.trace_run.proofs.FromBelow.{HasWritten, written-none, written-more, written-all, number-small}
 
 -- these writes were made, and counted
 pub record HasCounted (o : Outgoing) (list : Medl) (script : Script) (slot count : ℕ) (done : List HostWrite)

@@ -2,6 +2,7 @@ pub mod Bits
 pub mod Bursts
 pub mod FlippedFrames
 pub mod Flips
+pub mod ForAbove
 pub mod FrameLaws
 pub mod Frames
 pub mod Numbers

@@ -7,8 +7,7 @@ use Rattle.ttp_top.proofs.Terms.{ttpbench, CutOf, traces, IsTrace, WroteTraceOf,
 use Rattle.ttp_top.proofs.Terms.{TestPromise, OfTrace, HasJudged, CutVerdict, AreAllTold, TextPromise}
 use Rattle.std.proofs.lemmas.Bool.{true≢false}
 use Rattle.ttp_base.specs.Outside.{count_end}
-use Rattle.trace_check.proofs.OwnNumbers.{numbers-is_trace}
-use Rattle.commands.proofs.Sure.{HoldsSurely, none_rose, surely_told, unless_cut}
+use Rattle.ttp_top.proofs.FromBelow.{numbers-is_trace, HoldsSurely, none_rose, surely_told, unless_cut}
 use Rattle.commands.specs.Promise.{Promise}
 
 -- no trace is longer than the file of one may be

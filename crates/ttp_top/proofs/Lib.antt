@@ -1,3 +1,5 @@
+pub mod ForAbove
+pub mod FromBelow
 pub mod Calls
 pub mod Scripts
 pub mod Samples

@@ -2,13 +2,10 @@
 pub use Rattle.cluster_run.specs.NextSlots.{next_row}
 pub use Rattle.cluster_run.specs.Runs.{HasDoneSlot}
 pub use Rattle.cluster_run.specs.Standing.{ClusterStandsFor, ClusterView}
-pub use Rattle.commands.proofs.Both.{both_ask, both_came, both_told, list_came}
-pub use Rattle.commands.proofs.Fronts.{list_from-front}
-pub use Rattle.commands.proofs.Lines.{IsFinal, SaysLine}
-pub use Rattle.commands.proofs.Loads.{bytes_came, no_bytes, no_pair, no_value, pair_came, said_as, value_came}
-pub use Rattle.commands.proofs.Plans.{AllAsk, end_comes, list_every}
-pub use Rattle.commands.proofs.Right.{list_from-right}
-pub use Rattle.commands.proofs.Told.{Quiet, told_cut, told_shows}
+pub use Rattle.ttp_top.proofs.FromBelow.{both_ask, both_came, both_told, list_came, list_from-front, IsFinal, SaysLine}
+pub use Rattle.ttp_top.proofs.FromBelow.{bytes_came, no_bytes, no_pair, no_value, pair_came, said_as, value_came}
+pub use Rattle.ttp_top.proofs.FromBelow.{AllAsk, end_comes, list_every, list_from-right, Quiet, told_cut, told_shows}
+pub use Rattle.ttp_top.proofs.FromBelow.{medl_of-valid, script_of-valid, is_trace-numbers, trace-short}
 pub use Rattle.commands.specs.Files.{both_plan, list_file, refused_list, trace_file, trace_plan}
 pub use Rattle.commands.specs.Lines.{AreLines}
 pub use Rattle.commands.specs.Outcome.{Says, Showed, ShowsEnding}
@@ -16,11 +13,9 @@ pub use Rattle.commands.specs.Plan.{Comes, Outside, ends, line_ending, outside, 
 pub use Rattle.commands.specs.Read.{list_from, trace_limit}
 pub use Rattle.commands.specs.Right.{AreRight, AreTold}
 pub use Rattle.commands.specs.Texts.{IsAmong, alone, answer, one, those}
-pub use Rattle.medl_text.proofs.Valid.{medl_of-valid}
 pub use Rattle.medl_text.specs.Schedule.{slot_table}
 pub use Rattle.mode_change.specs.ModeText.{mode_lines}
 pub use Rattle.script_gen.specs.Generator.{generated}
-pub use Rattle.script_text.proofs.RightFiles.{script_of-valid}
 pub use Rattle.std.proofs.Common.{Bool, List, None, Option, Some, [], ap, append_assoc, arith, cond, drop, false}
 pub use Rattle.std.proofs.Common.{if◌then◌else◌, inl, inr, length, refl, subst, suc, sym, take, true, zero, ℕ, ◌&&◌}
 pub use Rattle.std.proofs.Common.{◌*◌, ◌++◌, ◌+◌, ◌-◌, ◌<◌, ◌∙◌, ◌∷◌, ◌≡◌, ◌≢◌, ◌≤◌, ◌⊎◌}
@@ -32,9 +27,7 @@ pub use Rattle.std.proofs.lemmas.List.Sums.{sum_by-cons}
 pub use Rattle.std.proofs.lemmas.Result.{on_ok_weaker}
 pub use Rattle.std.specs.List.{AllByRecursion, concat}
 pub use Rattle.std.specs.Prelude.{codes, count_by, decimal, is_some, map, ◌==◌}
-pub use Rattle.trace_check.proofs.OwnNumbers.{is_trace-numbers}
 pub use Rattle.trace_check.specs.Answer.{IsFirstWrong, is_trace}
-pub use Rattle.theorems.proofs.TraceLength.{trace-short}
 pub use Rattle.ttp_base.proofs.Lines.{is_line-append}
 pub use Rattle.ttp_base.proofs.Numerals.{has, has-decimal}
 pub use Rattle.ttp_base.proofs.Outputs.{CutShort-after, CutShort-more, Wrote-join, Wrote-none}

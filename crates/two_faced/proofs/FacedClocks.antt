@@ -15,17 +15,12 @@ use Rattle.ttp_world.specs.Diary.{diary_of, start_place, begins_stint, continues
 use Rattle.ttp_world.specs.Diary.{stint_place}
 use Rattle.ttp_world.specs.Medium.{surroundings_in, surroundings_of}
 use Rattle.ttp_world.specs.Reception.{is_within_window}
-use Rattle.precision.proofs.Entries.{begun_active, offset_corrected, notes_anew, begun_round_first}
-use Rattle.precision.proofs.Rounds.{correction, corrected_last, corrected_inside}
-use Rattle.precision.proofs.Rounds.{product_once as one_drift}
-use Rattle.precision.proofs.Runs.{round_notes}
+use Rattle.two_faced.proofs.FromBelow.{begun_active, offset_corrected, notes_anew, begun_round_first, correction}
+use Rattle.two_faced.proofs.FromBelow.{corrected_last, corrected_inside, product_once as one_drift, round_notes}
+use Rattle.two_faced.proofs.FromBelow.{four-measured, first-sender, clock-next, notes-next, index-of, Counted}
+use Rattle.two_faced.proofs.FromBelow.{sound-goes, place-slot, number-of, counted-run}
 use Rattle.safety_laws.specs.Fates.{is_measured, tally}
-use Rattle.safety_laws.proofs.Counts.{four-measured}
-use Rattle.safety_laws.proofs.Members.{first-sender}
 use Rattle.safety_laws.specs.NotedByPlan.{StartedByPlan, NotedByPlan}
-use Rattle.safety_laws.proofs.NearNotes.{clock-next, notes-next, index-of}
-use Rattle.safety_laws.proofs.RoundNotes.{Counted, sound-goes, place-slot}
-use Rattle.safety_laws.proofs.BeganTogether.{number-of, counted-run}
 use Rattle.two_faced.proofs.PulledNotes.{Locate, AreTurns, test_of}
 use Rattle.two_faced.proofs.FacedRounds.{width, in_round, Round, round_begins, round_goes, round_ends}
 use Rattle.two_faced.proofs.FacedRounds.{round_within, in_round_bound}

@@ -5,9 +5,7 @@
 use Rattle.two_faced.proofs.Words.{◌≡◌, ℕ, suc, ◌+◌, ◌*◌, ◌<◌, ◌≤◌, ℤ, pos, negsuc, ◌+ℤ◌, ◌-ℤ◌, ◌*ℤ◌, ◌≤ℤ◌, inl, inr}
 use Rattle.two_faced.proofs.Words.{List, [], ◌++◌, length, sym, ◌∙◌, arith, ints, Medl, fta, IsUpTo, drift_in}
 use Rattle.two_faced.proofs.Words.{product_more, product_up, AreWithin, HaveDrifted, bound}
-use Rattle.precision.proofs.Averages.{fta-few}
-use Rattle.precision.proofs.Rounds.{product_upto}
-use Rattle.precision.proofs.Rounds.{few_or_many, early_or_late}
+use Rattle.two_faced.proofs.FromBelow.{fta-few, product_upto, few_or_many, early_or_late}
 use Rattle.two_faced.proofs.PulledNotes.{Locate, AreTurns, averages_pull, Locate-append, Locate-moved}
 use Rattle.two_faced.proofs.PulledNotes.{length-noted}
 

@@ -14,14 +14,12 @@ use Rattle.ttp_world.specs.declared.node.Entry.TheVariants as entry
 use Rattle.ttp_world.specs.Diary.{Place}
 use Rattle.ttp_world.specs.Hypothesis.{expected_sender}
 use Rattle.precision.specs.Together.{IsIn}
-use Rattle.precision.proofs.Rounds.{wider_of as wider_upto}
-use Rattle.safety_laws.proofs.NearNotes.{drift-moves as drift_moves}
-use Rattle.safety_laws.proofs.RoundNotes.{none-silent}
+use Rattle.two_faced.proofs.FromBelow.{wider_of as wider_upto, drift-moves as drift_moves, none-silent}
+use Rattle.two_faced.proofs.FromBelow.{within_bound as upto_of_test}
 use Rattle.two_faced.specs.Errors.{is_faced_slot, allowed_error}
 use Rattle.two_faced.proofs.QuietPlan.{sound-always, none-returns}
 use Rattle.two_faced.proofs.PulledNotes.{Locate, AreTurns, AreTurns-later}
 use Rattle.two_faced.proofs.FacedRounds.{width, Round, SlotNotes}
-use Rattle.precision.proofs.ClockBounds.{within_bound as upto_of_test}
 
 -- what the law asks of list, script and plan
 pub record IsFacing (list : Medl) (script : Script) (start : ClusterStart) (z : ℕ) (plan : FaultPlan) : Type 0 where

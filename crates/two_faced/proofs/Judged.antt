@@ -18,14 +18,12 @@ use Rattle.safety_laws.specs.Groups.{held_with}
 use Rattle.safety_laws.specs.NotedByPlan.{NotesNothing}
 use Rattle.safety_laws.specs.ByFate.{IsSoundAt, IsByFate}
 use Rattle.safety_laws.specs.ByPlan.{IsByPlan}
-use Rattle.safety_laws.proofs.Together.{KeepsClocks, run-by_plan}
+use Rattle.two_faced.proofs.FromBelow.{KeepsClocks, run-by_plan, sound-fate as sound-only, lost-begin}
 use Rattle.two_faced.proofs.FacedClocks.{faced-clocks, faced-window}
 use Rattle.two_faced.proofs.QuietPlan.{fate-always, quiet_plan, follows, on-sound, begun, clocks}
 use Rattle.two_faced.proofs.FacedSlots.{IsFacing}
 use Rattle.two_faced.specs.Halved.{AreJudgedCorrect, JudgedCorrectSince}
 use Rattle.two_faced.proofs.Rules.{RulesHold}
-use Rattle.safety_laws.proofs.FateSteps.{sound-fate as sound-only}
-use Rattle.safety_laws.proofs.FaultySets.{lost-begin}
 
 -- a node that doubts none holds the group
 undoubted : (group : List ℕ) (a : Ack) → ((y : ℕ) → a ≡ ack.Doubt y → ⊥) → held_with group a ≡ group

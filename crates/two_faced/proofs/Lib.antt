@@ -1,3 +1,5 @@
+pub mod ForAbove
+pub mod FromBelow
 pub mod PulledNotes
 pub mod FacedRounds
 pub mod FacedSlots

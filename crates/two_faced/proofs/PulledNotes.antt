@@ -5,8 +5,7 @@ use Rattle.two_faced.proofs.Words.{is_within_bound, IsUpTo, AreWithin}
 use Rattle.std.proofs.lemmas.Bool.{and_from}
 use Rattle.ttp_world.specs.Clock.{middle_half}
 use Rattle.node_parts.specs.Pull.{without, are_near, are_within, pulled}
-use Rattle.node_parts.proofs.Pull.{pull}
-use Rattle.precision.proofs.ClockBounds.{within_bound}
+use Rattle.two_faced.proofs.FromBelow.{pull, within_bound}
 
 -- each note but of z's frames tells where its sender's clock was when the round began, within w
 abbrev pub Locate : ℕ → ℤ → (ℕ → ℤ) → ℤ → List ℤ → List ℕ → Type 0

@@ -27,14 +27,11 @@ use Rattle.safety_laws.specs.Fates.{is_steady_after, steady_nodes}
 use Rattle.safety_laws.specs.Fates.{fate_at_begin, next_fate, turned, struck}
 use Rattle.safety_laws.specs.GoodPlan.{IsGoodPlan}
 use Rattle.safety_laws.specs.Kept.{IsHeardByPlan}
-use Rattle.safety_laws.proofs.PlanBounds.{both-hold, wide}
-use Rattle.safety_laws.proofs.CoursePlans.{on-always, due-ever}
-use Rattle.safety_laws.proofs.Returns.{none-among, none-armed}
-use Rattle.safety_laws.proofs.Sieves.{none-found}
+use Rattle.two_faced.proofs.FromBelow.{both-hold, wide, on-always, due-ever, none-among, none-armed, none-found}
+use Rattle.two_faced.proofs.FromBelow.{lost-begin as begin-lost, sound-begin as begin-sound, next-same, fate-told}
 use Rattle.safety_laws.specs.PlannedRun.{IsBegunAlone}
 use Rattle.two_faced.specs.Faced.{allowed_error}
 use Rattle.two_faced.proofs.Rules.{RulesHold}
-use Rattle.safety_laws.proofs.FaultySets.{lost-begin as begin-lost, sound-begin as begin-sound}
 use Rattle.ttp_world.proofs.SmallTests.{le_of_test, and-true}
 use Rattle.ttp_world.specs.declared.script.Channel.{Channel}
 use Rattle.ttp_world.specs.declared.script.Channel.TheVariants as channel
@@ -44,8 +41,6 @@ use Rattle.ttp_world.specs.declared.script.Fault.{Fault}
 use Rattle.ttp_world.specs.declared.script.Fault.TheVariants as fault
 use Rattle.ttp_world.proofs.Jumps.{each-none}
 use Rattle.safety_laws.specs.Told.{IsTold}
-use Rattle.safety_laws.proofs.FateSteps.{next-same}
-use Rattle.safety_laws.proofs.FateTells.{fate-told}
 
 pub none-at : (plan : FaultPlan) (slot : ℕ) → plan.incidents ≡ [] → incident_at plan slot ≡ None
 none-at plan slot none = ap (find (is_in_slot slot)) none

@@ -6,8 +6,7 @@ use Rattle.two_faced.proofs.Words.{apart_after, widest, seen_with_slot, seen_in,
 use Rattle.std.specs.List.{cons_option}
 use Rattle.ttp_world.specs.Legal.{IsLegalRun}
 use Rattle.frame_fates.specs.Runs.{AreRuns}
-use Rattle.frame_fates.proofs.RunsAlike.{older, runs-clocks}
-use Rattle.frame_fates.proofs.ZerosRuns.{zeros-legal}
+use Rattle.two_faced.proofs.FromBelow.{older, runs-clocks, zeros-legal}
 
 filter_map-agree : (f g : ℕ → Option ℤ) (n : ℕ) (ks : List ℕ) → ((k : ℕ) → k < n → f k ≡ g k)
     → AllByRecursion (λ k. k < n) ks → filter_map f ks ≡ filter_map g ks

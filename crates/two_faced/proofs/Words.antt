@@ -1,5 +1,7 @@
 -- The words of this crate's proofs, from one place.
-pub use Rattle.safety_laws.proofs.Returns.{never-listens, none-enters}
+pub use Rattle.two_faced.proofs.FromBelow.{never-listens, none-enters, IsUpTo, clock_at-still, frame_of, frame_of-node}
+pub use Rattle.two_faced.proofs.FromBelow.{AreWithin, HaveDrifted, drift_in, product_more, product_up, clock_after}
+pub use Rattle.two_faced.proofs.FromBelow.{clock_moved, sender-in}
 pub use Rattle.safety_laws.specs.Fates.{Absent, Fallen, Falling, Fate, Sound, fate_of, is_good_slot, is_lost}
 pub use Rattle.safety_laws.specs.Fates.{is_sound_fate, is_sound_after}
 pub use Rattle.safety_laws.specs.Kept.{FollowsPlan}
@@ -7,14 +9,7 @@ pub use Rattle.safety_laws.specs.Places.{planned_place}
 pub use Rattle.safety_laws.specs.Plan.{FaultPlan, sender}
 pub use Rattle.hypothesis.specs.SoleStart.{sole_start}
 pub use Rattle.hypothesis.specs.Standing.{told_start_if}
-pub use Rattle.precision.proofs.Averages.{IsUpTo}
-pub use Rattle.precision.proofs.Entries.{clock_at-still}
-pub use Rattle.precision.proofs.Frames.{frame_of, frame_of-node}
-pub use Rattle.precision.proofs.Rounds.{AreWithin, HaveDrifted, drift_in, product_more, product_up}
-pub use Rattle.precision.proofs.Runs.{clock_after}
 pub use Rattle.precision.specs.Together.{TellsOf, measured}
-pub use Rattle.safety_laws.proofs.NearNotes.{clock_moved}
-pub use Rattle.safety_laws.proofs.RoundNotes.{sender-in}
 pub use Rattle.safety_laws.specs.NotedByPlan.{IsSoundIn, NotedInSlot}
 pub use Rattle.std.proofs.Common.{Bool, FitsSigned, List, None, Option, Some, [], ap, arith, cond, false, inl, inr}
 pub use Rattle.std.proofs.Common.{length, negsuc, not, of_z, pos, refl, rules, subst, suc, sym, to_z, true, w64, zero}

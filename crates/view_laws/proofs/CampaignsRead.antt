@@ -4,8 +4,7 @@ use Rattle.std.proofs.Common.{subst, arith, codes, bytes_eq, map}
 use Rattle.std.specs.Prelude.{Ok}
 use Rattle.ttp_base.specs.Text.{Lines, lines_of}
 use Rattle.line_text.specs.Labels.{after_label}
-use Rattle.line_text.proofs.Options.{guarded, some_same}
-use Rattle.line_reader.proofs.Options.{bound}
+use Rattle.view_laws.proofs.FromBelow.{guarded, some_same, bound}
 use Rattle.whole_campaign.specs.declared.head.CampaignHead.{CampaignHead}
 use Rattle.whole_campaign.specs.Words.{without_feed}
 use Rattle.whole_campaign.specs.Runs.{run_words_in, test_in, cost_in, head_of_line}

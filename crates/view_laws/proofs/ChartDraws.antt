@@ -17,7 +17,7 @@ use Rattle.whole_campaign.specs.Whole.{FaultTold}
 use Rattle.picture_text.specs.Cells.{title_element, mark}
 use Rattle.picture_text.specs.Picture.{class_of, ended, text_line, row_line}
 use Rattle.picture_text.specs.Window.{columns}
-use Rattle.picture_text.proofs.PlainTexts.{Plain, parts, plain-append, plain-decimal}
+use Rattle.view_laws.proofs.FromBelow.{Plain, parts, plain-append, plain-decimal}
 use Rattle.view_laws.proofs.TitlesIn.{◌▸◌, tag, plain, number, title, named, IsLineWith}
 use Rattle.view_laws.proofs.TitlesIn.{closed, line_of, place-adds, bare-lines}
 use Rattle.view_laws.proofs.TitlesIn.{text-titles, classed-titles, mark-titles}

@@ -8,7 +8,7 @@ use Rattle.std.proofs.lemmas.List.Elements.{filter-append}
 use Rattle.ttp_base.specs.Text.{Lines}
 use Rattle.ttp_world.proofs.LineLists.{each-append}
 use Rattle.ttp_world.proofs.TraceLines.{IsLine}
-use Rattle.picture_text.proofs.PlainTexts.{Plain}
+use Rattle.view_laws.proofs.FromBelow.{Plain}
 use Rattle.view_laws.specs.Titles.{titles_in, titles}
 use Rattle.view_laws.proofs.LinesAndTitles.{Unmarked, unmarked}
 use Rattle.view_laws.proofs.TitlesIn.{IsLineWith, HasOne, untitled, titled, no-lines}

@@ -9,10 +9,8 @@ use Rattle.ttp_base.specs.Text.{Lines, lines_of}
 use Rattle.ttp_world.specs.TraceNumbers.{is_digit, append_digit, number_named}
 use Rattle.line_text.specs.Labels.{after_label}
 use Rattle.line_text.specs.Numerals.{has_leading_zero, numeral_in}
-use Rattle.line_text.proofs.LabelTexts.{label-takes}
-use Rattle.line_text.proofs.Options.{guarded, some_same}
+use Rattle.view_laws.proofs.FromBelow.{label-takes, guarded, some_same, bound}
 use Rattle.line_reader.specs.TraceLines.{slot_digits}
-use Rattle.line_reader.proofs.Options.{bound}
 use Rattle.campaign.specs.CostText.{unended}
 use Rattle.campaign.specs.Lines.{counts_line}
 use Rattle.whole_campaign.specs.declared.due.Due.{Due}

@@ -2,6 +2,7 @@ pub mod CampaignsRead
 pub mod ChartDraws
 pub mod Draws
 pub mod FaultLines
+pub mod FromBelow
 pub mod LineStarts
 pub mod LinesAndTitles
 pub mod PictureTitles

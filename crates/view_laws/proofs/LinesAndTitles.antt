@@ -22,9 +22,8 @@ use Rattle.view_laws.specs.Titles.{texts_of_lines, shown_of, picture_titles}
 use Rattle.view_laws.specs.Titles.{is_markup, texts_of_nodes, texts_of_hosts, members_said}
 use Rattle.view_laws.specs.Titles.{clocks_said, far_said, cell_titles}
 use Rattle.view_laws.specs.Titles.{legend_titles}
-use Rattle.picture_text.proofs.PlainTexts.{is_special, Plain, plain-head, plain-node, plain-host}
-use Rattle.picture_text.proofs.PlainTexts.{plain-members, plain-no_members, plain-clocks}
-use Rattle.picture_text.proofs.PlainTexts.{plain-far}
+use Rattle.view_laws.proofs.FromBelow.{is_special, Plain, plain-head, plain-node, plain-host, plain-members}
+use Rattle.view_laws.proofs.FromBelow.{plain-no_members, plain-clocks, plain-far}
 use Rattle.view_laws.proofs.TitlesIn.{HasOne}
 use Rattle.view_laws.proofs.PictureTitles.{picture_of-titles}
 use Rattle.view_laws.proofs.SlotTitles.{titles-of_slot, title-of_node, no-title-past, last-shown}

@@ -39,13 +39,11 @@ use Rattle.picture_text.specs.Window.{columns, bands, legend_top, height, column
 use Rattle.picture_text.specs.Window.{row_y, is_quiet_before, strange_past}
 use Rattle.view_laws.specs.Titles.{texts_of_hosts, members_said, clocks_said, far_said, cell_titles}
 use Rattle.view_laws.specs.Titles.{class_titles, mark_titles, legend_titles}
-use Rattle.picture_text.proofs.PlainTexts.{Plain, parts, plain-shown, plain-decimal}
-use Rattle.picture_text.proofs.PlainTexts.{plain-word, plain-letter, plain-meaning}
-use Rattle.picture_text.proofs.PlainTexts.{plain-head, plain-keep, plain-back, plain-node, plain-host}
-use Rattle.picture_text.proofs.PlainTexts.{plain-keep_meaning, plain-back_meaning, plain-class, plain-members}
-use Rattle.picture_text.proofs.PlainTexts.{plain-no_members, plain-count, plain-clocks}
-use Rattle.picture_text.proofs.PlainTexts.{plain-apart_shown, plain-keep_name}
-use Rattle.picture_text.proofs.PlainTexts.{plain-back_name, plain-far, plain-far_shown}
+use Rattle.view_laws.proofs.FromBelow.{Plain, parts, plain-shown, plain-decimal, plain-word, plain-letter}
+use Rattle.view_laws.proofs.FromBelow.{plain-meaning, plain-head, plain-keep, plain-back, plain-node, plain-host}
+use Rattle.view_laws.proofs.FromBelow.{plain-keep_meaning, plain-back_meaning, plain-class, plain-members}
+use Rattle.view_laws.proofs.FromBelow.{plain-no_members, plain-count, plain-clocks, plain-apart_shown, plain-keep_name}
+use Rattle.view_laws.proofs.FromBelow.{plain-back_name, plain-far, plain-far_shown}
 use Rattle.view_laws.proofs.TitlesIn.{◌▸◌, tag, plain, number, title, IsLineWith, closed}
 use Rattle.view_laws.proofs.TitlesIn.{line_of, place-adds, text-titles, classed-titles}
 use Rattle.view_laws.proofs.TitlesIn.{cell-titles, mark-titles, Have, ◌▹◌, untitled}

@@ -13,17 +13,13 @@ use Rattle.ttp_world.specs.declared.script.Fault.{Fault}
 use Rattle.ttp_world.specs.declared.script.Fault.TheVariants as fault
 use Rattle.line_text.specs.Labels.{after_label}
 use Rattle.line_text.specs.Numerals.{numeral_in}
-use Rattle.line_text.proofs.LabelTexts.{label-takes}
-use Rattle.line_text.proofs.Options.{guarded, chosen, some_same}
+use Rattle.view_laws.proofs.FromBelow.{label-takes, guarded, chosen, some_same, takes, bound, line-takes, numeral-takes}
+use Rattle.view_laws.proofs.FromBelow.{Plain, parts, plain-append, plain-decimal, plain-hex, plain-keep, plain-back}
 use Rattle.line_reader.specs.declared.trace_line.TraceLine.{TraceLine}
 use Rattle.line_reader.specs.declared.trace_line.TraceLine.TheVariants as line
 use Rattle.line_reader.specs.Reading.{◌>>=◌, line_in}
 use Rattle.line_form.specs.Kinds.{read, spell, hexed_or, count_of_digits}
-use Rattle.line_form.proofs.ReadLaws.{takes}
 use Rattle.line_reader.specs.TraceLines.{slot_digits, text_of}
-use Rattle.line_reader.proofs.Options.{bound}
-use Rattle.line_reader.proofs.ReadLines.{line-takes}
-use Rattle.line_text.proofs.WrittenNumbers.{numeral-takes}
 use Rattle.campaign.specs.CostText.{on_channels, channels_word, kind_word, loss_words}
 use Rattle.whole_campaign.specs.declared.cost.CostShown.{CostShown}
 use Rattle.whole_campaign.specs.declared.listed.Kind.{Kind}
@@ -43,7 +39,6 @@ use Rattle.whole_campaign.specs.Runs.{RunWords, run_words_in, test_of, test_in, 
 use Rattle.whole_campaign.specs.Faults.{channels_at, loss_at, loss_end, doing_label, is_loss_of}
 use Rattle.whole_campaign.specs.Faults.{signed_in, is_jump_value, jump_sign, is_above_0}
 use Rattle.whole_campaign.specs.Faults.{JumpWords, jump_words_in, is_jump_of, is_fault_of}
-use Rattle.picture_text.proofs.PlainTexts.{Plain, parts, plain-append, plain-decimal, plain-hex, plain-keep, plain-back}
 use Rattle.ttp_world.proofs.SmallTests.{spelled}
 
 -- Words.

@@ -9,8 +9,8 @@ use Rattle.whole_campaign.specs.declared.shown.Doing.TheVariants as doing
 use Rattle.whole_campaign.specs.declared.shown.FaultShown.{FaultShown}
 use Rattle.whole_campaign.specs.declared.shown.Test.{Test}
 use Rattle.whole_campaign.specs.declared.shown.Test.TheVariants as test
-use Rattle.picture_text.proofs.PlainTexts.{is_special, Plain, parts, plain-append, plain-decimal, plain-keep_meaning}
-use Rattle.picture_text.proofs.PlainTexts.{plain-back_meaning, plain-keep_name, plain-back_name}
+use Rattle.view_laws.proofs.FromBelow.{is_special, Plain, parts, plain-append, plain-decimal, plain-keep_meaning}
+use Rattle.view_laws.proofs.FromBelow.{plain-back_meaning, plain-keep_name, plain-back_name}
 use Rattle.chart_text.specs.declared.look.Look.{Look}
 use Rattle.chart_text.specs.declared.look.Look.TheVariants as look
 use Rattle.chart_text.specs.declared.size.Size.{Size}

@@ -8,9 +8,8 @@ use Rattle.std.proofs.lemmas.Bool.{and_parts, eqb-true, leb-true, ltb-true}
 use Rattle.ttp_base.specs.Text.{Lines}
 use Rattle.line_text.specs.Labels.{after_label}
 use Rattle.line_text.specs.Numerals.{numeral_in}
-use Rattle.line_text.proofs.Options.{guarded, some_same}
+use Rattle.view_laws.proofs.FromBelow.{guarded, some_same, bound, Plain}
 use Rattle.line_reader.specs.TraceLines.{slot_digits}
-use Rattle.line_reader.proofs.Options.{bound}
 use Rattle.campaign.specs.CostText.{unended}
 use Rattle.campaign.specs.Lines.{counts_line}
 use Rattle.whole_campaign.specs.declared.due.Due.{Due}
@@ -31,7 +30,6 @@ use Rattle.whole_campaign.specs.Due.{behind_head, due_in_campaign}
 use Rattle.whole_campaign.specs.Own.{Common}
 use Rattle.whole_campaign.specs.Whole.{FaultTold, one_further, wrong_behind, wrong_line, told_at, faults_told, onto}
 use Rattle.whole_campaign.specs.Whole.{items_behind}
-use Rattle.picture_text.proofs.PlainTexts.{Plain}
 use Rattle.view_laws.proofs.ChartDraws.{ArePlain}
 use Rattle.view_laws.proofs.PlainLines.{word-cut, plain-cut, plain-number, plain-cost, plain-tested}
 use Rattle.view_laws.proofs.PlainLines.{plain-run, plain-fault}

@@ -14,13 +14,12 @@ use Rattle.ttp_base.specs.Text.{Lines, newline, lines_of}
 use Rattle.ttp_world.specs.declared.keep.Back.{Back}
 use Rattle.ttp_world.specs.declared.keep.Keep.{Keep}
 use Rattle.ttp_world.specs.declared.node.Ack.{Ack}
-use Rattle.line_text.proofs.Options.{guarded, some_same}
+use Rattle.view_laws.proofs.FromBelow.{guarded, some_same, line-takes, few_slots, few_nodes, slot_count}
 use Rattle.line_reader.specs.declared.trace_line.TraceLine.{TraceLine}
 use Rattle.line_reader.specs.declared.trace_line.TraceLine.TheVariants as line
 use Rattle.line_reader.specs.declared.trace_line.Word.{Word}
 use Rattle.line_reader.specs.Reading.{line_in}
 use Rattle.line_reader.specs.TraceLines.{text_of, keep_text, back_text}
-use Rattle.line_reader.proofs.ReadLines.{line-takes}
 use Rattle.whole_trace.specs.declared.due.Due.{Due}
 use Rattle.whole_trace.specs.declared.due.Due.TheVariants as due
 use Rattle.whole_trace.specs.declared.due.Outline.{Outline}
@@ -34,8 +33,6 @@ use Rattle.whole_trace.specs.Due.{next_node, after_node, due_after, ending}
 use Rattle.whole_trace.specs.Whole.{SlotLines, SlotsFrom, WholeTrace, value_of, one_line_later, or_missing}
 use Rattle.whole_trace.specs.Whole.{judged_behind, judged, no_lines, no_slots, with_shown_node, with_node_line}
 use Rattle.whole_trace.specs.Whole.{with_line, with_value, slots_from, with_slots, whole_or_line, whole_in}
-use Rattle.whole_trace.proofs.Heads.{few_slots, few_nodes}
-use Rattle.whole_trace.proofs.SlotCounts.{slot_count}
 use Rattle.shown_slot.specs.Trace.{no_shown_node, header_text, first_text, node_text, host_text}
 use Rattle.picture_text.specs.Picture.{ended, no_slot_lines, slot_at}
 use Rattle.view_laws.specs.Titles.{texts_of_hosts, texts_of_slot, texts_of_trace}

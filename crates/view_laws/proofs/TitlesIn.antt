@@ -15,7 +15,7 @@ use Rattle.ttp_world.proofs.TraceLines.{IsLine}
 use Rattle.picture_text.specs.Cells.{place_attributes, title_element, cell, mark}
 use Rattle.picture_text.specs.Picture.{class_of, text_line}
 use Rattle.view_laws.specs.Titles.{begins_with, text_before, titles_in, titles}
-use Rattle.picture_text.proofs.PlainTexts.{is_special, Plain, parts, plain-decimal}
+use Rattle.view_laws.proofs.FromBelow.{is_special, Plain, parts, plain-decimal}
 
 -- a text without a line feed, as plain texts are
 abbrev Unfed : List ℕ → Type 0

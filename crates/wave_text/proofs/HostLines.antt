@@ -6,7 +6,7 @@ use Rattle.wave_text.proofs.Words.{what_in}
 use Rattle.std.proofs.Common.{◌&&◌}
 use Rattle.std.proofs.Common.{eq-eqb}
 use Rattle.std.proofs.lemmas.Bool.{and_parts, eqb-true}
-use Rattle.line_text.proofs.Options.{guarded}
+use Rattle.wave_text.proofs.FromBelow.{guarded}
 use Rattle.ttp_world.specs.declared.script.Source.TheVariants as source
 use Rattle.whole_trace.specs.declared.shown.HostLine.TheVariants as line
 use Rattle.shown_slot.specs.declared.host.What.TheVariants as what

@@ -1,3 +1,4 @@
+pub mod FromBelow
 pub mod Feeds
 pub mod WaveLines
 pub mod DeclaredLines

@@ -7,7 +7,7 @@ use Rattle.wave_text.proofs.Words.{HasPlace, host_in, message_said, table_place,
 use Rattle.std.proofs.Common.{◌≢◌}
 use Rattle.std.proofs.lemmas.List.{get_or-set_other}
 use Rattle.std.proofs.lemmas.Option.{slice_get_within}
-use Rattle.line_text.proofs.Options.{some_same}
+use Rattle.wave_text.proofs.FromBelow.{some_same}
 use Rattle.ttp_world.specs.declared.script.Source.TheVariants as source
 use Rattle.shown_slot.specs.declared.host.What.TheVariants as what
 use Rattle.wave_text.specs.Places.{in_row}

@@ -4,9 +4,7 @@ use Rattle.std.proofs.Common.{drop, Option, Some, None, ap, sym, ◌∙◌}
 use Rattle.std.proofs.Common.{arith, length-append}
 use Rattle.std.specs.List.{concat}
 use Rattle.ttp_base.specs.Text.{Lines, lines_of}
-use Rattle.line_text.proofs.Cuts.{concat-lines_of}
-use Rattle.line_reader.proofs.Options.{Bound, bound}
-use Rattle.whole_trace.proofs.Texts.{cut-front}
+use Rattle.whole_campaign.proofs.FromBelow.{concat-lines_of, Bound, bound, cut-front}
 use Rattle.whole_campaign.specs.declared.due.Due.{Due}
 use Rattle.whole_campaign.specs.declared.head.CampaignHead.{CampaignHead}
 use Rattle.whole_campaign.specs.Own.{Common, OwnShown, own_in, own_of_line}

@@ -7,11 +7,10 @@ use Rattle.std.specs.Str.{bytes_eq}
 use Rattle.std.proofs.lemmas.List.Sums.{sum_by-cons}
 use Rattle.std.proofs.lemmas.Bool.{le-leb, lt-ltb, ltb-true, leb-true}
 use Rattle.ttp_base.specs.Text.{Lines, lines_of, is_newline, newline, before_lines}
-use Rattle.line_reader.proofs.Options.{bound}
+use Rattle.whole_campaign.proofs.FromBelow.{bound, guarded, some_same}
 use Rattle.line_reader.specs.TraceLines.{slot_digits}
 use Rattle.line_text.specs.Labels.{after_label}
 use Rattle.line_text.specs.Numerals.{numeral_in}
-use Rattle.line_text.proofs.Options.{guarded, some_same}
 use Rattle.campaign.specs.declared.cost.Counts.{Counts}
 use Rattle.campaign.specs.CostText.{unended}
 use Rattle.campaign.specs.Lines.{counts_line}

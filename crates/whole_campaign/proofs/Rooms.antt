@@ -2,8 +2,7 @@
 use Rattle.std.proofs.Common.{◌≡◌, ℕ, ◌+◌, ◌<◌, ◌≤◌, ◌^◌, Bool, true, false, List, Option, Some, None, subst, arith}
 use Rattle.std.specs.Prelude.{IfSome, ◌&&◌, not, codes}
 use Rattle.std.specs.Str.{bytes_eq}
-use Rattle.line_reader.proofs.Options.{bound}
-use Rattle.line_text.proofs.Options.{guarded, some_same}
+use Rattle.whole_campaign.proofs.FromBelow.{bound, guarded, some_same}
 use Rattle.campaign.specs.declared.cost.Counts.{Counts}
 use Rattle.campaign.specs.Lines.{counts_line}
 use Rattle.whole_campaign.specs.declared.due.Due.{Due}

@@ -9,8 +9,7 @@ use Rattle.ttp_base.specs.Text.{Lines, newline, hex_bytes, lines_of}
 use Rattle.ttp_base.proofs.Gathered.{gather-behind}
 use Rattle.ttp_world.specs.Trace.{source_word}
 use Rattle.line_text.specs.Labels.{after_label}
-use Rattle.line_text.proofs.Cuts.{first_line}
-use Rattle.line_text.proofs.LabelTexts.{label-again}
+use Rattle.whole_trace.proofs.FromBelow.{first_line, label-again}
 use Rattle.line_reader.specs.declared.trace_line.TraceLine.{TraceLine}
 use Rattle.line_reader.specs.declared.trace_line.TraceLine.TheVariants as line
 use Rattle.whole_trace.specs.declared.due.Due.{Due}

@@ -1,3 +1,5 @@
+pub mod ForAbove
+pub mod FromBelow
 pub mod Heads
 pub mod HostFronts
 pub mod Judging

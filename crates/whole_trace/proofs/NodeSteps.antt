@@ -11,7 +11,7 @@ use Rattle.ttp_world.specs.declared.node.Ack.{Ack}
 use Rattle.line_reader.specs.declared.trace_line.TraceLine.{TraceLine}
 use Rattle.line_reader.specs.declared.trace_line.TraceLine.TheVariants as line
 use Rattle.line_reader.specs.declared.trace_line.Word.{Word}
-use Rattle.line_text.proofs.Options.{guarded, some_same}
+use Rattle.whole_trace.proofs.FromBelow.{guarded, some_same}
 use Rattle.whole_trace.specs.declared.due.Due.{Due}
 use Rattle.whole_trace.specs.declared.due.Due.TheVariants as due
 use Rattle.whole_trace.specs.declared.due.Outline.{Outline}

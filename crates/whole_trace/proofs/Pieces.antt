@@ -14,17 +14,13 @@ use Rattle.ttp_base.proofs.Numerals.{has}
 use Rattle.ttp_world.specs.Medl.{member_bytes}
 use Rattle.ttp_world.specs.Trace.{number_or_dash, ack_word, told_pieces, ack_pieces}
 use Rattle.line_form.specs.Kinds.{signed, signed_numeral}
-use Rattle.line_form.proofs.ReadLaws.{takes}
-use Rattle.line_text.proofs.Cuts.{concat-lines_of, first_line, lines_of-behind}
-use Rattle.line_text.proofs.Options.{guarded}
+use Rattle.whole_trace.proofs.FromBelow.{takes, concat-lines_of, first_line, lines_of-behind, guarded, line-takes}
+use Rattle.whole_trace.proofs.FromBelow.{offset-small, line-again, fed-is_line}
 use Rattle.line_reader.specs.declared.trace_line.NodeLine.{NodeLine}
 use Rattle.line_reader.specs.declared.trace_line.TraceLine.{TraceLine}
 use Rattle.line_reader.specs.declared.trace_line.TraceLine.TheVariants as line
 use Rattle.line_reader.specs.Reading.{line_in}
 use Rattle.line_reader.specs.TraceLines.{word_text, text_of, Fits, FitsNode, FitsOffset}
-use Rattle.line_reader.proofs.ReadLines.{line-takes}
-use Rattle.line_reader.proofs.ValueLaws.{offset-small}
-use Rattle.line_reader.proofs.WrittenLines.{line-again, fed-is_line}
 use Rattle.whole_trace.specs.Alike.{HasPieces, IsNodeFront}
 use Rattle.whole_trace.specs.Whole.{value_of}
 use Rattle.whole_trace.proofs.Texts.{cut-front}

@@ -14,8 +14,7 @@ use Rattle.line_reader.specs.declared.trace_line.TraceLine.{TraceLine}
 use Rattle.line_reader.specs.declared.trace_line.NodeLine.{NodeLine}
 use Rattle.line_reader.specs.Reading.{or_else, line_in, node_in, read_line_in, write_line_in, head_in, kept_in}
 use Rattle.line_reader.specs.Reading.{broken_in, owed_in, refused_in}
-use Rattle.line_text.proofs.Cuts.{concat-lines_of}
-use Rattle.line_text.proofs.FirstLines.{IsCut, cut-Some, cut-None}
+use Rattle.whole_trace.proofs.FromBelow.{concat-lines_of, IsCut, cut-Some, cut-None}
 use Rattle.whole_trace.specs.Alike.{said_by}
 use Rattle.whole_trace.specs.Whole.{value_of}
 

@@ -13,11 +13,10 @@ use Rattle.causes.specs.RunSlots.{entry_in_slot}
 use Rattle.causes.specs.Story.{rank_of_entry}
 use Rattle.causes.specs.declared.cause.Cause.{Cause}
 use Rattle.causes.specs.declared.cause.Spot.{Spot}
-use Rattle.entry_causes.proofs.WhoSends.{remaining-slot_in}
+use Rattle.why_answers.proofs.FromBelow.{remaining-slot_in, length-past_slots_in, past_slots_in-next, past_slots_in-suc}
+use Rattle.why_answers.proofs.FromBelow.{past_slots_in-zero, slot_in-number}
 use Rattle.entry_causes.specs.Senders.{is_left_on}
 use Rattle.ttp_world.proofs.ZerosWorlds.{length-zeros_world}
-use Rattle.run_rows.proofs.Slots.{length-past_slots_in, past_slots_in-next, past_slots_in-suc}
-use Rattle.run_rows.proofs.Slots.{past_slots_in-zero, slot_in-number}
 use Rattle.run_rows.specs.Rows.{past_slots_in, slot_in}
 use Rattle.ttp_world.proofs.EntriesMade.{listening_entry-holds}
 use Rattle.ttp_world.proofs.Filters.{each-sieve}

@@ -2,6 +2,7 @@ pub mod AboveInRun
 pub mod AloneYes
 pub mod CausesAbove
 pub mod Departed
+pub mod FromBelow
 pub mod ListedLines
 pub mod PastSpots
 pub mod RunOrder

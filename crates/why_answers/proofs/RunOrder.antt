@@ -18,7 +18,7 @@ use Rattle.ttp_world.specs.declared.node.Entry.{Entry}
 use Rattle.ttp_world.specs.declared.node.Entry.TheVariants as entry
 use Rattle.ttp_world.specs.declared.node.Reason.TheVariants as reason
 use Rattle.ttp_world.specs.declared.script.Script.{Script}
-use Rattle.why_story.proofs.Slots.{length-run, slots_up_to-all, slots_up_to-none, spots_back-next}
+use Rattle.why_answers.proofs.FromBelow.{length-run, slots_up_to-all, slots_up_to-none, spots_back-next}
 use Rattle.why_story.specs.Passes.{rank_back, slot_back}
 use Rattle.why_story.specs.RunSource.{slots_up_to, spot_at}
 use Rattle.why_answers.proofs.SpotOrder.{Falls, IsBefore, each-weaker, falls-between, has-append-left, has-append-right}

@@ -8,9 +8,8 @@ use Rattle.causes.specs.Members.{entry_at_spot}
 use Rattle.causes.specs.RunSlots.{RunSlots, entry_in_slot, is_started, node_spot, slots_of_run}
 use Rattle.causes.specs.Said.{joined_from, root}
 use Rattle.causes.specs.declared.cause.Spot.{Spot}
-use Rattle.entry_causes.proofs.Past.{entry_at_spot-before, slots_before-past, slots_to-past}
-use Rattle.entry_causes.proofs.Walks.{root-none}
-use Rattle.run_rows.proofs.Slots.{past_slots_in-suc, slot_in-number}
+use Rattle.why_answers.proofs.FromBelow.{entry_at_spot-before, slots_before-past, slots_to-past, root-none}
+use Rattle.why_answers.proofs.FromBelow.{past_slots_in-suc, slot_in-number}
 use Rattle.run_rows.specs.Rows.{RunShown, past_slots_in, slot_in}
 use Rattle.ttp_world.specs.Diary.{begins_stint}
 use Rattle.ttp_world.specs.declared.medl.Medl.{Medl}

@@ -17,8 +17,7 @@ use Rattle.ttp_world.specs.Diary.{History}
 use Rattle.ttp_world.specs.declared.medl.Medl.{Medl}
 use Rattle.ttp_world.specs.declared.node.Entry.{Entry}
 use Rattle.ttp_world.specs.declared.script.Script.{Script}
-use Rattle.why_story.proofs.Slots.{length-run}
-use Rattle.why_story.proofs.Steps.{reached-no, reached-yes}
+use Rattle.why_answers.proofs.FromBelow.{length-run, reached-no, reached-yes}
 use Rattle.why_story.specs.RunSource.{spot_at}
 use Rattle.why_answers.proofs.PastSpots.{root-past}
 use Rattle.why_answers.proofs.RunOrder.{level, newest-has, slot-level, spots-order}

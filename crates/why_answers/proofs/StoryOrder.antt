@@ -10,7 +10,7 @@ use Rattle.causes.specs.Story.{with_entries}
 use Rattle.causes.specs.declared.cause.Spot.{Spot}
 use Rattle.causes.specs.declared.cause.Told.{Told}
 use Rattle.ttp_world.proofs.Filters.{each-filter}
-use Rattle.why_story.proofs.Steps.{kept-no, kept-yes}
+use Rattle.why_answers.proofs.FromBelow.{kept-no, kept-yes}
 use Rattle.why_story.specs.Named.{AreNamed}
 use Rattle.why_answers.proofs.SpotOrder.{Falls, IsBefore, each-has, each-weaker, has-append-cases, has-append-left}
 use Rattle.why_answers.proofs.SpotOrder.{has-append-right, has-cases, has-here, has-more}

@@ -19,9 +19,8 @@ use Rattle.causes.specs.declared.cause.LineNumbers.{LineNumbers}
 use Rattle.causes.specs.declared.cause.Spot.{Spot}
 use Rattle.causes.specs.declared.cause.Told.{Told}
 use Rattle.campaign.specs.CostText.{listed}
-use Rattle.frame_fates.proofs.RunsAlike.{older, runs-entries}
-use Rattle.frame_fates.proofs.ZerosRuns.{zeros-legal}
-use Rattle.frame_fates.proofs.Unnumbered.{entry_of-unnumbered}
+use Rattle.why_answers.proofs.FromBelow.{older, runs-entries, zeros-legal, entry_of-unnumbered, length-run}
+use Rattle.why_answers.proofs.FromBelow.{slots_up_to-all, AreToldPart, IsPart, kept-part, reached-part, root-part}
 use Rattle.frame_fates.specs.Alike.{unnumbered, unnumbered_history, unnumbered_row}
 use Rattle.frame_fates.specs.Runs.{AreRuns}
 use Rattle.ttp_world.proofs.ZerosWorlds.{length-zeros_world}
@@ -46,8 +45,6 @@ use Rattle.ttp_world.specs.declared.script.Script.{Script}
 use Rattle.why_answers.proofs.RunSpots.{entry-at}
 use Rattle.why_answers.proofs.SpotOrder.{each-weaker}
 use Rattle.why_answers.specs.Stories.{BeginWith, OneBeginsWith, first_slots, head_told, why_told}
-use Rattle.why_story.proofs.Slots.{length-run, slots_up_to-all}
-use Rattle.why_story.proofs.Within.{AreToldPart, IsPart, kept-part, reached-part, root-part}
 use Rattle.why_story.specs.RunSource.{RunSource, spot_at}
 
 -- Lines that are put together piece by piece.

@@ -1,9 +1,5 @@
-use Rattle.ttp_top.proofs.Calls.Promises.{promise}
-use Rattle.ttp_top.proofs.Lists.Promises.{schedule_promise}
-use Rattle.ttp_top.proofs.Samples.Promises.{sample_promise}
-use Rattle.ttp_top.proofs.Scripts.Promises.{run_promise}
-use Rattle.ttp_top.proofs.Tests.Promises.{keeps_promise, precision_promise}
-use Rattle.ttp_top.proofs.Traces.Promises.{verify_promise, modes_promise}
+use Rattle.ttp_top.proofs.ForAbove.{promise, schedule_promise, sample_promise, run_promise, keeps_promise}
+use Rattle.ttp_top.proofs.ForAbove.{precision_promise, verify_promise, modes_promise}
 use Rattle.bench_call.proofs.bench.Goals as goal
 
 pub returns-clause-promise : goal.returns-clause-promise

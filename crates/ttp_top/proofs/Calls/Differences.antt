@@ -5,7 +5,7 @@ use Rattle.ttp_top.proofs.Terms.{Medl, Script, is_trace, IsFirstWrong, AreLines,
 use Rattle.ttp_top.proofs.Terms.{line_ending, whole_ending, those, BenchAnswer, BenchEnding, ttpbench, differs_line}
 use Rattle.ttp_top.proofs.Terms.{differences}
 use Rattle.trace_check.specs.Difference.{IsDifference}
-use Rattle.trace_check.proofs.Differences.{differs_line-is_line}
+use Rattle.ttp_top.proofs.FromBelow.{differs_line-is_line}
 
 -- It is one line.
 

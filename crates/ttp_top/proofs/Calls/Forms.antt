@@ -11,15 +11,12 @@ use Rattle.std.specs.Prelude.{IsSomeAnd}
 use Rattle.std.proofs.lemmas.Bool.{ne_eqb}
 use Rattle.ttp_world.specs.TraceNumbers.{numbers_in}
 use Rattle.ttp_world.proofs.TraceLines.{test_lines-each}
-use Rattle.medl_text.proofs.Lines.{slot_table-each}
-use Rattle.mode_change.proofs.TextLines.{mode_lines-each}
+use Rattle.ttp_top.proofs.FromBelow.{slot_table-each, mode_lines-each, AreOfLines, one_text, lines_front, text_final}
+use Rattle.ttp_top.proofs.FromBelow.{line_final, refused_list-final, refused_script-final, Every, both_every}
 use Rattle.commands.specs.declared.read.FileFault.{FileFault}
 use Rattle.commands.specs.Files.{refused_script, list_plan}
 use Rattle.commands.specs.Plan.{said_ending}
 use Rattle.commands.specs.Texts.{no_texts, IsKeptBeside}
-use Rattle.commands.proofs.Lines.{AreOfLines, one_text, lines_front, text_final, line_final}
-use Rattle.commands.proofs.Lines.{refused_list-final, refused_script-final}
-use Rattle.commands.proofs.Plans.{Every, both_every}
 use Rattle.ttp_top.specs.Calls.Words.{keeps}
 use Rattle.ttp_top.specs.Calls.Words.{takes_trace}
 use Rattle.ttp_top.proofs.Calls.Differences.{differences-each}

@@ -5,8 +5,7 @@ use Rattle.ttp_top.proofs.Terms.{ttpbench, plan_of, BenchPromise, Form, is_run, 
 use Rattle.commands.specs.Outcome.{Follows}
 use Rattle.commands.specs.Promise.{IsUnfinished, Promise}
 use Rattle.commands.specs.Texts.{Texts, WroteAmong}
-use Rattle.commands.proofs.Plans.{all_come, every_weaker}
-use Rattle.commands.proofs.Promises.{wrote_nothing, promise as call_promise}
+use Rattle.ttp_top.proofs.FromBelow.{all_come, every_weaker, wrote_nothing, promise as call_promise}
 use Rattle.ttp_top.specs.Calls.Texts.{Sets}
 use Rattle.ttp_top.proofs.Calls.Forms.{IsOfForm, none_kept, forms}
 

@@ -10,9 +10,7 @@ use Rattle.ttp_world.specs.Medium.{is_sending}
 use Rattle.ttp_world.specs.Past.{NodePast}
 use Rattle.frame_fates.specs.Alike.{unnumbered}
 use Rattle.frame_fates.specs.Runs.{AreRuns}
-use Rattle.frame_fates.proofs.NamedRuns.{named-run, legal-names}
-use Rattle.frame_fates.proofs.RunsAlike.{older, runs-pasts}
-use Rattle.frame_fates.proofs.Unnumbered.{is_sending-unnumbered}
+use Rattle.ttp_top.proofs.FromBelow.{named-run, legal-names, older, runs-pasts, is_sending-unnumbered}
 use Rattle.ttp_top.specs.Samples.Totals.{is_leaving}
 
 is_leaving-unnumbered : (e : Entry) → is_leaving (unnumbered e) ≡ is_leaving e

@@ -20,7 +20,7 @@ use Rattle.ttp_top.specs.Samples.Counted.{with_report, SumsFit}
 use Rattle.ttp_top.specs.Samples.Totals.{no_totals, totals_with_slot}
 use Rattle.ttp_top.proofs.Samples.Bounds.{AreSmall, totals-small}
 use Rattle.ttp_top.proofs.Scripts.Slots.{after, tells}
-use Rattle.trace_check.proofs.Counts.{length-read_messages}
+use Rattle.ttp_top.proofs.FromBelow.{length-read_messages}
 
 -- What a report shows is what the slot adds.
 

@@ -7,8 +7,7 @@ use Rattle.ttp_top.proofs.Terms.{CutOf, ttpbench, trace_ending, plan_of, BenchPr
 use Rattle.ttp_top.proofs.Terms.{WroteTraceOf, RunPromise}
 use Rattle.ttp_world.specs.TraceNumbers.{numbers_in}
 use Rattle.theorems.specs.KeptRun.{IsKeptRun, IsBackRun}
-use Rattle.theorems.proofs.Runs.{kept-run, back-run}
-use Rattle.commands.proofs.Told.{told_leaves}
+use Rattle.ttp_top.proofs.FromBelow.{kept-run, back-run, told_leaves}
 use Rattle.ttp_top.specs.Scripts.Promise.{WroteTrace}
 
 -- the plan of a run, from a script on

@@ -6,7 +6,7 @@ use Rattle.ttp_top.proofs.Terms.{ClusterStandsFor, WroteOf, CutOf, fronts, trace
 use Rattle.trace_text.specs.ReportText.{report_lines}
 use Rattle.cluster_run.specs.Report.{report_numbers}
 use Rattle.cluster_run.specs.Texts.{TellsNext}
-use Rattle.cluster_run.proofs.ReportTexts.{tells_next}
+use Rattle.ttp_top.proofs.FromBelow.{tells_next}
 use Rattle.ttp_top.proofs.Scripts.Fronts.{wrote_front, cut_in}
 
 -- what is so of list and script before the slot is so after it

@@ -7,9 +7,7 @@ use Rattle.ttp_top.proofs.Terms.{told_ending, AreRight, AreTold, IsAmong, BenchA
 use Rattle.ttp_top.proofs.Terms.{keep_ending, precision_ending, plan_of, answer_line, BenchPromise, IsPrecision, Form}
 use Rattle.ttp_top.proofs.Terms.{is_run, precision, WroteSuch, CutSuch, TestPromise}
 use Rattle.two_faced.specs.declared.faced.Faced.TheVariants as faced
-use Rattle.two_faced.proofs.Rules.{rules-hold}
-use Rattle.two_faced.proofs.SeenWithin.{runs-seen}
-use Rattle.theorems.proofs.Runs.{some-run, faced-run}
+use Rattle.ttp_top.proofs.FromBelow.{rules-hold, runs-seen, some-run, faced-run}
 use Rattle.ttp_top.specs.Calls.Words.{keeps}
 use Rattle.ttp_top.specs.Tests.Promise.{WroteFor, AreTestLines, KeepsPromise}
 use Rattle.ttp_top.specs.Tests.Promise.{ShowsBound, IsPrecisionLine, PrecisionPromise}

@@ -12,12 +12,11 @@ use Rattle.ttp_base.specs.Outside.{Held, untold, absent, holds, Load, Gives}
 use Rattle.ttp_world.specs.TraceNumbers.{numbers_in}
 use Rattle.ttp_base.proofs.Lines.{lines_of-concat}
 use Rattle.theorems.specs.ModeText.{ShowsOneMode}
-use Rattle.theorems.proofs.ModeTexts.{mode-text}
+use Rattle.ttp_top.proofs.FromBelow.{mode-text, HaveAtMost, is_trace-short, is_trace-front, first_wrong-front}
 use Rattle.commands.specs.Right.{MayBe}
 use Rattle.commands.specs.Texts.{CutAmong}
 use Rattle.ttp_top.specs.Traces.Promise.{said_same, said_modes, IsVerdict, IsJudged}
 use Rattle.ttp_top.specs.Traces.Promise.{ShowOneMode, VerifyPromise, ModesPromise}
-use Rattle.trace_check.proofs.Fronts.{HaveAtMost, is_trace-short, is_trace-front, first_wrong-front}
 
 -- ---- what both forms ask for, and how they end
 

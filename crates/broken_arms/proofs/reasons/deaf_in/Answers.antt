@@ -1,7 +1,7 @@
 use Rattle.std.proofs.Common.{◌≡◌, ◌≤◌, true, length, sym, ◌∙◌, below_more, rules, arith}
 use Rattle.ttp_base.specs.NodeSet.{most_nodes}
 use Rattle.ttp_world.specs.Returning.{is_deaf}
-use Rattle.hypothesis.proofs.Ranges.{first-below, none-below}
+use Rattle.broken_arms.proofs.FromBelow.{first-below, none-below}
 use Rattle.hypothesis.specs.Standing.{told_start}
 use Rattle.broken_faults.specs.Faults.{faulty_in}
 use Rattle.broken_arms.proofs.Deaf.{same-deaf}

@@ -3,7 +3,7 @@ use Rattle.std.proofs.lemmas.Bool.{cases_lt}
 use Rattle.ttp_world.specs.Returning.{four_rounds}
 use Rattle.hypothesis.specs.Standing.{told_start}
 use Rattle.broken_arms.specs.Arms.{unheard_in}
-use Rattle.broken_faults.proofs.Over.{nothing-found}
+use Rattle.broken_arms.proofs.FromBelow.{nothing-found}
 use Rattle.broken_arms.proofs.Heard.{all-heard, first-unheard}
 use Rattle.broken_arms.proofs.reasons.first_unheard.Goals as goal
 

@@ -2,7 +2,7 @@ use Rattle.std.proofs.Common.{ap, ◌∙◌}
 use Rattle.ttp_world.proofs.Lists.{nodes-most}
 use Rattle.ttp_world.specs.Hypothesis.{numbers_of}
 use Rattle.ttp_world.specs.Returning.{slots_before, faulty_since}
-use Rattle.hypothesis.proofs.SlotSteps.{same_steady}
+use Rattle.broken_faults.proofs.FromBelow.{same_steady}
 use Rattle.hypothesis.specs.Standing.{told_start}
 use Rattle.broken_faults.specs.Faults.{cause_of, cause_if}
 use Rattle.broken_faults.proofs.few.few_after.Goals as goal

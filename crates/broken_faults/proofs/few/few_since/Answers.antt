@@ -3,7 +3,7 @@ use Rattle.std.proofs.Common.{◌∙◌, inl, inr, rules, arith, option_map, Som
 use Rattle.std.proofs.lemmas.Bool.{cases_lt}
 use Rattle.ttp_world.proofs.RangeFacts.{none-range}
 use Rattle.ttp_world.specs.Returning.{has_four_before, lacks_four_after}
-use Rattle.hypothesis.proofs.Ranges.{first-range}
+use Rattle.broken_faults.proofs.FromBelow.{first-range}
 use Rattle.hypothesis.specs.Standing.{told_start}
 use Rattle.broken_faults.specs.Faults.{few_in}
 use Rattle.broken_faults.proofs.Enough.{has-four, in-slot}

@@ -1,7 +1,7 @@
 use Rattle.std.proofs.Common.{◌≡◌, true, ap, sym, ◌∙◌, below_more, arith, rules, option_map, Some}
 use Rattle.ttp_world.specs.Returning.{breaks_back_in}
 use Rattle.hypothesis.specs.Standing.{told_start}
-use Rattle.hypothesis.proofs.Ranges.{first-below, none-below}
+use Rattle.broken_faults.proofs.FromBelow.{first-below, none-below}
 use Rattle.broken_faults.specs.Faults.{lost_in}
 use Rattle.broken_faults.proofs.losses.lost_frame.Goals as goal
 

@@ -1,7 +1,7 @@
 use Rattle.std.proofs.Common.{◌≡◌, true, length, Some, ap, sym, ◌∙◌, rules, arith, w64, of_z, to_z}
 use Rattle.std.proofs.Common.{FitsSigned, below_more, option_map}
 use Rattle.std.proofs.lemmas.Int.{to_z-of_z}
-use Rattle.hypothesis.proofs.Ranges.{first-below, none-below}
+use Rattle.broken_rules.proofs.FromBelow.{first-below, none-below}
 use Rattle.ttp_world.specs.Script.{reading_error}
 use Rattle.broken_rules.specs.declared.clocks.PastBound.TheVariants as past
 use Rattle.broken_rules.specs.Clocks.{is_past}

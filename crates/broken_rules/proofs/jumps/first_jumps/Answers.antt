@@ -2,7 +2,7 @@ use Rattle.std.proofs.Common.{◌≡◌, ℕ, ◌<◌, length, get_or, None, ap,
 use Rattle.std.proofs.lemmas.List.{length-set}
 use Rattle.ttp_base.specs.NodeSet.{most_nodes}
 use Rattle.ttp_world.proofs.Lists.{nodes}
-use Rattle.hypothesis.proofs.Least.{with_found}
+use Rattle.broken_rules.proofs.FromBelow.{with_found}
 use Rattle.broken_rules.specs.Jumps.{jump_slot}
 use Rattle.broken_rules.proofs.FirstJumps.{no_jump, kept-jump, jumps-next}
 use Rattle.broken_rules.proofs.jumps.first_jumps.Goals as goal

@@ -3,7 +3,7 @@ use Rattle.std.specs.Prelude.{drop}
 use Rattle.std.specs.List.{filter_map}
 use Rattle.ttp_base.specs.NodeSet.{most_nodes}
 use Rattle.ttp_world.specs.Hypothesis.{least_of}
-use Rattle.hypothesis.proofs.Least.{lesser_of}
+use Rattle.broken_rules.proofs.FromBelow.{lesser_of}
 use Rattle.broken_rules.specs.Jumps.{jump_slot, first_jump}
 use Rattle.broken_rules.proofs.jumps.first_jumps.Given as goal
 

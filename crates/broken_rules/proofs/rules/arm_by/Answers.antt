@@ -1,6 +1,6 @@
 use Rattle.std.proofs.Common.{◌≡◌, true, false, ap, sym, ◌∙◌, rules}
 use Rattle.ttp_world.specs.Hypothesis.{start_of}
-use Rattle.broken_faults.proofs.Over.{nothing-found}
+use Rattle.broken_rules.proofs.FromBelow.{nothing-found}
 use Rattle.hypothesis.specs.Standing.{told_start_if}
 use Rattle.broken_rules.specs.Rules.{arm_by}
 use Rattle.broken_rules.proofs.Told.{arm-beside}

@@ -3,7 +3,7 @@ use Rattle.std.specs.Prelude.{slice_get}
 use Rattle.ttp_base.specs.NodeSet.{below, most_nodes, without_node}
 use Rattle.ttp_world.specs.Hypothesis.{starts_in}
 use Rattle.broken_rules.specs.declared.start.NoStart.TheVariants as why
-use Rattle.broken_faults.proofs.Pairs.{without-first, first-small}
+use Rattle.broken_rules.proofs.FromBelow.{without-first, first-small}
 use Rattle.broken_rules.proofs.Pairs.{rivals, alone, nobody}
 use Rattle.broken_rules.proofs.start.why_at.Goals as goal
 use Rattle.broken_rules.proofs.start.why_at.Goals.{in-Some+in_default-first, in_default}

@@ -6,7 +6,7 @@ use Rattle.ttp_base.proofs.Outputs.{Wrote-none}
 use Rattle.bus_frames.proofs.Channels.{no-lines}
 use Rattle.bus_frames.proofs.Nodes.{got, line-of, long-alone}
 use Rattle.bus_frames.proofs.Offsets.{signed-same}
-use Rattle.line_text.proofs.Options.{some_same}
+use Rattle.line_text.proofs.ForAbove.{some_same}
 use Rattle.bus_frames.proofs.put.put_node.Goals as goal
 
 pub returns-then-not-lies_on-clause-ok : goal.returns-then-not-lies_on-clause-ok

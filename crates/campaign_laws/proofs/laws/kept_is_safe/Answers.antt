@@ -1,7 +1,7 @@
 use Rattle.std.specs.Prelude.{is_some}
 use Rattle.campaign.specs.Lines.{has_hurt}
 use Rattle.campaign.specs.Tried.{faults_from}
-use Rattle.single_faults.proofs.Stand.{faults_from-stand}
+use Rattle.campaign_laws.proofs.FromBelow.{faults_from-stand}
 use Rattle.campaign_laws.proofs.Kept.{unharmed-unhurt, unharmed-unsplit, none-counted}
 use Rattle.campaign_laws.proofs.laws.kept_is_safe.Goals as goal
 

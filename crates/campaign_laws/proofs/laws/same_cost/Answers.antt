@@ -2,7 +2,7 @@ use Rattle.ttp_world.specs.World.{world}
 use Rattle.campaign.specs.Cost.{says_yes}
 use Rattle.campaign.specs.CostText.{test_words}
 use Rattle.ttp_world.specs.ZerosWorld.{zeros_world}
-use Rattle.frame_fates.proofs.ZerosRuns.{zeros-legal}
+use Rattle.campaign_laws.proofs.FromBelow.{zeros-legal}
 use Rattle.campaign_laws.proofs.Alike.{cost-alike}
 use Rattle.campaign_laws.proofs.laws.same_cost.Goals as goal
 

@@ -1,7 +1,7 @@
 use Rattle.cluster_run.proofs.Words.{◌<◌, [], length, get_or, ◌∙◌, arith, into_iter_items, into_iter_len}
 use Rattle.std.proofs.lemmas.List.{get_or-map}
 use Rattle.cluster_run.proofs.Lines.{if_none}
-use Rattle.host_port.proofs.LineQueues.{if_taken as if_first, queue_after, queue_other}
+use Rattle.cluster_run.proofs.FromBelow.{if_taken as if_first, queue_after, queue_other}
 use Rattle.cluster_run.proofs.reading.next_line.Goals as goal
 
 pub returns-clause-none : goal.returns-clause-none

@@ -1,5 +1,5 @@
 use Rattle.cluster_run.proofs.Words.{length, refl, ap, ◌∙◌, arith, with_items_is, world, length-world}
-use Rattle.controller.proofs.Payloads.{payloads-chosen}
+use Rattle.cluster_run.proofs.FromBelow.{payloads-chosen}
 use Rattle.cluster_run.proofs.Choices.{chosen_sizes}
 use Rattle.cluster_run.proofs.SlotParts.{has_begun, has_begun_for}
 use Rattle.cluster_run.proofs.slot.plan.Goals as goal

@@ -2,7 +2,7 @@ use Rattle.std.proofs.Common.{◌≡◌, ℕ, ◌+◌, ◌*◌, ◌^◌, ◌<◌
 use Rattle.std.proofs.Math.Nat.{pow-le-pow_right}
 use Rattle.std.proofs.lemmas.Grind.{common_steps, pow_more}
 use Rattle.ttp_world.specs.TraceNumbers.{is_digit, append_digit}
-use Rattle.line_text.proofs.DecimalDigits.{fold-next, digit-small, within_most}
+use Rattle.line_text.proofs.ForAbove.{fold-next, digit-small, within_most}
 use Rattle.ttp_world.proofs.SmallTests.{below_power}
 use Rattle.commands.proofs.words.numeral_named.Goals as goal
 

@@ -1,6 +1,6 @@
 use Rattle.controller.proofs.Words.{is_wide, cstate_at}
 use Rattle.ttp_world.specs.Reception.{expected_header, expected_length}
-use Rattle.ttp_frame.proofs.FrameLaws.{Match-fits, Invalid-formed}
+use Rattle.ttp_frame.proofs.ForAbove.{Match-fits, Invalid-formed}
 use Rattle.controller.proofs.hearing.match_with.Goals as goal
 
 pub returns-clause-fits : goal.returns-clause-fits

@@ -5,7 +5,7 @@ use Rattle.causes.specs.Sources as causes
 use Rattle.causes.specs.Sources.{only_lines}
 use Rattle.entry_causes.specs.Hearing.{signal_heard}
 use Rattle.run_looks.specs.Added.{AddsSources}
-use Rattle.run_rows.proofs.Slots.{slot_in-number, slot_in-script}
+use Rattle.entry_causes.proofs.FromBelow.{slot_in-number, slot_in-script}
 use Rattle.run_rows.specs.Rows.{run_slot}
 use Rattle.ttp_world.specs.Medium.{Signal}
 use Rattle.entry_causes.proofs.bus.add_spoilt_on.Goals as goal

@@ -2,7 +2,7 @@ use Rattle.std.proofs.Common.{ap, length, sym, ◌∙◌}
 use Rattle.causes.specs.Judged.{came_as_sent}
 use Rattle.causes.specs.Said.{frame_to_join}
 use Rattle.entry_causes.proofs.Signals.{heard-below}
-use Rattle.run_rows.proofs.Slots.{slot_in-list}
+use Rattle.entry_causes.proofs.FromBelow.{slot_in-list}
 use Rattle.run_rows.specs.Rows.{run_slot}
 use Rattle.entry_causes.proofs.bus.frame_on.Goals as goal
 

@@ -3,7 +3,7 @@ use Rattle.causes.specs.Judged.{came_as_sent}
 use Rattle.causes.specs.LinesOf.{bytes_sent, heard_in}
 use Rattle.entry_causes.proofs.Signals.{alone-sends, heard-in_slot, heard-many, heard-none, heard-one, heard-silenced}
 use Rattle.entry_causes.specs.Hearing.{signal_heard}
-use Rattle.run_rows.proofs.Slots.{slot_in-number, slot_in-script}
+use Rattle.entry_causes.proofs.FromBelow.{slot_in-number, slot_in-script}
 use Rattle.run_rows.specs.Rows.{run_slot}
 use Rattle.ttp_world.specs.Medium.{signal_of, with_noise}
 use Rattle.entry_causes.proofs.bus.heard_in.Goals as goal

@@ -1,5 +1,5 @@
 use Rattle.std.proofs.Common.{ap, ◌∙◌}
-use Rattle.medium.proofs.Channels.{is_among-where}
+use Rattle.entry_causes.proofs.FromBelow.{is_among-where}
 use Rattle.ttp_world.specs.Events.{is_among}
 use Rattle.ttp_world.specs.Script.{has_send_fault}
 use Rattle.ttp_world.specs.declared.events.Incidents.{Incidents}

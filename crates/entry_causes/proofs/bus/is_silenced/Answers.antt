@@ -1,6 +1,5 @@
 use Rattle.std.proofs.Common.{ap, sym, ◌∙◌}
-use Rattle.medium.proofs.Channels.{is_among-where}
-use Rattle.run_rows.proofs.Slots.{slot_in-number, slot_in-script}
+use Rattle.entry_causes.proofs.FromBelow.{is_among-where, slot_in-number, slot_in-script}
 use Rattle.ttp_world.specs.Events.{is_among}
 use Rattle.ttp_world.specs.Script.{has_receive_fault}
 use Rattle.ttp_world.specs.declared.events.Incidents.{Incidents}

@@ -1,7 +1,7 @@
 use Rattle.std.proofs.Common.{◌≡◌, Bool, true, ◌&&◌, ap, is_some, sym, ◌∙◌}
 use Rattle.causes.specs.LinesOf.{bytes_sent}
 use Rattle.entry_causes.specs.Senders.{sends_in}
-use Rattle.run_rows.proofs.Slots.{slot_in-list}
+use Rattle.entry_causes.proofs.FromBelow.{slot_in-list}
 use Rattle.run_rows.specs.Rows.{run_slot}
 use Rattle.run_rows.specs.declared.row.NodeRow.{NodeRow}
 use Rattle.ttp_world.specs.Fitting.{joinable}

@@ -6,7 +6,7 @@ use Rattle.causes.specs.Sources as causes
 use Rattle.causes.specs.Sources.{cause_by}
 use Rattle.causes.specs.declared.cause.Because.TheVariants as because
 use Rattle.causes.specs.declared.cause.Cause.{Cause}
-use Rattle.run_rows.proofs.Slots.{past_slots_in-next, slot_in-script}
+use Rattle.entry_causes.proofs.FromBelow.{past_slots_in-next, slot_in-script}
 use Rattle.run_rows.specs.Rows.{node_row, past_slots_in, slot_in}
 use Rattle.run_rows.specs.declared.row.NodeRow.{NodeRow}
 use Rattle.ttp_world.specs.Script.{on_slot}

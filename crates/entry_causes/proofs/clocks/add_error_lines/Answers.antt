@@ -6,7 +6,7 @@ use Rattle.causes.specs.Sources.{only_lines}
 use Rattle.causes.specs.declared.cause.ScriptLine.{ScriptLine}
 use Rattle.entry_causes.proofs.Adding.{adds-none}
 use Rattle.run_looks.specs.Added.{AddsSources}
-use Rattle.run_rows.proofs.Slots.{slot_in-list, slot_in-number, slot_in-script}
+use Rattle.entry_causes.proofs.FromBelow.{slot_in-list, slot_in-number, slot_in-script}
 use Rattle.run_rows.specs.Rows.{run_slot}
 use Rattle.ttp_world.specs.Script.{reading_error}
 use Rattle.ttp_world.specs.declared.events.Incidents.{Incidents}

@@ -4,7 +4,7 @@ use Rattle.causes.specs.RunSlots.{RunSlots}
 use Rattle.causes.specs.Sources.{only_lines}
 use Rattle.entry_causes.proofs.Adding.{adds-both, on-ok}
 use Rattle.run_looks.specs.Added.{AddsSources}
-use Rattle.run_rows.proofs.Slots.{past_slots_in-next}
+use Rattle.entry_causes.proofs.FromBelow.{past_slots_in-next}
 use Rattle.run_rows.specs.Rows.{past_slots_in}
 use Rattle.entry_causes.proofs.clocks.add_jumps.Goals as goal
 

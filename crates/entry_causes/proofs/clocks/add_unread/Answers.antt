@@ -6,7 +6,7 @@ use Rattle.entry_causes.proofs.Adding.{adds-none}
 use Rattle.entry_causes.proofs.Unread.{unread-averaged, unread-early, unread-here}
 use Rattle.entry_causes.specs.Notes.{unread_in}
 use Rattle.run_looks.specs.Added.{AddsSources}
-use Rattle.run_rows.proofs.Slots.{length-past_slots_in}
+use Rattle.entry_causes.proofs.FromBelow.{length-past_slots_in}
 use Rattle.run_rows.specs.Rows.{past_slots}
 use Rattle.run_rows.specs.declared.row.NodeRow.{NodeRow}
 use Rattle.entry_causes.proofs.clocks.add_unread.Goals as goal

@@ -1,7 +1,7 @@
 use Rattle.std.proofs.Common.{ℕ, ap, sym, ◌∙◌}
 use Rattle.std.specs.Prelude.{None, Option, unwrap_or}
 use Rattle.causes.specs.Clocks.{is_that_slot}
-use Rattle.run_rows.proofs.Slots.{slot_in-number, slot_in-script}
+use Rattle.entry_causes.proofs.FromBelow.{slot_in-number, slot_in-script}
 use Rattle.ttp_world.specs.Script.{on_slot}
 use Rattle.entry_causes.proofs.clocks.comes_on.Goals as goal
 

@@ -2,10 +2,9 @@ use Rattle.std.proofs.Common.{◌≡◌, true, false, ap, subst, sym, ◌∙◌,
 use Rattle.std.proofs.lemmas.Bool.{false≢true}
 use Rattle.ttp_world.specs.ZerosWorld.{all_zeros}
 use Rattle.causes.specs.RunSlots.{is_sent, is_started, past_in}
-use Rattle.controller.proofs.Sets.{with_node-room}
+use Rattle.entry_causes.proofs.FromBelow.{with_node-room, slot_in-list}
 use Rattle.entry_causes.proofs.BytesSent.{bytes-own, bytes-started}
 use Rattle.entry_causes.proofs.MemberFacts.{members-in}
-use Rattle.run_rows.proofs.Slots.{slot_in-list}
 use Rattle.run_rows.specs.Rows.{run_slot}
 use Rattle.run_rows.specs.declared.row.NodeRow.{NodeRow}
 use Rattle.ttp_base.specs.NodeSet.{with_node}

@@ -8,7 +8,7 @@ use Rattle.causes.specs.Sources.{all_sources, only_entries, sources_of, with_sou
 use Rattle.entry_causes.proofs.Adding.{adds-both, on-ok}
 use Rattle.entry_causes.proofs.Remaining.{adds-same}
 use Rattle.entry_causes.proofs.Since.{take-limit}
-use Rattle.run_rows.proofs.Slots.{slot_in-list}
+use Rattle.entry_causes.proofs.FromBelow.{slot_in-list}
 use Rattle.run_rows.specs.Rows.{past_slots, run_slot}
 use Rattle.ttp_base.specs.NodeSet.{below}
 use Rattle.ttp_world.specs.declared.medl.Medl.{Medl}

@@ -1,5 +1,5 @@
 use Rattle.std.proofs.Common.{length, ap, sym, ◌∙◌}
-use Rattle.run_rows.proofs.Slots.{length-past_slots_in}
+use Rattle.entry_causes.proofs.FromBelow.{length-past_slots_in}
 use Rattle.entry_causes.proofs.listening.listening_from.Goals as goal
 
 pub returns-clause-value : goal.returns-clause-value

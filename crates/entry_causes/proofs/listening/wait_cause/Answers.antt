@@ -3,7 +3,7 @@ use Rattle.causes.specs.Listening.{wait_sources}
 use Rattle.causes.specs.Sources.{cause_by}
 use Rattle.causes.specs.declared.cause.Because.TheVariants as because
 use Rattle.entry_causes.proofs.Remaining.{caused}
-use Rattle.run_rows.proofs.Slots.{past_slots_in-next}
+use Rattle.entry_causes.proofs.FromBelow.{past_slots_in-next}
 use Rattle.run_rows.specs.Rows.{past_slots}
 use Rattle.entry_causes.proofs.listening.wait_cause.Goals as goal
 

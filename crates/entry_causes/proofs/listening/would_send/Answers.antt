@@ -2,7 +2,7 @@ use Rattle.std.proofs.Common.{◌+◌, ◌-◌, ◌%◌, Bool, ◌&&◌, length,
 use Rattle.std.specs.Prelude.{◌==◌}
 use Rattle.std.proofs.lemmas.Bool.{le-leb, lt-leb}
 use Rattle.causes.specs.RunSlots.{place_of_node}
-use Rattle.run_rows.proofs.Slots.{slot_in-list, slot_in-number}
+use Rattle.entry_causes.proofs.FromBelow.{slot_in-list, slot_in-number}
 use Rattle.run_rows.specs.Rows.{run_slot}
 use Rattle.ttp_world.specs.declared.medl.Medl.{Medl}
 use Rattle.entry_causes.proofs.listening.would_send.Goals as goal

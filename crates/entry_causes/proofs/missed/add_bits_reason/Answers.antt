@@ -7,7 +7,7 @@ use Rattle.causes.specs.declared.cause.ScriptLine.{ScriptLine}
 use Rattle.entry_causes.proofs.Drops.{drop-added}
 use Rattle.entry_causes.proofs.Reasons.{reason-same, tells-same}
 use Rattle.run_looks.specs.Added.{AddsSources}
-use Rattle.run_rows.proofs.Slots.{slot_in-number, slot_in-script}
+use Rattle.entry_causes.proofs.FromBelow.{slot_in-number, slot_in-script}
 use Rattle.run_rows.specs.Rows.{past_slots, run_slot}
 use Rattle.ttp_world.specs.Medium.{Bits}
 use Rattle.entry_causes.proofs.missed.add_bits_reason.Goals as goal

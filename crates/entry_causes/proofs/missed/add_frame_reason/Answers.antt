@@ -9,7 +9,7 @@ use Rattle.causes.specs.declared.cause.Miss.TheVariants as miss
 use Rattle.causes.specs.declared.cause.Spot.{Spot}
 use Rattle.entry_causes.proofs.Past.{spot-in}
 use Rattle.entry_causes.proofs.Reasons.{frame-cold, frame-elsewhere, frame-late, frame-members, reason-same, tells-same}
-use Rattle.run_rows.proofs.Slots.{slot_in-list}
+use Rattle.entry_causes.proofs.FromBelow.{slot_in-list}
 use Rattle.run_rows.specs.Rows.{past_slots, run_slot}
 use Rattle.run_rows.specs.declared.row.NodeRow.{NodeRow}
 use Rattle.ttp_world.specs.Reception.{is_within_window}

@@ -5,7 +5,7 @@ use Rattle.causes.specs.RunSlots.{entry_in_slot}
 use Rattle.causes.specs.Sources.{by_line}
 use Rattle.causes.specs.declared.cause.Miss.TheVariants as miss
 use Rattle.entry_causes.proofs.Reasons.{reason-same, tells-same}
-use Rattle.run_rows.proofs.Slots.{slot_in-number, slot_in-script}
+use Rattle.entry_causes.proofs.FromBelow.{slot_in-number, slot_in-script}
 use Rattle.run_rows.specs.Rows.{past_slots, run_slot}
 use Rattle.entry_causes.proofs.missed.add_nobody_reason.Goals as goal
 

@@ -8,7 +8,7 @@ use Rattle.entry_causes.proofs.WhoSends.{strikes-the_one}
 use Rattle.entry_causes.specs.Senders.{the_one}
 use Rattle.run_looks.specs.Added.{AddsSources}
 use Rattle.run_looks.specs.Questions.{senders_by}
-use Rattle.run_rows.proofs.Slots.{slot_in-number, slot_in-script}
+use Rattle.entry_causes.proofs.FromBelow.{slot_in-number, slot_in-script}
 use Rattle.run_rows.specs.Rows.{run_slot}
 use Rattle.ttp_world.specs.Events.{is_send_fault}
 use Rattle.ttp_world.specs.declared.script.Fault.TheVariants as fault

@@ -1,5 +1,5 @@
 use Rattle.std.proofs.Common.{Bool, ◌&&◌, ap, sym, ◌∙◌}
-use Rattle.run_rows.proofs.Slots.{slot_in-number, slot_in-script}
+use Rattle.entry_causes.proofs.FromBelow.{slot_in-number, slot_in-script}
 use Rattle.run_rows.specs.Rows.{run_slot}
 use Rattle.ttp_world.specs.Script.{has_receive_fault}
 use Rattle.ttp_world.specs.declared.script.Channel.TheVariants as channel

@@ -1,7 +1,6 @@
 use Rattle.std.proofs.Common.{◌≡◌, Bool, true, ◌&&◌, not, ap, sym, ◌∙◌}
 use Rattle.entry_causes.specs.Senders.{sends_in}
-use Rattle.medium.proofs.Channels.{is_among-where}
-use Rattle.run_rows.proofs.Slots.{slot_in-number, slot_in-script}
+use Rattle.entry_causes.proofs.FromBelow.{is_among-where, slot_in-number, slot_in-script}
 use Rattle.run_rows.specs.Rows.{run_slot}
 use Rattle.run_rows.specs.declared.row.NodeRow.{NodeRow}
 use Rattle.ttp_world.specs.Events.{is_among}

@@ -1,5 +1,5 @@
 use Rattle.std.proofs.Common.{ℕ, ◌<◌, ◌≤◌, length, subst, sym, ◌∙◌, arith}
-use Rattle.controller.proofs.Sets.{HaveRooms, candidates-room}
+use Rattle.entry_causes.proofs.FromBelow.{HaveRooms, candidates-room}
 use Rattle.entry_causes.proofs.MemberFacts.{doubt-in, doubt-of, members-in}
 use Rattle.entry_causes.specs.Differences.{IfDoubted}
 use Rattle.run_rows.specs.declared.row.NodeRow.{NodeRow}

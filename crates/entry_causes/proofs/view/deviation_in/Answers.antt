@@ -1,6 +1,6 @@
 use Rattle.std.proofs.Common.{◌*◌, ◌+ℤ◌, ◌-ℤ◌, ap, sym, ◌∙◌, arith, rules, w64, FitsSigned}
 use Rattle.std.proofs.lemmas.Int.{to_z-of_z}
-use Rattle.run_rows.proofs.Slots.{slot_in-number, slot_in-script}
+use Rattle.entry_causes.proofs.FromBelow.{slot_in-number, slot_in-script}
 use Rattle.ttp_world.proofs.SmallTests.{span-abs}
 use Rattle.ttp_world.specs.Script.{reading_error}
 use Rattle.ttp_world.specs.declared.events.Incidents.{Incidents}

@@ -1,4 +1,4 @@
-use Rattle.ttp_frame.proofs.FrameLaws.{Invalid-formed, Match-fits}
+use Rattle.entry_causes.proofs.FromBelow.{Invalid-formed, Match-fits}
 use Rattle.ttp_world.specs.Diary.{cstate_at, joined_place}
 use Rattle.ttp_world.specs.Medl.{is_wide}
 use Rattle.ttp_world.specs.Reception.{expected_header, expected_length}

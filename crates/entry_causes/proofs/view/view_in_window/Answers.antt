@@ -1,6 +1,6 @@
 use Rattle.std.proofs.Common.{ap, sym, ◌∙◌}
 use Rattle.entry_causes.specs.Seeing.{view_within}
-use Rattle.run_rows.proofs.Slots.{slot_in-list}
+use Rattle.entry_causes.proofs.FromBelow.{slot_in-list}
 use Rattle.ttp_world.specs.Diary.{joined_place}
 use Rattle.ttp_world.specs.declared.node.CState.{CState}
 use Rattle.entry_causes.proofs.view.view_in_window.Goals as goal

@@ -1,7 +1,7 @@
 use Rattle.std.proofs.Common.{◌≡◌, Bool, true, false, cond, ◌&&◌, ap, sym, ◌∙◌, FitsSigned, rules, w64}
 use Rattle.std.proofs.lemmas.Int.{to_z-of_z}
 use Rattle.causes.specs.RunSlots.{past_in}
-use Rattle.run_rows.proofs.Slots.{slot_in-list}
+use Rattle.entry_causes.proofs.FromBelow.{slot_in-list}
 use Rattle.run_rows.specs.Rows.{run_slot}
 use Rattle.ttp_world.specs.Reception.{expected_of, is_expected_form, is_within_window, view_of_frame}
 use Rattle.ttp_world.specs.World.{deviation_in}

@@ -5,7 +5,7 @@ use Rattle.std.specs.Prelude.{IfOk}
 use Rattle.campaign.specs.Cost.{cost_of}
 use Rattle.controller.specs.Agreement.{begins_at}
 use Rattle.campaign.specs.Tried.{with_fault}
-use Rattle.run_costs.proofs.Rows.{next_row}
+use Rattle.fault_runs.proofs.FromBelow.{next_row}
 use Rattle.run_costs.specs.Later.{comes_later}
 use Rattle.run_costs.specs.Standing.{IsSeenAfter}
 use Rattle.run_costs.specs.States.{AreShown}

@@ -1,4 +1,4 @@
-use Rattle.bus_frames.proofs.Lists.{lines-by-nodes}
+use Rattle.frame_laws.proofs.FromBelow.{lines-by-nodes}
 use Rattle.frame_laws.proofs.Nodes.{line-counted, state-kept}
 use Rattle.frame_laws.proofs.laws.nodes.Goals as goal
 

@@ -1,6 +1,6 @@
 use Rattle.hypothesis.proofs.Words.{◌*◌, ◌≤◌, length, sym, subst, rules, arith}
 use Rattle.ttp_world.specs.Medl.{IsWithin}
-use Rattle.precision.proofs.Limits.{share_limits}
+use Rattle.precision.proofs.ForAbove.{share_limits}
 use Rattle.hypothesis.proofs.clocks.back_drift_share.Goals as goal
 
 pub returns-clause-value : goal.returns-clause-value

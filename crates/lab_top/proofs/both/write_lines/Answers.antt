@@ -1,7 +1,7 @@
 use Rattle.std.proofs.Common.{refl}
 use Rattle.commands.specs.Plan.{outside, ends}
 use Rattle.commands.specs.Texts.{alone}
-use Rattle.commands.proofs.Loads.{pair_came, no_pair}
+use Rattle.lab_top.proofs.FromBelow.{pair_came, no_pair}
 use Rattle.lab_top.specs.Forms.{lines_ending}
 use Rattle.lab_top.specs.Texts.{ttplab}
 use Rattle.lab_top.proofs.Room.{room_of}

@@ -1,6 +1,6 @@
 use Rattle.std.proofs.Common.{inl, refl}
 use Rattle.commands.specs.Lines.{notice}
-use Rattle.commands.proofs.Loads.{said}
+use Rattle.lab_top.proofs.FromBelow.{said}
 use Rattle.lab_top.specs.Forms.{lab_usage_line}
 use Rattle.lab_top.specs.Help.{version_line}
 use Rattle.lab_top.specs.Texts.{ttplab}

@@ -2,7 +2,7 @@ use Rattle.std.proofs.Common.{Some, refl}
 use Rattle.commands.specs.Files.{script_file}
 use Rattle.commands.specs.Plan.{outside, ends}
 use Rattle.commands.specs.Texts.{alone}
-use Rattle.commands.proofs.Loads.{bytes_came, no_bytes}
+use Rattle.lab_top.proofs.FromBelow.{bytes_came, no_bytes}
 use Rattle.lab_top.specs.Forms.{check_ending}
 use Rattle.lab_top.specs.Texts.{ttplab}
 use Rattle.lab_top.proofs.check.check_beside.Goals as goal

@@ -1,7 +1,7 @@
 use Rattle.commands.specs.Files.{list_file}
 use Rattle.commands.specs.Plan.{outside}
 use Rattle.commands.specs.Texts.{alone}
-use Rattle.commands.proofs.Loads.{bytes_came, no_bytes}
+use Rattle.lab_top.proofs.FromBelow.{bytes_came, no_bytes}
 use Rattle.lab_top.specs.Forms.{beside_plan}
 use Rattle.lab_top.specs.Texts.{ttplab}
 use Rattle.lab_top.proofs.check.check_both.Goals as goal

@@ -2,7 +2,7 @@ use Rattle.std.proofs.Common.{None, refl}
 use Rattle.commands.specs.Files.{list_file}
 use Rattle.commands.specs.Plan.{outside, ends}
 use Rattle.commands.specs.Texts.{alone}
-use Rattle.commands.proofs.Loads.{bytes_came, no_bytes}
+use Rattle.lab_top.proofs.FromBelow.{bytes_came, no_bytes}
 use Rattle.lab_top.specs.Forms.{check_ending}
 use Rattle.lab_top.specs.Texts.{ttplab}
 use Rattle.lab_top.proofs.check.check_list.Goals as goal

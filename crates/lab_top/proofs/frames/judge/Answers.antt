@@ -2,7 +2,7 @@ use Rattle.std.proofs.Common.{refl}
 use Rattle.commands.specs.Files.{trace_file}
 use Rattle.commands.specs.Plan.{outside, ends}
 use Rattle.commands.specs.Texts.{alone}
-use Rattle.commands.proofs.Loads.{bytes_came, no_bytes}
+use Rattle.lab_top.proofs.FromBelow.{bytes_came, no_bytes}
 use Rattle.lab_top.specs.Forms.{frames_ending}
 use Rattle.lab_top.specs.Texts.{ttplab}
 use Rattle.lab_top.proofs.frames.judge.Goals as goal

@@ -1,7 +1,6 @@
 use Rattle.std.proofs.Common.{◌∙◌, inl}
-use Rattle.commands.proofs.Loads.{said_as}
+use Rattle.lab_top.proofs.FromBelow.{said_as, differs-none}
 use Rattle.trace_check.specs.Difference.{differs_line}
-use Rattle.trace_check.proofs.Differences.{differs-none}
 use Rattle.lab_top.specs.Texts.{ttplab}
 use Rattle.lab_top.proofs.Differences.{differs-said}
 use Rattle.lab_top.proofs.frames.show_outcome.Goals as goal

@@ -3,7 +3,7 @@ use Rattle.commands.specs.Files.{list_file, refused_list}
 use Rattle.commands.specs.Plan.{outside, ends}
 use Rattle.commands.specs.Read.{list_from}
 use Rattle.commands.specs.Texts.{alone}
-use Rattle.commands.proofs.Loads.{value_came, no_value}
+use Rattle.lab_top.proofs.FromBelow.{value_came, no_value}
 use Rattle.lab_top.specs.Forms.{script_ending}
 use Rattle.lab_top.specs.Texts.{ttplab}
 use Rattle.lab_top.proofs.generated.script.Goals as goal

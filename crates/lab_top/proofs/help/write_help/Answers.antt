@@ -1,6 +1,6 @@
 use Rattle.std.proofs.Common.{Bool, subst}
 use Rattle.ttp_base.specs.Sheet.{Puts}
-use Rattle.picture_text.proofs.Ending.{end_ok, end_failed}
+use Rattle.lab_top.proofs.FromBelow.{end_ok, end_failed}
 use Rattle.lab_top.specs.Help.{help_lines}
 use Rattle.lab_top.proofs.help.write_help.Goals as goal
 

@@ -1,4 +1,4 @@
-use Rattle.fault_runs.proofs.Endings.{fewer-none}
+use Rattle.lab_top.proofs.FromBelow.{fewer-none}
 use Rattle.lab_top.proofs.pairs.put_with_room.Goals as goal
 
 pub returns-clause-err : goal.returns-clause-err

@@ -1,7 +1,7 @@
 use Rattle.std.proofs.Common.{codes, refl}
 use Rattle.commands.specs.Plan.{outside, ends}
 use Rattle.commands.specs.Texts.{alone}
-use Rattle.commands.proofs.Loads.{bytes_came, no_bytes}
+use Rattle.lab_top.proofs.FromBelow.{bytes_came, no_bytes}
 use Rattle.lab_top.specs.Forms.{viewed_ending}
 use Rattle.lab_top.specs.Texts.{ttplab}
 use Rattle.lab_top.specs.Views.{picture_view, text_file, viewed}

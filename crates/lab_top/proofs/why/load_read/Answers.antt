@@ -4,7 +4,7 @@ use Rattle.ttp_base.specs.Outside.{Output}
 use Rattle.commands.specs.Faults.{file_fault_line}
 use Rattle.commands.specs.Files.{refused_script}
 use Rattle.commands.specs.Lines.{HasSaid}
-use Rattle.commands.proofs.Loads.{same_said}
+use Rattle.lab_top.proofs.FromBelow.{same_said}
 use Rattle.lab_top.proofs.why.load_read.Goals as goal
 
 pub returns-in-Err-Told-clause-err : goal.returns-in-Err-Told-clause-err

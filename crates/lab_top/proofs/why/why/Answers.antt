@@ -2,7 +2,7 @@ use Rattle.commands.specs.Files.{list_file, refused_list}
 use Rattle.commands.specs.Plan.{outside}
 use Rattle.commands.specs.Read.{list_from}
 use Rattle.commands.specs.Texts.{alone}
-use Rattle.commands.proofs.Loads.{value_came, no_value}
+use Rattle.lab_top.proofs.FromBelow.{value_came, no_value}
 use Rattle.lab_top.specs.Texts.{ttplab}
 use Rattle.lab_top.specs.Why.{ends_why, read_script_plan}
 use Rattle.lab_top.proofs.why.why.Goals as goal

@@ -1,6 +1,6 @@
 use Rattle.std.proofs.Common.{sym, ap, ◌∙◌}
 use Rattle.line_reader.specs.Reading.{line_in}
-use Rattle.line_text.proofs.Options.{some_same}
+use Rattle.line_reader.proofs.FromBelow.{some_same}
 use Rattle.line_reader.proofs.WrittenLines.{line-again}
 use Rattle.line_reader.proofs.laws.one_value.Goals as goal
 

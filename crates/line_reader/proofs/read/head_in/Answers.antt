@@ -1,5 +1,5 @@
 use Rattle.std.proofs.Common.{refl, subst}
-use Rattle.line_form.proofs.Closing.{ReadAs, closes_with, read_word, read_none}
+use Rattle.line_reader.proofs.FromBelow.{ReadAs, closes_with, read_word, read_none}
 use Rattle.line_form.specs.Forms.{Values}
 use Rattle.line_reader.specs.Reading.{head_in}
 use Rattle.line_reader.specs.TraceForms.{head_form, head_meaning}

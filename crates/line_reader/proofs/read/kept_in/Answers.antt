@@ -1,5 +1,5 @@
 use Rattle.std.proofs.Common.{refl, rules}
-use Rattle.line_form.proofs.Closing.{closes_with, closing}
+use Rattle.line_reader.proofs.FromBelow.{closes_with, closing}
 use Rattle.line_reader.specs.Reading.{kept_in}
 use Rattle.line_reader.specs.TraceForms.{kept_form, kept_meaning}
 use Rattle.line_reader.proofs.read.kept_in.Goals as goal

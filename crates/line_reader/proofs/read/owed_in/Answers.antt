@@ -1,5 +1,5 @@
 use Rattle.std.proofs.Common.{refl, rules}
-use Rattle.line_form.proofs.Closing.{closes_with, closing}
+use Rattle.line_reader.proofs.FromBelow.{closes_with, closing}
 use Rattle.line_reader.specs.Reading.{owed_in}
 use Rattle.line_reader.specs.TraceForms.{owed_form, owed_meaning}
 use Rattle.line_reader.proofs.read.owed_in.Goals as goal

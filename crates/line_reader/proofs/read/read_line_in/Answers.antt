@@ -1,5 +1,5 @@
 use Rattle.std.proofs.Common.{sym, ◌∙◌, rules}
-use Rattle.line_form.proofs.Closing.{closes_with, closes_none, closing}
+use Rattle.line_reader.proofs.FromBelow.{closes_with, closes_none, closing}
 use Rattle.line_reader.specs.Reading.{read_line_in}
 use Rattle.line_reader.specs.TraceForms.{read_form, read_meaning, source_told}
 use Rattle.line_reader.proofs.ValueLaws.{read-means, read-no_line}

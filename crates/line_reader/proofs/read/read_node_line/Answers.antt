@@ -1,5 +1,5 @@
 use Rattle.std.proofs.Common.{ap, sym, ◌∙◌, option_map, rules}
-use Rattle.line_form.proofs.Closing.{closes_with, closes_none, map_closed, closing}
+use Rattle.line_reader.proofs.FromBelow.{closes_with, closes_none, map_closed, closing}
 use Rattle.line_reader.specs.Reading.{node_in}
 use Rattle.line_reader.specs.TraceForms.{node_form, node_values, node_meaning}
 use Rattle.line_reader.proofs.ValueLaws.{node-means, node-no_line, node_said}

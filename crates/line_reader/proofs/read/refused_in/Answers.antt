@@ -1,5 +1,5 @@
 use Rattle.std.proofs.Common.{refl, rules}
-use Rattle.line_form.proofs.Closing.{closes_with, closing}
+use Rattle.line_reader.proofs.FromBelow.{closes_with, closing}
 use Rattle.line_reader.specs.Reading.{refused_in}
 use Rattle.line_reader.specs.TraceForms.{refused_form, refused_meaning}
 use Rattle.line_reader.proofs.read.refused_in.Goals as goal

@@ -1,7 +1,7 @@
 use Rattle.std.proofs.Common.{sym, ◌∙◌, append-nil, List, ◌++◌, ap}
 use Rattle.toml.specs.View.{items_view}
 use Rattle.medl_text.specs.ListFile.{tables_of}
-use Rattle.medl_text.proofs.Counts.{length-tables_of}
+use Rattle.list_errors.proofs.FromBelow.{length-tables_of}
 use Rattle.list_errors.specs.declared.error.Wrong.{Wrong}
 use Rattle.list_errors.proofs.Told.{no_syncs}
 use Rattle.list_errors.proofs.file.tell_sync.Goals as goal

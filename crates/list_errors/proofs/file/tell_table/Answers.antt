@@ -1,7 +1,7 @@
 use Rattle.std.proofs.Common.{sym, length}
 use Rattle.toml.specs.View.{table_view, items_view}
 use Rattle.medl_text.specs.ListFile.{tables_of}
-use Rattle.medl_text.proofs.Counts.{length-tables_of}
+use Rattle.list_errors.proofs.FromBelow.{length-tables_of}
 use Rattle.list_errors.proofs.Told.{table_told}
 use Rattle.list_errors.proofs.file.tell_table.Goals as goal
 

@@ -5,8 +5,7 @@ use Rattle.campaign.specs.Lines.{own_line, summary}
 use Rattle.clock_margins.specs.MarginText.{margins_head}
 use Rattle.fault_runs.specs.declared.put.CampaignFault.{CampaignFault}
 use Rattle.fault_runs.specs.Ends.{LeftFewerBy}
-use Rattle.fault_runs.proofs.Endings.{fewer-after, fewer-more}
-use Rattle.fault_runs.proofs.Results.{ok-weaker, err-weaker}
+use Rattle.margin_runs.proofs.FromBelow.{fewer-after, fewer-more, ok-weaker, err-weaker}
 use Rattle.margin_runs.specs.Written.{lines_in_front}
 use Rattle.margin_runs.proofs.put.put_front.Goals as goal
 

@@ -7,7 +7,7 @@ use Rattle.clock_margins.specs.Ranges.{Range}
 use Rattle.margin_text.specs.Taken.{range_of}
 use Rattle.fault_runs.specs.declared.put.CampaignFault.{CampaignFault}
 use Rattle.fault_runs.specs.Ends.{LeftBy, LeftFewerBy}
-use Rattle.fault_runs.proofs.Results.{err-weaker}
+use Rattle.margin_runs.proofs.FromBelow.{err-weaker}
 use Rattle.margin_runs.specs.Tries.{range_lines}
 use Rattle.margin_runs.proofs.Puts.{fewer-left}
 use Rattle.margin_runs.proofs.Writable.{open-writable}

@@ -7,7 +7,7 @@ use Rattle.clock_margins.specs.MarginText.{margin_lines}
 use Rattle.clock_margins.specs.declared.margin.Total.{Total}
 use Rattle.fault_runs.specs.declared.put.CampaignFault.{CampaignFault}
 use Rattle.fault_runs.specs.Ends.{LeftFewerBy}
-use Rattle.fault_runs.proofs.Results.{ok-weaker, err-weaker}
+use Rattle.margin_runs.proofs.FromBelow.{ok-weaker, err-weaker}
 use Rattle.margin_runs.proofs.Whole.{last_line, front-left, sweeps-left, last-left, all-written}
 use Rattle.margin_runs.proofs.put.put_margins.Goals as goal
 

@@ -6,7 +6,7 @@ use Rattle.margin_laws.specs.Behind.{closed_ranges}
 use Rattle.margin_text.specs.Taken.{value_told, range_of}
 use Rattle.fault_runs.specs.declared.put.CampaignFault.{CampaignFault}
 use Rattle.fault_runs.specs.Ends.{LeftBy, LeftFewerBy}
-use Rattle.fault_runs.proofs.Results.{ok-weaker, err-weaker}
+use Rattle.margin_runs.proofs.FromBelow.{ok-weaker, err-weaker}
 use Rattle.margin_runs.specs.Written.{IsPutOf, closed_lines}
 use Rattle.margin_runs.proofs.Puts.{put-next, left-next, fewer-left}
 use Rattle.margin_runs.proofs.Writable.{closed-writable}

@@ -2,7 +2,7 @@ use Rattle.std.proofs.Common.{◌≡◌, ℤ, pos, ◌+ℤ◌, [], ◌∷◌, �
 use Rattle.std.specs.Prelude.{neg_ℤ}
 use Rattle.std.proofs.lemmas.Int.{ints}
 use Rattle.ttp_world.specs.Events.{IsWithinSpan}
-use Rattle.margin_laws.proofs.Behind.{values-parts}
+use Rattle.margin_runs.proofs.FromBelow.{values-parts}
 use Rattle.margin_runs.proofs.Within.{same-within}
 use Rattle.margin_runs.proofs.put.some_values.Goals as goal
 

@@ -3,7 +3,7 @@ use Rattle.std.specs.Prelude.{All}
 use Rattle.ttp_world.specs.declared.script.Event.{Event}
 use Rattle.ttp_world.specs.declared.script.TheConstants.{EVENT_LIMIT}
 use Rattle.ttp_world.specs.Script.{IsBounded}
-use Rattle.single_faults.proofs.Valid.{all-bounded}
+use Rattle.margin_runs.proofs.FromBelow.{all-bounded}
 use Rattle.margin_runs.proofs.scripts.copy_of_script.Goals as goal
 
 pub index-requires : goal.index-requires

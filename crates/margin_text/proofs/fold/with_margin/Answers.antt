@@ -2,7 +2,7 @@ use Rattle.std.proofs.Common.{◌+◌, ap, sym, ◌∙◌}
 use Rattle.clock_margins.specs.declared.margin.Total.{Total}
 use Rattle.clock_margins.specs.Sums.{nearer, count_of_values}
 use Rattle.margin_laws.specs.Behind.{total_behind}
-use Rattle.margin_laws.proofs.Behind.{total-behind}
+use Rattle.margin_text.proofs.FromBelow.{total-behind}
 use Rattle.margin_text.proofs.fold.with_margin.Goals as goal
 
 pub returns-clause-total : goal.returns-clause-total

@@ -1,6 +1,6 @@
 use Rattle.std.proofs.Common.{List, ℕ, ◌++◌, rules, ap, ◌∙◌}
 use Rattle.line_form.specs.Forms.{spelled_line}
-use Rattle.line_form.proofs.Putting.{puts, putting}
+use Rattle.margin_text.proofs.FromBelow.{puts, putting}
 use Rattle.clock_margins.specs.Forms.{all_form, all_values}
 use Rattle.margin_text.proofs.lines.form_all.Goals as goal
 

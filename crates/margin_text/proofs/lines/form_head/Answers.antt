@@ -2,7 +2,7 @@ use Rattle.std.proofs.Common.{◌≡◌, List, ℕ, ◌++◌, rules, ap, ◌∙�
 use Rattle.std.specs.Fmt.{signed_decimal}
 use Rattle.std.proofs.lemmas.Int.{to_z-of_z}
 use Rattle.line_form.specs.Forms.{spelled_line}
-use Rattle.line_form.proofs.Putting.{puts, put_word, put_end}
+use Rattle.margin_text.proofs.FromBelow.{puts, put_word, put_end}
 use Rattle.clock_margins.specs.Forms.{margins_head_form, margins_head_values}
 use Rattle.margin_text.proofs.lines.form_head.Goals as goal
 

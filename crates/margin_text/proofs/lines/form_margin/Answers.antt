@@ -1,6 +1,6 @@
 use Rattle.std.proofs.Common.{List, ℕ, ◌++◌, ap, ◌∙◌, refl, decimal}
 use Rattle.line_form.specs.Forms.{spelled_line}
-use Rattle.line_form.proofs.Putting.{puts, put_word, put_end}
+use Rattle.margin_text.proofs.FromBelow.{puts, put_word, put_end}
 use Rattle.clock_margins.specs.Forms.{margin_form, margin_values}
 use Rattle.margin_text.proofs.lines.form_margin.Goals as goal
 

@@ -1,6 +1,6 @@
 use Rattle.std.proofs.Common.{List, ℕ, map, ap, refl}
 use Rattle.line_form.specs.Kinds.{hexed, spell, listed_words}
-use Rattle.line_form.proofs.Putting.{puts, put_word, put_list, put_end}
+use Rattle.margin_text.proofs.FromBelow.{puts, put_word, put_list, put_end}
 use Rattle.ttp_base.specs.NodeSet.{set_bits}
 use Rattle.ttp_world.specs.Trace.{member_digits}
 use Rattle.clock_margins.specs.Forms.{outcome_form, outcome_values}

@@ -1,7 +1,7 @@
 use Rattle.std.proofs.Common.{◌≡◌, ◌<◌, ◌++◌, ℕ, length, map, get_or, ap, sym, ◌∙◌, arith}
 use Rattle.std.proofs.lemmas.List.{get_or-map, length-map}
 use Rattle.line_form.specs.Kinds.{hexed, spell}
-use Rattle.line_form.proofs.Lists.{one_more}
+use Rattle.margin_text.proofs.FromBelow.{one_more}
 use Rattle.ttp_base.specs.NodeSet.{set_bits}
 use Rattle.ttp_world.specs.Trace.{member_digits}
 use Rattle.margin_text.proofs.put.put_joined.Goals as goal

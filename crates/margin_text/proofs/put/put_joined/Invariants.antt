@@ -1,6 +1,6 @@
 use Rattle.std.proofs.Common.{◌≡◌, ◌+◌, ◌*◌, ◌≤◌, ◌++◌, length, map}
 use Rattle.line_form.specs.Kinds.{hexed}
-use Rattle.line_form.proofs.Lists.{joined_front}
+use Rattle.margin_text.proofs.FromBelow.{joined_front}
 use Rattle.ttp_base.specs.NodeSet.{set_bits}
 use Rattle.ttp_world.specs.Trace.{member_digits}
 use Rattle.margin_text.proofs.put.put_joined.Given as goal

@@ -3,7 +3,7 @@ use Rattle.std.specs.Prelude.{IfOk}
 use Rattle.ttp_world.specs.declared.node.Entry.{Entry}
 use Rattle.ttp_world.specs.declared.script.Event.{Event}
 use Rattle.campaign.specs.Tried.{faults_in}
-use Rattle.fault_runs.proofs.Ranges.{shown-row}
+use Rattle.pair_runs.proofs.FromBelow.{shown-row}
 use Rattle.pair_runs.proofs.ahead.faults_at.Goals as goal
 
 pub returns : goal.returns

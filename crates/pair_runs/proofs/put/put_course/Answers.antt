@@ -10,8 +10,7 @@ use Rattle.campaign.specs.Lines.{summary}
 use Rattle.fault_runs.specs.declared.put.CampaignFault.{CampaignFault}
 use Rattle.fault_runs.specs.Ends.{LeftBy, LeftFewerBy}
 use Rattle.fault_runs.specs.Tries.{IsOwnAfter}
-use Rattle.fault_runs.proofs.Endings.{leaves-more, leaves-after}
-use Rattle.fault_runs.proofs.Results.{ok-weaker, err-weaker, ok-always}
+use Rattle.pair_runs.proofs.FromBelow.{leaves-more, leaves-after, ok-weaker, err-weaker, ok-always}
 use Rattle.fault_pairs.specs.declared.pair.PairCounts.{PairCounts}
 use Rattle.fault_pairs.specs.Pairs.{seconds_of}
 use Rattle.fault_pairs.specs.PairText.{lines_of_told, first_fault_line}

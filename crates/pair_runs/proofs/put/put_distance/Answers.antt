@@ -8,7 +8,7 @@ use Rattle.ttp_base.specs.Text.{Lines}
 use Rattle.ttp_base.proofs.Outputs.{Wrote-none}
 use Rattle.fault_runs.specs.declared.put.CampaignFault.{CampaignFault}
 use Rattle.fault_runs.specs.Ends.{LeftBy, LeftFewerBy}
-use Rattle.fault_runs.proofs.Results.{err-weaker}
+use Rattle.pair_runs.proofs.FromBelow.{err-weaker}
 use Rattle.fault_pairs.specs.declared.pair.PairCounts.{PairCounts}
 use Rattle.fault_pairs.specs.PairText.{apart_line, pair_counts_line}
 use Rattle.fault_pairs.specs.Sums.{PairTold, pair_counts, told_apart}

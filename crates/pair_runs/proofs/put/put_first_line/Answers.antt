@@ -3,7 +3,7 @@ use Rattle.std.specs.Prelude.{OnOk}
 use Rattle.campaign.specs.declared.cost.Cost.{Cost}
 use Rattle.campaign.specs.Lines.{summary}
 use Rattle.fault_runs.specs.Told.{told_summary}
-use Rattle.fault_runs.proofs.Orders.{cost-ordered}
+use Rattle.pair_runs.proofs.FromBelow.{cost-ordered}
 use Rattle.fault_pairs.specs.PairText.{first_fault_line}
 use Rattle.pair_runs.proofs.put.put_first_line.Goals as goal
 

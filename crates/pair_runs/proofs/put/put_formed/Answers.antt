@@ -1,5 +1,5 @@
 use Rattle.std.proofs.Common.{[]}
-use Rattle.fault_runs.proofs.Endings.{fewer-none}
+use Rattle.pair_runs.proofs.FromBelow.{fewer-none}
 use Rattle.pair_runs.proofs.put.put_formed.Goals as goal
 
 pub returns-in-Err-clause-err : goal.returns-in-Err-clause-err

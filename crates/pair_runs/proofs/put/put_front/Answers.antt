@@ -5,8 +5,7 @@ use Rattle.ttp_base.proofs.Outputs.{Wrote-join}
 use Rattle.campaign.specs.Lines.{own_line, summary}
 use Rattle.fault_runs.specs.declared.put.CampaignFault.{CampaignFault}
 use Rattle.fault_runs.specs.Ends.{LeftFewerBy}
-use Rattle.fault_runs.proofs.Endings.{fewer-after, fewer-more}
-use Rattle.fault_runs.proofs.Results.{ok-weaker, err-weaker}
+use Rattle.pair_runs.proofs.FromBelow.{fewer-after, fewer-more, ok-weaker, err-weaker}
 use Rattle.fault_pairs.specs.PairText.{pairs_head_line}
 use Rattle.pair_runs.proofs.put.put_front.Goals as goal
 

@@ -3,7 +3,7 @@ use Rattle.ttp_world.specs.declared.script.Script.{Script}
 use Rattle.ttp_world.specs.Script.{IsValidScript}
 use Rattle.campaign.specs.Lines.{summary}
 use Rattle.run_costs.specs.Standing.{IsSeenAfter}
-use Rattle.fault_runs.proofs.Endings.{front-none}
+use Rattle.pair_runs.proofs.FromBelow.{front-none}
 use Rattle.fault_pairs.specs.Classes.{harm_of}
 use Rattle.pair_runs.proofs.Harms.{cost-ordered}
 use Rattle.pair_runs.proofs.put.put_group.Goals as goal

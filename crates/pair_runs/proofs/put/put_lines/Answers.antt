@@ -5,8 +5,7 @@ use Rattle.ttp_base.specs.Text.{Lines}
 use Rattle.ttp_base.proofs.Outputs.{Wrote-join}
 use Rattle.fault_runs.specs.declared.put.CampaignFault.{CampaignFault}
 use Rattle.fault_runs.specs.Ends.{LeftFewerBy}
-use Rattle.fault_runs.proofs.Endings.{fewer-after, fewer-more}
-use Rattle.fault_runs.proofs.Results.{ok-weaker, err-weaker}
+use Rattle.pair_runs.proofs.FromBelow.{fewer-after, fewer-more, ok-weaker, err-weaker}
 use Rattle.pair_classes.specs.Summed.{AreSumsOf}
 use Rattle.pair_runs.specs.Counted.{distances_of}
 use Rattle.pair_runs.specs.Written.{all_firsts, text_of_firsts, opening_lines, ending_lines}

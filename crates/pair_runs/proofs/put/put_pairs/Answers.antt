@@ -1,6 +1,6 @@
 use Rattle.std.proofs.Common.{ap, ◌∙◌}
 use Rattle.campaign.specs.CostText.{cost_words}
-use Rattle.fault_runs.proofs.Endings.{err-cut, err-fewer}
+use Rattle.pair_runs.proofs.FromBelow.{err-cut, err-fewer}
 use Rattle.fault_pairs.specs.Classes.{harm_of}
 use Rattle.fault_pairs.specs.PairText.{pairs_lines}
 use Rattle.pair_runs.proofs.Harms.{cost-ordered}

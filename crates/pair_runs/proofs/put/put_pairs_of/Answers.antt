@@ -5,8 +5,7 @@ use Rattle.ttp_base.specs.Text.{Lines}
 use Rattle.ttp_world.specs.declared.script.Script.{Script}
 use Rattle.fault_runs.specs.declared.put.CampaignFault.{CampaignFault}
 use Rattle.fault_runs.specs.Ends.{LeftBy}
-use Rattle.fault_runs.proofs.Endings.{leaves-more, leaves-after}
-use Rattle.fault_runs.proofs.Results.{ok-weaker, err-weaker}
+use Rattle.pair_runs.proofs.FromBelow.{leaves-more, leaves-after, ok-weaker, err-weaker}
 use Rattle.fault_pairs.specs.PairText.{lines_of_told}
 use Rattle.fault_pairs.specs.Sums.{PairTold}
 use Rattle.pair_runs.specs.declared.singles.Single.{Single}

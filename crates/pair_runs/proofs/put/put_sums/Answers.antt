@@ -4,8 +4,7 @@ use Rattle.ttp_base.specs.Outside.{WroteLines}
 use Rattle.ttp_base.proofs.Outputs.{Wrote-join}
 use Rattle.fault_runs.specs.declared.put.CampaignFault.{CampaignFault}
 use Rattle.fault_runs.specs.Ends.{LeftFewerBy}
-use Rattle.fault_runs.proofs.Endings.{fewer-after, fewer-more, more-is_fewer}
-use Rattle.fault_runs.proofs.Results.{ok-weaker, err-weaker}
+use Rattle.pair_runs.proofs.FromBelow.{fewer-after, fewer-more, more-is_fewer, ok-weaker, err-weaker}
 use Rattle.fault_pairs.specs.declared.pair.PairCounts.{PairCounts}
 use Rattle.fault_pairs.specs.PairText.{pair_counts_line}
 use Rattle.fault_pairs.specs.Sums.{PairTold, pair_counts, told_kept, told_broken}

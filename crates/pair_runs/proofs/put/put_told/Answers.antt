@@ -5,7 +5,7 @@ use Rattle.ttp_base.specs.Text.{Lines}
 use Rattle.ttp_base.proofs.Outputs.{Wrote-none}
 use Rattle.fault_runs.specs.declared.put.CampaignFault.{CampaignFault}
 use Rattle.fault_runs.specs.Ends.{LeftBy}
-use Rattle.fault_runs.proofs.Results.{ok-weaker}
+use Rattle.pair_runs.proofs.FromBelow.{ok-weaker}
 use Rattle.fault_pairs.specs.Sums.{PairTold}
 use Rattle.pair_runs.specs.declared.tried.PairResult.{PairResult}
 use Rattle.pair_runs.specs.Counted.{PutPairs}

@@ -1,6 +1,6 @@
 use Rattle.std.proofs.Common.{◌++◌, List, ℕ, ap, ◌∙◌}
 use Rattle.campaign.specs.CostText.{cost_words}
-use Rattle.fault_runs.proofs.Orders.{cost-ordered}
+use Rattle.pair_runs.proofs.FromBelow.{cost-ordered}
 use Rattle.pair_runs.proofs.put.words_of.Goals as goal
 
 pub put_cost-requires-clause-hurt : goal.put_cost-requires-clause-hurt

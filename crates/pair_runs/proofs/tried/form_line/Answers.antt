@@ -1,6 +1,6 @@
 use Rattle.std.proofs.Common.{◌++◌, ◌∙◌, List, ℕ, ap, refl}
 use Rattle.campaign.specs.declared.cost.Cost.{Cost}
-use Rattle.fault_runs.proofs.Orders.{cost-ordered}
+use Rattle.pair_runs.proofs.FromBelow.{cost-ordered}
 use Rattle.fault_runs.specs.Told.{told_summary}
 use Rattle.fault_pairs.specs.Pairs.{second_apart}
 use Rattle.fault_pairs.specs.PairText.{pair_line}

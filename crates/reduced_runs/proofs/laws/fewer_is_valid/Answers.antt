@@ -1,4 +1,4 @@
-use Rattle.single_faults.proofs.Valid.{all-bounded}
+use Rattle.single_faults.proofs.ForAbove.{all-bounded}
 use Rattle.reduced_runs.proofs.Valid.{with_faults_at-valid}
 use Rattle.reduced_runs.proofs.laws.fewer_is_valid.Goals as goal
 

@@ -1,6 +1,6 @@
 use Rattle.std.proofs.Common.{◌≡◌, ◌-◌, length, ap, sym, ◌∙◌}
 use Rattle.causes.specs.RunSlots.{back_to, is_left}
-use Rattle.run_rows.proofs.Slots.{length-past_slots_in}
+use Rattle.run_looks.proofs.FromBelow.{length-past_slots_in}
 use Rattle.run_rows.specs.Rows.{past_slots}
 use Rattle.run_looks.proofs.back.newest_departure.Goals as goal
 

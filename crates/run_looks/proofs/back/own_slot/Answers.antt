@@ -1,6 +1,6 @@
 use Rattle.std.proofs.Common.{◌≡◌, ℕ, ◌-◌, length, ap, sym, ◌∙◌}
 use Rattle.causes.specs.RunSlots.{back_to}
-use Rattle.run_rows.proofs.Slots.{length-past_slots_in}
+use Rattle.run_looks.proofs.FromBelow.{length-past_slots_in}
 use Rattle.run_rows.specs.Rows.{past_slots}
 use Rattle.ttp_world.specs.Acknowledgement.{is_sent_or_joined}
 use Rattle.run_looks.proofs.back.own_slot.Goals as goal

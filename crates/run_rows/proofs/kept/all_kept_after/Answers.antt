@@ -1,7 +1,7 @@
 use Rattle.std.proofs.Common.{◌≡◌, ◌+◌, ◌<◌, length, subst, sym, ◌∙◌, arith}
 use Rattle.std.specs.Prelude.{slice_index_or}
 use Rattle.ttp_world.specs.ZerosWorld.{zeros_world}
-use Rattle.run_costs.proofs.Rows.{next_row}
+use Rattle.run_rows.proofs.FromBelow.{next_row}
 use Rattle.run_rows.proofs.Filled.{entry-at, kept-at, kept-more}
 use Rattle.run_rows.proofs.OneMore.{kept-next, next-of_list, place-of_list}
 use Rattle.run_rows.specs.Kept.{kept_next, kept_of}

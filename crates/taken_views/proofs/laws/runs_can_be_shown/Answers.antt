@@ -1,5 +1,5 @@
 use Rattle.lab_laws.proofs.WholeTaken.{whole-taken}
-use Rattle.theorems.proofs.TraceLength.{trace-short}
+use Rattle.theorems.proofs.ForAbove.{trace-short}
 use Rattle.taken_views.proofs.laws.runs_can_be_shown.Goals as goal
 
 pub returns : goal.returns

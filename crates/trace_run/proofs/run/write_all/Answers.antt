@@ -4,7 +4,7 @@ use Rattle.std.specs.List.{filter_map}
 use Rattle.std.proofs.lemmas.List.{append-nil, take_all}
 use Rattle.ttp_world.specs.Script.{host_write, write_at, writes_in}
 use Rattle.ttp_world.proofs.HostMessages.{valid_write_at}
-use Rattle.trace_check.proofs.Writes.{split_at, taken}
+use Rattle.trace_run.proofs.FromBelow.{split_at, taken}
 use Rattle.trace_run.proofs.Writes.{HasCounted, counted-all, counted-along, counted-more, counted-none, small-number}
 use Rattle.trace_run.proofs.run.write_all.Goals as goal
 use Rattle.trace_run.proofs.run.write_all.Goals.{in-Some, in_default}

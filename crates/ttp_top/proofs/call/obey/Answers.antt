@@ -2,7 +2,7 @@ use Rattle.ttp_top.proofs.Terms.{refl, ap, sym, subst, ◌∙◌, inl, alone, ou
 use Rattle.ttp_top.proofs.Terms.{BenchPlan, ttpbench, plan_of, usage_line}
 use Rattle.commands.specs.Lines.{notice}
 use Rattle.commands.specs.Outcome.{Follows}
-use Rattle.commands.proofs.Loads.{said}
+use Rattle.ttp_top.proofs.FromBelow.{said}
 use Rattle.ttp_top.proofs.Calls.Asked.{plan_of-told}
 use Rattle.ttp_top.proofs.call.obey.Goals as goal
 

@@ -1,6 +1,6 @@
 use Rattle.ttp_top.proofs.Terms.{◌∙◌, inl, said_as, differs_line, ttpbench}
 use Rattle.ttp_top.specs.Calls.Forms.{right_ending}
-use Rattle.trace_check.proofs.Differences.{differs-none}
+use Rattle.ttp_top.proofs.FromBelow.{differs-none}
 use Rattle.ttp_top.proofs.Calls.Differences.{differs-said}
 use Rattle.ttp_top.proofs.verify.show_outcome.Goals as goal
 

@@ -1,6 +1,6 @@
 use Rattle.two_faced.proofs.Words.{◌*◌, ◌≤◌, length, sym, subst, rules, arith}
 use Rattle.ttp_world.specs.Medl.{IsWithin}
-use Rattle.precision.proofs.Limits.{share_limits}
+use Rattle.two_faced.proofs.FromBelow.{share_limits}
 use Rattle.two_faced.proofs.bounds.drift_part.Goals as goal
 
 pub returns-clause-value : goal.returns-clause-value

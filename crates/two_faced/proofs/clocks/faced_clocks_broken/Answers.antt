@@ -1,7 +1,7 @@
 use Rattle.two_faced.proofs.Words.{ℕ, Bool, cond, not, Some, sym, ◌∙◌, ap, rules, arith, below, told_start_if}
 use Rattle.two_faced.proofs.Words.{errors_allowed_in}
 use Rattle.std.specs.List.{find}
-use Rattle.hypothesis.proofs.Ranges.{none-below, first-below}
+use Rattle.two_faced.proofs.FromBelow.{none-below, first-below}
 use Rattle.two_faced.proofs.clocks.faced_clocks_broken.Goals as goal
 
 pub returns-then-not-errors_allowed_in : goal.returns-then-not-errors_allowed_in

@@ -1,7 +1,7 @@
 use Rattle.two_faced.proofs.Words.{◌≡◌, filter_map, first_fault_slot, faults_broken}
 use Rattle.std.proofs.Common.{drop}
 use Rattle.ttp_world.specs.Hypothesis.{least_of}
-use Rattle.hypothesis.proofs.Least.{lesser_of}
+use Rattle.two_faced.proofs.FromBelow.{lesser_of}
 use Rattle.two_faced.proofs.faults.faults_broken.Given as goal
 
 -- the least so far and that of the events that are left is that of all

@@ -3,7 +3,7 @@ use Rattle.two_faced.proofs.Words.{FitsSigned, to_z, of_z, rules, arith, â—Œ==â—
 use Rattle.two_faced.proofs.Words.{ne_eqb, to_z-of_z, is_on, node_past, zeros_world, clock_beside, apart_after}
 use Rattle.two_faced.proofs.Words.{IsNearSpan}
 use Rattle.std.proofs.Common.{eq-eqb}
-use Rattle.hypothesis.proofs.Least.{range-next}
+use Rattle.two_faced.proofs.FromBelow.{range-next}
 use Rattle.two_faced.proofs.Spans.{widest_with, widest-clock, widest-none, difference_is}
 use Rattle.two_faced.proofs.Spans.{clock_counts, clock_off, clock_own}
 use Rattle.two_faced.proofs.seen.apart_after.Goals as goal

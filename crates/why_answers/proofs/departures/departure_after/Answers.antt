@@ -1,5 +1,5 @@
 use Rattle.std.proofs.Common.{◌+◌, arith}
-use Rattle.run_rows.proofs.Filled.{entry-at}
+use Rattle.why_answers.proofs.FromBelow.{entry-at}
 use Rattle.why_answers.proofs.Departed.{departed, stayed}
 use Rattle.why_answers.proofs.departures.departure_after.Goals as goal
 

@@ -1,6 +1,6 @@
 use Rattle.std.proofs.Common.{arith}
 use Rattle.causes.specs.Reduced.{places_of_lines, with_faults_at}
-use Rattle.reduced_runs.proofs.Valid.{with_faults_at-valid}
+use Rattle.why_answers.proofs.FromBelow.{with_faults_at-valid}
 use Rattle.why_answers.proofs.TraceHeads.{trace-begins}
 use Rattle.why_answers.proofs.laws.entries_alone_are_of_a_trace.Goals as goal
 

@@ -4,7 +4,7 @@ use Rattle.causes.specs.declared.cause.LineNumbers.{LineNumbers}
 use Rattle.line_numbers.specs.Numbers.{line_numbers_in}
 use Rattle.why_answers.proofs.RunSpots.{source-is}
 use Rattle.why_answers.specs.Answer.{lines_on_entry}
-use Rattle.why_lines.proofs.Whole.{if_ok-equal}
+use Rattle.why_answers.proofs.FromBelow.{if_ok-equal}
 use Rattle.why_answers.proofs.told.lines_on_entry.Goals as goal
 
 pub why_lines-requires-clause-source : goal.why_lines-requires-clause-source

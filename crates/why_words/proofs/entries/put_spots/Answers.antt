@@ -1,5 +1,5 @@
 use Rattle.causes.specs.WhyText.{spot_word}
-use Rattle.fault_runs.proofs.Listing.{listed-step}
+use Rattle.why_words.proofs.FromBelow.{listed-step}
 use Rattle.why_words.proofs.entries.put_spots.Goals as goal
 
 pub loop-place-preserved : goal.loop-place-preserved

@@ -1,5 +1,5 @@
 use Rattle.std.specs.Fmt.{decimal}
-use Rattle.fault_runs.proofs.Listing.{listed-step}
+use Rattle.why_words.proofs.FromBelow.{listed-step}
 use Rattle.why_words.proofs.lists.put_nodes.Goals as goal
 
 pub loop-place-preserved : goal.loop-place-preserved

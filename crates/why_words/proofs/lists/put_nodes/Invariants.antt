@@ -1,7 +1,7 @@
 use Rattle.std.proofs.Common.{◌≡◌, ◌++◌, take}
 use Rattle.std.specs.Prelude.{map}
 use Rattle.std.specs.Fmt.{decimal}
-use Rattle.fault_runs.proofs.Listing.{joined}
+use Rattle.why_words.proofs.FromBelow.{joined}
 use Rattle.why_words.proofs.lists.put_nodes.Given as goal
 
 -- the words so far

@@ -1,5 +1,5 @@
 use Rattle.std.proofs.Common.{arith}
-use Rattle.controller.proofs.Parts.{each-front, each-back, each-joined}
+use Rattle.ground_tests.proofs.FromBelow.{each-front, each-back, each-joined}
 use Rattle.ground_tests.proofs.tests.parts.begin_in_parts.Goals as goal
 
 pub returns-clause-begin : goal.returns-clause-begin

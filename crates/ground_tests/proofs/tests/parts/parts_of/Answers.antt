@@ -1,7 +1,7 @@
 use Rattle.std.proofs.Common.{List, [], ◌∷◌, ◌+◌, refl, subst, sym, arith}
 use Rattle.std.proofs.lemmas.List.{with_items_is}
 use Rattle.ttp_world.specs.World.{row_in, slot_after}
-use Rattle.controller.proofs.Payloads.{chosen-step, nothing-chosen}
+use Rattle.ground_tests.proofs.FromBelow.{chosen-step, nothing-chosen}
 use Rattle.controller.specs.PlantStands.{PlantStandsFor, MayStep, plant_of}
 use Rattle.controller.specs.declared.seat.Seat.{Seat}
 use Rattle.ground_tests.proofs.tests.parts.parts_of.Goals as goal

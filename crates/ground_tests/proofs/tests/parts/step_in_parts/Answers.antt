@@ -1,5 +1,5 @@
 use Rattle.std.proofs.Common.{sym, arith}
-use Rattle.controller.proofs.Plants.{is-step}
+use Rattle.ground_tests.proofs.FromBelow.{is-step}
 use Rattle.ground_tests.proofs.tests.parts.step_in_parts.Goals as goal
 
 pub returns-clause-steps : goal.returns-clause-steps

@@ -1,7 +1,7 @@
 use Rattle.std.proofs.Common.{◌+◌, [], length, ap, ◌∙◌, subst, sym, arith}
 use Rattle.ttp_world.specs.Medl.{IsValid, plan_at}
 use Rattle.ttp_world.specs.World.{slot_after}
-use Rattle.controller.proofs.Payloads.{chosen-step, nothing-chosen}
+use Rattle.ground_tests.proofs.FromBelow.{chosen-step, nothing-chosen}
 use Rattle.ground_tests.proofs.tests.plants.after_of.Goals as goal
 
 pub loop-init : goal.loop-init

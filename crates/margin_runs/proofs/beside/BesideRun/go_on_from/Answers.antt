@@ -6,7 +6,7 @@ use Rattle.ttp_world.specs.Returning.{is_arm}
 use Rattle.controller.specs.Agreement.{begins_at}
 use Rattle.clock_margins.specs.Outcomes.{was_split_beside}
 use Rattle.ttp_world.specs.ZerosWorld.{zeros_world}
-use Rattle.run_costs.proofs.Later.{later-begins}
+use Rattle.margin_runs.proofs.FromBelow.{later-begins}
 use Rattle.margin_runs.proofs.SplitBeside.{split-longer}
 use Rattle.margin_runs.proofs.beside.BesideRun.go_on_from.Goals as goal
 

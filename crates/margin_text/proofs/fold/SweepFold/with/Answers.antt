@@ -3,7 +3,7 @@ use Rattle.std.proofs.lemmas.Int.{to_z-of_z}
 use Rattle.clock_margins.specs.Outcomes.{is_nobody, is_itself, is_others, costs_nobody, costs_others}
 use Rattle.clock_margins.specs.Sums.{lies_below_0, lies_above_0, lies_from_0_on, lies_at_0, counts_with}
 use Rattle.margin_laws.specs.Behind.{noted_if}
-use Rattle.margin_laws.proofs.Behind.{any-behind, spread-behind, counts-behind, most-behind}
+use Rattle.margin_text.proofs.FromBelow.{any-behind, spread-behind, counts-behind, most-behind}
 use Rattle.margin_text.specs.Taken.{value_told}
 use Rattle.margin_text.proofs.fold.SweepFold.with.Goals as goal
 

@@ -2,7 +2,7 @@ use Rattle.std.proofs.Common.{◌++◌, length, ap, sym, ◌∙◌, length-appen
 use Rattle.std.specs.Prelude.{option_map}
 use Rattle.clock_margins.specs.Ranges.{ranges_of}
 use Rattle.margin_laws.specs.Behind.{closed_ranges, open_range}
-use Rattle.margin_laws.proofs.Behind.{ranges-behind, closed-end, open-end}
+use Rattle.margin_text.proofs.FromBelow.{ranges-behind, closed-end, open-end}
 use Rattle.margin_text.specs.Taken.{value_told, range_of, ranges_closed}
 use Rattle.margin_text.proofs.swept.Swept.take.Goals as goal
 

@@ -1,7 +1,7 @@
 use Rattle.std.proofs.Common.{◌≤◌, sym, subst, arith}
 use Rattle.ttp_world.specs.declared.script.Script.{Script}
 use Rattle.controller.specs.Agreement.{begins_at}
-use Rattle.controller.proofs.LaterEvents.{agree-more}
+use Rattle.run_costs.proofs.FromBelow.{agree-more}
 use Rattle.campaign.specs.Tried.{with_fault}
 use Rattle.ttp_world.specs.ZerosWorld.{zeros_world}
 use Rattle.run_costs.specs.Standing.{IsRunAfter}

@@ -1,7 +1,7 @@
 use Rattle.std.proofs.Common.{◌-◌, sym, subst, arith}
 use Rattle.ttp_world.proofs.Worlds.{length-world}
 use Rattle.trace_check.specs.Outgoing.{Chooses, HoldsNewest, number_by_text}
-use Rattle.trace_check.proofs.Wholes.{legal-drop as legal-first}
+use Rattle.trace_run.proofs.FromBelow.{legal-drop as legal-first}
 use Rattle.trace_run.specs.declared.run.TraceRun.{TraceRun}
 use Rattle.trace_run.specs.Run.{first_numbers}
 use Rattle.trace_run.proofs.Slots.{first-length, made-next, may-step}

@@ -2,9 +2,8 @@ use Rattle.std.proofs.Common.{◌<◌, ◌∙◌, length, ap, sym, codes, Some, 
 use Rattle.std.specs.List.{concat}
 use Rattle.ttp_world.specs.TraceNumbers.{numbers_in}
 use Rattle.commands.specs.Words.{texts_of}
-use Rattle.commands.proofs.Sure.{surely_in_memory, right_held, all_written}
+use Rattle.uses.proofs.FromBelow.{surely_in_memory, right_held, all_written, ran, trace_within}
 use Rattle.ttp_top.specs.Calls.Words.{form_of}
-use Rattle.ttp_top.proofs.Callers.{ran, trace_within}
 use Rattle.uses.proofs.bench.headline.safe_trace.Goals as goal
 
 pub returns-clause-trace : goal.returns-clause-trace

@@ -2,7 +2,7 @@ use Rattle.std.proofs.Common.{◌≡◌, ◌∙◌, ◌++◌, List, ℕ, refl, a
 use Rattle.std.specs.List.{concat}
 use Rattle.std.proofs.lemmas.List.Folds.{concat-append}
 use Rattle.ttp_world.specs.Trace.{run_lines, test_lines}
-use Rattle.commands.proofs.Sure.{right_once}
+use Rattle.uses.proofs.FromBelow.{right_once}
 use Rattle.uses.proofs.bench.last_lines.run_and_keeps.Goals as goal
 
 pub returns : goal.returns

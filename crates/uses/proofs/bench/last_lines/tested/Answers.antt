@@ -1,7 +1,7 @@
 use Rattle.std.proofs.Common.{◌∙◌, ap, sym, codes, Some}
 use Rattle.std.specs.List.{concat}
 use Rattle.commands.specs.Words.{texts_of}
-use Rattle.commands.proofs.Sure.{right_held, all_written}
+use Rattle.uses.proofs.FromBelow.{right_held, all_written}
 use Rattle.ttp_top.specs.Calls.Words.{form_of}
 use Rattle.uses.proofs.bench.last_lines.tested.Goals as goal
 

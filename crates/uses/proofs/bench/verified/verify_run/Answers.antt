@@ -2,10 +2,9 @@ use Rattle.std.proofs.Common.{◌≡◌, ◌∙◌, refl, [], ◌∷◌, length,
 use Rattle.std.specs.List.{concat}
 use Rattle.ttp_base.specs.Outside.{holds}
 use Rattle.commands.specs.Words.{texts_of}
-use Rattle.commands.proofs.Sure.{surely_in_memory}
+use Rattle.uses.proofs.FromBelow.{surely_in_memory, judged_trace, own_text}
 use Rattle.ttp_top.specs.Calls.Differences.{same_line}
 use Rattle.ttp_top.specs.Calls.Words.{form_of}
-use Rattle.ttp_top.proofs.Callers.{judged_trace, own_text}
 use Rattle.uses.proofs.bench.verified.verify_run.Goals as goal
 
 pub returns-clause-same : goal.returns-clause-same

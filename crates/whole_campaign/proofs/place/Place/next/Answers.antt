@@ -2,7 +2,7 @@ use Rattle.std.proofs.Common.{rules, ◌+◌, ◌<◌, length, Option, option_ma
 use Rattle.std.specs.Prelude.{IfSome}
 use Rattle.ttp_base.specs.Text.{lines_of}
 use Rattle.campaign.specs.CostText.{unended}
-use Rattle.whole_trace.proofs.Texts.{cut-front}
+use Rattle.whole_campaign.proofs.FromBelow.{cut-front}
 use Rattle.whole_campaign.specs.declared.shown.FaultShown.{FaultShown}
 use Rattle.whole_campaign.specs.Own.{common_of}
 use Rattle.whole_campaign.specs.Whole.{FaultTold}

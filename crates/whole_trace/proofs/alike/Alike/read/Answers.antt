@@ -4,7 +4,7 @@ use Rattle.std.proofs.lemmas.Int.{to_z-of_z}
 use Rattle.std.specs.Fmt.{signed_decimal}
 use Rattle.ttp_base.specs.Text.{newline}
 use Rattle.line_reader.specs.declared.trace_line.NodeLine.{NodeLine}
-use Rattle.line_text.proofs.LabelTexts.{label-takes}
+use Rattle.whole_trace.proofs.FromBelow.{label-takes}
 use Rattle.whole_trace.specs.Alike.{HasPieces, HavePieces, IsNodeFront}
 use Rattle.whole_trace.proofs.Pieces.{alike-front, cut-whole}
 use Rattle.whole_trace.proofs.alike.Alike.read.Goals as goal

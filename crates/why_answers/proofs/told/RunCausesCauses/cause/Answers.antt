@@ -5,7 +5,7 @@ use Rattle.causes.specs.RunSlots.{slots_of_run}
 use Rattle.ttp_world.proofs.ZerosWorlds.{length-zeros_world}
 use Rattle.run_rows.specs.Rows.{past_slots}
 use Rattle.why_answers.proofs.RunSpots.{cause-at}
-use Rattle.why_lines.proofs.Whole.{if_ok-equal}
+use Rattle.why_answers.proofs.FromBelow.{if_ok-equal}
 use Rattle.why_story.specs.RunSource.{spot_at}
 use Rattle.why_answers.proofs.told.RunCausesCauses.cause.Goals as goal
 
