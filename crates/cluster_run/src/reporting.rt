@@ -53,8 +53,8 @@ pub(crate) fn node_lines(
     let mut lines = emptied(alloc, spare, seats.len())?;
     for k in 0..seats.len() {
         let state = seats[k].controller.state();
-        // Its entry is asked for anew: where one state serves both, it is put together piece by piece, and
-        // takes twice as long.
+        // Its entry is asked for anew: where one state serves both, it is put together piece by piece, and a run
+        // takes 1% more instructions.
         let message = message_shown(&seats[k].controller.state().entry, desks[k].delivered);
         lines.push_reserved(NodeLine { state, message });
     }
