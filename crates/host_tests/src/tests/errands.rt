@@ -159,17 +159,36 @@ fn all_rounds_are_counted(rt: HostRuntime) {
     }
 }
 
+// Whether the worker did a tenth of so many rounds.
+fn is_served<R: Threads + Wait + Sync>(
+    rt: &R,
+    alloc: Global,
+    rounds: u64,
+    looks: (u32, u32),
+) -> bool
+    requires { rounds ≤ 1000 }
+{
+    match count_in_threads(rt, alloc, rounds, looks) {
+        Some(served) => served >= rounds / 10,
+        None => false,
+    }
+}
+
 // Both ends sleep in a round: the worker until it is given a job, and the giver until the job is done. A round that the
-// system gives the worker no processor for is done by the giver; so that is tried again.
+// system gives the worker no processor for is done by the giver; so that is tried again, and then with rounds that last
+// longer, as a machine that has other work needs them.
 #[test]
 fn who_sleeps_is_woken(rt: HostRuntime) {
-    let mut served = 0;
-    for _ in 0..20 {
-        if served < 100 {
-            served = count_in_threads(&rt, rt.alloc(), 1000, (10_000, 20_000)).unwrap_or(0);
-        }
+    let mut is_woken = false;
+    for i in 0..20u8 {
+        let (rounds, looks) = if i < 10 {
+            (1000, 10_000)
+        } else {
+            (100, 200_000)
+        };
+        is_woken = is_woken || is_served(&rt, rt.alloc(), rounds, (looks, 2 * looks));
     }
-    assert!(rt; served >= 100);
+    assert!(rt; is_woken);
 }
 
 // Whether a giver without a worker counts both numbers up, after which a worker that comes has nothing to do.
