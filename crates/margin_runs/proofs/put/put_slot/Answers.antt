@@ -23,8 +23,8 @@ loop-node-init g c =
           (sym (append-nil swept)) are;
     }
 
-pub entry_in-requires : goal.entry_in-requires
-entry_in-requires g c = omega (arith, c.loop-node-test.true, c.nodes-node-end.ensures, c.requires.shown.count)
+pub entry_in-entry-requires : goal.entry_in-entry-requires
+entry_in-entry-requires g c = omega (arith, c.loop-node-test.true, c.nodes-node-end.ensures, c.requires.shown.count)
 
 pub put_jump-requires-clause-few : goal.put_jump-requires-clause-few
 put_jump-requires-clause-few g c κs within =
@@ -43,8 +43,8 @@ loop-node-preserved g c =
     let node = c.loop-node.node in
     let before = flat_map (jumps_at list script slot) (below node) in
     let inside : node < length list.slots = omega (arith, c.loop-node-test.true, c.nodes-node-end.ensures) in
-    let here : jump_sweeps_of slot node c.entry_in.result.now ≡ jumps_at list script slot node =
-    ap (jump_sweeps_of slot node) c.entry_in.ensures
+    let here : jump_sweeps_of slot node c.entry_in-entry.result.now ≡ jumps_at list script slot node =
+    ap (jump_sweeps_of slot node) c.entry_in-entry.ensures
     ∙ shown-jumps list script slot c.args.states.now c.requires.slot c.requires.shown node inside in
     let count : most_in_slot * slot + node * most_in_sweep + most_in_sweep
     ≡ most_in_slot * slot + (node + 1) * most_in_sweep = omega arith in
@@ -56,7 +56,7 @@ loop-node-preserved g c =
           subst
           (λ (xs : List Sweep). AreSwept begin (g.K.Sink.output c.put_jump.new.out) c.args.common.now xs
           c.put_jump.new.total)
-          (append_assoc swept before (jump_sweeps_of slot node c.entry_in.result.now)
+          (append_assoc swept before (jump_sweeps_of slot node c.entry_in-entry.result.now)
           ∙ ap (λ (xs : List Sweep). swept ++ (before ++ xs)) here
           ∙ ap (λ (xs : List Sweep). swept ++ xs) (sym (flat_map-next (jumps_at list script slot) node)))
           (c.in_default.ensures.ok begin (swept ++ before) (c.loop-node.invariant.swept begin swept are));
@@ -72,9 +72,9 @@ returns-in-Err-clause-err g c = λ begin swept are.
     let now = g.K.Sink.output c.put_jump.new.out in
     let before = flat_map (jumps_at list script slot) (below node) in
     let inside : node < length list.slots = omega (arith, c.loop-node-test.true, c.nodes-node-end.ensures) in
-    let done = jump_sweeps_of slot node c.entry_in.result.now in
+    let done = jump_sweeps_of slot node c.entry_in-entry.result.now in
     let here : done ≡ jumps_at list script slot node =
-    ap (jump_sweeps_of slot node) c.entry_in.ensures
+    ap (jump_sweeps_of slot node) c.entry_in-entry.ensures
     ∙ shown-jumps list script slot c.args.states.now c.requires.slot c.requires.shown node inside in
     let split = flat_map-split (jumps_at list script slot) node (length list.slots) inside in
     let all : ((swept ++ before) ++ done) ++ split.0 ≡ swept ++ jumps_in list script slot =

@@ -77,6 +77,7 @@ returns-in-Err-put_last-clause-err g c =
 
 pub margin-margin-requires : goal.margin-margin-requires
 margin-margin-requires g c =
+    let may = c.requires.may in
     let common = c.args.common.now in
     let reach = common.reach in
     let out = g.K.Sink.output c.args.out.now in
@@ -126,6 +127,7 @@ returns-in-Err-put_line-clause-err g c =
 
 pub returns : goal.returns
 returns g c =
+    let may = c.requires.may in
     let common = c.args.common.now in
     let list = common.list.now in
     let script = common.script.now in

@@ -1,6 +1,7 @@
 use Rattle.std.proofs.Common.{◌≡◌, ℕ, ◌+◌, ℤ, pos, ◌+ℤ◌, List, ◌++◌, map, length, ap, sym, subst, ◌∙◌, arith}
 use Rattle.std.specs.Prelude.{neg_ℤ, All, OnOk, IfErr}
 use Rattle.ttp_world.specs.Events.{IsWithinSpan}
+use Rattle.clock_margins.specs.declared.margin.Sweep.{Sweep}
 use Rattle.clock_margins.specs.Outcomes.{ValueTold, told_of_value}
 use Rattle.clock_margins.specs.Sweeps.{values_from}
 use Rattle.fault_runs.specs.declared.put.CampaignFault.{CampaignFault}
@@ -27,23 +28,26 @@ whole common sweep done some values all are told =
     ∙ so-far-more common sweep done some
 
 pub some_values-requires-clause-reach : goal.some_values-requires-clause-reach
-some_values-requires-clause-reach g c = omega (arith, limit-few c.args.sweep.slot, c.requires.may.reach)
+some_values-requires-clause-reach g c =
+    let may = c.requires.may in
+    omega (arith, limit-few c.args.sweep.slot, may.reach)
 
 pub try_beside-requires-clause-values : goal.try_beside-requires-clause-values
 try_beside-requires-clause-values g c κs within =
     let most = clock_limit c.args.sweep.slot in
-    subst (All (IsWithinSpan most)) (sym (c.as_slice.ensures.value ∙ c.in-Ok.ensures))
+    subst (All (IsWithinSpan most)) (sym (c.as_slice-values.ensures.value ∙ c.in-Ok.ensures))
     (some-within most c.args.common.now.reach c.args.done c.args.some c.requires.may.reach c.requires.count)
 
 pub put_tolds-requires-clause-put : goal.put_tolds-requires-clause-put
 put_tolds-requires-clause-put g c =
+    let may = c.requires.may in
     let common = c.args.common.now in
     let list = common.list.now in
     let script = common.script.now in
     let sweep = c.args.sweep in
     let before = tolds_so_far common c.args.sweep c.args.done in
-    let all = whole common c.args.sweep c.args.done c.args.some c.as_slice.result.now c.in-Ok-try_beside.all.items
-    (c.as_slice.ensures.value ∙ c.in-Ok.ensures)
+    let all = whole common c.args.sweep c.args.done c.args.some c.as_slice-values.result.now
+    c.in-Ok-try_beside.all.items (c.as_slice-values.ensures.value ∙ c.in-Ok.ensures)
     c.in-Ok-try_beside.ensures in
     let count = ap length all ∙ tolds-count list script sweep (neg_ℤ (pos common.reach)) (c.args.done + c.args.some) in
     let few = limit-few sweep.slot in (
@@ -52,8 +56,8 @@ put_tolds-requires-clause-put g c =
       c.requires.put.1,
       subst AreWritable (sym all)
           (tolds-writable list script sweep
-          (values_from (neg_ℤ (pos common.reach)) (c.args.done + c.args.some)) c.requires.may.valid),
-      omega (arith, count, few, c.requires.may.reach, c.requires.count),
+          (values_from (neg_ℤ (pos common.reach)) (c.args.done + c.args.some)) may.valid),
+      omega (arith, count, few, may.reach, c.requires.count),
     )
 
 pub returns-in_default-clause-err : goal.returns-in_default-clause-err
@@ -82,8 +86,8 @@ pub returns-clause-ok : goal.returns-clause-ok
 returns-clause-ok g c = λ start put.
     let common = c.args.common.now in
     let before = tolds_so_far common c.args.sweep c.args.done in
-    let all = whole common c.args.sweep c.args.done c.args.some c.as_slice.result.now c.in-Ok-try_beside.all.items
-    (c.as_slice.ensures.value ∙ c.in-Ok.ensures)
+    let all = whole common c.args.sweep c.args.done c.args.some c.as_slice-values.result.now
+    c.in-Ok-try_beside.all.items (c.as_slice-values.ensures.value ∙ c.in-Ok.ensures)
     c.in-Ok-try_beside.ensures in
     subst
     (λ (xs : List ValueTold). OnOk c.put_tolds.result
@@ -94,8 +98,8 @@ pub returns-clause-err : goal.returns-clause-err
 returns-clause-err g c = λ start put.
     let common = c.args.common.now in
     let before = tolds_so_far common c.args.sweep c.args.done in
-    let all = whole common c.args.sweep c.args.done c.args.some c.as_slice.result.now c.in-Ok-try_beside.all.items
-    (c.as_slice.ensures.value ∙ c.in-Ok.ensures)
+    let all = whole common c.args.sweep c.args.done c.args.some c.as_slice-values.result.now
+    c.in-Ok-try_beside.all.items (c.as_slice-values.ensures.value ∙ c.in-Ok.ensures)
     c.in-Ok-try_beside.ensures in
     subst
     (λ (xs : List ValueTold). IfErr c.put_tolds.result
