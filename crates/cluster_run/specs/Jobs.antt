@@ -1,5 +1,5 @@
 -- Work of a slot that may be given away, and what is made of it.
-use Rattle.std.specs.Prelude.{◌≡◌, ℕ, ◌≤◌, List, [], length, vec_capacity, All, Option, Some, None}
+use Rattle.std.specs.Prelude.{◌≡◌, ℕ, ◌≤◌, List, [], length, vec_capacity, All}
 use Rattle.std.specs.Arc.{arc_value}
 use Rattle.std.specs.List.{filter_map}
 use Rattle.ttp_world.specs.declared.script.Script.{Script}
@@ -61,14 +61,3 @@ HasDone _ _ = ⊥
 abbrev pub IsPart : Job → Type 0
 IsPart (job.End part) = Unit {0}
 IsPart _ = ⊥
-
--- one that is held, if any is, may be done
-abbrev pub MayDoHeld : Option Job → Type 0
-MayDoHeld (Some j) = MayDo j
-MayDoHeld None = Unit {0}
-
--- and it was done, and is held then
-abbrev pub HasDoneHeld : Option Job → Option Job → Type 0
-HasDoneHeld (Some j) (Some k) = HasDone j k
-HasDoneHeld None None = Unit {0}
-HasDoneHeld _ _ = ⊥

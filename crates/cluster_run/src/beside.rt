@@ -1,76 +1,24 @@
-//! Both sides of a slot at work, one beside the other.
+//! Both sides of a slot at work, one beside the other where workers are hired.
 ghost use Rattle.std.specs.Prelude.{◌≡◌, ◌≤◌, length, IfOk, OnOk};
 ghost use Rattle.std.specs.Arc.{arc_value};
 ghost use Rattle.cluster_run.specs.Halves.{AreHalves, ArePutBack};
-ghost use Rattle.cluster_run.specs.Jobs.{MayDo, HasDone, MayDoHeld, HasDoneHeld};
+ghost use Rattle.cluster_run.specs.Jobs.{MayDo, HasDone};
 ghost use Rattle.cluster_run.specs.Reading.{HaveRoomForReads, HaveRead};
 ghost use Rattle.cluster_run.specs.Slots.{AreReady, AllHaveEnded};
 
 use crate::current::CurrentSlot;
-use crate::jobs::{EndJob, Job, do_held, do_job, part_of};
+use crate::jobs::{EndJob, Job, do_job, part_of};
 use crate::nodes::Nodes;
 use crate::staff::{Hired, finish};
 use host_port::HostReaders;
 use medium::Medium;
 use std::mem;
 use std::sync::{Arc, Wait};
-use std::thread::{Threads, join_mut};
 use ttp_base::{Gate, Memory};
 use ttp_world::HostRead;
 
-// Does two jobs, each in a thread.
-fn start_both<'a, R: Threads + Wait + Sync, G: Gate>(
-    rt: &R,
-    given: &mut Option<Job<'a>>,
-    own: &mut Option<Job<'a>>,
-    gate: &G,
-)
-    requires given { MayDoHeld given.old }
-    requires own { MayDoHeld own.old }
-    ensures given { HasDoneHeld given.old given.new }
-    ensures own { HasDoneHeld own.old own.new }
-{
-    let mut first = ||
-        requires { MayDoHeld given.now }
-        ensures { HasDoneHeld given.entry.now given.exit.now }
-    { do_held(rt, given, gate) };
-    let mut second = ||
-        requires { MayDoHeld own.now }
-        ensures { HasDoneHeld own.entry.now own.exit.now }
-    { do_held(rt, own, gate) };
-    join_mut(rt, &mut first, &mut second);
-}
-
-// Does three jobs, each in a thread.
-fn start_all<'a, R: Threads + Wait + Sync, G: Gate>(
-    rt: &R,
-    read: &mut Option<Job<'a>>,
-    back: &mut Option<Job<'a>>,
-    front: &mut Option<Job<'a>>,
-    gate: &G,
-)
-    requires read { MayDoHeld read.old }
-    requires back { MayDoHeld back.old }
-    requires front { MayDoHeld front.old }
-    ensures read { HasDoneHeld read.old read.new }
-    ensures back { HasDoneHeld back.old back.new }
-    ensures front { HasDoneHeld front.old front.new }
-{
-    let mut reads = ||
-        requires { MayDoHeld read.now }
-        ensures { HasDoneHeld read.entry.now read.exit.now }
-    { do_held(rt, read, gate) };
-    let mut ends = ||
-        requires back { MayDoHeld back.now }
-        requires front { MayDoHeld front.now }
-        ensures back { HasDoneHeld back.entry.now back.exit.now }
-        ensures front { HasDoneHeld front.entry.now front.exit.now }
-    { start_both(rt, back, front, gate) };
-    join_mut(rt, &mut reads, &mut ends);
-}
-
-/// Does two jobs: the first one is for the hosts' worker where there is one, and else for a thread that is started.
-pub(crate) fn do_both<'b, 'a, R: Threads + Wait + Sync, G: Gate>(
+/// Does two jobs. The first one is for the hosts' worker; where nobody is hired, both are done here, one after the other.
+pub(crate) fn do_both<'b, 'a, R: Wait, G: Gate>(
     rt: &R,
     staff: &mut Option<Hired<'b, 'a>>,
     given: Job<'a>,
@@ -83,9 +31,7 @@ pub(crate) fn do_both<'b, 'a, R: Threads + Wait + Sync, G: Gate>(
     ensures own { HasDone own.entry result.1 }
 {
     let Some(Hired { ends, hosts }) = staff.take() else {
-        let (mut given, mut own) = (Some(given), Some(own));
-        start_both(rt, &mut given, &mut own, gate);
-        return (given.unwrap(), own.unwrap());
+        return (do_job(rt, given, gate), do_job(rt, own, gate));
     };
     let waiting = hosts.ask(given);
     if waiting.goes_first() {
@@ -99,9 +45,9 @@ pub(crate) fn do_both<'b, 'a, R: Threads + Wait + Sync, G: Gate>(
     (given, own)
 }
 
-// Does the jobs of a slot's end: the first one is for the hosts' worker, and the second one for the other, where they
-// are hired, and else for threads that are started.
-fn do_all<'b, 'a, R: Threads + Wait + Sync, G: Gate>(
+// Does the jobs of a slot's end. The first one is for the hosts' worker, and the second one for the other; where nobody
+// is hired, all are done here, one after the other.
+fn do_all<'b, 'a, R: Wait, G: Gate>(
     rt: &R,
     staff: &mut Option<Hired<'b, 'a>>,
     read: Job<'a>,
@@ -117,9 +63,8 @@ fn do_all<'b, 'a, R: Threads + Wait + Sync, G: Gate>(
     ensures front { HasDone front.entry result.1.1 }
 {
     let Some(Hired { ends, hosts }) = staff.take() else {
-        let (mut read, mut back, mut front) = (Some(read), Some(back), Some(front));
-        start_all(rt, &mut read, &mut back, &mut front, gate);
-        return (read.unwrap(), (back.unwrap(), front.unwrap()));
+        let read = do_job(rt, read, gate);
+        return (read, (do_job(rt, back, gate), do_job(rt, front, gate)));
     };
     let reading = hosts.ask(read);
     let ending = ends.ask(back);
@@ -192,8 +137,8 @@ fn join_halves(nodes: &mut Nodes, front: EndJob<'_>, mut back: EndJob<'_>) -> Re
     Ok(())
 }
 
-/// The two halves of the nodes end the slot beside the reads of hosts. The readers are handed out again.
-pub(crate) fn end_and_read<'b, 'a, R: Threads + Wait + Sync, G: Gate>(
+/// The two halves of the nodes end the slot, and hosts read. The readers are handed out again.
+pub(crate) fn end_and_read<'b, 'a, R: Wait, G: Gate>(
     rt: &R,
     staff: &mut Option<Hired<'b, 'a>>,
     at: &CurrentSlot<'a>,

@@ -12,13 +12,12 @@ use controller::Seat;
 use host_port::{HostEnd, WriteLine};
 use std::mem;
 use std::sync::Wait;
-use std::thread::Threads;
 use ttp_base::{Gate, Memory};
 use ttp_world::Chosen;
 
-// Hosts write at these places of the script, beside the fetches of controllers. The lines of the writes are
-// handed out with the ends.
-fn write_and_choose<'b, 'a, R: Threads + Wait + Sync, G: Gate>(
+// Hosts write at these places of the script, and controllers fetch. The lines of the writes are handed out with the
+// ends.
+fn write_and_choose<'b, 'a, R: Wait, G: Gate>(
     rt: &R,
     staff: &mut Option<Hired<'b, 'a>>,
     at: &CurrentSlot<'a>,
@@ -59,7 +58,7 @@ fn fetch_and_choose<'a, G: Gate>(
 
 /// Hosts write what they do in the slot, and each controller whose node's frame carries a message
 /// fetches it. The lines of the writes are handed out. After `Memory` the ends may be gone.
-pub(crate) fn choose<'b, 'a, R: Threads + Wait + Sync, G: Gate>(
+pub(crate) fn choose<'b, 'a, R: Wait, G: Gate>(
     rt: &R,
     staff: &mut Option<Hired<'b, 'a>>,
     at: &CurrentSlot<'a>,
@@ -76,7 +75,7 @@ pub(crate) fn choose<'b, 'a, R: Threads + Wait + Sync, G: Gate>(
         let none = fetch_and_choose(at, ends.as_mut_slice(), seats, chosen, gate)?;
         return Ok(none);
     }
-    // A thread has the ends by value.
+    // A job has the ends by value.
     let given = mem::replace(ends, Vec::new(at.alloc));
     let (given, lines) = write_and_choose(rt, staff, at, places, given, seats, chosen, gate)?;
     *ends = given;

@@ -6,6 +6,7 @@ ghost use Rattle.cluster_run.specs.Choosing.{AreBytesBefore};
 ghost use Rattle.cluster_run.specs.Slots.{ClusterSteps};
 ghost use Rattle.cluster_run.specs.Standing.{ClusterStandsFor};
 
+use crate::by_hand::slot_by_hand;
 use crate::making::nodes_of;
 use crate::progress::{Course, Progress};
 use crate::run::{Watch, run_all};
@@ -77,6 +78,8 @@ impl Cluster {
     /// shows the world's slot for them. Where the older ones were legal, all are. What hosts have written is
     /// bytes, so that [`laws::reports_tell_slots`](crate::laws::reports_tell_slots) has the report's text.
     ///
+    /// Where a host does something in it, two workers are hired for it, as for the slots of a [`run`](Cluster::run).
+    ///
     /// # Errors
     ///
     /// `Memory` where memory was refused, and from then on for good.
@@ -100,15 +103,15 @@ impl Cluster {
             list: &self.list,
             script: &self.script,
         };
-        self.at.slot(rt, &mut None, &course, gate)
+        slot_by_hand(rt, &course, &mut self.at, gate)
     }
 
     /// All slots that are left, as so many calls of [`slot`](Cluster::slot) would do them: who watches is told of each
     /// once it is done.
     ///
     /// Two workers are hired for the slots from the first on in which a host does something: one ends each slot for
-    /// half of the nodes, and one does what hosts do. So a slot starts no thread, but while a worker has not begun to
-    /// serve; where the system gives none, all is done without.
+    /// half of the nodes, and one does what hosts do. No slot starts a thread; where the system gives none, or no memory
+    /// for the workers, all is done without them.
     ///
     /// # Errors
     ///

@@ -2,7 +2,6 @@
 ghost use Rattle.std.specs.Prelude.{◌≡◌};
 ghost use Rattle.cluster_run.specs.declared.jobs.Job.TheVariants as kind;
 ghost use Rattle.cluster_run.specs.Jobs.{IsJobReady, HasJobEnded, MayDo, HasDone, IsPart};
-ghost use Rattle.cluster_run.specs.Jobs.{MayDoHeld, HasDoneHeld};
 
 use crate::ending::{Common, end_from};
 use crate::nodes::Desk;
@@ -119,15 +118,5 @@ pub(crate) fn do_job<'a, R: Wait, G: Gate>(rt: &R, job: Job<'a>, gate: &G) -> Jo
             read_all(rt, readers.as_mut_slice(), reads, gate);
             Job::Read { reads, readers }
         }
-    }
-}
-
-/// Does a job that is held here, and holds it then.
-pub(crate) fn do_held<'a, R: Wait, G: Gate>(rt: &R, held: &mut Option<Job<'a>>, gate: &G)
-    requires { MayDoHeld held.old }
-    ensures { HasDoneHeld held.old held.new }
-{
-    if let Some(job) = held.take() {
-        *held = Some(do_job(rt, job, gate));
     }
 }

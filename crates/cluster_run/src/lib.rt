@@ -7,15 +7,15 @@
 //! takes it from whatever numbers it stood for to these and those in the slot's report, which shows the
 //! world's slot for them; and where the older ones were legal, all are.
 //!
-//! In a slot hosts write beside their controllers' fetches, and the controllers end the slot, in two
-//! halves, beside the reads of hosts. Threads are started only where both sides have work. Whatever the
-//! threads do, the contract of a slot is the same. It does not say that a slot ends: with one buffer a
-//! host's read may wait.
+//! In a slot hosts write beside their controllers' fetches, and the controllers end the slot, in two halves, beside
+//! the reads of hosts. Two workers are hired for that: [`Cluster::run`] does all slots that are left, tells a
+//! [`Watch`] of each, and hires for the slots from the first on in which a host does something; [`Cluster::slot`] is
+//! for who steps a cluster by hand, and hires for one slot in which a host does something. What a worker has not
+//! begun in time is done without it.
 //!
-//! [`Cluster::slot`] is for who steps a cluster by hand, and joins all that it starts. [`Cluster::run`] does
-//! all slots that are left, and tells a [`Watch`] of each. It hires two workers that stay, for the slots from
-//! the first on in which a host does something, so that a slot starts no thread; what a worker has not begun in time
-//! is done without it.
+//! Whatever the threads do, the contract of a slot is the same. It does not say that a slot ends: with one
+//! buffer a host's read may wait.
+//!
 //! `put_run` of ttp_top takes a cluster through its slots, and writes what each report shows:
 //!
 //! ```text
@@ -28,6 +28,7 @@
 #![tactic(auto)]
 
 mod beside;
+mod by_hand;
 mod choosing;
 mod cluster;
 mod current;

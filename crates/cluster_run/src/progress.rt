@@ -12,7 +12,6 @@ use host_port::{NodeLine, SlotReport};
 use std::alloc::Global;
 use std::mem;
 use std::sync::Wait;
-use std::thread::Threads;
 use ttp_base::{Gate, List, Memory};
 use ttp_world::{Medl, Script};
 
@@ -42,7 +41,7 @@ impl Progress {
     /// # Errors
     ///
     /// `Memory` where memory was refused, and from then on for good.
-    pub(crate) fn slot<'b, 'a, R: Threads + Wait + Sync, G: Gate>(
+    pub(crate) fn slot<'b, 'a, R: Wait, G: Gate>(
         &mut self,
         rt: &R,
         staff: &mut Option<Hired<'b, 'a>>,

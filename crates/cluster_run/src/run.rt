@@ -73,7 +73,7 @@ fn first_busy(script: &Script) -> u32
 }
 
 // One slot, of which the watcher is told.
-fn next_told<'b, 'a, R: Threads + Wait + Sync, G: Gate, W: Watch>(
+fn next_told<'b, 'a, R: Wait, G: Gate, W: Watch>(
     rt: &R,
     staff: &mut Option<Hired<'b, 'a>>,
     course: &Course<'a>,
@@ -94,7 +94,7 @@ fn next_told<'b, 'a, R: Threads + Wait + Sync, G: Gate, W: Watch>(
 }
 
 // The slots before this one that are left.
-fn run_slots<'b, 'a, R: Threads + Wait + Sync, G: Gate, W: Watch>(
+fn run_slots<'b, 'a, R: Wait, G: Gate, W: Watch>(
     rt: &R,
     staff: &mut Option<Hired<'b, 'a>>,
     course: &Course<'a>,
@@ -117,7 +117,7 @@ fn run_slots<'b, 'a, R: Threads + Wait + Sync, G: Gate, W: Watch>(
 }
 
 // The slots that are left, with those who were hired. They may go then.
-fn run_staffed<'b, 'a, R: Threads + Wait + Sync, G: Gate, W: Watch>(
+fn run_staffed<'b, 'a, R: Wait, G: Gate, W: Watch>(
     rt: &R,
     staff: &mut Option<Hired<'b, 'a>>,
     course: &Course<'a>,

@@ -23,7 +23,6 @@ use controller::{Seat, is_loaded};
 use host_port::{Fetcher, HostEnd, WriteLine};
 use std::alloc::Global;
 use std::sync::Wait;
-use std::thread::Threads;
 use ttp_base::{Gate, Memory};
 use ttp_world::{Chosen, Medl, PAYLOAD_LIMIT, Payload, Script, Written};
 
@@ -131,8 +130,8 @@ fn has_any(fetchers: &[Option<Fetcher>]) -> bool {
     fetchers.iter().any(|fetcher| fetcher.is_some())
 }
 
-/// Hosts write beside the fetches, where there are any.
-pub(crate) fn write_and_fetch<'b, 'a, R: Threads + Wait + Sync, G: Gate>(
+/// Hosts write, and controllers fetch. Where none fetches, nothing is given to a worker.
+pub(crate) fn write_and_fetch<'b, 'a, R: Wait, G: Gate>(
     rt: &R,
     staff: &mut Option<Hired<'b, 'a>>,
     ends: Vec<HostEnd>,

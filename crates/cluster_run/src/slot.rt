@@ -20,13 +20,12 @@ use crate::staff::Hired;
 use controller::{begin_all, plan_all};
 use host_port::{NodeLine, ReadLine, SlotReport, WriteLine};
 use std::sync::Wait;
-use std::thread::Threads;
 use ttp_base::{Gate, List, Memory};
 use ttp_world::HostRead;
 
 // Controllers begin the slot, hosts write, and what is to be sent is planned and put on the medium. The
 // lines of the writes are handed out.
-fn plan<'b, 'a, R: Threads + Wait + Sync, G: Gate>(
+fn plan<'b, 'a, R: Wait, G: Gate>(
     rt: &R,
     staff: &mut Option<Hired<'b, 'a>>,
     at: &CurrentSlot<'a>,
@@ -66,7 +65,7 @@ fn end_unread<'a, G: Gate>(at: &CurrentSlot<'a>, nodes: &mut Nodes, gate: &G)
 }
 
 // Controllers end the slot, and hosts read in it. The lines of the reads are the answer.
-fn end_read<'b, 'a, R: Threads + Wait + Sync, G: Gate>(
+fn end_read<'b, 'a, R: Wait, G: Gate>(
     rt: &R,
     staff: &mut Option<Hired<'b, 'a>>,
     at: &CurrentSlot<'a>,
@@ -86,7 +85,7 @@ fn end_read<'b, 'a, R: Threads + Wait + Sync, G: Gate>(
 }
 
 // Controllers end the slot. Readers are lent only where a host reads.
-fn end_slot<'b, 'a, R: Threads + Wait + Sync, G: Gate>(
+fn end_slot<'b, 'a, R: Wait, G: Gate>(
     rt: &R,
     staff: &mut Option<Hired<'b, 'a>>,
     at: &CurrentSlot<'a>,
@@ -106,7 +105,7 @@ fn end_slot<'b, 'a, R: Threads + Wait + Sync, G: Gate>(
 }
 
 /// Takes all nodes through a slot, and answers its report, whose lines of nodes are written over `spare`.
-pub(crate) fn slot_of<'b, 'a, R: Threads + Wait + Sync, G: Gate>(
+pub(crate) fn slot_of<'b, 'a, R: Wait, G: Gate>(
     rt: &R,
     staff: &mut Option<Hired<'b, 'a>>,
     at: &CurrentSlot<'a>,
