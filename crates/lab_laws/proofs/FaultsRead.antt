@@ -1,16 +1,12 @@
 -- The words of a fault are those that are due at its place.
-use Rattle.lab_laws.proofs.Words.{◌≡◌, ℕ, zero, suc, ◌+◌, ◌-◌, ◌<◌, ◌≤◌, Bool, true, false, List, [], ◌∷◌, ◌++◌}
+use Rattle.lab_laws.proofs.Words.{◌≡◌, ℕ, suc, ◌+◌, ◌-◌, ◌<◌, ◌≤◌, Bool, true, false, List, [], ◌∷◌, ◌++◌}
 use Rattle.lab_laws.proofs.Words.{length, Some, refl, sym, ap, ◌∙◌, arith, codes, decimal, ◌==◌, nat_lt, map}
 use Rattle.lab_laws.proofs.Words.{eq-eqb, lt-ltb, list_any-append, has, has-decimal, Medl, Event, Script}
-use Rattle.lab_laws.proofs.Words.{IsValid, is_arm, IsValidEvent, bytes_eq-same, numeral-again, slot_digits}
+use Rattle.lab_laws.proofs.Words.{IsValid, is_arm, IsValidEvent, bytes_eq-same}
 use Rattle.lab_laws.proofs.Words.{fault_words, fault_slot, fault_node, jump_sizes, losses_from, Doing, Spot}
-use Rattle.lab_laws.proofs.Words.{node_digits, doing_in, is_last_place, doing_of}
-use Rattle.std.proofs.Common.{◌%◌, ℤ, pos, negsuc, neg_ℤ, ◌≤ℤ◌}
-use Rattle.std.specs.Fmt.{signed_decimal}
+use Rattle.lab_laws.proofs.Words.{doing_in, is_last_place, doing_of}
+use Rattle.std.proofs.Common.{ℤ, pos, negsuc, neg_ℤ, ◌≤ℤ◌, int_lt, unsigned_abs}
 use Rattle.std.proofs.lemmas.Int.{int_min_is, ints}
-use Rattle.std.proofs.lemmas.List.{append-nil}
-use Rattle.ttp_base.proofs.Gathered.{gathered}
-use Rattle.ttp_base.proofs.Numerals.{has-signed}
 use Rattle.ttp_world.specs.declared.script.Channels.{Channels}
 use Rattle.ttp_world.specs.declared.script.Event.TheVariants as event
 use Rattle.ttp_world.specs.declared.script.Fault.{Fault}
@@ -20,10 +16,11 @@ use Rattle.ttp_world.specs.Hypothesis.{four_windows}
 use Rattle.campaign.specs.CostText.{on_channels, channels_word, kind_word, loss_words}
 use Rattle.campaign.specs.Tried.{sized}
 use Rattle.whole_campaign.specs.declared.shown.Doing.TheVariants as doing
-use Rattle.whole_campaign.specs.Faults.{channels_at, loss_at, loss_end, doing_label, is_loss_of, signed_in}
-use Rattle.whole_campaign.specs.Faults.{is_jump_value}
-use Rattle.whole_campaign.specs.Faults.{jump_words_in, is_fault_of}
-use Rattle.lab_laws.proofs.WordsCut.{word-behind}
+use Rattle.line_form.specs.Forms.{Values, spelled, fit}
+use Rattle.lab_laws.proofs.FromBelow.{no_feed, spelled-gathered}
+use Rattle.whole_campaign.specs.Faults.{channels_at, loss_at, loss_end, doing_label, is_loss_of}
+use Rattle.whole_campaign.specs.Faults.{jump_form, jump_told, is_jump_value, is_fault_of}
+use Rattle.lab_laws.proofs.WordsCut.{said-again}
 
 abbrev pub spot_at : ℕ → ℕ → Doing → ℕ → Spot
 spot_at slot k d place = record { slot = slot; node = k; doing = d; place = place }
@@ -181,71 +178,56 @@ module _ (list : Medl) (script : Script) (slot k : ℕ)
 
 -- Jumps.
 
--- a jump up, and the same one down, can be written
+-- a jump up, and the same one down
 record IsJump (z : ℤ) : Type 0 where
-  up : is_jump_value false (signed_decimal z) ≡ true
-  down : is_jump_value true (signed_decimal (neg_ℤ z)) ≡ true
+  up : int_lt (pos 0) z ≡ true
+  down : int_lt (neg_ℤ z) (pos 0) ≡ true
 
-jump-again : (z : ℤ) → pos 1 ≤ℤ z → z ≤ℤ pos 1000000 → IsJump z
-unfolding signed_in
-jump-again (pos zero) some few = absurd (omega (arith, ints, some))
-jump-again (pos (suc m)) some few =
-    let numeral = numeral-again 9 (suc m) (omega arith) (omega arith) (omega (arith, ints, few)) in
-    let above = lt-ltb 0 (suc m) (omega arith) in
-    record { up = rw (numeral, above) refl; down = rw (numeral, above) refl }
-jump-again (negsuc m) some few = absurd (omega (arith, ints, some))
+is-jump : (z : ℤ) → pos 1 ≤ℤ z → IsJump z
+is-jump z some = record { up = grind (arith, ints, some); down = grind (arith, ints, some) }
 
-jump-read : (slot k : ℕ) (z : ℤ) → slot < 20000 → k < 24
-    → jump_words_in (codes "jump " ++ (decimal k ++ (codes " " ++ (signed_decimal z ++ (codes " " ++ decimal slot)))))
-    ≡ Some (record { node = k; value = signed_decimal z; slot = slot })
-unfolding jump_words_in
-jump-read slot k z inside node =
-    rw (
-      word-behind 32 (codes "jump ") (decimal k) (signed_decimal z ++ (codes " " ++ decimal slot))
-          (has-decimal 32 k (omega arith)),
-      word-behind 32 (codes " ") (signed_decimal z) (decimal slot) (has-signed 32 z (omega arith)),
-      numeral-again node_digits k (omega arith) (omega arith) (omega (arith, node)),
-      numeral-again slot_digits slot (omega arith) (omega arith) (omega (arith, inside)),
-    ) refl
-
-jump-words : (slots slot k place : ℕ) (z : ℤ) → nat_lt place 12 ≡ false → slot < 20000 → k < 24
-    → is_jump_value (place % 2 == 1) (signed_decimal z) ≡ true
-    → is_fault_of slots (spot_at slot k doing.Jump place) (fault_words (event.Jump k z slot)) ≡ true
-jump-words slots slot k place z late inside node value =
-    let text : codes "jump " ++ decimal k ++ codes " " ++ signed_decimal z ++ codes " " ++ decimal slot
-    ≡ codes "jump " ++ (decimal k ++ (codes " " ++ (signed_decimal z ++ (codes " " ++ decimal slot)))) =
-    gathered [] (codes "jump " ∷ decimal k ∷ codes " " ∷ signed_decimal z ∷ codes " " ∷ decimal slot ∷ [])
-    ∙ ap (λ (w : List ℕ). codes "jump " ++ (decimal k ++ (codes " " ++ (signed_decimal z ++ (codes " " ++ w)))))
-    (append-nil (decimal slot)) in
-    ap (λ (words : List ℕ). is_fault_of slots (spot_at slot k doing.Jump place) words) text
-    ∙ rw (late, jump-read slot k z inside node, eq-eqb k k refl, eq-eqb slot slot refl, value) refl
-
-jump-bare : (node value slot : List ℕ) → has 10 node ≡ false → has 10 value ≡ false → has 10 slot ≡ false
-    → has 10 (codes "jump " ++ node ++ codes " " ++ value ++ codes " " ++ slot) ≡ false
-jump-bare node value slot p q r = simp (list_any-append (λ c. c == 10), p, q, r)
+jump-small : (z : ℤ) → (neg_ℤ (pos JUMP_LIMIT) ≤ℤ z) × (z ≤ℤ pos JUMP_LIMIT)
+    → nat_lt (unsigned_abs z) 1000000000 ≡ true
+jump-small (pos n) within = lt-ltb n 1000000000 (omega (arith, ints, within.1))
+jump-small (negsuc n) within = lt-ltb (suc n) 1000000000 (omega (arith, ints, within.0))
 
 module _ (list : Medl) (script : Script) (slot k : ℕ) (valid : IsValid list) (node : k < length list.slots)
     (nodes : length list.slots ≤ 24) (inside : slot < script.slots) (few : script.slots ≤ 20000) where
-  jump-at : (place : ℕ) (z : ℤ) → nat_lt place 12 ≡ false → is_jump_value (place % 2 == 1) (signed_decimal z) ≡ true
+  jump-at : (place : ℕ) (z : ℤ) → nat_lt place 12 ≡ false → is_jump_value place z ≡ true
       → (neg_ℤ (pos JUMP_LIMIT) ≤ℤ z) × (z ≤ℤ pos JUMP_LIMIT)
       → IsTriedAt list script slot k doing.Jump place (event.Jump k z slot)
   unfolding doing_in
-  jump-at place z late value within = record {
-    begins = refl;
-    of_node = refl;
-    does = refl;
-    first = refl;
-    words = jump-words script.slots slot k place z late (omega (arith, inside, few)) (omega (arith, node, nodes)) value;
-    valid = (node, within, inside);
-    unarmed = refl;
-    feed = jump-bare (decimal k) (signed_decimal z) (decimal slot) (has-decimal 10 k (omega arith))
-        (has-signed 10 z (omega arith)) (has-decimal 10 slot (omega arith));
-  }
+  jump-at place z late value within =
+      let vs : Values jump_form = (k, (z, (slot, tt))) in
+      let fits : fit jump_form vs ≡ true =
+      rw (
+        lt-ltb k 256 (omega (arith, node, nodes)),
+        jump-small z within,
+        lt-ltb slot 100000 (omega (arith, inside, few)),
+      ) refl in
+      let text : fault_words (event.Jump k z slot) ≡ spelled jump_form vs = sym (spelled-gathered jump_form vs) in
+      record {
+        begins = refl;
+        of_node = refl;
+        does = refl;
+        first = refl;
+        words = ap (λ (words : List ℕ). is_fault_of script.slots (spot_at slot k doing.Jump place) words) text
+            ∙ rw (
+              late,
+              said-again jump_form jump_told vs refl fits,
+              eq-eqb k k refl,
+              eq-eqb slot slot refl,
+              value,
+            ) refl;
+        valid = (node, within, inside);
+        unarmed = refl;
+        feed = ap (has 10) text ∙ no_feed jump_form vs refl fits;
+      }
 
   sized-jump : (z : ℤ) → pos 1 ≤ℤ z → IsJump (sized z)
   sized-jump z some =
       let least = int_min_is z (pos JUMP_LIMIT) in
-      jump-again (sized z) (omega (arith, ints, least, some)) (omega (arith, ints, least, some))
+      is-jump (sized z) (omega (arith, ints, least, some))
 
   sized-up : (z : ℤ) → pos 1 ≤ℤ z → (neg_ℤ (pos JUMP_LIMIT) ≤ℤ sized z) × (sized z ≤ℤ pos JUMP_LIMIT)
   sized-up z some =

@@ -1,7 +1,7 @@
 -- The lines of a campaign are read: the head, the script's own line, and the line of each fault.
 use Rattle.lab_laws.proofs.Words.{◌≡◌, ℕ, ◌^◌, ◌<◌, ◌≤◌, Bool, true, false, List, [], ◌∷◌, ◌++◌, length, Option}
 use Rattle.lab_laws.proofs.Words.{Some, refl, sym, ap, ◌∙◌, arith, codes, decimal, subst, ◌==◌}
-use Rattle.lab_laws.proofs.Words.{nat_le, le-leb, list_any-append, newline, has, has-decimal, Medl, Event}
+use Rattle.lab_laws.proofs.Words.{◌>>=◌, le-leb, lt-ltb, list_any-append, newline, has, has-decimal, Medl, Event}
 use Rattle.lab_laws.proofs.Words.{Script, IsValid, has_arm, IsValidScript, nodes-most, label-again}
 use Rattle.lab_laws.proofs.Words.{numeral-again, slot_digits, unended, cost_words, fault_words, Summary, summary}
 use Rattle.lab_laws.proofs.Words.{own_line, fault_slot, fault_node, head_line, zeros_world, CampaignHead, Doing}
@@ -17,11 +17,13 @@ use Rattle.ttp_world.specs.declared.keep.Keep.{Keep}
 use Rattle.ttp_world.specs.declared.keep.Keep.TheVariants as keep
 use Rattle.ttp_world.specs.Hypothesis.{keeps}
 use Rattle.ttp_world.specs.Returning.{returns}
+use Rattle.line_form.specs.Kinds.{given}
+use Rattle.line_form.specs.Forms.{Values, spelled, fit}
 use Rattle.line_text.specs.Labels.{after_label}
 use Rattle.line_reader.specs.declared.trace_line.TraceLine.TheVariants as line
 use Rattle.line_reader.specs.Reading.{line_in}
 use Rattle.line_reader.specs.TraceLines.{keep_text, back_text}
-use Rattle.lab_laws.proofs.FromBelow.{keep-value, back-value, line-again}
+use Rattle.lab_laws.proofs.FromBelow.{keep-value, back-value, line-again, no_feed, spelled-gathered}
 use Rattle.whole_trace.specs.Due.{is_keep, is_back}
 use Rattle.campaign.specs.Cost.{says_yes_if}
 use Rattle.campaign.specs.CostText.{test_words_if}
@@ -31,88 +33,62 @@ use Rattle.whole_campaign.specs.declared.cost.CostShown.{CostShown}
 use Rattle.whole_campaign.specs.declared.shown.Test.{Test}
 use Rattle.whole_campaign.specs.declared.shown.Test.TheVariants as test
 use Rattle.whole_campaign.specs.Runs.{test_in, test_says_yes}
-use Rattle.whole_campaign.specs.Runs.{range_digits, is_campaign_head}
+use Rattle.whole_campaign.specs.Runs.{campaign_form, campaign_said, is_campaign_head}
 use Rattle.whole_campaign.specs.Faults.{FaultWords}
 use Rattle.whole_campaign.specs.Faults.{spot_in, shown_at}
 use Rattle.lab_laws.proofs.TestBounds.{keeps-fits, returns-fits}
-use Rattle.lab_laws.proofs.WordsCut.{IsOfWords, feed-again, word-behind, one-word, more-words, run-again}
+use Rattle.lab_laws.proofs.WordsCut.{said-again, IsOfWords, feed-again, word-behind, one-word, more-words, run-again}
 use Rattle.lab_laws.proofs.CostsRead.{IsCostIn, cost-words, cost-again, cost-no_feed}
 use Rattle.lab_laws.proofs.CostsOfRuns.{cost-in}
 use Rattle.lab_laws.proofs.FaultsRead.{spot_at}
 
 -- The head.
 
-head-read : (h : CampaignHead) → h.nodes < 100 → h.slots < 100000 → h.first < 10 ^ 9 → h.last < 10 ^ 9
-    → is_campaign_head h ≡ true
-    → campaign_head_in (codes "ttplab campaign 1 nodes " ++ (decimal h.nodes ++ (codes " slots " ++ (decimal h.slots
-    ++ (codes " from " ++ (decimal h.first ++ (codes " to " ++ decimal h.last))))))) ≡ Some h
-unfolding campaign_head_in
-head-read h nodes slots first last is =
-    rw (
-      word-behind 32 (codes "ttplab campaign 1 nodes ") (decimal h.nodes) (codes "slots " ++ (decimal h.slots
-          ++ (codes " from " ++ (decimal h.first ++ (codes " to " ++ decimal h.last)))))
-          (has-decimal 32 h.nodes (omega arith)),
-      word-behind 32 (codes " slots ") (decimal h.slots) (codes "from " ++ (decimal h.first
-          ++ (codes " to " ++ decimal h.last))) (has-decimal 32 h.slots (omega arith)),
-      word-behind 32 (codes " from ") (decimal h.first) (codes "to " ++ decimal h.last)
-          (has-decimal 32 h.first (omega arith)),
-      numeral-again node_digits h.nodes (omega arith) (omega arith) (omega (arith, nodes)),
-      numeral-again slot_digits h.slots (omega arith) (omega arith) (omega (arith, slots)),
-      numeral-again range_digits h.first (omega arith) (omega arith) first,
-      numeral-again range_digits h.last (omega arith) (omega arith) last,
-      is,
-    ) refl
-
-head-bare : (nodes slots first last : List ℕ) → has 10 nodes ≡ false → has 10 slots ≡ false → has 10 first ≡ false
-    → has 10 last ≡ false
-    → has 10 (codes "ttplab campaign 1 nodes " ++ (nodes ++ (codes " slots " ++ (slots
-    ++ (codes " from " ++ (first ++ (codes " to " ++ last))))))) ≡ false
-head-bare nodes slots first last p q r s = simp (list_any-append (λ c. c == 10), p, q, r, s)
-
 -- a line, its text, and that this has no line feed
 pub record IsEnded (line text : List ℕ) : Type 0 where
   pub ends : line ≡ text ++ newline
   pub feed : has 10 text ≡ false
 
+abbrev head_values : Medl → Script → ℕ → ℕ → Values campaign_form
+head_values list script first last = (length list.slots, (script.slots, (first, (last, tt))))
+
 abbrev pub head_text : Medl → Script → ℕ → ℕ → List ℕ
-head_text list script first last =
-    codes "ttplab campaign 1 nodes " ++ (decimal (length list.slots) ++ (codes " slots " ++ (decimal script.slots
-    ++ (codes " from " ++ (decimal first ++ (codes " to " ++ decimal last))))))
+head_text list script first last = spelled campaign_form (head_values list script first last)
 
-pub head-ended : (list : Medl) (script : Script) (first last : ℕ)
-    → IsEnded (head_line list script first last) (head_text list script first last)
-head-ended list script first last = record {
-  ends = ap (λ (w : List ℕ). w ++ newline)
-      (gathered [] (codes "ttplab campaign 1 nodes " ∷ decimal (length list.slots) ∷ codes " slots "
-      ∷ decimal script.slots ∷ codes " from " ∷ decimal first ∷ codes " to " ∷ decimal last ∷ [])
-      ∙ ap (λ (w : List ℕ). codes "ttplab campaign 1 nodes " ++ (decimal (length list.slots) ++ (codes " slots "
-      ++ (decimal script.slots ++ (codes " from " ++ (decimal first ++ (codes " to " ++ w)))))))
-      (append-nil (decimal last)));
-  feed = head-bare (decimal (length list.slots)) (decimal script.slots) (decimal first) (decimal last)
-      (has-decimal 10 (length list.slots) (omega arith)) (has-decimal 10 script.slots (omega arith))
-      (has-decimal 10 first (omega arith)) (has-decimal 10 last (omega arith));
-}
+module _ (list : Medl) (script : Script) (first last : ℕ) (valid : IsValid list)
+    (valid_script : IsValidScript list script) (order : first ≤ last) (digits : last < 10 ^ 9) where
+  head-fits : fit campaign_form (head_values list script first last) ≡ true
+  head-fits =
+      rw (
+        lt-ltb (length list.slots) 256 (omega (arith, nodes-most list valid)),
+        lt-ltb script.slots 100000 (omega (arith, valid_script.slots)),
+        lt-ltb first 1000000000 (omega (arith, order, digits)),
+        lt-ltb last 1000000000 (omega (arith, digits)),
+      ) refl
 
-pub head-again : (list : Medl) (script : Script) (first last : ℕ) → IsValid list → IsValidScript list script
-    → first ≤ last → last < 10 ^ 9
-    → campaign_head_in (head_text list script first last)
-    ≡ Some (record { nodes = length list.slots; slots = script.slots; first = first; last = last })
-head-again list script first last valid valid_script order digits =
-    let nodes = nodes-most list valid in
-    let slots = valid_script.slots in
-    let h : CampaignHead = record { nodes = length list.slots; slots = script.slots; first = first; last = last } in
-    let many : nat_le 4 (length list.slots) ≡ true = le-leb 4 (length list.slots) valid.count.0 in
-    let some : nat_le 1 script.slots ≡ true = le-leb 1 script.slots slots.0 in
-    let is : is_campaign_head h ≡ true =
-    rw (
-      many,
-      le-leb (length list.slots) 24 nodes,
-      some,
-      le-leb script.slots 20000
-          slots.1,
-      le-leb first last order,
-    ) refl in
-    head-read h (omega (arith, nodes)) (omega (arith, slots)) (omega (arith, order, digits)) digits is
+  pub head-ended : IsEnded (head_line list script first last) (head_text list script first last)
+  head-ended =
+      let vs = head_values list script first last in record {
+        ends = ap (λ (w : List ℕ). w ++ newline) (sym (spelled-gathered campaign_form vs));
+        feed = no_feed campaign_form vs refl head-fits;
+      }
+
+  pub head-again : campaign_head_in (head_text list script first last)
+      ≡ Some (record { nodes = length list.slots; slots = script.slots; first = first; last = last })
+  unfolding campaign_head_in
+  head-again =
+      let vs = head_values list script first last in
+      let is : is_campaign_head (campaign_said vs) ≡ true =
+      rw (
+        le-leb 4 (length list.slots) valid.count.0,
+        le-leb (length list.slots) 24 (nodes-most list valid),
+        le-leb 1 script.slots valid_script.slots.0,
+        le-leb script.slots 20000 valid_script.slots.1,
+        le-leb first last order,
+      ) refl in
+      ap (λ (o : Option CampaignHead). o >>= λ h. given (is_campaign_head h) h)
+      (said-again campaign_form campaign_said vs refl head-fits)
+      ∙ ap (λ (b : Bool). given b (campaign_said vs)) is
 
 -- The test.
 

@@ -84,7 +84,8 @@ module _ (list : Medl) (script : Script) (valid : IsValid list) (valid_script : 
       (lines-more next ranges)
       (first-lines (common list script) range.last next.first next.last (head_line list script next.first next.last)
       (head_text list script next.first next.last) (own_line list (summary list script))
-      (lines_behind next (lines_over list script ranges)) others more (head-ended list script next.first next.last)
+      (lines_behind next (lines_over list script ranges)) others more
+      (head-ended list script next.first next.last valid valid_script are.2.0.order are.2.0.digits)
       (head-again list script next.first next.last valid valid_script are.2.0.order are.2.0.digits) are.1 own
       (behind-goes next ranges are.2)))
 
@@ -97,7 +98,7 @@ module _ (list : Medl) (script : Script) (valid : IsValid list) (valid_script : 
   head-taken range is =
       let text = head_text list script range.first range.last in
       ap (λ (line : List ℕ). without_feed line >>= campaign_head_in)
-      (head-ended list script range.first range.last).ends
+      (head-ended list script range.first range.last valid valid_script is.order is.digits).ends
       ∙ ap (λ (o : Option (List ℕ)). o >>= campaign_head_in) (feed-again text).0
       ∙ head-again list script range.first range.last valid valid_script is.order is.digits
 
@@ -135,7 +136,8 @@ module _ (list : Medl) (script : Script) (valid : IsValid list) (valid_script : 
       let own = own_line list (summary list script) in
       let lines = lines_behind range (lines_over list script ranges) in
       let each : AllByRecursion (λ line. is_line line ≡ true) (head ∷ own ∷ lines) = (
-        ended-line head (head_text list script range.first range.last) (head-ended list script range.first range.last),
+        ended-line head (head_text list script range.first range.last)
+            (head-ended list script range.first range.last valid valid_script are.0.order are.0.digits),
         (
           ended-line own (own_told list script).text (own-line-ended list script valid valid_script),
           (behind-goes range ranges are).are,

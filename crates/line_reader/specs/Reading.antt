@@ -1,5 +1,5 @@
 -- How a line of a trace is read: by its form, and then as the value of its words.
-use Rattle.std.specs.Prelude.{ℕ, ◌==◌, Bool, List, Option, Some, None}
+use Rattle.std.specs.Prelude.{ℕ, List, Option, Some, None}
 use Rattle.line_form.specs.Forms.{line_values}
 pub use Rattle.line_form.specs.Kinds.{◌>>=◌}
 use Rattle.line_reader.specs.declared.trace_line.TraceLine.{TraceLine}
@@ -7,10 +7,6 @@ use Rattle.line_reader.specs.TraceForms.{head_form, node_form, write_form, read_
 use Rattle.line_reader.specs.TraceForms.{refused_form, head_meaning, node_meaning, write_meaning}
 use Rattle.line_reader.specs.TraceForms.{read_meaning, kept_meaning}
 use Rattle.line_reader.specs.TraceForms.{broken_meaning, owed_meaning, refused_meaning}
-
--- a byte is a space
-abbrev pub is_space : ℕ → Bool
-is_space b = b == 32
 
 -- Lines.
 

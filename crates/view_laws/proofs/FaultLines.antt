@@ -19,8 +19,10 @@ use Rattle.whole_campaign.specs.declared.head.CampaignHead.{CampaignHead}
 use Rattle.whole_campaign.specs.declared.shown.FaultShown.{FaultShown}
 use Rattle.whole_campaign.specs.declared.shown.Piece.{Piece}
 use Rattle.whole_campaign.specs.declared.spot.Spot.{Spot}
-use Rattle.whole_campaign.specs.Words.{without_feed, word_behind}
-use Rattle.whole_campaign.specs.Runs.{run_words_in, test_in, cost_in, campaign_head_in, head_of_line}
+use Rattle.line_form.specs.Forms.{Values, spelled as spelled_of}
+use Rattle.whole_campaign.specs.Words.{without_feed, line_said, word_behind}
+use Rattle.whole_campaign.specs.Runs.{run_words_in, test_in, cost_in, campaign_form, campaign_said}
+use Rattle.whole_campaign.specs.Runs.{campaign_head_in, head_of_line}
 use Rattle.whole_campaign.specs.Faults.{FaultWords, fault_words_in, fault_line_in}
 use Rattle.whole_campaign.specs.Due.{piece_begun, fault_told, is_between_groups, behind_fault}
 use Rattle.whole_campaign.specs.Due.{behind_piece, behind_head, due_in_campaign}
@@ -29,7 +31,7 @@ use Rattle.whole_campaign.specs.Whole.{FaultTold, WholeCampaign, wrong_behind, w
 use Rattle.whole_campaign.specs.Whole.{items_behind, campaign_from, behind_own, behind_first, whole_of, campaign_in}
 use Rattle.view_laws.specs.Titles.{texts_of_lines}
 use Rattle.view_laws.specs.Marks.{is_fault_line}
-use Rattle.view_laws.proofs.PlainLines.{word-cut}
+use Rattle.view_laws.proofs.PlainLines.{said-takes, word-cut}
 use Rattle.view_laws.proofs.ReadLines.{fed-is, told_of_line, right-behind}
 use Rattle.view_laws.proofs.CampaignsRead.{or-drawn}
 use Rattle.ttp_world.proofs.SmallTests.{spelled}
@@ -100,11 +102,15 @@ broken-other line piece same =
     ap (λ (l : List ℕ). is_fault_line (unended l)) (spelled line counts same)
     ∙ no-fault (length counts - 1) 98 (drop 1 counts) refl
 
+head-text : (vs : Values campaign_form) → is_fault_line (spelled_of campaign_form vs) ≡ false
+head-text (nodes, (slots, (first, (last, end)))) = refl
+
 head-other : (bytes : List ℕ) (h : CampaignHead) → campaign_head_in bytes ≡ Some h → is_fault_line bytes ≡ false
 unfolding campaign_head_in
 head-other bytes h e =
-    let n = bound (word_behind 32 (codes "ttplab campaign 1 nodes ") bytes) _ h e in
-    ap is_fault_line (word-cut 32 (codes "ttplab campaign 1 nodes ") bytes n.value n.read)
+    let b = bound (line_said campaign_form campaign_said bytes) _ h e in
+    let line = said-takes campaign_form campaign_said bytes b.value b.read in
+    ap is_fault_line line.text ∙ head-text line.values
 
 head_line-other : (line : List ℕ) (h : CampaignHead) → head_of_line line ≡ Some h → is_fault_line (unended line) ≡ false
 unfolding head_of_line

@@ -1,5 +1,5 @@
 -- The lemmas of crates below that the proofs of this crate cite.
-pub use Rattle.line_form.proofs.ForAbove.{takes}
+pub use Rattle.line_form.proofs.ForAbove.{reads-found, takes}
 pub use Rattle.line_reader.proofs.ForAbove.{bound, line-takes}
 pub use Rattle.line_text.proofs.ForAbove.{chosen, guarded, label-takes, numeral-takes, some_same}
 pub use Rattle.picture_text.proofs.ForAbove.{Plain, is_special, parts, plain-apart_shown, plain-append, plain-back}

@@ -1,27 +1,30 @@
 -- Lines that are read as those of a campaign need no escapes.
-use Rattle.std.proofs.Common.{◌≡◌, ℕ, ◌%◌, ◌≤◌, Bool, true, false, cond, ◌&&◌, ◌||◌}
+use Rattle.std.proofs.Common.{◌≡◌, ℕ, suc, ◌-◌, ℤ, pos, negsuc, ◌≤◌, Bool, true, false, cond, ◌&&◌, ◌||◌}
 use Rattle.std.proofs.Common.{List, [], ◌∷◌, ◌++◌, length, fold, Option, Some, None, refl, sym, ap, subst, ◌∙◌, arith}
 use Rattle.std.proofs.Common.{codes, decimal, bytes_eq}
-use Rattle.std.specs.Prelude.{◌==◌, nat_le, nat_lt}
+use Rattle.std.specs.Prelude.{nat_le, nat_lt, option_map, IfSome}
+use Rattle.std.specs.Fmt.{signed_decimal}
 use Rattle.std.specs.List.{join_with_byte, slice_split, AllByRecursion}
 use Rattle.std.proofs.lemmas.Bool.{and_parts}
 use Rattle.std.proofs.lemmas.List.{take-append-drop}
 use Rattle.std.proofs.lemmas.List.Splits.{join_with_byte-slice_split}
-use Rattle.ttp_base.specs.Text.{hex}
 use Rattle.ttp_world.specs.declared.script.Channels.{Channels}
 use Rattle.ttp_world.specs.declared.script.Fault.{Fault}
 use Rattle.ttp_world.specs.declared.script.Fault.TheVariants as fault
 use Rattle.line_text.specs.Labels.{after_label}
 use Rattle.line_text.specs.Numerals.{numeral_in}
-use Rattle.view_laws.proofs.FromBelow.{label-takes, guarded, chosen, some_same, takes, bound, line-takes, numeral-takes}
+use Rattle.view_laws.proofs.FromBelow.{label-takes, guarded, chosen, some_same, takes, bound, line-takes, reads-found}
+use Rattle.view_laws.proofs.FromBelow.{numeral-takes}
 use Rattle.view_laws.proofs.FromBelow.{Plain, parts, plain-append, plain-decimal, plain-hex, plain-keep, plain-back}
 use Rattle.line_reader.specs.declared.trace_line.TraceLine.{TraceLine}
 use Rattle.line_reader.specs.declared.trace_line.TraceLine.TheVariants as line
 use Rattle.line_reader.specs.Reading.{◌>>=◌, line_in}
 use Rattle.line_form.specs.Kinds.{read, spell, hexed_or, count_of_digits}
+use Rattle.line_form.specs.Forms.{LineForm, Values, spelled as spelled_of, fit, line_values}
 use Rattle.line_reader.specs.TraceLines.{slot_digits, text_of}
 use Rattle.campaign.specs.CostText.{on_channels, channels_word, kind_word, loss_words}
 use Rattle.whole_campaign.specs.declared.cost.CostShown.{CostShown}
+use Rattle.whole_campaign.specs.declared.fault.JumpWords.{JumpWords}
 use Rattle.whole_campaign.specs.declared.listed.Kind.{Kind}
 use Rattle.whole_campaign.specs.declared.listed.Kind.TheVariants as kind
 use Rattle.whole_campaign.specs.declared.listed.NodesSoFar.{NodesSoFar}
@@ -30,16 +33,32 @@ use Rattle.whole_campaign.specs.declared.shown.Doing.{Doing}
 use Rattle.whole_campaign.specs.declared.shown.Doing.TheVariants as doing
 use Rattle.whole_campaign.specs.declared.shown.Test.{Test}
 use Rattle.whole_campaign.specs.declared.spot.Spot.{Spot}
-use Rattle.whole_campaign.specs.Words.{Cut, cut_after, length_before, word_behind}
-use Rattle.whole_campaign.specs.Words.{length_of_words, words_behind, node_digits}
+use Rattle.whole_campaign.specs.Words.{line_said, Cut, cut_after, length_before, word_behind}
+use Rattle.whole_campaign.specs.Words.{rest_behind, words_behind, node_digits}
 use Rattle.whole_campaign.specs.Words.{is_comma, is_dash, is_reason, leaving_in, node_in_word}
 use Rattle.whole_campaign.specs.Words.{with_node_word, no_nodes_yet}
 use Rattle.whole_campaign.specs.Words.{nodes_listed, members_listed, with_set_word, no_sets_yet, sets_listed, split_in}
 use Rattle.whole_campaign.specs.Runs.{RunWords, run_words_in, test_of, test_in, cost_in}
 use Rattle.whole_campaign.specs.Faults.{channels_at, loss_at, loss_end, doing_label, is_loss_of}
-use Rattle.whole_campaign.specs.Faults.{signed_in, is_jump_value, jump_sign, is_above_0}
-use Rattle.whole_campaign.specs.Faults.{JumpWords, jump_words_in, is_jump_of, is_fault_of}
+use Rattle.whole_campaign.specs.Faults.{jump_form, jump_told, is_jump_of, is_fault_of}
 use Rattle.ttp_world.proofs.SmallTests.{spelled}
+
+-- Lines with a form.
+
+-- a line is the text of its values
+pub record IsText {A : Type 0} (form : LineForm) (said : Values form → A) (bytes : List ℕ) (v : A) : Type 0 where
+  pub values : Values form
+  pub text : bytes ≡ spelled_of form values
+
+pub said-takes : {A : Type 0} (form : LineForm) (said : Values form → A) (bytes : List ℕ) (v : A)
+    → line_said form said bytes ≡ Some v → IsText form said bytes v
+unfolding line_said
+said-takes form said bytes v e = go (line_values form bytes) e (reads-found form bytes)
+  where
+    go : (o : Option (Values form)) → option_map said o ≡ Some v
+        → IfSome o (λ vs. (fit form vs ≡ true) × (bytes ≡ spelled_of form vs)) → IsText form said bytes v
+    go None e found = cc
+    go (Some vs) e found = record { values = vs; text = found.1 }
 
 -- Words.
 
@@ -59,11 +78,12 @@ words-cut : (n : ℕ) (bytes : List ℕ) (cut : Cut) → words_behind n bytes �
     → bytes ≡ codes " " ++ (cut.front ++ cut.rest)
 unfolding words_behind
 words-cut n bytes cut e =
-    let b = bound (after_label (codes " ") bytes) (λ rest. Some (cut_after (length_of_words n rest) rest)) cut e in
-    let is : cut_after (length_of_words n b.value) b.value ≡ cut =
-    some_same (cut_after (length_of_words n b.value) b.value) cut b.gives in
+    let b = bound (after_label (codes " ") bytes) _ cut e in
+    let r = bound (rest_behind n bytes) _ cut b.gives in
+    let end = length b.value - length r.value in
+    let is : cut_after end b.value ≡ cut = some_same (cut_after end b.value) cut r.gives in
     label-takes (codes " ") bytes b.value b.read
-    ∙ ap (λ (rest : List ℕ). codes " " ++ rest) (sym (take-append-drop (length_of_words n b.value) b.value))
+    ∙ ap (λ (rest : List ℕ). codes " " ++ rest) (sym (take-append-drop end b.value))
     ∙ ap (λ (c : Cut). codes " " ++ (c.front ++ c.rest)) is
 
 pub plain-is : (bytes text : List ℕ) → bytes ≡ text → Plain text → Plain bytes
@@ -311,47 +331,19 @@ plain-loss word k channels kind from to is =
     (decimal from) (decimal to) is (plain-decimal k)
     (plain-channels channels.a channels.b) (plain-lost kind) (plain-decimal from) (plain-decimal to)
 
-plain-sign : (down : Bool) → Plain (jump_sign down)
-plain-sign true = refl
-plain-sign false = refl
+plain-signed : (z : ℤ) → Plain (signed_decimal z)
+plain-signed (pos n) = plain-decimal n
+plain-signed (negsuc n) = rw (plain-decimal (suc n)) refl
 
-some-number : (o : Option ℕ) → is_above_0 o ≡ true → (n : ℕ) × (o ≡ Some n)
-some-number None e = cc
-some-number (Some n) e = (n, refl)
+plain-jump_text : (vs : Values jump_form) → Plain (spelled_of jump_form vs)
+plain-jump_text (node, (value, (slot, end))) = simp (parts, plain-signed value)
 
-plain-value : (down : Bool) (word : List ℕ) → is_jump_value down word ≡ true → Plain word
-unfolding signed_in
-plain-value down word e =
-    let some = some-number (after_label (jump_sign down) word >>= numeral_in 9) e in
-    let digits = bound (after_label (jump_sign down) word) (numeral_in 9) some.0 some.1 in
-    plain-behind (jump_sign down) word digits.value digits.read (plain-sign down)
-    (plain-number 9 digits.value some.0 (omega arith) digits.gives)
-
-plain-jump_words : (words : List ℕ) (jump : JumpWords) → jump_words_in words
-    ≡ Some jump → Plain jump.value → Plain words
-unfolding jump_words_in
-plain-jump_words words jump e value =
-    let k = bound (word_behind 32 (codes "jump ") words) _ jump e in
-    let v = bound (word_behind 32 (codes " ") k.value.rest) _ jump k.gives in
-    let t = bound (after_label (codes " ") v.value.rest) _ jump v.gives in
-    let node = bound (numeral_in node_digits k.value.front) _ jump t.gives in
-    let slot = bound (numeral_in slot_digits t.value) _ jump node.gives in
-    let is = some_same _ jump slot.gives in
-    plain-cut (codes "jump ") words k.value.front k.value.rest (word-cut 32 (codes "jump ") words k.value k.read) refl
-    (plain-number node_digits k.value.front node.value (omega arith) node.read)
-    (plain-cut (codes " ") k.value.rest v.value.front v.value.rest
-    (word-cut 32 (codes " ") k.value.rest v.value v.read) refl
-    (subst (λ (j : JumpWords). Plain j.value) (sym is) value)
-    (plain-behind (codes " ") v.value.rest t.value t.read refl
-    (plain-number slot_digits t.value slot.value (omega arith) slot.read)))
-
-plain-jump_of : (s : Spot) (words : List ℕ) (o : Option JumpWords) → jump_words_in words ≡ o → is_jump_of s o ≡ true
-    → Plain words
+plain-jump_of : (s : Spot) (words : List ℕ) (o : Option JumpWords) → line_said jump_form jump_told words ≡ o
+    → is_jump_of s o ≡ true → Plain words
 plain-jump_of s words None read e = cc
 plain-jump_of s words (Some jump) read e =
-    let tests = and_parts ((jump.node == s.node) && (jump.slot == s.slot))
-    (is_jump_value (s.place % 2 == 1) jump.value) e in
-    plain-jump_words words jump read (plain-value (s.place % 2 == 1) jump.value tests.1)
+    let line = said-takes jump_form jump_told words jump read in
+    plain-is words (spelled_of jump_form line.values) line.text (plain-jump_text line.values)
 
 either-test : (b x y : Bool) (P : Type 0) → cond b x y ≡ true → (x ≡ true → P) → (y ≡ true → P) → P
 either-test true x y P e one other = one e
@@ -367,5 +359,5 @@ plain-lost_words slots s words same =
 
 pub plain-fault : (slots : ℕ) (s : Spot) (words : List ℕ) → is_fault_of slots s words ≡ true → Plain words
 plain-fault slots s words e =
-    either-test (nat_lt s.place 12) (is_loss_of slots s words) (is_jump_of s (jump_words_in words)) (Plain words) e
-    (plain-lost_words slots s words) (plain-jump_of s words (jump_words_in words) refl)
+    either-test (nat_lt s.place 12) (is_loss_of slots s words) (is_jump_of s (line_said jump_form jump_told words))
+    (Plain words) e (plain-lost_words slots s words) (plain-jump_of s words (line_said jump_form jump_told words) refl)

@@ -6,7 +6,6 @@ use Rattle.std.specs.Prelude.{◌==◌, nat_le, nat_lt, option_map, IfSome}
 use Rattle.std.specs.List.{AllByRecursion}
 use Rattle.std.proofs.lemmas.Bool.{and_parts, eqb-true, leb-true, ltb-true}
 use Rattle.ttp_base.specs.Text.{Lines}
-use Rattle.line_text.specs.Labels.{after_label}
 use Rattle.line_text.specs.Numerals.{numeral_in}
 use Rattle.view_laws.proofs.FromBelow.{guarded, some_same, bound, Plain}
 use Rattle.line_reader.specs.TraceLines.{slot_digits}
@@ -18,9 +17,9 @@ use Rattle.whole_campaign.specs.declared.head.CampaignHead.{CampaignHead}
 use Rattle.whole_campaign.specs.declared.shown.FaultShown.{FaultShown}
 use Rattle.whole_campaign.specs.declared.shown.Piece.{Piece}
 use Rattle.whole_campaign.specs.declared.spot.Spot.{Spot}
-use Rattle.whole_campaign.specs.Words.{without_feed, word_behind, node_digits}
-use Rattle.whole_campaign.specs.Runs.{RunWords, run_words_in, test_in, is_same_test, cost_in, range_digits}
-use Rattle.whole_campaign.specs.Runs.{campaign_head_in, head_of_line}
+use Rattle.whole_campaign.specs.Words.{without_feed, line_said, word_behind, node_digits}
+use Rattle.whole_campaign.specs.Runs.{RunWords, run_words_in, test_in, is_same_test, cost_in}
+use Rattle.whole_campaign.specs.Runs.{campaign_form, campaign_said, is_campaign_head, campaign_head_in, head_of_line}
 use Rattle.whole_campaign.specs.Faults.{is_last_place, is_same_node, is_later, is_same_doing, is_fault_of}
 use Rattle.whole_campaign.specs.Faults.{stands_behind, lies_in, FaultWords, fault_words_in}
 use Rattle.whole_campaign.specs.Faults.{spot_in, is_spot_due, shown_at, fault_line_in}
@@ -220,18 +219,11 @@ head-from : (bytes : List ℕ) (h : CampaignHead) (low : ℕ) → campaign_head_
     → IsFrom low (due.Own h.first h.last)
 unfolding campaign_head_in
 head-from bytes h low e above =
-    let n = bound (word_behind 32 (codes "ttplab campaign 1 nodes ") bytes) _ h e in
-    let t = bound (word_behind 32 (codes " slots ") n.value.rest) _ h n.gives in
-    let f = bound (word_behind 32 (codes " from ") t.value.rest) _ h t.gives in
-    let l = bound (after_label (codes " to ") f.value.rest) _ h f.gives in
-    let nodes = bound (numeral_in node_digits n.value.front) _ h l.gives in
-    let slots = bound (numeral_in slot_digits t.value.front) _ h nodes.gives in
-    let first = bound (numeral_in range_digits f.value.front) _ h slots.gives in
-    let last = bound (numeral_in range_digits l.value) _ h first.gives in
-    let g = guarded _ _ h last.gives in
-    let tests = and_parts _ (nat_le first.value last.value) g.0 in
-    let order = leb-true first.value last.value tests.1 in
-    (above, subst (λ (k : CampaignHead). k.first ≤ k.last) (some_same _ h g.1) order)
+    let said = bound (line_said campaign_form campaign_said bytes) _ h e in
+    let g = guarded (is_campaign_head said.value) (Some said.value) h said.gives in
+    let tests = and_parts _ (nat_le said.value.first said.value.last) g.0 in
+    let order = leb-true said.value.first said.value.last tests.1 in
+    (above, subst (λ (k : CampaignHead). k.first ≤ k.last) (some_same said.value h g.1) order)
 
 pub line-from : (line : List ℕ) (h : CampaignHead) (low : ℕ) → head_of_line line ≡ Some h → low ≤ h.first
     → IsFrom low (due.Own h.first h.last)

@@ -1,17 +1,26 @@
 -- Steps over the lines of a campaign.
 use Rattle.std.proofs.Common.{◌≡◌, ℕ, ◌+◌, ◌<◌, List, [], ◌∷◌, ◌++◌, length, get_or}
-use Rattle.std.proofs.Common.{drop, Option, Some, None, ap, sym, ◌∙◌}
+use Rattle.std.proofs.Common.{drop, Option, Some, None, option_map, ap, sym, ◌∙◌}
 use Rattle.std.proofs.Common.{arith, length-append}
 use Rattle.std.specs.List.{concat}
 use Rattle.ttp_base.specs.Text.{Lines, lines_of}
-use Rattle.whole_campaign.proofs.FromBelow.{concat-lines_of, Bound, bound, cut-front}
+use Rattle.line_form.specs.Forms.{LineForm, Values, closed_line}
+use Rattle.whole_campaign.proofs.FromBelow.{ReadAs, map_closed, concat-lines_of, Bound, bound, cut-front}
 use Rattle.whole_campaign.specs.declared.due.Due.{Due}
 use Rattle.whole_campaign.specs.declared.head.CampaignHead.{CampaignHead}
 use Rattle.whole_campaign.specs.Own.{Common, OwnShown, own_in, own_of_line}
 use Rattle.whole_campaign.specs.Runs.{campaign_head_in, head_of_line}
-use Rattle.whole_campaign.specs.Words.{without_feed}
+use Rattle.whole_campaign.specs.Words.{without_feed, line_said}
 use Rattle.whole_campaign.specs.Due.{due_in_campaign}
 use Rattle.whole_campaign.specs.Whole.{wrong_behind, wrong_line}
+
+-- what a reader made of the values of a line is what they say
+pub closes_said : {A : Type 0} (form : LineForm) (said : Values form → A) (bytes : List ℕ) (left : Option (List ℕ))
+    (vs : Values form) (result : Option A) → result ≡ closed_line left (said vs) → ReadAs form (Some bytes) left vs
+    → result ≡ line_said form said bytes
+unfolding line_said
+closes_said form said bytes left vs result is read =
+    is ∙ sym (map_closed said left vs) ∙ (λ i. option_map said (closed_line (read.left_is i) (read.values_are i)))
 
 -- a line that is cut off the front of a text has some bytes
 pub line_has_bytes : (text line rest : List ℕ) → lines_of text ≡ line ∷ lines_of rest → 0 < length line

@@ -8,9 +8,6 @@ use Rattle.std.proofs.lemmas.List.Sums.{sum_by-cons}
 use Rattle.std.proofs.lemmas.Bool.{le-leb, lt-ltb, ltb-true, leb-true}
 use Rattle.ttp_base.specs.Text.{Lines, lines_of, is_newline, newline, before_lines}
 use Rattle.whole_campaign.proofs.FromBelow.{bound, guarded, some_same}
-use Rattle.line_reader.specs.TraceLines.{slot_digits}
-use Rattle.line_text.specs.Labels.{after_label}
-use Rattle.line_text.specs.Numerals.{numeral_in}
 use Rattle.campaign.specs.declared.cost.Counts.{Counts}
 use Rattle.campaign.specs.CostText.{unended}
 use Rattle.campaign.specs.Lines.{counts_line}
@@ -29,13 +26,13 @@ use Rattle.whole_campaign.specs.Faults.{stands_behind, lies_in, is_spot_due, is_
 use Rattle.whole_campaign.specs.Faults.{fault_words_in, spot_in, shown_at}
 use Rattle.whole_campaign.specs.Faults.{fault_line_in}
 use Rattle.whole_campaign.specs.Own.{Common, OwnShown, own_of_line}
-use Rattle.whole_campaign.specs.Runs.{RunWords, head_of_line, campaign_head_in, is_campaign_head}
-use Rattle.whole_campaign.specs.Runs.{range_digits, test_in, cost_in, is_same_test}
+use Rattle.whole_campaign.specs.Runs.{RunWords, campaign_form, campaign_said, head_of_line, campaign_head_in}
+use Rattle.whole_campaign.specs.Runs.{is_campaign_head, test_in, cost_in, is_same_test}
 use Rattle.whole_campaign.specs.Whole.{FaultTold, WholeCampaign, one_further, wrong_line, items_behind, onto, told_at}
 use Rattle.whole_campaign.specs.Whole.{faults_told, piece_ended, pieces_from, campaign_from}
 use Rattle.whole_campaign.specs.Whole.{or_wrong, behind_own, behind_first}
 use Rattle.whole_campaign.specs.Whole.{whole_of, campaign_in}
-use Rattle.whole_campaign.specs.Words.{without_feed, word_behind, node_digits}
+use Rattle.whole_campaign.specs.Words.{without_feed, line_said}
 use Rattle.whole_campaign.proofs.Rooms.{one-small}
 use Rattle.whole_campaign.specs.Readable.{counts_together, counts_sum, counts_fit, in_order_from, IsReadable}
 
@@ -126,19 +123,11 @@ fault-moves n piece before line None is bounds =
 head-ordered : (bytes : List ℕ) (h : CampaignHead) → campaign_head_in bytes ≡ Some h → h.first ≤ h.last
 unfolding campaign_head_in
 head-ordered bytes h e =
-    let n = bound (word_behind 32 (codes "ttplab campaign 1 nodes ") bytes) _ h e in
-    let t = bound (word_behind 32 (codes " slots ") n.value.rest) _ h n.gives in
-    let f = bound (word_behind 32 (codes " from ") t.value.rest) _ h t.gives in
-    let l = bound (after_label (codes " to ") f.value.rest) _ h f.gives in
-    let nodes = bound (numeral_in node_digits n.value.front) _ h l.gives in
-    let slots = bound (numeral_in slot_digits t.value.front) _ h nodes.gives in
-    let first = bound (numeral_in range_digits f.value.front) _ h slots.gives in
-    let last = bound (numeral_in range_digits l.value) _ h first.gives in
-    let made : CampaignHead =
-    record { nodes = nodes.value; slots = slots.value; first = first.value; last = last.value } in
-    let g = guarded (is_campaign_head made) (Some made) h last.gives in
-    let ordered : nat_le made.first made.last ≡ true = grind (arith, g.0) in
-    subst (λ (x : CampaignHead). x.first ≤ x.last) (some_same made h g.1) (leb-true made.first made.last ordered)
+    let b = bound (line_said campaign_form campaign_said bytes) _ h e in
+    let g = guarded (is_campaign_head b.value) (Some b.value) h b.gives in
+    let ordered : nat_le b.value.first b.value.last ≡ true = grind (arith, g.0) in
+    subst (λ (x : CampaignHead). x.first ≤ x.last) (some_same b.value h g.1)
+    (leb-true b.value.first b.value.last ordered)
 
 line-ordered : (line : List ℕ) (h : CampaignHead) → head_of_line line ≡ Some h → h.first ≤ h.last
 unfolding head_of_line

@@ -1,5 +1,6 @@
 -- The line of a fault: its place among those of its slot and node, and what it says.
-use Rattle.std.specs.Prelude.{ℕ, ◌+◌, ◌-◌, ◌/◌, ◌%◌, ◌==◌, nat_le, nat_lt, Bool, true, false, ◌&&◌, ◌||◌, not, List, []}
+use Rattle.std.specs.Prelude.{ℕ, ◌+◌, ◌-◌, ◌/◌, ◌%◌, ◌==◌, nat_le, nat_lt, ℤ, pos, int_lt}
+use Rattle.std.specs.Prelude.{Bool, true, false, ◌&&◌, ◌||◌, not, List, [], ◌∷◌}
 use Rattle.std.specs.Prelude.{Option, Some, None, codes, is_some, if◌then◌else◌}
 use Rattle.std.specs.Str.{bytes_eq}
 use Rattle.ttp_world.specs.declared.script.Channels.{Channels}
@@ -7,16 +8,21 @@ use Rattle.ttp_world.specs.declared.script.Fault.{Fault}
 use Rattle.ttp_world.specs.declared.script.Fault.TheVariants as fault
 use Rattle.line_text.specs.Labels.{after_label}
 use Rattle.line_text.specs.Numerals.{numeral_in}
+use Rattle.line_form.specs.Kinds.{number, signed}
+use Rattle.line_form.specs.Forms.{◌▸◌, LineForm, Values}
 use Rattle.line_reader.specs.TraceLines.{slot_digits}
 use Rattle.line_reader.specs.Reading.{◌>>=◌}
 use Rattle.campaign.specs.CostText.{loss_words}
+use Rattle.whole_campaign.specs.declared.fault.FaultWords.{FaultWords as CutFault}
+use Rattle.whole_campaign.specs.declared.fault.JumpWords.{JumpWords}
 use Rattle.whole_campaign.specs.declared.shown.Doing.{Doing}
 use Rattle.whole_campaign.specs.declared.shown.Doing.TheVariants as doing
 use Rattle.whole_campaign.specs.declared.shown.FaultShown.{FaultShown}
 use Rattle.whole_campaign.specs.declared.shown.Piece.{Piece}
 use Rattle.whole_campaign.specs.declared.spot.Spot.{Spot}
-use Rattle.whole_campaign.specs.Words.{word_behind, node_digits}
-use Rattle.whole_campaign.specs.Runs.{RunWords, run_words_in, test_in, test_says_yes, is_same_test, cost_in}
+use Rattle.whole_campaign.specs.Words.{line_said, word_behind, node_digits}
+use Rattle.whole_campaign.specs.Runs.{RunWords, run_words_of, run_words_in, test_in, test_says_yes, is_same_test}
+use Rattle.whole_campaign.specs.Runs.{cost_in}
 use Rattle.whole_campaign.specs.Own.{Common}
 
 -- What is tried at a place.
@@ -53,47 +59,27 @@ is_loss_of slots s words =
     (loss_words (doing_label s.doing) s.node (channels_at s.place) (loss_at s.place) s.slot
     (loss_end slots s.slot s.place))
 
--- what stands before the digits of a jump
-abbrev pub jump_sign : Bool → List ℕ
-jump_sign down = if down then codes "-" else []
+-- the words of a jump
+abbrev pub jump_form : LineForm
+jump_form = codes "jump " ▸ number 256 ∷ codes " " ▸ signed 1000000000 ∷ codes " " ▸ number 100000 ∷ []
 
--- a number that there is, and not 0
-abbrev pub is_above_0 : Option ℕ → Bool
-is_above_0 None = false
-is_above_0 (Some n) = nat_lt 0 n
+-- a clock jumps below 0 in places 13 and 15, and else above
+abbrev pub is_jump_value : ℕ → ℤ → Bool
+is_jump_value place value = if place % 2 == 1 then int_lt value (pos 0) else int_lt (pos 0) value
 
--- a number of 1 to 9 digits behind a sign
-unfoldable pub signed_in : List ℕ → List ℕ → Option ℕ
-signed_in sign word = after_label sign word >>= numeral_in 9
+-- what they say
+abbrev pub jump_told : Values jump_form → JumpWords
+jump_told (node, (value, (slot, end))) = record { node = node; value = value; slot = slot }
 
--- how far a clock jumps: above 0, or below
-abbrev pub is_jump_value : Bool → List ℕ → Bool
-is_jump_value down word = is_above_0 (signed_in (jump_sign down) word)
-
--- the node, the value and the slot of a jump
-pub record JumpWords : Type 0 where
-  pub node : ℕ
-  pub value : List ℕ
-  pub slot : ℕ
-
-unfoldable pub jump_words_in : List ℕ → Option JumpWords
-jump_words_in words = do
-  k ← word_behind 32 (codes "jump ") words
-  value ← word_behind 32 (codes " ") k.rest
-  t ← after_label (codes " ") value.rest
-  node ← numeral_in node_digits k.front
-  slot ← numeral_in slot_digits t
-  Some (record { node = node; value = value.front; slot = slot })
-
--- whether these are the words of the jump of a spot: it is below 0 in places 13 and 15, and else above
+-- whether a jump is that of a spot
 abbrev pub is_jump_of : Spot → Option JumpWords → Bool
 is_jump_of s None = false
-is_jump_of s (Some jump) =
-    (jump.node == s.node) && (jump.slot == s.slot) && is_jump_value (s.place % 2 == 1) jump.value
+is_jump_of s (Some jump) = (jump.node == s.node) && (jump.slot == s.slot) && is_jump_value s.place jump.value
 
 -- whether these are the words of the fault of a spot
 abbrev pub is_fault_of : ℕ → Spot → List ℕ → Bool
-is_fault_of slots s words = if nat_lt s.place 12 then is_loss_of slots s words else is_jump_of s (jump_words_in words)
+is_fault_of slots s words =
+    if nat_lt s.place 12 then is_loss_of slots s words else is_jump_of s (line_said jump_form jump_told words)
 
 -- Places.
 
@@ -156,6 +142,10 @@ fault_words_in bytes = do
   slot ← numeral_in slot_digits s.front
   node ← numeral_in node_digits k.front
   Some (record { slot = slot; node = node; run = run })
+
+-- the same that code cut off a line
+abbrev pub fault_words_of : CutFault → FaultWords
+fault_words_of words = record { slot = words.slot; node = words.node; run = run_words_of words.run }
 
 -- where a fault stands behind another
 unfoldable pub spot_in : Option Spot → FaultWords → Option Spot

@@ -1,9 +1,9 @@
 -- What the line of a run says between its place and its fault: the test, and what the run cost.
-use Rattle.std.specs.Prelude.{ℕ, nat_le, Bool, true, false, ◌&&◌, List, Option, Some, None, codes}
+use Rattle.std.specs.Prelude.{ℕ, nat_le, Bool, true, false, ◌&&◌, List, [], ◌∷◌, Option, Some, None, codes}
 use Rattle.std.specs.Prelude.{if◌then◌else◌}
 use Rattle.line_text.specs.Labels.{after_label}
-use Rattle.line_text.specs.Numerals.{numeral_in}
-use Rattle.line_reader.specs.TraceLines.{slot_digits}
+use Rattle.line_form.specs.Kinds.{number, given}
+use Rattle.line_form.specs.Forms.{◌▸◌, LineForm, Values}
 use Rattle.line_reader.specs.declared.trace_line.TraceLine.{TraceLine}
 use Rattle.line_reader.specs.declared.trace_line.TraceLine.TheVariants as line
 use Rattle.line_reader.specs.Reading.{◌>>=◌, line_in}
@@ -13,15 +13,23 @@ use Rattle.whole_campaign.specs.declared.cost.CostShown.{CostShown}
 use Rattle.whole_campaign.specs.declared.shown.Test.{Test}
 use Rattle.whole_campaign.specs.declared.shown.Test.TheVariants as test
 use Rattle.whole_campaign.specs.declared.head.CampaignHead.{CampaignHead}
-use Rattle.whole_campaign.specs.Words.{without_feed, word_behind, words_behind, node_digits}
+use Rattle.whole_campaign.specs.declared.run_words.RunWords.{RunWords as CutRun}
+use Rattle.whole_campaign.specs.Words.{without_feed, line_said, word_behind, words_behind}
 use Rattle.whole_campaign.specs.Words.{nodes_listed, sets_listed, split_in}
 use Rattle.whole_campaign.specs.declared.listed.Kind.TheVariants as kind
 
 -- The first line of a piece.
 
--- the numbers of a range have at most nine digits
-abbrev pub range_digits : ℕ
-range_digits = 9
+-- its words
+abbrev pub campaign_form : LineForm
+campaign_form =
+    codes "ttplab campaign 1 nodes " ▸ number 256 ∷ codes " slots " ▸ number 100000
+    ∷ codes " from " ▸ number 1000000000 ∷ codes " to " ▸ number 1000000000 ∷ []
+
+-- what they say
+abbrev pub campaign_said : Values campaign_form → CampaignHead
+campaign_said (nodes, (slots, (first, (last, end)))) =
+    record { nodes = nodes; slots = slots; first = first; last = last }
 
 -- 4 to 24 nodes, 1 to 20000 slots, and a range
 abbrev pub is_campaign_head : CampaignHead → Bool
@@ -29,17 +37,7 @@ is_campaign_head h = lies_within 4 24 h.nodes && lies_within 1 20000 h.slots && 
 
 -- what a line says, without its line feed, where it is the first one of a piece
 unfoldable pub campaign_head_in : List ℕ → Option CampaignHead
-campaign_head_in bytes = do
-  n ← word_behind 32 (codes "ttplab campaign 1 nodes ") bytes
-  t ← word_behind 32 (codes " slots ") n.rest
-  f ← word_behind 32 (codes " from ") t.rest
-  l ← after_label (codes " to ") f.rest
-  nodes ← numeral_in node_digits n.front
-  slots ← numeral_in slot_digits t.front
-  first ← numeral_in range_digits f.front
-  last ← numeral_in range_digits l
-  let h : CampaignHead = record { nodes = nodes; slots = slots; first = first; last = last }
-  if is_campaign_head h then Some h else None
+campaign_head_in bytes = line_said campaign_form campaign_said bytes >>= λ h. given (is_campaign_head h) h
 
 -- the same of a line with its line feed
 unfoldable pub head_of_line : List ℕ → Option CampaignHead
@@ -52,6 +50,10 @@ pub record RunWords : Type 0 where
   pub test : List ℕ
   pub cost : List ℕ
   pub fault : List ℕ
+
+-- the same that code cut off a line
+abbrev pub run_words_of : CutRun → RunWords
+run_words_of run = record { test = run.test.now; cost = run.cost.now; fault = run.fault.now }
 
 -- these words, of what stands behind a place
 unfoldable pub run_words_in : List ℕ → Option RunWords

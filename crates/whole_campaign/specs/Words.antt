@@ -1,7 +1,8 @@
 -- A line of a campaign cut into words, and the lists that stand in it.
-use Rattle.std.specs.Prelude.{ℕ, ◌+◌, ◌-◌, ◌^◌, ◌==◌, nat_le, nat_lt, Bool, true, false}
-use Rattle.std.specs.Prelude.{◌&&◌, ◌||◌, List, [], ◌∷◌, length, take, drop}
-use Rattle.std.specs.Prelude.{fold, Option, Some, None, codes, unwrap_or, position, if◌then◌else◌}
+use Rattle.std.specs.Prelude.{ℕ, zero, suc, ◌+◌, ◌-◌, ◌^◌, ◌==◌, nat_le, nat_lt, Bool, true, false}
+use Rattle.std.specs.Prelude.{◌&&◌, ◌||◌, List, [], length, take, drop}
+use Rattle.std.specs.Prelude.{fold, Option, Some, None, option_map, codes, unwrap_or, position, if◌then◌else◌}
+use Rattle.std.specs.Borrow.{Bor}
 use Rattle.std.specs.List.{slice_split}
 use Rattle.std.specs.Str.{bytes_eq}
 use Rattle.ttp_base.specs.NodeSet.{members_in}
@@ -10,7 +11,8 @@ use Rattle.line_text.specs.Labels.{after_label}
 use Rattle.line_text.specs.Numerals.{numeral_in}
 use Rattle.line_reader.specs.TraceLines.{slot_digits}
 use Rattle.line_form.specs.Kinds.{read, hexed_or}
-use Rattle.line_reader.specs.Reading.{◌>>=◌, is_space}
+use Rattle.line_form.specs.Forms.{LineForm, Values, line_values}
+use Rattle.line_reader.specs.Reading.{◌>>=◌}
 use Rattle.whole_campaign.specs.declared.listed.Kind.{Kind}
 use Rattle.whole_campaign.specs.declared.listed.Kind.TheVariants as kind
 use Rattle.whole_campaign.specs.declared.listed.NodesSoFar.{NodesSoFar}
@@ -21,6 +23,10 @@ unfoldable pub without_feed : List ℕ → Option (List ℕ)
 without_feed line =
     if bytes_eq (drop (length line - 1) line) newline then Some (take (length line - 1) line) else None
 
+-- what the values of a line say, where it has this form
+unfoldable pub line_said : {A : Type 0} → (form : LineForm) → (Values form → A) → List ℕ → Option A
+line_said form said bytes = option_map said (line_values form bytes)
+
 -- the front of bytes, and what is left behind it
 pub record Cut : Type 0 where
   pub front : List ℕ
@@ -30,6 +36,10 @@ pub record Cut : Type 0 where
 abbrev pub cut_after : ℕ → List ℕ → Cut
 cut_after n bytes = record { front = take n bytes; rest = drop n bytes }
 
+-- the same that code cut
+abbrev pub cut_of : Bor (List ℕ) × Bor (List ℕ) → Cut
+cut_of cut = record { front = cut.0.now; rest = cut.1.now }
+
 -- how many bytes stand before the first of these
 abbrev pub length_before : ℕ → List ℕ → ℕ
 length_before stop bytes = unwrap_or (position (λ b. b == stop) bytes) (length bytes)
@@ -38,17 +48,17 @@ length_before stop bytes = unwrap_or (position (λ b. b == stop) bytes) (length 
 unfoldable pub word_behind : ℕ → List ℕ → List ℕ → Option Cut
 word_behind stop label bytes = after_label label bytes >>= λ rest. Some (cut_after (length_before stop rest) rest)
 
--- how long the first so many words of bytes are, with the spaces between them
-unfoldable pub length_of_words : ℕ → List ℕ → ℕ
-length_of_words n [] = 0
-length_of_words n (b ∷ bytes) =
-    if is_space b
-    then (if nat_le n 1 then 0 else length_of_words (n - 1) bytes + 1)
-    else length_of_words n bytes + 1
+-- what is left behind so many words with a space before each
+abbrev pub rest_behind : ℕ → List ℕ → Option (List ℕ)
+rest_behind zero bytes = Some bytes
+rest_behind (suc n) bytes = word_behind 32 (codes " ") bytes >>= λ w. rest_behind n w.rest
 
 -- so many words behind a space
 unfoldable pub words_behind : ℕ → List ℕ → Option Cut
-words_behind n bytes = after_label (codes " ") bytes >>= λ rest. Some (cut_after (length_of_words n rest) rest)
+words_behind n bytes = do
+  words ← after_label (codes " ") bytes
+  rest ← rest_behind n bytes
+  Some (cut_after (length words - length rest) words)
 
 -- Numbers.
 

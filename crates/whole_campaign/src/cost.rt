@@ -24,14 +24,14 @@ pub(crate) fn cost_in(nodes: u8, slots: u32, words: &[u8]) -> Option<CostShown>
     requires { nodes ≤ 24 }
     ensures { result ≡ cost_in nodes slots words.now }
 {
-    let left = word_behind(b' ', "left ", words)?;
-    let hurt = word_behind(b' ', " hurt ", left.rest())?;
-    let first = word_behind(b' ', " split ", hurt.rest())?;
-    let last = word_behind(b' ', " ", first.rest())?;
-    let end = after_label(b" end ".as_slice(), last.rest())?;
-    let _leaving = nodes_listed(Kind::Leaving(slots), nodes, left.front())?;
-    let count = nodes_listed(Kind::Hurt, nodes, hurt.front())?;
-    let split = split_in(slots, first.front(), last.front())?;
+    let (left, rest) = word_behind(b' ', "left ", words)?;
+    let (hurt, rest) = word_behind(b' ', " hurt ", rest)?;
+    let (first, rest) = word_behind(b' ', " split ", rest)?;
+    let (last, rest) = word_behind(b' ', " ", rest)?;
+    let end = after_label(b" end ".as_slice(), rest)?;
+    let _leaving = nodes_listed(Kind::Leaving(slots), nodes, left)?;
+    let count = nodes_listed(Kind::Hurt, nodes, hurt)?;
+    let split = split_in(slots, first, last)?;
     let sets = sets_listed(nodes, end)?;
     Some(CostShown {
         hurt: count,

@@ -1,51 +1,9 @@
 //! A line cut into its words.
 ghost use Rattle.std.specs.Prelude.{◌≡◌, ◌≤◌, ◌<◌, ◌∷◌, ◌==◌, length, option_map, position, IfSome};
-ghost use Rattle.line_reader.specs.Reading.{is_space};
-ghost use Rattle.whole_campaign.specs.Words.{without_feed, cut_after, length_before, word_behind, length_of_words, words_behind};
+ghost use Rattle.whole_campaign.specs.Words.{without_feed, cut_of, length_before, word_behind, rest_behind, words_behind};
 ghost use Rattle.whole_campaign.specs.Words.{is_comma, words_listed, words_left};
 
 use line_text::after_label;
-use std::marker::Model;
-
-/// The front of bytes, and what is left behind it. Contracts see it as both.
-#[derive(Drop)]
-pub(crate) struct Cut<'a> {
-    front: &'a [u8],
-    rest: &'a [u8],
-}
-
-impl<'a> Model for Cut<'a> {
-    ghost use Rattle.whole_campaign.specs.Words.{Cut};
-
-    ghost Value = { Cut };
-
-    ghost view = { λ c. record { front = c.front.now; rest = c.rest.now } };
-}
-
-impl<'a> Cut<'a> {
-    /// The front.
-    pub(crate) fn front(&self) -> &'a [u8]
-        ensures { result.now ≡ self.now.front }
-    {
-        self.front
-    }
-
-    /// What is left.
-    pub(crate) fn rest(&self) -> &'a [u8]
-        ensures { result.now ≡ self.now.rest }
-    {
-        self.rest
-    }
-}
-
-// Bytes cut behind so many of them.
-fn cut_after<'a>(n: usize, bytes: &'a [u8]) -> Cut<'a>
-    requires { n ≤ length bytes.now }
-    ensures { result ≡ cut_after n bytes.now }
-{
-    let (front, rest) = bytes.split_at(n);
-    Cut { front, rest }
-}
 
 /// A line without its line feed, if it has one.
 #[tactic(auto, unfolding(crate::specs::Words::without_feed))]
@@ -99,37 +57,37 @@ pub(crate) fn first_listed(list: &[u8]) -> (&[u8], Option<&[u8]>)
     }
 }
 
-/// What stands behind a label and before the next of these bytes, if the label stands there.
+/// What stands behind a label and before the next of these bytes, if the label stands there, and what is left.
 #[tactic(auto, unfolding(crate::specs::Words::word_behind))]
-pub(crate) fn word_behind<'a>(stop: u8, label: &str, bytes: &'a [u8]) -> Option<Cut<'a>>
-    ensures { result ≡ word_behind stop label.now bytes.now }
+pub(crate) fn word_behind<'a>(
+    stop: u8,
+    label: &str,
+    bytes: &'a [u8],
+) -> Option<(&'a [u8], &'a [u8])>
+    ensures { option_map cut_of result ≡ word_behind stop label.now bytes.now }
 {
     let rest = after_label(label.as_bytes(), bytes)?;
-    Some(cut_after(length_before(stop, rest), rest))
+    Some(rest.split_at(length_before(stop, rest)))
 }
 
-// How long the first so many words of bytes are, with the spaces between them.
-fn length_of_words(count: u8, bytes: &[u8]) -> usize
-    ensures value { result ≡ length_of_words count bytes.now }
-    ensures within { result ≤ length bytes.now }
+// What is left behind so many words with a space before each.
+#[tactic(auto, using(crate::proofs::CommaLists::rest_step))]
+fn rest_behind(count: u8, bytes: &[u8]) -> Option<&[u8]>
+    ensures { option_map (λ p. p.now) result ≡ rest_behind count bytes.now }
 {
-    let mut left = count;
-    for i in 0..bytes.len() {
-        if bytes[i] == b' ' {
-            if left <= 1 {
-                return i;
-            }
-            left -= 1;
-        }
+    if count == 0 {
+        return Some(bytes);
     }
-    bytes.len()
+    let (_, rest) = word_behind(b' ', " ", bytes)?;
+    rest_behind(count - 1, rest)
 }
 
-/// So many words behind a space, if one stands there.
+/// So many words behind a space, if one stands there, and what is left.
 #[tactic(auto, unfolding(crate::specs::Words::words_behind))]
-pub(crate) fn words_behind<'a>(count: u8, bytes: &'a [u8]) -> Option<Cut<'a>>
-    ensures { result ≡ words_behind count bytes.now }
+pub(crate) fn words_behind<'a>(count: u8, bytes: &'a [u8]) -> Option<(&'a [u8], &'a [u8])>
+    ensures { option_map cut_of result ≡ words_behind count bytes.now }
 {
-    let rest = after_label(b" ".as_slice(), bytes)?;
-    Some(cut_after(length_of_words(count, rest), rest))
+    let words = after_label(b" ".as_slice(), bytes)?;
+    let rest = rest_behind(count, bytes)?;
+    Some(words.split_at(words.len().saturating_sub(rest.len())))
 }

@@ -1,11 +1,15 @@
 //! The line of a fault.
 ghost use Rattle.whole_campaign.specs.Own.{common_of};
-ghost use Rattle.std.specs.Prelude.{◌≡◌, ◌+◌, ◌≤◌, ◌<◌, ◌++◌, length, codes, is_some, IfSome};
+ghost use Rattle.std.specs.Prelude.{◌≡◌, ◌+◌, ◌≤◌, ◌<◌, ◌++◌, length, codes, is_some, IfSome, option_map};
 ghost use Rattle.campaign.specs.CostText.{channels_word, kind_word, loss_words};
+ghost use Rattle.whole_campaign.specs.Runs.{run_words_of};
+ghost use Rattle.whole_campaign.specs.Words.{line_said};
 ghost use Rattle.whole_campaign.specs.Faults.{channels_at, loss_at, loss_end, doing_label, doing_in, is_loss_of};
-ghost use Rattle.whole_campaign.specs.Faults.{signed_in, is_jump_value, jump_words_in, is_jump_of, is_fault_of, first_place, is_last_place, place_behind};
+ghost use Rattle.whole_campaign.specs.Faults.{jump_form, jump_told, is_jump_value, is_jump_of, is_fault_of, first_place};
+ghost use Rattle.whole_campaign.specs.Faults.{is_last_place, place_behind};
 ghost use Rattle.whole_campaign.specs.Faults.{is_same_node, is_later, is_same_doing, stands_behind, lies_in};
-ghost use Rattle.whole_campaign.specs.Faults.{fault_words_in, spot_in, is_spot_due, shown_at, fault_line_in};
+ghost use Rattle.whole_campaign.specs.Faults.{fault_words_of, fault_words_in, spot_in, is_spot_due};
+ghost use Rattle.whole_campaign.specs.Faults.{shown_at, fault_line_in};
 
 use crate::cost::cost_in;
 use crate::cut::word_behind;
@@ -15,9 +19,8 @@ use crate::run_words::{RunWords, run_words_in};
 use crate::shown::{Doing, FaultShown, Piece};
 use crate::spot::Spot;
 use crate::test::{is_same_test, test_in, test_says_yes};
-use line_form::put_number;
-use line_text::{after_label, numeral_in};
-use std::marker::Model;
+use line_form::{Reader, put_number};
+use line_text::after_label;
 use ttp_base::Line;
 
 // The place behind the last loss, and behind the losses of one slot.
@@ -115,55 +118,29 @@ fn is_loss_of(slots: u32, spot: &Spot, words: &[u8]) -> bool
     words == due.bytes()
 }
 
-// The number that a word is behind a sign.
-#[tactic(auto, unfolding(crate::specs::Faults::signed_in))]
-fn signed_in(sign: &str, word: &[u8]) -> Option<u64>
-    ensures { result ≡ signed_in sign.now word.now }
+// Whether a clock jumps as at this place.
+fn is_jump_value(place: u8, value: i64) -> bool
+    ensures { result ≡ is_jump_value place value }
 {
-    let digits = after_label(sign.as_bytes(), word)?;
-    numeral_in(digits, 9)
+    if place % 2 == 1 { value < 0 } else { 0 < value }
 }
 
-// Whether the value of a jump is below 0 where it should be, and above 0 otherwise.
-fn is_jump_value(down: bool, word: &[u8]) -> bool
-    ensures { result ≡ is_jump_value down word.now }
-{
-    match signed_in(if down { "-" } else { "" }, word) {
-        Some(number) => 0 < number,
-        None => false,
-    }
-}
-
-// The node, the value and the slot of a jump. Contracts see it as these.
-#[derive(Drop)]
-struct JumpWords<'a> {
+// The node, the value and the slot of a jump.
+#[derive(Clone, Copy)]
+struct JumpWords {
     node: u8,
-    value: &'a [u8],
+    value: i64,
     slot: u32,
 }
 
-impl<'a> Model for JumpWords<'a> {
-    ghost use Rattle.whole_campaign.specs.Faults.{JumpWords};
-
-    ghost Value = { JumpWords };
-
-    ghost view = { λ j. record { node = j.node; value = j.value.now; slot = j.slot } };
-}
-
-#[tactic(auto, unfolding(crate::specs::Faults::jump_words_in))]
-fn jump_words_in<'a>(words: &'a [u8]) -> Option<JumpWords<'a>>
-    ensures { result ≡ jump_words_in words.now }
+fn jump_words_in(words: &[u8]) -> Option<JumpWords>
+    ensures { result ≡ line_said jump_form jump_told words.now }
 {
-    let k = word_behind(b' ', "jump ", words)?;
-    let value = word_behind(b' ', " ", k.rest())?;
-    let t = after_label(b" ".as_slice(), value.rest())?;
-    let node = node_numeral(k.front())?;
-    let slot = slot_numeral(t)?;
-    Some(JumpWords {
-        node,
-        value: value.front(),
-        slot,
-    })
+    let mut line = Reader::of(words);
+    let node = line.byte("jump ");
+    let value = line.signed(" ", 1_000_000_000);
+    let slot = line.number(" ", 100_000) as u32;
+    line.close(JumpWords { node, value, slot })
 }
 
 // Whether a jump is that of this spot.
@@ -174,7 +151,7 @@ fn is_jump_of(spot: &Spot, jump: &Option<JumpWords>) -> bool
         Some(jump) => {
             jump.node == spot.node
                 && jump.slot == spot.slot
-                && is_jump_value(spot.place % 2 == 1, jump.value)
+                && is_jump_value(spot.place, jump.value)
         }
         None => false,
     }
@@ -278,30 +255,22 @@ fn lies_in(frame: &Frame, piece: &Piece, spot: &Spot) -> bool
 }
 
 // The slot and the node of a fault, and the words of its run.
-#[derive(Drop)]
+#[derive(Clone, Copy)]
 struct FaultWords<'a> {
     slot: u32,
     node: u8,
     run: RunWords<'a>,
 }
 
-impl<'a> Model for FaultWords<'a> {
-    ghost use Rattle.whole_campaign.specs.Faults.{FaultWords};
-
-    ghost Value = { FaultWords };
-
-    ghost view = { λ w. record { slot = w.slot; node = w.node; run = w.run } };
-}
-
 #[tactic(auto, unfolding(crate::specs::Faults::fault_words_in))]
 fn fault_words_in<'a>(bytes: &'a [u8]) -> Option<FaultWords<'a>>
-    ensures { result ≡ fault_words_in bytes.now }
+    ensures { option_map fault_words_of result ≡ fault_words_in bytes.now }
 {
-    let s = word_behind(b' ', "slot ", bytes)?;
-    let k = word_behind(b' ', " node ", s.rest())?;
-    let run = run_words_in(k.rest())?;
-    let slot = slot_numeral(s.front())?;
-    let node = node_numeral(k.front())?;
+    let (s, rest) = word_behind(b' ', "slot ", bytes)?;
+    let (k, rest) = word_behind(b' ', " node ", rest)?;
+    let run = run_words_in(rest)?;
+    let slot = slot_numeral(s)?;
+    let node = node_numeral(k)?;
     Some(FaultWords { slot, node, run })
 }
 
@@ -309,10 +278,10 @@ fn fault_words_in<'a>(bytes: &'a [u8]) -> Option<FaultWords<'a>>
 #[tactic(auto, unfolding(crate::specs::Faults::spot_in))]
 fn spot_in(before: &Option<Spot>, words: &FaultWords) -> Option<Spot>
     requires { IfSome before.now (λ s. s.place < 16) }
-    ensures value { result ≡ spot_in before.now words.now }
+    ensures value { result ≡ spot_in before.now (fault_words_of words.now) }
     ensures few { IfSome result (λ s. s.place < 16) }
 {
-    let doing = doing_in(words.run.fault())?;
+    let doing = doing_in(words.run.fault)?;
     Some(Spot {
         slot: words.slot,
         node: words.node,
@@ -340,11 +309,11 @@ fn is_spot_due(
 #[tactic(auto, unfolding(crate::specs::Faults::shown_at))]
 fn shown_at(frame: &Frame, spot: &Spot, run: &RunWords) -> Option<FaultShown>
     requires { frame.now.nodes ≤ 24 }
-    ensures value { result ≡ shown_at (common_of frame.now) spot.now run.now }
+    ensures value { result ≡ shown_at (common_of frame.now) spot.now (run_words_of run.now) }
     ensures place { IfSome result (λ f. f.place ≡ spot.now.place) }
 {
-    let test = test_in(run.test())?;
-    let cost = cost_in(frame.nodes, frame.slots, run.cost())?;
+    let test = test_in(run.test)?;
+    let cost = cost_in(frame.nodes, frame.slots, run.cost)?;
     if !is_same_test(frame.own.test, test) {
         return None;
     }
@@ -354,7 +323,7 @@ fn shown_at(frame: &Frame, spot: &Spot, run: &RunWords) -> Option<FaultShown>
         doing: spot.doing,
         place: spot.place,
         yes: test_says_yes(test),
-        same: run.cost() == frame.own.cost,
+        same: run.cost == frame.own.cost,
         hurt: cost.hurt,
         split: cost.split,
         memberships: cost.memberships,
@@ -379,7 +348,7 @@ pub(crate) fn fault_line_in(
     let words = fault_words_in(bytes)?;
     let spot = spot_in(before, &words)?;
     let shown = shown_at(frame, &spot, &words.run)?;
-    if is_spot_due(frame, piece, before, &spot, words.run.fault()) {
+    if is_spot_due(frame, piece, before, &spot, words.run.fault) {
         Some(shown)
     } else {
         None

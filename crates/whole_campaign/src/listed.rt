@@ -76,11 +76,11 @@ fn is_reason(word: &[u8]) -> bool
 fn leaving_in(slots: u32, word: &[u8]) -> Option<u8>
     ensures { result ≡ leaving_in slots word.now }
 {
-    let node = word_behind(b':', "", word)?;
-    let slot = word_behind(b':', ":", node.rest())?;
-    let reason = after_label(b":".as_slice(), slot.rest())?;
-    let k = node_numeral(node.front())?;
-    let t = slot_numeral(slot.front())?;
+    let (node, rest) = word_behind(b':', "", word)?;
+    let (slot, rest) = word_behind(b':', ":", rest)?;
+    let reason = after_label(b":".as_slice(), rest)?;
+    let k = node_numeral(node)?;
+    let t = slot_numeral(slot)?;
     if t < slots && is_reason(reason) {
         Some(k)
     } else {

@@ -38,13 +38,13 @@ fn own_in<'a>(nodes: u8, slots: u32, bytes: &'a [u8]) -> Option<OwnLine<'a>>
 {
     let rest = after_label(b"slot - node -".as_slice(), bytes)?;
     let run = run_words_in(rest)?;
-    let test = test_in(run.test())?;
-    let _cost = cost_in(nodes, slots, run.cost())?;
-    if run.fault() == b"-".as_slice() {
+    let test = test_in(run.test)?;
+    let _cost = cost_in(nodes, slots, run.cost)?;
+    if run.fault == b"-".as_slice() {
         Some(OwnLine {
             text: bytes,
-            test_text: run.test(),
-            cost: run.cost(),
+            test_text: run.test,
+            cost: run.cost,
             test,
         })
     } else {
