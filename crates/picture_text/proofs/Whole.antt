@@ -33,10 +33,6 @@ end_lines span head keep back =
     ++ class_entries (legend_top head.nodes span + 118) ++ mark_entries (legend_top head.nodes span + 118)
     ++ ended (codes "</svg>") ∷ []
 
-ten : (h b c d k l w e m s : Lines) → h ++ (b ++ c ++ d) ++ (k ++ l ++ w ++ e ++ m ++ s)
-    ≡ h ++ b ++ c ++ d ++ k ++ l ++ w ++ e ++ m ++ s
-ten h b c d k l w e m s = simp append_assoc refl
-
 module _ (trace : WholeTrace) (span : Span) (head : Head) (quiet : Bool) (strange : Option ℕ) (keep again : Keep)
     (back once : Option Back) (f g h i : Bool) where
   pub picture_put : (a b c d : Output) → head ≡ trace.head → quiet ≡ is_quiet_before span.first trace.slots
@@ -45,18 +41,14 @@ module _ (trace : WholeTrace) (span : Span) (head : Head) (quiet : Bool) (strang
       → Puts g b h c (row_lines trace span head) → Puts h c i d (end_lines span head again once)
       → Puts f a i d (picture_of trace span)
   picture_put a b c d is calm past kept kept-too due due-too p q r =
-      let n = trace.head.nodes in
       let front : front_lines head span quiet strange keep back ≡ picture_head_lines trace span =
       λ j. front_lines (is j) span (calm j) (past j) (kept j) (due j) in
       let rows : row_lines trace span head ≡ row_lines trace span trace.head = ap (row_lines trace span) is in
       let ends : end_lines span head again once ≡ end_lines span trace.head trace.keep trace.back =
       λ j. end_lines span (is j) (kept-too j) (due-too j) in
-      subst (Puts f a i d) (ten (picture_head_lines trace span)
-      (lines_below (band_lines n span) (bands n span))
-      (flat_map (λ t. cell_lines trace.head span t (slot_at trace t)) (shown_slots span))
-      (flat_map (λ t. beside_lines n span t (slot_at trace t)) (shown_slots span))
-      (keep_flag n span trace.keep) (back_flag n span trace.back) (word_entries (legend_top n span) 0 words)
-      (class_entries (legend_top n span + 118)) (mark_entries (legend_top n span + 118)) (ended (codes "</svg>") ∷ []))
+      let whole : picture_head_lines trace span ++ row_lines trace span trace.head
+      ++ end_lines span trace.head trace.keep trace.back ≡ picture_of trace span = simp append_assoc in
+      subst (Puts f a i d) whole
       (puts_then f h i a c d (picture_head_lines trace span ++ row_lines trace span trace.head)
       (end_lines span trace.head trace.keep trace.back)
       (puts_then f g h a b c (picture_head_lines trace span) (row_lines trace span trace.head)
