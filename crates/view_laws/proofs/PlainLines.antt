@@ -24,7 +24,6 @@ use Rattle.line_form.specs.Forms.{LineForm, Values, spelled as spelled_of, fit, 
 use Rattle.line_reader.specs.TraceLines.{slot_digits, text_of}
 use Rattle.campaign.specs.CostText.{on_channels, channels_word, kind_word, loss_words}
 use Rattle.whole_campaign.specs.declared.cost.CostShown.{CostShown}
-use Rattle.whole_campaign.specs.declared.fault.JumpWords.{JumpWords}
 use Rattle.whole_campaign.specs.declared.listed.Kind.{Kind}
 use Rattle.whole_campaign.specs.declared.listed.Kind.TheVariants as kind
 use Rattle.whole_campaign.specs.declared.listed.NodesSoFar.{NodesSoFar}
@@ -338,7 +337,7 @@ plain-signed (negsuc n) = rw (plain-decimal (suc n)) refl
 plain-jump_text : (vs : Values jump_form) → Plain (spelled_of jump_form vs)
 plain-jump_text (node, (value, (slot, end))) = simp (parts, plain-signed value)
 
-plain-jump_of : (s : Spot) (words : List ℕ) (o : Option JumpWords) → line_said jump_form jump_told words ≡ o
+plain-jump_of : (s : Spot) (words : List ℕ) (o : _) → line_said jump_form jump_told words ≡ o
     → is_jump_of s o ≡ true → Plain words
 plain-jump_of s words None read e = cc
 plain-jump_of s words (Some jump) read e =
