@@ -1,5 +1,5 @@
 //! Clusters of five nodes with hosts. What a host reads beside its controller is compared where the real program runs.
-ghost use Rattle.std.specs.Prelude.{◌≡◌};
+ghost use Rattle.std.specs.Prelude.{◌≡◌, ◌≤◌, length};
 ghost use Rattle.ttp_world.specs.Medl.{IsValid};
 
 use super::bench::gate::{Beside, OPEN};
@@ -26,38 +26,67 @@ const LIST: &[u8] =
 // All five nodes are on from the first slot on, and the host of node 1 reads its status in slot 11.
 const SCRIPT: &[u8] = b"slots 20\non 0 0\non 1 0\non 2 0\non 3 0\non 4 0\nread 1 11 status\n";
 
-// The cluster of these, if there is memory.
-fn poll_cluster(alloc: Global) -> Result<Cluster, Memory> {
+// The host of node 2 writes in slot 12, in which its node sends, and that of node 1 reads the message then and once more.
+const WRITTEN: &[u8] =
+    b"slots 20\non 0 0\non 1 0\non 2 0\non 3 0\non 4 0\nwrite 2 12 0102030405060708\nread 1 12 2\nread 1 13 2\n";
+
+// The cluster of the list and a script, if there is memory.
+fn cluster_of(alloc: Global, script: &[u8]) -> Result<Cluster, Memory>
+    requires { length script.now ≤ 1048576 }
+{
     let Ok(list) = read_medl(alloc, LIST) else {
         return Err(Memory);
     };
-    let Ok(script) = read_script(alloc, &list, SCRIPT) else {
+    let Ok(script) = read_script(alloc, &list, script) else {
         return Err(Memory);
     };
     Cluster::make(alloc, list, script)
 }
 
-// Whether the next slot is the first one, in which nobody reads or writes.
-fn has_first_slot<R: Threads + Wait + Sync>(rt: &R, cluster: &mut Cluster) -> bool {
+// Whether a host has read one message in the slot, that of this number.
+fn has_read(report: &SlotReport, number: u64) -> bool {
+    report.reads.len() == 1 && report.reads.get(0).pair.number() == number
+}
+
+// Whether node 2's frame carries the message of this number.
+fn has_carried(report: &SlotReport, number: u64) -> bool {
+    report.nodes.len() == 5 && report.nodes.get(2).message == Some(number)
+}
+
+// Whether the next slot is a right one: in slot 12 a frame carries what its host writes in the slot, or zeros, and a host
+// reads the frame's message, or zeros; in slot 13 it reads that message.
+fn steps_on<R: Threads + Wait + Sync>(rt: &R, cluster: &mut Cluster) -> bool {
     if cluster.done() >= cluster.slots() || cluster.slot(rt, &Beside::new(OPEN)).is_err() {
         return false;
     }
     let report = cluster.report();
-    report.slot == 0 && report.nodes.len() == 5 && report.reads.len() == 0
+    match report.slot {
+        12 => {
+            (has_carried(report, 0) || has_carried(report, 1))
+                && (has_read(report, 0) || has_read(report, 1))
+        }
+        13 => has_read(report, 1),
+        _ => report.reads.len() == 0,
+    }
 }
 
-fn begins<R: Threads + Wait + Sync>(rt: &R, alloc: Global) -> bool {
-    let Ok(mut cluster) = poll_cluster(alloc) else {
+// Whether a cluster that is stepped by hand does all its slots.
+fn goes_by_hand<R: Threads + Wait + Sync>(rt: &R, alloc: Global) -> bool {
+    let Ok(mut cluster) = cluster_of(alloc, WRITTEN) else {
         return false;
     };
-    let is_right = has_first_slot(rt, &mut cluster);
+    let mut is_right = true;
+    for _ in 0..20u32 {
+        is_right = is_right && steps_on(rt, &mut cluster);
+    }
+    let is_whole = is_right && cluster.done() == 20;
     let_go(Some(cluster));
-    is_right
+    is_whole
 }
 
 #[test]
-fn a_cluster_does_its_first_slot(rt: HostRuntime) {
-    assert!(rt; begins(&rt, rt.alloc()));
+fn a_cluster_goes_by_hand(rt: HostRuntime) {
+    assert!(rt; goes_by_hand(&rt, rt.alloc()));
 }
 
 // What a watcher was told: of how many slots, and of how many reads in them.
@@ -130,7 +159,7 @@ fn is_whole<R: Threads + Wait + Sync>(
 
 // Who watches may end a run, and another one goes on.
 fn goes_on<R: Threads + Wait + Sync>(rt: &R, alloc: Global, most: u32) -> bool {
-    let Ok(mut cluster) = poll_cluster(alloc) else {
+    let Ok(mut cluster) = cluster_of(alloc, SCRIPT) else {
         return false;
     };
     let mut told = WatchedSlots { slots: 0, reads: 0 };
