@@ -1,5 +1,7 @@
 //! Output of a campaign, or of pairs of faults: whole slots, or first faults, are handed on, and how far it has come is told on
 //! standard error.
+ghost use Rattle.std.specs.Prelude.{◌≤◌, length, IfOk};
+
 use std::io::{self, Eprint, Write};
 use std::time::{Clock, Instant};
 
@@ -84,7 +86,9 @@ impl<R: Eprint + Clock, W: Write> Write for WatchedOutput<'_, R, W> {
 
 impl<R: Eprint + Clock, W: Write> WatchedOutput<'_, R, W> {
     // Hands a write on, and reads off it how far the command has come.
-    fn write_watched(&mut self, piece: &[u8]) -> io::Result<usize> {
+    fn write_watched(&mut self, piece: &[u8]) -> io::Result<usize>
+        ensures { IfOk result (λ count. count ≤ length piece.now) }
+    {
         if self.progress.ends_slot(piece) {
             self.out.flush()?;
             self.progress.tell(self.rt);
