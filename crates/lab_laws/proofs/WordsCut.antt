@@ -1,14 +1,14 @@
 -- Words are cut again where they were put together.
 use Rattle.lab_laws.proofs.Words.{◌≡◌, ℕ, suc, ◌+◌, ◌-◌, true, false, List, [], ◌∷◌, ◌++◌, length, Option, Some}
-use Rattle.lab_laws.proofs.Words.{refl, ap, ◌∙◌, arith, codes, append_assoc, ◌==◌, nat_lt, eq-eqb}
-use Rattle.lab_laws.proofs.Words.{lt-ltb, or_parts, newline, has, label-again, ◌>>=◌, unended}
+use Rattle.lab_laws.proofs.Words.{refl, ap, ◌∙◌, arith, codes, append_assoc, ◌==◌, nat_le, nat_lt, eq-eqb}
+use Rattle.lab_laws.proofs.Words.{lt-ltb, or_parts, nat_tests, newline, has, label-again, ◌>>=◌, unended}
 use Rattle.lab_laws.proofs.Words.{without_feed, word_behind, run_words_in}
 use Rattle.std.proofs.Common.{length-append, option_map}
 use Rattle.std.specs.List.{position_or_len}
 use Rattle.std.proofs.lemmas.List.{take_at, drop_at}
 use Rattle.line_form.specs.Forms.{LineForm, Values, spelled, fit, well}
 use Rattle.lab_laws.proofs.FromBelow.{read_again}
-use Rattle.whole_campaign.specs.Words.{line_said, Cut, cut_after, length_before, rest_behind, words_behind}
+use Rattle.whole_campaign.specs.Words.{line_said, cut_after, length_before, length_of_words, words_behind}
 
 -- The line feed.
 
@@ -64,30 +64,48 @@ word-behind stop label word rest none =
 
 -- a text is so many words, with spaces between them
 abbrev pub IsOfWords : ℕ → List ℕ → Type 0
-IsOfWords n text = (rest : List ℕ) → rest_behind n (32 ∷ (text ++ 32 ∷ rest)) ≡ Some (32 ∷ rest)
+IsOfWords n text = (rest : List ℕ) → length_of_words n (text ++ 32 ∷ rest) ≡ length text
 
-words-next : (n : ℕ) (word rest : List ℕ) → has 32 word ≡ false
-    → rest_behind (suc n) (32 ∷ (word ++ 32 ∷ rest)) ≡ rest_behind n (32 ∷ rest)
-words-next n word rest none =
-    ap (λ (o : Option Cut). o >>= λ w. rest_behind n w.rest) (word-behind 32 (codes " ") word rest none)
+words-over : (n : ℕ) (word rest : List ℕ) → has 32 word ≡ false
+    → length_of_words n (word ++ rest) ≡ length word + length_of_words n rest
+unfolding length_of_words
+words-over n [] rest none = omega arith
+words-over n (b ∷ word) rest none =
+    let parts = or_parts (b == 32) (has 32 word) none in
+    let more = words-over n word rest parts.1 in
+    rw parts.0 (omega (arith, more))
+
+words-end : (rest : List ℕ) → length_of_words 1 (32 ∷ rest) ≡ 0
+unfolding length_of_words
+words-end rest = refl
+
+words-next : (n : ℕ) (rest : List ℕ) → length_of_words (suc (suc n)) (32 ∷ rest) ≡ length_of_words (suc n) rest + 1
+unfolding length_of_words
+words-next n rest =
+    let more : nat_le (suc (suc n)) 1 ≡ false = grind (arith, nat_tests) in
+    let less : suc (suc n) - 1 ≡ suc n = omega arith in
+    rw (more, less) refl
 
 pub one-word : (word : List ℕ) → has 32 word ≡ false → IsOfWords 1 word
-one-word word none rest = words-next 0 word rest none
+one-word word none rest = omega (arith, words-over 1 word (32 ∷ rest) none, words-end rest)
 
 pub more-words : (n : ℕ) (word text : List ℕ) → has 32 word ≡ false → IsOfWords (suc n) text
     → IsOfWords (suc (suc n)) (word ++ 32 ∷ text)
 more-words n word text none are rest =
-    ap (λ (w : List ℕ). rest_behind (suc (suc n)) (32 ∷ w)) (append_assoc word (32 ∷ text) (32 ∷ rest))
-    ∙ words-next (suc n) word (text ++ 32 ∷ rest) none ∙ are rest
+    ap (length_of_words (suc (suc n))) (append_assoc word (32 ∷ text) (32 ∷ rest))
+    ∙ omega (
+      arith,
+      words-over (suc (suc n)) word (32 ∷ (text ++ 32 ∷ rest)) none,
+      words-next n (text ++ 32 ∷ rest),
+      are rest,
+      length-append word (32 ∷ text),
+    )
 
 words-behind : (n : ℕ) (text rest : List ℕ) → IsOfWords n text
     → words_behind n (32 ∷ (text ++ 32 ∷ rest)) ≡ Some (record { front = text; rest = 32 ∷ rest })
 unfolding words_behind
 words-behind n text rest are =
-    let words = text ++ 32 ∷ rest in
-    let long : length words - length (32 ∷ rest) ≡ length text = omega (arith, length-append text (32 ∷ rest)) in
-    ap (λ (o : Option (List ℕ)). o >>= λ r. Some (cut_after (length words - length r) words)) (are rest)
-    ∙ ap (λ (m : ℕ). Some (cut_after m words)) long
+    ap (λ (m : ℕ). Some (cut_after m (text ++ 32 ∷ rest))) (are rest)
     ∙ (λ i. Some (record {
       front = take_at text (32 ∷ rest) (length text) refl i;
       rest = drop_at text (32 ∷ rest) (length text) refl i;

@@ -1,6 +1,6 @@
 -- Lines that are read as those of a campaign need no escapes.
-use Rattle.std.proofs.Common.{◌≡◌, ℕ, suc, ◌-◌, ℤ, pos, negsuc, ◌≤◌, Bool, true, false, cond, ◌&&◌, ◌||◌}
-use Rattle.std.proofs.Common.{List, [], ◌∷◌, ◌++◌, length, fold, Option, Some, None, refl, sym, ap, subst, ◌∙◌, arith}
+use Rattle.std.proofs.Common.{◌≡◌, ℕ, suc, ℤ, pos, negsuc, ◌≤◌, Bool, true, false, cond, ◌&&◌, ◌||◌}
+use Rattle.std.proofs.Common.{List, [], ◌∷◌, ◌++◌, fold, Option, Some, None, refl, sym, ap, subst, ◌∙◌, arith}
 use Rattle.std.proofs.Common.{codes, decimal, bytes_eq}
 use Rattle.std.specs.Prelude.{nat_le, nat_lt, option_map, IfSome}
 use Rattle.std.specs.Fmt.{signed_decimal}
@@ -33,7 +33,7 @@ use Rattle.whole_campaign.specs.declared.shown.Doing.TheVariants as doing
 use Rattle.whole_campaign.specs.declared.shown.Test.{Test}
 use Rattle.whole_campaign.specs.declared.spot.Spot.{Spot}
 use Rattle.whole_campaign.specs.Words.{line_said, Cut, cut_after, length_before, word_behind}
-use Rattle.whole_campaign.specs.Words.{rest_behind, words_behind, node_digits}
+use Rattle.whole_campaign.specs.Words.{length_of_words, words_behind, node_digits}
 use Rattle.whole_campaign.specs.Words.{is_comma, is_dash, is_reason, leaving_in, node_in_word}
 use Rattle.whole_campaign.specs.Words.{with_node_word, no_nodes_yet}
 use Rattle.whole_campaign.specs.Words.{nodes_listed, members_listed, with_set_word, no_sets_yet, sets_listed, split_in}
@@ -77,12 +77,11 @@ words-cut : (n : ℕ) (bytes : List ℕ) (cut : Cut) → words_behind n bytes �
     → bytes ≡ codes " " ++ (cut.front ++ cut.rest)
 unfolding words_behind
 words-cut n bytes cut e =
-    let b = bound (after_label (codes " ") bytes) _ cut e in
-    let r = bound (rest_behind n bytes) _ cut b.gives in
-    let end = length b.value - length r.value in
-    let is : cut_after end b.value ≡ cut = some_same (cut_after end b.value) cut r.gives in
+    let b = bound (after_label (codes " ") bytes) (λ rest. Some (cut_after (length_of_words n rest) rest)) cut e in
+    let is : cut_after (length_of_words n b.value) b.value ≡ cut =
+    some_same (cut_after (length_of_words n b.value) b.value) cut b.gives in
     label-takes (codes " ") bytes b.value b.read
-    ∙ ap (λ (rest : List ℕ). codes " " ++ rest) (sym (take-append-drop end b.value))
+    ∙ ap (λ (rest : List ℕ). codes " " ++ rest) (sym (take-append-drop (length_of_words n b.value) b.value))
     ∙ ap (λ (c : Cut). codes " " ++ (c.front ++ c.rest)) is
 
 pub plain-is : (bytes text : List ℕ) → bytes ≡ text → Plain text → Plain bytes

@@ -1,13 +1,12 @@
 -- Lists with commas between their words, a word at a time.
-use Rattle.std.proofs.Common.{◌≡◌, ℕ, zero, suc, ◌+◌, ◌-◌, ◌<◌, ◌≤◌, List, [], ◌∷◌, length, take, drop}
-use Rattle.std.proofs.Common.{Option, Some, None, Bor, option_map, refl, ap, ◌∙◌, arith}
-use Rattle.std.specs.Prelude.{position, codes}
+use Rattle.std.proofs.Common.{◌≡◌, ℕ, ◌+◌, ◌<◌, ◌≤◌, List, [], ◌∷◌, length, take, drop}
+use Rattle.std.proofs.Common.{Option, Some, None, Bor, option_map, ap, ◌∙◌, arith}
+use Rattle.std.specs.Prelude.{position}
 use Rattle.std.specs.List.{slice_split, position_or_len}
 use Rattle.std.proofs.lemmas.Bool.Decides.{nat_tests}
 use Rattle.std.proofs.lemmas.List.Splits.{slice_split_first, slice_split_none}
 use Rattle.std.proofs.lemmas.List.Sums.{fails_before_first}
-use Rattle.line_reader.specs.Reading.{◌>>=◌}
-use Rattle.whole_campaign.specs.Words.{is_comma, words_listed, word_behind, rest_behind}
+use Rattle.whole_campaign.specs.Words.{is_comma, words_listed}
 
 comma-at : (list : List ℕ) (end : ℕ) → position is_comma list ≡ Some end
     → (position_or_len is_comma list ≡ end) × (position_or_len is_comma list < length list)
@@ -38,10 +37,3 @@ length_left (Some list) = length list + 1
 -- the words that are left, as bytes of a text
 abbrev pub bytes_left : Option (Bor (List ℕ)) → Option (List ℕ)
 bytes_left left = option_map (λ (p : Bor (List ℕ)). p.now) left
-
--- Words behind spaces.
-
-pub rest_step : (n : ℕ) (bytes : List ℕ) → 0 < n
-    → rest_behind n bytes ≡ (word_behind 32 (codes " ") bytes >>= λ w. rest_behind (n - 1) w.rest)
-rest_step zero bytes some = absurd (omega (arith, some))
-rest_step (suc n) bytes some = let less : suc n - 1 ≡ n = omega arith in rw less refl

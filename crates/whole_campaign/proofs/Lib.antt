@@ -1,5 +1,6 @@
 pub mod CommaLists
 pub mod FromBelow
+pub mod Lengths
 pub mod LineSteps
 pub mod Readable
 pub mod Rooms

@@ -1,6 +1,6 @@
 -- A line of a campaign cut into words, and the lists that stand in it.
-use Rattle.std.specs.Prelude.{ℕ, zero, suc, ◌+◌, ◌-◌, ◌^◌, ◌==◌, nat_le, nat_lt, Bool, true, false}
-use Rattle.std.specs.Prelude.{◌&&◌, ◌||◌, List, [], length, take, drop}
+use Rattle.std.specs.Prelude.{ℕ, ◌+◌, ◌-◌, ◌^◌, ◌==◌, nat_le, nat_lt, Bool, true, false}
+use Rattle.std.specs.Prelude.{◌&&◌, ◌||◌, List, [], ◌∷◌, length, take, drop}
 use Rattle.std.specs.Prelude.{fold, Option, Some, None, option_map, codes, unwrap_or, position, if◌then◌else◌}
 use Rattle.std.specs.Borrow.{Bor}
 use Rattle.std.specs.List.{slice_split}
@@ -48,17 +48,21 @@ length_before stop bytes = unwrap_or (position (λ b. b == stop) bytes) (length 
 unfoldable pub word_behind : ℕ → List ℕ → List ℕ → Option Cut
 word_behind stop label bytes = after_label label bytes >>= λ rest. Some (cut_after (length_before stop rest) rest)
 
--- what is left behind so many words with a space before each
-abbrev pub rest_behind : ℕ → List ℕ → Option (List ℕ)
-rest_behind zero bytes = Some bytes
-rest_behind (suc n) bytes = word_behind 32 (codes " ") bytes >>= λ w. rest_behind n w.rest
+-- a byte is a space
+abbrev pub is_space : ℕ → Bool
+is_space b = b == 32
+
+-- how long the first so many words of bytes are, with the spaces between them
+unfoldable pub length_of_words : ℕ → List ℕ → ℕ
+length_of_words n [] = 0
+length_of_words n (b ∷ bytes) =
+    if is_space b
+    then (if nat_le n 1 then 0 else length_of_words (n - 1) bytes + 1)
+    else length_of_words n bytes + 1
 
 -- so many words behind a space
 unfoldable pub words_behind : ℕ → List ℕ → Option Cut
-words_behind n bytes = do
-  words ← after_label (codes " ") bytes
-  rest ← rest_behind n bytes
-  Some (cut_after (length words - length rest) words)
+words_behind n bytes = after_label (codes " ") bytes >>= λ rest. Some (cut_after (length_of_words n rest) rest)
 
 -- Numbers.
 

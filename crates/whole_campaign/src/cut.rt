@@ -1,6 +1,6 @@
 //! A line cut into its words.
 ghost use Rattle.std.specs.Prelude.{◌≡◌, ◌≤◌, ◌<◌, ◌∷◌, ◌==◌, length, option_map, position, IfSome};
-ghost use Rattle.whole_campaign.specs.Words.{without_feed, cut_of, length_before, word_behind, rest_behind, words_behind};
+ghost use Rattle.whole_campaign.specs.Words.{without_feed, cut_of, length_before, is_space, word_behind, length_of_words, words_behind};
 ghost use Rattle.whole_campaign.specs.Words.{is_comma, words_listed, words_left};
 
 use line_text::after_label;
@@ -70,16 +70,21 @@ pub(crate) fn word_behind<'a>(
     Some(rest.split_at(length_before(stop, rest)))
 }
 
-// What is left behind so many words with a space before each.
-#[tactic(auto, using(crate::proofs::CommaLists::rest_step))]
-fn rest_behind(count: u8, bytes: &[u8]) -> Option<&[u8]>
-    ensures { option_map (λ p. p.now) result ≡ rest_behind count bytes.now }
+// How long the first so many words of bytes are, with the spaces between them.
+fn length_of_words(count: u8, bytes: &[u8]) -> usize
+    ensures value { result ≡ length_of_words count bytes.now }
+    ensures within { result ≤ length bytes.now }
 {
-    if count == 0 {
-        return Some(bytes);
+    let mut left = count;
+    for i in 0..bytes.len() {
+        if bytes[i] == b' ' {
+            if left <= 1 {
+                return i;
+            }
+            left -= 1;
+        }
     }
-    let (_, rest) = word_behind(b' ', " ", bytes)?;
-    rest_behind(count - 1, rest)
+    bytes.len()
 }
 
 /// So many words behind a space, if one stands there, and what is left.
@@ -87,7 +92,6 @@ fn rest_behind(count: u8, bytes: &[u8]) -> Option<&[u8]>
 pub(crate) fn words_behind<'a>(count: u8, bytes: &'a [u8]) -> Option<(&'a [u8], &'a [u8])>
     ensures { option_map cut_of result ≡ words_behind count bytes.now }
 {
-    let words = after_label(b" ".as_slice(), bytes)?;
-    let rest = rest_behind(count, bytes)?;
-    Some(words.split_at(words.len().saturating_sub(rest.len())))
+    let rest = after_label(b" ".as_slice(), bytes)?;
+    Some(rest.split_at(length_of_words(count, rest)))
 }

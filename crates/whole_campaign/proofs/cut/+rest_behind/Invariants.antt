@@ -1,4 +1,0 @@
-use Rattle.whole_campaign.proofs.cut.+rest_behind.Given as goal
-
-abbrev pub decreases-rest_behind : goal.decreases-rest_behind
-decreases-rest_behind l = l.count
