@@ -191,6 +191,12 @@ fn who_sleeps_is_woken(rt: HostRuntime) {
     assert!(rt; is_woken);
 }
 
+// A worker that has slept for long when the giver goes is woken for its end: one that sleeps on has the run never end.
+#[test]
+fn a_sleeping_worker_is_let_go(rt: HostRuntime) {
+    assert!(rt; count_in_threads(&rt, rt.alloc(), 0, (20_000_000, 0)).is_some());
+}
+
 // Whether a giver without a worker counts both numbers up, after which a worker that comes has nothing to do.
 fn is_counted_alone<R: Wait>(rt: &R, alloc: Global) -> bool {
     let Ok((table, seat)) = open::<CountedUp, CountUp>(alloc) else {
